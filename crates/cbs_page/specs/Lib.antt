@@ -1,0 +1,5 @@
+pub mod Coding
+pub mod Serial
+pub mod Page
+pub mod Paging
+pub mod Cutting

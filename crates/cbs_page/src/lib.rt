@@ -1,0 +1,10 @@
+//! Pages of cell broadcast messages.
+#![tactic(auto)]
+
+pub mod coding;
+pub mod octets;
+pub mod serial;
+
+pub use coding::{Alphabet, Dcs, language_dcs};
+pub use octets::{PageView, page_bytes, read_page};
+pub use serial::Serial;
