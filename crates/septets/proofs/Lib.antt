@@ -1,0 +1,2 @@
+mod Windows
+pub mod PackingLaws
