@@ -1,15 +1,14 @@
 -- The laws of packing, over definitions alone.
-use Rattle.std.proofs.Common.{◌≡◌, ℕ, ◌+◌, ◌-◌, ◌*◌, ◌/◌, ◌%◌, ◌^◌, ◌<◌, ◌≤◌, List, ◌++◌, length, get_or, map, replicate, All, sym, ap, ◌∙◌, refl, subst, inl, inr, arith, zero-add}
+use Rattle.std.proofs.Common.{◌≡◌, ℕ, ◌+◌, ◌-◌, ◌*◌, ◌/◌, ◌%◌, ◌<◌, ◌≤◌, List, length, get_or, replicate, All, sym, ap, ◌∙◌, inl, inr, arith, zero-add}
 use Rattle.std.specs.Int.{bit_at}
-use Rattle.std.specs.List.{range_with_len}
 use Rattle.std.proofs.lemmas.Bool.{cases_lt}
 use Rattle.std.proofs.lemmas.Grind.{same_number_lists}
 use Rattle.std.proofs.lemmas.List.{get_or_past, length-append, length-replicate}
-use Rattle.std.proofs.lemmas.List.Elements.{All-append, All-replicate, All-get_or, All-from_get_or}
+use Rattle.std.proofs.lemmas.List.Elements.{All-append, All-replicate, All-from_get_or}
 use Rattle.std.proofs.lemmas.List.FromFn.{fill_by_all, length-map-range_with_len, get_or-map-range_with_len}
 use Rattle.std.proofs.lemmas.Nat.Bits.{same_from_bits_below, bit_at-lt, bit_at-zero}
 use borrow.Author.Count.{below_none, below_more}
-use Rattle.septets.specs.Packing.{IsPacked, IsUnpacked, filled, octet_bit, septet_bit, of_seven_bits, septet_at, unpacked, PackingIsUnique, UnpackingGivesBack, UnpackingIsBitwise, SpareBitsAreIgnored}
+use Rattle.septets.specs.Packing.{filled, octet_bit, septet_bit, of_seven_bits, septet_at, unpacked, PackingIsUnique, UnpackingGivesBack, UnpackingIsBitwise, SpareBitsAreIgnored}
 
 -- a bit of the septets, by the place of its septet and its own place there
 pub septet_bit-at : (septets : List ℕ) (i place j : ℕ) → i / 7 ≡ place → i % 7 ≡ j → septet_bit septets i ≡ bit_at (get_or septets place 0) j
@@ -65,8 +64,8 @@ All-filled septets small =
 pub filled-below : (septets : List ℕ) (place : ℕ) → All (λ septet. septet < 128) septets → get_or (filled septets) place 0 < 128
 filled-below septets place small =
     elim (cases_lt place (length (filled septets))) [
-      inl within ↦ All-filled septets small place 0 within
-    | inr past ↦ rw (get_or_past (filled septets) place 0 past) (omega arith)
+      | inl within ↦ All-filled septets small place 0 within
+      | inr past ↦ rw (get_or_past (filled septets) place 0 past) (omega arith)
     ]
 
 -- past the filled page every bit is 0
@@ -110,7 +109,7 @@ pub All-unpacked : (octets : List ℕ) → All (λ septet. septet < 128) (unpack
 All-unpacked octets =
     All-from_get_or (λ septet. septet < 128) (unpacked octets) 0
     (λ place within. let inside : place < 93 = omega (arith, length-unpacked octets) in
-      rw (get_or-unpacked octets place inside) (septet_at-below octets place))
+    rw (get_or-unpacked octets place inside) (septet_at-below octets place))
 
 -- the septets of any octets carry the same bits
 pub unpacking_is_bitwise : UnpackingIsBitwise
@@ -118,10 +117,10 @@ unpacking_is_bitwise octets = record {
   size = length-unpacked octets;
   in_range = All-unpacked octets;
   same_bits = λ i within.
-    let inside : i / 7 < 93 = omega arith in
-    ap (λ a. octet_bit octets a) (let whole : i ≡ 7 * (i / 7) + i % 7 = omega arith in whole)
-    ∙ sym (bit_at-septet_at octets (i / 7) (i % 7) (omega arith))
-    ∙ ap (λ n. bit_at n (i % 7)) (sym (get_or-unpacked octets (i / 7) inside));
+      let inside : i / 7 < 93 = omega arith in
+      ap (λ a. octet_bit octets a) (let whole : i ≡ 7 * (i / 7) + i % 7 = omega arith in whole)
+      ∙ sym (bit_at-septet_at octets (i / 7) (i % 7) (omega arith))
+      ∙ ap (λ n. bit_at n (i % 7)) (sym (get_or-unpacked octets (i / 7) inside));
 }
 
 -- two lists of 93 septets that are the same place by place
@@ -129,7 +128,7 @@ same_septets : (octets : List ℕ) (others : List ℕ) → length others ≡ 93 
 same_septets octets others size same =
     same_number_lists (unpacked octets) others (length-unpacked octets ∙ sym size)
     (λ place within. let inside : place < 93 = omega (arith, length-unpacked octets) in
-      get_or-unpacked octets place inside ∙ same place inside)
+    get_or-unpacked octets place inside ∙ same place inside)
 
 -- only the bits below 651 count
 pub spare_bits_are_ignored : SpareBitsAreIgnored
@@ -137,25 +136,25 @@ unfolding septet_at
 spare_bits_are_ignored octets others same =
     same_septets octets (unpacked others) (length-unpacked others)
     (λ place inside.
-      of_seven_bits-same (λ j. octet_bit octets (7 * place + j)) (λ j. octet_bit others (7 * place + j))
-      (λ j below. same (7 * place + j) (omega arith))
-      ∙ sym (get_or-unpacked others place inside))
+    of_seven_bits-same (λ j. octet_bit octets (7 * place + j)) (λ j. octet_bit others (7 * place + j))
+    (λ j below. same (7 * place + j) (omega arith))
+    ∙ sym (get_or-unpacked others place inside))
 
 -- a septet list has one packing
 pub packing_is_unique : PackingIsUnique
 packing_is_unique septets octets others left right =
     same_number_lists octets others (left.size ∙ sym right.size)
     (λ place within.
-      same_from_bits_below 8 (get_or octets place 0) (get_or others place 0)
-      (left.in_range place 0 within) (right.in_range place 0 (omega (arith, left.size, right.size)))
-      (λ j below.
-        let inside : place < 82 = omega (arith, left.size) in
-        sym (octet_bit-at octets (8 * place + j) place j (omega arith) (omega arith))
-        ∙ elim (cases_lt (8 * place + j) 651) [
-            inl used ↦ left.same_bits (8 * place + j) used ∙ sym (right.same_bits (8 * place + j) used)
-          | inr spare ↦ left.spare_bits (8 * place + j) spare (omega arith) ∙ sym (right.spare_bits (8 * place + j) spare (omega arith))
-          ]
-        ∙ octet_bit-at others (8 * place + j) place j (omega arith) (omega arith)))
+    same_from_bits_below 8 (get_or octets place 0) (get_or others place 0)
+    (left.in_range place 0 within) (right.in_range place 0 (omega (arith, left.size, right.size)))
+    (λ j below.
+    let inside : place < 82 = omega (arith, left.size) in
+    sym (octet_bit-at octets (8 * place + j) place j (omega arith) (omega arith))
+    ∙ elim (cases_lt (8 * place + j) 651) [
+      | inl used ↦ left.same_bits (8 * place + j) used ∙ sym (right.same_bits (8 * place + j) used)
+      | inr spare ↦ left.spare_bits (8 * place + j) spare (omega arith) ∙ sym (right.spare_bits (8 * place + j) spare (omega arith))
+    ]
+    ∙ octet_bit-at others (8 * place + j) place j (omega arith) (omega arith)))
 
 -- unpacking gives back the filled septets
 pub unpacking_gives_back : UnpackingGivesBack
@@ -163,9 +162,9 @@ unfolding septet_at
 unpacking_gives_back septets octets small short packed =
     same_septets octets (filled septets) (length-filled septets short)
     (λ place inside.
-      of_seven_bits-same (λ j. octet_bit octets (7 * place + j)) (bit_at (get_or (filled septets) place 0))
-      (λ j below.
-        packed.same_bits (7 * place + j) (omega arith)
-        ∙ septet_bit-at (filled septets) (7 * place + j) place j (omega arith) (omega arith))
-      ∙ of_seven_bits-bit_at (get_or (filled septets) place 0)
-        (All-filled septets small place 0 (omega (arith, length-filled septets short))))
+    of_seven_bits-same (λ j. octet_bit octets (7 * place + j)) (bit_at (get_or (filled septets) place 0))
+    (λ j below.
+    packed.same_bits (7 * place + j) (omega arith)
+    ∙ septet_bit-at (filled septets) (7 * place + j) place j (omega arith) (omega arith))
+    ∙ of_seven_bits-bit_at (get_or (filled septets) place 0)
+    (All-filled septets small place 0 (omega (arith, length-filled septets short))))

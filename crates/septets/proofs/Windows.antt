@@ -1,11 +1,11 @@
 -- Bits of a window that is cut out of two numbers side by side, as the code cuts octets and septets.
-use Rattle.std.proofs.Common.{◌≡◌, ℕ, ◌+◌, ◌-◌, ◌*◌, ◌/◌, ◌%◌, ◌^◌, ◌<◌, ◌≤◌, List, length, get_or, bit_and, bit_or, All, sym, ap, ◌∙◌, refl, subst, inl, inr, ⊎_elim, arith}
+use Rattle.std.proofs.Common.{◌≡◌, ℕ, ◌+◌, ◌-◌, ◌*◌, ◌/◌, ◌%◌, ◌^◌, ◌<◌, ◌≤◌, List, length, get_or, bit_and, bit_or, All, sym, ap, ◌∙◌, subst, inl, inr, arith}
 use Rattle.std.specs.Int.{bit_at}
 use Rattle.std.specs.Int.Bits.{or_shifted_r}
-use Rattle.std.proofs.lemmas.Nat.{and_mask, shl_whole, shr-shr, shr_split, mod_below, pow_pos}
-use Rattle.std.proofs.lemmas.Nat.Bits.{bit_at_cat_low, bit_at_cat_high, bit_at-lt}
+use Rattle.std.proofs.lemmas.Nat.{and_mask, shl_whole, shr-shr, shr_split, mod_below}
+use Rattle.std.proofs.lemmas.Nat.Bits.{bit_at_cat_low, bit_at_cat_high}
 use Rattle.std.proofs.lemmas.Bool.{cases_lt}
-use Rattle.septets.specs.Packing.{IsPacked, IsUnpacked, filled, octet_bit, septet_bit, septet_at, unpacked}
+use Rattle.septets.specs.Packing.{IsPacked, filled, octet_bit, septet_bit, septet_at}
 use Rattle.septets.proofs.PackingLaws.{septet_bit-past, septet_bit-at, octet_bit-at, of_seven_bits-bit_at, of_seven_bits-same}
 
 -- the low m bits of a number
@@ -52,18 +52,18 @@ pub packed_bit : (xs : List ℕ) (place j low high : ℕ) → low ≡ get_or xs 
 packed_bit xs place j low high is_low is_high l h below =
     ap (λ x. bit_at x j) (octet_window low high (place % 7) l h)
     ∙ elim (cases_lt (place % 7 + j) 7) [
-        inl within ↦ window_low low high 7 (place % 7) 8 j below within ∙ ap (λ x. bit_at x (place % 7 + j)) is_low ∙ sym (septet_bit-at xs (8 * place + j) (8 * place / 7) (place % 7 + j) (omega arith) (omega arith))
+      | inl within ↦ window_low low high 7 (place % 7) 8 j below within ∙ ap (λ x. bit_at x (place % 7 + j)) is_low ∙ sym (septet_bit-at xs (8 * place + j) (8 * place / 7) (place % 7 + j) (omega arith) (omega arith))
       | inr above ↦ window_high low high 7 (place % 7) 8 j below l above ∙ ap (λ x. bit_at x (place % 7 + j - 7)) is_high ∙ sym (septet_bit-at xs (8 * place + j) (8 * place / 7 + 1) (place % 7 + j - 7) (omega arith) (omega arith))
-      ]
+    ]
 
 -- bit j of the septet at a place
 unpacked_bit : (xs : List ℕ) (place j low high : ℕ) → low ≡ get_or xs (7 * place / 8) 0 → high ≡ get_or xs (7 * place / 8 + 1) 0 → low < 256 → high < 256 → j < 7 → bit_at (bit_and (bit_or low (high * 256 % 65536) / 2 ^ (7 * place % 8)) 127) j ≡ octet_bit xs (7 * place + j)
 unpacked_bit xs place j low high is_low is_high l h below =
     ap (λ x. bit_at x j) (septet_window low high (7 * place % 8) l h)
     ∙ elim (cases_lt (7 * place % 8 + j) 8) [
-        inl within ↦ window_low low high 8 (7 * place % 8) 7 j below within ∙ ap (λ x. bit_at x (7 * place % 8 + j)) is_low ∙ sym (octet_bit-at xs (7 * place + j) (7 * place / 8) (7 * place % 8 + j) (omega arith) (omega arith))
+      | inl within ↦ window_low low high 8 (7 * place % 8) 7 j below within ∙ ap (λ x. bit_at x (7 * place % 8 + j)) is_low ∙ sym (octet_bit-at xs (7 * place + j) (7 * place / 8) (7 * place % 8 + j) (omega arith) (omega arith))
       | inr above ↦ window_high low high 8 (7 * place % 8) 7 j below l above ∙ ap (λ x. bit_at x (7 * place % 8 + j - 8)) is_high ∙ sym (octet_bit-at xs (7 * place + j) (7 * place / 8 + 1) (7 * place % 8 + j - 8) (omega arith) (omega arith))
-      ]
+    ]
 
 -- what the code computes for a septet is the septet of its bits
 pub unpacked_value : (xs : List ℕ) (place low high : ℕ) → low ≡ get_or xs (7 * place / 8) 0 → high ≡ get_or xs (7 * place / 8 + 1) 0 → low < 256 → high < 256 → bit_and (bit_or low (high * 256 % 65536) / 2 ^ (7 * place % 8)) 127 ≡ septet_at xs place
@@ -84,9 +84,9 @@ HasBitsOf septets place octet = (j : ℕ) → j < 8 → bit_at octet j ≡ septe
 pub IsPacked-from_octets : (septets octets : List ℕ) → length septets ≤ 93 → length octets ≡ 82 → All (λ octet. octet < 256) octets → ((place : ℕ) → place < 82 → HasBitsOf septets place (get_or octets place 0)) → IsPacked septets octets
 IsPacked-from_octets septets octets short size fits has_bits =
     let same : (i : ℕ) → i < 656 → octet_bit octets i ≡ septet_bit (filled septets) i =
-      λ i within.
-        has_bits (i / 8) (omega arith) (i % 8) (omega arith)
-        ∙ ap (λ a. septet_bit (filled septets) a) (let whole : 8 * (i / 8) + i % 8 ≡ i = omega arith in whole) in
+    λ i within.
+    has_bits (i / 8) (omega arith) (i % 8) (omega arith)
+    ∙ ap (λ a. septet_bit (filled septets) a) (let whole : 8 * (i / 8) + i % 8 ≡ i = omega arith in whole) in
     record {
       size = size;
       in_range = fits;

@@ -51,8 +51,7 @@ pub fn packing_law()
     ensures gives_back { UnpackingGivesBack }
     ensures bitwise { UnpackingIsBitwise }
     ensures spare { SpareBitsAreIgnored }
-{
-}
+{}
 
 /// The septet at a place of the filled page, and 0 past its end, as the spare bits want it.
 fn filled_septet(septets: &[u8], place: usize) -> u8
@@ -89,3 +88,6 @@ fn unpacked_septet(octets: &[u8; 82], place: usize) -> u8
     let pair = u16::from(octets[first]) | u16::from(octets[first + 1]) << 8;
     (pair >> (7 * place % 8) & 0x7F) as u8
 }
+
+#[cfg(test)]
+mod tests;

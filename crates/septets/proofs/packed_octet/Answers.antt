@@ -1,4 +1,4 @@
-use Rattle.std.proofs.Common.{◌≡◌, ◌/◌, ◌*◌, ◌+◌, ◌<◌, get_or, length, arith, subst, sym, ℕ}
+use Rattle.std.proofs.Common.{◌≡◌, ◌/◌, ◌*◌, ◌+◌, get_or}
 use Rattle.septets.specs.Packing.{filled}
 use Rattle.septets.proofs.PackingLaws.{filled-below}
 use Rattle.septets.proofs.Windows.{packed_bit}

@@ -1,4 +1,4 @@
-use Rattle.std.proofs.Common.{◌≡◌, ◌<◌, arith}
+use Rattle.std.proofs.Common.{◌≡◌, arith}
 use Rattle.septets.specs.Packing.{unpacked}
 use Rattle.septets.proofs.PackingLaws.{unpacked-from_septets, unpacking_is_bitwise}
 use Rattle.septets.proofs.unpack.Goals as goal

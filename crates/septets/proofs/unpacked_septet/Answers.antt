@@ -1,4 +1,4 @@
-use Rattle.std.proofs.Common.{◌≡◌, ◌/◌, ◌*◌, ◌+◌, ◌<◌, get_or, arith}
+use Rattle.std.proofs.Common.{◌≡◌, ◌/◌, ◌*◌, ◌+◌, get_or}
 use Rattle.septets.proofs.Windows.{unpacked_value}
 use Rattle.septets.proofs.unpacked_septet.Goals as goal
 
