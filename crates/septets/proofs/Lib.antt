@@ -1,0 +1,3 @@
+mod Windows
+mod Worked
+pub mod PackingLaws
