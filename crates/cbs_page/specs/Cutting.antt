@@ -15,3 +15,10 @@ cuts_from codes limit piece [] = piece ∷ []
 cuts_from codes limit piece (c ∷ rest) =
     if nat_le (length piece + length (codes c)) limit then cuts_from codes limit (piece ++ codes c) rest
     else piece ∷ cuts_from codes limit (codes c) rest
+
+-- how many pieces there are, where `used` codes stand in the piece at hand
+abbrev pub count_from : (codes : ℕ → List ℕ) (limit : ℕ) → ℕ → List ℕ → ℕ
+count_from codes limit used [] = 1
+count_from codes limit used (c ∷ rest) =
+    if nat_le (used + length (codes c)) limit then count_from codes limit (used + length (codes c)) rest
+    else 1 + count_from codes limit (length (codes c)) rest

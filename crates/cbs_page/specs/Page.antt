@@ -1,5 +1,5 @@
 -- A page of 88 octets. 3GPP TS 23.041, clause 9.4.1.
-use Rattle.std.specs.Prelude.{◌≡◌, ℕ, ◌+◌, ◌*◌, ◌/◌, ◌%◌, ◌<◌, ◌≤◌, ◌==◌, ◌||◌, List, [], ◌∷◌, ◌++◌, drop, slice_index, if◌then◌else◌, is_some, IsTrue, IsSome}
+use Rattle.std.specs.Prelude.{ℕ, ◌+◌, ◌*◌, ◌/◌, ◌%◌, ◌==◌, ◌||◌, ◌&&◌, nat_le, Bool, List, [], ◌∷◌, ◌++◌, drop, slice_index, if◌then◌else◌, is_some}
 use Rattle.cbs_page.specs.declared.octets.PageView.{PageView}
 use Rattle.cbs_page.specs.Coding.{alphabet_of}
 
@@ -15,14 +15,16 @@ place_of parameter =
     if (parameter / 16 == 0) || (parameter % 16 == 0) then (1, 1) else (parameter / 16, parameter % 16)
 
 -- what the octets of a page say
-pub record IsViewOf (octets : List ℕ) (view : PageView) : Type 0 where
-  pub serial : view.serial ≡ 256 * slice_index octets 0 + slice_index octets 1
-  pub id : view.id ≡ 256 * slice_index octets 2 + slice_index octets 3
-  pub dcs : view.dcs.0 ≡ slice_index octets 4
-  pub place : (view.number, view.total) ≡ place_of (slice_index octets 5)
-  pub content : view.content ≡ drop 6 octets
+abbrev pub view_of : List ℕ → PageView
+view_of octets = record {
+  serial = 256 * slice_index octets 0 + slice_index octets 1;
+  id = 256 * slice_index octets 2 + slice_index octets 3;
+  dcs = record { 0 = slice_index octets 4 };
+  number = (place_of (slice_index octets 5)).0;
+  total = (place_of (slice_index octets 5)).1;
+  content = drop 6 octets;
+}
 
 -- a page that can be shown: its alphabet is known, and its number isn't over the total
-pub record IsReadable (view : PageView) : Type 0 where
-  pub alphabet : IsSome (alphabet_of view.dcs.0)
-  pub number : view.number ≤ view.total
+abbrev pub is_readable : PageView → Bool
+is_readable view = is_some (alphabet_of view.dcs.0) && nat_le view.number view.total

@@ -1,7 +1,7 @@
 //! The 88 octets of a page (3GPP TS 23.041, clause 9.4.1): written from their fields, and read back.
 
-ghost use Rattle.std.specs.Prelude.{◌≡◌, ◌≤◌, ◌↔◌, IsTrue};
-ghost use Rattle.cbs_page.specs.Page.{octets_of_page, place_of, IsViewOf, IsReadable};
+ghost use Rattle.std.specs.Prelude.{◌≡◌, ◌≤◌};
+ghost use Rattle.cbs_page.specs.Page.{octets_of_page, place_of, view_of, is_readable};
 
 use crate::coding::Dcs;
 use crate::serial::Serial;
@@ -68,7 +68,7 @@ fn page_place(parameter: u8) -> (u8, u8)
 
 /// What the 88 octets of a page say. A page parameter with 0 in either half is page 1 of 1.
 pub fn read_page(octets: &[u8; 88]) -> PageView
-    ensures { IsViewOf octets.now result }
+    ensures { result ≡ view_of octets.now }
 {
     let mut content = [0; 82];
     content.copy_from_slice(&octets[HEADER..]);
@@ -86,7 +86,7 @@ pub fn read_page(octets: &[u8; 88]) -> PageView
 impl PageView {
     /// Whether a handset can show the page: its alphabet is known, and its number isn't over the total.
     pub fn readable(&self) -> bool
-        ensures { IsTrue result ↔ IsReadable self.now }
+        ensures { result ≡ is_readable self.now }
     {
         self.dcs.alphabet().is_some() && self.number <= self.total
     }
