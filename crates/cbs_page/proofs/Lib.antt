@@ -1,1 +1,3 @@
 pub mod PagingLaws
+pub mod TrailingLaws
+pub mod CuttingLaws

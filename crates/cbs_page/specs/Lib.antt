@@ -3,3 +3,5 @@ pub mod Serial
 pub mod Page
 pub mod Paging
 pub mod Cutting
+pub mod Text
+pub mod Piece

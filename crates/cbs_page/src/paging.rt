@@ -1,0 +1,172 @@
+//! The pages of a text: which alphabet it gets, how it is cut, and what each page holds (3GPP TS 23.041, clause 9.4.1.2.5; the
+//! cutting is this project's own: each page takes all that it can, and an escape pair is never split).
+
+ghost use Rattle.std.specs.Prelude.{◌≡◌, [], IfOk, IfErr, position, is_some};
+ghost use Rattle.std.specs.List.{list_all};
+ghost use Rattle.std.specs.Str.{chars};
+ghost use Rattle.gsm_alphabet.specs.Alphabet.{code_of};
+ghost use Rattle.cbs_page.specs.Cutting.{count_from, cuts_from};
+ghost use Rattle.cbs_page.specs.Text.{capacity, codes_of, is_bad, alphabet_for, coding_for, AreContentsOf, IsTextFault, IsPagedText, ShowsText};
+
+use crate::coding::{Alphabet, Dcs, language_dcs};
+use crate::content::Content;
+use crate::piece::Piece;
+use gsm_alphabet::encode_char;
+use std::alloc::{AllocError, Global};
+use thiserror::Error;
+
+/// The most pages that a message has (3GPP TS 23.041, clause 9.4.1.2.4).
+pub const MAX_PAGES: usize = 15;
+
+/// A text as it is sent: its data coding, and 1 to 15 pages.
+#[derive(Debug, Drop)]
+pub struct Paged {
+    /// Language and alphabet of all pages.
+    pub dcs: Dcs,
+    /// The contents, page 1 first.
+    pub pages: Vec<Content>,
+}
+
+/// Why a text isn't sent. Where several apply, the first of this list is told.
+#[derive(Clone, Copy, Debug, PartialEq, Eq, Error)]
+pub enum TextFault {
+    /// No language has this word.
+    #[error("unknown language")]
+    BadLanguage,
+    /// There is no text.
+    #[error("text is empty")]
+    Empty,
+    /// The character at this place, counted from 0, can't be sent: a control character other than LF, or one above U+FFFF. It is
+    /// the first of them.
+    #[error("bad character at {place}")]
+    BadCharacter {
+        /// How many characters stand before it.
+        place: usize,
+    },
+    /// The text needs more than 15 pages.
+    #[error("too many pages")]
+    TooManyPages,
+    /// There was no memory for the pages.
+    #[error("out of memory")]
+    Refused,
+}
+
+/// The pages of a text in a language. The text is GSM 7-bit where that alphabet has each of its characters, with the language's
+/// data coding value, and UCS-2 otherwise.
+pub fn paginate(alloc: Global, text: &str, language: &str) -> Result<Paged, TextFault>
+    ensures sent { IfOk result (IsPagedText language.now (chars text.now)) }
+    ensures shown { IfOk result (λ paged. ShowsText (chars text.now) paged) }
+    ensures fault { IfErr result (IsTextFault language.now (chars text.now)) }
+{
+    let Some(value) = language_dcs(language) else {
+        return Err(TextFault::BadLanguage);
+    };
+    if text.is_empty() {
+        return Err(TextFault::Empty);
+    }
+    if let Some(place) = bad_place(text) {
+        return Err(TextFault::BadCharacter { place });
+    }
+    let alphabet = alphabet_of_text(text);
+    if page_count(text, alphabet) > MAX_PAGES {
+        return Err(TextFault::TooManyPages);
+    }
+    match contents_of_text(alloc, text, alphabet) {
+        Ok(pages) => Ok(Paged {
+            dcs: coding(alphabet, value),
+            pages,
+        }),
+        Err(_) => Err(TextFault::Refused),
+    }
+}
+
+/// Whether a character can't be sent.
+fn is_bad_character(character: char) -> bool
+    ensures { result ≡ is_bad character }
+{
+    (character < ' ' && character != '\n') || character > '\u{FFFF}'
+}
+
+/// The place of the first character that can't be sent.
+fn bad_place(text: &str) -> Option<usize>
+    ensures { result ≡ position is_bad (chars text.now) }
+{
+    text.chars().position(is_bad_character)
+}
+
+/// The alphabet of a text.
+fn alphabet_of_text(text: &str) -> Alphabet
+    ensures { result ≡ alphabet_for (chars text.now) }
+{
+    if is_gsm(text) {
+        Alphabet::Gsm
+    } else {
+        Alphabet::Ucs2
+    }
+}
+
+/// Whether the GSM 7-bit alphabet has each character of a text.
+fn is_gsm(text: &str) -> bool
+    ensures { result ≡ list_all (λ c. is_some (code_of c)) (chars text.now) }
+{
+    text.chars().all(has_code)
+}
+
+/// Whether the GSM 7-bit alphabet has a character.
+fn has_code(character: char) -> bool
+    ensures { result ≡ is_some (code_of character) }
+{
+    encode_char(character).is_some()
+}
+
+/// The data coding of a text in this alphabet, where its language has this value.
+fn coding(alphabet: Alphabet, value: u8) -> Dcs
+    ensures { result.0 ≡ coding_for alphabet value }
+{
+    match alphabet {
+        Alphabet::Gsm => Dcs(value),
+        Alphabet::Ucs2 => Dcs::UCS2,
+    }
+}
+
+/// How many pages a text takes.
+fn page_count(text: &str, alphabet: Alphabet) -> usize
+    ensures { result ≡ count_from (codes_of alphabet) (capacity alphabet) 0 (chars text.now) }
+{
+    let capacity = alphabet.capacity();
+    let mut pages = 1;
+    let mut used = 0;
+    for character in text.chars() {
+        let cost = alphabet.cost(character);
+        if used + cost <= capacity {
+            used += cost;
+        } else {
+            pages += 1;
+            used = cost;
+        }
+    }
+    pages
+}
+
+/// The contents of a text's pages.
+fn contents_of_text(
+    alloc: Global,
+    text: &str,
+    alphabet: Alphabet,
+) -> Result<Vec<Content>, AllocError>
+    ensures { IfOk result (λ pages. AreContentsOf alphabet (cuts_from (codes_of alphabet) (capacity alphabet) [] (chars text.now)) pages.items) }
+{
+    let capacity = alphabet.capacity();
+    let mut pages = Vec::new(alloc);
+    let mut piece = Piece::new(alphabet);
+    for character in text.chars() {
+        if piece.len() + alphabet.cost(character) <= capacity {
+            piece.take(character);
+        } else {
+            pages.push(piece.content())?;
+            piece = Piece::of(alphabet, character);
+        }
+    }
+    pages.push(piece.content())?;
+    Ok(pages)
+}

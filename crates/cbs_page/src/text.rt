@@ -1,0 +1,117 @@
+//! The text that a page shows (3GPP TS 23.038, clauses 6.1.2.2, 6.2.1 and 6.2.3).
+
+ghost use Rattle.std.specs.Prelude.{◌≡◌, ℕ, IsTrue, IfOk, All, ◌<◌, ◌≤◌, ◌++◌, take, length, map, encode_utf8_all, string_bytes};
+ghost use Rattle.gsm_alphabet.specs.Alphabet.{text_of_septets};
+ghost use Rattle.ucs2_text.specs.Ucs2.{character_of_unit};
+ghost use Rattle.cbs_page.specs.Page.{is_readable};
+ghost use Rattle.cbs_page.specs.Text.{text_of_page, without_trailing};
+
+use crate::coding::Alphabet;
+use crate::octets::PageView;
+use gsm_alphabet::{decode_ext, decode_one};
+use septets::unpack;
+use std::alloc::{AllocError, Global};
+use thiserror::Error;
+use ucs2_text::{char_of, units_of};
+
+/// The septet that begins a character of the extension table (3GPP TS 23.038, clause 6.2.1.1).
+const ESCAPE: u8 = 0x1B;
+
+/// Carriage return, which fills a page after its text, as a septet.
+const CR: u8 = 0x0D;
+
+/// Carriage return as a unit of UCS-2.
+const CR_UNIT: u16 = 0x000D;
+
+/// There was no memory for a text.
+#[derive(Clone, Copy, Debug, PartialEq, Eq, Error)]
+#[error("out of memory")]
+pub struct Refused;
+
+impl From<AllocError> for Refused {
+    fn from(_error: AllocError) -> Refused {
+        Refused
+    }
+}
+
+/// The text that a readable page shows: the carriage returns at its end are dropped first, then the rest is decoded. A surrogate
+/// unit shows U+FFFD, and an escape alone at the end shows a space. The only error is want of memory.
+pub fn page_text(alloc: Global, view: &PageView) -> Result<String, Refused>
+    requires { IsTrue (is_readable view.now) }
+    ensures { IfOk result (λ text. string_bytes text ≡ encode_utf8_all (text_of_page view.now)) }
+{
+    let text = match view.dcs.alphabet() {
+        Some(Alphabet::Gsm) => {
+            let septets = unpack(&view.content);
+            gsm_text(alloc, &septets[..septets_used(&septets)])?
+        }
+        Some(Alphabet::Ucs2) => {
+            let units = units_of(&view.content);
+            units_text(alloc, &units[..units_used(&units)])?
+        }
+        None => String::new(alloc),
+    };
+    Ok(text)
+}
+
+/// How many septets stand before the carriage returns at the end.
+fn septets_used(septets: &[u8]) -> usize
+    ensures within { result ≤ length septets.now }
+    ensures text { take result septets.now ≡ without_trailing 13 septets.now }
+{
+    let mut used = 0;
+    for (place, septet) in septets.iter().enumerate() {
+        if *septet != CR {
+            used = place + 1;
+        }
+    }
+    used
+}
+
+/// How many units stand before the carriage returns at the end.
+fn units_used(units: &[u16]) -> usize
+    ensures within { result ≤ length units.now }
+    ensures text { take result units.now ≡ without_trailing 13 units.now }
+{
+    let mut used = 0;
+    for (place, unit) in units.iter().enumerate() {
+        if *unit != CR_UNIT {
+            used = place + 1;
+        }
+    }
+    used
+}
+
+/// The text of septets, each below 128.
+fn gsm_text(alloc: Global, septets: &[u8]) -> Result<String, AllocError>
+    requires { All (λ septet. septet < 128) septets.now }
+    ensures { IfOk result (λ text. string_bytes text ≡ encode_utf8_all (text_of_septets septets.now)) }
+{
+    let mut text = String::new(alloc);
+    let mut escaped = false;
+    for septet in septets {
+        if escaped {
+            text.push(decode_ext(*septet))?;
+            escaped = false;
+        } else if *septet == ESCAPE {
+            escaped = true;
+        } else {
+            text.push(decode_one(*septet))?;
+        }
+    }
+    if escaped {
+        text.push(' ')?;
+    }
+    Ok(text)
+}
+
+/// The text of UCS-2 units.
+fn units_text(alloc: Global, units: &[u16]) -> Result<String, AllocError>
+    ensures { IfOk result (λ text. string_bytes text ≡ encode_utf8_all (map character_of_unit units.now)) }
+{
+    let mut text = String::new(alloc);
+    for unit in units {
+        text.push(char_of(*unit))?;
+    }
+    Ok(text)
+}
