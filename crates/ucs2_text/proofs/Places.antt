@@ -1,0 +1,82 @@
+-- The octets of a page and the units of its octets, place by place.
+use Rattle.std.proofs.Common.{◌≡◌, ℕ, ◌+◌, ◌-◌, ◌*◌, ◌/◌, ◌%◌, ◌<◌, ◌≤◌, zero, suc, List, [], ◌∷◌, ◌++◌, length, get_or, replicate, refl, sym, ap, ◌∙◌, arith, length-append}
+use Rattle.std.proofs.lemmas.List.FromFn.{fill_by_all}
+use Rattle.std.specs.List.{flat_map}
+use Rattle.ucs2_text.specs.Ucs2.{octets_of_unit, page_units, octets_of_units, units_of_octets, octet_at_place, unit_at_place}
+
+-- two lists of one length that agree at each place are one
+same_from_places : (xs ys : List ℕ) (n : ℕ) → length xs ≡ n → length ys ≡ n → ((k : ℕ) → k < n → get_or xs k 0 ≡ get_or ys k 0) → xs ≡ ys
+same_from_places xs ys n xs_length ys_length agree =
+    fill_by_all (λ k. get_or ys k 0) xs n 0 xs_length agree ∙ sym (fill_by_all (λ k. get_or ys k 0) ys n 0 ys_length (λ k _. refl))
+
+length-octets : (units : List ℕ) → length (flat_map octets_of_unit units) ≡ 2 * length units
+length-octets [] = refl
+length-octets (unit ∷ units) = omega (arith, length-octets units)
+
+-- each unit has two places
+octet-at : (units : List ℕ) (k : ℕ) → k < 2 * length units → get_or (flat_map octets_of_unit units) k 0 ≡ octet_at_place units k
+octet-at [] k below = absurd (omega arith)
+octet-at (unit ∷ units) zero below = refl
+octet-at (unit ∷ units) (suc zero) below = refl
+octet-at (unit ∷ units) (suc (suc k)) below =
+    let half : suc (suc k) / 2 ≡ suc (k / 2) = omega arith in
+    let parity : suc (suc k) % 2 ≡ k % 2 = omega arith in
+    rw (half, parity) (octet-at units k (omega arith))
+
+-- what fills a page
+abbrev fill : ℕ → List ℕ
+fill n = replicate n 13
+
+get_or-fill : (n i : ℕ) → get_or (fill n) i 13 ≡ 13
+get_or-fill zero i = refl
+get_or-fill (suc n) zero = refl
+get_or-fill (suc n) (suc i) = get_or-fill n i
+
+get_or-filled : (units : List ℕ) (n i : ℕ) → get_or (units ++ fill n) i 13 ≡ get_or units i 13
+get_or-filled [] n i = get_or-fill n i
+get_or-filled (unit ∷ units) n zero = refl
+get_or-filled (unit ∷ units) n (suc i) = get_or-filled units n i
+
+length-fill : (n : ℕ) → length (fill n) ≡ n
+length-fill zero = refl
+length-fill (suc n) = omega (arith, length-fill n)
+
+pub length-page_units : (units : List ℕ) → length units ≤ 41 → length (page_units units) ≡ 41
+length-page_units units short =
+    omega (arith, length-append units (fill (41 - length units)), length-fill (41 - length units))
+
+pub length-octets_of_units : (units : List ℕ) → length units ≤ 41 → length (octets_of_units units) ≡ 82
+length-octets_of_units units short = omega (arith, length-octets (page_units units), length-page_units units short)
+
+-- the octets that the loop wrote, each at its place, are those of the page
+pub octets-by_place : (units octets : List ℕ) → length units ≤ 41 → length octets ≡ 82 → ((k : ℕ) → k < 82 → get_or octets k 0 ≡ octet_at_place units k) → octets ≡ octets_of_units units
+octets-by_place units octets short whole each =
+    same_from_places octets (octets_of_units units) 82 whole (length-octets_of_units units short)
+    (λ k below.
+    let filled = get_or-filled units (41 - length units) (k / 2) in
+    let at = octet-at (page_units units) k (omega (arith, length-page_units units short)) in
+    each k below ∙ sym (rw filled at at))
+
+pub length-units_of_octets : (n : ℕ) (octets : List ℕ) → length octets ≡ 2 * n → length (units_of_octets octets) ≡ n
+length-units_of_octets zero [] whole = refl
+length-units_of_octets zero (high ∷ octets) whole = absurd (omega arith)
+length-units_of_octets (suc n) [] whole = absurd (omega arith)
+length-units_of_octets (suc n) (high ∷ []) whole = absurd (omega arith)
+length-units_of_octets (suc n) (high ∷ low ∷ octets) whole =
+    ap suc (length-units_of_octets n octets (omega arith))
+
+-- a unit has two octets
+unit-at : (octets : List ℕ) (k : ℕ) → 2 * k + 1 < length octets → get_or (units_of_octets octets) k 0 ≡ unit_at_place octets k
+unit-at [] k below = absurd (omega arith)
+unit-at (high ∷ []) k below = absurd (omega arith)
+unit-at (high ∷ low ∷ octets) zero below = refl
+unit-at (high ∷ low ∷ octets) (suc k) below =
+    let even : 2 * suc k ≡ suc (suc (2 * k)) = omega arith in
+    let odd : 2 * suc k + 1 ≡ suc (suc (2 * k + 1)) = omega arith in
+    rw (odd, even) (unit-at octets k (omega arith))
+
+-- the units that the loop read, each at its place, are those of the octets
+pub units-by_place : (octets units : List ℕ) → length octets ≡ 82 → length units ≡ 41 → ((k : ℕ) → k < 41 → get_or units k 0 ≡ unit_at_place octets k) → units ≡ units_of_octets octets
+units-by_place octets units whole all each =
+    same_from_places units (units_of_octets octets) 41 all (length-units_of_octets 41 octets whole)
+    (λ k below. each k below ∙ sym (unit-at octets k (omega arith)))
