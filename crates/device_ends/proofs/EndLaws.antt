@@ -1,9 +1,9 @@
 -- How reads and writes of known octets join.
-use Rattle.std.proofs.Common.{◌≡◌, ℕ, ◌+◌, ◌-◌, ◌<◌, ◌≤◌, List, [], ◌∷◌, ◌++◌, Option, None, Some, IfSome, length, take, drop, refl, sym, ap, subst, ◌∙◌, inl, inr, arith, append_assoc, append-nil, length-append, length-drop, length-take, take_all}
-use Rattle.std.proofs.Math.Seq.{take-add, take-append-add, take-append_seam}
+use Rattle.std.proofs.Common.{◌≡◌, ℕ, ◌+◌, ◌-◌, ◌<◌, ◌≤◌, List, [], ◌∷◌, ◌++◌, Option, None, Some, IfSome, length, take, drop, sym, ap, subst, ◌∙◌, inl, inr, arith, append_assoc, append-nil, length-append, length-drop, take_all}
+use Rattle.std.proofs.Math.Seq.{take-add, take-append-add}
 use Rattle.std.proofs.lemmas.Bool.{cases_lt}
 use Rattle.std.proofs.lemmas.List.{take-append-le}
-use Rattle.std.specs.Io.KnownBytes.{Appends, Consumes, IsAtEnd}
+use Rattle.std.specs.Io.KnownBytes.{Appends}
 use Rattle.std.proofs.KnownBytes.{Appends-trans, Consumes-trans}
 use Rattle.device_ends.specs.Moves.{AppendsFront, Moved, ReadsUpTo}
 
@@ -11,7 +11,7 @@ use Rattle.device_ends.specs.Moves.{AppendsFront, Moved, ReadsUpTo}
 pub Appends-more : (a b c : Option (List ℕ)) (octets : List ℕ) (out count : ℕ) → Appends a b (take out octets) → Appends b c (take count (take (length octets - out) (drop out octets))) → Appends a c (take (out + count) octets)
 Appends-more a b c octets out count first second =
     let rest : take (length octets - out) (drop out octets) ≡ drop out octets =
-      take_all (length octets - out) (drop out octets) (omega (arith, length-drop out octets)) in
+    take_all (length octets - out) (drop out octets) (omega (arith, length-drop out octets)) in
     rw (take-add out count octets)
     (Appends-trans a b c (take out octets) (take count (drop out octets)) first (rw rest at second))
 
@@ -30,13 +30,13 @@ ReadsUpTo-take (Some left) None octets limit reads = absurd reads.consumed
 ReadsUpTo-take (Some left) (Some rest) octets limit reads =
     let reach : length octets ≤ limit + 1 = reads.bounded in
     elim (cases_lt limit (length octets)) [
-      inl above ↦
-        let front : take (limit + 1) left ≡ take (limit + 1) octets =
+      | inl above ↦
+          let front : take (limit + 1) left ≡ take (limit + 1) octets =
           ap (take (limit + 1)) reads.consumed ∙ take-append-le (limit + 1) octets rest (omega arith) in
-        sym (front ∙ take_all (limit + 1) octets reach)
-    | inr short ↦
-        let all : left ≡ octets = reads.consumed ∙ ap (λ l. octets ++ l) (reads.ended short) ∙ append-nil octets in
-        sym (ap (take (limit + 1)) all ∙ take_all (limit + 1) octets reach)
+          sym (front ∙ take_all (limit + 1) octets reach)
+      | inr short ↦
+          let all : left ≡ octets = reads.consumed ∙ ap (λ l. octets ++ l) (reads.ended short) ∙ append-nil octets in
+          sym (ap (take (limit + 1)) all ∙ take_all (limit + 1) octets reach)
     ]
 
 -- an input of at most `limit` octets is read whole

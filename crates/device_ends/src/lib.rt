@@ -8,6 +8,7 @@
 
 mod failed;
 mod fault;
+pub mod memory;
 mod reading;
 mod transfer;
 mod writing;
@@ -17,3 +18,6 @@ pub use fault::ReadFault;
 pub use reading::Source;
 pub use transfer::{read_up_to, write_all, write_front};
 pub use writing::Sink;
+
+#[cfg(test)]
+mod tests;
