@@ -1,0 +1,6 @@
+pub mod Source
+pub mod Sink
+pub mod Moves
+pub mod Calls
+pub mod MemoryReader
+pub mod MemoryWriter

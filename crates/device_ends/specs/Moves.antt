@@ -1,0 +1,24 @@
+-- What whole reads and writes do to the octets that a reader has left and a writer holds, where they are known (own).
+use Rattle.std.specs.Prelude.{◌≡◌, ℕ, ◌+◌, ◌<◌, ◌≤◌, List, ◌++◌, Option, length, take}
+use Rattle.std.specs.Io.KnownBytes.{Appends, Consumes, IsAtEnd}
+
+-- the reader gave these octets, and was at its end if they are at most `limit`; they are never more than one above
+pub record ReadsUpTo (old new : Option (List ℕ)) (octets : List ℕ) (limit : ℕ) : Type 0 where
+  pub consumed : Consumes old new octets
+  pub ended : length octets ≤ limit → IsAtEnd new
+  pub bounded : length octets ≤ limit + 1
+
+-- some octets of the reader are gone, at most `most`
+abbrev pub ConsumesSome : Option (List ℕ) → Option (List ℕ) → ℕ → Type 0
+ConsumesSome old new most = (octets : List ℕ) × Consumes old new octets × (length octets ≤ most)
+
+-- the writer took a front of the octets, and not all of them
+abbrev pub AppendsFront : Option (List ℕ) → Option (List ℕ) → List ℕ → Type 0
+AppendsFront old new octets =
+    (n : ℕ) × (0 < length octets → n < length octets) × Appends old new (take n octets)
+
+-- these octets were taken from the reader and put onto the end of a list
+pub record Moved (old new : Option (List ℕ)) (before after : List ℕ) : Type 0 where
+  pub octets : List ℕ
+  pub consumed : Consumes old new octets
+  pub appended : after ≡ before ++ octets

@@ -1,0 +1,18 @@
+//! What a failed end answers.
+
+ghost use Rattle.std.specs.Prelude.{Some};
+
+use std::error::Error;
+use std::fmt;
+
+/// A device failed, now or earlier.
+#[derive(Clone, Copy, Debug, PartialEq, Eq)]
+pub struct Failed;
+
+impl fmt::Display for Failed {
+    fn fmt<W: fmt::Write>(&self, f: &mut fmt::Formatter<W>) -> fmt::Result {
+        write!(f, "device failed")
+    }
+}
+
+impl Error for Failed {}

@@ -1,0 +1,23 @@
+//! Readers and writers whose failure stays seen.
+//!
+//! A [`Source`] gives the octets of a [`std::io::Read`] and a [`Sink`] takes those of a
+//! [`std::io::Write`]. Once either answers [`Failed`] it has failed for good, and gives or takes
+//! nothing more: so a caller that was answered a fault elsewhere can still tell whether the device
+//! was to blame. [`memory`] has a reader and a writer over memory for tests.
+#![tactic(auto)]
+
+mod failed;
+mod fault;
+pub mod memory;
+mod reading;
+mod transfer;
+mod writing;
+
+pub use failed::Failed;
+pub use fault::ReadFault;
+pub use reading::Source;
+pub use transfer::{read_up_to, write_all, write_front};
+pub use writing::Sink;
+
+#[cfg(test)]
+mod tests;
