@@ -1,0 +1,4 @@
+pub mod Loads
+pub mod Reservations
+mod Tables
+mod Worked

@@ -1,0 +1,14 @@
+//! Admission of messages to a cell: how much of the cell's slots a message takes, and whether there is still room for it.
+//! A cell's slots are divided into `SCALE` parts. A message takes its `load` of them from the slot where it starts up to
+//! the end of its reservation, and a `Budget` never holds loads of more than `SCALE`. Nothing here takes memory.
+#![tactic(auto)]
+
+mod budget;
+mod laws;
+mod measure;
+#[cfg(test)]
+mod tests;
+
+pub use budget::{Budget, Held, NoRoom};
+pub use laws::reservation_laws;
+pub use measure::{SCALE, load};
