@@ -1,3 +1,5 @@
 pub mod PagingLaws
 pub mod TrailingLaws
 pub mod CuttingLaws
+pub mod TextLaws
+pub mod PaginateLaws

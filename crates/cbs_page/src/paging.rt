@@ -6,6 +6,7 @@ ghost use Rattle.std.specs.List.{list_all};
 ghost use Rattle.std.specs.Str.{chars};
 ghost use Rattle.gsm_alphabet.specs.Alphabet.{code_of};
 ghost use Rattle.cbs_page.specs.Cutting.{count_from, cuts_from};
+ghost use Rattle.cbs_page.specs.Paging.{PagingIsUnique};
 ghost use Rattle.cbs_page.specs.Text.{capacity, codes_of, is_bad, alphabet_for, coding_for, AreContentsOf, IsTextFault, IsPagedText, ShowsText};
 
 use crate::coding::{Alphabet, Dcs, language_dcs};
@@ -64,8 +65,9 @@ pub fn paginate(alloc: Global, text: &str, language: &str) -> Result<Paged, Text
     if text.is_empty() {
         return Err(TextFault::Empty);
     }
-    if let Some(place) = bad_place(text) {
-        return Err(TextFault::BadCharacter { place });
+    match bad_place(text) {
+        Some(place) => return Err(TextFault::BadCharacter { place }),
+        None => {}
     }
     let alphabet = alphabet_of_text(text);
     if page_count(text, alphabet) > MAX_PAGES {
@@ -79,6 +81,12 @@ pub fn paginate(alloc: Global, text: &str, language: &str) -> Result<Paged, Text
         Err(_) => Err(TextFault::Refused),
     }
 }
+
+/// A text has one list of pages at most: what `paginate` answers, and whether that is too many, is determined. Does nothing: its
+/// contract is the law.
+pub fn paging_law()
+    ensures { PagingIsUnique }
+{}
 
 /// Whether a character can't be sent.
 fn is_bad_character(character: char) -> bool
