@@ -1,5 +1,5 @@
 -- A step of the cutting, as the loops over a text take it: at the character at place n.
-use Rattle.std.proofs.Common.{◌≡◌, ℕ, ◌+◌, ◌<◌, ◌≤◌, List, [], ◌∷◌, ◌++◌, length, get_or, drop, refl, sym, ◌∙◌, ap, arith, subst, append_assoc}
+use Rattle.std.proofs.Common.{◌≡◌, ℕ, ◌+◌, ◌<◌, ◌≤◌, List, [], ◌∷◌, ◌++◌, length, get_or, drop, refl, suc, sym, ◌∙◌, ap, arith, subst, append_assoc}
 use Rattle.std.proofs.lemmas.Bool.{le-leb, lt-leb}
 use Rattle.std.proofs.lemmas.List.{at_drop_more, at_drop_all}
 use Rattle.cbs_page.specs.Cutting.{cuts_from, count_from}
@@ -81,3 +81,11 @@ HasCut-end alphabet cs n piece contents content had all here =
     ap (λ rest. had.closed ++ rest) (sym ended) ∙ had.cut in
     subst (λ (cuts : List (List ℕ)). AreContentsOf alphabet cuts (contents ++ content ∷ [])) whole
     (AreContentsOf-push alphabet had.closed contents piece content had.held here)
+
+-- there are as many contents as lists of codes
+pub AreContentsOf-length : (alphabet : Alphabet) (closed : List (List ℕ)) (contents : List Content) → AreContentsOf alphabet closed contents →
+    length contents ≡ length closed
+AreContentsOf-length alphabet [] [] held = refl
+AreContentsOf-length alphabet [] (content ∷ contents) held = absurd held
+AreContentsOf-length alphabet (codes ∷ closed) [] held = absurd held
+AreContentsOf-length alphabet (codes ∷ closed) (content ∷ contents) held = ap suc (AreContentsOf-length alphabet closed contents held.1)

@@ -1,7 +1,7 @@
 //! The pages of a text: which alphabet it gets, how it is cut, and what each page holds (3GPP TS 23.041, clause 9.4.1.2.5; the
 //! cutting is this project's own: each page takes all that it can, and an escape pair is never split).
 
-ghost use Rattle.std.specs.Prelude.{◌≡◌, [], IfOk, IfErr, position, is_some};
+ghost use Rattle.std.specs.Prelude.{◌≡◌, ◌≤◌, [], length, IfOk, IfErr, position, is_some};
 ghost use Rattle.std.specs.List.{list_all};
 ghost use Rattle.std.specs.Str.{chars};
 ghost use Rattle.gsm_alphabet.specs.Alphabet.{code_of};
@@ -57,6 +57,7 @@ pub enum TextFault {
 pub fn paginate(alloc: Global, text: &str, language: &str) -> Result<Paged, TextFault>
     ensures sent { IfOk result (IsPagedText language.now (chars text.now)) }
     ensures shown { IfOk result (λ paged. ShowsText (chars text.now) paged) }
+    ensures count { IfOk result (λ paged. (1 ≤ length paged.pages.items) × (length paged.pages.items ≤ 15)) }
     ensures fault { IfErr result (IsTextFault language.now (chars text.now)) }
 {
     let Some(value) = language_dcs(language) else {

@@ -1,7 +1,8 @@
 -- What `warnc page` makes of the octets that it reads: the blocks of the text's pages as hexadecimal digits, a line each, and then
 -- what a handset shows of these blocks. The forms of the lines are this project's own.
-use Rattle.std.specs.Prelude.{◌≡◌, ℕ, ◌+◌, ◌-◌, ◌*◌, ◌/◌, ◌%◌, ◌<◌, ◌≤◌, ◌==◌, Bool, if◌then◌else◌, List, [], ◌∷◌, ◌++◌, length, take, slice_index}
+use Rattle.std.specs.Prelude.{◌≡◌, ℕ, ◌+◌, ◌-◌, ◌*◌, ◌/◌, ◌%◌, ◌<◌, ◌≤◌, ◌==◌, Bool, if◌then◌else◌, Option, List, [], ◌∷◌, ◌++◌, length, take, slice_index}
 use Rattle.std.specs.Fmt.{decimal}
+use Rattle.std.specs.Io.KnownBytes.{Keeps}
 use Rattle.std.specs.List.{flat_map}
 use Rattle.std.specs.Str.{IsUtf8, chars}
 use Rattle.hex.specs.Hex.{encode_lower}
@@ -9,6 +10,7 @@ use Rattle.cbs_page.specs.declared.content.Content.{Content}
 use Rattle.cbs_page.specs.declared.paging.Paged.{Paged}
 use Rattle.cbs_page.specs.Page.{octets_of_page}
 use Rattle.cbs_page.specs.Text.{IsPagedText, IsTextFault}
+use Rattle.device_ends.specs.Moves.{AppendsFront}
 use Rattle.handset.specs.Reading.{Message, shown_in}
 use Rattle.warnc.specs.Blocks.{blocks_of_page}
 use Rattle.warnc.specs.declared.page.PageFault.{PageFault}
@@ -43,7 +45,7 @@ message_line message =
     decimal message.id ++ 32 ∷ encode_lower ((message.serial / 256) ∷ (message.serial % 256) ∷ []) ++ 32 ∷ message.text ++ 10 ∷ []
 
 abbrev pub lines_of : List (List ℕ) → List ℕ
-lines_of blocks = flat_map block_line blocks ++ flat_map message_line (shown_in blocks)
+lines_of blocks = flat_map block_line blocks
 
 -- what is written for the octets that were read
 pub record IsPageOutput (language : List ℕ) (id serial : ℕ) (input output : List ℕ) : Type 0 where
@@ -63,3 +65,15 @@ IsPageFault language input (fault.Text text_fault) =
 IsPageFault language input fault.Refused = Unit {0}
 IsPageFault language input fault.Read = ⊥
 IsPageFault language input fault.Write = ⊥
+
+-- the same of a run from a reader to a writer, of which these are the octets before and after: after a fault of the writer some of the
+-- output is out, and after any other fault nothing is
+abbrev pub IsStreamFault : (language : List ℕ) (id serial : ℕ) (input : List ℕ) (old new : Option (List ℕ)) → PageFault → Type 0
+IsStreamFault language id serial input old new fault.Read = Keeps old new
+IsStreamFault language id serial input old new fault.TooLong = IsPageFault language input fault.TooLong × Keeps old new
+IsStreamFault language id serial input old new fault.NotUtf8 = IsPageFault language input fault.NotUtf8 × Keeps old new
+IsStreamFault language id serial input old new (fault.Text text_fault) =
+    IsPageFault language input (fault.Text text_fault) × Keeps old new
+IsStreamFault language id serial input old new fault.Refused = Keeps old new
+IsStreamFault language id serial input old new fault.Write =
+    (output : List ℕ) × IsPageOutput language id serial input output × AppendsFront old new output

@@ -1,12 +1,18 @@
 //! The command `page`: one text to the blocks of its pages, and what a handset shows of them.
 
-ghost use Rattle.std.specs.Prelude.{◌≡◌, ◌++◌, IfOk, IfErr, OnOk, string_bytes, List, ℕ, length, ◌≤◌};
+ghost use Rattle.std.specs.Prelude.{◌≡◌, ◌≢◌, ◌↔◌, ◌≤◌, ◌++◌, ℕ, List, false, length, string_bytes, IfErr, IfOk, IfSome, IsErrOf, IsTrue, OnOk};
+ghost use Rattle.std.specs.Io.KnownBytes.{Appends, Keeps};
 ghost use Rattle.std.specs.List.{flat_map};
-ghost use Rattle.warnc.specs.PageOutput.{without_final_lf, blocks_of_message, block_line, IsPageOutput, IsPageFault};
+ghost use Rattle.device_ends.specs.Sink.{sink_failed, writer_of};
+ghost use Rattle.device_ends.specs.Source.{reader_of, source_failed};
+ghost use Rattle.warnc.specs.PageOutput.{without_final_lf, blocks_of_message, block_line, lines_of, IsPageOutput, IsPageFault, IsStreamFault};
 
 use crate::blocks::cut;
 use cbs_page::{Paged, Serial, TextFault, page_bytes, paginate};
+use device_ends::{Failed, ReadFault, Sink, Source, read_up_to, write_all};
 use std::alloc::{AllocError, Global};
+use std::io::{Read, Write};
+use std::str;
 use thiserror::Error;
 
 /// The most octets that are read: 16 MiB.
@@ -33,6 +39,85 @@ pub enum PageFault {
     /// The writer failed. Some of the output may be out.
     #[error("write failed")]
     Write,
+}
+
+/// Reads one text, and writes the blocks of its pages, a line each, and then what a handset shows of these blocks. One LF at the end of
+/// the input isn't part of the text. Nothing is written before all of the output is made.
+pub fn page_stream<R: Read, W: Write>(
+    alloc: Global,
+    source: &mut Source<R>,
+    sink: &mut Sink<W>,
+    language: &str,
+    id: u16,
+    serial: Serial,
+) -> Result<(), PageFault>
+    // What was written is what the definitions make of the octets that were read.
+    ensures ok { OnOk result (IfSome (R.remaining (reader_of source.old)) (λ input.
+        (output : List ℕ) × IsPageOutput language.now id serial input output
+        × Appends (W.contents (writer_of sink.old)) (W.contents (writer_of sink.new)) output)) }
+    ensures fault { IfErr result (λ fault. IfSome (R.remaining (reader_of source.old)) (λ input.
+        IsStreamFault language.now id serial input (W.contents (writer_of sink.old)) (W.contents (writer_of sink.new)) fault)) }
+
+    // At any reader and any writer.
+    ensures nothing { IfErr result (λ fault. fault ≢ PageFault.Write
+        → Keeps (W.contents (writer_of sink.old)) (W.contents (writer_of sink.new))) }
+    ensures read { IsErrOf result PageFault.Read ↔ IsTrue (source_failed source.new) }
+    ensures write { IsErrOf result PageFault.Write → IsTrue (sink_failed sink.new) }
+    ensures sound { OnOk result (sink_failed sink.new ≡ false) }
+{
+    let input = match read_up_to(source, alloc, MOST_OCTETS) {
+        Ok(input) => input,
+        Err(ReadFault::Device) => return Err(PageFault::Read),
+        Err(ReadFault::Refused) => return Err(PageFault::Refused),
+    };
+    let output = match page_output(alloc, &input, language, id, serial) {
+        Ok(output) => output,
+        Err(fault) => return Err(fault),
+    };
+    match write_all(sink, output.as_bytes()) {
+        Ok(()) => Ok(()),
+        Err(Failed) => Err(PageFault::Write),
+    }
+}
+
+/// What is written for the octets that were read.
+fn page_output(
+    alloc: Global,
+    input: &[u8],
+    language: &str,
+    id: u16,
+    serial: Serial,
+) -> Result<String, PageFault>
+    ensures output { IfOk result (λ output. IsPageOutput language.now id serial input.now (string_bytes output)) }
+    ensures fault { IfErr result (IsPageFault language.now input.now) }
+{
+    if input.len() > MOST_OCTETS {
+        return Err(PageFault::TooLong);
+    }
+    let text = match str::from_utf8(text_octets(input)) {
+        Ok(text) => text,
+        Err(_) => return Err(PageFault::NotUtf8),
+    };
+    let paged = match paginate(alloc, text, language) {
+        Ok(paged) => paged,
+        Err(TextFault::Refused) => return Err(PageFault::Refused),
+        Err(fault) => return Err(PageFault::Text(fault)),
+    };
+    match output_of(alloc, id, serial, &paged) {
+        Ok(output) => Ok(output),
+        Err(_) => Err(PageFault::Refused),
+    }
+}
+
+/// The lines of a message's blocks, and of what they show.
+fn output_of(alloc: Global, id: u16, serial: Serial, paged: &Paged) -> Result<String, AllocError>
+    requires { length paged.now.pages.items ≤ 15 }
+    ensures { IfOk result (λ output. string_bytes output ≡ lines_of (blocks_of_message id serial paged.now)) }
+{
+    let blocks = blocks_of(alloc, id, serial, paged)?;
+    let mut output = String::new(alloc);
+    push_block_lines(alloc, &mut output, &blocks)?;
+    Ok(output)
 }
 
 /// The octets of the text: one LF at the end isn't part of it.

@@ -1,4 +1,5 @@
-use Rattle.std.proofs.Common.{◌≡◌, ◌≢◌, ℕ, List, [], length, refl, sym, ap, ◌∙◌, arith, IsSome, Some, true, false, Option, eqb, subst}
+use Rattle.std.proofs.Common.{◌≡◌, ◌≢◌, ℕ, List, [], length, refl, sym, ap, ◌∙◌, arith, IsSome, Some, true, false, Option, eqb, subst, map}
+use Rattle.std.specs.List.{flat_map}
 use Rattle.std.specs.Prelude.{is_some}
 use Rattle.std.specs.Str.{IsUtf8, chars}
 use Rattle.std.proofs.Math.Utf8.{encodes}
@@ -10,6 +11,8 @@ use Rattle.cbs_page.specs.declared.content.Content.{Content}
 use Rattle.cbs_page.specs.Coding.{language_value}
 use Rattle.cbs_page.specs.Cutting.{cuts_from, count_from}
 use Rattle.cbs_page.specs.Text.{capacity, codes_of, alphabet_for, coding_for, AreContentsOf}
+use Rattle.std.proofs.lemmas.List.{length-map}
+use Rattle.cbs_page.proofs.CuttingLaws.{AreContentsOf-length}
 use Rattle.cbs_page.proofs.PaginateLaws.{HasPages, has_pages, each_scalar, sendable, pages_show}
 use Rattle.cbs_page.proofs.paging.paginate.Goals as goal
 
@@ -79,6 +82,22 @@ returns-in-Ok-clause-shown c =
     let held = held_in c.args.text.now c.alphabet_of_text-alphabet.result c.in-Ok.pages.items c.alphabet_of_text-alphabet.ensures c.in-Ok.ensures in
     let good = sendable (chars c.args.text.now) (each_scalar (chars c.args.text.now) (scalars-chars c.args.text.now c.utf8.text)) (sym c.in-None.ensures) in
     pages_show (chars c.args.text.now) pages c.in-Ok.pages.items good held
+
+pub returns-in-Ok-clause-count : goal.returns-in-Ok-clause-count
+returns-in-Ok-clause-count c =
+    let pages = pages_of c.args.text.now c.utf8.text c.if-is_empty.ensures in
+    let count = counted c.args.text.now c.alphabet_of_text-alphabet.result pages c.page_count.result c.alphabet_of_text-alphabet.ensures
+    c.page_count.ensures
+    in
+    let held = held_in c.args.text.now c.alphabet_of_text-alphabet.result c.in-Ok.pages.items c.alphabet_of_text-alphabet.ensures
+    c.in-Ok.ensures
+    in
+    let same : length c.in-Ok.pages.items ≡ length pages.pieces =
+    AreContentsOf-length (alphabet_for (chars c.args.text.now))
+    (map (flat_map (codes_of (alphabet_for (chars c.args.text.now)))) pages.pieces) c.in-Ok.pages.items (rw (← pages.cut) held)
+    ∙ length-map pages.pieces (flat_map (codes_of (alphabet_for (chars c.args.text.now))))
+    in
+    (omega (arith, same, pages.some), omega (arith, same, count))
 
 pub returns-in-Err-clause-fault : goal.returns-in-Err-clause-fault
 returns-in-Err-clause-fault c =
