@@ -131,7 +131,12 @@ fn text_octets(input: &[u8]) -> &[u8]
 }
 
 /// The blocks of a message, in the order in which they are sent.
-fn blocks_of(alloc: Global, id: u16, serial: Serial, paged: &Paged) -> Result<Vec<[u8; 23]>, AllocError>
+fn blocks_of(
+    alloc: Global,
+    id: u16,
+    serial: Serial,
+    paged: &Paged,
+) -> Result<Vec<[u8; 23]>, AllocError>
     requires { length paged.now.pages.items ≤ 15 }
     ensures { IfOk result (λ blocks. blocks.items ≡ blocks_of_message id serial paged.now) }
 {
@@ -146,7 +151,11 @@ fn blocks_of(alloc: Global, id: u16, serial: Serial, paged: &Paged) -> Result<Ve
 }
 
 /// Appends a line for each block.
-fn push_block_lines(alloc: Global, output: &mut String, blocks: &[[u8; 23]]) -> Result<(), AllocError>
+fn push_block_lines(
+    alloc: Global,
+    output: &mut String,
+    blocks: &[[u8; 23]],
+) -> Result<(), AllocError>
     ensures { OnOk result (string_bytes output.new ≡ string_bytes output.old ++ flat_map block_line blocks.now) }
 {
     for block in blocks {

@@ -12,6 +12,6 @@ returns-in-Ok-output_of-clause-output c =
       utf8 = subst (λ (octets : List ℕ). IsUtf8 octets) c.text_octets.ensures c.in-Ok.ensures.cases.1;
       paged = c.in-Ok-paginate.paged;
       sent = subst (λ (octets : List ℕ). IsPagedText c.args.language.now (chars octets) c.in-Ok-paginate.paged) text
-        c.in-Ok-paginate.ensures.sent;
+          c.in-Ok-paginate.ensures.sent;
       written = c.in-Ok-output_of.ensures;
     }
