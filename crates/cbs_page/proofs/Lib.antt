@@ -3,3 +3,4 @@ pub mod TrailingLaws
 pub mod CuttingLaws
 pub mod TextLaws
 pub mod PaginateLaws
+pub mod CodingLaws

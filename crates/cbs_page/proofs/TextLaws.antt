@@ -14,6 +14,7 @@ use Rattle.gsm_alphabet.proofs.AlphabetLaws.{text_comes_back, flat_map-small, fl
 use Rattle.septets.specs.Packing.{IsPacked, unpacked}
 use Rattle.septets.proofs.PackingLaws.{unpacking_gives_back}
 use Rattle.ucs2_text.specs.Ucs2.{unit_of_character, octets_of_units, units_of_octets, character_of_unit}
+use Rattle.ucs2_text.proofs.Places.{length-octets_of_units}
 use Rattle.ucs2_text.proofs.Ucs2Laws.{units_come_back, map-character_of_unit}
 use Rattle.cbs_page.specs.declared.coding.Alphabet.{Alphabet}
 use Rattle.cbs_page.specs.declared.coding.Alphabet.TheVariants.{Gsm, Ucs2}
@@ -137,3 +138,17 @@ good-fits c good = omega (arith, ltb-false 65535 c (or-false (nat_lt c 32 && not
 pub both : (P Q : ℕ → Type 0) (xs : List ℕ) → AllByRecursion P xs → AllByRecursion Q xs → AllByRecursion (λ x. P x × Q x) xs
 both P Q [] ps qs = tt
 both P Q (x ∷ xs) ps qs = ((ps.0, qs.0), both P Q xs ps.1 qs.1)
+
+-- A content has 82 octets.
+pub contents-length : (alphabet : Alphabet) (pieces : List (List ℕ)) (contents : List Content) →
+    AllByRecursion (λ piece. sum_by (cost_of alphabet) piece ≤ capacity alphabet) pieces →
+    AreContentsOf alphabet (map (flat_map (codes_of alphabet)) pieces) contents →
+    AllByRecursion (λ content. length content.octets ≡ 82) contents
+contents-length alphabet [] [] within held = tt
+contents-length alphabet [] (content ∷ contents) within held = absurd held
+contents-length alphabet (piece ∷ pieces) [] within held = absurd held
+contents-length Gsm (piece ∷ pieces) (content ∷ contents) within held =
+    (held.0.1.size, contents-length Gsm pieces contents within.1 held.1)
+contents-length Ucs2 (piece ∷ pieces) (content ∷ contents) within held =
+    let short : length (flat_map (codes_of Ucs2) piece) ≤ 41 = rw (length-flat_map (codes_of Ucs2) piece) within.0 in
+    (ap length held.0.1 ∙ length-octets_of_units (flat_map (codes_of Ucs2) piece) short, contents-length Ucs2 pieces contents within.1 held.1)

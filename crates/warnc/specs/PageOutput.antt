@@ -47,13 +47,15 @@ message_line message =
 abbrev pub lines_of : List (List ℕ) → List ℕ
 lines_of blocks = flat_map block_line blocks
 
--- what is written for the octets that were read
+-- what is written for the octets that were read: the lines of the blocks that carry the text, and these blocks show the text, once
 pub record IsPageOutput (language : List ℕ) (id serial : ℕ) (input output : List ℕ) : Type 0 where
   pub bounded : length input ≤ most_octets
   pub utf8 : IsUtf8 (without_final_lf input)
   pub paged : Paged
   pub sent : IsPagedText language (chars (without_final_lf input)) paged
   pub written : output ≡ lines_of (blocks_of_message id serial paged)
+  pub shown : shown_in (blocks_of_message id serial paged)
+      ≡ record { id = id; serial = serial; text = without_final_lf input } ∷ []
 
 -- why nothing is: the first of these that applies, want of memory and devices aside
 abbrev pub IsPageFault : (language input : List ℕ) → PageFault → Type 0
