@@ -32,3 +32,6 @@ fn status(rt: &HostRuntime) -> u8 {
         &mut rt.stderr(),
     )
 }
+
+#[cfg(test)]
+mod tests;
