@@ -21,7 +21,7 @@ same_messages g h same [] = refl
 same_messages g h same (t ∷ tracked) =
     ap (λ m. m ∷ map message_of (map g tracked)) (same t) ∙ ap (λ ms. h (message_of t) ∷ ms) (same_messages g h same tracked)
 
-unchanged_messages : (g : Tracked → Tracked) → ((t : Tracked) → message_of (g t) ≡ message_of t) → (tracked : List Tracked) → map message_of (map g tracked) ≡ map message_of tracked
+pub unchanged_messages : (g : Tracked → Tracked) → ((t : Tracked) → message_of (g t) ≡ message_of t) → (tracked : List Tracked) → map message_of (map g tracked) ≡ map message_of tracked
 unchanged_messages g same [] = refl
 unchanged_messages g same (t ∷ tracked) =
     ap (λ m. m ∷ map message_of (map g tracked)) (same t) ∙ ap (λ ms. message_of t ∷ ms) (unchanged_messages g same tracked)
@@ -101,6 +101,10 @@ IsSound-stop plan entry slot sound = record {
   within = sound.within;
 }
 
+pub messages_of-stopped : (plan : Kept) (entry slot : ℕ) → messages_of (kept_stopped plan entry slot) ≡ stopped_at entry slot (messages_of plan)
+messages_of-stopped plan entry slot =
+    same_messages (λ (t : Tracked). stopped_kept (t.item.entry == entry) slot t) (λ (m : Message). stopped_if (m.number == entry) slot m) (λ t. refl) plan.tracked
+
 -- a message that stands under its number is the only one under it
 only_standing : (tracked : List Tracked) (entry : ℕ) → AllPairs (λ a b. a.item.entry < b.item.entry) tracked → Any (λ m. (m.number ≡ entry) × (m.stop ≡ None)) (map message_of tracked) → All (λ t. t.item.entry ≡ entry → t.stop ≡ None) tracked
 only_standing tracked entry rising standing = λ k d within. λ named.
@@ -119,7 +123,7 @@ Follows-stop plan entry slot messages air at standing sound follows =
     let fit = subst Fit follows.asked sound.fit in
     let free = only_standing plan.tracked entry sound.rising standing in
     record {
-      told = same_messages (λ (t : Tracked). stopped_kept (t.item.entry == entry) slot t) (λ (m : Message). stopped_if (m.number == entry) slot m) (λ t. refl) plan.tracked ∙ ap (stopped_at entry slot) follows.told;
+      told = messages_of-stopped plan entry slot ∙ ap (stopped_at entry slot) follows.told;
       asked = follows.asked;
       counted = subst Stopped (sym (at ∙ follows.asked)) (All-map (λ t. Counts t air) (λ (t : Tracked). stopped_kept (t.item.entry == entry) (length air) t) plan.tracked (λ k d h. Counts-stopped (get_or plan.tracked k d) air ((get_or plan.tracked k d).item.entry == entry) (fit k d h) (λ e. free k d h (eqb-true _ entry e)) (follows.counted k d h)));
     }

@@ -1,7 +1,9 @@
 -- Lemmas on lists.
-use Rattle.std.proofs.Common.{◌≡◌, ◌≢◌, ℕ, zero, suc, ◌+◌, ◌-◌, ◌<◌, Bool, false, cond, List, [], ◌∷◌, ◌++◌, length, get_or, take, drop, map, count_by, inl, inr, refl, sym, ap, ◌∙◌, arith}
+use Rattle.std.proofs.Common.{true, false, ◌≡◌, ◌≢◌, ℕ, zero, suc, ◌+◌, ◌-◌, ◌<◌, Bool, false, cond, List, [], ◌∷◌, ◌++◌, length, get_or, take, drop, map, count_by, inl, inr, refl, sym, ap, ◌∙◌, arith}
 use Rattle.std.proofs.Math.Nat.{add-zero}
-use Rattle.std.specs.List.{All, AllPairs, range_with_len}
+use Rattle.std.specs.Bool.{MatchBool}
+use Rattle.std.specs.Prelude.{⊤}
+use Rattle.std.specs.List.{All, AllPairs, range_with_len, Any}
 use Rattle.std.proofs.lemmas.List.{get_or-append_right, get_or-drop, get_or-map, length-map, length-take-le}
 use Rattle.std.proofs.lemmas.List.Quantifiers.{all_pairs_push}
 use Rattle.std.proofs.lemmas.List.Sums.{sum_by_push}
@@ -88,3 +90,14 @@ rising-map f g same xs rising = λ i j d before within.
 -- and where an element with a greater number follows
 pub rising-push : {X : Type 0} (f : X → ℕ) (xs : List X) (x : X) → AllPairs (λ a b. f a < f b) xs → All (λ a. f a < f x) xs → AllPairs (λ a b. f a < f b) (xs ++ x ∷ [])
 rising-push f xs x rising below = all_pairs_push (λ a b. f a < f b) xs x rising below
+
+-- what is true of some element is true of what it is mapped to
+pub Any-map : {X Y : Type 0} (P : Y → Type 0) (f : X → Y) (xs : List X) → Any (λ x. P (f x)) xs → Any P (map f xs)
+Any-map P f xs some =
+    let there = get_or-map f xs some.0 some.1 (f some.1) some.2 ∙ ap f some.3 in
+    (some.0, f some.1, omega (arith, length-map xs f, some.2), there, some.4)
+
+-- what follows where a test passed
+pub MatchBool-then : (b : Bool) (P Q : Type 0) → (P → Q) → MatchBool b P ⊤ → MatchBool b Q ⊤
+MatchBool-then true P Q h m = h m
+MatchBool-then false P Q h m = tt

@@ -1,11 +1,11 @@
 //! The plan of a cell.
 
-ghost use Rattle.std.specs.Prelude.{◌≡◌, ℕ, ◌<◌, ◌≤◌, ◌==◌, true, List, [], ◌∷◌, ◌++◌, length, map, All, AllPairs, Any, OnOk, OnErr};
+ghost use Rattle.std.specs.Prelude.{◌≡◌, ℕ, ◌+◌, ◌<◌, ◌≤◌, ◌==◌, true, List, [], ◌∷◌, ◌++◌, length, map, All, AllPairs, Any, OnOk, OnErr};
 ghost use Rattle.std.specs.Option.{ForSome};
 ghost use Rattle.scheduler.specs.Message.{Message, stopped_at};
 ghost use Rattle.scheduler.specs.Air.{Air, airs, IsChosen};
 ghost use Rattle.scheduler.specs.Completed.{completed};
-ghost use Rattle.scheduler.specs.Kept.{Follows, next_slot, messages_of, message_from, IsFit, IsFirstOf, IsEarlier, IsChoice, after_slot, stopped_kept};
+ghost use Rattle.scheduler.specs.Kept.{Follows, next_slot, messages_of, message_of, message_from, IsFit, IsFirstOf, IsEarlier, IsChoice, after_slot, stopped_kept};
 
 use crate::tracked::Tracked;
 use std::alloc::Global;
@@ -61,7 +61,9 @@ impl Model for Plan {
 impl Plan {
     /// A plan with no message, for which slot 0 is asked next.
     pub fn new(alloc: Global) -> Self
-        ensures { Follows result [] [] }
+        ensures follows { Follows result [] [] }
+        ensures told { messages_of result ≡ [] }
+        ensures asked { next_slot result ≡ 0 }
     {
         Plan {
             slot: 0,
@@ -79,6 +81,8 @@ impl Plan {
         ensures follows { OnOk result ((messages : List Message) (air : Air)
             → Follows self.old messages air
             → Follows self.new (messages ++ message_from item ∷ []) air) }
+        ensures told { OnOk result (messages_of self.new ≡ messages_of self.old ++ message_from item ∷ []) }
+        ensures asked { next_slot self.new ≡ next_slot self.old }
         ensures refused { OnErr result (self.new ≡ self.old) }
     {
         match self.tracked.push(Tracked::new(item)) {
@@ -98,6 +102,8 @@ impl Plan {
         ensures follows { (messages : List Message) (air : Air)
             → Follows self.old messages air
             → Follows self.new messages (air ++ result ∷ []) }
+        ensures told { messages_of self.new ≡ messages_of self.old }
+        ensures asked { next_slot self.new ≡ slot + 1 }
     {
         let used = choice(self.tracked.as_slice(), slot);
         pass(self.tracked.as_mut_slice(), slot, used);
@@ -116,6 +122,8 @@ impl Plan {
         ensures follows { (messages : List Message) (air : Air)
             → Follows self.old messages air
             → Follows self.new (stopped_at entry slot messages) air }
+        ensures told { messages_of self.new ≡ stopped_at entry slot (messages_of self.old) }
+        ensures asked { next_slot self.new ≡ slot }
     {
         let completed = completed_of(self.tracked.as_slice(), entry);
         stop_at(self.tracked.as_mut_slice(), entry, slot);
@@ -130,6 +138,24 @@ impl Plan {
             → All (λ m. m.number ≡ entry → result ≡ completed m air (length air)) messages }
     {
         completed_of(self.tracked.as_slice(), entry)
+    }
+}
+
+/// What a caller knows of a plan, found by looking.
+#[cfg(test)]
+impl Plan {
+    /// The slot that is asked next.
+    pub fn asked_next(&self) -> u16
+        ensures { result ≡ next_slot self.now }
+    {
+        self.slot
+    }
+
+    /// What is kept of the messages.
+    pub fn tracked(&self) -> &[Tracked]
+        ensures { map message_of result.now ≡ messages_of self.now }
+    {
+        self.tracked.as_slice()
     }
 }
 

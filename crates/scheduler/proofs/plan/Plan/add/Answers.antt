@@ -1,9 +1,10 @@
-use Rattle.std.proofs.Common.{◌<◌, sym, ap, subst, ◌∙◌, List, [], ◌∷◌, ◌++◌, cond}
+use Rattle.std.proofs.Common.{◌<◌, sym, ap, subst, ◌∙◌, map, List, [], ◌∷◌, ◌++◌, cond}
 use Rattle.std.specs.List.{All}
 use Rattle.std.specs.Result.{is_ok}
+use Rattle.std.proofs.lemmas.List.{map_push}
 use Rattle.scheduler.specs.declared.tracked.Tracked.{Tracked}
-use Rattle.scheduler.specs.Kept.{Kept, Follows, messages_of, message_from, next_slot}
-use Rattle.scheduler.proofs.Followed.{IsSound-add_if, Follows-add}
+use Rattle.scheduler.specs.Kept.{Kept, Follows, messages_of, message_of, message_from, next_slot}
+use Rattle.scheduler.proofs.Followed.{IsSound-add_if, Follows-add, kept_new}
 use Rattle.scheduler.proofs.plan.Plan.add.Goals as goal
 use Rattle.scheduler.proofs.plan.Plan.add.Goals.{in-Ok, in-Err}
 
@@ -25,5 +26,15 @@ returns-clause-follows c =
           let items = w.in-Ok.ensures.items ∙ ap (λ x. c.self.inside.tracked.items ++ x ∷ []) c.new.ensures in
           let P : List Tracked → Type 0 = λ ts. Follows (record { slot = c.self.inside.slot; tracked = ts }) (messages ++ message_from c.args.item ∷ []) air in
           subst P (sym items) (Follows-add plan c.args.item messages air (c.requires.at_next ∙ ap next_slot back) c.requires.some_pages c.requires.some_period (subst Same back follows)))
+      | in-Err w ↦ rw w.result-is tt
+    ]
+
+pub returns-clause-told : goal.returns-clause-told
+returns-clause-told c =
+    elim c.match-push.branch [
+      | in-Ok w ↦ rw w.result-is (
+          let items = w.in-Ok.ensures.items ∙ ap (λ x. c.self.inside.tracked.items ++ x ∷ []) c.new.ensures in
+          ap (map message_of) items ∙ (map_push message_of c.self.inside.tracked.items (kept_new c.args.item) ∙ ap (λ p. messages_of p ++ message_from c.args.item ∷ []) c.self.view_is)
+          )
       | in-Err w ↦ rw w.result-is tt
     ]

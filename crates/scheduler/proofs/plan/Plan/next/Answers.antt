@@ -1,9 +1,9 @@
-use Rattle.std.proofs.Common.{◌≡◌, ℕ, ◌+◌, ◌<◌, sym, ap, subst, ◌∙◌, List, [], ◌∷◌, ◌++◌, true}
+use Rattle.std.proofs.Common.{◌≡◌, ℕ, ◌+◌, ◌<◌, sym, ap, subst, ◌∙◌, map, refl, List, [], ◌∷◌, ◌++◌, true}
 use Rattle.std.specs.List.{All}
 use Rattle.scheduler.specs.declared.tracked.Tracked.{Tracked}
 use Rattle.scheduler.specs.Air.{airs}
-use Rattle.scheduler.specs.Kept.{Kept, Follows, IsSound, IsChoice, next_slot, after_slot}
-use Rattle.scheduler.proofs.Followed.{IsSound-next, IsChosen-next, Follows-next, few_pages, written_over}
+use Rattle.scheduler.specs.Kept.{Kept, Follows, IsSound, IsChoice, messages_of, message_of, next_slot, after_slot}
+use Rattle.scheduler.proofs.Followed.{IsSound-next, IsChosen-next, Follows-next, few_pages, written_over, unchanged_messages}
 use Rattle.scheduler.proofs.plan.Plan.next.Goals as goal
 
 pub pass-requires-clause-ready : goal.pass-requires-clause-ready
@@ -42,3 +42,8 @@ returns-clause-follows c = λ messages air follows.
     let Choice : List Tracked → Type 0 = λ ts. IsChoice ts c.args.slot c.choice-used.result in
     let P : List Tracked → Type 0 = λ ts. Follows (record { slot = c.args.slot + 1; tracked = ts }) messages (air ++ c.choice-used.result ∷ []) in
     subst P (sym over) (Follows-next plan messages air c.choice-used.result (subst Slot (sym at) c.self.invariant) (subst Choice c.as_slice.ensures.value c.choice-used.ensures) (subst SlotFollows (sym at) (subst Same (sym c.self.view_is) follows)))
+
+pub returns-clause-told : goal.returns-clause-told
+returns-clause-told c =
+    let over = written_over c.self.inside.tracked (after_slot c.args.slot c.choice-used.result) _ _ c.as_mut_slice.ensures.value c.pass.ensures in
+    ap (map message_of) over ∙ (unchanged_messages (after_slot c.args.slot c.choice-used.result) (λ t. refl) c.self.inside.tracked.items ∙ ap messages_of c.self.view_is)

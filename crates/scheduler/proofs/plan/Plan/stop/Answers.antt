@@ -1,10 +1,10 @@
-use Rattle.std.proofs.Common.{◌≡◌, ◌==◌, ℕ, sym, subst, ◌∙◌, List, None}
+use Rattle.std.proofs.Common.{◌≡◌, ◌==◌, ℕ, sym, ap, subst, ◌∙◌, map, List, None}
 use Rattle.std.specs.List.{All, Any}
 use Rattle.scheduler.specs.declared.tracked.Tracked.{Tracked}
 use Rattle.scheduler.specs.Message.{stopped_at}
 use Rattle.scheduler.specs.Completed.{completed}
-use Rattle.scheduler.specs.Kept.{Kept, Follows, IsSound, messages_of, next_slot, stopped_kept}
-use Rattle.scheduler.proofs.Followed.{IsSound-stop, Follows-stop, completed-told, written_over}
+use Rattle.scheduler.specs.Kept.{Kept, Follows, IsSound, messages_of, message_of, next_slot, stopped_kept}
+use Rattle.scheduler.proofs.Followed.{IsSound-stop, Follows-stop, completed-told, written_over, messages_of-stopped}
 use Rattle.scheduler.proofs.plan.Plan.stop.Goals as goal
 
 pub invariant_of-self : goal.invariant_of-self
@@ -33,3 +33,12 @@ returns-clause-follows c = λ messages air follows.
     let P : List Tracked → Type 0 = λ ts. Follows (record { slot = c.self.inside.slot; tracked = ts }) (stopped_at c.args.entry c.args.slot messages) air in
     let back = sym c.self.view_is in
     subst P (sym over) (Follows-stop plan c.args.entry c.args.slot messages air (subst Next back c.requires.at_next) (subst Standing back c.requires.standing) c.self.invariant (subst Same back follows))
+
+pub returns-clause-told : goal.returns-clause-told
+returns-clause-told c =
+    let plan : Kept = record { slot = c.self.inside.slot; tracked = c.self.inside.tracked.items } in
+    let over = written_over c.self.inside.tracked (λ (t : Tracked). stopped_kept (t.item.entry == c.args.entry) c.args.slot t) _ _ c.as_mut_slice.ensures.value c.stop_at.ensures in
+    ap (map message_of) over ∙ (messages_of-stopped plan c.args.entry c.args.slot ∙ ap (λ p. stopped_at c.args.entry c.args.slot (messages_of p)) c.self.view_is)
+
+pub returns-clause-asked : goal.returns-clause-asked
+returns-clause-asked c = ap next_slot c.self.view_is ∙ sym c.requires.at_next
