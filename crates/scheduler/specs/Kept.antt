@@ -1,0 +1,114 @@
+-- What a plan keeps, and how it follows its messages and their air list.
+use Rattle.std.specs.Prelude.{◌≡◌, ℕ, ◌+◌, ◌-◌, ◌/◌, ◌%◌, ◌<◌, ◌≤◌, ◌==◌, ◌⊎◌, Bool, true, false, ◌&&◌, nat_lt, if◌then◌else◌, Option, Some, None, List, length, map, All, Any, AllPairs, Contains}
+use Rattle.scheduler.specs.declared.plan.Item.{Item}
+use Rattle.scheduler.specs.declared.tracked.Tracked.{Tracked}
+use Rattle.scheduler.specs.Message.{Message, release, has_broadcast, is_before_stop}
+use Rattle.scheduler.specs.Air.{Air, airs, pages_aired, IsNoLater}
+use Rattle.scheduler.specs.Completed.{completed}
+
+-- what a plan keeps: the slot that is asked next, and of each message what was aired of it
+pub record Kept : Type 0 where
+  pub slot : ℕ
+  pub tracked : List Tracked
+
+-- the message that an item adds
+abbrev pub message_from : Item → Message
+message_from item = record {
+  number = item.entry;
+  start = item.start;
+  pages = item.pages;
+  period = item.period;
+  requested = item.broadcasts;
+  stop = None;
+  high = item.high;
+}
+
+-- the message that is kept, with its stop
+abbrev pub message_of : Tracked → Message
+message_of t = record (message_from t.item) { stop = t.stop }
+
+-- the slot that is asked next
+abbrev pub next_slot : Kept → ℕ
+next_slot plan = plan.slot
+
+-- the messages that were added, with their stops
+abbrev pub messages_of : Kept → List Message
+messages_of plan = map message_of plan.tracked
+
+-- the broadcast of a message in whose time the slot lies
+abbrev pub broadcast_at : Message → ℕ → ℕ
+broadcast_at m slot = (slot - m.start) / m.period
+
+-- the counts of a message are those of the air list: the pages of the broadcast that is under way, and the broadcasts
+-- that are whole
+pub record Counts (t : Tracked) (air : Air) : Type 0 where
+  pub aired : t.aired ≡ pages_aired t.item.entry air (release (message_of t) (broadcast_at (message_of t) (length air))) (length air)
+  pub completed : t.completed ≡ completed (message_of t) air (length air)
+
+-- the plan follows the messages and their air list: it was told of these messages, each slot of the list was asked, and
+-- its counts are those of the list
+pub record Follows (plan : Kept) (messages : List Message) (air : Air) : Type 0 where
+  pub told : messages_of plan ≡ messages
+  pub asked : next_slot plan ≡ length air
+  pub counted : All (λ t. Counts t air) plan.tracked
+
+-- what is true of each kept message at the slot that is asked next
+pub record IsFit (t : Tracked) (slot : ℕ) : Type 0 where
+  pub started : t.item.start ≤ slot
+  pub some_pages : 0 < t.item.pages
+  pub some_period : 0 < t.item.period
+  pub few : t.completed ≤ slot
+
+-- and of all that a plan keeps: the numbers rise
+pub record IsSound (plan : Kept) : Type 0 where
+  pub rising : AllPairs (λ a b. a.item.entry < b.item.entry) plan.tracked
+  pub fit : All (λ t. IsFit t plan.slot) plan.tracked
+  pub within : plan.slot ≤ 65535
+
+-- the message has a page to air at the slot
+abbrev pub is_ready : Tracked → ℕ → Bool
+is_ready t slot =
+    has_broadcast (message_of t) (broadcast_at (message_of t) slot) && (is_before_stop slot t.stop && nat_lt t.aired t.item.pages)
+
+-- of two messages, a is served no later than b at the slot
+abbrev pub IsServedFirst : ℕ → Tracked → Tracked → Type 0
+IsServedFirst slot a b =
+    IsNoLater (message_of a) (broadcast_at (message_of a) slot) (message_of b) (broadcast_at (message_of b) slot)
+
+-- no message is ready
+abbrev pub NoneReady : List Tracked → ℕ → Type 0
+NoneReady tracked slot = All (λ t. is_ready t slot ≡ false) tracked
+
+-- a message is ready, and served no later than any that is
+pub record IsFirstReady (tracked : List Tracked) (slot : ℕ) (t : Tracked) : Type 0 where
+  pub ready : is_ready t slot ≡ true
+  pub first : All (λ other. is_ready other slot ≡ true → IsServedFirst slot t other) tracked
+
+-- what is kept of a message after a slot and its use
+abbrev pub after_slot : ℕ → Option (ℕ × ℕ) → Tracked → Tracked
+after_slot slot used t =
+    let pages = t.aired + (if airs t.item.entry used then 1 else 0) in
+    record t {
+      aired = if (slot + 1 - t.item.start) % t.item.period == 0 then 0 else pages;
+      completed = t.completed + (if airs t.item.entry used && (pages == t.item.pages) then 1 else 0);
+    }
+
+-- what is first of some messages: none where none is ready
+abbrev pub IsFirstOf : List Tracked → ℕ → Option Tracked → Type 0
+IsFirstOf seen slot None = NoneReady seen slot
+IsFirstOf seen slot (Some t) = Contains seen t × IsFirstReady seen slot t
+
+-- the one of two messages that is served first, where the first may be missing
+abbrev pub IsEarlier : ℕ → Option Tracked → Tracked → Tracked → Type 0
+IsEarlier slot None b t = t ≡ b
+IsEarlier slot (Some a) b t = ((t ≡ a) × IsServedFirst slot a b) ⊎ ((t ≡ b) × IsServedFirst slot b a)
+
+-- what a slot airs by what is kept
+abbrev pub IsChoice : List Tracked → ℕ → Option (ℕ × ℕ) → Type 0
+IsChoice tracked slot None = NoneReady tracked slot
+IsChoice tracked slot (Some used) =
+    Any (λ t. IsFirstReady tracked slot t × (used ≡ (t.item.entry, t.aired + 1))) tracked
+
+-- what is kept of a message that is stopped, if the test says so
+abbrev pub stopped_kept : Bool → ℕ → Tracked → Tracked
+stopped_kept says slot t = record t { stop = if says then Some slot else t.stop }

@@ -1,0 +1,4 @@
+pub mod Air
+pub mod Completed
+pub mod Kept
+pub mod Message
