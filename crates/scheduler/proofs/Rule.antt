@@ -6,7 +6,8 @@ use Rattle.std.proofs.lemmas.List.Elements.{All-map, All-push}
 use Rattle.std.proofs.lemmas.Bool.{cases_lt, cases_order, cases_Bool, and_parts, and_from, leb-true, le-leb, eqb-true, false≢true}
 use Rattle.std.proofs.lemmas.List.Edits.{between_more}
 use Rattle.std.proofs.lemmas.List.Sums.{sum_by_push}
-use Rattle.scheduler.proofs.Completed.{one_if}
+use Rattle.std.proofs.Math.Nat.{le-mul_of_pos_right}
+use Rattle.scheduler.proofs.Completed.{one_if, is_whole-unreleased}
 use Rattle.scheduler.specs.Message.{Message, release, due, IsBeforeStop, stopped_if, stopped_at}
 use Rattle.scheduler.specs.Air.{Air, airs, pages_aired, IsPending, IsChosen, IsAirOf, IsNoLater, class, next_page}
 use Rattle.scheduler.specs.Completed.{IsWhole, is_whole}
@@ -258,3 +259,12 @@ is_whole-says m air slot j h =
 pub is_whole-from : (m : Message) (air : Air) (slot j : ℕ) → IsWhole m j air slot → is_whole m air slot j ≡ true
 is_whole-from m air slot j w =
     and_from _ _ (has_broadcast-from m j w.requested) (and_from _ _ (is_before_stop-from (release m j) m.stop w.released) (le-leb _ _ w.aired))
+
+-- a broadcast that is whole before a slot was released before it, so its number is no greater than the slot's
+pub IsWhole-below : (m : Message) (air : Air) (slot j : ℕ) → 0 < m.pages → 0 < m.period → IsWhole m j air slot → j < slot + 1
+IsWhole-below m air slot j pages period w =
+    let grows = le-mul_of_pos_right j period in
+    elim (cases_lt (release m j) slot) [
+      | inl released ↦ omega arith
+      | inr later ↦ absurd (false≢true (sym (is_whole-unreleased m air slot j pages later) ∙ is_whole-from m air slot j w))
+    ]

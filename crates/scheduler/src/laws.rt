@@ -1,8 +1,9 @@
 //! Laws of air lists, over their definitions alone.
 
-ghost use Rattle.std.specs.Prelude.{◌≡◌, ℕ, ◌<◌, ◌≤◌, true, Option, Some, None, slice_index_or, List, [], ◌∷◌, ◌++◌, length, All, AllPairs, Contains};
+ghost use Rattle.std.specs.Prelude.{◌≡◌, ℕ, ◌+◌, ◌<◌, ◌≤◌, true, Option, Some, None, slice_index_or, List, [], ◌∷◌, ◌++◌, length, All, AllPairs, Contains};
 ghost use Rattle.scheduler.specs.Message.{Message, release, due, stopped_at};
 ghost use Rattle.scheduler.specs.Air.{Air, airs, pages_aired, next_page, IsPending, IsChosen, IsAirOf};
+ghost use Rattle.scheduler.specs.Completed.{IsWhole};
 ghost use Rattle.scheduler.specs.Choice.{choice};
 
 /// States, as its contract, what the air rule promises. It does nothing.
@@ -56,4 +57,11 @@ pub fn air_laws()
         → slot ≤ length air
         → slot ≤ due message j
         → pages_aired message.number air (release message j) slot ≤ message.pages }
+
+    // The completed number leaves out no whole broadcast.
+    ensures all_counted { (message : Message) (air : Air) (slot j : ℕ)
+        → 0 < message.pages
+        → 0 < message.period
+        → IsWhole message j air slot
+        → j < slot + 1 }
 {}

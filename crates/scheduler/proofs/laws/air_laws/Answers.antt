@@ -1,5 +1,5 @@
 use Rattle.scheduler.proofs.Choice.{IsChosen-choice}
-use Rattle.scheduler.proofs.Rule.{IsChosen-only, IsAirOf-next, IsAirOf-add, IsAirOf-stop, aired_is_pending, pages_aired-at_most}
+use Rattle.scheduler.proofs.Rule.{IsChosen-only, IsAirOf-next, IsAirOf-add, IsAirOf-stop, aired_is_pending, pages_aired-at_most, IsWhole-below}
 use Rattle.scheduler.proofs.laws.air_laws.Goals as goal
 
 pub returns : goal.returns
@@ -11,4 +11,5 @@ returns c = record {
   later_stop = IsAirOf-stop;
   in_order = aired_is_pending;
   at_most_its_pages = pages_aired-at_most;
+  all_counted = IsWhole-below;
 }
