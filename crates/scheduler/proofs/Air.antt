@@ -6,7 +6,7 @@ use Rattle.std.proofs.lemmas.Bool.{cases_lt}
 use Rattle.std.proofs.Math.Nat.{lt_of_mul-lt-mul_right}
 use Rattle.scheduler.specs.Message.{Message, release, due}
 use Rattle.scheduler.specs.Air.{Air, airs, pages_aired}
-use Rattle.scheduler.specs.Kept.{broadcast_at}
+use Rattle.scheduler.specs.Message.{broadcast_at}
 
 -- no page is aired in no slot
 pub pages_aired-none : (n : ℕ) (air : Air) (from to : ℕ) → to ≤ from → pages_aired n air from to ≡ 0

@@ -1,43 +1,19 @@
 -- The message that is ready first has the first pending broadcast.
-use Rattle.std.proofs.Common.{◌≡◌, ℕ, ◌+◌, ◌<◌, Bool, true, false, ◌||◌, ltb, eqb, List, length, get_or, map, Option, Some, None, inl, inr, refl, sym, ap, subst, ◌∙◌, arith}
+use Rattle.std.proofs.Common.{◌≡◌, ℕ, ◌+◌, ◌<◌, true, List, length, get_or, map, Option, Some, None, sym, ap, subst, ◌∙◌, arith}
 use Rattle.std.specs.List.{All, AllPairs}
 use Rattle.std.proofs.lemmas.List.{length-map, get_or-map, get_or_default}
 use Rattle.std.proofs.lemmas.List.Elements.{All-map}
-use Rattle.std.proofs.lemmas.Bool.{and_from, or_cases, lt-ltb, ltb-true, eq-eqb, eqb-true, false≢true}
+use Rattle.std.proofs.lemmas.Bool.{and_from, lt-ltb, eqb-true, false≢true}
 use Rattle.scheduler.specs.declared.tracked.Tracked.{Tracked}
-use Rattle.scheduler.specs.Message.{Message, release, HasBroadcast, IsBeforeStop, has_broadcast, is_before_stop}
+use Rattle.scheduler.specs.Message.{release, has_broadcast}
 use Rattle.scheduler.specs.Air.{Air, airs, pages_aired, IsPending, IsChosen, IsNoLater}
-use Rattle.scheduler.specs.Kept.{message_of, broadcast_at, Counts, IsFit, is_ready, IsServedFirst, IsChoice}
+use Rattle.scheduler.specs.Message.{broadcast_at}
+use Rattle.scheduler.specs.Follows.{message_of, Counts}
+use Rattle.scheduler.specs.Kept.{IsFit, is_ready, IsServedFirst, IsChoice}
 use Rattle.scheduler.proofs.Air.{broadcast_at-released, broadcast_at-not_due, broadcast_at-only}
 use Rattle.scheduler.proofs.Counts.{is_ready-parts}
+use Rattle.scheduler.proofs.Message.{has_broadcast-says, has_broadcast-from, is_before_stop-says, is_before_stop-from}
 use Rattle.scheduler.proofs.Lists.{rising-same}
-
--- the tests say what the facts say
-pub has_broadcast-says : (m : Message) (j : ℕ) → has_broadcast m j ≡ true → HasBroadcast m j
-has_broadcast-says m j h =
-    elim (or_cases (eqb m.requested 0) (ltb j m.requested) h) [
-      | inl always ↦ inl (eqb-true m.requested 0 always)
-      | inr below ↦ inr (ltb-true j m.requested below)
-    ]
-
-pub has_broadcast-from : (m : Message) (j : ℕ) → HasBroadcast m j → has_broadcast m j ≡ true
-has_broadcast-from m j h =
-    elim h [
-      | inl always ↦ ap (λ (b : Bool). b || ltb j m.requested) (eq-eqb m.requested 0 always)
-      | inr below ↦ or_right (eqb m.requested 0) (ltb j m.requested) (lt-ltb j m.requested below)
-    ]
-  where
-    or_right : (x y : Bool) → y ≡ true → (x || y) ≡ true
-    or_right true y h = refl
-    or_right false y h = h
-
-pub is_before_stop-says : (slot : ℕ) (stop : Option ℕ) → is_before_stop slot stop ≡ true → IsBeforeStop slot stop
-is_before_stop-says slot None h = tt
-is_before_stop-says slot (Some stop) h = ltb-true slot stop h
-
-pub is_before_stop-from : (slot : ℕ) (stop : Option ℕ) → IsBeforeStop slot stop → is_before_stop slot stop ≡ true
-is_before_stop-from slot None h = refl
-is_before_stop-from slot (Some stop) h = lt-ltb slot stop h
 
 -- a message that is ready has its broadcast under way pending
 pub IsPending-from_ready : (t : Tracked) (air : Air) → IsFit t (length air) → Counts t air → is_ready t (length air) ≡ true → IsPending (message_of t) (broadcast_at (message_of t) (length air)) air (length air)

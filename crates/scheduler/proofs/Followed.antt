@@ -10,7 +10,8 @@ use Rattle.scheduler.specs.declared.tracked.Tracked.{Tracked}
 use Rattle.scheduler.specs.Message.{Message, stopped_if, stopped_at}
 use Rattle.scheduler.specs.Air.{Air, airs, IsChosen}
 use Rattle.scheduler.specs.Completed.{completed}
-use Rattle.scheduler.specs.Kept.{Kept, Follows, IsSound, IsFit, Counts, IsChoice, messages_of, message_of, message_from, after_slot, stopped_kept, is_ready}
+use Rattle.scheduler.specs.Follows.{Kept, Follows, Counts, messages_of, message_of, message_from}
+use Rattle.scheduler.specs.Kept.{IsSound, IsFit, IsChoice, after_slot, stopped_kept, is_ready}
 use Rattle.scheduler.proofs.Chosen.{IsChosen-from_choice, used_is_ready}
 use Rattle.scheduler.proofs.Counts.{Counts-after, Counts-new, Counts-stopped, IsFit-after, is_ready-parts}
 use Rattle.scheduler.proofs.Lists.{rising-map, rising-push, rising-same}

@@ -7,7 +7,8 @@ use Rattle.std.proofs.lemmas.Bool.{false≢true}
 use Rattle.scheduler.specs.declared.tracked.Tracked.{Tracked}
 use Rattle.scheduler.specs.Message.{Message}
 use Rattle.scheduler.specs.Air.{IsNoLater, class}
-use Rattle.scheduler.specs.Kept.{IsServedFirst, IsFirstOf, IsEarlier, is_ready, message_of}
+use Rattle.scheduler.specs.Follows.{message_of}
+use Rattle.scheduler.specs.Kept.{IsServedFirst, IsFirstOf, IsEarlier, is_ready}
 use Rattle.scheduler.proofs.Lists.{rising-same}
 
 -- the message of a number is at one place, so what is found first is the only one

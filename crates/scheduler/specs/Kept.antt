@@ -1,56 +1,9 @@
--- What a plan keeps, and how it follows its messages and their air list.
-use Rattle.std.specs.Prelude.{◌≡◌, ℕ, ◌+◌, ◌-◌, ◌/◌, ◌%◌, ◌<◌, ◌≤◌, ◌==◌, ◌⊎◌, Bool, true, false, ◌&&◌, nat_lt, if◌then◌else◌, Option, Some, None, List, length, map, All, Any, AllPairs, Contains}
-use Rattle.scheduler.specs.declared.plan.Item.{Item}
+-- What a plan keeps of its messages. No public contract speaks of it.
+use Rattle.std.specs.Prelude.{◌≡◌, ℕ, ◌+◌, ◌-◌, ◌%◌, ◌<◌, ◌≤◌, ◌==◌, ◌⊎◌, Bool, true, false, ◌&&◌, nat_lt, if◌then◌else◌, Option, Some, None, List, All, Any, AllPairs, Contains}
 use Rattle.scheduler.specs.declared.tracked.Tracked.{Tracked}
-use Rattle.scheduler.specs.Message.{Message, release, has_broadcast, is_before_stop}
-use Rattle.scheduler.specs.Air.{Air, airs, pages_aired, IsNoLater}
-use Rattle.scheduler.specs.Completed.{completed}
-
--- what a plan keeps: the slot that is asked next, and of each message what was aired of it
-pub record Kept : Type 0 where
-  pub slot : ℕ
-  pub tracked : List Tracked
-
--- the message that an item adds
-abbrev pub message_from : Item → Message
-message_from item = record {
-  number = item.entry;
-  start = item.start;
-  pages = item.pages;
-  period = item.period;
-  requested = item.broadcasts;
-  stop = None;
-  high = item.high;
-}
-
--- the message that is kept, with its stop
-abbrev pub message_of : Tracked → Message
-message_of t = record (message_from t.item) { stop = t.stop }
-
--- the slot that is asked next
-abbrev pub next_slot : Kept → ℕ
-next_slot plan = plan.slot
-
--- the messages that were added, with their stops
-abbrev pub messages_of : Kept → List Message
-messages_of plan = map message_of plan.tracked
-
--- the broadcast of a message in whose time the slot lies
-abbrev pub broadcast_at : Message → ℕ → ℕ
-broadcast_at m slot = (slot - m.start) / m.period
-
--- the counts of a message are those of the air list: the pages of the broadcast that is under way, and the broadcasts
--- that are whole
-pub record Counts (t : Tracked) (air : Air) : Type 0 where
-  pub aired : t.aired ≡ pages_aired t.item.entry air (release (message_of t) (broadcast_at (message_of t) (length air))) (length air)
-  pub completed : t.completed ≡ completed (message_of t) air (length air)
-
--- the plan follows the messages and their air list: it was told of these messages, each slot of the list was asked, and
--- its counts are those of the list
-pub record Follows (plan : Kept) (messages : List Message) (air : Air) : Type 0 where
-  pub told : messages_of plan ≡ messages
-  pub asked : next_slot plan ≡ length air
-  pub counted : All (λ t. Counts t air) plan.tracked
+use Rattle.scheduler.specs.Message.{has_broadcast, is_before_stop, broadcast_at}
+use Rattle.scheduler.specs.Air.{airs, IsNoLater}
+use Rattle.scheduler.specs.Follows.{Kept, message_of}
 
 -- what is true of each kept message at the slot that is asked next
 pub record IsFit (t : Tracked) (slot : ℕ) : Type 0 where

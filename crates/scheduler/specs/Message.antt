@@ -1,5 +1,5 @@
 -- A message as the schedule sees it, and its broadcasts (own).
-use Rattle.std.specs.Prelude.{◌≡◌, ℕ, ◌+◌, ◌*◌, ◌<◌, ◌==◌, ◌⊎◌, ⊤, Bool, true, ◌||◌, nat_lt, if◌then◌else◌, Option, Some, None, List, map}
+use Rattle.std.specs.Prelude.{◌≡◌, ℕ, ◌+◌, ◌-◌, ◌*◌, ◌/◌, ◌<◌, ◌==◌, ◌⊎◌, ⊤, Bool, true, ◌||◌, nat_lt, if◌then◌else◌, Option, Some, None, List, map}
 
 -- a message: its number, the slot from which it stands, its pages, its period in slots, how many broadcasts were
 -- requested (0 where it stands until it is stopped), the slot before which it was stopped, if it was, and its category
@@ -19,6 +19,10 @@ release m j = m.start + j * m.period
 -- the slot before which broadcast j is to be whole: the release of the next one
 abbrev pub due : Message → ℕ → ℕ
 due m j = m.start + (j + 1) * m.period
+
+-- the broadcast of a message in whose time the slot lies
+abbrev pub broadcast_at : Message → ℕ → ℕ
+broadcast_at m slot = (slot - m.start) / m.period
 
 -- broadcast j was requested
 abbrev pub HasBroadcast : Message → ℕ → Type 0

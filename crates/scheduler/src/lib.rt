@@ -4,9 +4,11 @@
 //! What it keeps is its own: its contracts speak of the messages and of the whole air list alone.
 #![tactic(auto)]
 
+mod laws;
 mod plan;
 #[cfg(test)]
 mod tests;
 mod tracked;
 
+pub use laws::air_laws;
 pub use plan::{Item, Plan, Refused};

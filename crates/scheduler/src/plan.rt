@@ -5,23 +5,25 @@ ghost use Rattle.std.specs.Option.{ForSome};
 ghost use Rattle.scheduler.specs.Message.{Message, stopped_at};
 ghost use Rattle.scheduler.specs.Air.{Air, airs, IsChosen};
 ghost use Rattle.scheduler.specs.Completed.{completed};
-ghost use Rattle.scheduler.specs.Kept.{Follows, next_slot, messages_of, message_of, message_from, IsFit, IsFirstOf, IsEarlier, IsChoice, after_slot, stopped_kept};
+ghost use Rattle.scheduler.specs.Follows.{Follows, next_slot, messages_of, message_of, message_from};
+ghost use Rattle.scheduler.specs.Kept.{IsFit, IsFirstOf, IsEarlier, IsChoice, after_slot, stopped_kept};
 
 use crate::tracked::Tracked;
 use std::alloc::Global;
 use std::fmt;
 use std::marker::Model;
 
-/// A message that is added to a plan.
+/// A message that is added to a plan, and is broadcast from its start on: broadcast j, counted from 0, is released at
+/// `start + j * period`, and due at the release of the next one.
 #[derive(Clone, Copy, Debug, PartialEq, Eq)]
 pub struct Item {
     /// Its number in the log.
     pub entry: u16,
     /// The slot from which it stands.
     pub start: u32,
-    /// How many pages it has.
+    /// How many pages it has, from 1.
     pub pages: u8,
-    /// The slots from one broadcast's release to the next one's.
+    /// How many slots lie between one broadcast's release and the next one's, from 1.
     pub period: u16,
     /// How many broadcasts are requested. With 0 it stands until it is stopped.
     pub broadcasts: u16,
@@ -29,7 +31,7 @@ pub struct Item {
     pub high: bool,
 }
 
-/// Want of memory.
+/// Want of memory: the plan is as it was.
 #[derive(Clone, Copy, Debug, PartialEq, Eq)]
 pub struct Refused;
 
@@ -41,7 +43,13 @@ impl fmt::Display for Refused {
 
 impl std::error::Error for Refused {}
 
-/// The schedule of a cell.
+/// The schedule of a cell: it is told of the messages, and asked for each slot in order.
+///
+/// With one message of one page and a period of 2 slots, added at slot 0 as entry 0, `next(0)` is `Some((0, 1))`,
+/// `next(1)` is `None` and `done(0)` is 1.
+///
+/// `Follows plan messages air` says, in a contract, that a plan stands for these messages and their air list so far. What
+/// is not whole at its due slot is dropped, also where more is asked of the cell than it has slots for.
 #[derive(Drop)]
 pub struct Plan {
     slot: u16,
@@ -49,7 +57,8 @@ pub struct Plan {
 }
 
 impl Model for Plan {
-    ghost use Rattle.scheduler.specs.Kept.{Kept, IsSound};
+    ghost use Rattle.scheduler.specs.Follows.{Kept};
+    ghost use Rattle.scheduler.specs.Kept.{IsSound};
 
     ghost Value = { Kept };
 

@@ -1,9 +1,10 @@
 //! Worked air lists, and generated histories against the rule said once more, over the whole air list.
 
 ghost use Rattle.std.specs.Prelude.{◌≡◌, ◌<◌, All, Any, MatchBool, ⊤};
-ghost use Rattle.scheduler.specs.Kept.{messages_of};
+ghost use Rattle.scheduler.specs.Follows.{messages_of};
 
-use crate::plan::{Item, Plan};
+use crate::laws::air_laws;
+use crate::plan::{Item, Plan, Refused};
 use crate::tracked::Tracked;
 use std::alloc::Global;
 use std::process::Abort;
@@ -170,6 +171,16 @@ fn drops_what_is_due(rt: HostRuntime) {
     assert_eq!(rt; stop(&mut plan, 5), Some(1));
     assert_eq!(rt; air(&mut plan), None);
     assert_eq!(rt; done(&plan, 5), Some(1));
+}
+
+#[test]
+fn tells_the_fault(rt: HostRuntime) -> Result<(), Fail> {
+    air_laws();
+    assert_eq!(rt;
+        format!(in rt.alloc(); "{Refused}")?.as_str(),
+        "out of memory"
+    );
+    Ok(())
 }
 
 /// A message as a history knows it.

@@ -1,7 +1,9 @@
 //! What a plan keeps of one message.
 
 ghost use Rattle.std.specs.Prelude.{◌≡◌, ◌==◌, ℕ, ◌+◌, ◌<◌, ◌≤◌, true, MatchBool};
-ghost use Rattle.scheduler.specs.Kept.{message_of, IsFit, broadcast_at, is_ready, IsServedFirst, after_slot, stopped_kept};
+ghost use Rattle.scheduler.specs.Message.{broadcast_at};
+ghost use Rattle.scheduler.specs.Follows.{message_of};
+ghost use Rattle.scheduler.specs.Kept.{IsFit, is_ready, IsServedFirst, after_slot, stopped_kept};
 ghost use Rattle.scheduler.specs.Air.{airs};
 ghost use Rattle.scheduler.specs.Message.{release, due, has_broadcast, is_before_stop};
 

@@ -4,7 +4,7 @@ use Rattle.std.specs.Prelude.{⊤}
 use Rattle.std.specs.List.{All}
 use Rattle.std.proofs.lemmas.List.Elements.{All-map}
 use Rattle.scheduler.specs.Message.{Message}
-use Rattle.scheduler.specs.Kept.{message_of}
+use Rattle.scheduler.specs.Follows.{message_of}
 use Rattle.scheduler.proofs.Lists.{MatchBool-then}
 use Rattle.scheduler.proofs.tests.is_above.Goals as goal
 

@@ -3,7 +3,7 @@ use Rattle.std.specs.Bool.{MatchBool}
 use Rattle.std.specs.Prelude.{⊤}
 use Rattle.std.specs.List.{Any}
 use Rattle.scheduler.specs.Message.{Message}
-use Rattle.scheduler.specs.Kept.{message_of}
+use Rattle.scheduler.specs.Follows.{message_of}
 use Rattle.scheduler.proofs.Lists.{Any-map, MatchBool-then}
 use Rattle.scheduler.proofs.tests.is_added.Goals as goal
 

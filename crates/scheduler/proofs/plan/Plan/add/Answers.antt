@@ -3,7 +3,7 @@ use Rattle.std.specs.List.{All}
 use Rattle.std.specs.Result.{is_ok}
 use Rattle.std.proofs.lemmas.List.{map_push}
 use Rattle.scheduler.specs.declared.tracked.Tracked.{Tracked}
-use Rattle.scheduler.specs.Kept.{Kept, Follows, messages_of, message_of, message_from, next_slot}
+use Rattle.scheduler.specs.Follows.{Kept, Follows, messages_of, message_of, message_from, next_slot}
 use Rattle.scheduler.proofs.Followed.{IsSound-add_if, Follows-add, kept_new}
 use Rattle.scheduler.proofs.plan.Plan.add.Goals as goal
 use Rattle.scheduler.proofs.plan.Plan.add.Goals.{in-Ok, in-Err}

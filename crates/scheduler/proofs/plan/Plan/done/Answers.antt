@@ -1,7 +1,7 @@
 use Rattle.std.proofs.Common.{◌≡◌, sym, subst, List}
 use Rattle.std.specs.List.{All}
 use Rattle.scheduler.specs.declared.tracked.Tracked.{Tracked}
-use Rattle.scheduler.specs.Kept.{Kept, Follows}
+use Rattle.scheduler.specs.Follows.{Kept, Follows}
 use Rattle.scheduler.proofs.Followed.{completed-told}
 use Rattle.scheduler.proofs.plan.Plan.done.Goals as goal
 

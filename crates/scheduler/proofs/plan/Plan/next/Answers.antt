@@ -2,7 +2,8 @@ use Rattle.std.proofs.Common.{◌≡◌, ℕ, ◌+◌, ◌<◌, sym, ap, subst, 
 use Rattle.std.specs.List.{All}
 use Rattle.scheduler.specs.declared.tracked.Tracked.{Tracked}
 use Rattle.scheduler.specs.Air.{airs}
-use Rattle.scheduler.specs.Kept.{Kept, Follows, IsSound, IsChoice, messages_of, message_of, next_slot, after_slot}
+use Rattle.scheduler.specs.Follows.{Kept, Follows, messages_of, message_of, next_slot}
+use Rattle.scheduler.specs.Kept.{IsSound, IsChoice, after_slot}
 use Rattle.scheduler.proofs.Followed.{IsSound-next, IsChosen-next, Follows-next, few_pages, written_over, unchanged_messages}
 use Rattle.scheduler.proofs.plan.Plan.next.Goals as goal
 

@@ -3,7 +3,8 @@ use Rattle.std.specs.List.{All, Any}
 use Rattle.scheduler.specs.declared.tracked.Tracked.{Tracked}
 use Rattle.scheduler.specs.Message.{stopped_at}
 use Rattle.scheduler.specs.Completed.{completed}
-use Rattle.scheduler.specs.Kept.{Kept, Follows, IsSound, messages_of, message_of, next_slot, stopped_kept}
+use Rattle.scheduler.specs.Follows.{Kept, Follows, messages_of, message_of, next_slot}
+use Rattle.scheduler.specs.Kept.{IsSound, stopped_kept}
 use Rattle.scheduler.proofs.Followed.{IsSound-stop, Follows-stop, completed-told, written_over, messages_of-stopped}
 use Rattle.scheduler.proofs.plan.Plan.stop.Goals as goal
 
