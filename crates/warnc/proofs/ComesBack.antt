@@ -1,17 +1,15 @@
 -- A handset shows the blocks of a message once, with its text, when its last page comes.
-use Rattle.std.proofs.Common.{◌≡◌, ◌≢◌, ℕ, ◌+◌, ◌<◌, ◌≤◌, Bool, true, false, not, ◌&&◌, Option, Some, None, List, [], ◌∷◌, ◌++◌, length, map, filter, refl, sym, ap, ◌∙◌, append_assoc, append-nil, arith, subst, zero, suc, eqb, cond, inl, inr}
-use Rattle.std.specs.Prelude.{◌==◌, find, is_some, if◌then◌else◌, encode_utf8_all}
+use Rattle.std.proofs.Common.{◌≡◌, ◌≢◌, ℕ, ◌+◌, ◌<◌, ◌≤◌, Bool, true, false, not, ◌&&◌, Option, Some, None, List, [], ◌∷◌, ◌++◌, length, filter, refl, sym, ap, ◌∙◌, append_assoc, append-nil, arith, subst, zero, suc, inl, inr}
+use Rattle.std.specs.Prelude.{◌==◌, find, is_some, encode_utf8_all}
 use Rattle.std.specs.Option.{option_or, option_map_or}
 use Rattle.std.specs.List.{flat_map, list_all, range_with_len, AllByRecursion}
 use Rattle.std.proofs.lemmas.Bool.{eq-eqb, ne_eqb, cases_eq}
 use Rattle.std.proofs.lemmas.List.Folds.{find-append}
 use Rattle.cbs_page.specs.declared.content.Content.{Content}
-use Rattle.cbs_page.specs.declared.coding.Alphabet.{Alphabet}
 use Rattle.cbs_page.specs.declared.octets.PageView.{PageView}
 use Rattle.cbs_page.specs.Coding.{alphabet_of}
-use Rattle.cbs_page.specs.Page.{is_readable}
 use Rattle.cbs_page.specs.Text.{text_in, text_of_page}
-use Rattle.handset.specs.Reading.{Name, Message, name_of, is_of, pages_named, agrees_with, agreeing, pages_of, page_numbered, total_in, total_of, numbers_of, is_complete, text_of, message_of, completed_by, completed_after}
+use Rattle.handset.specs.Reading.{Name, is_of, agrees_with, agreeing, pages_of, total_in, is_complete, text_of, message_of, completed_by, completed_after}
 use Rattle.warnc.proofs.BlockLaws.{view, views_from}
 
 filter_all : (p : PageView → Bool) (pages : List PageView) → AllByRecursion (λ page. p page ≡ true) pages → filter p pages ≡ pages

@@ -1,21 +1,19 @@
 -- What a text is sent as shows the text, once.
-use Rattle.std.proofs.Common.{◌≡◌, ℕ, ◌+◌, ◌<◌, ◌≤◌, Bool, true, false, ◌&&◌, Option, Some, None, List, [], ◌∷◌, ◌++◌, length, map, filter, refl, sym, ap, ◌∙◌, arith, subst, suc}
-use Rattle.std.specs.Prelude.{is_some, nat_le, encode_utf8_all}
-use Rattle.std.specs.List.{flat_map, AllByRecursion}
+use Rattle.std.proofs.Common.{◌≡◌, ℕ, ◌+◌, ◌≤◌, Some, List, [], ◌∷◌, length, map, filter, refl, ap, ◌∙◌, arith}
+use Rattle.std.specs.Prelude.{encode_utf8_all}
+use Rattle.std.specs.List.{flat_map}
 use Rattle.std.proofs.lemmas.Bool.{le-leb}
 use Rattle.std.proofs.lemmas.List.{length-map}
 use Rattle.cbs_page.specs.declared.coding.Alphabet.{Alphabet}
 use Rattle.cbs_page.specs.declared.content.Content.{Content}
-use Rattle.cbs_page.specs.declared.octets.PageView.{PageView}
 use Rattle.cbs_page.specs.declared.paging.Paged.{Paged}
 use Rattle.cbs_page.specs.Coding.{alphabet_of}
-use Rattle.cbs_page.specs.Page.{view_of, is_readable}
-use Rattle.cbs_page.specs.Text.{codes_of, alphabet_for, text_in, text_of_content, IsPagedText, ShowsText}
+use Rattle.cbs_page.specs.Page.{is_readable}
+use Rattle.cbs_page.specs.Text.{codes_of, alphabet_for, text_in, IsPagedText, ShowsText}
 use Rattle.cbs_page.proofs.CodingLaws.{alphabet_of_coding}
 use Rattle.cbs_page.proofs.CuttingLaws.{AreContentsOf-length}
 use Rattle.cbs_page.proofs.TextLaws.{contents-length}
-use Rattle.handset.specs.Reading.{Message, pages_read, readable_pages, completed_after, shown_in}
-use Rattle.warnc.specs.Blocks.{blocks_of_page}
+use Rattle.handset.specs.Reading.{pages_read, readable_pages, completed_after, shown_in}
 use Rattle.warnc.specs.PageOutput.{pages_from, blocks_of_message}
 use Rattle.warnc.proofs.BlockLaws.{views_from, pages_in_blocks, views_back, pages_are_whole}
 use Rattle.warnc.proofs.ComesBack.{message_in_order}

@@ -1,8 +1,8 @@
 -- What was read up to one octet past the bound is the whole input, or too long as the whole input is.
-use Rattle.std.proofs.Common.{◌≡◌, ℕ, ◌+◌, ◌<◌, ◌≤◌, List, length, take, refl, sym, arith, subst, Option, Some, None, min, ap, ◌∙◌, IfSome}
+use Rattle.std.proofs.Common.{◌≡◌, ℕ, ◌+◌, ◌<◌, ◌≤◌, List, length, take, arith, subst, Option, Some, None, min, ap, ◌∙◌, IfSome}
 use Rattle.std.specs.Io.KnownBytes.{Keeps}
 use Rattle.std.proofs.lemmas.List.{length-take, take_all}
-use Rattle.warnc.specs.PageOutput.{most_octets, IsPageFault, IsPageOutput, IsStreamFault}
+use Rattle.warnc.specs.PageOutput.{most_octets, IsPageFault, IsStreamFault}
 use Rattle.warnc.specs.declared.page.PageFault.{PageFault}
 use Rattle.warnc.specs.declared.page.PageFault.TheVariants as fault
 

@@ -1,6 +1,6 @@
 -- What `warnc page` makes of the octets that it reads: the blocks of the text's pages as hexadecimal digits, a line each, and then
 -- what a handset shows of these blocks. The forms of the lines are this project's own.
-use Rattle.std.specs.Prelude.{◌≡◌, ℕ, ◌+◌, ◌-◌, ◌*◌, ◌/◌, ◌%◌, ◌<◌, ◌≤◌, ◌==◌, Bool, if◌then◌else◌, Option, List, [], ◌∷◌, ◌++◌, length, take, slice_index}
+use Rattle.std.specs.Prelude.{◌≡◌, ℕ, ◌+◌, ◌-◌, ◌/◌, ◌%◌, ◌<◌, ◌≤◌, ◌==◌, if◌then◌else◌, Option, List, [], ◌∷◌, ◌++◌, length, take, slice_index}
 use Rattle.std.specs.Fmt.{decimal}
 use Rattle.std.specs.Io.KnownBytes.{Keeps}
 use Rattle.std.specs.List.{flat_map}
@@ -45,7 +45,7 @@ message_line message =
     decimal message.id ++ 32 ∷ encode_lower ((message.serial / 256) ∷ (message.serial % 256) ∷ []) ++ 32 ∷ message.text ++ 10 ∷ []
 
 abbrev pub lines_of : List (List ℕ) → List ℕ
-lines_of blocks = flat_map block_line blocks
+lines_of blocks = flat_map block_line blocks ++ flat_map message_line (shown_in blocks)
 
 -- what is written for the octets that were read: the lines of the blocks that carry the text, and these blocks show the text, once
 pub record IsPageOutput (language : List ℕ) (id serial : ℕ) (input output : List ℕ) : Type 0 where

@@ -5,11 +5,13 @@ ghost use Rattle.std.specs.Io.KnownBytes.{Appends, Keeps};
 ghost use Rattle.std.specs.List.{flat_map};
 ghost use Rattle.device_ends.specs.Sink.{sink_failed, writer_of};
 ghost use Rattle.device_ends.specs.Source.{reader_of, source_failed};
-ghost use Rattle.warnc.specs.PageOutput.{without_final_lf, blocks_of_message, block_line, lines_of, IsPageOutput, IsPageFault, IsStreamFault};
+ghost use Rattle.handset.specs.Keeping.{HasRead, message_shown, messages_of};
+ghost use Rattle.warnc.specs.PageOutput.{without_final_lf, blocks_of_message, block_line, message_line, lines_of, IsPageOutput, IsPageFault, IsStreamFault};
 
 use crate::blocks::cut;
 use cbs_page::{Paged, Serial, TextFault, page_bytes, paginate};
 use device_ends::{Failed, ReadFault, Sink, Source, read_up_to, write_all};
+use handset::{Handset, Refused, Shown};
 use std::alloc::{AllocError, Global};
 use std::io::{Read, Write};
 use std::str;
@@ -115,9 +117,24 @@ fn output_of(alloc: Global, id: u16, serial: Serial, paged: &Paged) -> Result<St
     ensures { IfOk result (λ output. string_bytes output ≡ lines_of (blocks_of_message id serial paged.now)) }
 {
     let blocks = blocks_of(alloc, id, serial, paged)?;
+    let Ok(handset) = read(alloc, &blocks) else {
+        return Err(AllocError);
+    };
     let mut output = String::new(alloc);
     push_block_lines(alloc, &mut output, &blocks)?;
+    push_message_lines(alloc, &mut output, handset.shown())?;
     Ok(output)
+}
+
+/// A handset that has read these blocks.
+fn read(alloc: Global, blocks: &[[u8; 23]]) -> Result<Handset, Refused>
+    ensures { IfOk result (λ handset. HasRead handset blocks.now) }
+{
+    let mut handset = Handset::new(alloc);
+    for block in blocks {
+        handset.feed(block)?;
+    }
+    Ok(handset)
 }
 
 /// The octets of the text: one LF at the end isn't part of it.
@@ -164,4 +181,28 @@ fn push_block_lines(
         output.push('\n')?;
     }
     Ok(())
+}
+
+/// Appends a line for each shown message.
+fn push_message_lines(alloc: Global, output: &mut String, shown: &[Shown]) -> Result<(), AllocError>
+    ensures { OnOk result (string_bytes output.new ≡ string_bytes output.old ++ flat_map message_line (messages_of shown.now)) }
+{
+    for message in shown {
+        push_message_line(alloc, output, message)?;
+    }
+    Ok(())
+}
+
+/// Appends the line of a shown message.
+fn push_message_line(alloc: Global, output: &mut String, message: &Shown) -> Result<(), AllocError>
+    ensures { OnOk result (string_bytes output.new ≡ string_bytes output.old ++ message_line (message_shown message.now)) }
+{
+    let id = message.id.to_string(alloc)?;
+    let serial = hex::encode(alloc, message.serial.number().to_be_bytes().as_slice())?;
+    output.push_str(&id)?;
+    output.push(' ')?;
+    output.push_str(&serial)?;
+    output.push(' ')?;
+    output.push_str(&message.text)?;
+    output.push('\n')
 }

@@ -1,4 +1,4 @@
-use Rattle.std.proofs.Common.{◌≡◌, ℕ, List, subst, sym, rules}
+use Rattle.std.proofs.Common.{ℕ, List, subst, rules}
 use Rattle.warnc.specs.PageOutput.{IsPageFault}
 use Rattle.warnc.proofs.PageLaws.{fault_of_read}
 use Rattle.warnc.proofs.page.page_stream.Goals as goal
