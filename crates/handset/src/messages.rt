@@ -121,8 +121,7 @@ fn text(alloc: Global, pages: &[PageView], page: &PageView) -> Result<String, Re
     ensures { IfOk result (λ text. string_bytes text ≡ encode_utf8_all (text_kept (name_of page.now) pages.now)) }
 {
     let mut text = String::new(alloc);
-    let total = total(pages, page);
-    for before in 0..total {
+    for before in 0..total(pages, page) {
         if let Some(found) = page_of_number(pages, page, before + 1) {
             let page_text = page_text(alloc, found)?;
             text.push_str(page_text.as_str())?;
