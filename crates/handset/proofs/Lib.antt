@@ -1,4 +1,5 @@
-mod Lists
-mod BlockLaws
-mod PageLaws
-mod ReadingLaws
+pub mod Lists
+pub mod BlockLaws
+pub mod PageLaws
+pub mod ReadingLaws
+mod Worked
