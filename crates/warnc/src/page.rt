@@ -61,6 +61,8 @@ pub fn page_stream<R: Read, W: Write>(
         IsStreamFault language.now id serial input (W.contents (writer_of sink.old)) (W.contents (writer_of sink.new)) fault)) }
 
     // At any reader and any writer.
+    ensures wrote { OnOk result ((input output : List ℕ) × IsPageOutput language.now id serial input output
+        × Appends (W.contents (writer_of sink.old)) (W.contents (writer_of sink.new)) output) }
     ensures nothing { IfErr result (λ fault. fault ≢ PageFault.Write
         → Keeps (W.contents (writer_of sink.old)) (W.contents (writer_of sink.new))) }
     ensures read { IsErrOf result PageFault.Read ↔ IsTrue (source_failed source.new) }
