@@ -4,7 +4,9 @@
 mod blocks;
 mod command;
 pub mod page;
+pub mod read;
 pub mod run;
+mod table;
 
 use crate::run::{MEMORY, USAGE, run};
 use std::process::ExitCode;

@@ -5,10 +5,12 @@ ghost use Rattle.std.specs.Io.KnownBytes.{Appends, Keeps};
 ghost use Rattle.device_ends.specs.Sink.{sink_failed, writer_of};
 ghost use Rattle.device_ends.specs.Source.{reader_of, source_failed};
 ghost use Rattle.warnc.specs.PageOutput.{IsPageOutput};
-ghost use Rattle.warnc.specs.Status.{status_of_fault, IsRefused, WritesSome};
+ghost use Rattle.warnc.specs.ReadOutput.{IsReadOutput};
+ghost use Rattle.warnc.specs.Status.{status_of_fault, status_of_table_fault, IsNoTapes, IsRefused, IsRefusedBySome, WritesSome};
 
 use crate::command::{Order, PageOptions, order_of};
 use crate::page::{PageFault, page_stream};
+use crate::read::{TableFault, read_stream};
 use cbs_page::TextFault;
 use clap::Error;
 use clap::error::ErrorKind;
@@ -62,12 +64,13 @@ pub fn run_ends<S: AsStr, R: Read, W: Write, F: Write>(
     ensures done { result ≡ DONE → WritesSome (W.contents (writer_of sink.old)) (W.contents (writer_of sink.new)) }
     ensures nothing { (result ≢ DONE) → (result ≢ DEVICE)
         → Keeps (W.contents (writer_of sink.old)) (W.contents (writer_of sink.new)) }
-    ensures refused { result ≡ REFUSED_INPUT → (language : List ℕ) × IfSome (R.remaining (reader_of source.old)) (IsRefused language) }
+    ensures refused { result ≡ REFUSED_INPUT → IsRefusedBySome (R.remaining (reader_of source.old)) }
     ensures device { result ≡ DEVICE → (source_failed source.new ≡ true) ⊎ (sink_failed sink.new ≡ true) }
     ensures statuses { result ≤ 4 }
 {
     match order_of(alloc, words) {
         Ok(Some(Order::Page(options))) => run_page(alloc, &options, source, sink, faults),
+        Ok(Some(Order::Read)) => run_read(alloc, source, sink, faults),
         Ok(None) => {
             let _ = writeln!(faults, "warnc: no command");
             USAGE
@@ -120,6 +123,44 @@ fn status(fault: PageFault) -> u8
         PageFault::Text(TextFault::Refused) | PageFault::Refused => MEMORY,
         PageFault::Text(_) => REFUSED_INPUT,
         PageFault::Read | PageFault::Write => DEVICE,
+    }
+}
+
+/// Runs `read`, and answers the status.
+fn run_read<R: Read, W: Write, F: Write>(
+    alloc: Global,
+    source: &mut Source<R>,
+    sink: &mut Sink<W>,
+    faults: &mut F,
+) -> u8
+    ensures done { result ≡ DONE → IfSome (R.remaining (reader_of source.old)) (λ input.
+        (output : List ℕ) × IsReadOutput input output
+        × Appends (W.contents (writer_of sink.old)) (W.contents (writer_of sink.new)) output) }
+    ensures wrote { result ≡ DONE → WritesSome (W.contents (writer_of sink.old)) (W.contents (writer_of sink.new)) }
+    ensures nothing { (result ≢ DONE) → (result ≢ DEVICE)
+        → Keeps (W.contents (writer_of sink.old)) (W.contents (writer_of sink.new)) }
+    ensures refused { result ≡ REFUSED_INPUT → IfSome (R.remaining (reader_of source.old)) IsNoTapes }
+    ensures device { result ≡ DEVICE → (source_failed source.new ≡ true) ⊎ (sink_failed sink.new ≡ true) }
+    ensures not_usage { result ≢ USAGE }
+    ensures statuses { result ≤ 4 }
+{
+    match read_stream(alloc, source, sink) {
+        Ok(()) => DONE,
+        Err(fault) => {
+            let _ = writeln!(faults, "warnc: {fault}");
+            status_of_table(fault)
+        }
+    }
+}
+
+/// The status of a fault of `read`.
+fn status_of_table(fault: TableFault) -> u8
+    ensures { result ≡ status_of_table_fault fault }
+{
+    match fault {
+        TableFault::Short | TableFault::Long => REFUSED_INPUT,
+        TableFault::Read | TableFault::Write => DEVICE,
+        TableFault::Refused => MEMORY,
     }
 }
 
