@@ -1,0 +1,4 @@
+pub mod Walks
+pub mod ItemLemmas
+pub mod WalkLaws
+pub mod MeaningLaws

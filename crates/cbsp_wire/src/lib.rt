@@ -1,0 +1,18 @@
+//! Messages between a warning centre and a base station controller (3GPP TS 48.049, in this project's own layouts).
+//!
+//! `read` answers the one value that octets have, or the first of the refusals that applies; `write` answers the octets of a
+//! message, with its elements in the table's order, or that no octets mean it. What is written is read as the same message.
+#![tactic(auto)]
+
+pub mod elements;
+pub mod fault;
+pub mod items;
+pub mod kind;
+pub mod message;
+mod range;
+pub mod reading;
+mod value;
+
+pub use fault::WireFault;
+pub use message::{Cell, Cells, Contents, Count, Counts, Failure, Failures, Message};
+pub use reading::read;

@@ -1,0 +1,180 @@
+//! Whether the elements that were taken are a message's.
+
+ghost use Rattle.std.specs.Prelude.{◌≡◌, ◌∷◌, [], length, nat_le};
+ghost use Rattle.std.specs.List.{list_all};
+ghost use Rattle.cbsp_wire.specs.Element as Octets;
+ghost use Rattle.cbsp_wire.specs.Element.{bodies_of};
+ghost use Rattle.cbsp_wire.specs.Table.{need_of};
+ghost use Rattle.cbsp_wire.specs.Walk.{walk_of};
+ghost use Rattle.cbsp_wire.specs.Range.{has_mandatory, has_none_twice, comes_once, is_there_if, is_period, is_coding, is_page_count, first_passes, is_list, are_contents, are_numbers, are_lists, are_in_range};
+
+use crate::elements::{find, need, number_of, octet_of};
+use crate::items::{Layout, is_list};
+use crate::kind::{Kind, Need};
+use cbs_page::Dcs;
+
+/// The elements of messages, in the order in which they are written.
+const NUMBERS: [u8; 13] = [
+    0x0E, 0x03, 0x02, 0x09, 0x08, 0x04, 0x12, 0x05, 0x06, 0x07, 0x13, 0x0C, 0x01,
+];
+
+/// Whether the element is there, if the message needs it.
+fn is_there(kind: Kind, number: u8, octets: &[u8]) -> bool
+    ensures { result ≡ is_there_if (need_of kind number) (bodies_of number (walk_of kind octets.now).elements) }
+{
+    match need(kind, number) {
+        Need::Mandatory => find(kind, number, octets).is_some(),
+        Need::Optional | Need::Foreign => true,
+    }
+}
+
+/// Whether each mandatory element is there.
+pub(crate) fn has_mandatory(kind: Kind, octets: &[u8]) -> bool
+    ensures { result ≡ has_mandatory kind (walk_of kind octets.now).elements }
+{
+    NUMBERS.iter().all(|number| is_there(kind, *number, octets))
+}
+
+/// Whether the element comes at most once, or may come often.
+fn comes_once(kind: Kind, number: u8, octets: &[u8]) -> bool
+    ensures { result ≡ comes_once number (walk_of kind octets.now).elements }
+{
+    if number == 1 {
+        return true;
+    }
+    match find(kind, number, octets) {
+        None => true,
+        Some((_, rest)) => find(kind, number, rest).is_none(),
+    }
+}
+
+/// Whether no element but 01 comes twice.
+fn has_none_twice(kind: Kind, octets: &[u8]) -> bool
+    ensures { result ≡ has_none_twice (walk_of kind octets.now).elements }
+{
+    NUMBERS.iter().all(|number| comes_once(kind, *number, octets))
+}
+
+/// The number of contents.
+fn content_count(kind: Kind, octets: &[u8]) -> usize
+    ensures { result ≡ length (bodies_of 0x01 (walk_of kind octets.now).elements) }
+{
+    let mut count = 0;
+    let mut left = octets;
+    'walk: while let Some((_, rest)) = find(kind, 0x01, left) {
+        count += 1;
+        left = rest;
+    }
+    count
+}
+
+/// Whether at most 82 octets are used of each content.
+fn use_at_most_82(kind: Kind, octets: &[u8]) -> bool
+    ensures { result ≡ list_all (λ body. nat_le (Octets.octet_of body) 82) (bodies_of 0x01 (walk_of kind octets.now).elements) }
+{
+    let mut left = octets;
+    'walk: while let Some((body, rest)) = find(kind, 0x01, left) {
+        if octet_of(body) > 82 {
+            return false;
+        }
+        left = rest;
+    }
+    true
+}
+
+/// Whether a message may have so many pages.
+pub(crate) fn is_page_count(pages: usize) -> bool
+    ensures { result ≡ is_page_count pages }
+{
+    1 <= pages && pages <= 15
+}
+
+/// Whether there are as many contents as pages, from 1 to 15, and at most 82 octets used of each.
+fn are_contents(kind: Kind, octets: &[u8]) -> bool
+    ensures { result ≡ are_contents (walk_of kind octets.now).elements }
+{
+    let are_as_told = match find(kind, 0x13, octets) {
+        None => true,
+        Some((body, _)) => {
+            let pages = usize::from(octet_of(body));
+            is_page_count(pages) && pages == content_count(kind, octets)
+        }
+    };
+    are_as_told && use_at_most_82(kind, octets)
+}
+
+/// Whether a message may have this repetition period.
+pub(crate) fn is_period(period: u16) -> bool
+    ensures { result ≡ is_period period }
+{
+    1 <= period && period <= 1024
+}
+
+/// Whether the first body of this number, if there is one, is a number that may be a period.
+fn has_period(kind: Kind, octets: &[u8]) -> bool
+    ensures { result ≡ first_passes (λ body. is_period (Octets.number_of body)) (bodies_of 0x06 (walk_of kind octets.now).elements) }
+{
+    match find(kind, 0x06, octets) {
+        None => true,
+        Some((body, _)) => is_period(number_of(body)),
+    }
+}
+
+/// Whether the pages' data coding, if it is told, has an alphabet.
+fn has_coding(kind: Kind, octets: &[u8]) -> bool
+    ensures { result ≡ first_passes (λ body. is_coding (Octets.octet_of body)) (bodies_of 0x0C (walk_of kind octets.now).elements) }
+{
+    match find(kind, 0x0C, octets) {
+        None => true,
+        Some((body, _)) => Dcs(octet_of(body)).alphabet().is_some(),
+    }
+}
+
+/// Whether the octet of this number, if it is told, is at most `limit`.
+fn has_octet_up_to(kind: Kind, number: u8, limit: u8, octets: &[u8]) -> bool
+    ensures { result ≡ first_passes (λ body. nat_le (Octets.octet_of body) limit) (bodies_of number (walk_of kind octets.now).elements) }
+{
+    match find(kind, number, octets) {
+        None => true,
+        Some((body, _)) => octet_of(body) <= limit,
+    }
+}
+
+/// Whether the period, the data coding, the category and the channel indicator are in their ranges.
+fn are_numbers(kind: Kind, octets: &[u8]) -> bool
+    ensures { result ≡ are_numbers (walk_of kind octets.now).elements }
+{
+    has_period(kind, octets)
+        && has_coding(kind, octets)
+        && has_octet_up_to(kind, 0x05, 2, octets)
+        && has_octet_up_to(kind, 0x12, 1, octets)
+}
+
+/// Whether the list of this number, if it is there, is right.
+fn has_list(kind: Kind, number: u8, layout: Layout, octets: &[u8]) -> bool
+    ensures { result ≡ first_passes (is_list layout) (bodies_of number (walk_of kind octets.now).elements) }
+{
+    match find(kind, number, octets) {
+        None => true,
+        Some((body, _)) => is_list(layout, body),
+    }
+}
+
+/// Whether the three lists are right.
+fn are_lists(kind: Kind, octets: &[u8]) -> bool
+    ensures { result ≡ are_lists (walk_of kind octets.now).elements }
+{
+    has_list(kind, 0x04, Layout::Cells, octets)
+        && has_list(kind, 0x08, Layout::Counts, octets)
+        && has_list(kind, 0x09, Layout::Failures, octets)
+}
+
+/// Whether no element comes twice and all values are in their ranges.
+pub(crate) fn are_in_range(kind: Kind, octets: &[u8]) -> bool
+    ensures { result ≡ are_in_range (walk_of kind octets.now).elements }
+{
+    has_none_twice(kind, octets)
+        && are_contents(kind, octets)
+        && are_numbers(kind, octets)
+        && are_lists(kind, octets)
+}
