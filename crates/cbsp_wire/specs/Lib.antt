@@ -6,3 +6,4 @@ pub mod Range
 pub mod Refusals
 pub mod Meaning
 pub mod Named
+pub mod Written

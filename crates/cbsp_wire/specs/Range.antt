@@ -11,9 +11,11 @@ use Rattle.cbsp_wire.specs.declared.items.Layout.TheVariants as layouts
 use Rattle.cbsp_wire.specs.declared.message.Cell.{Cell}
 use Rattle.cbsp_wire.specs.declared.message.Count.{Count}
 use Rattle.cbsp_wire.specs.declared.message.Failure.{Failure}
-use Rattle.cbsp_wire.specs.Element.{Element, bodies_of, number_of, octet_of}
+use Rattle.cbsp_wire.specs.declared.message.Message.{Message}
+use Rattle.cbs_page.specs.declared.content.Content.{Content}
+use Rattle.cbsp_wire.specs.Element.{Element, bodies_of}
 use Rattle.cbsp_wire.specs.Table.{need_of}
-use Rattle.cbsp_wire.specs.Value.{cells_in, counts_in, failures_in}
+use Rattle.cbsp_wire.specs.Value.{cells_in, counts_in, failures_in, Fields, fields_in, fields_of, kind_of}
 
 -- the elements of messages, in the table's order
 abbrev pub numbers : List ℕ
@@ -80,9 +82,9 @@ cells_by layouts.Cells octets = cells_in octets
 cells_by layouts.Counts octets = cells_of_counts (counts_in octets)
 cells_by layouts.Failures octets = cells_of_failures (failures_in octets)
 
--- whole items, at least one of them, of cells that a list may name
+-- whole items, and at least one of them
 abbrev pub are_items : Layout → List ℕ → Bool
-are_items layout items = (length items % item_size layout == 0) && not (is_nothing (cells_by layout items)) && are_cells (cells_by layout items)
+are_items layout items = (length items % item_size layout == 0) && not (is_nothing (cells_by layout items))
 
 -- a list's body: two octets of length, the discriminator 1 (LAC and CI), and items
 abbrev pub is_list : Layout → List ℕ → Bool
@@ -94,26 +96,40 @@ abbrev pub first_passes : (List ℕ → Bool) → List (List ℕ) → Bool
 first_passes test [] = true
 first_passes test (body ∷ bodies) = test body
 
--- as many contents as pages, from 1 to 15, and at most 82 octets used of each
-abbrev pub are_contents : List Element → Bool
-are_contents es =
-    let contents = bodies_of 0x01 es in
-    first_passes (λ body. is_page_count (octet_of body) && (octet_of body == length contents)) (bodies_of 0x13 es)
-      && list_all (λ body. nat_le (octet_of body) 82) contents
-
-abbrev pub are_numbers : List Element → Bool
-are_numbers es =
-    first_passes (λ body. is_period (number_of body)) (bodies_of 0x06 es)
-      && first_passes (λ body. is_coding (octet_of body)) (bodies_of 0x0C es)
-      && first_passes (λ body. nat_le (octet_of body) 2) (bodies_of 0x05 es)
-      && first_passes (λ body. nat_le (octet_of body) 1) (bodies_of 0x12 es)
-
 abbrev pub are_lists : List Element → Bool
 are_lists es =
     first_passes (is_list layouts.Cells) (bodies_of 0x04 es)
       && first_passes (is_list layouts.Counts) (bodies_of 0x08 es)
       && first_passes (is_list layouts.Failures) (bodies_of 0x09 es)
 
+-- a test of a number, if it is told
+abbrev pub passes : (ℕ → Bool) → Option ℕ → Bool
+passes test None = true
+passes test (Some n) = test n
+
+-- as many contents as pages, from 1 to 15, and at most 82 octets used of each
+abbrev pub are_contents : Option ℕ → List Content → Bool
+are_contents pages contents = passes (λ n. is_page_count n && (n == length contents)) pages && list_all (λ c. nat_le c.used 82) contents
+
+abbrev pub are_numbers : Fields → Bool
+are_numbers f =
+    passes is_period f.period && passes is_coding f.dcs && passes (λ n. nat_le n 2) f.category && passes (λ n. nat_le n 1) f.channel
+
+abbrev pub are_all_cells : Fields → Bool
+are_all_cells f = are_cells f.cells && are_cells (cells_of_counts f.completed) && are_cells (cells_of_failures f.failures)
+
 -- all values are in their ranges
+abbrev pub are_values : Fields → Bool
+are_values f = are_contents f.pages f.contents && are_numbers f && are_all_cells f
+
 abbrev pub are_in_range : List Element → Bool
-are_in_range es = has_none_twice es && are_contents es && are_numbers es && are_lists es
+are_in_range es = has_none_twice es && are_lists es && are_values (fields_in es)
+
+-- a message that has octets: its values are in their ranges, and its mandatory lists have items
+abbrev pub is_full : Content → Bool
+is_full c = length c.octets == 82
+
+abbrev pub is_writable : Message → Bool
+is_writable m =
+    let f = fields_of m in
+    are_values f && is_there_if (need_of (kind_of m) 0x04) f.cells && is_there_if (need_of (kind_of m) 0x09) f.failures && list_all is_full f.contents

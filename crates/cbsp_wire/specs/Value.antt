@@ -1,5 +1,5 @@
 -- The value of a message, found by looking elements up. 3GPP TS 48.049, clause 8.2, in this project's own layouts.
-use Rattle.std.specs.Prelude.{ℕ, ◌+◌, ◌*◌, List, [], ◌∷◌, map, drop, Option, Some, None, unwrap_or}
+use Rattle.std.specs.Prelude.{ℕ, ◌+◌, ◌*◌, List, [], ◌∷◌, length, map, drop, Option, Some, None, unwrap_or}
 use Rattle.cbs_page.specs.declared.content.Content.{Content}
 use Rattle.cbsp_wire.specs.declared.kind.Kind.{Kind}
 use Rattle.cbsp_wire.specs.declared.kind.Kind.TheVariants as kinds
@@ -68,21 +68,84 @@ failures_of es = first_items failures_in (bodies_of 0x09 es)
 abbrev pub contents_of : List Element → List Content
 contents_of es = map content_of (bodies_of 0x01 es)
 
+-- the fields of messages: None, or no items, where the element isn't there
+pub record Fields : Type 0 where
+  pub id : Option ℕ
+  pub new_serial : Option ℕ
+  pub old_serial : Option ℕ
+  pub failures : List Failure
+  pub completed : List Count
+  pub cells : List Cell
+  pub channel : Option ℕ
+  pub category : Option ℕ
+  pub period : Option ℕ
+  pub broadcasts : Option ℕ
+  pub pages : Option ℕ
+  pub dcs : Option ℕ
+  pub contents : List Content
+
+-- the fields that elements say
+abbrev pub fields_in : List Element → Fields
+fields_in es = record {
+  id = number_in 0x0E es;
+  new_serial = number_in 0x03 es;
+  old_serial = number_in 0x02 es;
+  failures = failures_of es;
+  completed = counts_of es;
+  cells = cells_of es;
+  channel = octet_in 0x12 es;
+  category = octet_in 0x05 es;
+  period = number_in 0x06 es;
+  broadcasts = number_in 0x07 es;
+  pages = octet_in 0x13 es;
+  dcs = octet_in 0x0C es;
+  contents = contents_of es;
+}
+
+abbrev pub or_0 : Option ℕ → ℕ
+or_0 o = unwrap_or o 0
+
+-- the message of a type with these fields
+abbrev pub message_with : Kind → Fields → Message
+message_with kinds.Write f =
+    messages.Write (or_0 f.id) (or_0 f.new_serial) f.old_serial f.cells f.channel f.category (or_0 f.period) (or_0 f.broadcasts) (record { 0 = or_0 f.dcs }) f.contents
+message_with kinds.WriteDone f = messages.WriteDone (or_0 f.id) (or_0 f.new_serial) f.old_serial f.completed f.cells f.channel
+message_with kinds.WriteFailed f = messages.WriteFailed (or_0 f.id) (or_0 f.new_serial) f.old_serial f.failures f.completed f.cells f.channel
+message_with kinds.Kill f = messages.Kill (or_0 f.id) (or_0 f.old_serial) f.cells f.channel
+message_with kinds.KillDone f = messages.KillDone (or_0 f.id) (or_0 f.old_serial) f.completed f.cells f.channel
+message_with kinds.KillFailed f = messages.KillFailed (or_0 f.id) (or_0 f.old_serial) f.failures f.completed f.cells f.channel
+
 -- the message that elements say
 unfoldable pub message_of : Kind → List Element → Message
-message_of kinds.Write es =
-    messages.Write (unwrap_or (number_in 0x0E es) 0) (unwrap_or (number_in 0x03 es) 0) (number_in 0x02 es) (cells_of es) (octet_in 0x12 es) (octet_in 0x05 es)
-      (unwrap_or (number_in 0x06 es) 0) (unwrap_or (number_in 0x07 es) 0) (record { 0 = unwrap_or (octet_in 0x0C es) 0 }) (contents_of es)
-message_of kinds.WriteDone es =
-    messages.WriteDone (unwrap_or (number_in 0x0E es) 0) (unwrap_or (number_in 0x03 es) 0) (number_in 0x02 es) (counts_of es) (cells_of es) (octet_in 0x12 es)
-message_of kinds.WriteFailed es =
-    messages.WriteFailed (unwrap_or (number_in 0x0E es) 0) (unwrap_or (number_in 0x03 es) 0) (number_in 0x02 es) (failures_of es) (counts_of es) (cells_of es) (octet_in 0x12 es)
-message_of kinds.Kill es =
-    messages.Kill (unwrap_or (number_in 0x0E es) 0) (unwrap_or (number_in 0x02 es) 0) (cells_of es) (octet_in 0x12 es)
-message_of kinds.KillDone es =
-    messages.KillDone (unwrap_or (number_in 0x0E es) 0) (unwrap_or (number_in 0x02 es) 0) (counts_of es) (cells_of es) (octet_in 0x12 es)
-message_of kinds.KillFailed es =
-    messages.KillFailed (unwrap_or (number_in 0x0E es) 0) (unwrap_or (number_in 0x02 es) 0) (failures_of es) (counts_of es) (cells_of es) (octet_in 0x12 es)
+message_of kind es = message_with kind (fields_in es)
+
+abbrev pub no_fields : Fields
+no_fields = record {
+  id = None; new_serial = None; old_serial = None; failures = []; completed = []; cells = []; channel = None; category = None;
+  period = None; broadcasts = None; pages = None; dcs = None; contents = [];
+}
+
+-- the fields of a message
+abbrev pub fields_of : Message → Fields
+fields_of (messages.Write id new old cells channel category period broadcasts dcs contents) = record no_fields {
+  id = Some id; new_serial = Some new; old_serial = old; cells = cells; channel = channel; category = category;
+  period = Some period; broadcasts = Some broadcasts; pages = Some (length contents); dcs = Some dcs.0; contents = contents;
+}
+fields_of (messages.WriteDone id new old completed cells channel) = record no_fields {
+  id = Some id; new_serial = Some new; old_serial = old; completed = completed; cells = cells; channel = channel;
+}
+fields_of (messages.WriteFailed id new old failures completed cells channel) = record no_fields {
+  id = Some id; new_serial = Some new; old_serial = old; failures = failures; completed = completed; cells = cells; channel = channel;
+}
+fields_of (messages.Kill id old cells channel) = record no_fields {
+  id = Some id; old_serial = Some old; cells = cells; channel = channel;
+}
+fields_of (messages.KillDone id old completed cells channel) = record no_fields {
+  id = Some id; old_serial = Some old; completed = completed; cells = cells; channel = channel;
+}
+fields_of (messages.KillFailed id old failures completed cells channel) = record no_fields {
+  id = Some id; old_serial = Some old; failures = failures; completed = completed; cells = cells; channel = channel;
+}
 
 -- the type of a message
 abbrev pub kind_of : Message → Kind

@@ -138,13 +138,11 @@ fn item_size(layout: Layout) -> usize
     }
 }
 
-/// Whether octets are whole items, at least one of them, of at most 64 cells and none twice.
+/// Whether octets are whole items, and at least one of them.
 fn are_items(layout: Layout, items: &[u8]) -> bool
     ensures { result ≡ are_items layout items.now }
 {
-    items.len() % item_size(layout) == 0
-        && first_in(layout, items).is_some()
-        && are_cells(Items::Octets(layout, items))
+    items.len() % item_size(layout) == 0 && first_in(layout, items).is_some()
 }
 
 /// Whether the body of a list is right: two octets of length, the discriminator 1, and items.

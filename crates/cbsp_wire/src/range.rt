@@ -2,15 +2,16 @@
 
 ghost use Rattle.std.specs.Prelude.{◌≡◌, ◌∷◌, [], length, nat_le};
 ghost use Rattle.std.specs.List.{list_all};
-ghost use Rattle.cbsp_wire.specs.Element as Octets;
 ghost use Rattle.cbsp_wire.specs.Element.{bodies_of};
 ghost use Rattle.cbsp_wire.specs.Table.{need_of};
 ghost use Rattle.cbsp_wire.specs.Walk.{walk_of};
-ghost use Rattle.cbsp_wire.specs.Range.{has_mandatory, has_none_twice, comes_once, is_there_if, is_period, is_coding, is_page_count, first_passes, is_list, are_contents, are_numbers, are_lists, are_in_range};
+ghost use Rattle.cbsp_wire.specs.Range.{has_mandatory, has_none_twice, comes_once, is_there_if, is_period, is_coding, is_page_count, passes, first_passes, is_list, are_contents, are_numbers, are_lists, are_all_cells, are_in_range};
+ghost use Rattle.cbsp_wire.specs.Value.{octet_in, contents_of, fields_in, first_items};
 
-use crate::elements::{find, need, number_of, octet_of};
-use crate::items::{Layout, is_list};
+use crate::elements::{find, need, octet_of};
+use crate::items::{Items, Layout, are_cells, is_list};
 use crate::kind::{Kind, Need};
+use crate::value::{items_of, number, octet};
 use cbs_page::Dcs;
 
 /// The elements of messages, in the order in which they are written.
@@ -70,7 +71,7 @@ fn content_count(kind: Kind, octets: &[u8]) -> usize
 
 /// Whether at most 82 octets are used of each content.
 fn use_at_most_82(kind: Kind, octets: &[u8]) -> bool
-    ensures { result ≡ list_all (λ body. nat_le (Octets.octet_of body) 82) (bodies_of 0x01 (walk_of kind octets.now).elements) }
+    ensures { result ≡ list_all (λ c. nat_le c.used 82) (contents_of (walk_of kind octets.now).elements) }
 {
     let mut left = octets;
     'walk: while let Some((body, rest)) = find(kind, 0x01, left) {
@@ -91,66 +92,59 @@ pub(crate) fn is_page_count(pages: usize) -> bool
 
 /// Whether there are as many contents as pages, from 1 to 15, and at most 82 octets used of each.
 fn are_contents(kind: Kind, octets: &[u8]) -> bool
-    ensures { result ≡ are_contents (walk_of kind octets.now).elements }
+    ensures { result ≡ are_contents (octet_in 0x13 (walk_of kind octets.now).elements) (contents_of (walk_of kind octets.now).elements) }
 {
-    let are_as_told = match find(kind, 0x13, octets) {
+    let are_as_told = match octet(kind, 0x13, octets) {
         None => true,
-        Some((body, _)) => {
-            let pages = usize::from(octet_of(body));
+        Some(pages) => {
+            let pages = usize::from(pages);
             is_page_count(pages) && pages == content_count(kind, octets)
         }
     };
     are_as_told && use_at_most_82(kind, octets)
 }
 
-/// Whether a message may have this repetition period.
-pub(crate) fn is_period(period: u16) -> bool
-    ensures { result ≡ is_period period }
+/// Whether the repetition period, if it is told, may be one.
+pub(crate) fn is_period(period: Option<u16>) -> bool
+    ensures { result ≡ passes is_period period }
 {
-    1 <= period && period <= 1024
-}
-
-/// Whether the first body of this number, if there is one, is a number that may be a period.
-fn has_period(kind: Kind, octets: &[u8]) -> bool
-    ensures { result ≡ first_passes (λ body. is_period (Octets.number_of body)) (bodies_of 0x06 (walk_of kind octets.now).elements) }
-{
-    match find(kind, 0x06, octets) {
+    match period {
         None => true,
-        Some((body, _)) => is_period(number_of(body)),
+        Some(period) => 1 <= period && period <= 1024,
     }
 }
 
-/// Whether the pages' data coding, if it is told, has an alphabet.
-fn has_coding(kind: Kind, octets: &[u8]) -> bool
-    ensures { result ≡ first_passes (λ body. is_coding (Octets.octet_of body)) (bodies_of 0x0C (walk_of kind octets.now).elements) }
+/// Whether the data coding, if it is told, has an alphabet.
+pub(crate) fn is_coding(dcs: Option<u8>) -> bool
+    ensures { result ≡ passes is_coding dcs }
 {
-    match find(kind, 0x0C, octets) {
+    match dcs {
         None => true,
-        Some((body, _)) => Dcs(octet_of(body)).alphabet().is_some(),
+        Some(dcs) => Dcs(dcs).alphabet().is_some(),
     }
 }
 
-/// Whether the octet of this number, if it is told, is at most `limit`.
-fn has_octet_up_to(kind: Kind, number: u8, limit: u8, octets: &[u8]) -> bool
-    ensures { result ≡ first_passes (λ body. nat_le (Octets.octet_of body) limit) (bodies_of number (walk_of kind octets.now).elements) }
+/// Whether the octet, if it is told, is at most `limit`.
+pub(crate) fn is_up_to(limit: u8, octet: Option<u8>) -> bool
+    ensures { result ≡ passes (λ n. nat_le n limit) octet }
 {
-    match find(kind, number, octets) {
+    match octet {
         None => true,
-        Some((body, _)) => octet_of(body) <= limit,
+        Some(octet) => octet <= limit,
     }
 }
 
 /// Whether the period, the data coding, the category and the channel indicator are in their ranges.
 fn are_numbers(kind: Kind, octets: &[u8]) -> bool
-    ensures { result ≡ are_numbers (walk_of kind octets.now).elements }
+    ensures { result ≡ are_numbers (fields_in (walk_of kind octets.now).elements) }
 {
-    has_period(kind, octets)
-        && has_coding(kind, octets)
-        && has_octet_up_to(kind, 0x05, 2, octets)
-        && has_octet_up_to(kind, 0x12, 1, octets)
+    is_period(number(kind, 0x06, octets))
+        && is_coding(octet(kind, 0x0C, octets))
+        && is_up_to(2, octet(kind, 0x05, octets))
+        && is_up_to(1, octet(kind, 0x12, octets))
 }
 
-/// Whether the list of this number, if it is there, is right.
+/// Whether the list of this number, if it is there, has the discriminator and whole items.
 fn has_list(kind: Kind, number: u8, layout: Layout, octets: &[u8]) -> bool
     ensures { result ≡ first_passes (is_list layout) (bodies_of number (walk_of kind octets.now).elements) }
 {
@@ -160,7 +154,7 @@ fn has_list(kind: Kind, number: u8, layout: Layout, octets: &[u8]) -> bool
     }
 }
 
-/// Whether the three lists are right.
+/// Whether the three lists have the discriminator and whole items.
 fn are_lists(kind: Kind, octets: &[u8]) -> bool
     ensures { result ≡ are_lists (walk_of kind octets.now).elements }
 {
@@ -169,12 +163,33 @@ fn are_lists(kind: Kind, octets: &[u8]) -> bool
         && has_list(kind, 0x09, Layout::Failures, octets)
 }
 
+/// The octets of the items of a list, none where it isn't there.
+fn list_items(kind: Kind, number: u8, octets: &[u8]) -> &[u8]
+    ensures { result.now ≡ first_items (λ items. items) (bodies_of number (walk_of kind octets.now).elements) }
+{
+    match find(kind, number, octets) {
+        None => &[],
+        Some((body, _)) => items_of(body),
+    }
+}
+
+/// Whether the lists name at most 64 cells each, and none twice.
+#[tactic(auto, using(crate::proofs::ItemLemmas::cells_by_first))]
+fn are_all_cells(kind: Kind, octets: &[u8]) -> bool
+    ensures { result ≡ are_all_cells (fields_in (walk_of kind octets.now).elements) }
+{
+    are_cells(Items::Octets(Layout::Cells, list_items(kind, 0x04, octets)))
+        && are_cells(Items::Octets(Layout::Counts, list_items(kind, 0x08, octets)))
+        && are_cells(Items::Octets(Layout::Failures, list_items(kind, 0x09, octets)))
+}
+
 /// Whether no element comes twice and all values are in their ranges.
 pub(crate) fn are_in_range(kind: Kind, octets: &[u8]) -> bool
     ensures { result ≡ are_in_range (walk_of kind octets.now).elements }
 {
     has_none_twice(kind, octets)
+        && are_lists(kind, octets)
         && are_contents(kind, octets)
         && are_numbers(kind, octets)
-        && are_lists(kind, octets)
+        && are_all_cells(kind, octets)
 }

@@ -12,7 +12,7 @@ use cbs_page::{Content, Dcs, Serial};
 use std::alloc::{AllocError, Global};
 
 /// The number of the first element with this number, if there is one.
-fn number(kind: Kind, number: u8, octets: &[u8]) -> Option<u16>
+pub(crate) fn number(kind: Kind, number: u8, octets: &[u8]) -> Option<u16>
     ensures { result ≡ number_in number (walk_of kind octets.now).elements }
 {
     match find(kind, number, octets) {
@@ -46,7 +46,7 @@ fn serial(kind: Kind, element: u8, octets: &[u8]) -> Option<Serial>
 }
 
 /// The octet of the first element with this number, if there is one.
-fn octet(kind: Kind, number: u8, octets: &[u8]) -> Option<u8>
+pub(crate) fn octet(kind: Kind, number: u8, octets: &[u8]) -> Option<u8>
     ensures { result ≡ octet_in number (walk_of kind octets.now).elements }
 {
     match find(kind, number, octets) {
@@ -56,7 +56,7 @@ fn octet(kind: Kind, number: u8, octets: &[u8]) -> Option<u8>
 }
 
 /// The items of a list's body: what stands after its length and its discriminator.
-fn items_of(body: &[u8]) -> &[u8]
+pub(crate) fn items_of(body: &[u8]) -> &[u8]
     ensures { result.now ≡ drop 3 body.now }
 {
     if body.len() < 3 { &[] } else { &body[3..] }
