@@ -2,3 +2,8 @@ pub mod Walks
 pub mod ItemLemmas
 pub mod WalkLaws
 pub mod MeaningLaws
+pub mod Tests
+pub mod WrittenItems
+pub mod WrittenElements
+pub mod WrittenLaws
+pub mod MeantLaws
