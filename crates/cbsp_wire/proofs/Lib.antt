@@ -7,3 +7,5 @@ pub mod WrittenItems
 pub mod WrittenElements
 pub mod WrittenLaws
 pub mod MeantLaws
+pub mod Slots
+pub mod Lengths

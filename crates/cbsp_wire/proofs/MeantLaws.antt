@@ -22,17 +22,17 @@ use Rattle.cbsp_wire.proofs.Tests.{and_parts, and_both, not_true, there_from, li
 use Rattle.cbsp_wire.proofs.WrittenLaws.{IsWritten, is_writable-from}
 
 -- the tests of fields, one by one
-record HaveRanges (f : Fields) : Type 0 where
-  contents : are_contents f.pages f.contents ≡ true
-  period : passes is_period f.period ≡ true
-  coding : passes is_coding f.dcs ≡ true
-  category : passes (λ n. nat_le n 2) f.category ≡ true
-  channel : passes (λ n. nat_le n 1) f.channel ≡ true
-  cells : are_cells f.cells ≡ true
-  completed : are_cells (cells_of_counts f.completed) ≡ true
-  failures : are_cells (cells_of_failures f.failures) ≡ true
+pub record HaveRanges (f : Fields) : Type 0 where
+  pub contents : are_contents f.pages f.contents ≡ true
+  pub period : passes is_period f.period ≡ true
+  pub coding : passes is_coding f.dcs ≡ true
+  pub category : passes (λ n. nat_le n 2) f.category ≡ true
+  pub channel : passes (λ n. nat_le n 1) f.channel ≡ true
+  pub cells : are_cells f.cells ≡ true
+  pub completed : are_cells (cells_of_counts f.completed) ≡ true
+  pub failures : are_cells (cells_of_failures f.failures) ≡ true
 
-ranges_from : (f : Fields) → are_values f ≡ true → HaveRanges f
+pub ranges_from : (f : Fields) → are_values f ≡ true → HaveRanges f
 ranges_from f h =
     let one = and_parts (are_contents f.pages f.contents && are_numbers f) (are_all_cells f) h in
     let two = and_parts (are_contents f.pages f.contents) (are_numbers f) one.0 in

@@ -7,3 +7,4 @@ pub mod Refusals
 pub mod Meaning
 pub mod Named
 pub mod Written
+pub mod Parts

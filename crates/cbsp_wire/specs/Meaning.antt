@@ -5,6 +5,8 @@ use Rattle.std.specs.List.{AllByRecursion}
 use Rattle.cbsp_wire.specs.declared.kind.Kind.{Kind}
 use Rattle.cbsp_wire.specs.declared.kind.Need.{Need}
 use Rattle.cbsp_wire.specs.declared.kind.Need.TheVariants as needs
+use Rattle.cbsp_wire.specs.declared.fault.WireFault.{WireFault}
+use Rattle.cbsp_wire.specs.declared.fault.WireFault.TheVariants.{Truncated, TrailingBytes, Cause, Refused}
 use Rattle.cbsp_wire.specs.declared.message.Message.{Message}
 use Rattle.cbsp_wire.specs.Element.{Element, octets_of_elements}
 use Rattle.cbsp_wire.specs.Table.{octet_of_kind, need_of, size_of}
@@ -30,3 +32,10 @@ unfoldable pub IsMessage : List ℕ → Message → Type 0
 IsMessage (octet ∷ a ∷ b ∷ c ∷ rest) m =
     (octet ≡ octet_of_kind (kind_of m)) × (told a b c ≡ length rest) × ((es : List Element) × (rest ≡ octets_of_elements es) × AreElementsOf m es)
 IsMessage octets m = ⊥
+
+-- why a message isn't written: no octets mean it, or memory ran out and some octets mean it
+abbrev pub IsUnwritten : Message → WireFault → Type 0
+IsUnwritten m (Cause cause) = (cause ≡ 1) × ((octets : List ℕ) → IsMessage octets m → ⊥)
+IsUnwritten m Refused = (octets : List ℕ) × IsMessage octets m
+IsUnwritten m Truncated = ⊥
+IsUnwritten m TrailingBytes = ⊥

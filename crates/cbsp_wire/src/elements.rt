@@ -19,27 +19,29 @@ pub enum Stop {
     Cut,
 }
 
-/// Hands the table of elements to another macro: number, size of the body, and what each type of message needs, in the order
-/// of `Kind` (M mandatory, O optional, F not of this message).
+/// Hands the table of elements to another macro, in the order in which they are written: number, size of the body, what each
+/// type of message needs in the order of `Kind` (M mandatory, O optional, F not of this message), and the field's form and name.
 macro_rules! elements {
     ($reader:ident, $($argument:expr),*) => {
         $reader!($($argument),*;
-            0x0E, fixed 2, M M M M M M;
-            0x03, fixed 2, M M M F F F;
-            0x02, fixed 2, O O O M M M;
-            0x09, listed 2, F F M F F M;
-            0x08, listed 2, F O O F O O;
-            0x04, listed 2, M O O M O O;
-            0x12, fixed 1, O O O O O O;
-            0x05, fixed 1, O F F F F F;
-            0x06, fixed 2, M F F F F F;
-            0x07, fixed 2, M F F F F F;
-            0x13, fixed 1, M F F F F F;
-            0x0C, fixed 1, M F F F F F;
-            0x01, fixed 83, M F F F F F;
+            0x0E, fixed 2, M M M M M M, number id;
+            0x03, fixed 2, M M M F F F, number new_serial;
+            0x02, fixed 2, O O O M M M, number old_serial;
+            0x09, listed 2, F F M F F M, failures failures;
+            0x08, listed 2, F O O F O O, counts completed;
+            0x04, listed 2, M O O M O O, cells cells;
+            0x12, fixed 1, O O O O O O, octet channel;
+            0x05, fixed 1, O F F F F F, octet category;
+            0x06, fixed 2, M F F F F F, number period;
+            0x07, fixed 2, M F F F F F, number broadcasts;
+            0x13, fixed 1, M F F F F F, pages pages;
+            0x0C, fixed 1, M F F F F F, octet dcs;
+            0x01, fixed 83, M F F F F F, contents contents;
         )
     };
 }
+
+pub(crate) use elements;
 
 macro_rules! need {
     (M) => { Need::Mandatory };
@@ -48,7 +50,7 @@ macro_rules! need {
 }
 
 macro_rules! need_for {
-    ($kind:expr, $number:expr; $($row:literal, $form:ident $size:literal, $write:ident $write_done:ident $write_failed:ident $kill:ident $kill_done:ident $kill_failed:ident;)*) => {
+    ($kind:expr, $number:expr; $($row:literal, $form:ident $size:literal, $write:ident $write_done:ident $write_failed:ident $kill:ident $kill_done:ident $kill_failed:ident, $writer:ident $field:ident;)*) => {
         match $number {
             $($row => match $kind {
                 Kind::Write => need!($write),
@@ -69,13 +71,22 @@ macro_rules! size_by {
 }
 
 macro_rules! size_for {
-    ($octets:expr, $number:expr; $($row:literal, $form:ident $size:literal, $write:ident $write_done:ident $write_failed:ident $kill:ident $kill_done:ident $kill_failed:ident;)*) => {
+    ($octets:expr, $number:expr; $($row:literal, $form:ident $size:literal, $write:ident $write_done:ident $write_failed:ident $kill:ident $kill_done:ident $kill_failed:ident, $writer:ident $field:ident;)*) => {
         match $number {
             $($row => size_by!($octets, $form $size),)*
             _ => 0,
         }
     };
 }
+
+macro_rules! numbers_of {
+    (; $($row:literal, $form:ident $size:literal, $write:ident $write_done:ident $write_failed:ident $kill:ident $kill_done:ident $kill_failed:ident, $writer:ident $field:ident;)*) => {
+        [$($row),*]
+    };
+}
+
+/// The elements of messages, in the order in which they are written.
+pub(crate) const NUMBERS: [u8; 13] = elements!(numbers_of,);
 
 /// Whether a type of message has the element.
 #[tactic(auto, unfolding(crate::specs::Table::table, crate::specs::Table::need_of))]

@@ -9,10 +9,13 @@ pub mod fault;
 pub mod items;
 pub mod kind;
 pub mod message;
+mod parts;
 mod range;
 pub mod reading;
 mod value;
+pub mod writing;
 
 pub use fault::WireFault;
 pub use message::{Cell, Cells, Contents, Count, Counts, Failure, Failures, Message};
 pub use reading::read;
+pub use writing::{write, write_in};

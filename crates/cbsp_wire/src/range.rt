@@ -8,16 +8,11 @@ ghost use Rattle.cbsp_wire.specs.Walk.{walk_of};
 ghost use Rattle.cbsp_wire.specs.Range.{has_mandatory, has_none_twice, comes_once, is_there_if, is_period, is_coding, is_page_count, passes, first_passes, is_list, are_contents, are_numbers, are_lists, are_all_cells, are_in_range};
 ghost use Rattle.cbsp_wire.specs.Value.{octet_in, contents_of, fields_in, first_items};
 
-use crate::elements::{find, need, octet_of};
+use crate::elements::{NUMBERS, find, need, octet_of};
 use crate::items::{Items, Layout, are_cells, is_list};
 use crate::kind::{Kind, Need};
 use crate::value::{items_of, number, octet};
 use cbs_page::Dcs;
-
-/// The elements of messages, in the order in which they are written.
-const NUMBERS: [u8; 13] = [
-    0x0E, 0x03, 0x02, 0x09, 0x08, 0x04, 0x12, 0x05, 0x06, 0x07, 0x13, 0x0C, 0x01,
-];
 
 /// Whether the element is there, if the message needs it.
 fn is_there(kind: Kind, number: u8, octets: &[u8]) -> bool
