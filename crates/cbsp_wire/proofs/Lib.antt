@@ -9,3 +9,4 @@ pub mod WrittenLaws
 pub mod MeantLaws
 pub mod Slots
 pub mod Lengths
+pub mod Framing

@@ -163,3 +163,21 @@ pub fault_told-refused : (fault : WireFault) → fault_told fault ≡ Some fault
 fault_told-refused fault h same =
     let none : fault_told fault ≡ None = ap fault_told same in
     cc
+
+-- octets without a fault have a type
+HasParts-faultless : (octets : List ℕ) → first_fault octets ≡ None → (kind : Kind) × ((elements : List ℕ) × HasParts octets kind elements)
+unfolding first_fault
+HasParts-faultless [] h = absurd cc
+HasParts-faultless (o ∷ []) h = absurd cc
+HasParts-faultless (o ∷ a ∷ []) h = absurd cc
+HasParts-faultless (o ∷ a ∷ b ∷ []) h = absurd cc
+HasParts-faultless (o ∷ a ∷ b ∷ c ∷ rest) h = by_kind (kind_of_octet o) refl (framed (length rest) (told a b c) (fault_of_kind (kind_of_octet o) rest) h).1 where
+  by_kind : (k : Option Kind) → kind_of_octet o ≡ k → fault_of_kind k rest ≡ None → (kind : Kind) × ((elements : List ℕ) × HasParts (o ∷ a ∷ b ∷ c ∷ rest) kind elements)
+  by_kind None is_k g = absurd cc
+  by_kind (Some kind) is_k g = (kind, (rest, (is_k, refl)))
+
+-- octets without a fault mean something
+pub first_fault-some : (octets : List ℕ) → first_fault octets ≡ None → (m : Message) × IsMessage octets m
+first_fault-some octets h =
+    let p = HasParts-faultless octets h in
+    (message_of p.0 (walk_of p.0 p.1.0).elements, first_fault-none octets p.0 p.1.0 h p.1.1)

@@ -8,6 +8,7 @@ pub mod elements;
 pub mod fault;
 pub mod items;
 pub mod kind;
+mod law;
 pub mod message;
 mod parts;
 mod range;
@@ -16,6 +17,7 @@ mod value;
 pub mod writing;
 
 pub use fault::WireFault;
+pub use law::meaning_law;
 pub use message::{Cell, Cells, Contents, Count, Counts, Failure, Failures, Message};
 pub use reading::read;
 pub use writing::{write, write_in};
