@@ -112,6 +112,10 @@ impl Budget {
         ensures sum { result ≡ sum_by (λ h. h.load) self.now }
         ensures admitted { IsAdmitted self.now }
         ensures at_most_whole { result ≤ SCALE }
+
+        // At no slot is more reserved than the table holds.
+        ensures at_every_slot { (slot : ℕ)
+            → sum_by (λ h. h.load) (filter (λ h. is_before_end slot h.until) self.now) ≤ result }
     {
         total(self.table.as_slice())
     }

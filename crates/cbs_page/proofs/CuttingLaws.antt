@@ -1,5 +1,5 @@
 -- A step of the cutting, as the loops over a text take it: at the character at place n.
-use Rattle.std.proofs.Common.{◌≡◌, ℕ, ◌+◌, ◌<◌, ◌≤◌, List, [], ◌∷◌, ◌++◌, length, get_or, drop, refl, sym, ◌∙◌, ap, zero, suc, arith, subst, append_assoc}
+use Rattle.std.proofs.Common.{◌≡◌, ℕ, ◌+◌, ◌<◌, ◌≤◌, List, [], ◌∷◌, ◌++◌, length, get_or, drop, refl, suc, sym, ◌∙◌, ap, arith, subst, append_assoc}
 use Rattle.std.proofs.lemmas.Bool.{le-leb, lt-leb}
 use Rattle.std.proofs.lemmas.List.{at_drop_more, at_drop_all}
 use Rattle.cbs_page.specs.Cutting.{cuts_from, count_from}
@@ -49,7 +49,7 @@ pub record HasCut (alphabet : Alphabet) (cs : List ℕ) (n : ℕ) (piece : List 
   pub closed : List (List ℕ)
   pub held : AreContentsOf alphabet closed contents
   pub cut : closed ++ cuts_from (codes_of alphabet) (capacity alphabet) piece (drop n cs)
-    ≡ cuts_from (codes_of alphabet) (capacity alphabet) [] cs
+      ≡ cuts_from (codes_of alphabet) (capacity alphabet) [] cs
 
 pub HasCut-takes : (alphabet : Alphabet) (cs : List ℕ) (n : ℕ) (piece : List ℕ) (contents : List Content) (c : ℕ) →
     HasCut alphabet cs n piece contents → n < length cs → c ≡ get_or cs n c →
@@ -68,7 +68,7 @@ HasCut-begins alphabet cs n piece contents c content had lt is full here = recor
   closed = had.closed ++ piece ∷ [];
   held = AreContentsOf-push alphabet had.closed contents piece content had.held here;
   cut = append_assoc had.closed (piece ∷ []) (cuts_from (codes_of alphabet) (capacity alphabet) (codes_of alphabet c) (drop (n + 1) cs))
-    ∙ ap (λ rest. had.closed ++ rest) (sym (cuts-begins (codes_of alphabet) (capacity alphabet) piece cs n c lt is full)) ∙ had.cut;
+      ∙ ap (λ rest. had.closed ++ rest) (sym (cuts-begins (codes_of alphabet) (capacity alphabet) piece cs n c lt is full)) ∙ had.cut;
 }
 
 pub HasCut-end : (alphabet : Alphabet) (cs : List ℕ) (n : ℕ) (piece : List ℕ) (contents : List Content) (content : Content) →
@@ -76,8 +76,16 @@ pub HasCut-end : (alphabet : Alphabet) (cs : List ℕ) (n : ℕ) (piece : List �
     AreContentsOf alphabet (cuts_from (codes_of alphabet) (capacity alphabet) [] cs) (contents ++ content ∷ [])
 HasCut-end alphabet cs n piece contents content had all here =
     let ended : cuts_from (codes_of alphabet) (capacity alphabet) piece (drop n cs) ≡ piece ∷ [] =
-      at_drop_all (cuts_from (codes_of alphabet) (capacity alphabet) piece) cs n (omega (arith, all)) in
+    at_drop_all (cuts_from (codes_of alphabet) (capacity alphabet) piece) cs n (omega (arith, all)) in
     let whole : had.closed ++ piece ∷ [] ≡ cuts_from (codes_of alphabet) (capacity alphabet) [] cs =
-      ap (λ rest. had.closed ++ rest) (sym ended) ∙ had.cut in
+    ap (λ rest. had.closed ++ rest) (sym ended) ∙ had.cut in
     subst (λ (cuts : List (List ℕ)). AreContentsOf alphabet cuts (contents ++ content ∷ [])) whole
-      (AreContentsOf-push alphabet had.closed contents piece content had.held here)
+    (AreContentsOf-push alphabet had.closed contents piece content had.held here)
+
+-- there are as many contents as lists of codes
+pub AreContentsOf-length : (alphabet : Alphabet) (closed : List (List ℕ)) (contents : List Content) → AreContentsOf alphabet closed contents →
+    length contents ≡ length closed
+AreContentsOf-length alphabet [] [] held = refl
+AreContentsOf-length alphabet [] (content ∷ contents) held = absurd held
+AreContentsOf-length alphabet (codes ∷ closed) [] held = absurd held
+AreContentsOf-length alphabet (codes ∷ closed) (content ∷ contents) held = ap suc (AreContentsOf-length alphabet closed contents held.1)

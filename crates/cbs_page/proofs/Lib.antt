@@ -1,3 +1,6 @@
 pub mod PagingLaws
 pub mod TrailingLaws
 pub mod CuttingLaws
+pub mod TextLaws
+pub mod PaginateLaws
+pub mod CodingLaws

@@ -1,6 +1,6 @@
 -- Cutting in one pass gives the pages of a text, and no other list of pieces is that.
-use Rattle.std.proofs.Common.{◌≡◌, ◌≢◌, ℕ, ◌+◌, ◌<◌, ◌≤◌, Bool, true, false, List, [], ◌∷◌, ◌++◌, length, sum_by, map, refl, sym, ◌∙◌, ap, append_assoc, append-nil, subst, zero-add, arith, ◌⊎◌, inl, inr}
-use Rattle.std.specs.Prelude.{nat_le, if◌then◌else◌}
+use Rattle.std.proofs.Common.{◌≡◌, ◌≢◌, ℕ, ◌+◌, ◌<◌, ◌≤◌, false, List, [], ◌∷◌, ◌++◌, length, sum_by, map, refl, sym, ◌∙◌, ap, append_assoc, append-nil, subst, zero-add, arith, ◌⊎◌, inl, inr}
+use Rattle.std.specs.Prelude.{nat_le}
 use Rattle.std.specs.List.{concat, flat_map, AllByRecursion}
 use Rattle.std.proofs.lemmas.Bool.{le-leb}
 use Rattle.std.proofs.lemmas.Bool.Decides.{leb_tells, nat_tests}
@@ -24,7 +24,7 @@ begins cost limit piece c rest full = rw (not_over (sum_by cost piece + cost c) 
 fits_or_not : (a b : ℕ) → (a ≤ b) ⊎ (b < a)
 fits_or_not a b = elim (leb_tells a b) [ inl h ↦ inl h.1 | inr h ↦ inr h.1 ]
 
-cost_of_one : (cost : ℕ → ℕ) (c : ℕ) → sum_by cost (c ∷ []) ≡ cost c
+pub cost_of_one : (cost : ℕ → ℕ) (c : ℕ) → sum_by cost (c ∷ []) ≡ cost c
 cost_of_one cost c = zero-add (cost c)
 
 cost_of_push : (cost : ℕ → ℕ) (piece : List ℕ) (c : ℕ) → sum_by cost (piece ++ c ∷ []) ≡ sum_by cost piece + cost c
@@ -68,13 +68,13 @@ paging_of_pieces cost limit c piece (d ∷ rest) within each =
       | inl fits ↦
           let taken : sum_by cost ((c ∷ piece) ++ d ∷ []) ≤ limit = rw (cost_of_push cost (c ∷ piece) d) fits in
           let tail : IsPaging cost limit ((c ∷ (piece ++ d ∷ [])) ++ rest) (pieces_from cost limit (c ∷ (piece ++ d ∷ [])) rest) =
-            paging_of_pieces cost limit c (piece ++ d ∷ []) rest taken each.1 in
+          paging_of_pieces cost limit c (piece ++ d ∷ []) rest taken each.1 in
           let moved : (c ∷ (piece ++ d ∷ [])) ++ rest ≡ (c ∷ piece) ++ (d ∷ rest) = ap (λ xs. c ∷ xs) (append_assoc piece (d ∷ []) rest) in
           rw (takes cost limit (c ∷ piece) d rest fits)
-            (subst (λ (text : List ℕ). IsPaging cost limit text (pieces_from cost limit (c ∷ (piece ++ d ∷ [])) rest)) moved tail)
+          (subst (λ (text : List ℕ). IsPaging cost limit text (pieces_from cost limit (c ∷ (piece ++ d ∷ [])) rest)) moved tail)
       | inr full ↦
           let tail : IsPaging cost limit (d ∷ rest) (pieces_from cost limit (d ∷ []) rest) =
-            paging_of_pieces cost limit d [] rest (rw (cost_of_one cost d) each.0) each.1 in
+          paging_of_pieces cost limit d [] rest (rw (cost_of_one cost d) each.0) each.1 in
           rw (begins cost limit (c ∷ piece) d rest full) record {
             whole = ap (λ xs. (c ∷ piece) ++ xs) tail.whole;
             nonempty = (λ e. cc, tail.nonempty);
@@ -90,9 +90,9 @@ through_piece cost limit front (c ∷ back) rest within =
     let joined : (front ++ c ∷ []) ++ back ≡ front ++ c ∷ back = append_assoc front (c ∷ []) back in
     let all : sum_by cost ((front ++ c ∷ []) ++ back) ≤ limit = rw joined within in
     let fits : sum_by cost front + cost c ≤ limit =
-      rw (← cost_of_push cost front c) (omega (arith, sum_by-append cost (front ++ c ∷ []) back)) in
+    rw (← cost_of_push cost front c) (omega (arith, sum_by-append cost (front ++ c ∷ []) back)) in
     takes cost limit front c (back ++ rest) fits ∙ through_piece cost limit (front ++ c ∷ []) back rest all
-      ∙ ap (λ xs. pieces_from cost limit xs rest) joined
+    ∙ ap (λ xs. pieces_from cost limit xs rest) joined
 
 through_pieces : (cost : ℕ → ℕ) (limit : ℕ) (piece : List ℕ) (pieces : List (List ℕ)) → IsFilled cost limit piece pieces →
     AllByRecursion (λ p. p ≢ []) pieces → AllByRecursion (λ p. sum_by cost p ≤ limit) pieces → AreFilled cost limit pieces →
@@ -101,9 +101,9 @@ through_pieces cost limit piece [] full nonempty within filled = refl
 through_pieces cost limit piece ([] ∷ pieces) full nonempty within filled = absurd (nonempty.0 refl)
 through_pieces cost limit piece ((c ∷ next) ∷ pieces) full nonempty within filled =
     begins cost limit piece c (next ++ concat pieces) full
-      ∙ ap (λ xs. piece ∷ xs)
-        (through_piece cost limit (c ∷ []) next (concat pieces) within.0
-          ∙ through_pieces cost limit (c ∷ next) pieces filled.0 nonempty.1 within.1 filled.1)
+    ∙ ap (λ xs. piece ∷ xs)
+    (through_piece cost limit (c ∷ []) next (concat pieces) within.0
+    ∙ through_pieces cost limit (c ∷ next) pieces filled.0 nonempty.1 within.1 filled.1)
 
 -- Each list of pieces that is a paging of a text is what the pass gives.
 pub pieces_of_paging : (cost : ℕ → ℕ) (limit : ℕ) (c : ℕ) (rest : List ℕ) (pieces : List (List ℕ)) →
@@ -115,8 +115,8 @@ pieces_of_paging cost limit c rest ((d ∷ piece) ∷ pieces) paging =
     let head : d ≡ c = cc in
     let tail : piece ++ concat pieces ≡ rest = cc in
     rw (← head, ← tail)
-      (through_piece cost limit (d ∷ []) piece (concat pieces) paging.within.0
-        ∙ through_pieces cost limit (d ∷ piece) pieces paging.filled.0 paging.nonempty.1 paging.within.1 paging.filled.1)
+    (through_piece cost limit (d ∷ []) piece (concat pieces) paging.within.0
+    ∙ through_pieces cost limit (d ∷ piece) pieces paging.filled.0 paging.nonempty.1 paging.within.1 paging.filled.1)
 
 pieces_of_nothing : (cost : ℕ → ℕ) (limit : ℕ) (pieces : List (List ℕ)) → IsPaging cost limit [] pieces → pieces ≡ []
 pieces_of_nothing cost limit [] paging = refl
@@ -138,15 +138,15 @@ cuts_of_pieces codes limit piece (c ∷ rest) =
     let cost : ℕ → ℕ = λ c. length (codes c) in
     let same : length (flat_map codes piece) ≡ sum_by cost piece = length-flat_map codes piece in
     let grown : flat_map codes (piece ++ c ∷ []) ≡ flat_map codes piece ++ codes c =
-      flat_map-append codes piece (c ∷ []) ∙ ap (λ xs. flat_map codes piece ++ xs) (append-nil (codes c)) in
+    flat_map-append codes piece (c ∷ []) ∙ ap (λ xs. flat_map codes piece ++ xs) (append-nil (codes c)) in
     elim (fits_or_not (sum_by cost piece + cost c) limit) [
       | inl fits ↦
           rw (takes cost limit piece c rest fits)
-            (cuts_of_pieces codes limit (piece ++ c ∷ []) rest
-              ∙ rw (same, le-leb (sum_by cost piece + cost c) limit fits, grown) refl)
+          (cuts_of_pieces codes limit (piece ++ c ∷ []) rest
+          ∙ rw (same, le-leb (sum_by cost piece + cost c) limit fits, grown) refl)
       | inr full ↦
           rw (begins cost limit piece c rest full)
-            (ap (λ xs. flat_map codes piece ∷ xs)
-              (cuts_of_pieces codes limit (c ∷ []) rest ∙ ap (λ xs. cuts_from codes limit xs rest) (append-nil (codes c)))
-              ∙ rw (same, not_over (sum_by cost piece + cost c) limit full) refl)
+          (ap (λ xs. flat_map codes piece ∷ xs)
+          (cuts_of_pieces codes limit (c ∷ []) rest ∙ ap (λ xs. cuts_from codes limit xs rest) (append-nil (codes c)))
+          ∙ rw (same, not_over (sum_by cost piece + cost c) limit full) refl)
     ]

@@ -1,5 +1,5 @@
 -- Data coding of cell broadcast pages. 3GPP TS 23.038, clause 5. The words that name languages are this project's own.
-use Rattle.std.specs.Prelude.{◌≡◌, ℕ, ◌+◌, ◌*◌, ◌/◌, ◌%◌, Bool, true, false, ◌==◌, ◌||◌, nat_le, nat_lt, if◌then◌else◌, Option, Some, None, List, [], ◌∷◌, codes}
+use Rattle.std.specs.Prelude.{ℕ, ◌/◌, ◌%◌, ◌==◌, ◌||◌, nat_le, if◌then◌else◌, Option, Some, None, List, [], ◌∷◌, codes}
 use Rattle.std.specs.Str.{bytes_eq}
 use Rattle.cbs_page.specs.declared.coding.Alphabet.{Alphabet}
 use Rattle.cbs_page.specs.declared.coding.Alphabet.TheVariants.{Gsm, Ucs2}
@@ -27,7 +27,7 @@ abbrev pub value_among : List Language → List ℕ → Option ℕ
 value_among [] word = None
 value_among (l ∷ ls) word = if bytes_eq word l.word then Some l.value else value_among ls word
 
-abbrev pub language_value : List ℕ → Option ℕ
+unfoldable pub language_value : List ℕ → Option ℕ
 language_value word = value_among languages word
 
 -- a value of the general group has its alphabet in bits 3 and 2: 00 is the GSM 7-bit alphabet, 10 is UCS-2

@@ -1,6 +1,6 @@
 -- What the pages of a text hold, and what text a page shows. 3GPP TS 23.038, clauses 6.1.2.2, 6.2.1 and 6.2.3, and
 -- 3GPP TS 23.041, clause 9.4.1.2.5. Which alphabet a text gets, and that CR ends no text, are this project's own.
-use Rattle.std.specs.Prelude.{◌≡◌, ◌≢◌, ℕ, ◌+◌, ◌*◌, ◌/◌, ◌<◌, ◌≤◌, ◌==◌, ◌&&◌, ◌||◌, not, nat_lt, Bool, if◌then◌else◌, Option, Some, None, IsSome, is_some, List, [], ◌∷◌, length, map, position}
+use Rattle.std.specs.Prelude.{◌≡◌, ℕ, ◌+◌, ◌*◌, ◌/◌, ◌<◌, ◌≤◌, ◌==◌, ◌&&◌, ◌||◌, not, nat_lt, Bool, if◌then◌else◌, Option, Some, None, IsSome, is_some, List, [], ◌∷◌, length, map, position}
 use Rattle.std.specs.Option.{option_to_list}
 use Rattle.std.specs.List.{list_all, flat_map}
 use Rattle.gsm_alphabet.specs.Alphabet.{code_of, septets_of, text_of_septets}

@@ -16,6 +16,6 @@ pub mod text;
 pub use coding::{Alphabet, Dcs, language_dcs};
 pub use content::Content;
 pub use octets::{PageView, page_bytes, read_page};
-pub use paging::{MAX_PAGES, Paged, TextFault, paginate};
+pub use paging::{MAX_PAGES, Paged, TextFault, paginate, paging_law};
 pub use serial::Serial;
 pub use text::{Refused, page_text};

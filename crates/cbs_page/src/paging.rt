@@ -1,11 +1,12 @@
 //! The pages of a text: which alphabet it gets, how it is cut, and what each page holds (3GPP TS 23.041, clause 9.4.1.2.5; the
 //! cutting is this project's own: each page takes all that it can, and an escape pair is never split).
 
-ghost use Rattle.std.specs.Prelude.{◌≡◌, [], IfOk, IfErr, position, is_some};
+ghost use Rattle.std.specs.Prelude.{◌≡◌, ◌≤◌, [], length, IfOk, IfErr, position, is_some};
 ghost use Rattle.std.specs.List.{list_all};
 ghost use Rattle.std.specs.Str.{chars};
 ghost use Rattle.gsm_alphabet.specs.Alphabet.{code_of};
 ghost use Rattle.cbs_page.specs.Cutting.{count_from, cuts_from};
+ghost use Rattle.cbs_page.specs.Paging.{PagingIsUnique};
 ghost use Rattle.cbs_page.specs.Text.{capacity, codes_of, is_bad, alphabet_for, coding_for, AreContentsOf, IsTextFault, IsPagedText, ShowsText};
 
 use crate::coding::{Alphabet, Dcs, language_dcs};
@@ -56,6 +57,7 @@ pub enum TextFault {
 pub fn paginate(alloc: Global, text: &str, language: &str) -> Result<Paged, TextFault>
     ensures sent { IfOk result (IsPagedText language.now (chars text.now)) }
     ensures shown { IfOk result (λ paged. ShowsText (chars text.now) paged) }
+    ensures count { IfOk result (λ paged. (1 ≤ length paged.pages.items) × (length paged.pages.items ≤ 15)) }
     ensures fault { IfErr result (IsTextFault language.now (chars text.now)) }
 {
     let Some(value) = language_dcs(language) else {
@@ -64,8 +66,9 @@ pub fn paginate(alloc: Global, text: &str, language: &str) -> Result<Paged, Text
     if text.is_empty() {
         return Err(TextFault::Empty);
     }
-    if let Some(place) = bad_place(text) {
-        return Err(TextFault::BadCharacter { place });
+    match bad_place(text) {
+        Some(place) => return Err(TextFault::BadCharacter { place }),
+        None => {}
     }
     let alphabet = alphabet_of_text(text);
     if page_count(text, alphabet) > MAX_PAGES {
@@ -79,6 +82,12 @@ pub fn paginate(alloc: Global, text: &str, language: &str) -> Result<Paged, Text
         Err(_) => Err(TextFault::Refused),
     }
 }
+
+/// A text has one list of pages at most: what `paginate` answers, and whether that is too many, is determined. Does nothing: its
+/// contract is the law.
+pub fn paging_law()
+    ensures { PagingIsUnique }
+{}
 
 /// Whether a character can't be sent.
 fn is_bad_character(character: char) -> bool

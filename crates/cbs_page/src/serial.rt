@@ -47,7 +47,8 @@ impl Serial {
     pub fn number(self) -> u16
         ensures { result ≡ self }
     {
-        self.number
+        let Serial { number } = self;
+        number
     }
 
     /// The geographical scope, bits 15 and 14: 0 to 3.

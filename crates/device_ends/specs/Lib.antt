@@ -4,3 +4,4 @@ pub mod Moves
 pub mod Calls
 pub mod MemoryReader
 pub mod MemoryWriter
+pub mod ReadFault

@@ -1,6 +1,6 @@
 //! What a failed end answers.
 
-ghost use Rattle.std.specs.Prelude.{Some};
+ghost use Rattle.std.specs.Prelude.{Some, codes};
 
 use std::error::Error;
 use std::fmt;
@@ -10,6 +10,8 @@ use std::fmt;
 pub struct Failed;
 
 impl fmt::Display for Failed {
+    ghost output = { λ _. Some (codes "device failed") };
+
     fn fmt<W: fmt::Write>(&self, f: &mut fmt::Formatter<W>) -> fmt::Result {
         write!(f, "device failed")
     }

@@ -1,6 +1,6 @@
 //! Why a whole input could not be read.
 
-ghost use Rattle.std.specs.Prelude.{◌≡◌};
+ghost use Rattle.std.specs.Prelude.{◌≡◌, Some};
 ghost use Rattle.device_ends.specs.declared.fault.ReadFault.TheVariants.{Device, Refused};
 
 use crate::Failed;
@@ -18,6 +18,10 @@ pub enum ReadFault {
 }
 
 impl fmt::Display for ReadFault {
+    ghost use Rattle.device_ends.specs.ReadFault.{text_of};
+
+    ghost output = { λ fault. Some (text_of fault) };
+
     fn fmt<W: fmt::Write>(&self, f: &mut fmt::Formatter<W>) -> fmt::Result {
         match self {
             ReadFault::Device => write!(f, "device failed"),

@@ -11,7 +11,7 @@ octet_bit octets i = bit_at (slice_index octets (i / 8)) (i % 8)
 abbrev pub septet_bit : List ℕ → ℕ → ℕ
 septet_bit septets i = bit_at (slice_index septets (i / 7)) (i % 7)
 
--- the septets, then carriage return up to 93 of them: what a page is filled with (6.1.2.2.1)
+-- the septets, then carriage return up to 93 of them: what a page is filled with (6.1.2.2)
 abbrev pub filled : List ℕ → List ℕ
 filled septets = septets ++ replicate (93 - length septets) 13
 

@@ -11,13 +11,13 @@ ghost use Rattle.septets.specs.Packing.{IsPacked, IsUnpacked, PackingIsUnique, S
 
 use arrayvec::ArrayVec;
 
-/// How many septets a page has (TS 23.038, 6.1.2.2.1).
+/// How many septets a page has (TS 23.038, 6.1.2.2).
 pub const SEPTETS: usize = 93;
 
-/// How many octets a page's content has (TS 23.041, 9.4.1.2.4).
+/// How many octets a page's content has (TS 23.041, 9.4.1).
 pub const OCTETS: usize = 82;
 
-/// Carriage return, which fills a page after its text (TS 23.038, 6.1.2.2.1).
+/// Carriage return, which fills a page after its text (TS 23.038, 6.1.2.2).
 pub const CR: u8 = 0x0D;
 
 /// Packs the septets of a page, each below 128, and fills it with [`CR`] up to 93 septets.

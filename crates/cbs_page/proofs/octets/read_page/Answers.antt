@@ -14,5 +14,5 @@ returns c =
     let id : c.from_be_bytes-2.result ≡ 256 * slice_index octets 2 + slice_index octets 3 = omega arith in
     let place : c.page_place-number.result ≡ place_of (slice_index octets 5) = search rules in
     let content : c.copy_from_slice.new.self ≡ drop 6 octets =
-      c.copy_from_slice.ensures.after ∙ content_whole octets (omega arith) in
+    c.copy_from_slice.ensures.after ∙ content_whole octets (omega arith) in
     rw (serial, id, place, content) refl

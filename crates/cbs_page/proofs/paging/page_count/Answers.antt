@@ -1,4 +1,4 @@
-use Rattle.std.proofs.Common.{◌≡◌, ℕ, ◌+◌, ◌<◌, ◌≤◌, List, length, get_or, drop, refl, sym, ap, ◌∙◌, arith, ◌++◌, ◌∷◌, []}
+use Rattle.std.proofs.Common.{◌+◌, ◌<◌, ◌≤◌, length, arith}
 use Rattle.std.specs.Str.{chars}
 use Rattle.std.proofs.lemmas.Iterator.{YieldsList-from_chars}
 use Rattle.std.proofs.lemmas.Iterator.Consumers.{YieldsList-turn, YieldsList-end}
@@ -14,7 +14,7 @@ loop-character-preserved-then-used-cost c =
     let next = length_push c.loop-character.yielded c.in-Some.character in
     let fits : c.loop-character.used + c.cost-cost.result ≤ capacity c.args.alphabet = omega (arith, c.capacity-capacity.ensures.value) in
     let step = count-takes (codes_of c.args.alphabet) (capacity c.args.alphabet) c.loop-character.used (chars c.args.text.now)
-      (length c.loop-character.yielded) c.in-Some.character turn.0 turn.1 (rw (← c.cost-cost.ensures.value) fits) in
+    (length c.loop-character.yielded) c.in-Some.character turn.0 turn.1 (rw (← c.cost-cost.ensures.value) fits) in
     record {
       finite = (tt, tt);
       within = fits;
@@ -28,7 +28,7 @@ loop-character-preserved c =
     let next = length_push c.loop-character.yielded c.in-Some.character in
     let full : capacity c.args.alphabet < c.loop-character.used + c.cost-cost.result = omega (arith, c.capacity-capacity.ensures.value) in
     let step = count-begins (codes_of c.args.alphabet) (capacity c.args.alphabet) c.loop-character.used (chars c.args.text.now)
-      (length c.loop-character.yielded) c.in-Some.character turn.0 turn.1 (rw (← c.cost-cost.ensures.value) full) in
+    (length c.loop-character.yielded) c.in-Some.character turn.0 turn.1 (rw (← c.cost-cost.ensures.value) full) in
     record {
       finite = (tt, tt);
       within = omega (arith, c.capacity-capacity.ensures.value);
@@ -39,5 +39,8 @@ loop-character-preserved c =
 pub returns : goal.returns
 returns c =
     let ended = YieldsList-end (YieldsList-from_chars c.args.text.now c.utf8.text cc) c.loop-character.yielded _ c.loop-character.yielded_by _ _ c.in-None.is c.next.ensures.steps in
-    omega (arith, c.loop-character.invariant.counted,
-      at_drop_all (count_from (codes_of c.args.alphabet) (capacity c.args.alphabet) c.loop-character.used) (chars c.args.text.now) (length c.loop-character.yielded) (omega (arith, ended.1)))
+    omega (
+      arith,
+      c.loop-character.invariant.counted,
+      at_drop_all (count_from (codes_of c.args.alphabet) (capacity c.args.alphabet) c.loop-character.used) (chars c.args.text.now) (length c.loop-character.yielded) (omega (arith, ended.1)),
+    )

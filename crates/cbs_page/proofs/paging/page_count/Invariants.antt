@@ -10,5 +10,5 @@ invariant-loop-character l = record {
   within : l.used ≤ capacity l.alphabet;
   few : l.pages ≤ length l.yielded + 1;
   counted : l.pages + count_from (codes_of l.alphabet) (capacity l.alphabet) l.used (drop (length l.yielded) (chars l.text))
-    ≡ count_from (codes_of l.alphabet) (capacity l.alphabet) 0 (chars l.text) + 1;
+      ≡ count_from (codes_of l.alphabet) (capacity l.alphabet) 0 (chars l.text) + 1;
 }

@@ -7,11 +7,11 @@ pub loop-place-preserved : goal.loop-place-preserved
 loop-place-preserved c =
     elim c.if-septet-ne-CR.branch [
       | then-septet-ne-CR w ↦ (
-          omega arith,
-          rw w.used-is (without_trailing-take_other 13 c.args.septets.now c.loop-place.place (omega arith) w.if-septet-ne-CR.true),
-        )
+        omega arith,
+        rw w.used-is (without_trailing-take_other 13 c.args.septets.now c.loop-place.place (omega arith) w.if-septet-ne-CR.true),
+      )
       | else-septet-ne-CR w ↦ (
-          omega arith,
-          rw w.used-is (without_trailing-take_same 13 c.args.septets.now c.loop-place.place c.loop-place.used (omega arith) w.if-septet-ne-CR.false c.loop-place.invariant.1),
-        )
+        omega arith,
+        rw w.used-is (without_trailing-take_same 13 c.args.septets.now c.loop-place.place c.loop-place.used (omega arith) w.if-septet-ne-CR.false c.loop-place.invariant.1),
+      )
     ]

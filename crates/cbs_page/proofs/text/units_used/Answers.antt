@@ -7,11 +7,11 @@ pub loop-place-preserved : goal.loop-place-preserved
 loop-place-preserved c =
     elim c.if-unit-ne-CR_UNIT.branch [
       | then-unit-ne-CR_UNIT w ↦ (
-          omega arith,
-          rw w.used-is (without_trailing-take_other 13 c.args.units.now c.loop-place.place (omega arith) w.if-unit-ne-CR_UNIT.true),
-        )
+        omega arith,
+        rw w.used-is (without_trailing-take_other 13 c.args.units.now c.loop-place.place (omega arith) w.if-unit-ne-CR_UNIT.true),
+      )
       | else-unit-ne-CR_UNIT w ↦ (
-          omega arith,
-          rw w.used-is (without_trailing-take_same 13 c.args.units.now c.loop-place.place c.loop-place.used (omega arith) w.if-unit-ne-CR_UNIT.false c.loop-place.invariant.1),
-        )
+        omega arith,
+        rw w.used-is (without_trailing-take_same 13 c.args.units.now c.loop-place.place c.loop-place.used (omega arith) w.if-unit-ne-CR_UNIT.false c.loop-place.invariant.1),
+      )
     ]

@@ -1,0 +1,4 @@
+mod Lists
+mod BlockLaws
+mod PageLaws
+mod ReadingLaws

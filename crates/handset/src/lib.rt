@@ -1,0 +1,14 @@
+//! The handset: what a phone shows of the blocks that a cell broadcasts (3GPP TS 44.012, and TS 23.041, clause 9.4.1).
+//!
+//! A `Handset` is fed one block of 23 octets after another, over any list of blocks, and answers each message at the block that
+//! makes it complete, once. What it shows is what `specs/Reading.antt` says of the whole list.
+#![tactic(auto)]
+
+mod blocks;
+mod handset;
+mod messages;
+#[cfg(test)]
+mod tests;
+
+pub use handset::Handset;
+pub use messages::{Refused, Shown};

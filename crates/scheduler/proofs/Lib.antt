@@ -1,0 +1,11 @@
+pub mod Air
+pub mod Choice
+mod Chosen
+pub mod Completed
+mod Counts
+mod Followed
+mod Lists
+pub mod Message
+mod Ready
+pub mod Rule
+mod Worked

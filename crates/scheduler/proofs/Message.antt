@@ -1,0 +1,31 @@
+-- Lemmas on the tests of a message's broadcasts.
+use Rattle.std.proofs.Common.{◌≡◌, ℕ, Bool, true, false, ◌||◌, ltb, eqb, Option, Some, None, inl, inr, refl, ap}
+use Rattle.std.proofs.lemmas.Bool.{or_cases, lt-ltb, ltb-true, eq-eqb, eqb-true}
+use Rattle.scheduler.specs.Message.{Message, HasBroadcast, IsBeforeStop, has_broadcast, is_before_stop}
+
+-- the tests say what the facts say
+pub has_broadcast-says : (m : Message) (j : ℕ) → has_broadcast m j ≡ true → HasBroadcast m j
+has_broadcast-says m j h =
+    elim (or_cases (eqb m.requested 0) (ltb j m.requested) h) [
+      | inl always ↦ inl (eqb-true m.requested 0 always)
+      | inr below ↦ inr (ltb-true j m.requested below)
+    ]
+
+pub has_broadcast-from : (m : Message) (j : ℕ) → HasBroadcast m j → has_broadcast m j ≡ true
+has_broadcast-from m j h =
+    elim h [
+      | inl always ↦ ap (λ (b : Bool). b || ltb j m.requested) (eq-eqb m.requested 0 always)
+      | inr below ↦ or_right (eqb m.requested 0) (ltb j m.requested) (lt-ltb j m.requested below)
+    ]
+  where
+    or_right : (x y : Bool) → y ≡ true → (x || y) ≡ true
+    or_right true y h = refl
+    or_right false y h = h
+
+pub is_before_stop-says : (slot : ℕ) (stop : Option ℕ) → is_before_stop slot stop ≡ true → IsBeforeStop slot stop
+is_before_stop-says slot None h = tt
+is_before_stop-says slot (Some stop) h = ltb-true slot stop h
+
+pub is_before_stop-from : (slot : ℕ) (stop : Option ℕ) → IsBeforeStop slot stop → is_before_stop slot stop ≡ true
+is_before_stop-from slot None h = refl
+is_before_stop-from slot (Some stop) h = lt-ltb slot stop h

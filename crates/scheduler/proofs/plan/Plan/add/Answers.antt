@@ -1,0 +1,40 @@
+use Rattle.std.proofs.Common.{◌<◌, sym, ap, subst, ◌∙◌, map, List, [], ◌∷◌, ◌++◌, cond}
+use Rattle.std.specs.List.{All}
+use Rattle.std.specs.Result.{is_ok}
+use Rattle.std.proofs.lemmas.List.{map_push}
+use Rattle.scheduler.specs.declared.tracked.Tracked.{Tracked}
+use Rattle.scheduler.specs.Follows.{Kept, Follows, messages_of, message_of, message_from, next_slot}
+use Rattle.scheduler.proofs.Followed.{IsSound-add_if, Follows-add, kept_new}
+use Rattle.scheduler.proofs.plan.Plan.add.Goals as goal
+use Rattle.scheduler.proofs.plan.Plan.add.Goals.{in-Ok, in-Err}
+
+pub invariant_of-self : goal.invariant_of-self
+invariant_of-self c =
+    let plan : Kept = record { slot = c.self.inside.slot; tracked = c.self.inside.tracked.items } in
+    let back = sym c.self.view_is in
+    let Above : Kept → Type 0 = λ p. All (λ m. m.number < c.args.item.entry) (messages_of p) in
+    let items = c.push.ensures.items ∙ ap (λ x. cond (is_ok c.push.result) (c.self.inside.tracked.items ++ x ∷ []) c.self.inside.tracked.items) c.new.ensures in
+    IsSound-add_if plan c.args.item (is_ok c.push.result) c.push.new.self.items items (subst Above back c.requires.rising) (c.requires.at_next ∙ ap next_slot back) c.requires.some_pages c.requires.some_period c.self.invariant
+
+pub returns-clause-follows : goal.returns-clause-follows
+returns-clause-follows c =
+    elim c.match-push.branch [
+      | in-Ok w ↦ rw w.result-is (λ messages air follows.
+          let plan : Kept = record { slot = c.self.inside.slot; tracked = c.self.inside.tracked.items } in
+          let back = sym c.self.view_is in
+          let Same : Kept → Type 0 = λ p. Follows p messages air in
+          let items = w.in-Ok.ensures.items ∙ ap (λ x. c.self.inside.tracked.items ++ x ∷ []) c.new.ensures in
+          let P : List Tracked → Type 0 = λ ts. Follows (record { slot = c.self.inside.slot; tracked = ts }) (messages ++ message_from c.args.item ∷ []) air in
+          subst P (sym items) (Follows-add plan c.args.item messages air (c.requires.at_next ∙ ap next_slot back) c.requires.some_pages c.requires.some_period (subst Same back follows)))
+      | in-Err w ↦ rw w.result-is tt
+    ]
+
+pub returns-clause-told : goal.returns-clause-told
+returns-clause-told c =
+    elim c.match-push.branch [
+      | in-Ok w ↦ rw w.result-is (
+          let items = w.in-Ok.ensures.items ∙ ap (λ x. c.self.inside.tracked.items ++ x ∷ []) c.new.ensures in
+          ap (map message_of) items ∙ (map_push message_of c.self.inside.tracked.items (kept_new c.args.item) ∙ ap (λ p. messages_of p ++ message_from c.args.item ∷ []) c.self.view_is)
+          )
+      | in-Err w ↦ rw w.result-is tt
+    ]

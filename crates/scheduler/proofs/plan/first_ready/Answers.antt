@@ -1,0 +1,15 @@
+use Rattle.std.proofs.Common.{arith, sym, ◌∙◌}
+use Rattle.std.proofs.lemmas.List.{take_all}
+use Rattle.scheduler.proofs.Ready.{IsFirstOf-more_not, IsFirstOf-more_ready}
+use Rattle.scheduler.proofs.plan.first_ready.Goals as goal
+use Rattle.scheduler.proofs.plan.first_ready.Goals.{then-is_ready, else-is_ready}
+
+pub loop-candidate-preserved : goal.loop-candidate-preserved
+loop-candidate-preserved c =
+    elim c.if-is_ready.branch [
+      | then-is_ready w ↦ rw w.first-is (IsFirstOf-more_ready c.args.tracked.now c.args.slot c.loop-candidate.candidate-index c.loop-candidate.first _ _ (omega arith) (sym c.is_ready.ensures ∙ w.if-is_ready.true) w.earlier.ensures c.loop-candidate.invariant)
+      | else-is_ready w ↦ rw w.first-is (IsFirstOf-more_not c.args.tracked.now c.args.slot c.loop-candidate.candidate-index c.loop-candidate.first _ (omega arith) (sym c.is_ready.ensures ∙ w.if-is_ready.false) c.loop-candidate.invariant)
+    ]
+
+pub returns : goal.returns
+returns c = rw (take_all c.loop-candidate.candidate-index c.args.tracked.now (omega arith)) at c.loop-candidate.invariant

@@ -1,0 +1,49 @@
+-- A message as the schedule sees it, and its broadcasts (own).
+use Rattle.std.specs.Prelude.{◌≡◌, ℕ, ◌+◌, ◌-◌, ◌*◌, ◌/◌, ◌<◌, ◌==◌, ◌⊎◌, ⊤, Bool, true, ◌||◌, nat_lt, if◌then◌else◌, Option, Some, None, List, map}
+
+-- a message: its number, the slot from which it stands, its pages, its period in slots, how many broadcasts were
+-- requested (0 where it stands until it is stopped), the slot before which it was stopped, if it was, and its category
+pub record Message : Type 0 where
+  pub number : ℕ
+  pub start : ℕ
+  pub pages : ℕ
+  pub period : ℕ
+  pub requested : ℕ
+  pub stop : Option ℕ
+  pub high : Bool
+
+-- the slot from which broadcast j may be aired
+abbrev pub release : Message → ℕ → ℕ
+release m j = m.start + j * m.period
+
+-- the slot before which broadcast j is to be whole: the release of the next one
+abbrev pub due : Message → ℕ → ℕ
+due m j = m.start + (j + 1) * m.period
+
+-- the broadcast of a message in whose time the slot lies
+abbrev pub broadcast_at : Message → ℕ → ℕ
+broadcast_at m slot = (slot - m.start) / m.period
+
+-- broadcast j was requested
+abbrev pub HasBroadcast : Message → ℕ → Type 0
+HasBroadcast m j = (m.requested ≡ 0) ⊎ (j < m.requested)
+
+-- the slot comes before the stop, or there is none
+abbrev pub IsBeforeStop : ℕ → Option ℕ → Type 0
+IsBeforeStop slot None = ⊤
+IsBeforeStop slot (Some stop) = slot < stop
+
+-- the same two as tests
+abbrev pub has_broadcast : Message → ℕ → Bool
+has_broadcast m j = (m.requested == 0) || nat_lt j m.requested
+
+abbrev pub is_before_stop : ℕ → Option ℕ → Bool
+is_before_stop slot None = true
+is_before_stop slot (Some stop) = nat_lt slot stop
+
+-- the messages, with the one of that number stopped at the slot
+abbrev pub stopped_if : Bool → ℕ → Message → Message
+stopped_if says slot m = record m { stop = if says then Some slot else m.stop }
+
+abbrev pub stopped_at : ℕ → ℕ → List Message → List Message
+stopped_at number slot messages = map (λ m. stopped_if (m.number == number) slot m) messages

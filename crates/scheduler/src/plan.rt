@@ -1,0 +1,244 @@
+//! The plan of a cell.
+
+ghost use Rattle.std.specs.Prelude.{◌≡◌, ℕ, ◌+◌, ◌<◌, ◌≤◌, ◌==◌, true, List, [], ◌∷◌, ◌++◌, length, map, All, AllPairs, Any, OnOk, OnErr};
+ghost use Rattle.std.specs.Option.{ForSome};
+ghost use Rattle.scheduler.specs.Message.{Message, stopped_at};
+ghost use Rattle.scheduler.specs.Air.{Air, airs, IsChosen};
+ghost use Rattle.scheduler.specs.Completed.{completed};
+ghost use Rattle.scheduler.specs.Follows.{Follows, next_slot, messages_of, message_of, message_from};
+ghost use Rattle.scheduler.specs.Kept.{IsFit, IsFirstOf, IsEarlier, IsChoice, after_slot, stopped_kept};
+
+use crate::tracked::Tracked;
+use std::alloc::Global;
+use std::fmt;
+use std::marker::Model;
+
+/// A message that is added to a plan, and is broadcast from its start on: broadcast j, counted from 0, is released at
+/// `start + j * period`, and due at the release of the next one.
+#[derive(Clone, Copy, Debug, PartialEq, Eq)]
+pub struct Item {
+    /// Its number in the log.
+    pub entry: u16,
+    /// The slot from which it stands.
+    pub start: u32,
+    /// How many pages it has, from 1.
+    pub pages: u8,
+    /// How many slots lie between one broadcast's release and the next one's, from 1.
+    pub period: u16,
+    /// How many broadcasts are requested. With 0 it stands until it is stopped.
+    pub broadcasts: u16,
+    /// Whether it is of the high category.
+    pub high: bool,
+}
+
+/// Want of memory: the plan is as it was.
+#[derive(Clone, Copy, Debug, PartialEq, Eq)]
+pub struct Refused;
+
+impl fmt::Display for Refused {
+    fn fmt<W: fmt::Write>(&self, f: &mut fmt::Formatter<W>) -> fmt::Result {
+        f.write_str("out of memory")
+    }
+}
+
+impl std::error::Error for Refused {}
+
+/// The schedule of a cell: it is told of the messages, and asked for each slot in order.
+///
+/// With one message of one page and a period of 2 slots, added at slot 0 as entry 0, `next(0)` is `Some((0, 1))`,
+/// `next(1)` is `None` and `done(0)` is 1.
+///
+/// `Follows plan messages air` says, in a contract, that a plan stands for these messages and their air list so far. What
+/// is not whole at its due slot is dropped, also where more is asked of the cell than it has slots for.
+#[derive(Drop)]
+pub struct Plan {
+    slot: u16,
+    tracked: Vec<Tracked>,
+}
+
+impl Model for Plan {
+    ghost use Rattle.scheduler.specs.Follows.{Kept};
+    ghost use Rattle.scheduler.specs.Kept.{IsSound};
+
+    ghost Value = { Kept };
+
+    ghost view = { λ p. record { slot = p.slot; tracked = p.tracked.items } };
+
+    ghost invariant = { λ p. IsSound (record { slot = p.slot; tracked = p.tracked.items }) };
+}
+
+impl Plan {
+    /// A plan with no message, for which slot 0 is asked next.
+    pub fn new(alloc: Global) -> Self
+        ensures follows { Follows result [] [] }
+        ensures told { messages_of result ≡ [] }
+        ensures asked { next_slot result ≡ 0 }
+    {
+        Plan {
+            slot: 0,
+            tracked: Vec::new(alloc),
+        }
+    }
+
+    /// Adds a message, that stands from the slot that is asked next. Its number is above those of the messages added
+    /// before, and it has a page or more and a period of 1 slot or more. After `Err` the plan is unchanged.
+    pub fn add(&mut self, item: Item) -> Result<(), Refused>
+        requires rising { All (λ m. m.number < item.entry) (messages_of self.old) }
+        requires at_next { item.start ≡ next_slot self.old }
+        requires some_pages { 0 < item.pages }
+        requires some_period { 0 < item.period }
+        ensures follows { OnOk result ((messages : List Message) (air : Air)
+            → Follows self.old messages air
+            → Follows self.new (messages ++ message_from item ∷ []) air) }
+        ensures told { OnOk result (messages_of self.new ≡ messages_of self.old ++ message_from item ∷ []) }
+        ensures asked { next_slot self.new ≡ next_slot self.old }
+        ensures refused { OnErr result (self.new ≡ self.old) }
+    {
+        match self.tracked.push(Tracked::new(item)) {
+            Ok(()) => Ok(()),
+            Err(_) => Err(Refused),
+        }
+    }
+
+    /// What `slot` airs: an entry and its page, counted from 1, or nothing. Each slot is asked once, from 0, in order, and
+    /// there are at most 65,535.
+    pub fn next(&mut self, slot: u16) -> Option<(u16, u8)>
+        requires at_next { slot ≡ next_slot self.old }
+        requires within { slot < 65535 }
+        ensures chosen { (messages : List Message) (air : Air)
+            → Follows self.old messages air
+            → IsChosen messages air slot result }
+        ensures follows { (messages : List Message) (air : Air)
+            → Follows self.old messages air
+            → Follows self.new messages (air ++ result ∷ []) }
+        ensures told { messages_of self.new ≡ messages_of self.old }
+        ensures asked { next_slot self.new ≡ slot + 1 }
+    {
+        let used = choice(self.tracked.as_slice(), slot);
+        pass(self.tracked.as_mut_slice(), slot, used);
+        self.slot = slot + 1;
+        used
+    }
+
+    /// Stops the message of `entry` before `slot`, which is asked next, and tells how many of its broadcasts were aired
+    /// whole. It was added, and not stopped before.
+    pub fn stop(&mut self, entry: u16, slot: u16) -> u16
+        requires standing { Any (λ m. (m.number ≡ entry) × (m.stop ≡ None)) (messages_of self.old) }
+        requires at_next { slot ≡ next_slot self.old }
+        ensures completed { (messages : List Message) (air : Air)
+            → Follows self.old messages air
+            → All (λ m. m.number ≡ entry → result ≡ completed m air slot) messages }
+        ensures follows { (messages : List Message) (air : Air)
+            → Follows self.old messages air
+            → Follows self.new (stopped_at entry slot messages) air }
+        ensures told { messages_of self.new ≡ stopped_at entry slot (messages_of self.old) }
+        ensures asked { next_slot self.new ≡ slot }
+    {
+        let completed = completed_of(self.tracked.as_slice(), entry);
+        stop_at(self.tracked.as_mut_slice(), entry, slot);
+        completed
+    }
+
+    /// How many broadcasts of the message of `entry` were aired whole in the slots that were asked. It was added.
+    pub fn done(&self, entry: u16) -> u16
+        requires { Any (λ m. m.number ≡ entry) (messages_of self.now) }
+        ensures { (messages : List Message) (air : Air)
+            → Follows self.now messages air
+            → All (λ m. m.number ≡ entry → result ≡ completed m air (length air)) messages }
+    {
+        completed_of(self.tracked.as_slice(), entry)
+    }
+}
+
+/// What a caller knows of a plan, found by looking.
+#[cfg(test)]
+impl Plan {
+    /// The slot that is asked next.
+    pub fn asked_next(&self) -> u16
+        ensures { result ≡ next_slot self.now }
+    {
+        self.slot
+    }
+
+    /// What is kept of the messages.
+    pub fn tracked(&self) -> &[Tracked]
+        ensures { map message_of result.now ≡ messages_of self.now }
+    {
+        self.tracked.as_slice()
+    }
+}
+
+/// What a slot airs by what is kept: the next page of the first message that is ready.
+fn choice(tracked: &[Tracked], slot: u16) -> Option<(u16, u8)>
+    requires { All (λ t. IsFit t slot) tracked.now }
+    ensures { IsChoice tracked.now slot result }
+{
+    let first = first_ready(tracked, slot)?;
+    Some((first.item.entry, first.aired + 1))
+}
+
+/// The first message that is ready at `slot`.
+fn first_ready(tracked: &[Tracked], slot: u16) -> Option<Tracked>
+    requires { All (λ t. IsFit t slot) tracked.now }
+    ensures { IsFirstOf tracked.now slot result }
+{
+    let mut first: Option<Tracked> = None;
+    for candidate in tracked {
+        if candidate.is_ready(slot) {
+            first = Some(earlier(first, *candidate, slot));
+        }
+    }
+    first
+}
+
+/// The one of two that is served first at `slot`.
+fn earlier(first: Option<Tracked>, candidate: Tracked, slot: u16) -> Tracked
+    requires first_fit { ForSome first (λ t. IsFit t slot) }
+    requires candidate_fit { IsFit candidate slot }
+    ensures { IsEarlier slot first candidate result }
+{
+    match first {
+        None => candidate,
+        Some(before) => {
+            if before.is_served_first(&candidate, slot) {
+                before
+            } else {
+                candidate
+            }
+        }
+    }
+}
+
+/// Goes past a slot and its use.
+fn pass(tracked: &mut [Tracked], slot: u16, used: Option<(u16, u8)>)
+    requires fit { All (λ t. IsFit t slot) tracked.old }
+    requires within { slot < 65535 }
+    requires ready { All (λ t. airs t.item.entry used ≡ true → t.aired < t.item.pages) tracked.old }
+    ensures { tracked.new ≡ map (after_slot slot used) tracked.old }
+{
+    for one in tracked.iter_mut() {
+        *one = one.after_slot(slot, used);
+    }
+}
+
+/// Stops the message of `entry` before `slot`.
+fn stop_at(tracked: &mut [Tracked], entry: u16, slot: u16)
+    ensures { tracked.new ≡ map (λ t. stopped_kept (t.item.entry == entry) slot t) tracked.old }
+{
+    for one in tracked.iter_mut() {
+        *one = one.stopped_if(entry, slot);
+    }
+}
+
+/// How many broadcasts of the message of `entry` are kept as whole.
+fn completed_of(tracked: &[Tracked], entry: u16) -> u16
+    requires { AllPairs (λ a b. a.item.entry < b.item.entry) tracked.now }
+    ensures { All (λ t. t.item.entry ≡ entry → result ≡ t.completed) tracked.now }
+{
+    for one in tracked {
+        if one.item.entry == entry {
+            return one.completed;
+        }
+    }
+    0
+}

@@ -1,0 +1,374 @@
+//! Worked air lists, and generated histories against the rule said once more, over the whole air list.
+
+ghost use Rattle.std.specs.Prelude.{◌≡◌, ◌<◌, All, Any, MatchBool, ⊤};
+ghost use Rattle.scheduler.specs.Follows.{messages_of};
+
+use crate::laws::air_laws;
+use crate::plan::{Item, Plan, Refused};
+use crate::tracked::Tracked;
+use std::alloc::Global;
+use std::process::Abort;
+use std::test::Fail;
+
+/// Whether a number is above those of the messages that were added.
+fn is_above(plan: &Plan, entry: u16) -> bool
+    ensures { MatchBool result (All (λ m. m.number < entry) (messages_of plan.now)) ⊤ }
+{
+    all_below(plan.tracked(), entry)
+}
+
+/// Whether the message of `entry` was added.
+fn is_added(plan: &Plan, entry: u16) -> bool
+    ensures { MatchBool result (Any (λ m. m.number ≡ entry) (messages_of plan.now)) ⊤ }
+{
+    any_of(plan.tracked(), entry)
+}
+
+/// Whether the message of `entry` was added, and not stopped.
+fn is_standing(plan: &Plan, entry: u16) -> bool
+    ensures { MatchBool result
+        (Any (λ m. (m.number ≡ entry) × (m.stop ≡ None)) (messages_of plan.now)) ⊤ }
+{
+    any_standing(plan.tracked(), entry)
+}
+
+fn all_below(tracked: &[Tracked], entry: u16) -> bool
+    ensures { MatchBool result (All (λ t. t.item.entry < entry) tracked.now) ⊤ }
+{
+    tracked.iter().all(|one| one.item.entry < entry)
+}
+
+fn any_of(tracked: &[Tracked], entry: u16) -> bool
+    ensures { MatchBool result (Any (λ t. t.item.entry ≡ entry) tracked.now) ⊤ }
+{
+    tracked.iter().any(|one| one.item.entry == entry)
+}
+
+fn any_standing(tracked: &[Tracked], entry: u16) -> bool
+    ensures { MatchBool result (Any (λ t. (t.item.entry ≡ entry) × (t.stop ≡ None)) tracked.now) ⊤ }
+{
+    tracked
+        .iter()
+        .any(|one| one.item.entry == entry && one.stop.is_none())
+}
+
+/// Adds a message at the slot that is asked next. `None` is a message that may not be added there.
+fn add(
+    plan: &mut Plan,
+    entry: u16,
+    pages: u8,
+    period: u16,
+    broadcasts: u16,
+    high: bool,
+) -> Option<Item> {
+    let item = Item {
+        entry,
+        start: u32::from(plan.asked_next()),
+        pages,
+        period,
+        broadcasts,
+        high,
+    };
+    if pages == 0 || period == 0 || !is_above(plan, entry) {
+        return None;
+    }
+    match plan.add(item) {
+        Ok(()) => Some(item),
+        Err(_) => None,
+    }
+}
+
+/// What the slot that is asked next airs.
+fn air(plan: &mut Plan) -> Option<(u16, u8)> {
+    let slot = plan.asked_next();
+    if slot == u16::MAX {
+        return None;
+    }
+    plan.next(slot)
+}
+
+/// Stops a message at the slot that is asked next. `None` is a message that does not stand.
+fn stop(plan: &mut Plan, entry: u16) -> Option<u16> {
+    if !is_standing(plan, entry) {
+        return None;
+    }
+    let slot = plan.asked_next();
+    Some(plan.stop(entry, slot))
+}
+
+/// The completed number of a message that was added.
+fn done(plan: &Plan, entry: u16) -> Option<u16> {
+    if !is_added(plan, entry) {
+        return None;
+    }
+    Some(plan.done(entry))
+}
+
+#[test]
+fn airs_by_due_slot(rt: HostRuntime) {
+    let mut plan = Plan::new(rt.alloc());
+    assert!(rt; add(&mut plan, 0, 1, 2, 0, false).is_some());
+    assert!(rt; add(&mut plan, 1, 2, 4, 0, false).is_some());
+    for used in [Some((0, 1)), Some((1, 1)), Some((0, 1)), Some((1, 2))] {
+        assert_eq!(rt; done(&plan, 1), Some(0));
+        assert_eq!(rt; air(&mut plan), used);
+    }
+    assert_eq!(rt; done(&plan, 0), Some(2));
+    assert_eq!(rt; done(&plan, 1), Some(1));
+}
+
+#[test]
+fn airs_high_first(rt: HostRuntime) {
+    let mut plan = Plan::new(rt.alloc());
+    assert!(rt; add(&mut plan, 0, 1, 2, 0, false).is_some());
+    assert!(rt; add(&mut plan, 1, 1, 2, 0, true).is_some());
+    assert_eq!(rt; air(&mut plan), Some((1, 1)));
+    assert_eq!(rt; air(&mut plan), Some((0, 1)));
+}
+
+#[test]
+fn fills_every_slot(rt: HostRuntime) {
+    let mut plan = Plan::new(rt.alloc());
+    assert!(rt; add(&mut plan, 0, 1, 6, 0, false).is_some());
+    assert!(rt; add(&mut plan, 1, 1, 3, 0, false).is_some());
+    assert!(rt; add(&mut plan, 2, 1, 2, 0, false).is_some());
+    for entry in [2, 1, 2, 0, 1, 2] {
+        assert_eq!(rt; air(&mut plan), Some((entry, 1)));
+    }
+    for (entry, completed) in [(0, 1), (1, 2), (2, 3)] {
+        assert_eq!(rt; done(&plan, entry), Some(completed));
+    }
+}
+
+#[test]
+fn runs_out(rt: HostRuntime) {
+    let mut plan = Plan::new(rt.alloc());
+    assert!(rt; add(&mut plan, 0, 1, 3, 2, false).is_some());
+    for slot in 0..9 {
+        let used = if slot == 0 || slot == 3 {
+            Some((0, 1))
+        } else {
+            None
+        };
+        assert_eq!(rt; air(&mut plan), used, "slot {slot}");
+    }
+    assert_eq!(rt; done(&plan, 0), Some(2));
+}
+
+/// A broadcast that is not whole at its due slot is dropped, and the next one begins with page 1. A stop is a stop.
+#[test]
+fn drops_what_is_due(rt: HostRuntime) {
+    let mut plan = Plan::new(rt.alloc());
+    assert!(rt; add(&mut plan, 4, 3, 2, 0, false).is_some());
+    for page in [1, 2, 1, 2, 1] {
+        assert_eq!(rt; air(&mut plan), Some((4, page)));
+    }
+    assert_eq!(rt; stop(&mut plan, 4), Some(0));
+    assert_eq!(rt; stop(&mut plan, 4), None);
+    assert!(rt; add(&mut plan, 4, 1, 1, 0, false).is_none());
+    assert!(rt; add(&mut plan, 5, 1, 1, 0, true).is_some());
+    assert_eq!(rt; air(&mut plan), Some((5, 1)));
+    assert_eq!(rt; stop(&mut plan, 5), Some(1));
+    assert_eq!(rt; air(&mut plan), None);
+    assert_eq!(rt; done(&plan, 5), Some(1));
+}
+
+#[test]
+fn tells_the_fault(rt: HostRuntime) -> Result<(), Fail> {
+    air_laws();
+    assert_eq!(rt;
+        format!(in rt.alloc(); "{Refused}")?.as_str(),
+        "out of memory"
+    );
+    Ok(())
+}
+
+/// A message as a history knows it.
+#[derive(Clone, Copy)]
+struct Told {
+    item: Item,
+    stop: Option<u16>,
+}
+
+/// How many of the slots from `from` up to, and without, `to` air the entry.
+fn pages_aired(air: &[Option<(u16, u8)>], entry: u16, from: u32, to: u32) -> u32 {
+    let mut count: u32 = 0;
+    let mut slot: u32 = 0;
+    for used in air {
+        let is_used = match used {
+            None => false,
+            Some((number, _)) => *number == entry,
+        };
+        if is_used && from <= slot && slot < to {
+            count = count.saturating_add(1);
+        }
+        slot = slot.saturating_add(1);
+    }
+    count
+}
+
+/// The release of a broadcast, if it was requested.
+fn release(told: &Told, broadcast: u16) -> Option<u32> {
+    if told.item.broadcasts != 0 && broadcast >= told.item.broadcasts {
+        return None;
+    }
+    let period = u32::from(told.item.period);
+    Some(
+        told.item
+            .start
+            .saturating_add(period.saturating_mul(u32::from(broadcast))),
+    )
+}
+
+/// Whether a slot comes before the stop.
+fn is_before_stop(told: &Told, slot: u32) -> bool {
+    match told.stop {
+        None => true,
+        Some(stop) => slot < u32::from(stop),
+    }
+}
+
+/// What a slot airs by the rule: each broadcast of each message is looked at.
+fn chosen(told: &[Told], air: &[Option<(u16, u8)>], slot: u16) -> Option<(u16, u32)> {
+    let now = u32::from(slot);
+    let mut first: Option<(u32, bool, u16, u32)> = None;
+    for one in told {
+        for broadcast in 0..slot.saturating_add(1) {
+            if let Some(released) = release(one, broadcast) {
+                let due = released.saturating_add(u32::from(one.item.period));
+                let pages = pages_aired(air, one.item.entry, released, now);
+                let is_unfinished = pages < u32::from(one.item.pages);
+                if released <= now && now < due && is_before_stop(one, now) && is_unfinished {
+                    let rank = (due, !one.item.high, one.item.entry, pages);
+                    first = Some(lesser(first, rank));
+                }
+            }
+        }
+    }
+    match first {
+        None => None,
+        Some((_, _, entry, pages)) => Some((entry, pages.saturating_add(1))),
+    }
+}
+
+/// The lesser of two ranks: by due slot, high before normal, entry.
+fn lesser(
+    first: Option<(u32, bool, u16, u32)>,
+    rank: (u32, bool, u16, u32),
+) -> (u32, bool, u16, u32) {
+    let Some(before) = first else {
+        return rank;
+    };
+    let is_before = if before.0 != rank.0 {
+        before.0 < rank.0
+    } else if before.1 != rank.1 {
+        rank.1
+    } else {
+        before.2 < rank.2
+    };
+    if is_before { before } else { rank }
+}
+
+/// How many broadcasts of a message are whole before a slot.
+fn completed(told: &Told, air: &[Option<(u16, u8)>], slot: u16) -> u32 {
+    let mut count: u32 = 0;
+    for broadcast in 0..slot.saturating_add(1) {
+        if let Some(released) = release(told, broadcast) {
+            let due = released.saturating_add(u32::from(told.item.period));
+            let pages = pages_aired(air, told.item.entry, released, due.min(u32::from(slot)));
+            if is_before_stop(told, released) && pages >= u32::from(told.item.pages) {
+                count = count.saturating_add(1);
+            }
+        }
+    }
+    count
+}
+
+/// A small generator of numbers below `bound`.
+#[derive(Drop)]
+struct Numbers {
+    state: u64,
+}
+
+impl Numbers {
+    fn below(&mut self, bound: u16) -> u16 {
+        self.state = self
+            .state
+            .wrapping_mul(6_364_136_223_846_793_005)
+            .wrapping_add(1_442_695_040_888_963_407);
+        let high = (self.state >> 40) % 65_536;
+        match u16::try_from(high) {
+            Ok(number) => number.checked_rem(bound).unwrap_or(0),
+            Err(_) => 0,
+        }
+    }
+}
+
+/// Adds a message now and then, and notes it.
+fn add_some(plan: &mut Plan, numbers: &mut Numbers, told: &mut Vec<Told>) -> Result<(), Fail> {
+    if numbers.below(5) == 0 && told.len() < 16 {
+        let entry = (told.len() as u16).saturating_mul(3);
+        let pages = [1, 1, 1, 2, 3, 5];
+        let pages = pages
+            .get(usize::from(numbers.below(6)))
+            .copied()
+            .unwrap_or(1);
+        let period = numbers.below(12).saturating_add(1);
+        let broadcasts = numbers.below(5);
+        let high = numbers.below(3) == 0;
+        let item = add(plan, entry, pages, period, broadcasts, high).ok_or("not added")?;
+        told.push(Told { item, stop: None })?;
+    }
+    Ok(())
+}
+
+/// Stops a message now and then, and compares its completed number.
+fn stop_some(
+    rt: &impl Abort,
+    plan: &mut Plan,
+    numbers: &mut Numbers,
+    told: &mut Vec<Told>,
+    air: &[Option<(u16, u8)>],
+) {
+    if numbers.below(8) != 0 {
+        return;
+    }
+    let slot = plan.asked_next();
+    let place = usize::from(numbers.below(16));
+    if place < told.len() && told[place].stop.is_none() {
+        let whole = completed(&told[place], air, slot);
+        let entry = told[place].item.entry;
+        assert_eq!(rt; stop(plan, entry).map(u32::from), Some(whole));
+        told[place].stop = Some(slot);
+    }
+}
+
+#[test]
+fn follows_the_rule(rt: HostRuntime) -> Result<(), Fail> {
+    for seed in 0..60 {
+        let alloc = rt.alloc();
+        let mut numbers = Numbers { state: seed };
+        let mut plan = Plan::new(alloc);
+        let mut told: Vec<Told> = Vec::new(alloc);
+        let mut aired: Vec<Option<(u16, u8)>> = Vec::new(alloc);
+        for slot in 0..100 {
+            add_some(&mut plan, &mut numbers, &mut told)?;
+            stop_some(&rt, &mut plan, &mut numbers, &mut told, &aired);
+            let used = air(&mut plan);
+            assert_eq!(rt;
+                used.map(|u| (u.0, u32::from(u.1))),
+                chosen(&told, &aired, slot),
+                "seed {seed}, slot {slot}"
+            );
+            aired.push(used)?;
+        }
+        for one in &told {
+            assert_eq!(rt;
+                done(&plan, one.item.entry).map(u32::from),
+                Some(completed(one, &aired, 100)),
+                "seed {seed}"
+            );
+        }
+    }
+    Ok(())
+}

@@ -1,0 +1,125 @@
+//! What a plan keeps of one message.
+
+ghost use Rattle.std.specs.Prelude.{◌≡◌, ◌==◌, ℕ, ◌+◌, ◌<◌, ◌≤◌, true, MatchBool};
+ghost use Rattle.scheduler.specs.Message.{broadcast_at};
+ghost use Rattle.scheduler.specs.Follows.{message_of};
+ghost use Rattle.scheduler.specs.Kept.{IsFit, is_ready, IsServedFirst, after_slot, stopped_kept};
+ghost use Rattle.scheduler.specs.Air.{airs};
+ghost use Rattle.scheduler.specs.Message.{release, due, has_broadcast, is_before_stop};
+
+use crate::plan::Item;
+
+/// A message, with what was aired of it.
+#[derive(Clone, Copy)]
+pub struct Tracked {
+    /// The message as it was added.
+    pub item: Item,
+    /// The slot before which it was stopped.
+    pub stop: Option<u16>,
+    /// How many pages of the broadcast that is under way were aired.
+    pub aired: u8,
+    /// How many broadcasts were aired whole.
+    pub completed: u16,
+}
+
+impl Tracked {
+    /// What is kept of a message that was just added.
+    pub fn new(item: Item) -> Self
+        ensures { result ≡ record { item = item; stop = None; aired = 0; completed = 0 } }
+    {
+        Tracked {
+            item,
+            stop: None,
+            aired: 0,
+            completed: 0,
+        }
+    }
+
+    /// The slot at which the broadcast that is under way at `slot` is due.
+    fn due(&self, slot: u16) -> u32
+        requires { IsFit self.now slot }
+        ensures { result ≡ due (message_of self.now) (broadcast_at (message_of self.now) slot) }
+    {
+        let Item { start, period, .. } = self.item;
+        start + (self.broadcast(slot) + 1) * u32::from(period)
+    }
+
+    /// The broadcast that is under way at `slot`.
+    fn broadcast(&self, slot: u16) -> u32
+        requires { IsFit self.now slot }
+        ensures value { result ≡ broadcast_at (message_of self.now) slot }
+        ensures released { release (message_of self.now) result ≤ slot }
+    {
+        (u32::from(slot) - self.item.start) / u32::from(self.item.period)
+    }
+
+    /// Whether the message has a page to air at `slot`.
+    pub fn is_ready(&self, slot: u16) -> bool
+        requires { IsFit self.now slot }
+        ensures { result ≡ is_ready self.now slot }
+    {
+        let is_requested = self.item.broadcasts == 0
+            || self.broadcast(slot) < u32::from(self.item.broadcasts);
+        let is_standing = match self.stop {
+            None => true,
+            Some(stop) => slot < stop,
+        };
+        is_requested && is_standing && self.aired < self.item.pages
+    }
+
+    /// Whether the message is served no later than another at `slot`.
+    pub fn is_served_first(&self, other: &Tracked, slot: u16) -> bool
+        requires this_fit { IsFit self.now slot }
+        requires other_fit { IsFit other.now slot }
+        ensures { MatchBool result (IsServedFirst slot self.now other.now)
+            (IsServedFirst slot other.now self.now) }
+    {
+        let (due, due_of_other) = (self.due(slot), other.due(slot));
+        if due != due_of_other {
+            return due < due_of_other;
+        }
+        if self.item.high != other.item.high {
+            return self.item.high;
+        }
+        self.item.entry <= other.item.entry
+    }
+
+    /// What is kept of the message after `slot`, which was used for `used`.
+    pub fn after_slot(self, slot: u16, used: Option<(u16, u8)>) -> Tracked
+        requires fit { IsFit self slot }
+        requires within { slot < 65535 }
+        requires ready { airs self.item.entry used ≡ true → self.aired < self.item.pages }
+        ensures { result ≡ after_slot slot used self }
+    {
+        let is_used = match used {
+            None => false,
+            Some((entry, _)) => entry == self.item.entry,
+        };
+        let pages = self.aired + u8::from(is_used);
+        let is_whole = is_used && pages == self.item.pages;
+        let passed = u32::from(slot) + 1 - self.item.start;
+        Tracked {
+            aired: if passed % u32::from(self.item.period) == 0 {
+                0
+            } else {
+                pages
+            },
+            completed: self.completed + u16::from(is_whole),
+            ..self
+        }
+    }
+
+    /// The message, stopped before `slot` where it is of `entry`.
+    pub fn stopped_if(self, entry: u16, slot: u16) -> Tracked
+        ensures { result ≡ stopped_kept (self.item.entry == entry) slot self }
+    {
+        if self.item.entry == entry {
+            Tracked {
+                stop: Some(slot),
+                ..self
+            }
+        } else {
+            self
+        }
+    }
+}

@@ -1,0 +1,4 @@
+pub mod PageLaws
+pub mod BlockLaws
+pub mod ComesBack
+pub mod MessageLaws
