@@ -1,5 +1,5 @@
 -- A message as its head and its elements.
-use Rattle.std.proofs.Common.{◌≡◌, ℕ, ◌+◌, ◌-◌, ◌*◌, ◌/◌, ◌%◌, ◌<◌, ◌≤◌, Bool, true, List, [], ◌∷◌, ◌++◌, length, set, refl, sym, ap, subst, ◌∙◌, arith, append_assoc, length-append, Fits, w8}
+use Rattle.std.proofs.Common.{◌≡◌, ℕ, ◌+◌, ◌-◌, ◌/◌, ◌%◌, ◌≤◌, true, List, [], ◌∷◌, ◌++◌, length, set, sym, ap, subst, ◌∙◌, arith, append_assoc, length-append, Fits, w8}
 use Rattle.std.specs.List.{flat_map}
 use Rattle.cbsp_wire.specs.declared.message.Message.{Message}
 use Rattle.cbsp_wire.specs.Element.{octets_of_elements}
@@ -30,10 +30,10 @@ head_written m f old e k n len is_f is_k is_n is_e is_len =
     let is_body : body ≡ octets_of_elements (elements_of m) = ap elements_octets is_f ∙ sym (octets-among (fields_of m) numbers) in
     let joined : e ≡ old ++ (k ∷ 0 ∷ 0 ∷ 0 ∷ body) = is_e ∙ append_assoc old (k ∷ 0 ∷ 0 ∷ 0 ∷ []) body in
     ap (λ (x : List ℕ). set (set (set x (n + 1) (len / 65536)) (n + 2) (len / 256 % 256)) (n + 3) (len % 256)) joined
-      ∙ patched old body k (len / 65536) (len / 256 % 256) (len % 256) n is_n
-      ∙ ap (λ (l : ℕ). old ++ (k ∷ l / 65536 ∷ l / 256 % 256 ∷ l % 256 ∷ body)) is_len
-      ∙ ap (λ (j : ℕ). old ++ framed j body) is_k
-      ∙ ap (λ (r : List ℕ). old ++ framed (octet_of_kind (kind_of m)) r) is_body
+    ∙ patched old body k (len / 65536) (len / 256 % 256) (len % 256) n is_n
+    ∙ ap (λ (l : ℕ). old ++ (k ∷ l / 65536 ∷ l / 256 % 256 ∷ l % 256 ∷ body)) is_len
+    ∙ ap (λ (j : ℕ). old ++ framed j body) is_k
+    ∙ ap (λ (r : List ℕ). old ++ framed (octet_of_kind (kind_of m)) r) is_body
 
 -- the length of what stands behind the head
 pub elements_len : (old put e body : List ℕ) (k n l : ℕ) → n ≡ length old → l ≡ length e → put ≡ old ++ k ∷ 0 ∷ 0 ∷ 0 ∷ [] → e ≡ put ++ body → l - n - 4 ≡ length body

@@ -1,9 +1,7 @@
 -- Items at the front of a list.
-use Rattle.std.proofs.Common.{◌≡◌, ℕ, suc, ◌+◌, ◌-◌, ◌*◌, ◌≤◌, Bool, true, false, List, [], ◌∷◌, length, take, drop, get_or, map, refl, sym, ap, ◌∙◌, arith}
+use Rattle.std.proofs.Common.{◌≡◌, ℕ, ◌-◌, ◌≤◌, List, [], ◌∷◌, length, take, drop, get_or, refl, sym, ap, arith}
 use Rattle.std.proofs.lemmas.List.{take_all}
-use Rattle.cbsp_wire.specs.declared.items.Layout.{Layout}
 use Rattle.cbsp_wire.specs.declared.items.Layout.TheVariants as layouts
-use Rattle.cbsp_wire.specs.declared.message.Cell.{Cell}
 use Rattle.cbsp_wire.specs.Value.{cell_at, count_at, failure_at, cells_in, counts_in, failures_in, first_items}
 use Rattle.cbsp_wire.specs.Range.{cells_by, cells_of_counts, cells_of_failures}
 

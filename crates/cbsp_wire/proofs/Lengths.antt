@@ -1,5 +1,5 @@
 -- How long the octets of a message are: at most 1,547.
-use Rattle.std.proofs.Common.{◌≡◌, ℕ, zero, suc, ◌+◌, ◌*◌, ◌<◌, ◌≤◌, Bool, true, false, cond, List, [], ◌∷◌, ◌++◌, length, map, Option, Some, None, refl, sym, ap, subst, ◌∙◌, arith, length-append}
+use Rattle.std.proofs.Common.{◌≡◌, ℕ, suc, ◌+◌, ◌*◌, ◌≤◌, true, List, [], ◌∷◌, ◌++◌, length, map, Option, Some, None, refl, ap, arith, length-append}
 use Rattle.std.specs.Prelude.{IfSome, nat_le, ◌&&◌, ◌==◌}
 use Rattle.std.specs.List.{flat_map, list_all}
 use Rattle.std.proofs.lemmas.Bool.{eqb-true, leb-true}
@@ -10,14 +10,13 @@ use Rattle.cbsp_wire.specs.declared.message.Count.{Count}
 use Rattle.cbsp_wire.specs.declared.message.Failure.{Failure}
 use Rattle.cbsp_wire.specs.declared.message.Message.{Message}
 use Rattle.cbsp_wire.specs.declared.message.Message.TheVariants as messages
-use Rattle.cbsp_wire.specs.Element.{Element, octets_of_elements}
 use Rattle.cbsp_wire.specs.Value.{Fields, fields_of}
-use Rattle.cbsp_wire.specs.Range.{numbers, are_cells, are_distinct, cells_of_counts, cells_of_failures, is_page_count, are_contents, passes, is_full}
-use Rattle.cbsp_wire.specs.Written.{bodies_in, number_octets, cell_octets, count_octets, failure_octets, number_bodies, octet_bodies, list_bodies, content_body, element, slot, slot_octets, AreShort}
+use Rattle.cbsp_wire.specs.Range.{numbers, are_cells, are_distinct, cells_of_counts, cells_of_failures, is_page_count, are_contents, is_full}
+use Rattle.cbsp_wire.specs.Written.{bodies_in, cell_octets, count_octets, failure_octets, number_bodies, octet_bodies, list_bodies, content_body, slot, slot_octets, AreShort}
 use Rattle.cbsp_wire.proofs.Tests.{and_parts, list_all-parts}
 use Rattle.cbsp_wire.proofs.WrittenItems.{length-items, cell_len, count_len, failure_len}
 use Rattle.cbsp_wire.proofs.WrittenLaws.{IsWritten}
-use Rattle.cbsp_wire.proofs.MeantLaws.{HaveRanges, ranges_from}
+use Rattle.cbsp_wire.proofs.MeantLaws.{ranges_from}
 
 -- bounds of the parts bound the whole
 abbrev total : List ℕ → ℕ
@@ -103,12 +102,36 @@ short_reply : (f : Fields) → AreShort f → HasNoOrder f → length (flat_map 
 unfolding bodies_in
 short_reply f s none =
     let bounds : AreBounded (slot_octets f) numbers (3 ∷ 3 ∷ 3 ∷ 324 ∷ 452 ∷ 260 ∷ 2 ∷ 0 ∷ 0 ∷ 0 ∷ 0 ∷ 0 ∷ 0 ∷ []) = (
-      number_len 0x0E f.id, (number_len 0x03 f.new_serial, (number_len 0x02 f.old_serial,
-      (omega (arith, list_len failure_octets 5 failure_len 0x09 f.failures, s.failures),
-      (omega (arith, list_len count_octets 7 count_len 0x08 f.completed, s.completed),
-      (omega (arith, list_len cell_octets 4 cell_len 0x04 f.cells, s.cells), (octet_len 0x12 f.channel,
-      (octet_none 0x05 f.category none.0, (number_none 0x06 f.period none.1.0, (number_none 0x07 f.broadcasts none.1.1.0,
-      (octet_none 0x13 f.pages none.1.1.1.0, (octet_none 0x0C f.dcs none.1.1.1.1.0, (contents_none 0x01 f.contents none.1.1.1.1.1, tt))))))))))))) in
+      number_len 0x0E f.id,
+      (
+        number_len 0x03 f.new_serial,
+        (
+          number_len 0x02 f.old_serial,
+          (
+            omega (arith, list_len failure_octets 5 failure_len 0x09 f.failures, s.failures),
+            (
+              omega (arith, list_len count_octets 7 count_len 0x08 f.completed, s.completed),
+              (
+                omega (arith, list_len cell_octets 4 cell_len 0x04 f.cells, s.cells),
+                (
+                  octet_len 0x12 f.channel,
+                  (
+                    octet_none 0x05 f.category none.0,
+                    (
+                      number_none 0x06 f.period none.1.0,
+                      (
+                        number_none 0x07 f.broadcasts none.1.1.0,
+                        (octet_none 0x13 f.pages none.1.1.1.0, (octet_none 0x0C f.dcs none.1.1.1.1.0, (contents_none 0x01 f.contents none.1.1.1.1.1, tt))),
+                      ),
+                    ),
+                  ),
+                ),
+              ),
+            ),
+          ),
+        ),
+      ),
+    ) in
     omega (arith, length-bounded (slot_octets f) numbers (3 ∷ 3 ∷ 3 ∷ 324 ∷ 452 ∷ 260 ∷ 2 ∷ 0 ∷ 0 ∷ 0 ∷ 0 ∷ 0 ∷ 0 ∷ []) bounds)
 
 -- no more than 1,543 octets of elements
@@ -119,10 +142,42 @@ length-written (messages.Write a b c d e f g h i j) w =
     let fs = fields_of (messages.Write a b c d e f g h i j) in
     let pages : length j ≤ 15 = s.pages in
     let bounds : AreBounded (slot_octets fs) numbers (3 ∷ 3 ∷ 3 ∷ 0 ∷ 0 ∷ 260 ∷ 2 ∷ 2 ∷ 3 ∷ 3 ∷ 2 ∷ 2 ∷ 1260 ∷ []) = (
-      number_len 0x0E fs.id, (number_len 0x03 fs.new_serial, (number_len 0x02 fs.old_serial, (omega arith, (omega arith,
-      (omega (arith, list_len cell_octets 4 cell_len 0x04 fs.cells, s.cells), (octet_len 0x12 fs.channel, (octet_len 0x05 fs.category,
-      (number_len 0x06 fs.period, (number_len 0x07 fs.broadcasts, (octet_len 0x13 fs.pages, (octet_len 0x0C fs.dcs,
-      (omega (arith, contents_len 0x01 j w.full, pages), tt))))))))))))) in
+      number_len 0x0E fs.id,
+      (
+        number_len 0x03 fs.new_serial,
+        (
+          number_len 0x02 fs.old_serial,
+          (
+            omega arith,
+            (
+              omega arith,
+              (
+                omega (arith, list_len cell_octets 4 cell_len 0x04 fs.cells, s.cells),
+                (
+                  octet_len 0x12 fs.channel,
+                  (
+                    octet_len 0x05 fs.category,
+                    (
+                      number_len 0x06 fs.period,
+                      (
+                        number_len 0x07 fs.broadcasts,
+                        (
+                          octet_len 0x13 fs.pages,
+                          (
+                            octet_len 0x0C fs.dcs,
+                            (omega (arith, contents_len 0x01 j w.full, pages), tt),
+                          ),
+                        ),
+                      ),
+                    ),
+                  ),
+                ),
+              ),
+            ),
+          ),
+        ),
+      ),
+    ) in
     length-bounded (slot_octets fs) numbers (3 ∷ 3 ∷ 3 ∷ 0 ∷ 0 ∷ 260 ∷ 2 ∷ 2 ∷ 3 ∷ 3 ∷ 2 ∷ 2 ∷ 1260 ∷ []) bounds
 length-written (messages.WriteDone a b c d e f) w = short_reply (fields_of (messages.WriteDone a b c d e f)) (AreShort-written (messages.WriteDone a b c d e f) w) (refl, (refl, (refl, (refl, (refl, refl)))))
 length-written (messages.WriteFailed a b c d e f g) w = short_reply (fields_of (messages.WriteFailed a b c d e f g)) (AreShort-written (messages.WriteFailed a b c d e f g) w) (refl, (refl, (refl, (refl, (refl, refl)))))

@@ -1,5 +1,5 @@
 -- Octets without a fault have exactly one value.
-use Rattle.std.proofs.Common.{◌≡◌, ℕ, ◌+◌, ◌*◌, ◌<◌, ◌≤◌, Bool, true, false, cond, ltb, eqb, List, [], ◌∷◌, ◌++◌, length, Option, Some, None, refl, sym, ap, subst, ◌∙◌, arith}
+use Rattle.std.proofs.Common.{◌≡◌, ℕ, Bool, true, false, cond, ltb, eqb, List, [], ◌∷◌, length, Option, Some, None, refl, sym, ap, subst, ◌∙◌, arith}
 use Rattle.std.specs.Prelude.{not}
 use Rattle.std.specs.List.{AllByRecursion}
 use Rattle.std.proofs.lemmas.Bool.{ltb-false, le-ltb, eqb-true}
@@ -10,13 +10,12 @@ use Rattle.cbsp_wire.specs.declared.elements.Stop.TheVariants.{End, Strange, Cut
 use Rattle.cbsp_wire.specs.declared.fault.WireFault.{WireFault}
 use Rattle.cbsp_wire.specs.declared.fault.WireFault.TheVariants.{Truncated, TrailingBytes, Cause, Refused}
 use Rattle.cbsp_wire.specs.declared.message.Message.{Message}
-use Rattle.cbsp_wire.specs.declared.message.Message.TheVariants as messages
-use Rattle.cbsp_wire.specs.Element.{Element, octets_of_elements}
+use Rattle.cbsp_wire.specs.Element.{Element}
 use Rattle.cbsp_wire.specs.Table.{octet_of_kind, kind_of_octet}
 use Rattle.cbsp_wire.specs.Walk.{Walk, walk_of}
 use Rattle.cbsp_wire.specs.Value.{message_of, kind_of}
 use Rattle.cbsp_wire.specs.Range.{has_mandatory, are_in_range}
-use Rattle.cbsp_wire.specs.Refusals.{fault_of_whole, fault_of_strange, fault_of_walk, fault_of_kind, told, first_fault, fault_told, HasParts}
+use Rattle.cbsp_wire.specs.Refusals.{fault_of_walk, fault_of_kind, told, first_fault, fault_told, HasParts}
 use Rattle.cbsp_wire.specs.Meaning.{IsOf, AreElementsOf, IsMessage}
 use Rattle.cbsp_wire.proofs.WalkLaws.{walk_of-elements, walk_of-whole}
 
@@ -106,7 +105,7 @@ first_fault-none (o ∷ a ∷ b ∷ c ∷ rest) kind elements h parts =
     let whole = walk_of-whole kind rest clean.ends in
     let octet : o ≡ octet_of_kind (kind_of (message_of kind (walk_of kind rest).elements)) = octet_of_kind-from o kind parts.0 ∙ ap octet_of_kind (sym (kind_of-message_of kind (walk_of kind rest).elements)) in
     let meant : IsMessage (o ∷ a ∷ b ∷ c ∷ rest) (message_of kind (walk_of kind rest).elements) =
-      (octet, frame.0, ((walk_of kind rest).elements, whole.parts, are_elements kind (walk_of kind rest).elements whole.of_kind clean.mandatory clean.in_range)) in
+    (octet, frame.0, ((walk_of kind rest).elements, whole.parts, are_elements kind (walk_of kind rest).elements whole.of_kind clean.mandatory clean.in_range)) in
     subst (λ (e : List ℕ). IsMessage (o ∷ a ∷ b ∷ c ∷ rest) (message_of kind (walk_of kind e).elements)) (sym parts.1) meant
 
 -- octets that mean m have no fault, and m is what their elements say
@@ -129,14 +128,14 @@ IsMessage-read (o ∷ a ∷ b ∷ c ∷ rest) m h =
     let is_kind : kind_of_octet o ≡ Some kind = ap kind_of_octet h.0 ∙ kind_of_octet-octet_of_kind kind in
     let walked : walk_of kind rest ≡ (let w : Walk = record { elements = es; stop = End } in w) = ap (walk_of kind) h.2.1 ∙ walk_of-elements kind es h.2.2.of_kind in
     let clean : fault_of_kind (Some kind) rest ≡ None =
-      ap (λ (w : Walk). fault_of_walk kind w.elements w.stop) walked ∙ meant_whole kind es (has_mandatory kind es) (are_in_range es) h.2.2.mandatory h.2.2.in_range in
+    ap (λ (w : Walk). fault_of_walk kind w.elements w.stop) walked ∙ meant_whole kind es (has_mandatory kind es) (are_in_range es) h.2.2.mandatory h.2.2.in_range in
     let long : ltb (length rest) (told a b c) ≡ false = le-ltb _ _ (omega (arith, h.1)) in
     let short : ltb (told a b c) (length rest) ≡ false = le-ltb _ _ (omega (arith, h.1)) in
     record {
       faultless = rw (long, short, is_kind) clean;
       value = λ k elements parts.
-        let same : kind ≡ k = let both : Some kind ≡ Some k = sym is_kind ∙ parts.0 in cc in
-        h.2.2.value ∙ ap (λ (w : Walk). message_of kind w.elements) (sym walked) ∙ ap (λ (j : Kind). message_of j (walk_of j rest).elements) same ∙ ap (λ (e : List ℕ). message_of k (walk_of k e).elements) (sym parts.1);
+          let same : kind ≡ k = let both : Some kind ≡ Some k = sym is_kind ∙ parts.0 in cc in
+          h.2.2.value ∙ ap (λ (w : Walk). message_of kind w.elements) (sym walked) ∙ ap (λ (j : Kind). message_of j (walk_of j rest).elements) same ∙ ap (λ (e : List ℕ). message_of k (walk_of k e).elements) (sym parts.1);
     }
 
 -- the parts of octets that mean something

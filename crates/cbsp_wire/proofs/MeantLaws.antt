@@ -1,5 +1,5 @@
 -- A message that some octets mean is written.
-use Rattle.std.proofs.Common.{◌≡◌, ℕ, zero, suc, ◌+◌, ◌≤◌, ◌<◌, Bool, true, false, cond, eqb, eq-eqb, List, [], ◌∷◌, length, map, drop, get_or, Option, Some, None, refl, sym, ap, subst, ◌∙◌, arith}
+use Rattle.std.proofs.Common.{◌≡◌, ℕ, zero, suc, ◌<◌, Bool, true, false, cond, eqb, eq-eqb, List, [], ◌∷◌, length, map, get_or, Option, Some, refl, sym, ap, subst, ◌∙◌, arith}
 use Rattle.std.specs.Prelude.{◌&&◌, ◌%◌, not, nat_le}
 use Rattle.std.specs.List.{AllByRecursion, list_all}
 use Rattle.std.proofs.lemmas.Bool.{eqb-true}
@@ -12,11 +12,10 @@ use Rattle.cbsp_wire.specs.declared.kind.Need.{Need}
 use Rattle.cbsp_wire.specs.declared.kind.Need.TheVariants as needs
 use Rattle.cbsp_wire.specs.declared.message.Failure.{Failure}
 use Rattle.cbsp_wire.specs.declared.message.Message.{Message}
-use Rattle.cbsp_wire.specs.declared.message.Message.TheVariants as messages
 use Rattle.cbsp_wire.specs.Element.{Element, bodies_of, octet_of}
 use Rattle.cbsp_wire.specs.Table.{table, need_of, size_of}
 use Rattle.cbsp_wire.specs.Value.{Fields, fields_in, fields_of, first_number, first_octet, first_items, content_of, cells_in, failures_in, or_0, message_with, message_of, kind_of}
-use Rattle.cbsp_wire.specs.Range.{numbers, is_nothing, is_there_if, has_mandatory, has_none_twice, are_lists, first_passes, is_list, are_items, item_size, cells_by, passes, is_period, is_coding, is_page_count, are_contents, are_numbers, are_cells, cells_of_counts, cells_of_failures, are_all_cells, are_values, are_in_range, is_writable, is_full}
+use Rattle.cbsp_wire.specs.Range.{numbers, is_nothing, is_there_if, has_mandatory, has_none_twice, are_lists, first_passes, is_list, are_items, item_size, cells_by, passes, is_period, is_coding, is_page_count, are_contents, are_numbers, are_cells, cells_of_counts, cells_of_failures, are_all_cells, are_values, is_writable, is_full}
 use Rattle.cbsp_wire.specs.Meaning.{IsOf, AreElementsOf, IsMessage}
 use Rattle.cbsp_wire.proofs.Tests.{and_parts, and_both, not_true, there_from, list_all-parts}
 use Rattle.cbsp_wire.proofs.WrittenLaws.{IsWritten, is_writable-from}
@@ -59,9 +58,9 @@ values_from f h =
     let y = are_cells (cells_of_counts f.completed) in
     let z = are_cells (cells_of_failures f.failures) in
     and_both (are_contents f.pages f.contents && are_numbers f) (are_all_cells f)
-      (and_both (are_contents f.pages f.contents) (are_numbers f) h.contents
-        (and_both ((a && b) && c) d (and_both (a && b) c (and_both a b h.period h.coding) h.category) h.channel))
-      (and_both (x && y) z (and_both x y h.cells h.completed) h.failures)
+    (and_both (are_contents f.pages f.contents) (are_numbers f) h.contents
+    (and_both ((a && b) && c) d (and_both (a && b) c (and_both a b h.period h.coding) h.category) h.channel))
+    (and_both (x && y) z (and_both x y h.cells h.completed) h.failures)
 
 -- a mandatory element is there
 mandatory_at : (kind : Kind) (es : List Element) (ns : List ℕ) (k : ℕ) → k < length ns → list_all (λ n. is_there_if (need_of kind n) (bodies_of n es)) ns ≡ true
@@ -175,35 +174,75 @@ right_written kinds.Write es h = record {
 }
 right_written kinds.WriteDone es h = record {
   values = values_from (fields_of (message_with kinds.WriteDone (fields_in es))) (record {
-    contents = refl; period = refl; coding = refl; category = refl; channel = h.ranges.channel; cells = h.ranges.cells; completed = h.ranges.completed; failures = refl });
+    contents = refl;
+    period = refl;
+    coding = refl;
+    category = refl;
+    channel = h.ranges.channel;
+    cells = h.ranges.cells;
+    completed = h.ranges.completed;
+    failures = refl;
+  });
   cells = refl;
   failures = refl;
   full = refl;
 }
 right_written kinds.WriteFailed es h = record {
   values = values_from (fields_of (message_with kinds.WriteFailed (fields_in es))) (record {
-    contents = refl; period = refl; coding = refl; category = refl; channel = h.ranges.channel; cells = h.ranges.cells; completed = h.ranges.completed; failures = h.ranges.failures });
+    contents = refl;
+    period = refl;
+    coding = refl;
+    category = refl;
+    channel = h.ranges.channel;
+    cells = h.ranges.cells;
+    completed = h.ranges.completed;
+    failures = h.ranges.failures;
+  });
   cells = refl;
   failures = failures_there kinds.WriteFailed es h;
   full = refl;
 }
 right_written kinds.Kill es h = record {
   values = values_from (fields_of (message_with kinds.Kill (fields_in es))) (record {
-    contents = refl; period = refl; coding = refl; category = refl; channel = h.ranges.channel; cells = h.ranges.cells; completed = refl; failures = refl });
+    contents = refl;
+    period = refl;
+    coding = refl;
+    category = refl;
+    channel = h.ranges.channel;
+    cells = h.ranges.cells;
+    completed = refl;
+    failures = refl;
+  });
   cells = cells_there kinds.Kill es h;
   failures = refl;
   full = refl;
 }
 right_written kinds.KillDone es h = record {
   values = values_from (fields_of (message_with kinds.KillDone (fields_in es))) (record {
-    contents = refl; period = refl; coding = refl; category = refl; channel = h.ranges.channel; cells = h.ranges.cells; completed = h.ranges.completed; failures = refl });
+    contents = refl;
+    period = refl;
+    coding = refl;
+    category = refl;
+    channel = h.ranges.channel;
+    cells = h.ranges.cells;
+    completed = h.ranges.completed;
+    failures = refl;
+  });
   cells = refl;
   failures = refl;
   full = refl;
 }
 right_written kinds.KillFailed es h = record {
   values = values_from (fields_of (message_with kinds.KillFailed (fields_in es))) (record {
-    contents = refl; period = refl; coding = refl; category = refl; channel = h.ranges.channel; cells = h.ranges.cells; completed = h.ranges.completed; failures = h.ranges.failures });
+    contents = refl;
+    period = refl;
+    coding = refl;
+    category = refl;
+    channel = h.ranges.channel;
+    cells = h.ranges.cells;
+    completed = h.ranges.completed;
+    failures = h.ranges.failures;
+  });
   cells = refl;
   failures = failures_there kinds.KillFailed es h;
   full = refl;

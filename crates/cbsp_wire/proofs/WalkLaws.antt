@@ -1,5 +1,5 @@
 -- The walk takes back the elements that octets are made of, and no others.
-use Rattle.std.proofs.Common.{◌≡◌, ℕ, zero, suc, ◌+◌, ◌-◌, ◌<◌, ◌≤◌, Bool, true, false, cond, ltb, List, [], ◌∷◌, ◌++◌, length, take, drop, Result, Ok, Err, refl, sym, ap, subst, ◌∙◌, arith}
+use Rattle.std.proofs.Common.{◌≡◌, ℕ, zero, suc, ◌≤◌, Bool, true, false, cond, ltb, List, [], ◌∷◌, ◌++◌, length, take, drop, Result, Ok, Err, refl, sym, ap, subst, ◌∙◌, arith}
 use Rattle.std.specs.List.{AllByRecursion}
 use Rattle.std.proofs.lemmas.List.{length-append, take_at, drop_at, take-append-drop}
 use Rattle.std.proofs.lemmas.Bool.{ltb-false, le-ltb}
@@ -7,7 +7,7 @@ use Rattle.cbsp_wire.specs.declared.kind.Kind.{Kind}
 use Rattle.cbsp_wire.specs.declared.kind.Need.{Need}
 use Rattle.cbsp_wire.specs.declared.kind.Need.TheVariants as needs
 use Rattle.cbsp_wire.specs.declared.elements.Stop.{Stop}
-use Rattle.cbsp_wire.specs.declared.elements.Stop.TheVariants.{End, Strange, Cut}
+use Rattle.cbsp_wire.specs.declared.elements.Stop.TheVariants.{End, Cut}
 use Rattle.cbsp_wire.specs.Element.{Element, octets_of_elements}
 use Rattle.cbsp_wire.specs.Table.{need_of, size_of}
 use Rattle.cbsp_wire.specs.Walk.{body_at, element_at, front_of, Walk, walk_of}
@@ -34,7 +34,7 @@ pub walk_of-elements : (kind : Kind) (es : List Element) → AllByRecursion (IsO
 walk_of-elements kind [] all = walk_of-stopped kind [] End refl
 walk_of-elements kind (e ∷ es) all =
     walk_of-taken kind (octets_of_elements (e ∷ es)) e (octets_of_elements es) (front_again kind e (octets_of_elements es) all.0)
-      ∙ ap (λ (w : Walk). let r : Walk = record { elements = e ∷ w.elements; stop = w.stop } in r) (walk_of-elements kind es all.1)
+    ∙ ap (λ (w : Walk). let r : Walk = record { elements = e ∷ w.elements; stop = w.stop } in r) (walk_of-elements kind es all.1)
 
 -- what an element at the front is
 pub record IsFront (kind : Kind) (octets : List ℕ) (e : Element) (rest : List ℕ) : Type 0 where

@@ -1,12 +1,12 @@
 -- The walk over elements, one element at a time.
-use Rattle.std.proofs.Common.{◌≡◌, ℕ, zero, suc, ◌+◌, ◌-◌, ◌<◌, ◌≤◌, Bool, true, false, cond, ltb, eqb, eq-eqb, List, [], ◌∷◌, ◌++◌, length, take, drop, ◌*◌, Option, Some, None, Result, Ok, Err, refl, sym, ap, subst, ◌∙◌, arith}
+use Rattle.std.proofs.Common.{◌≡◌, ℕ, zero, suc, ◌+◌, ◌<◌, ◌≤◌, Bool, true, false, cond, ltb, eqb, eq-eqb, List, [], ◌∷◌, ◌++◌, length, take, drop, ◌*◌, Option, Some, None, Result, Ok, Err, refl, ap, ◌∙◌, arith}
 use Rattle.std.proofs.lemmas.List.{length-drop, length-take}
-use Rattle.std.proofs.lemmas.Bool.{ltb-false, ne_eqb}
+use Rattle.std.proofs.lemmas.Bool.{ne_eqb}
 use Rattle.cbsp_wire.specs.declared.kind.Kind.{Kind}
 use Rattle.cbsp_wire.specs.declared.kind.Need.{Need}
 use Rattle.cbsp_wire.specs.declared.kind.Need.TheVariants as needs
 use Rattle.cbsp_wire.specs.declared.elements.Stop.{Stop}
-use Rattle.cbsp_wire.specs.declared.elements.Stop.TheVariants.{End, Strange, Cut}
+use Rattle.cbsp_wire.specs.declared.elements.Stop.TheVariants.{End, Cut}
 use Rattle.cbsp_wire.specs.Element.{Element, bodies_of, number_of}
 use Rattle.cbsp_wire.specs.Table.{need_of, size_of, size_by, size_in, row_in, table, Row, Size, Fixed, Listed}
 use Rattle.cbsp_wire.specs.Walk.{body_at, element_at, front_of, Walk, then_walk, walk_within, walk_of}
@@ -54,7 +54,7 @@ walk_of-taken kind (n ∷ octets) e rest h =
     let lt = front_shorter kind (n ∷ octets) (e, rest) h in
     let same : walk_within (length octets) kind rest ≡ walk_within (length rest) kind rest = walk_within-more (length octets) (length rest) kind rest (omega arith) (omega arith) in
     ap (λ (f : Result (Element × List ℕ) Stop). then_walk f (λ r. walk_within (length octets) kind r)) h
-      ∙ ap (λ (w : Walk). let r : Walk = record { elements = e ∷ w.elements; stop = w.stop } in r) same
+    ∙ ap (λ (w : Walk). let r : Walk = record { elements = e ∷ w.elements; stop = w.stop } in r) same
 
 -- where no element is at the front, none is taken
 pub walk_of-stopped : (kind : Kind) (octets : List ℕ) (s : Stop) → front_of kind octets ≡ Err s → walk_of kind octets ≡ (let w : Walk = record { elements = []; stop = s } in w)

@@ -1,8 +1,8 @@
 -- The elements of a message are what its fields say.
-use Rattle.std.proofs.Common.{◌≡◌, ℕ, ◌+◌, ◌*◌, ◌≤◌, Bool, true, false, cond, eqb, leb, List, [], ◌∷◌, ◌++◌, length, map, Option, Some, None, refl, sym, ap, subst, ◌∙◌, arith, append_assoc}
-use Rattle.std.specs.Prelude.{◌&&◌, ◌||◌, not, nat_le}
+use Rattle.std.proofs.Common.{◌≡◌, ℕ, ◌+◌, Bool, true, false, cond, eqb, List, [], ◌∷◌, ◌++◌, length, map, Option, Some, None, refl, sym, ap, ◌∙◌, arith}
+use Rattle.std.specs.Prelude.{nat_le}
 use Rattle.std.specs.List.{AllByRecursion, list_all, flat_map}
-use Rattle.std.proofs.lemmas.List.{append-nil, length-append}
+use Rattle.std.proofs.lemmas.List.{append-nil}
 use Rattle.std.proofs.lemmas.Bool.{eqb-true}
 use Rattle.cbs_page.specs.declared.content.Content.{Content}
 use Rattle.cbsp_wire.specs.declared.kind.Kind.{Kind}
@@ -14,7 +14,7 @@ use Rattle.cbsp_wire.specs.Value.{Fields, fields_in, cells_in, counts_in, failur
 use Rattle.cbsp_wire.specs.Range.{numbers, is_nothing, is_there_if, has_mandatory, comes_once, has_none_twice, is_full}
 use Rattle.cbsp_wire.specs.Meaning.{IsOf}
 use Rattle.cbsp_wire.specs.Written.{bodies_in, number_octets, cell_octets, count_octets, failure_octets, number_bodies, octet_bodies, list_body, list_bodies, content_body, element, elements_among}
-use Rattle.cbsp_wire.proofs.Tests.{and_parts, and_both, list_all-every, list_all-parts}
+use Rattle.cbsp_wire.proofs.Tests.{and_both, list_all-every, list_all-parts}
 use Rattle.cbsp_wire.proofs.WrittenItems.{first_number-bodies, first_octet-bodies, cells_in-octets, counts_in-octets, failures_in-octets, first_items-bodies, contents-bodies}
 
 bodies_of-append : (n : ℕ) (xs ys : List Element) → bodies_of n (xs ++ ys) ≡ bodies_of n xs ++ bodies_of n ys
@@ -42,7 +42,7 @@ bodies_of-among : (f : Fields) (n : ℕ) (ks : List ℕ) → bodies_of n (elemen
 bodies_of-among f n [] = refl
 bodies_of-among f n (k ∷ ks) =
     bodies_of-append n (map (element k) (bodies_in f k)) (elements_among f ks)
-      ∙ rw (bodies_of-made n k (bodies_in f k), bodies_of-among f n ks) refl
+    ∙ rw (bodies_of-made n k (bodies_in f k), bodies_of-among f n ks) refl
 
 found : (f : Fields) (n : ℕ) → among f n numbers ≡ bodies_in f n ++ [] → bodies_of n (elements_among f numbers) ≡ bodies_in f n
 found f n h = bodies_of-among f n numbers ∙ h ∙ append-nil (bodies_in f n)
@@ -52,9 +52,28 @@ abbrev pub HasBodies : Fields → List Element → Type 0
 HasBodies f es = AllByRecursion (λ n. bodies_of n es ≡ bodies_in f n) numbers
 
 pub HasBodies-among : (f : Fields) → HasBodies f (elements_among f numbers)
-HasBodies-among f =
-    (found f 0x0E refl, (found f 0x03 refl, (found f 0x02 refl, (found f 0x09 refl, (found f 0x08 refl, (found f 0x04 refl, (found f 0x12 refl,
-    (found f 0x05 refl, (found f 0x06 refl, (found f 0x07 refl, (found f 0x13 refl, (found f 0x0C refl, (found f 0x01 refl, tt)))))))))))))
+HasBodies-among f = (
+  found f 0x0E refl,
+  (
+    found f 0x03 refl,
+    (
+      found f 0x02 refl,
+      (
+        found f 0x09 refl,
+        (
+          found f 0x08 refl,
+          (
+            found f 0x04 refl,
+            (
+              found f 0x12 refl,
+              (found f 0x05 refl, (found f 0x06 refl, (found f 0x07 refl, (found f 0x13 refl, (found f 0x0C refl, (found f 0x01 refl, tt)))))),
+            ),
+          ),
+        ),
+      ),
+    ),
+  ),
+)
 
 -- what is looked up among a message's elements are its fields
 pub fields_in-bodies : (f : Fields) (es : List Element) → HasBodies f es → fields_in es ≡ f
@@ -73,13 +92,34 @@ fields_in-bodies f es h =
     let pages = h.1.1.1.1.1.1.1.1.1.1.0 in
     let dcs = h.1.1.1.1.1.1.1.1.1.1.1.0 in
     let contents = h.1.1.1.1.1.1.1.1.1.1.1.1.0 in
-    rw (id, new_serial, old_serial, failures, completed, cells, channel, category, period, broadcasts, pages, dcs, contents,
-      first_number-bodies f.id, first_number-bodies f.new_serial, first_number-bodies f.old_serial,
+    rw (
+      id,
+      new_serial,
+      old_serial,
+      failures,
+      completed,
+      cells,
+      channel,
+      category,
+      period,
+      broadcasts,
+      pages,
+      dcs,
+      contents,
+      first_number-bodies f.id,
+      first_number-bodies f.new_serial,
+      first_number-bodies f.old_serial,
       first_items-bodies failure_octets failures_in f.failures (failures_in-octets f.failures),
       first_items-bodies count_octets counts_in f.completed (counts_in-octets f.completed),
       first_items-bodies cell_octets cells_in f.cells (cells_in-octets f.cells),
-      first_octet-bodies f.channel, first_octet-bodies f.category, first_number-bodies f.period, first_number-bodies f.broadcasts,
-      first_octet-bodies f.pages, first_octet-bodies f.dcs, contents-bodies f.contents) refl
+      first_octet-bodies f.channel,
+      first_octet-bodies f.category,
+      first_number-bodies f.period,
+      first_number-bodies f.broadcasts,
+      first_octet-bodies f.pages,
+      first_octet-bodies f.dcs,
+      contents-bodies f.contents,
+    ) refl
 
 -- each mandatory element is there where each mandatory field is
 pub has_mandatory-bodies : (kind : Kind) (f : Fields) (es : List Element) → HasBodies f es → list_all (λ n. is_there_if (need_of kind n) (bodies_in f n)) numbers ≡ true → has_mandatory kind es ≡ true
@@ -90,7 +130,7 @@ has_mandatory-bodies kind f es h there = along numbers h there where
   along (n ∷ ns) g t =
       let both = list_all-parts (λ k. is_there_if (need_of kind k) (bodies_in f k)) n ns t in
       and_both (is_there_if (need_of kind n) (bodies_of n es)) (list_all (λ k. is_there_if (need_of kind k) (bodies_of k es)) ns)
-        (ap (λ (bs : List (List ℕ)). is_there_if (need_of kind n) bs) g.0 ∙ both.0) (along ns g.1 both.1)
+      (ap (λ (bs : List (List ℕ)). is_there_if (need_of kind n) bs) g.0 ∙ both.0) (along ns g.1 both.1)
 
 -- no field is written twice
 number_once : (o : Option ℕ) → nat_le (length (number_bodies o)) 1 ≡ true
@@ -110,19 +150,45 @@ unfolding bodies_in
 has_none_twice-bodies f es h =
     let once = λ (n : ℕ) (bodies : List (List ℕ)) (e : bodies_of n es ≡ bodies) (le : nat_le (length bodies) 1 ≡ true). (let r : nat_le (length (bodies_of n es)) 1 ≡ true = ap (λ (bs : List (List ℕ)). nat_le (length bs) 1) e ∙ le in r) in
     list_all-every (λ n. comes_once n es) numbers (
-      once _ _ h.0 (number_once f.id), (
-      once _ _ h.1.0 (number_once f.new_serial), (
-      once _ _ h.1.1.0 (number_once f.old_serial), (
-      once _ _ h.1.1.1.0 (list_once failure_octets f.failures), (
-      once _ _ h.1.1.1.1.0 (list_once count_octets f.completed), (
-      once _ _ h.1.1.1.1.1.0 (list_once cell_octets f.cells), (
-      once _ _ h.1.1.1.1.1.1.0 (octet_once f.channel), (
-      once _ _ h.1.1.1.1.1.1.1.0 (octet_once f.category), (
-      once _ _ h.1.1.1.1.1.1.1.1.0 (number_once f.period), (
-      once _ _ h.1.1.1.1.1.1.1.1.1.0 (number_once f.broadcasts), (
-      once _ _ h.1.1.1.1.1.1.1.1.1.1.0 (octet_once f.pages), (
-      once _ _ h.1.1.1.1.1.1.1.1.1.1.1.0 (octet_once f.dcs), (
-      refl, tt)))))))))))))
+      once _ _ h.0 (number_once f.id),
+      (
+        once _ _ h.1.0 (number_once f.new_serial),
+        (
+          once _ _ h.1.1.0 (number_once f.old_serial),
+          (
+            once _ _ h.1.1.1.0 (list_once failure_octets f.failures),
+            (
+              once _ _ h.1.1.1.1.0 (list_once count_octets f.completed),
+              (
+                once _ _ h.1.1.1.1.1.0 (list_once cell_octets f.cells),
+                (
+                  once _ _ h.1.1.1.1.1.1.0 (octet_once f.channel),
+                  (
+                    once _ _ h.1.1.1.1.1.1.1.0 (octet_once f.category),
+                    (
+                      once _ _ h.1.1.1.1.1.1.1.1.0 (number_once f.period),
+                      (
+                        once _ _ h.1.1.1.1.1.1.1.1.1.0 (number_once f.broadcasts),
+                        (
+                          once _ _ h.1.1.1.1.1.1.1.1.1.1.0 (octet_once f.pages),
+                          (
+                            once _ _ h.1.1.1.1.1.1.1.1.1.1.1.0 (octet_once f.dcs),
+                            (
+                              refl,
+                              tt,
+                            ),
+                          ),
+                        ),
+                      ),
+                    ),
+                  ),
+                ),
+              ),
+            ),
+          ),
+        ),
+      ),
+    )
 
 -- the bodies that are written have the sizes of their elements
 abbrev AreSized : Fields → ℕ → Type 0
@@ -153,11 +219,37 @@ contents_sized (c ∷ cs) h =
 
 pub are_sized : (f : Fields) → list_all is_full f.contents ≡ true → AllByRecursion (AreSized f) numbers
 unfolding bodies_in size_of table
-are_sized f full =
-    (two_sized 0x0E (λ b. refl) f.id, (two_sized 0x03 (λ b. refl) f.new_serial, (two_sized 0x02 (λ b. refl) f.old_serial,
-    (list_sized 0x09 (λ b. refl) failure_octets f.failures, (list_sized 0x08 (λ b. refl) count_octets f.completed, (list_sized 0x04 (λ b. refl) cell_octets f.cells,
-    (one_sized 0x12 (λ b. refl) f.channel, (one_sized 0x05 (λ b. refl) f.category, (two_sized 0x06 (λ b. refl) f.period, (two_sized 0x07 (λ b. refl) f.broadcasts,
-    (one_sized 0x13 (λ b. refl) f.pages, (one_sized 0x0C (λ b. refl) f.dcs, (contents_sized f.contents full, tt)))))))))))))
+are_sized f full = (
+  two_sized 0x0E (λ b. refl) f.id,
+  (
+    two_sized 0x03 (λ b. refl) f.new_serial,
+    (
+      two_sized 0x02 (λ b. refl) f.old_serial,
+      (
+        list_sized 0x09 (λ b. refl) failure_octets f.failures,
+        (
+          list_sized 0x08 (λ b. refl) count_octets f.completed,
+          (
+            list_sized 0x04 (λ b. refl) cell_octets f.cells,
+            (
+              one_sized 0x12 (λ b. refl) f.channel,
+              (
+                one_sized 0x05 (λ b. refl) f.category,
+                (
+                  two_sized 0x06 (λ b. refl) f.period,
+                  (
+                    two_sized 0x07 (λ b. refl) f.broadcasts,
+                    (one_sized 0x13 (λ b. refl) f.pages, (one_sized 0x0C (λ b. refl) f.dcs, (contents_sized f.contents full, tt))),
+                  ),
+                ),
+              ),
+            ),
+          ),
+        ),
+      ),
+    ),
+  ),
+)
 
 -- fields that a type of message may have
 abbrev pub is_known_if : Need → List (List ℕ) → Bool

@@ -1,6 +1,6 @@
 -- What is written of a field is read as that field.
-use Rattle.std.proofs.Common.{◌≡◌, ℕ, zero, suc, ◌+◌, ◌*◌, ◌/◌, ◌%◌, ◌<◌, ◌≤◌, Bool, true, false, cond, eqb, eq-eqb, List, [], ◌∷◌, ◌++◌, length, map, drop, Option, Some, None, refl, sym, ap, subst, ◌∙◌, arith, append_assoc, length-append}
-use Rattle.std.specs.Prelude.{not, ◌&&◌}
+use Rattle.std.proofs.Common.{◌≡◌, ℕ, ◌+◌, ◌*◌, ◌/◌, ◌%◌, ◌<◌, true, false, eqb, eq-eqb, List, [], ◌∷◌, ◌++◌, length, map, Option, Some, None, refl, ap, ◌∙◌, arith, length-append}
+use Rattle.std.specs.Prelude.{not}
 use Rattle.std.specs.List.{flat_map}
 use Rattle.std.proofs.Math.Nat.{mul-mod_left}
 use Rattle.std.proofs.lemmas.List.Concat.{flat_map-cons}
@@ -10,10 +10,9 @@ use Rattle.cbsp_wire.specs.declared.items.Layout.TheVariants as layouts
 use Rattle.cbsp_wire.specs.declared.message.Cell.{Cell}
 use Rattle.cbsp_wire.specs.declared.message.Count.{Count}
 use Rattle.cbsp_wire.specs.declared.message.Failure.{Failure}
-use Rattle.cbsp_wire.specs.Element.{number_of, octet_of}
 use Rattle.cbsp_wire.specs.Value.{first_number, first_octet, first_items, cell_at, cells_in, counts_in, failures_in, content_of}
-use Rattle.cbsp_wire.specs.Range.{is_nothing, is_list, are_items, first_passes, cells_by, cells_of_counts, cells_of_failures, item_size}
-use Rattle.cbsp_wire.specs.Written.{number_octets, cell_octets, count_octets, failure_octets, number_bodies, octet_bodies, list_body, list_bodies, content_body}
+use Rattle.cbsp_wire.specs.Range.{is_nothing, is_list, first_passes, cells_by, cells_of_counts, cells_of_failures, item_size}
+use Rattle.cbsp_wire.specs.Written.{cell_octets, count_octets, failure_octets, number_bodies, octet_bodies, list_body, list_bodies, content_body}
 use Rattle.cbsp_wire.proofs.Tests.{and_both}
 
 whole : (n : ℕ) → n / 256 * 256 + n % 256 ≡ n
@@ -34,8 +33,8 @@ pub cells_in-octets : (cs : List Cell) → cells_in (flat_map cell_octets cs) �
 cells_in-octets [] = refl
 cells_in-octets (c ∷ cs) =
     ap cells_in (flat_map-cons cell_octets c cs)
-      ∙ ap (λ (d : Cell). d ∷ cells_in (flat_map cell_octets cs)) (cell_again c)
-      ∙ ap (λ (ds : List Cell). c ∷ ds) (cells_in-octets cs)
+    ∙ ap (λ (d : Cell). d ∷ cells_in (flat_map cell_octets cs)) (cell_again c)
+    ∙ ap (λ (ds : List Cell). c ∷ ds) (cells_in-octets cs)
 
 count_again : (c : Count) → (let r : Count = record { cell = cell_at (c.cell.lac / 256) (c.cell.lac % 256) (c.cell.ci / 256) (c.cell.ci % 256); number = c.number / 256 * 256 + c.number % 256; info = c.info } in r) ≡ c
 count_again c = rw (cell_again c.cell, whole c.number) refl
@@ -44,8 +43,8 @@ pub counts_in-octets : (cs : List Count) → counts_in (flat_map count_octets cs
 counts_in-octets [] = refl
 counts_in-octets (c ∷ cs) =
     ap counts_in (flat_map-cons count_octets c cs)
-      ∙ ap (λ (d : Count). d ∷ counts_in (flat_map count_octets cs)) (count_again c)
-      ∙ ap (λ (ds : List Count). c ∷ ds) (counts_in-octets cs)
+    ∙ ap (λ (d : Count). d ∷ counts_in (flat_map count_octets cs)) (count_again c)
+    ∙ ap (λ (ds : List Count). c ∷ ds) (counts_in-octets cs)
 
 failure_again : (f : Failure) → (let r : Failure = record { cell = cell_at (f.cell.lac / 256) (f.cell.lac % 256) (f.cell.ci / 256) (f.cell.ci % 256); cause = f.cause } in r) ≡ f
 failure_again f = rw (cell_again f.cell) refl
@@ -54,8 +53,8 @@ pub failures_in-octets : (fs : List Failure) → failures_in (flat_map failure_o
 failures_in-octets [] = refl
 failures_in-octets (f ∷ fs) =
     ap failures_in (flat_map-cons failure_octets f fs)
-      ∙ ap (λ (g : Failure). g ∷ failures_in (flat_map failure_octets fs)) (failure_again f)
-      ∙ ap (λ (gs : List Failure). f ∷ gs) (failures_in-octets fs)
+    ∙ ap (λ (g : Failure). g ∷ failures_in (flat_map failure_octets fs)) (failure_again f)
+    ∙ ap (λ (gs : List Failure). f ∷ gs) (failures_in-octets fs)
 
 pub first_items-bodies : {X : Type 0} (octets : X → List ℕ) (items_in : List ℕ → List X) (xs : List X) → items_in (flat_map octets xs) ≡ xs → first_items items_in (list_bodies octets xs) ≡ xs
 first_items-bodies octets items_in [] h = refl

@@ -1,25 +1,17 @@
 -- The octets that are written of a message mean it, and no octets mean a message that isn't written.
-use Rattle.std.proofs.Common.{◌≡◌, ℕ, ◌+◌, ◌*◌, ◌/◌, ◌%◌, ◌≤◌, ◌<◌, Bool, true, false, cond, eqb, leb, List, [], ◌∷◌, ◌++◌, length, map, drop, Option, Some, None, refl, sym, ap, subst, ◌∙◌, arith}
-use Rattle.std.specs.Prelude.{◌&&◌, not, nat_le}
-use Rattle.std.specs.List.{AllByRecursion, list_all}
-use Rattle.std.proofs.lemmas.Bool.{eqb-true}
-use Rattle.cbs_page.specs.declared.content.Content.{Content}
-use Rattle.cbsp_wire.specs.declared.items.Layout.{Layout}
-use Rattle.cbsp_wire.specs.declared.items.Layout.TheVariants as layouts
-use Rattle.cbsp_wire.specs.declared.kind.Kind.{Kind}
-use Rattle.cbsp_wire.specs.declared.kind.Kind.TheVariants as kinds
-use Rattle.cbsp_wire.specs.declared.kind.Need.{Need}
-use Rattle.cbsp_wire.specs.declared.kind.Need.TheVariants as needs
+use Rattle.std.proofs.Common.{◌≡◌, ℕ, ◌/◌, ◌%◌, Bool, true, false, List, [], ◌∷◌, length, refl, sym, ap, ◌∙◌, arith}
+use Rattle.std.specs.Prelude.{◌&&◌}
+use Rattle.std.specs.List.{list_all}
 use Rattle.cbsp_wire.specs.declared.message.Message.{Message}
 use Rattle.cbsp_wire.specs.declared.message.Message.TheVariants as messages
-use Rattle.cbsp_wire.specs.Element.{Element, bodies_of, octets_of_elements}
-use Rattle.cbsp_wire.specs.Table.{octet_of_kind, table, need_of, size_of}
-use Rattle.cbsp_wire.specs.Value.{Fields, fields_in, fields_of, first_items, cells_in, failures_in, message_with, message_of, kind_of}
-use Rattle.cbsp_wire.specs.Range.{numbers, is_nothing, is_there_if, has_mandatory, has_none_twice, are_lists, first_passes, is_list, are_values, are_in_range, is_writable, is_full}
+use Rattle.cbsp_wire.specs.Element.{Element, octets_of_elements}
+use Rattle.cbsp_wire.specs.Table.{table, need_of}
+use Rattle.cbsp_wire.specs.Value.{Fields, fields_in, fields_of, message_with, message_of, kind_of}
+use Rattle.cbsp_wire.specs.Range.{numbers, is_there_if, has_none_twice, are_lists, are_values, is_writable, is_full}
 use Rattle.cbsp_wire.specs.Refusals.{told}
-use Rattle.cbsp_wire.specs.Meaning.{IsOf, AreElementsOf, IsMessage}
-use Rattle.cbsp_wire.specs.Written.{bodies_in, cell_octets, count_octets, failure_octets, elements_among, elements_of, framed, octets_of_message}
-use Rattle.cbsp_wire.proofs.Tests.{and_parts, and_both, not_true, there_from, list_all-parts}
+use Rattle.cbsp_wire.specs.Meaning.{AreElementsOf, IsMessage}
+use Rattle.cbsp_wire.specs.Written.{bodies_in, elements_of, octets_of_message}
+use Rattle.cbsp_wire.proofs.Tests.{and_parts, and_both}
 use Rattle.cbsp_wire.proofs.WrittenItems.{cells-right, counts-right, failures-right}
 use Rattle.cbsp_wire.proofs.WrittenElements.{HasBodies, HasBodies-among, fields_in-bodies, has_mandatory-bodies, has_none_twice-bodies, are_sized, is_known_if, are_of_kind}
 
@@ -102,7 +94,7 @@ elements_right m w =
       of_kind = are_of_kind (kind_of m) f numbers (known_fields m) (are_sized f w.full);
       mandatory = has_mandatory-bodies (kind_of m) f es bodies (mandatory_fields m w);
       in_range = and_both (has_none_twice es && are_lists es) (are_values (fields_in es))
-        (and_both (has_none_twice es) (are_lists es) (has_none_twice-bodies f es bodies) (are_lists-bodies f es bodies)) values;
+          (and_both (has_none_twice es) (are_lists es) (has_none_twice-bodies f es bodies) (are_lists-bodies f es bodies)) values;
       value = sym (ap (message_with (kind_of m)) back ∙ message_with-fields_of m);
     }
 

@@ -1,9 +1,8 @@
 -- What octets mean: a CBSP message as a list of elements, in any order. 3GPP TS 48.049, clauses 8.1 and 8.2, in this project's
 -- own layouts.
-use Rattle.std.specs.Prelude.{◌≡◌, ℕ, ◌+◌, ◌*◌, List, [], ◌∷◌, length, Bool, true}
+use Rattle.std.specs.Prelude.{◌≡◌, ℕ, List, ◌∷◌, length, true}
 use Rattle.std.specs.List.{AllByRecursion}
 use Rattle.cbsp_wire.specs.declared.kind.Kind.{Kind}
-use Rattle.cbsp_wire.specs.declared.kind.Need.{Need}
 use Rattle.cbsp_wire.specs.declared.kind.Need.TheVariants as needs
 use Rattle.cbsp_wire.specs.declared.fault.WireFault.{WireFault}
 use Rattle.cbsp_wire.specs.declared.fault.WireFault.TheVariants.{Truncated, TrailingBytes, Cause, Refused}

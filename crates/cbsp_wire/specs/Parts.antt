@@ -1,5 +1,5 @@
 -- The fields of a message, as the writer holds them. Own.
-use Rattle.std.specs.Prelude.{ℕ, ◌+◌, ◌≤◌, Some, List, length, vec_len, vec_capacity}
+use Rattle.std.specs.Prelude.{ℕ, ◌+◌, ◌≤◌, List, length, vec_len, vec_capacity}
 use Rattle.std.specs.Global.{Vec}
 use Rattle.cbsp_wire.specs.declared.parts.Parts.{Parts}
 use Rattle.cbsp_wire.specs.Value.{Fields}

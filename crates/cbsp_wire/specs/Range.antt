@@ -1,6 +1,6 @@
 -- What the elements of a message have to be, once they are taken. 3GPP TS 48.049, clause 8.2; the limits of periods and of
 -- lists are own.
-use Rattle.std.specs.Prelude.{ℕ, ◌-◌, ◌%◌, Bool, true, false, ◌==◌, ◌&&◌, ◌||◌, not, nat_le, List, [], ◌∷◌, length, map, Option, Some, None, is_some}
+use Rattle.std.specs.Prelude.{ℕ, ◌%◌, Bool, true, false, ◌==◌, ◌&&◌, ◌||◌, not, nat_le, List, [], ◌∷◌, length, map, Option, Some, None, is_some}
 use Rattle.std.specs.List.{list_all, list_any}
 use Rattle.cbs_page.specs.Coding.{alphabet_of}
 use Rattle.cbsp_wire.specs.declared.kind.Kind.{Kind}
@@ -99,8 +99,8 @@ first_passes test (body ∷ bodies) = test body
 abbrev pub are_lists : List Element → Bool
 are_lists es =
     first_passes (is_list layouts.Cells) (bodies_of 0x04 es)
-      && first_passes (is_list layouts.Counts) (bodies_of 0x08 es)
-      && first_passes (is_list layouts.Failures) (bodies_of 0x09 es)
+    && first_passes (is_list layouts.Counts) (bodies_of 0x08 es)
+    && first_passes (is_list layouts.Failures) (bodies_of 0x09 es)
 
 -- a test of a number, if it is told
 abbrev pub passes : (ℕ → Bool) → Option ℕ → Bool

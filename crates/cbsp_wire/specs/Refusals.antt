@@ -1,5 +1,5 @@
 -- The order in which octets are refused: the first that applies. Own.
-use Rattle.std.specs.Prelude.{◌≡◌, ℕ, ◌+◌, ◌*◌, Bool, nat_lt, not, if◌then◌else◌, List, [], ◌∷◌, length, Option, Some, None}
+use Rattle.std.specs.Prelude.{◌≡◌, ℕ, ◌+◌, ◌*◌, nat_lt, not, if◌then◌else◌, List, ◌∷◌, length, Option, Some, None}
 use Rattle.cbsp_wire.specs.declared.kind.Kind.{Kind}
 use Rattle.cbsp_wire.specs.declared.elements.Stop.{Stop}
 use Rattle.cbsp_wire.specs.declared.elements.Stop.TheVariants.{End, Strange, Cut}
@@ -7,7 +7,7 @@ use Rattle.cbsp_wire.specs.declared.fault.WireFault.{WireFault}
 use Rattle.cbsp_wire.specs.declared.fault.WireFault.TheVariants.{Truncated, TrailingBytes, Cause, Refused}
 use Rattle.cbsp_wire.specs.Element.{Element}
 use Rattle.cbsp_wire.specs.Table.{kind_of_octet}
-use Rattle.cbsp_wire.specs.Walk.{Walk, walk_of}
+use Rattle.cbsp_wire.specs.Walk.{walk_of}
 use Rattle.cbsp_wire.specs.Range.{has_mandatory, are_in_range}
 
 -- 5 and 7: a mandatory element is missing; a value is out of its range

@@ -121,30 +121,73 @@ message_of kind es = message_with kind (fields_in es)
 
 abbrev pub no_fields : Fields
 no_fields = record {
-  id = None; new_serial = None; old_serial = None; failures = []; completed = []; cells = []; channel = None; category = None;
-  period = None; broadcasts = None; pages = None; dcs = None; contents = [];
+  id = None;
+  new_serial = None;
+  old_serial = None;
+  failures = [];
+  completed = [];
+  cells = [];
+  channel = None;
+  category = None;
+  period = None;
+  broadcasts = None;
+  pages = None;
+  dcs = None;
+  contents = [];
 }
 
 -- the fields of a message
 abbrev pub fields_of : Message → Fields
 fields_of (messages.Write id new old cells channel category period broadcasts dcs contents) = record no_fields {
-  id = Some id; new_serial = Some new; old_serial = old; cells = cells; channel = channel; category = category;
-  period = Some period; broadcasts = Some broadcasts; pages = Some (length contents); dcs = Some dcs.0; contents = contents;
+  id = Some id;
+  new_serial = Some new;
+  old_serial = old;
+  cells = cells;
+  channel = channel;
+  category = category;
+  period = Some period;
+  broadcasts = Some broadcasts;
+  pages = Some (length contents);
+  dcs = Some dcs.0;
+  contents = contents;
 }
 fields_of (messages.WriteDone id new old completed cells channel) = record no_fields {
-  id = Some id; new_serial = Some new; old_serial = old; completed = completed; cells = cells; channel = channel;
+  id = Some id;
+  new_serial = Some new;
+  old_serial = old;
+  completed = completed;
+  cells = cells;
+  channel = channel;
 }
 fields_of (messages.WriteFailed id new old failures completed cells channel) = record no_fields {
-  id = Some id; new_serial = Some new; old_serial = old; failures = failures; completed = completed; cells = cells; channel = channel;
+  id = Some id;
+  new_serial = Some new;
+  old_serial = old;
+  failures = failures;
+  completed = completed;
+  cells = cells;
+  channel = channel;
 }
 fields_of (messages.Kill id old cells channel) = record no_fields {
-  id = Some id; old_serial = Some old; cells = cells; channel = channel;
+  id = Some id;
+  old_serial = Some old;
+  cells = cells;
+  channel = channel;
 }
 fields_of (messages.KillDone id old completed cells channel) = record no_fields {
-  id = Some id; old_serial = Some old; completed = completed; cells = cells; channel = channel;
+  id = Some id;
+  old_serial = Some old;
+  completed = completed;
+  cells = cells;
+  channel = channel;
 }
 fields_of (messages.KillFailed id old failures completed cells channel) = record no_fields {
-  id = Some id; old_serial = Some old; failures = failures; completed = completed; cells = cells; channel = channel;
+  id = Some id;
+  old_serial = Some old;
+  failures = failures;
+  completed = completed;
+  cells = cells;
+  channel = channel;
 }
 
 -- the type of a message

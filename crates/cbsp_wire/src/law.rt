@@ -15,5 +15,4 @@ pub fn meaning_law()
     ensures some_value { (octets : List ℕ) → first_fault octets ≡ None → (m : Message) × IsMessage octets m }
     ensures written { (octets : List ℕ) (m : Message) → IsMessage octets m → IsMessage (octets_of_message m) m }
     ensures round_trip { (octets : List ℕ) (m n : Message) → IsMessage octets m → IsMessage (octets_of_message m) n → n ≡ m }
-{
-}
+{}

@@ -48,7 +48,9 @@ fn comes_once(kind: Kind, number: u8, octets: &[u8]) -> bool
 fn has_none_twice(kind: Kind, octets: &[u8]) -> bool
     ensures { result ≡ has_none_twice (walk_of kind octets.now).elements }
 {
-    NUMBERS.iter().all(|number| comes_once(kind, *number, octets))
+    NUMBERS
+        .iter()
+        .all(|number| comes_once(kind, *number, octets))
 }
 
 /// The number of contents.

@@ -1,5 +1,4 @@
-use Rattle.std.proofs.Common.{◌≡◌, ◌∙◌, ◌∷◌, List, ap, arith}
-use Rattle.cbsp_wire.specs.declared.message.Cell.{Cell}
+use Rattle.std.proofs.Common.{arith}
 use Rattle.cbsp_wire.proofs.ItemLemmas.{first_count, first_failure}
 use Rattle.cbsp_wire.proofs.items.first_in.Goals as goal
 

@@ -8,7 +8,7 @@ use Rattle.cbsp_wire.proofs.range.use_at_most_82.Given as goal
 abbrev pub invariant-walk : goal.invariant-walk
 invariant-walk l =
     list_all (λ c. nat_le c.used 82) (contents_of (walk_of l.kind l.left).elements)
-      ≡ list_all (λ c. nat_le c.used 82) (contents_of (walk_of l.kind l.octets).elements)
+    ≡ list_all (λ c. nat_le c.used 82) (contents_of (walk_of l.kind l.octets).elements)
 
 abbrev pub decreases-walk : goal.decreases-walk
 decreases-walk l = length l.left

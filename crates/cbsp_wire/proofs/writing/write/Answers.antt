@@ -1,4 +1,4 @@
-use Rattle.std.proofs.Common.{◌≡◌, ◌∙◌, ◌++◌, sym, ap, refl, subst, List, ℕ, Bool, true, false}
+use Rattle.std.proofs.Common.{◌≡◌, ◌∙◌, ◌++◌, sym, ap, refl, subst, List, ℕ, true}
 use Rattle.std.proofs.lemmas.Bool.{false≢true}
 use Rattle.cbsp_wire.specs.Meaning.{IsMessage}
 use Rattle.cbsp_wire.specs.Range.{is_writable}
@@ -8,9 +8,12 @@ use Rattle.cbsp_wire.proofs.WrittenLaws.{octets_of_message-meant}
 use Rattle.cbsp_wire.proofs.writing.write.Goals as goal
 
 pub returns-then-not-is_writable-clause-refused : goal.returns-then-not-is_writable-clause-refused
-returns-then-not-is_writable-clause-refused c = (refl, λ octets meant.
-    let writable : is_writable c.args.message.now ≡ true = IsMessage-writable octets c.args.message.now meant in
-    false≢true (sym c.if-not-is_writable.true ∙ c.is_writable.ensures ∙ writable))
+returns-then-not-is_writable-clause-refused c = (
+  refl,
+  λ octets meant.
+      let writable : is_writable c.args.message.now ≡ true = IsMessage-writable octets c.args.message.now meant in
+      false≢true (sym c.if-not-is_writable.true ∙ c.is_writable.ensures ∙ writable),
+)
 
 pub returns-in-Ok-clause-meant : goal.returns-in-Ok-clause-meant
 returns-in-Ok-clause-meant c =

@@ -1,4 +1,4 @@
-use Rattle.std.proofs.Common.{◌≡◌, ℕ, List, ◌++◌, ◌-◌, ◌∙◌, sym, ap, length, length-append, arith}
+use Rattle.std.proofs.Common.{◌≡◌, ℕ, List, ◌++◌, ◌∙◌, sym, ap, length, length-append, arith}
 use Rattle.cbsp_wire.specs.Parts.{fields_seen, HasRoom}
 use Rattle.cbsp_wire.specs.Table.{octet_of_kind}
 use Rattle.cbsp_wire.proofs.Framing.{elements_octets, elements_len, cast_fits, fields_short, fields_fit, head_written}
@@ -30,5 +30,5 @@ returns c =
     let l : c.len.result ≡ length c.put_elements.new.out.items = omega arith in
     let len = elements_len _ _ _ (elements_octets f) _ _ _ n l c.put.ensures.appended c.put_elements.ensures.appended in
     head_written c.args.message.now f c.args.out.now.items c.put_elements.new.out.items c.octet.result c.len-start.result _
-      c.parts_of-parts.ensures (c.octet.ensures ∙ ap octet_of_kind c.kind_of.ensures) (sym n)
-      (c.put_elements.ensures.appended ∙ ap (λ (p : List ℕ). p ++ elements_octets f) c.put.ensures.appended) len
+    c.parts_of-parts.ensures (c.octet.ensures ∙ ap octet_of_kind c.kind_of.ensures) (sym n)
+    (c.put_elements.ensures.appended ∙ ap (λ (p : List ℕ). p ++ elements_octets f) c.put.ensures.appended) len
