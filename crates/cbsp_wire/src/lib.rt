@@ -4,17 +4,17 @@
 //! message, with its elements in the table's order, or that no octets mean it. What is written is read as the same message.
 #![tactic(auto)]
 
-pub mod elements;
+mod elements;
 pub mod fault;
-pub mod items;
-pub mod kind;
+mod items;
+mod kind;
 mod law;
 pub mod message;
 mod parts;
 mod range;
-pub mod reading;
+mod reading;
 mod value;
-pub mod writing;
+mod writing;
 
 pub use fault::WireFault;
 pub use law::meaning_law;
