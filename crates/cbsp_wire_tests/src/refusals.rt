@@ -2,6 +2,7 @@
 
 use crate::octets::{fault_of, message};
 use cbsp_wire::WireFault;
+use std::alloc::{AllocError, Global};
 use std::test::Fail;
 
 const ID: [u8; 3] = [0x0E, 0x11, 0x12];
@@ -124,32 +125,59 @@ fn a_list_is_refused_where_it_is_wrong(rt: HostRuntime) -> Result<(), Fail> {
     Ok(())
 }
 
+/// Why a message of four elements is refused, or None where it is read.
+fn fault_with(
+    alloc: Global,
+    kind: u8,
+    a: &[u8],
+    b: &[u8],
+    c: &[u8],
+    d: &[u8],
+) -> Result<Option<WireFault>, AllocError> {
+    let mut elements = Vec::new(alloc);
+    elements.extend_from_slice(a)?;
+    elements.extend_from_slice(b)?;
+    elements.extend_from_slice(c)?;
+    elements.extend_from_slice(d)?;
+    let octets = message(alloc, kind, &elements)?;
+    Ok(fault_of(alloc, &octets))
+}
+
 #[test]
 fn replies_have_their_own_elements(rt: HostRuntime) -> Result<(), Fail> {
     let alloc = rt.alloc();
     let failures: [u8; 9] = [0x09, 0, 6, 1, 0, 1, 0, 1, 0x06];
     let twice: [u8; 14] = [0x09, 0, 11, 1, 0, 1, 0, 1, 0x06, 0, 1, 0, 1, 0x06];
     let counts: [u8; 11] = [0x08, 0, 8, 1, 0, 1, 0, 1, 0, 3, 0];
-    let cases: [(u8, &[&[u8]], Option<WireFault>); 7] = [
-        (0x03, &[&ID, &NEW, &failures], None),
-        (0x06, &[&counts, &failures, &OLD, &ID], None),
-        (0x03, &[&ID, &NEW], Some(WireFault::Cause(0x05))),
-        (0x03, &[&ID, &NEW, &twice], Some(WireFault::Cause(0x01))),
-        (0x02, &[&ID, &NEW, &failures], Some(WireFault::Cause(0x00))),
+    let cases = [
+        (fault_with(alloc, 0x03, &ID, &NEW, &failures, &[])?, None),
         (
-            0x04,
-            &[&ID, &OLD, &CELLS, &counts],
+            fault_with(alloc, 0x06, &counts, &failures, &OLD, &ID)?,
+            None,
+        ),
+        (
+            fault_with(alloc, 0x03, &ID, &NEW, &[], &[])?,
+            Some(WireFault::Cause(0x05)),
+        ),
+        (
+            fault_with(alloc, 0x03, &ID, &NEW, &twice, &[])?,
+            Some(WireFault::Cause(0x01)),
+        ),
+        (
+            fault_with(alloc, 0x02, &ID, &NEW, &failures, &[])?,
             Some(WireFault::Cause(0x00)),
         ),
-        (0x05, &[&ID, &OLD, &NEW], Some(WireFault::Cause(0x00))),
+        (
+            fault_with(alloc, 0x04, &ID, &OLD, &CELLS, &counts)?,
+            Some(WireFault::Cause(0x00)),
+        ),
+        (
+            fault_with(alloc, 0x05, &ID, &OLD, &NEW, &[])?,
+            Some(WireFault::Cause(0x00)),
+        ),
     ];
-    for (kind, parts, expected) in cases {
-        let mut elements = Vec::new(alloc);
-        for part in parts {
-            elements.extend_from_slice(part)?;
-        }
-        let octets = message(alloc, kind, &elements)?;
-        assert_eq!(rt; fault_of(alloc, &octets), expected);
+    for (fault, expected) in cases {
+        assert_eq!(rt; fault, expected);
     }
     Ok(())
 }
