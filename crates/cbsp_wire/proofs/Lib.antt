@@ -1,0 +1,12 @@
+pub mod Walks
+pub mod ItemLemmas
+pub mod WalkLaws
+pub mod MeaningLaws
+pub mod Tests
+pub mod WrittenItems
+pub mod WrittenElements
+pub mod WrittenLaws
+pub mod MeantLaws
+pub mod Slots
+pub mod Lengths
+pub mod Framing

@@ -1,0 +1,64 @@
+-- The octets of elements, one number after the other.
+use Rattle.std.proofs.Common.{◌≡◌, ℕ, ◌+◌, ◌*◌, ◌/◌, ◌%◌, false, eqb, ◌-◌, List, [], ◌∷◌, ◌++◌, length, map, set, refl, sym, ap, ◌∙◌, arith, append_assoc}
+use Rattle.std.specs.List.{flat_map}
+use Rattle.std.proofs.lemmas.List.{append-nil, set-append_right}
+use Rattle.std.proofs.lemmas.List.Concat.{flat_map-cons}
+use Rattle.cbsp_wire.specs.declared.message.Cell.{Cell}
+use Rattle.cbsp_wire.specs.declared.message.Count.{Count}
+use Rattle.cbsp_wire.specs.declared.message.Failure.{Failure}
+use Rattle.cbsp_wire.specs.Element.{Element, octets_of_elements}
+use Rattle.cbsp_wire.specs.Value.{Fields}
+use Rattle.cbsp_wire.specs.Written.{bodies_in, cell_octets, count_octets, failure_octets, list_bodies, element, elements_among, slot, slot_octets}
+use Rattle.cbsp_wire.proofs.WrittenItems.{length-items, cell_len, count_len, failure_len}
+
+octets-append : (xs ys : List Element) → octets_of_elements (xs ++ ys) ≡ octets_of_elements xs ++ octets_of_elements ys
+octets-append [] ys = refl
+octets-append (x ∷ xs) ys =
+    ap (λ (o : List ℕ). x.number ∷ (x.body ++ o)) (octets-append xs ys)
+    ∙ ap (λ (o : List ℕ). x.number ∷ o) (sym (append_assoc x.body (octets_of_elements xs) (octets_of_elements ys)))
+
+-- the octets of elements are those of each number in turn
+pub octets-among : (f : Fields) (ns : List ℕ) → octets_of_elements (elements_among f ns) ≡ flat_map (slot_octets f) ns
+octets-among f [] = refl
+octets-among f (n ∷ ns) =
+    octets-append (map (element n) (bodies_in f n)) (elements_among f ns)
+    ∙ ap (λ (o : List ℕ). slot_octets f n ++ o) (octets-among f ns)
+    ∙ sym (flat_map-cons (slot_octets f) n ns)
+
+-- a list with its head and its items
+list_slot : {X : Type 0} (octets : X → List ℕ) (size : ℕ) → ((x : X) → length (octets x) ≡ size) → (old : List ℕ) (n : ℕ) (xs : List X) → eqb (length xs) 0 ≡ false
+    → (old ++ n ∷ (1 + length xs * size) / 256 ∷ (1 + length xs * size) % 256 ∷ 1 ∷ []) ++ flat_map octets xs ≡ old ++ slot n (list_bodies octets xs)
+list_slot octets size len old n [] some = absurd cc
+list_slot octets size len old n (x ∷ xs) some =
+    let items = flat_map octets (x ∷ xs) in
+    let k : length items ≡ length (x ∷ xs) * size = length-items octets size len (x ∷ xs) in
+    append_assoc old (n ∷ (1 + length (x ∷ xs) * size) / 256 ∷ (1 + length (x ∷ xs) * size) % 256 ∷ 1 ∷ []) items
+    ∙ ap (λ (m : ℕ). old ++ (n ∷ (1 + m) / 256 ∷ (1 + m) % 256 ∷ 1 ∷ items)) (sym k)
+    ∙ ap (λ (i : List ℕ). old ++ (n ∷ (1 + length items) / 256 ∷ (1 + length items) % 256 ∷ 1 ∷ i)) (sym (append-nil items))
+
+pub cells_slot : (old : List ℕ) (n : ℕ) (cs : List Cell) → eqb (length cs) 0 ≡ false
+    → (old ++ n ∷ (1 + length cs * 4) / 256 ∷ (1 + length cs * 4) % 256 ∷ 1 ∷ []) ++ flat_map cell_octets cs ≡ old ++ slot n (list_bodies cell_octets cs)
+cells_slot old n cs some = list_slot cell_octets 4 cell_len old n cs some
+
+pub counts_slot : (old : List ℕ) (n : ℕ) (cs : List Count) → eqb (length cs) 0 ≡ false
+    → (old ++ n ∷ (1 + length cs * 7) / 256 ∷ (1 + length cs * 7) % 256 ∷ 1 ∷ []) ++ flat_map count_octets cs ≡ old ++ slot n (list_bodies count_octets cs)
+counts_slot old n cs some = list_slot count_octets 7 count_len old n cs some
+
+pub failures_slot : (old : List ℕ) (n : ℕ) (fs : List Failure) → eqb (length fs) 0 ≡ false
+    → (old ++ n ∷ (1 + length fs * 5) / 256 ∷ (1 + length fs * 5) % 256 ∷ 1 ∷ []) ++ flat_map failure_octets fs ≡ old ++ slot n (list_bodies failure_octets fs)
+failures_slot old n fs some = list_slot failure_octets 5 failure_len old n fs some
+
+-- a length that is written into its place
+pub patched : (old body : List ℕ) (k a b c : ℕ) (n : ℕ) → length old ≡ n
+    → set (set (set (old ++ (k ∷ 0 ∷ 0 ∷ 0 ∷ body)) (n + 1) a) (n + 2) b) (n + 3) c ≡ old ++ (k ∷ a ∷ b ∷ c ∷ body)
+patched old body k a b c n len =
+    let e1 : n + 1 - n ≡ 1 = omega arith in
+    let e2 : n + 2 - n ≡ 2 = omega arith in
+    let e3 : n + 3 - n ≡ 3 = omega arith in
+    let s1 : set (old ++ (k ∷ 0 ∷ 0 ∷ 0 ∷ body)) (n + 1) a ≡ old ++ (k ∷ a ∷ 0 ∷ 0 ∷ body) =
+    set-append_right old (k ∷ 0 ∷ 0 ∷ 0 ∷ body) n (n + 1) a len (omega arith) ∙ ap (λ (i : ℕ). old ++ set (k ∷ 0 ∷ 0 ∷ 0 ∷ body) i a) e1 in
+    let s2 : set (old ++ (k ∷ a ∷ 0 ∷ 0 ∷ body)) (n + 2) b ≡ old ++ (k ∷ a ∷ b ∷ 0 ∷ body) =
+    set-append_right old (k ∷ a ∷ 0 ∷ 0 ∷ body) n (n + 2) b len (omega arith) ∙ ap (λ (i : ℕ). old ++ set (k ∷ a ∷ 0 ∷ 0 ∷ body) i b) e2 in
+    let s3 : set (old ++ (k ∷ a ∷ b ∷ 0 ∷ body)) (n + 3) c ≡ old ++ (k ∷ a ∷ b ∷ c ∷ body) =
+    set-append_right old (k ∷ a ∷ b ∷ 0 ∷ body) n (n + 3) c len (omega arith) ∙ ap (λ (i : ℕ). old ++ set (k ∷ a ∷ b ∷ 0 ∷ body) i c) e3 in
+    ap (λ (o : List ℕ). set (set o (n + 2) b) (n + 3) c) s1 ∙ ap (λ (o : List ℕ). set o (n + 3) c) s2 ∙ s3

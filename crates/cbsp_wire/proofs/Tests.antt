@@ -1,0 +1,35 @@
+-- Tests that are joined.
+use Rattle.std.proofs.Common.{◌≡◌, Bool, true, false, List, [], ◌∷◌, refl}
+use Rattle.std.specs.Prelude.{◌&&◌, not}
+use Rattle.std.specs.List.{AllByRecursion, list_all}
+use Rattle.cbsp_wire.specs.declared.kind.Need.{Need}
+use Rattle.cbsp_wire.specs.declared.kind.Need.TheVariants as needs
+use Rattle.cbsp_wire.specs.Range.{is_nothing, is_there_if}
+
+-- both parts of a test that passes
+pub and_parts : (a b : Bool) → (a && b) ≡ true → (a ≡ true) × (b ≡ true)
+and_parts true true h = (refl, refl)
+and_parts true false h = absurd cc
+and_parts false b h = absurd cc
+
+pub and_both : (a b : Bool) → a ≡ true → b ≡ true → (a && b) ≡ true
+and_both a b ha hb = rw (ha, hb) refl
+
+pub not_true : (a : Bool) → not a ≡ true → a ≡ false
+not_true true h = absurd cc
+not_true false h = refl
+
+-- a test of each element
+pub list_all-every : {X : Type 0} (p : X → Bool) (xs : List X) → AllByRecursion (λ x. p x ≡ true) xs → list_all p xs ≡ true
+list_all-every p [] h = refl
+list_all-every p (x ∷ xs) h = and_both (p x) (list_all p xs) h.0 (list_all-every p xs h.1)
+
+pub list_all-parts : {X : Type 0} (p : X → Bool) (x : X) (xs : List X) → list_all p (x ∷ xs) ≡ true → (p x ≡ true) × (list_all p xs ≡ true)
+list_all-parts p x xs h = and_parts (p x) (list_all p xs) h
+
+-- something is there
+pub there_from : {X : Type 0} (need : Need) (xs : List X) → is_nothing xs ≡ false → is_there_if need xs ≡ true
+there_from needs.Mandatory [] h = absurd cc
+there_from needs.Mandatory (x ∷ xs) h = refl
+there_from needs.Optional xs h = refl
+there_from needs.Foreign xs h = refl

@@ -1,0 +1,9 @@
+use Rattle.std.proofs.Common.{◌≡◌, length}
+use Rattle.cbsp_wire.specs.Walk.{walk_of}
+use Rattle.cbsp_wire.proofs.elements.walk_end.Given as goal
+
+abbrev pub invariant-walk : goal.invariant-walk
+invariant-walk l = (walk_of l.kind l.left).stop ≡ (walk_of l.kind l.octets).stop
+
+abbrev pub decreases-walk : goal.decreases-walk
+decreases-walk l = length l.left

@@ -1,0 +1,135 @@
+-- What the elements of a message have to be, once they are taken. 3GPP TS 48.049, clause 8.2; the limits of periods and of
+-- lists are own.
+use Rattle.std.specs.Prelude.{ℕ, ◌%◌, Bool, true, false, ◌==◌, ◌&&◌, ◌||◌, not, nat_le, List, [], ◌∷◌, length, map, Option, Some, None, is_some}
+use Rattle.std.specs.List.{list_all, list_any}
+use Rattle.cbs_page.specs.Coding.{alphabet_of}
+use Rattle.cbsp_wire.specs.declared.kind.Kind.{Kind}
+use Rattle.cbsp_wire.specs.declared.kind.Need.{Need}
+use Rattle.cbsp_wire.specs.declared.kind.Need.TheVariants as needs
+use Rattle.cbsp_wire.specs.declared.items.Layout.{Layout}
+use Rattle.cbsp_wire.specs.declared.items.Layout.TheVariants as layouts
+use Rattle.cbsp_wire.specs.declared.message.Cell.{Cell}
+use Rattle.cbsp_wire.specs.declared.message.Count.{Count}
+use Rattle.cbsp_wire.specs.declared.message.Failure.{Failure}
+use Rattle.cbsp_wire.specs.declared.message.Message.{Message}
+use Rattle.cbs_page.specs.declared.content.Content.{Content}
+use Rattle.cbsp_wire.specs.Element.{Element, bodies_of}
+use Rattle.cbsp_wire.specs.Table.{need_of}
+use Rattle.cbsp_wire.specs.Value.{cells_in, counts_in, failures_in, Fields, fields_in, fields_of, kind_of}
+
+-- the elements of messages, in the table's order
+abbrev pub numbers : List ℕ
+numbers = 0x0E ∷ 0x03 ∷ 0x02 ∷ 0x09 ∷ 0x08 ∷ 0x04 ∷ 0x12 ∷ 0x05 ∷ 0x06 ∷ 0x07 ∷ 0x13 ∷ 0x0C ∷ 0x01 ∷ []
+
+abbrev pub is_nothing : {X : Type 0} → List X → Bool
+is_nothing [] = true
+is_nothing (x ∷ xs) = false
+
+abbrev pub is_there_if : {X : Type 0} → Need → List X → Bool
+is_there_if needs.Mandatory [] = false
+is_there_if needs.Mandatory (x ∷ xs) = true
+is_there_if needs.Optional xs = true
+is_there_if needs.Foreign xs = true
+
+-- each mandatory element is there
+abbrev pub has_mandatory : Kind → List Element → Bool
+has_mandatory kind es = list_all (λ n. is_there_if (need_of kind n) (bodies_of n es)) numbers
+
+-- no element but 01 comes twice
+abbrev pub comes_once : ℕ → List Element → Bool
+comes_once n es = (n == 1) || nat_le (length (bodies_of n es)) 1
+
+abbrev pub has_none_twice : List Element → Bool
+has_none_twice es = list_all (λ n. comes_once n es) numbers
+
+-- the ranges of single values
+abbrev pub is_period : ℕ → Bool
+is_period period = nat_le 1 period && nat_le period 1024
+
+abbrev pub is_coding : ℕ → Bool
+is_coding dcs = is_some (alphabet_of dcs)
+
+abbrev pub is_page_count : ℕ → Bool
+is_page_count pages = nat_le 1 pages && nat_le pages 15
+
+-- no cell stands in a list twice
+abbrev pub is_cell : Cell → Cell → Bool
+is_cell a b = (a.lac == b.lac) && (a.ci == b.ci)
+
+abbrev pub are_distinct : List Cell → Bool
+are_distinct [] = true
+are_distinct (c ∷ cs) = not (list_any (is_cell c) cs) && are_distinct cs
+
+-- the cells that a list may name: at most 64, none twice
+abbrev pub are_cells : List Cell → Bool
+are_cells cs = nat_le (length cs) 64 && are_distinct cs
+
+-- the cells that the items of a list name
+abbrev pub cells_of_counts : List Count → List Cell
+cells_of_counts counts = map (λ c. c.cell) counts
+
+abbrev pub cells_of_failures : List Failure → List Cell
+cells_of_failures failures = map (λ f. f.cell) failures
+
+-- how many octets an item takes, and the cells that items name
+abbrev pub item_size : Layout → ℕ
+item_size layouts.Cells = 4
+item_size layouts.Counts = 7
+item_size layouts.Failures = 5
+
+abbrev pub cells_by : Layout → List ℕ → List Cell
+cells_by layouts.Cells octets = cells_in octets
+cells_by layouts.Counts octets = cells_of_counts (counts_in octets)
+cells_by layouts.Failures octets = cells_of_failures (failures_in octets)
+
+-- whole items, and at least one of them
+abbrev pub are_items : Layout → List ℕ → Bool
+are_items layout items = (length items % item_size layout == 0) && not (is_nothing (cells_by layout items))
+
+-- a list's body: two octets of length, the discriminator 1 (LAC and CI), and items
+abbrev pub is_list : Layout → List ℕ → Bool
+is_list layout (high ∷ low ∷ discriminator ∷ items) = (discriminator == 1) && are_items layout items
+is_list layout octets = false
+
+-- a test of the first body, if there is one
+abbrev pub first_passes : (List ℕ → Bool) → List (List ℕ) → Bool
+first_passes test [] = true
+first_passes test (body ∷ bodies) = test body
+
+abbrev pub are_lists : List Element → Bool
+are_lists es =
+    first_passes (is_list layouts.Cells) (bodies_of 0x04 es)
+    && first_passes (is_list layouts.Counts) (bodies_of 0x08 es)
+    && first_passes (is_list layouts.Failures) (bodies_of 0x09 es)
+
+-- a test of a number, if it is told
+abbrev pub passes : (ℕ → Bool) → Option ℕ → Bool
+passes test None = true
+passes test (Some n) = test n
+
+-- as many contents as pages, from 1 to 15, and at most 82 octets used of each
+abbrev pub are_contents : Option ℕ → List Content → Bool
+are_contents pages contents = passes (λ n. is_page_count n && (n == length contents)) pages && list_all (λ c. nat_le c.used 82) contents
+
+abbrev pub are_numbers : Fields → Bool
+are_numbers f =
+    passes is_period f.period && passes is_coding f.dcs && passes (λ n. nat_le n 2) f.category && passes (λ n. nat_le n 1) f.channel
+
+abbrev pub are_all_cells : Fields → Bool
+are_all_cells f = are_cells f.cells && are_cells (cells_of_counts f.completed) && are_cells (cells_of_failures f.failures)
+
+-- all values are in their ranges
+abbrev pub are_values : Fields → Bool
+are_values f = are_contents f.pages f.contents && are_numbers f && are_all_cells f
+
+abbrev pub are_in_range : List Element → Bool
+are_in_range es = has_none_twice es && are_lists es && are_values (fields_in es)
+
+-- a message that has octets: its values are in their ranges, and its mandatory lists have items
+abbrev pub is_full : Content → Bool
+is_full c = length c.octets == 82
+
+abbrev pub is_writable : Message → Bool
+is_writable m =
+    let f = fields_of m in
+    are_values f && is_there_if (need_of (kind_of m) 0x04) f.cells && is_there_if (need_of (kind_of m) 0x09) f.failures && list_all is_full f.contents

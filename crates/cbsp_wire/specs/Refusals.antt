@@ -1,0 +1,57 @@
+-- The order in which octets are refused: the first that applies. Own.
+use Rattle.std.specs.Prelude.{◌≡◌, ℕ, ◌+◌, ◌*◌, nat_lt, not, if◌then◌else◌, List, ◌∷◌, length, Option, Some, None}
+use Rattle.cbsp_wire.specs.declared.kind.Kind.{Kind}
+use Rattle.cbsp_wire.specs.declared.elements.Stop.{Stop}
+use Rattle.cbsp_wire.specs.declared.elements.Stop.TheVariants.{End, Strange, Cut}
+use Rattle.cbsp_wire.specs.declared.fault.WireFault.{WireFault}
+use Rattle.cbsp_wire.specs.declared.fault.WireFault.TheVariants.{Truncated, TrailingBytes, Cause, Refused}
+use Rattle.cbsp_wire.specs.Element.{Element}
+use Rattle.cbsp_wire.specs.Table.{kind_of_octet}
+use Rattle.cbsp_wire.specs.Walk.{walk_of}
+use Rattle.cbsp_wire.specs.Range.{has_mandatory, are_in_range}
+
+-- 5 and 7: a mandatory element is missing; a value is out of its range
+abbrev pub fault_of_whole : Kind → List Element → Option WireFault
+fault_of_whole kind es =
+    if not (has_mandatory kind es) then Some (Cause 0x05)
+    else if not (are_in_range es) then Some (Cause 0x01)
+    else None
+
+-- 5 and 6: a mandatory element is missing; the walk ended at an element that isn't of this message
+abbrev pub fault_of_strange : Kind → List Element → Option WireFault
+fault_of_strange kind es = if not (has_mandatory kind es) then Some (Cause 0x05) else Some (Cause 0x00)
+
+-- 4: an element goes past the end
+abbrev pub fault_of_walk : Kind → List Element → Stop → Option WireFault
+fault_of_walk kind es Cut = Some Truncated
+fault_of_walk kind es Strange = fault_of_strange kind es
+fault_of_walk kind es End = fault_of_whole kind es
+
+-- 3: the type isn't one of the six
+abbrev pub fault_of_kind : Option Kind → List ℕ → Option WireFault
+fault_of_kind None rest = Some (Cause 0x04)
+fault_of_kind (Some kind) rest = fault_of_walk kind (walk_of kind rest).elements (walk_of kind rest).stop
+
+-- the length that three octets tell
+abbrev pub told : ℕ → ℕ → ℕ → ℕ
+told a b c = a * 65536 + b * 256 + c
+
+-- 1: fewer than 4 octets, or fewer than the length tells after them; 2: more than the length tells
+unfoldable pub first_fault : List ℕ → Option WireFault
+first_fault (octet ∷ a ∷ b ∷ c ∷ rest) =
+    if nat_lt (length rest) (told a b c) then Some Truncated
+    else if nat_lt (told a b c) (length rest) then Some TrailingBytes
+    else fault_of_kind (kind_of_octet octet) rest
+first_fault octets = Some Truncated
+
+-- the fault of the octets that an error tells; Refused tells none, for it comes last
+abbrev pub fault_told : WireFault → Option WireFault
+fault_told Refused = None
+fault_told Truncated = Some Truncated
+fault_told TrailingBytes = Some TrailingBytes
+fault_told (Cause cause) = Some (Cause cause)
+
+-- the type of octets that begin a message, and the octets of its elements
+abbrev pub HasParts : List ℕ → Kind → List ℕ → Type 0
+HasParts (octet ∷ a ∷ b ∷ c ∷ rest) kind elements = (kind_of_octet octet ≡ Some kind) × (elements ≡ rest)
+HasParts octets kind elements = ⊥

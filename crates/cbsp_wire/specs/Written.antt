@@ -1,0 +1,101 @@
+-- The octets of a message, with its elements in the table's order. 3GPP TS 48.049, clauses 8.1 and 8.2, in this project's own
+-- layouts.
+use Rattle.std.specs.Prelude.{ℕ, ◌+◌, ◌/◌, ◌%◌, ◌≤◌, IfSome, ◌==◌, if◌then◌else◌, List, [], ◌∷◌, ◌++◌, length, map, Option, Some, None}
+use Rattle.std.specs.List.{flat_map}
+use Rattle.cbs_page.specs.declared.content.Content.{Content}
+use Rattle.cbsp_wire.specs.declared.message.Cell.{Cell}
+use Rattle.cbsp_wire.specs.declared.message.Count.{Count}
+use Rattle.cbsp_wire.specs.declared.message.Failure.{Failure}
+use Rattle.cbsp_wire.specs.declared.message.Message.{Message}
+use Rattle.cbsp_wire.specs.Element.{Element, octets_of_elements}
+use Rattle.cbsp_wire.specs.Table.{octet_of_kind}
+use Rattle.cbsp_wire.specs.Value.{Fields, fields_of, kind_of}
+use Rattle.cbsp_wire.specs.Range.{numbers}
+
+-- a number of two octets, the high one first
+abbrev pub number_octets : ℕ → List ℕ
+number_octets n = n / 256 ∷ n % 256 ∷ []
+
+abbrev pub cell_octets : Cell → List ℕ
+cell_octets c = c.lac / 256 ∷ c.lac % 256 ∷ c.ci / 256 ∷ c.ci % 256 ∷ []
+
+abbrev pub count_octets : Count → List ℕ
+count_octets c = cell_octets c.cell ++ number_octets c.number ++ c.info ∷ []
+
+abbrev pub failure_octets : Failure → List ℕ
+failure_octets f = cell_octets f.cell ++ f.cause ∷ []
+
+-- the bodies of an element: none where it is left out
+abbrev pub number_bodies : Option ℕ → List (List ℕ)
+number_bodies None = []
+number_bodies (Some n) = number_octets n ∷ []
+
+abbrev pub octet_bodies : Option ℕ → List (List ℕ)
+octet_bodies None = []
+octet_bodies (Some n) = (n ∷ []) ∷ []
+
+-- a list's body: the length of what follows it, the discriminator, the items
+abbrev pub list_body : List ℕ → List ℕ
+list_body items = number_octets (1 + length items) ++ 1 ∷ items
+
+abbrev pub list_bodies : {X : Type 0} → (X → List ℕ) → List X → List (List ℕ)
+list_bodies octets [] = []
+list_bodies octets (x ∷ xs) = list_body (flat_map octets (x ∷ xs)) ∷ []
+
+abbrev pub content_body : Content → List ℕ
+content_body c = c.used ∷ c.octets
+
+-- the bodies of the elements with a number
+unfoldable pub bodies_in : Fields → ℕ → List (List ℕ)
+bodies_in f n =
+    if n == 0x0E then number_bodies f.id
+    else if n == 0x03 then number_bodies f.new_serial
+    else if n == 0x02 then number_bodies f.old_serial
+    else if n == 0x09 then list_bodies failure_octets f.failures
+    else if n == 0x08 then list_bodies count_octets f.completed
+    else if n == 0x04 then list_bodies cell_octets f.cells
+    else if n == 0x12 then octet_bodies f.channel
+    else if n == 0x05 then octet_bodies f.category
+    else if n == 0x06 then number_bodies f.period
+    else if n == 0x07 then number_bodies f.broadcasts
+    else if n == 0x13 then octet_bodies f.pages
+    else if n == 0x0C then octet_bodies f.dcs
+    else if n == 0x01 then map content_body f.contents
+    else []
+
+abbrev pub element : ℕ → List ℕ → Element
+element n body = record { number = n; body = body }
+
+-- the elements of fields that have these numbers, in this order
+abbrev pub elements_among : Fields → List ℕ → List Element
+elements_among f [] = []
+elements_among f (n ∷ ns) = map (element n) (bodies_in f n) ++ elements_among f ns
+
+-- the elements of a message, in the table's order
+abbrev pub elements_of : Message → List Element
+elements_of m = elements_among (fields_of m) numbers
+
+-- a length of three octets
+abbrev pub length_octets : ℕ → List ℕ
+length_octets n = n / 65536 ∷ n / 256 % 256 ∷ n % 256 ∷ []
+
+-- the type, the length of the rest, and octets
+abbrev pub framed : ℕ → List ℕ → List ℕ
+framed octet rest = octet ∷ (length_octets (length rest) ++ rest)
+
+unfoldable pub octets_of_message : Message → List ℕ
+octets_of_message m = framed (octet_of_kind (kind_of m)) (octets_of_elements (elements_of m))
+
+-- the octets of the elements with a number
+abbrev pub slot : ℕ → List (List ℕ) → List ℕ
+slot n bodies = octets_of_elements (map (element n) bodies)
+
+abbrev pub slot_octets : Fields → ℕ → List ℕ
+slot_octets f n = slot n (bodies_in f n)
+
+-- lists as short as a message's may be
+pub record AreShort (f : Fields) : Type 0 where
+  pub cells : length f.cells ≤ 64
+  pub completed : length f.completed ≤ 64
+  pub failures : length f.failures ≤ 64
+  pub pages : IfSome f.pages (λ n. n ≤ 15)

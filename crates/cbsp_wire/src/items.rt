@@ -1,0 +1,156 @@
+//! Items of lists, each of which names a cell.
+
+ghost use Rattle.std.specs.Prelude.{◌≡◌, ◌∷◌, [], length, MatchOption, nat_le};
+ghost use Rattle.std.specs.List.{list_any};
+ghost use Rattle.cbsp_wire.specs.Value.{cell_at};
+ghost use Rattle.cbsp_wire.specs.Range.{is_cell, are_distinct, are_cells, cells_by, are_items, item_size, is_list};
+ghost use Rattle.cbsp_wire.specs.Named.{cells_named};
+
+use crate::message::{Cell, Count, Failure};
+
+/// What the items of a list's octets are.
+#[derive(Clone, Copy, Debug, PartialEq, Eq)]
+pub enum Layout {
+    /// Four octets each: the cell.
+    Cells,
+    /// Seven octets each: the cell, a number and an information.
+    Counts,
+    /// Five octets each: the cell and a cause.
+    Failures,
+}
+
+/// A list that names cells, be it octets or items.
+#[derive(Clone, Copy, Debug)]
+pub enum Items<'a> {
+    /// Cells.
+    Cells(&'a [Cell]),
+    /// Completed broadcasts.
+    Counts(&'a [Count]),
+    /// Failures.
+    Failures(&'a [Failure]),
+    /// The items of a list's body.
+    Octets(Layout, &'a [u8]),
+}
+
+/// The cell that four octets are, the high ones first.
+pub(crate) fn cell_of(a: u8, b: u8, c: u8, d: u8) -> Cell
+    ensures { result ≡ cell_at a b c d }
+{
+    Cell {
+        lac: u16::from(a) * 256 + u16::from(b),
+        ci: u16::from(c) * 256 + u16::from(d),
+    }
+}
+
+/// The cell of the first item, and the octets after it.
+fn first_in(layout: Layout, octets: &[u8]) -> Option<(Cell, &[u8])>
+    ensures { MatchOption result (cells_by layout octets.now ≡ []) (λ x. cells_by layout octets.now ≡ x.0 ∷ cells_by layout x.1.now) }
+{
+    match layout {
+        Layout::Cells => match octets {
+            [a, b, c, d, rest @ ..] => Some((cell_of(*a, *b, *c, *d), rest)),
+            _ => None,
+        },
+        Layout::Counts => match octets {
+            [a, b, c, d, _, _, _, rest @ ..] => Some((cell_of(*a, *b, *c, *d), rest)),
+            _ => None,
+        },
+        Layout::Failures => match octets {
+            [a, b, c, d, _, rest @ ..] => Some((cell_of(*a, *b, *c, *d), rest)),
+            _ => None,
+        },
+    }
+}
+
+/// The first cell named, and the list after its item.
+fn first(items: Items<'_>) -> Option<(Cell, Items<'_>)>
+    ensures { MatchOption result (cells_named items.entry ≡ []) (λ x. cells_named items.entry ≡ x.0 ∷ cells_named x.1) }
+{
+    match items {
+        Items::Cells([]) | Items::Counts([]) | Items::Failures([]) => None,
+        Items::Cells([cell, rest @ ..]) => Some((*cell, Items::Cells(rest))),
+        Items::Counts([count, rest @ ..]) => Some((count.cell, Items::Counts(rest))),
+        Items::Failures([failure, rest @ ..]) => Some((failure.cell, Items::Failures(rest))),
+        Items::Octets(layout, octets) => match first_in(layout, octets) {
+            Some((cell, rest)) => Some((cell, Items::Octets(layout, rest))),
+            None => None,
+        },
+    }
+}
+
+/// Whether the list names the cell.
+fn has(items: Items<'_>, cell: Cell) -> bool
+    ensures { result ≡ list_any (is_cell cell) (cells_named items.entry) }
+{
+    let mut left = items;
+    'search: while let Some((other, rest)) = first(left) {
+        if cell.lac == other.lac && cell.ci == other.ci {
+            return true;
+        }
+        left = rest;
+    }
+    false
+}
+
+/// Whether the list names no cell twice.
+fn are_distinct(items: Items<'_>) -> bool
+    ensures { result ≡ are_distinct (cells_named items.entry) }
+{
+    let mut left = items;
+    'search: while let Some((cell, rest)) = first(left) {
+        if has(rest, cell) {
+            return false;
+        }
+        left = rest;
+    }
+    true
+}
+
+/// Whether the list names at most 64 cells.
+fn is_short(items: Items<'_>) -> bool
+    ensures { result ≡ nat_le (length (cells_named items.entry)) 64 }
+{
+    let mut left = items;
+    'turn: for _ in 0..64u8 {
+        match first(left) {
+            Some((_, rest)) => left = rest,
+            None => return true,
+        }
+    }
+    first(left).is_none()
+}
+
+/// Whether a list may name these cells: at most 64, none twice.
+pub(crate) fn are_cells(items: Items<'_>) -> bool
+    ensures { result ≡ are_cells (cells_named items.entry) }
+{
+    is_short(items) && are_distinct(items)
+}
+
+/// How many octets an item takes.
+fn item_size(layout: Layout) -> usize
+    ensures { result ≡ item_size layout }
+{
+    match layout {
+        Layout::Cells => 4,
+        Layout::Counts => 7,
+        Layout::Failures => 5,
+    }
+}
+
+/// Whether octets are whole items, and at least one of them.
+fn are_items(layout: Layout, items: &[u8]) -> bool
+    ensures { result ≡ are_items layout items.now }
+{
+    items.len() % item_size(layout) == 0 && first_in(layout, items).is_some()
+}
+
+/// Whether the body of a list is right: two octets of length, the discriminator 1, and items.
+pub(crate) fn is_list(layout: Layout, body: &[u8]) -> bool
+    ensures { result ≡ is_list layout body.now }
+{
+    match body {
+        [_, _, discriminator, items @ ..] => *discriminator == 1 && are_items(layout, items),
+        _ => false,
+    }
+}

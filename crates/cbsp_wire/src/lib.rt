@@ -1,0 +1,23 @@
+//! Messages between a warning centre and a base station controller (3GPP TS 48.049, in this project's own layouts).
+//!
+//! `read` answers the one value that octets have, or the first of the refusals that applies; `write` answers the octets of a
+//! message, with its elements in the table's order, or that no octets mean it. What is written is read as the same message.
+#![tactic(auto)]
+
+mod elements;
+pub mod fault;
+mod items;
+mod kind;
+mod law;
+pub mod message;
+mod parts;
+mod range;
+mod reading;
+mod value;
+mod writing;
+
+pub use fault::WireFault;
+pub use law::meaning_law;
+pub use message::{Cell, Cells, Contents, Count, Counts, Failure, Failures, Message};
+pub use reading::read;
+pub use writing::{write, write_in};

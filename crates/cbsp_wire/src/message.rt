@@ -1,0 +1,196 @@
+//! What the six messages say.
+
+use cbs_page::{Content, Dcs, Serial};
+use std::marker::Model;
+
+/// A cell, by its location area and its identity in it (3GPP TS 48.008, 3.2.2.17: location area code and cell identity).
+#[derive(Clone, Copy, Debug, PartialEq, Eq)]
+pub struct Cell {
+    /// The location area code.
+    pub lac: u16,
+    /// The cell identity.
+    pub ci: u16,
+}
+
+/// How many broadcasts of a message a cell completed (3GPP TS 48.049, 8.2.9).
+#[derive(Clone, Copy, Debug, PartialEq, Eq)]
+pub struct Count {
+    /// The cell.
+    pub cell: Cell,
+    /// The number of broadcasts.
+    pub number: u16,
+    /// What the number is worth: 0 says that it is valid.
+    pub info: u8,
+}
+
+/// A cell that refused, and why (3GPP TS 48.049, 8.2.10).
+#[derive(Clone, Copy, Debug, PartialEq, Eq)]
+pub struct Failure {
+    /// The cell.
+    pub cell: Cell,
+    /// The cause (3GPP TS 48.049, 8.2.13).
+    pub cause: u8,
+}
+
+/// A list of cells. In clauses it is the list itself.
+#[derive(Debug, Drop)]
+pub struct Cells {
+    /// The cells, in the list's order.
+    pub list: Vec<Cell>,
+}
+
+impl Model for Cells {
+    ghost use Rattle.std.specs.Prelude.{List};
+    ghost use Rattle.cbsp_wire.specs.declared.message.Cell.{Cell};
+
+    ghost Value = { List Cell };
+
+    ghost view = { λ cells. cells.list.items };
+}
+
+/// A list of completed broadcasts. In clauses it is the list itself.
+#[derive(Debug, Drop)]
+pub struct Counts {
+    /// The cells with their numbers, in the list's order.
+    pub list: Vec<Count>,
+}
+
+impl Model for Counts {
+    ghost use Rattle.std.specs.Prelude.{List};
+    ghost use Rattle.cbsp_wire.specs.declared.message.Count.{Count};
+
+    ghost Value = { List Count };
+
+    ghost view = { λ counts. counts.list.items };
+}
+
+/// A list of failures. In clauses it is the list itself.
+#[derive(Debug, Drop)]
+pub struct Failures {
+    /// The cells with their causes, in the list's order.
+    pub list: Vec<Failure>,
+}
+
+impl Model for Failures {
+    ghost use Rattle.std.specs.Prelude.{List};
+    ghost use Rattle.cbsp_wire.specs.declared.message.Failure.{Failure};
+
+    ghost Value = { List Failure };
+
+    ghost view = { λ failures. failures.list.items };
+}
+
+/// The contents of a message's pages. In clauses it is the list of them.
+#[derive(Debug, Drop)]
+pub struct Contents {
+    /// One content for each page, in page order.
+    pub list: Vec<Content>,
+}
+
+impl Model for Contents {
+    ghost use Rattle.std.specs.Prelude.{List};
+    ghost use Rattle.cbs_page.specs.declared.content.Content.{Content};
+
+    ghost Value = { List Content };
+
+    ghost view = { λ contents. contents.list.items };
+}
+
+/// A message (3GPP TS 48.049, 8.1.3). Where an element is optional, `None` or an empty list says that it is left out.
+#[derive(Debug, Drop)]
+pub enum Message {
+    /// Broadcast this, in place of an older message where one is told (8.1.3.1).
+    Write {
+        /// The message identifier.
+        id: u16,
+        /// The serial number of the new message.
+        new_serial: Serial,
+        /// The serial number of the message that it replaces.
+        old_serial: Option<Serial>,
+        /// The cells to broadcast in.
+        cells: Cells,
+        /// 0 basic channel, 1 extended channel.
+        channel: Option<u8>,
+        /// 0 high, 1 background, 2 normal.
+        category: Option<u8>,
+        /// The repetition period, 1 to 1,024.
+        period: u16,
+        /// The broadcasts requested; 0 asks for broadcasts until a stop.
+        broadcasts: u16,
+        /// The data coding of the pages.
+        dcs: Dcs,
+        /// The pages' contents, 1 to 15.
+        contents: Contents,
+    },
+    /// Every cell took the order (8.1.3.2).
+    WriteDone {
+        /// The message identifier.
+        id: u16,
+        /// The serial number of the new message.
+        new_serial: Serial,
+        /// The serial number of the replaced message.
+        old_serial: Option<Serial>,
+        /// How often the replaced message was broadcast.
+        completed: Counts,
+        /// The cells that took the order.
+        cells: Cells,
+        /// 0 basic channel, 1 extended channel.
+        channel: Option<u8>,
+    },
+    /// Some cell refused the order (8.1.3.3).
+    WriteFailed {
+        /// The message identifier.
+        id: u16,
+        /// The serial number of the new message.
+        new_serial: Serial,
+        /// The serial number of the message to replace.
+        old_serial: Option<Serial>,
+        /// The cells that refused.
+        failures: Failures,
+        /// How often the replaced message was broadcast.
+        completed: Counts,
+        /// The cells that took the order.
+        cells: Cells,
+        /// 0 basic channel, 1 extended channel.
+        channel: Option<u8>,
+    },
+    /// Stop a message (8.1.3.4).
+    Kill {
+        /// The message identifier.
+        id: u16,
+        /// The serial number of the message to stop.
+        old_serial: Serial,
+        /// The cells to stop it in.
+        cells: Cells,
+        /// 0 basic channel, 1 extended channel.
+        channel: Option<u8>,
+    },
+    /// Every cell stopped it (8.1.3.5).
+    KillDone {
+        /// The message identifier.
+        id: u16,
+        /// The serial number of the stopped message.
+        old_serial: Serial,
+        /// How often it was broadcast.
+        completed: Counts,
+        /// The cells that stopped it.
+        cells: Cells,
+        /// 0 basic channel, 1 extended channel.
+        channel: Option<u8>,
+    },
+    /// Some cell refused to stop it (8.1.3.6).
+    KillFailed {
+        /// The message identifier.
+        id: u16,
+        /// The serial number of the message to stop.
+        old_serial: Serial,
+        /// The cells that refused.
+        failures: Failures,
+        /// How often it was broadcast.
+        completed: Counts,
+        /// The cells that stopped it.
+        cells: Cells,
+        /// 0 basic channel, 1 extended channel.
+        channel: Option<u8>,
+    },
+}

@@ -1,0 +1,281 @@
+//! The fields of a message, whatever its type, and whether they are a message's.
+
+ghost use Rattle.std.specs.Prelude.{◌≡◌, length, nat_le};
+ghost use Rattle.std.specs.List.{list_all};
+ghost use Rattle.cbsp_wire.specs.Table.{need_of};
+ghost use Rattle.cbsp_wire.specs.Value.{fields_of, kind_of};
+ghost use Rattle.cbsp_wire.specs.Range.{is_there_if, are_contents, are_numbers, are_all_cells, are_values, is_full, is_writable};
+ghost use Rattle.cbsp_wire.specs.Parts.{fields_seen};
+
+use crate::elements::need;
+use crate::items::{Items, are_cells};
+use crate::kind::{Kind, Need};
+use crate::message::{Cell, Count, Failure, Message};
+use crate::range::{is_coding, is_page_count, is_period, is_up_to};
+use cbs_page::{Content, Serial};
+
+/// The fields that a message has, `None` or no items where its type has no such field.
+#[derive(Clone, Copy, Debug)]
+pub struct Parts<'a> {
+    /// The message identifier.
+    pub id: Option<u16>,
+    /// The new serial number.
+    pub new_serial: Option<u16>,
+    /// The old serial number.
+    pub old_serial: Option<u16>,
+    /// The failures.
+    pub failures: &'a [Failure],
+    /// The completed broadcasts.
+    pub completed: &'a [Count],
+    /// The cells.
+    pub cells: &'a [Cell],
+    /// The channel indicator.
+    pub channel: Option<u8>,
+    /// The category.
+    pub category: Option<u8>,
+    /// The repetition period.
+    pub period: Option<u16>,
+    /// The broadcasts requested.
+    pub broadcasts: Option<u16>,
+    /// The number of pages.
+    pub pages: Option<usize>,
+    /// The data coding.
+    pub dcs: Option<u8>,
+    /// The contents.
+    pub contents: &'a [Content],
+}
+
+/// The number of a serial number, if there is one.
+fn number_of(serial: Option<Serial>) -> Option<u16>
+    ensures { result ≡ serial }
+{
+    match serial {
+        Some(serial) => Some(serial.number()),
+        None => None,
+    }
+}
+
+/// The type of a message.
+pub(crate) fn kind_of(message: &Message) -> Kind
+    ensures { result ≡ kind_of message.now }
+{
+    match message {
+        Message::Write { .. } => Kind::Write,
+        Message::WriteDone { .. } => Kind::WriteDone,
+        Message::WriteFailed { .. } => Kind::WriteFailed,
+        Message::Kill { .. } => Kind::Kill,
+        Message::KillDone { .. } => Kind::KillDone,
+        Message::KillFailed { .. } => Kind::KillFailed,
+    }
+}
+
+/// The fields of a message.
+pub(crate) fn parts_of(message: &Message) -> Parts<'_>
+    ensures { fields_seen result ≡ fields_of message.now }
+{
+    let none = Parts {
+        id: None,
+        new_serial: None,
+        old_serial: None,
+        failures: &[],
+        completed: &[],
+        cells: &[],
+        channel: None,
+        category: None,
+        period: None,
+        broadcasts: None,
+        pages: None,
+        dcs: None,
+        contents: &[],
+    };
+    match message {
+        Message::Write {
+            id,
+            new_serial,
+            old_serial,
+            cells,
+            channel,
+            category,
+            period,
+            broadcasts,
+            dcs,
+            contents,
+        } => Parts {
+            id: Some(*id),
+            new_serial: Some(new_serial.number()),
+            old_serial: number_of(*old_serial),
+            cells: &cells.list,
+            channel: *channel,
+            category: *category,
+            period: Some(*period),
+            broadcasts: Some(*broadcasts),
+            pages: Some(contents.list.len()),
+            dcs: Some(dcs.0),
+            contents: &contents.list,
+            ..none
+        },
+        Message::WriteDone {
+            id,
+            new_serial,
+            old_serial,
+            completed,
+            cells,
+            channel,
+        } => Parts {
+            id: Some(*id),
+            new_serial: Some(new_serial.number()),
+            old_serial: number_of(*old_serial),
+            completed: &completed.list,
+            cells: &cells.list,
+            channel: *channel,
+            ..none
+        },
+        Message::WriteFailed {
+            id,
+            new_serial,
+            old_serial,
+            failures,
+            completed,
+            cells,
+            channel,
+        } => Parts {
+            id: Some(*id),
+            new_serial: Some(new_serial.number()),
+            old_serial: number_of(*old_serial),
+            failures: &failures.list,
+            completed: &completed.list,
+            cells: &cells.list,
+            channel: *channel,
+            ..none
+        },
+        Message::Kill {
+            id,
+            old_serial,
+            cells,
+            channel,
+        } => Parts {
+            id: Some(*id),
+            old_serial: Some(old_serial.number()),
+            cells: &cells.list,
+            channel: *channel,
+            ..none
+        },
+        Message::KillDone {
+            id,
+            old_serial,
+            completed,
+            cells,
+            channel,
+        } => Parts {
+            id: Some(*id),
+            old_serial: Some(old_serial.number()),
+            completed: &completed.list,
+            cells: &cells.list,
+            channel: *channel,
+            ..none
+        },
+        Message::KillFailed {
+            id,
+            old_serial,
+            failures,
+            completed,
+            cells,
+            channel,
+        } => Parts {
+            id: Some(*id),
+            old_serial: Some(old_serial.number()),
+            failures: &failures.list,
+            completed: &completed.list,
+            cells: &cells.list,
+            channel: *channel,
+            ..none
+        },
+    }
+}
+
+/// Whether items are there, if the message needs them.
+fn is_there_if<T>(need: Need, items: &[T]) -> bool
+    ensures { result ≡ is_there_if need items.now }
+{
+    match need {
+        Need::Mandatory => !items.is_empty(),
+        Need::Optional | Need::Foreign => true,
+    }
+}
+
+/// Whether at most 82 octets are used of each content.
+fn use_at_most_82(contents: &[Content]) -> bool
+    ensures { result ≡ list_all (λ c. nat_le c.used 82) contents.now }
+{
+    let mut left = contents;
+    'contents: while let [content, rest @ ..] = left {
+        if content.used > 82 {
+            return false;
+        }
+        left = rest;
+    }
+    true
+}
+
+/// Whether there are as many contents as pages, from 1 to 15, and at most 82 octets used of each.
+fn are_contents(pages: Option<usize>, contents: &[Content]) -> bool
+    ensures { result ≡ are_contents pages contents.now }
+{
+    let are_as_told = match pages {
+        None => true,
+        Some(pages) => is_page_count(pages) && pages == contents.len(),
+    };
+    are_as_told && use_at_most_82(contents)
+}
+
+/// Whether each content has its 82 octets, as its type says.
+fn are_full(contents: &[Content]) -> bool
+    ensures { result ≡ list_all is_full contents.now }
+{
+    let mut left = contents;
+    'contents: while let [content, rest @ ..] = left {
+        if content.octets.as_slice().len() != 82 {
+            return false;
+        }
+        left = rest;
+    }
+    true
+}
+
+/// Whether the period, the data coding, the category and the channel indicator are in their ranges.
+fn are_numbers(parts: &Parts<'_>) -> bool
+    ensures { result ≡ are_numbers (fields_seen parts.now) }
+{
+    is_period(parts.period)
+        && is_coding(parts.dcs)
+        && is_up_to(2, parts.category)
+        && is_up_to(1, parts.channel)
+}
+
+/// Whether the lists name at most 64 cells each, and none twice.
+fn are_all_cells(parts: &Parts<'_>) -> bool
+    ensures { result ≡ are_all_cells (fields_seen parts.now) }
+{
+    are_cells(Items::Cells(parts.cells))
+        && are_cells(Items::Counts(parts.completed))
+        && are_cells(Items::Failures(parts.failures))
+}
+
+/// Whether all values are in their ranges.
+fn are_values(parts: &Parts<'_>) -> bool
+    ensures { result ≡ are_values (fields_seen parts.now) }
+{
+    are_contents(parts.pages, parts.contents) && are_numbers(parts) && are_all_cells(parts)
+}
+
+/// Whether some octets mean the message: its values are in their ranges, and its mandatory lists have items.
+pub(crate) fn is_writable(message: &Message) -> bool
+    ensures { result ≡ is_writable message.now }
+{
+    let parts = parts_of(message);
+    let kind = kind_of(message);
+    are_values(&parts)
+        && is_there_if(need(kind, 0x04), parts.cells)
+        && is_there_if(need(kind, 0x09), parts.failures)
+        && are_full(parts.contents)
+}

@@ -1,0 +1,97 @@
+//! Reading a message.
+
+ghost use Rattle.std.specs.Prelude.{◌≡◌, IfOk, IfErr, IfSome, MatchResult};
+ghost use Rattle.cbsp_wire.specs.Walk.{walk_of};
+ghost use Rattle.cbsp_wire.specs.Refusals.{fault_of_walk, first_fault, fault_told, HasParts};
+ghost use Rattle.cbsp_wire.specs.Meaning.{IsMessage};
+
+use crate::elements::{Stop, walk_end};
+use crate::fault::WireFault;
+use crate::kind::Kind;
+use crate::message::Message;
+use crate::range::{are_in_range, has_mandatory};
+use crate::value::message;
+use std::alloc::Global;
+
+/// An octet of a length, as a number to count with.
+const fn wide(octet: u8) -> usize
+    ensures { result ≡ octet }
+{
+    octet as usize
+}
+
+/// The first fault of a message's elements.
+fn fault_of_elements(kind: Kind, elements: &[u8]) -> Option<WireFault>
+    ensures first { result ≡ fault_of_walk kind (walk_of kind elements.now).elements (walk_of kind elements.now).stop }
+    ensures told { IfSome result (λ fault. fault_told fault ≡ Some fault) }
+{
+    let stop = walk_end(kind, elements);
+    if stop == Stop::Cut {
+        return Some(WireFault::Truncated);
+    }
+    if !has_mandatory(kind, elements) {
+        return Some(WireFault::Cause(0x05));
+    }
+    if stop == Stop::Strange {
+        return Some(WireFault::Cause(0x00));
+    }
+    if are_in_range(kind, elements) {
+        None
+    } else {
+        Some(WireFault::Cause(0x01))
+    }
+}
+
+/// The type of a message without a fault and the octets of its elements, or its first fault.
+#[tactic(auto, unfolding(crate::specs::Refusals::first_fault))]
+fn parts(octets: &[u8]) -> Result<(Kind, &[u8]), WireFault>
+    ensures faultless { IfOk result (λ _. first_fault octets.now ≡ None) }
+    ensures parts { IfOk result (λ x. HasParts octets.now x.0 x.1.now) }
+    ensures fault { IfErr result (λ fault. first_fault octets.now ≡ Some fault) }
+    ensures told { IfErr result (λ fault. fault_told fault ≡ Some fault) }
+{
+    let [octet, a, b, c, elements @ ..] = octets else {
+        return Err(WireFault::Truncated);
+    };
+    let told = wide(*a) * 65536 + wide(*b) * 256 + wide(*c);
+    if elements.len() < told {
+        return Err(WireFault::Truncated);
+    }
+    if told < elements.len() {
+        return Err(WireFault::TrailingBytes);
+    }
+    let Some(kind) = Kind::of_octet(*octet) else {
+        return Err(WireFault::Cause(0x04));
+    };
+    match fault_of_elements(kind, elements) {
+        Some(fault) => Err(fault),
+        None => Ok((kind, elements)),
+    }
+}
+
+/// The message that octets mean, or the first of the refusals that applies:
+///
+/// 1. `Truncated`: fewer than 4 octets, or fewer than the length tells after them.
+/// 2. `TrailingBytes`: more than the length tells.
+/// 3. `Cause(0x04)`: the type is not one of the six.
+/// 4. `Truncated`: an element goes past the end. Elements are taken from the front, up to the first that isn't of this message.
+/// 5. `Cause(0x05)`: a mandatory element isn't among those taken.
+/// 6. `Cause(0x00)`: an element isn't of this message.
+/// 7. `Cause(0x01)`: an element other than 01 comes twice, or a value is out of its range.
+/// 8. `Refused`: memory ran out.
+pub fn read(alloc: Global, octets: &[u8]) -> Result<Message, WireFault>
+    // What is read is what the octets mean.
+    ensures found { IfOk result (λ m. IsMessage octets.now m) }
+    // What the octets mean is read, unless memory runs out.
+    ensures only { (m : Message) → IsMessage octets.now m → MatchResult result (λ read. read ≡ m) (λ fault. fault ≡ WireFault.Refused) }
+    // Which refusal it is.
+    ensures refused { IfErr result (λ fault. first_fault octets.now ≡ fault_told fault) }
+    // Memory runs out only where the octets mean something.
+    ensures last { IfErr result (λ fault. fault ≡ WireFault.Refused → (m : Message) × IsMessage octets.now m) }
+{
+    let (kind, elements) = parts(octets)?;
+    match message(alloc, kind, elements) {
+        Ok(message) => Ok(message),
+        Err(_) => Err(WireFault::Refused),
+    }
+}

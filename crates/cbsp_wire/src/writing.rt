@@ -1,0 +1,254 @@
+//! Writing a message.
+
+ghost use Rattle.std.specs.Prelude.{◌≡◌, ◌+◌, ◌*◌, ◌/◌, ◌%◌, ◌≤◌, ◌<◌, ◌^◌, ◌++◌, ◌∷◌, [], length, map, IsTrue, IfOk, IfErr, IfSome, vec_len, vec_capacity};
+ghost use Rattle.std.specs.List.{flat_map};
+ghost use Rattle.cbsp_wire.specs.Meaning.{IsMessage, IsUnwritten};
+ghost use Rattle.cbsp_wire.specs.Parts.{fields_seen, HasRoom};
+ghost use Rattle.cbsp_wire.specs.Range.{is_writable};
+ghost use Rattle.cbsp_wire.specs.Written.{number_octets, number_bodies, octet_bodies, list_bodies, cell_octets, count_octets, failure_octets, content_body, slot, slot_octets, bodies_in, octets_of_message, AreShort};
+
+use crate::elements::{NUMBERS, elements};
+use crate::fault::WireFault;
+use crate::message::{Cell, Count, Failure, Message};
+use crate::parts::{Parts, is_writable, kind_of, parts_of};
+use cbs_page::Content;
+use std::alloc::Global;
+
+/// Appends octets to a vector that has room for them, so that no memory is taken.
+fn put(out: &mut Vec<u8>, octets: &[u8])
+    requires { HasRoom out.old octets.now }
+    ensures appended { out.new.items ≡ out.old.items ++ octets.now }
+    ensures room { vec_capacity out.old ≤ vec_capacity out.new }
+{
+    let _ = out.extend_from_slice(octets);
+}
+
+/// The two octets of a number, the high one first.
+fn octets_of_number(number: u16) -> [u8; 2]
+    ensures { result ≡ number_octets number }
+{
+    [(number / 256) as u8, (number % 256) as u8]
+}
+
+/// Appends an element of two octets, if there is one.
+fn put_number(out: &mut Vec<u8>, element: u8, number: Option<u16>)
+    requires { HasRoom out.old (slot element (number_bodies number)) }
+    ensures appended { out.new.items ≡ out.old.items ++ slot element (number_bodies number) }
+    ensures room { vec_capacity out.old ≤ vec_capacity out.new }
+{
+    if let Some(number) = number {
+        let [high, low] = octets_of_number(number);
+        put(out, &[element, high, low]);
+    }
+}
+
+/// Appends an element of one octet, if there is one.
+fn put_octet(out: &mut Vec<u8>, element: u8, octet: Option<u8>)
+    requires { HasRoom out.old (slot element (octet_bodies octet)) }
+    ensures appended { out.new.items ≡ out.old.items ++ slot element (octet_bodies octet) }
+    ensures room { vec_capacity out.old ≤ vec_capacity out.new }
+{
+    if let Some(octet) = octet {
+        put(out, &[element, octet]);
+    }
+}
+
+/// Appends the octets of cells.
+fn put_cell_items(out: &mut Vec<u8>, cells: &[Cell])
+    requires { HasRoom out.old (flat_map cell_octets cells.now) }
+    ensures appended { out.new.items ≡ out.old.items ++ flat_map cell_octets cells.now }
+    ensures room { vec_capacity out.old ≤ vec_capacity out.new }
+{
+    for cell in cells {
+        let [a, b] = octets_of_number(cell.lac);
+        let [c, d] = octets_of_number(cell.ci);
+        put(out, &[a, b, c, d]);
+    }
+}
+
+/// Appends the octets of completed broadcasts.
+fn put_count_items(out: &mut Vec<u8>, counts: &[Count])
+    requires { HasRoom out.old (flat_map count_octets counts.now) }
+    ensures appended { out.new.items ≡ out.old.items ++ flat_map count_octets counts.now }
+    ensures room { vec_capacity out.old ≤ vec_capacity out.new }
+{
+    for count in counts {
+        let [a, b] = octets_of_number(count.cell.lac);
+        let [c, d] = octets_of_number(count.cell.ci);
+        let [high, low] = octets_of_number(count.number);
+        put(out, &[a, b, c, d, high, low, count.info]);
+    }
+}
+
+/// Appends the octets of failures.
+fn put_failure_items(out: &mut Vec<u8>, failures: &[Failure])
+    requires { HasRoom out.old (flat_map failure_octets failures.now) }
+    ensures appended { out.new.items ≡ out.old.items ++ flat_map failure_octets failures.now }
+    ensures room { vec_capacity out.old ≤ vec_capacity out.new }
+{
+    for failure in failures {
+        let [a, b] = octets_of_number(failure.cell.lac);
+        let [c, d] = octets_of_number(failure.cell.ci);
+        put(out, &[a, b, c, d, failure.cause]);
+    }
+}
+
+/// Appends what stands before the items of a list: its number, its length, the discriminator.
+fn put_list_head(out: &mut Vec<u8>, element: u8, items_len: u16)
+    requires fits { items_len < 65535 }
+    requires room { vec_len out.old + 4 ≤ vec_capacity out.old }
+    ensures appended { out.new.items ≡ out.old.items ++ element ∷ (1 + items_len) / 256 ∷ (1 + items_len) % 256 ∷ 1 ∷ [] }
+    ensures room { vec_capacity out.old ≤ vec_capacity out.new }
+{
+    let [high, low] = octets_of_number(1 + items_len);
+    put(out, &[element, high, low, 1]);
+}
+
+/// Appends the list of cells, if there are any.
+fn put_cells(out: &mut Vec<u8>, element: u8, cells: &[Cell])
+    requires short { length cells.now ≤ 64 }
+    requires room { HasRoom out.old (slot element (list_bodies cell_octets cells.now)) }
+    ensures appended { out.new.items ≡ out.old.items ++ slot element (list_bodies cell_octets cells.now) }
+    ensures room { vec_capacity out.old ≤ vec_capacity out.new }
+{
+    if cells.is_empty() {
+        return;
+    }
+    put_list_head(out, element, cells.len() as u16 * 4);
+    put_cell_items(out, cells);
+}
+
+/// Appends the list of completed broadcasts, if there are any.
+fn put_counts(out: &mut Vec<u8>, element: u8, counts: &[Count])
+    requires short { length counts.now ≤ 64 }
+    requires room { HasRoom out.old (slot element (list_bodies count_octets counts.now)) }
+    ensures appended { out.new.items ≡ out.old.items ++ slot element (list_bodies count_octets counts.now) }
+    ensures room { vec_capacity out.old ≤ vec_capacity out.new }
+{
+    if counts.is_empty() {
+        return;
+    }
+    put_list_head(out, element, counts.len() as u16 * 7);
+    put_count_items(out, counts);
+}
+
+/// Appends the list of failures, if there are any.
+fn put_failures(out: &mut Vec<u8>, element: u8, failures: &[Failure])
+    requires short { length failures.now ≤ 64 }
+    requires room { HasRoom out.old (slot element (list_bodies failure_octets failures.now)) }
+    ensures appended { out.new.items ≡ out.old.items ++ slot element (list_bodies failure_octets failures.now) }
+    ensures room { vec_capacity out.old ≤ vec_capacity out.new }
+{
+    if failures.is_empty() {
+        return;
+    }
+    put_list_head(out, element, failures.len() as u16 * 5);
+    put_failure_items(out, failures);
+}
+
+/// Appends the number of pages, if it is told.
+fn put_pages(out: &mut Vec<u8>, element: u8, pages: Option<usize>)
+    requires few { IfSome pages (λ n. n ≤ 15) }
+    requires room { HasRoom out.old (slot element (octet_bodies pages)) }
+    ensures appended { out.new.items ≡ out.old.items ++ slot element (octet_bodies pages) }
+    ensures room { vec_capacity out.old ≤ vec_capacity out.new }
+{
+    if let Some(pages) = pages {
+        put(out, &[element, pages as u8]);
+    }
+}
+
+/// Appends the contents.
+fn put_contents(out: &mut Vec<u8>, element: u8, contents: &[Content])
+    requires { HasRoom out.old (slot element (map content_body contents.now)) }
+    ensures appended { out.new.items ≡ out.old.items ++ slot element (map content_body contents.now) }
+    ensures room { vec_capacity out.old ≤ vec_capacity out.new }
+{
+    let mut left = contents;
+    'contents: while let [content, rest @ ..] = left {
+        put(out, &[element, content.used]);
+        put(out, content.octets.as_slice());
+        left = rest;
+    }
+}
+
+macro_rules! put_field {
+    ($out:expr, $row:literal, $parts:expr, number $field:ident) => { put_number($out, $row, $parts.$field) };
+    ($out:expr, $row:literal, $parts:expr, octet $field:ident) => { put_octet($out, $row, $parts.$field) };
+    ($out:expr, $row:literal, $parts:expr, pages $field:ident) => { put_pages($out, $row, $parts.$field) };
+    ($out:expr, $row:literal, $parts:expr, cells $field:ident) => { put_cells($out, $row, $parts.$field) };
+    ($out:expr, $row:literal, $parts:expr, counts $field:ident) => { put_counts($out, $row, $parts.$field) };
+    ($out:expr, $row:literal, $parts:expr, failures $field:ident) => { put_failures($out, $row, $parts.$field) };
+    ($out:expr, $row:literal, $parts:expr, contents $field:ident) => { put_contents($out, $row, $parts.$field) };
+}
+
+macro_rules! put_for {
+    ($out:expr, $parts:expr, $number:expr; $($row:literal, $form:ident $size:literal, $write:ident $write_done:ident $write_failed:ident $kill:ident $kill_done:ident $kill_failed:ident, $writer:ident $field:ident;)*) => {
+        match $number {
+            $($row => put_field!($out, $row, $parts, $writer $field),)*
+            _ => {}
+        }
+    };
+}
+
+/// Appends the elements with this number.
+#[tactic(auto, unfolding(crate::specs::Written::bodies_in))]
+fn put_elements_with(out: &mut Vec<u8>, parts: &Parts<'_>, number: u8)
+    requires short { AreShort (fields_seen parts.now) }
+    requires room { HasRoom out.old (slot_octets (fields_seen parts.now) number) }
+    ensures appended { out.new.items ≡ out.old.items ++ slot_octets (fields_seen parts.now) number }
+    ensures room { vec_capacity out.old ≤ vec_capacity out.new }
+{
+    elements!(put_for, out, parts, number)
+}
+
+/// Appends the elements with these numbers, in this order.
+fn put_elements(out: &mut Vec<u8>, parts: &Parts<'_>, numbers: &[u8])
+    requires short { AreShort (fields_seen parts.now) }
+    requires room { HasRoom out.old (flat_map (slot_octets (fields_seen parts.now)) numbers.now) }
+    ensures appended { out.new.items ≡ out.old.items ++ flat_map (slot_octets (fields_seen parts.now)) numbers.now }
+    ensures room { vec_capacity out.old ≤ vec_capacity out.new }
+{
+    for number in numbers {
+        put_elements_with(out, parts, *number);
+    }
+}
+
+/// Appends the octets of a message, with its elements in the table's order, and takes no memory.
+///
+/// It asks for a message that some octets mean, for which `write` answers no cause, and for room of 1,547 octets, the longest
+/// message.
+#[tactic(auto, unfolding(crate::specs::Written::octets_of_message))]
+pub fn write_in(message: &Message, out: &mut Vec<u8>)
+    requires meant { IsTrue (is_writable message.now) }
+    requires room { vec_len out.old + 1547 ≤ vec_capacity out.old }
+    ensures { out.new.items ≡ out.old.items ++ octets_of_message message.now }
+{
+    let parts = parts_of(message);
+    let start = out.len();
+    put(out, &[kind_of(message).octet(), 0, 0, 0]);
+    put_elements(out, &parts, &NUMBERS);
+    let length = out.len() - start - 4;
+    out[start + 1] = (length / 65536) as u8;
+    out[start + 2] = (length / 256 % 256) as u8;
+    out[start + 3] = (length % 256) as u8;
+}
+
+/// The octets of a message, with its elements in the table's order; `Cause(0x01)` where no octets mean it, as of a message
+/// without contents; `Refused` where memory runs out.
+pub fn write(alloc: Global, message: &Message) -> Result<Vec<u8>, WireFault>
+    ensures written { IfOk result (λ octets. octets.items ≡ octets_of_message message.now) }
+    ensures meant { IfOk result (λ octets. IsMessage octets.items message.now) }
+    ensures refused { IfErr result (λ fault. IsUnwritten message.now fault) }
+{
+    if !is_writable(message) {
+        return Err(WireFault::Cause(0x01));
+    }
+    match Vec::with_capacity(alloc, 1547) {
+        Ok(mut out) => {
+            write_in(message, &mut out);
+            Ok(out)
+        }
+        Err(_) => Err(WireFault::Refused),
+    }
+}
