@@ -10,3 +10,4 @@ pub mod MeantLaws
 pub mod Slots
 pub mod Lengths
 pub mod Framing
+mod Worked

@@ -125,10 +125,11 @@ are_values f = are_contents f.pages f.contents && are_numbers f && are_all_cells
 abbrev pub are_in_range : List Element → Bool
 are_in_range es = has_none_twice es && are_lists es && are_values (fields_in es)
 
--- a message that has octets: its values are in their ranges, and its mandatory lists have items
+-- a content has its 82 octets
 abbrev pub is_full : Content → Bool
 is_full c = length c.octets == 82
 
+-- a message that some octets mean: its values are in their ranges, and its mandatory lists have items
 abbrev pub is_writable : Message → Bool
 is_writable m =
     let f = fields_of m in

@@ -1,4 +1,15 @@
 -- The order in which octets are refused: the first that applies. Own.
+--
+-- 1. Truncated: fewer than 4 octets, or fewer after them than the length tells.
+-- 2. TrailingBytes: more than the length tells.
+-- 3. Cause 04: the type isn't one of the six.
+-- 4. Truncated: an element goes past the end; elements are taken up to the first that isn't of this message.
+-- 5. Cause 05: a mandatory element isn't among those taken.
+-- 6. Cause 00: an element isn't of this message.
+-- 7. Cause 01: an element other than 01 comes twice, or a value is out of its range.
+-- 8. Refused: memory ran out.
+--
+-- The definitions stand in the other direction, each below those that it asks next.
 use Rattle.std.specs.Prelude.{◌≡◌, ℕ, ◌+◌, ◌*◌, nat_lt, not, if◌then◌else◌, List, ◌∷◌, length, Option, Some, None}
 use Rattle.cbsp_wire.specs.declared.kind.Kind.{Kind}
 use Rattle.cbsp_wire.specs.declared.elements.Stop.{Stop}
@@ -10,24 +21,24 @@ use Rattle.cbsp_wire.specs.Table.{kind_of_octet}
 use Rattle.cbsp_wire.specs.Walk.{walk_of}
 use Rattle.cbsp_wire.specs.Range.{has_mandatory, are_in_range}
 
--- 5 and 7: a mandatory element is missing; a value is out of its range
+-- 5 and 7, where the walk came to the end
 abbrev pub fault_of_whole : Kind → List Element → Option WireFault
 fault_of_whole kind es =
     if not (has_mandatory kind es) then Some (Cause 0x05)
     else if not (are_in_range es) then Some (Cause 0x01)
     else None
 
--- 5 and 6: a mandatory element is missing; the walk ended at an element that isn't of this message
+-- 5 and 6, where the walk ended at an element that isn't of this message
 abbrev pub fault_of_strange : Kind → List Element → Option WireFault
 fault_of_strange kind es = if not (has_mandatory kind es) then Some (Cause 0x05) else Some (Cause 0x00)
 
--- 4: an element goes past the end
+-- 4, and the others by where the walk ended
 abbrev pub fault_of_walk : Kind → List Element → Stop → Option WireFault
 fault_of_walk kind es Cut = Some Truncated
 fault_of_walk kind es Strange = fault_of_strange kind es
 fault_of_walk kind es End = fault_of_whole kind es
 
--- 3: the type isn't one of the six
+-- 3
 abbrev pub fault_of_kind : Option Kind → List ℕ → Option WireFault
 fault_of_kind None rest = Some (Cause 0x04)
 fault_of_kind (Some kind) rest = fault_of_walk kind (walk_of kind rest).elements (walk_of kind rest).stop
@@ -36,7 +47,7 @@ fault_of_kind (Some kind) rest = fault_of_walk kind (walk_of kind rest).elements
 abbrev pub told : ℕ → ℕ → ℕ → ℕ
 told a b c = a * 65536 + b * 256 + c
 
--- 1: fewer than 4 octets, or fewer than the length tells after them; 2: more than the length tells
+-- 1 and 2
 unfoldable pub first_fault : List ℕ → Option WireFault
 first_fault (octet ∷ a ∷ b ∷ c ∷ rest) =
     if nat_lt (length rest) (told a b c) then Some Truncated
