@@ -1,7 +1,6 @@
 //! `warnc`: cell broadcast warnings to the blocks that cells send, and back.
 #![tactic(auto)]
 
-mod blocks;
 mod command;
 pub mod page;
 pub mod read;
