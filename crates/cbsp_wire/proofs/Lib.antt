@@ -11,3 +11,4 @@ pub mod Slots
 pub mod Lengths
 pub mod Framing
 mod Worked
+pub mod Writable

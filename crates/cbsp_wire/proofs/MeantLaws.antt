@@ -48,7 +48,7 @@ ranges_from f h =
     let seven = and_parts x y six.0 in
     record { contents = two.0; period = five.0; coding = five.1; category = four.1; channel = three.1; cells = seven.0; completed = seven.1; failures = six.1 }
 
-values_from : (f : Fields) → HaveRanges f → are_values f ≡ true
+pub values_from : (f : Fields) → HaveRanges f → are_values f ≡ true
 values_from f h =
     let a = passes is_period f.period in
     let b = passes is_coding f.dcs in

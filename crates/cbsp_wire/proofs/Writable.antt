@@ -1,0 +1,101 @@
+-- Which messages are written, type by type, for callers that make them; and what a message that was read has.
+use Rattle.std.proofs.Common.{◌≡◌, ℕ, true, false, List, length, Option, Some, None, refl}
+use Rattle.std.specs.Prelude.{nat_le}
+use Rattle.std.specs.List.{list_all}
+use Rattle.cbs_page.specs.declared.coding.Dcs.{Dcs}
+use Rattle.cbs_page.specs.declared.content.Content.{Content}
+use Rattle.cbsp_wire.specs.declared.message.Cell.{Cell}
+use Rattle.cbsp_wire.specs.declared.message.Count.{Count}
+use Rattle.cbsp_wire.specs.declared.message.Failure.{Failure}
+use Rattle.cbsp_wire.specs.declared.message.Message.{Message}
+use Rattle.cbsp_wire.specs.declared.message.Message.TheVariants as messages
+use Rattle.cbsp_wire.specs.Table.{need_of, table}
+use Rattle.cbsp_wire.specs.Value.{fields_of, kind_of}
+use Rattle.cbsp_wire.specs.Range.{passes, is_period, is_coding, are_cells, are_contents, cells_of_counts, cells_of_failures, is_nothing, is_full, is_writable}
+use Rattle.cbsp_wire.specs.Meaning.{IsMessage}
+use Rattle.cbsp_wire.proofs.Tests.{there_from}
+use Rattle.cbsp_wire.proofs.WrittenLaws.{IsWritten-from, is_writable-from}
+use Rattle.cbsp_wire.proofs.MeantLaws.{HaveRanges, ranges_from, values_from, IsMessage-writable}
+
+-- an order to write
+pub write-writable : (id new : ℕ) (old : Option ℕ) (cells : List Cell) (channel category : Option ℕ) (period broadcasts : ℕ) (dcs : Dcs) (contents : List Content)
+    → is_nothing cells ≡ false → are_cells cells ≡ true → passes (λ n. nat_le n 1) channel ≡ true → passes (λ n. nat_le n 2) category ≡ true
+    → is_period period ≡ true → is_coding dcs.0 ≡ true → are_contents (Some (length contents)) contents ≡ true → list_all is_full contents ≡ true
+    → is_writable (messages.Write id new old cells channel category period broadcasts dcs contents) ≡ true
+unfolding need_of table
+write-writable id new old cells channel category period broadcasts dcs contents some right ch cat per cod con full =
+    let m = messages.Write id new old cells channel category period broadcasts dcs contents in
+    is_writable-from m (record {
+      values = values_from (fields_of m) (record { contents = con; period = per; coding = cod; category = cat; channel = ch; cells = right; completed = refl; failures = refl });
+      cells = there_from (need_of (kind_of m) 4) cells some;
+      failures = refl;
+      full = full;
+    })
+
+-- an order to kill
+pub kill-writable : (id old : ℕ) (cells : List Cell) (channel : Option ℕ) → is_nothing cells ≡ false → are_cells cells ≡ true → passes (λ n. nat_le n 1) channel ≡ true
+    → is_writable (messages.Kill id old cells channel) ≡ true
+unfolding need_of table
+kill-writable id old cells channel some right ch =
+    let m = messages.Kill id old cells channel in
+    is_writable-from m (record {
+      values = values_from (fields_of m) (record { contents = refl; period = refl; coding = refl; category = refl; channel = ch; cells = right; completed = refl; failures = refl });
+      cells = there_from (need_of (kind_of m) 4) cells some;
+      failures = refl;
+      full = refl;
+    })
+
+-- the replies, which have no channel indicator
+pub write_done-writable : (id new : ℕ) (old : Option ℕ) (completed : List Count) (cells : List Cell) → are_cells (cells_of_counts completed) ≡ true → are_cells cells ≡ true
+    → is_writable (messages.WriteDone id new old completed cells None) ≡ true
+unfolding need_of table
+write_done-writable id new old completed cells counted right =
+    let m = messages.WriteDone id new old completed cells None in
+    is_writable-from m (record {
+      values = values_from (fields_of m) (record { contents = refl; period = refl; coding = refl; category = refl; channel = refl; cells = right; completed = counted; failures = refl });
+      cells = refl;
+      failures = refl;
+      full = refl;
+    })
+
+pub write_failed-writable : (id new : ℕ) (old : Option ℕ) (failures : List Failure) (completed : List Count) (cells : List Cell)
+    → is_nothing failures ≡ false → are_cells (cells_of_failures failures) ≡ true → are_cells (cells_of_counts completed) ≡ true → are_cells cells ≡ true
+    → is_writable (messages.WriteFailed id new old failures completed cells None) ≡ true
+unfolding need_of table
+write_failed-writable id new old failures completed cells some failed counted right =
+    let m = messages.WriteFailed id new old failures completed cells None in
+    is_writable-from m (record {
+      values = values_from (fields_of m) (record { contents = refl; period = refl; coding = refl; category = refl; channel = refl; cells = right; completed = counted; failures = failed });
+      cells = refl;
+      failures = there_from (need_of (kind_of m) 9) failures some;
+      full = refl;
+    })
+
+pub kill_done-writable : (id old : ℕ) (completed : List Count) (cells : List Cell) → are_cells (cells_of_counts completed) ≡ true → are_cells cells ≡ true
+    → is_writable (messages.KillDone id old completed cells None) ≡ true
+unfolding need_of table
+kill_done-writable id old completed cells counted right =
+    let m = messages.KillDone id old completed cells None in
+    is_writable-from m (record {
+      values = values_from (fields_of m) (record { contents = refl; period = refl; coding = refl; category = refl; channel = refl; cells = right; completed = counted; failures = refl });
+      cells = refl;
+      failures = refl;
+      full = refl;
+    })
+
+pub kill_failed-writable : (id old : ℕ) (failures : List Failure) (completed : List Count) (cells : List Cell)
+    → is_nothing failures ≡ false → are_cells (cells_of_failures failures) ≡ true → are_cells (cells_of_counts completed) ≡ true → are_cells cells ≡ true
+    → is_writable (messages.KillFailed id old failures completed cells None) ≡ true
+unfolding need_of table
+kill_failed-writable id old failures completed cells some failed counted right =
+    let m = messages.KillFailed id old failures completed cells None in
+    is_writable-from m (record {
+      values = values_from (fields_of m) (record { contents = refl; period = refl; coding = refl; category = refl; channel = refl; cells = right; completed = counted; failures = failed });
+      cells = refl;
+      failures = there_from (need_of (kind_of m) 9) failures some;
+      full = refl;
+    })
+
+-- what a message that some octets mean has: its values are in their ranges
+pub IsMessage-ranges : (octets : List ℕ) (m : Message) → IsMessage octets m → HaveRanges (fields_of m)
+IsMessage-ranges octets m h = ranges_from (fields_of m) (IsWritten-from m (IsMessage-writable octets m h)).values
