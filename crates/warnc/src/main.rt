@@ -36,3 +36,6 @@ fn status(rt: &HostRuntime) -> u8 {
 
 #[cfg(test)]
 mod tests;
+
+#[cfg(test)]
+mod read_tests;
