@@ -2,3 +2,4 @@ mod Lists
 mod BlockLaws
 mod PageLaws
 mod ReadingLaws
+pub mod TapeLaws
