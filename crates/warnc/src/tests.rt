@@ -68,7 +68,7 @@ pub fn expect_fault<T: AllocGlobal + Abort>(
     rt: &T,
     words: &[&str],
     input: &[u8],
-    pub status: u8,
+    status: u8,
     fault: &str,
 ) -> Result<(), Fail> {
     let run = run_on(rt, words, input)?;
