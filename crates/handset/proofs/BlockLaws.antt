@@ -1,8 +1,9 @@
 -- Pages in a list of blocks, one block after another.
-use Rattle.std.proofs.Common.{◌≡◌, ℕ, ◌≤◌, Bool, true, false, eqb, List, [], ◌∷◌, ◌++◌, length, take, map, refl, sym, ◌∙◌, ap, arith, inl, inr, append-nil, append_assoc}
+use Rattle.std.proofs.Common.{◌≡◌, ◌≢◌, ℕ, ◌≤◌, Bool, true, false, eqb, List, [], ◌∷◌, ◌++◌, length, take, map, refl, sym, ◌∙◌, ap, arith, inl, inr, append-nil, append_assoc}
 use Rattle.std.specs.Prelude.{◌⊎◌, ◌&&◌}
 use Rattle.std.proofs.lemmas.Bool.{cases_eq, ne_eqb}
-use Rattle.handset.specs.Reading.{type_of, page_types, pages_read}
+use Rattle.cbs_page.specs.Page.{view_of}
+use Rattle.handset.specs.Reading.{page_octets, type_of, page_types, pages_read}
 use Rattle.handset.specs.Keeping.{under_way_with, page_ended, IsUnderWay}
 
 -- what a block does to the blocks of a page that isn't whole
@@ -38,28 +39,28 @@ after_none b (inl t) = record { few = simp t (omega arith); begun = simp t refl;
 after_none b (inr (inl t)) = record { few = simp t (omega arith); begun = simp t refl; goes_on = λ more. simp t refl }
 after_none b (inr (inr (inl t))) = record { few = simp t (omega arith); begun = simp t refl; goes_on = λ more. simp t refl }
 after_none b (inr (inr (inr (inl t)))) = record { few = simp t (omega arith); begun = simp t refl; goes_on = λ more. simp t refl }
-after_none b (inr (inr (inr (inr t)))) = record { few = simp (t.0, t.1, t.2, t.3) (omega arith); begun = simp (t.0, t.1, t.2, t.3) refl; goes_on = λ more. simp (t.0, t.1, t.2, t.3) refl }
+after_none b (inr (inr (inr (inr t)))) = record { few = simp (t.0, t.1, t.2) (omega arith); begun = simp (t.0, t.1, t.2) refl; goes_on = λ more. simp (t.0, t.1, t.2, t.3) refl }
 
 after_first : (x b : List ℕ) → type_of x ≡ 0x20 → OfType (type_of b) → Steps (x ∷ []) b
-after_first x b one (inl t) = record { few = simp (one, t) (omega arith); begun = simp (one, t) refl; goes_on = λ more. simp (one, t) refl }
-after_first x b one (inr (inl t)) = record { few = simp (one, t) (omega arith); begun = simp (one, t) refl; goes_on = λ more. simp (one, t) refl }
-after_first x b one (inr (inr (inl t))) = record { few = simp (one, t) (omega arith); begun = simp (one, t) refl; goes_on = λ more. simp (one, t) refl }
-after_first x b one (inr (inr (inr (inl t)))) = record { few = simp (one, t) (omega arith); begun = simp (one, t) refl; goes_on = λ more. simp (one, t) refl }
-after_first x b one (inr (inr (inr (inr t)))) = record { few = simp (one, t.0, t.1, t.2, t.3) (omega arith); begun = simp (one, t.0, t.1, t.2, t.3) refl; goes_on = λ more. simp (one, t.0, t.1, t.2, t.3) refl }
+after_first x b one (inl t) = record { few = simp t (omega arith); begun = simp t refl; goes_on = λ more. simp (one, t) refl }
+after_first x b one (inr (inl t)) = record { few = simp t (omega arith); begun = simp (one, t) refl; goes_on = λ more. simp (one, t) refl }
+after_first x b one (inr (inr (inl t))) = record { few = simp t (omega arith); begun = simp t refl; goes_on = λ more. simp (one, t) refl }
+after_first x b one (inr (inr (inr (inl t)))) = record { few = simp t (omega arith); begun = simp t refl; goes_on = λ more. simp (one, t) refl }
+after_first x b one (inr (inr (inr (inr t)))) = record { few = simp (t.0, t.1, t.2) (omega arith); begun = simp (t.0, t.1, t.2) refl; goes_on = λ more. simp (one, t.0, t.1, t.2, t.3) refl }
 
 after_second : (x y b : List ℕ) → type_of x ≡ 0x20 → type_of y ≡ 0x21 → OfType (type_of b) → Steps (x ∷ y ∷ []) b
-after_second x y b one two (inl t) = record { few = simp (one, two, t) (omega arith); begun = simp (one, two, t) refl; goes_on = λ more. simp (one, two, t) refl }
-after_second x y b one two (inr (inl t)) = record { few = simp (one, two, t) (omega arith); begun = simp (one, two, t) refl; goes_on = λ more. simp (one, two, t) refl }
-after_second x y b one two (inr (inr (inl t))) = record { few = simp (one, two, t) (omega arith); begun = simp (one, two, t) refl; goes_on = λ more. simp (one, two, t) refl }
-after_second x y b one two (inr (inr (inr (inl t)))) = record { few = simp (one, two, t) (omega arith); begun = simp (one, two, t) refl; goes_on = λ more. simp (one, two, t) refl }
-after_second x y b one two (inr (inr (inr (inr t)))) = record { few = simp (one, two, t.0, t.1, t.2, t.3) (omega arith); begun = simp (one, two, t.0, t.1, t.2, t.3) refl; goes_on = λ more. simp (one, two, t.0, t.1, t.2, t.3) refl }
+after_second x y b one two (inl t) = record { few = simp t (omega arith); begun = simp t refl; goes_on = λ more. simp (one, two, t) refl }
+after_second x y b one two (inr (inl t)) = record { few = simp t (omega arith); begun = simp t refl; goes_on = λ more. simp (one, two, t) refl }
+after_second x y b one two (inr (inr (inl t))) = record { few = simp t (omega arith); begun = simp (one, two, t) refl; goes_on = λ more. simp (one, two, t) refl }
+after_second x y b one two (inr (inr (inr (inl t)))) = record { few = simp t (omega arith); begun = simp t refl; goes_on = λ more. simp (one, two, t) refl }
+after_second x y b one two (inr (inr (inr (inr t)))) = record { few = simp (t.0, t.1, t.2) (omega arith); begun = simp (t.0, t.1, t.2) refl; goes_on = λ more. simp (one, two, t.0, t.1, t.2, t.3) refl }
 
 after_third : (x y z b : List ℕ) → type_of x ≡ 0x20 → type_of y ≡ 0x21 → type_of z ≡ 0x22 → OfType (type_of b) → Steps (x ∷ y ∷ z ∷ []) b
-after_third x y z b one two three (inl t) = record { few = simp (one, two, three, t) (omega arith); begun = simp (one, two, three, t) refl; goes_on = λ more. simp (one, two, three, t) refl }
-after_third x y z b one two three (inr (inl t)) = record { few = simp (one, two, three, t) (omega arith); begun = simp (one, two, three, t) refl; goes_on = λ more. simp (one, two, three, t) refl }
-after_third x y z b one two three (inr (inr (inl t))) = record { few = simp (one, two, three, t) (omega arith); begun = simp (one, two, three, t) refl; goes_on = λ more. simp (one, two, three, t) refl }
-after_third x y z b one two three (inr (inr (inr (inl t)))) = record { few = simp (one, two, three, t) (omega arith); begun = simp (one, two, three, t) refl; goes_on = λ more. simp (one, two, three, t) refl }
-after_third x y z b one two three (inr (inr (inr (inr t)))) = record { few = simp (one, two, three, t.0, t.1, t.2, t.3) (omega arith); begun = simp (one, two, three, t.0, t.1, t.2, t.3) refl; goes_on = λ more. simp (one, two, three, t.0, t.1, t.2, t.3) refl }
+after_third x y z b one two three (inl t) = record { few = simp t (omega arith); begun = simp t refl; goes_on = λ more. simp (one, two, three, t) refl }
+after_third x y z b one two three (inr (inl t)) = record { few = simp t (omega arith); begun = simp t refl; goes_on = λ more. simp (one, two, three, t) refl }
+after_third x y z b one two three (inr (inr (inl t))) = record { few = simp t (omega arith); begun = simp t refl; goes_on = λ more. simp (one, two, three, t) refl }
+after_third x y z b one two three (inr (inr (inr (inl t)))) = record { few = simp t (omega arith); begun = simp t refl; goes_on = λ more. simp (one, two, three, t) refl }
+after_third x y z b one two three (inr (inr (inr (inr t)))) = record { few = simp (t.0, t.1, t.2) (omega arith); begun = simp (t.0, t.1, t.2) refl; goes_on = λ more. simp (one, two, three, t.0, t.1, t.2, t.3) refl }
 
 steps : (kept : List (List ℕ)) (b : List ℕ) → length kept ≤ 3 → map type_of kept ≡ take (length kept) page_types → Steps kept b
 steps [] b few begun = after_none b (of_type (type_of b))
@@ -105,3 +106,12 @@ under_way-more kept blocks b is =
           ∙ sym (append_assoc (pages_read blocks) (page_ended kept b) (pages_read (under_way_with kept b ++ more)))
           ∙ ap (λ pages. pages ++ pages_read (under_way_with kept b ++ more)) (sym (pages-more kept blocks b is));
     }
+
+-- four blocks of a page at the front of a list are a page, and a block that begins none is no part of one
+pub pages_read-page : (first second third last : List ℕ) (rest : List (List ℕ)) →
+    type_of first ≡ 0x20 → type_of second ≡ 0x21 → type_of third ≡ 0x22 → type_of last ≡ 0x33 →
+    pages_read (first ∷ second ∷ third ∷ last ∷ rest) ≡ view_of (page_octets (first ∷ second ∷ third ∷ last ∷ [])) ∷ pages_read rest
+pages_read-page first second third last rest one two three four = simp (one, two, three, four) refl
+
+pub pages_read-other : (block : List ℕ) (rest : List (List ℕ)) → type_of block ≢ 0x20 → pages_read (block ∷ rest) ≡ pages_read rest
+pages_read-other block rest other = rw (ne_eqb (type_of block) 0x20 other) refl

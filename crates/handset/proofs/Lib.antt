@@ -1,4 +1,6 @@
-mod Lists
-mod BlockLaws
-mod PageLaws
-mod ReadingLaws
+pub mod Lists
+pub mod BlockLaws
+pub mod PageLaws
+pub mod ReadingLaws
+pub mod TapeLaws
+mod Worked

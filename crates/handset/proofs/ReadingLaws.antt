@@ -12,7 +12,7 @@ use Rattle.handset.proofs.BlockLaws.{under_way-more, pages-more}
 use Rattle.handset.proofs.PageLaws.{kept-more, completed-more}
 
 -- the messages that a list of pages completes are those of its front, and then those of its rest
-completed_after-append : (before pages more : List PageView) → completed_after before (pages ++ more) ≡ completed_after before pages ++ completed_after (before ++ pages) more
+pub completed_after-append : (before pages more : List PageView) → completed_after before (pages ++ more) ≡ completed_after before pages ++ completed_after (before ++ pages) more
 completed_after-append before [] more = ap (λ all. completed_after all more) (sym (append-nil before))
 completed_after-append before (page ∷ pages) more =
     ap (λ rest. completed_by before page ++ rest)

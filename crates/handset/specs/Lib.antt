@@ -1,2 +1,4 @@
 pub mod Reading
 pub mod Keeping
+pub mod Tape
+pub mod TapeSteps

@@ -34,13 +34,13 @@ pub enum Begun {
 
 impl Begun {
     /// The blocks of the page that isn't whole after one more block.
-    pub fn with(self, block: &[u8; 23]) -> Begun
-        ensures { blocks_of result ≡ under_way_with (blocks_of self) block.now }
+    pub fn with(&self, block: &[u8; 23]) -> Begun
+        ensures { blocks_of result ≡ under_way_with (blocks_of self.now) block.now }
     {
         match (block[0], self) {
             (FIRST, _) => Begun::First(*block),
-            (SECOND, Begun::First(first)) => Begun::Second(first, *block),
-            (THIRD, Begun::Second(first, second)) => Begun::Third(first, second, *block),
+            (SECOND, Begun::First(first)) => Begun::Second(*first, *block),
+            (THIRD, Begun::Second(first, second)) => Begun::Third(*first, *second, *block),
             _ => Begun::Nothing,
         }
     }

@@ -1,4 +1,5 @@
-//! The handset: what it keeps of the blocks that it has read.
+//! The handset: what it keeps of the blocks that it has read. A contract sees no more of that than whether it stands for a list
+//! of blocks (`HasRead`).
 
 ghost use Rattle.std.specs.Prelude.{◌≡◌, [], ◌∷◌, ◌++◌, List, ℕ, IfOk, OnOk, OnErr, All, IsTrue};
 ghost use Rattle.std.specs.Option.{option_to_list};
@@ -14,6 +15,9 @@ use std::marker::Model;
 
 /// A handset (3GPP TS 23.041, clause 9.4.1): it reads blocks, and shows each message once, at the block with which its last
 /// missing page comes.
+///
+/// Fed the four blocks of a page 1 of 1 with the text `@`, `feed` answers `None` three times and then the message; fed them
+/// again, it answers `None` four times. `shown` has the one message from then on.
 #[derive(Drop)]
 pub struct Handset {
     alloc: Global,
@@ -47,8 +51,8 @@ impl Handset {
         }
     }
 
-    /// Reads a block, and answers the message that it makes complete, if it does. The only error is want of memory, and then
-    /// the handset is as it was.
+    /// Reads a block of 23 octets, its type and 22 more, and answers a copy of the message that it makes complete, if it does.
+    /// The only error is want of memory, and then the handset is as it was.
     pub fn feed(&mut self, block: &[u8; 23]) -> Result<Option<Shown>, Refused>
         ensures read { OnOk result ((blocks : List (List ℕ)) → HasRead self.old blocks → HasRead self.new (blocks ++ block.now ∷ [])) }
         ensures answered { IfOk result (λ answer. (blocks : List (List ℕ)) → HasRead self.old blocks →

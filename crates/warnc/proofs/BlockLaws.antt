@@ -7,7 +7,7 @@ use Rattle.cbs_page.specs.declared.content.Content.{Content}
 use Rattle.cbs_page.specs.declared.octets.PageView.{PageView}
 use Rattle.cbs_page.specs.Page.{octets_of_page, place_of, view_of}
 use Rattle.handset.specs.Reading.{page_octets, pages_read}
-use Rattle.warnc.specs.Blocks.{blocks_of_page}
+use Rattle.cbch_blocks.specs.Blocks.{blocks_of_page}
 use Rattle.warnc.specs.PageOutput.{pages_from}
 
 quarter : (page : List ℕ) (n : ℕ) → take 22 (drop n page) ++ drop (n + 22) page ≡ drop n page

@@ -2,3 +2,4 @@ pub mod PageLaws
 pub mod BlockLaws
 pub mod ComesBack
 pub mod MessageLaws
+pub mod OutputLaws

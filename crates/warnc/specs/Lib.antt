@@ -1,3 +1,3 @@
-pub mod Blocks
 pub mod PageOutput
+pub mod ReadOutput
 pub mod Status

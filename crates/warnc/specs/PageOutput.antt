@@ -12,7 +12,7 @@ use Rattle.cbs_page.specs.Page.{octets_of_page}
 use Rattle.cbs_page.specs.Text.{IsPagedText, IsTextFault}
 use Rattle.device_ends.specs.Moves.{AppendsFront}
 use Rattle.handset.specs.Reading.{Message, shown_in}
-use Rattle.warnc.specs.Blocks.{blocks_of_page}
+use Rattle.cbch_blocks.specs.Blocks.{blocks_of_page}
 use Rattle.warnc.specs.declared.page.PageFault.{PageFault}
 use Rattle.warnc.specs.declared.page.PageFault.TheVariants as fault
 

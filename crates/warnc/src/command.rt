@@ -21,6 +21,8 @@ pub struct PageOptions<'a> {
 pub enum Order<'a> {
     /// `page`.
     Page(PageOptions<'a>),
+    /// `read`.
+    Read,
 }
 
 /// What the words ask for, or the text that clap has for them: help, or what is wrong with them.
@@ -32,6 +34,7 @@ pub fn order_of<'a, S: AsStr>(alloc: Global, words: &'a [S]) -> Result<Option<Or
             Some(options) => Ok(Some(Order::Page(options))),
             None => Ok(None),
         },
+        Some(("read", _)) => Ok(Some(Order::Read)),
         _ => Ok(None),
     }
 }
@@ -56,7 +59,14 @@ fn warnc<'a>(alloc: Global) -> Result<Command<'a>, AllocError> {
         )
         .subcommand_required(true)
         .arg_required_else_help(true)
-        .subcommand(page(alloc)?)
+        .subcommand(page(alloc)?)?
+        .subcommand(read(alloc))
+}
+
+/// The command line of `read`.
+fn read<'a>(alloc: Global) -> Command<'a> {
+    Command::new(alloc, "read")
+        .about("Reads tapes of blocks and writes a table of what a handset shows of them, as CSV")
 }
 
 /// The command line of `page`.

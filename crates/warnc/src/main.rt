@@ -1,10 +1,11 @@
 //! `warnc`: cell broadcast warnings to the blocks that cells send, and back.
 #![tactic(auto)]
 
-mod blocks;
 mod command;
 pub mod page;
+pub mod read;
 pub mod run;
+mod table;
 
 use crate::run::{MEMORY, USAGE, run};
 use std::process::ExitCode;
@@ -35,3 +36,6 @@ fn status(rt: &HostRuntime) -> u8 {
 
 #[cfg(test)]
 mod tests;
+
+#[cfg(test)]
+mod read_tests;

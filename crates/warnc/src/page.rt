@@ -8,7 +8,7 @@ ghost use Rattle.device_ends.specs.Source.{reader_of, source_failed};
 ghost use Rattle.handset.specs.Keeping.{HasRead, message_shown, messages_of};
 ghost use Rattle.warnc.specs.PageOutput.{without_final_lf, blocks_of_message, block_line, message_line, lines_of, IsPageOutput, IsPageFault, IsStreamFault};
 
-use crate::blocks::cut;
+use cbch_blocks::cut;
 use cbs_page::{Paged, Serial, TextFault, page_bytes, paginate};
 use device_ends::{Failed, ReadFault, Sink, Source, read_up_to, write_all};
 use handset::{Handset, Refused, Shown};
@@ -61,6 +61,8 @@ pub fn page_stream<R: Read, W: Write>(
         IsStreamFault language.now id serial input (W.contents (writer_of sink.old)) (W.contents (writer_of sink.new)) fault)) }
 
     // At any reader and any writer.
+    ensures wrote { OnOk result ((input output : List ℕ) × IsPageOutput language.now id serial input output
+        × Appends (W.contents (writer_of sink.old)) (W.contents (writer_of sink.new)) output) }
     ensures nothing { IfErr result (λ fault. fault ≢ PageFault.Write
         → Keeps (W.contents (writer_of sink.old)) (W.contents (writer_of sink.new))) }
     ensures read { IsErrOf result PageFault.Read ↔ IsTrue (source_failed source.new) }

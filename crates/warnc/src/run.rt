@@ -1,14 +1,16 @@
 //! One run of the program: words in, a status out.
 
-ghost use Rattle.std.specs.Prelude.{◌≡◌, ◌≢◌, ◌≤◌, ◌↔◌, ℕ, List, IfSome, IsTrue};
+ghost use Rattle.std.specs.Prelude.{◌≡◌, ◌≢◌, ◌≤◌, ◌⊎◌, ℕ, List, true, IfSome};
 ghost use Rattle.std.specs.Io.KnownBytes.{Appends, Keeps};
-ghost use Rattle.device_ends.specs.Sink.{writer_of};
-ghost use Rattle.device_ends.specs.Source.{reader_of};
+ghost use Rattle.device_ends.specs.Sink.{sink_failed, writer_of};
+ghost use Rattle.device_ends.specs.Source.{reader_of, source_failed};
 ghost use Rattle.warnc.specs.PageOutput.{IsPageOutput};
-ghost use Rattle.warnc.specs.Status.{status_of_fault};
+ghost use Rattle.warnc.specs.ReadOutput.{IsReadOutput};
+ghost use Rattle.warnc.specs.Status.{status_of_fault, status_of_table_fault, IsNoTapes, IsRefused, IsRefusedBySome, WritesSome};
 
 use crate::command::{Order, PageOptions, order_of};
 use crate::page::{PageFault, page_stream};
+use crate::read::{TableFault, read_stream};
 use cbs_page::TextFault;
 use clap::Error;
 use clap::error::ErrorKind;
@@ -51,7 +53,7 @@ pub fn run<T: AllocGlobal, S: AsStr, R: Read, W: Write, F: Write>(
     run_ends(rt.alloc(), words, &mut source, &mut sink, faults)
 }
 
-/// The same, between two ends: nothing is written where the status is 1, 2 or 4.
+/// The same, between two ends: something is written where the status is 0, and nothing where it is 1, 2 or 4.
 pub fn run_ends<S: AsStr, R: Read, W: Write, F: Write>(
     alloc: Global,
     words: &[S],
@@ -59,12 +61,16 @@ pub fn run_ends<S: AsStr, R: Read, W: Write, F: Write>(
     sink: &mut Sink<W>,
     faults: &mut F,
 ) -> u8
+    ensures done { result ≡ DONE → WritesSome (W.contents (writer_of sink.old)) (W.contents (writer_of sink.new)) }
     ensures nothing { (result ≢ DONE) → (result ≢ DEVICE)
         → Keeps (W.contents (writer_of sink.old)) (W.contents (writer_of sink.new)) }
+    ensures refused { result ≡ REFUSED_INPUT → IsRefusedBySome (R.remaining (reader_of source.old)) }
+    ensures device { result ≡ DEVICE → (source_failed source.new ≡ true) ⊎ (sink_failed sink.new ≡ true) }
     ensures statuses { result ≤ 4 }
 {
     match order_of(alloc, words) {
         Ok(Some(Order::Page(options))) => run_page(alloc, &options, source, sink, faults),
+        Ok(Some(Order::Read)) => run_read(alloc, source, sink, faults),
         Ok(None) => {
             let _ = writeln!(faults, "warnc: no command");
             USAGE
@@ -84,8 +90,12 @@ fn run_page<R: Read, W: Write, F: Write>(
     ensures done { result ≡ DONE → IfSome (R.remaining (reader_of source.old)) (λ input.
         (output : List ℕ) × IsPageOutput options.now.language.now options.now.id options.now.serial input output
         × Appends (W.contents (writer_of sink.old)) (W.contents (writer_of sink.new)) output) }
+    ensures wrote { result ≡ DONE → WritesSome (W.contents (writer_of sink.old)) (W.contents (writer_of sink.new)) }
     ensures nothing { (result ≢ DONE) → (result ≢ DEVICE)
         → Keeps (W.contents (writer_of sink.old)) (W.contents (writer_of sink.new)) }
+    ensures refused { result ≡ REFUSED_INPUT → IfSome (R.remaining (reader_of source.old)) (IsRefused options.now.language.now) }
+    ensures device { result ≡ DEVICE → (source_failed source.new ≡ true) ⊎ (sink_failed sink.new ≡ true) }
+    ensures not_usage { result ≢ USAGE }
     ensures statuses { result ≤ 4 }
 {
     match page_stream(
@@ -116,36 +126,75 @@ fn status(fault: PageFault) -> u8
     }
 }
 
-/// Writes the text that clap has for the words: help to the sink, a mistake to `faults`.
+/// Runs `read`, and answers the status.
+fn run_read<R: Read, W: Write, F: Write>(
+    alloc: Global,
+    source: &mut Source<R>,
+    sink: &mut Sink<W>,
+    faults: &mut F,
+) -> u8
+    ensures done { result ≡ DONE → IfSome (R.remaining (reader_of source.old)) (λ input.
+        (output : List ℕ) × IsReadOutput input output
+        × Appends (W.contents (writer_of sink.old)) (W.contents (writer_of sink.new)) output) }
+    ensures wrote { result ≡ DONE → WritesSome (W.contents (writer_of sink.old)) (W.contents (writer_of sink.new)) }
+    ensures nothing { (result ≢ DONE) → (result ≢ DEVICE)
+        → Keeps (W.contents (writer_of sink.old)) (W.contents (writer_of sink.new)) }
+    ensures refused { result ≡ REFUSED_INPUT → IfSome (R.remaining (reader_of source.old)) IsNoTapes }
+    ensures device { result ≡ DEVICE → (source_failed source.new ≡ true) ⊎ (sink_failed sink.new ≡ true) }
+    ensures not_usage { result ≢ USAGE }
+    ensures statuses { result ≤ 4 }
+{
+    match read_stream(alloc, source, sink) {
+        Ok(()) => DONE,
+        Err(fault) => {
+            let _ = writeln!(faults, "warnc: {fault}");
+            status_of_table(fault)
+        }
+    }
+}
+
+/// The status of a fault of `read`.
+fn status_of_table(fault: TableFault) -> u8
+    ensures { result ≡ status_of_table_fault fault }
+{
+    match fault {
+        TableFault::Short | TableFault::Long => REFUSED_INPUT,
+        TableFault::Read | TableFault::Write => DEVICE,
+        TableFault::Refused => MEMORY,
+    }
+}
+
+/// Tells what clap has to say of the words: help goes to the sink, a mistake to `faults`.
 fn run_help<W: Write, F: Write>(
     alloc: Global,
     error: &Error,
     sink: &mut Sink<W>,
     faults: &mut F,
 ) -> u8
+    ensures done { result ≡ DONE → WritesSome (W.contents (writer_of sink.old)) (W.contents (writer_of sink.new)) }
     ensures nothing { (result ≢ DONE) → (result ≢ DEVICE)
         → Keeps (W.contents (writer_of sink.old)) (W.contents (writer_of sink.new)) }
+    ensures not_refused { result ≢ REFUSED_INPUT }
+    ensures device { result ≡ DEVICE → sink_failed sink.new ≡ true }
     ensures statuses { result ≤ 4 }
 {
     if error.kind() == ErrorKind::OutOfMemory {
         let _ = writeln!(faults, "warnc: out of memory");
         return MEMORY;
     }
-    if error.use_stderr() {
-        let _ = write!(faults, "{error}");
+    let Ok(text) = error.to_string(alloc) else {
+        let _ = writeln!(faults, "warnc: out of memory");
+        return MEMORY;
+    };
+    if error.use_stderr() || text.is_empty() {
+        let _ = write!(faults, "{text}");
         return USAGE;
     }
-    match error.to_string(alloc) {
-        Ok(help) => match write_all(sink, help.as_bytes()) {
-            Ok(()) => DONE,
-            Err(_) => {
-                let _ = writeln!(faults, "warnc: write failed");
-                DEVICE
-            }
-        },
+    match write_all(sink, text.as_bytes()) {
+        Ok(()) => DONE,
         Err(_) => {
-            let _ = writeln!(faults, "warnc: out of memory");
-            MEMORY
+            let _ = writeln!(faults, "warnc: write failed");
+            DEVICE
         }
     }
 }

@@ -12,14 +12,14 @@ use std::test::Fail;
 
 /// What a run gives.
 #[derive(Drop)]
-struct Outcome {
-    status: u8,
-    output: String,
-    faults: String,
+pub struct Outcome {
+    pub status: u8,
+    pub output: String,
+    pub faults: String,
 }
 
 /// A run on these words and this input, which comes in pieces of 7 octets and goes out in pieces of 11.
-fn run_on<T: AllocGlobal>(rt: &T, words: &[&str], input: &[u8]) -> Result<Outcome, Fail> {
+pub fn run_on<T: AllocGlobal>(rt: &T, words: &[&str], input: &[u8]) -> Result<Outcome, Fail> {
     let mut reader = MemoryReader::new(input, 7, None);
     let mut writer = MemoryWriter::new(rt.alloc(), 11, None);
     let mut faults = MemoryWriter::new(rt.alloc(), 64, None);
@@ -64,11 +64,11 @@ fn expect_output<T: AllocGlobal + Abort>(
 }
 
 /// Expects a status, a fault line and no output.
-fn expect_fault<T: AllocGlobal + Abort>(
+pub fn expect_fault<T: AllocGlobal + Abort>(
     rt: &T,
     words: &[&str],
     input: &[u8],
-    status: u8,
+    pub status: u8,
     fault: &str,
 ) -> Result<(), Fail> {
     let run = run_on(rt, words, input)?;

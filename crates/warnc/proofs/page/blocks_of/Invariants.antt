@@ -1,6 +1,6 @@
 use Rattle.std.proofs.Common.{◌≡◌, ◌+◌, ◌++◌, drop}
 use Rattle.std.specs.List.{flat_map}
-use Rattle.warnc.specs.Blocks.{blocks_of_page}
+use Rattle.cbch_blocks.specs.Blocks.{blocks_of_page}
 use Rattle.warnc.specs.PageOutput.{pages_from, blocks_of_message}
 use Rattle.warnc.proofs.page.blocks_of.Given as goal
 

@@ -1,0 +1,56 @@
+#!/usr/bin/env python3
+"""Writes tapes for bench/read.sh: 64 cells of 4,096 slots each, pages of both alphabets, repeats and idle slots.
+
+It stands on nothing of warnc: it packs and cuts by itself.
+"""
+import random
+import struct
+import sys
+
+SLOTS = 4096
+CELLS = 64
+LATIN = "Flood warning for the lower town: leave the river bank and go to higher ground. "
+CYRILLIC = "Внимание! Опасность наводнения: уходите от реки на возвышенность. "
+
+
+def gsm_content(text):
+    septets = [ord(c) for c in text] + [13] * (93 - len(text))
+    bits = sum(septet << (7 * place) for place, septet in enumerate(septets))
+    return bits.to_bytes(82, "little")
+
+
+def ucs2_content(text):
+    octets = text.encode("utf-16-be")
+    return octets + b"\x00\x0d" * ((82 - len(octets)) // 2)
+
+
+def pages(identifier, serial, text, latin):
+    size = 93 if latin else 41
+    pieces = [text[at:at + size] for at in range(0, len(text), size)]
+    content = gsm_content if latin else ucs2_content
+    for number, piece in enumerate(pieces, 1):
+        head = struct.pack(">HHBB", serial, identifier, 1 if latin else 0x48, 16 * number + len(pieces))
+        yield head + content(piece)
+
+
+def blocks(page):
+    return b"".join(bytes([kind]) + page[22 * at:22 * at + 22] for at, kind in enumerate((0x20, 0x21, 0x22, 0x33)))
+
+
+def main():
+    chance = random.Random(int(sys.argv[1]))
+    idle = (bytes([0x2F]) + b"\x2b" * 22) * 4
+    for cell in range(CELLS):
+        messages = []
+        for message in range(8):
+            latin = message % 2 == 0
+            text = (LATIN if latin else CYRILLIC) * chance.randint(1, 4)
+            messages.append([blocks(page) for page in pages(4370 + message, 16 * cell + message, text, latin)])
+        slots = []
+        while len(slots) < SLOTS:
+            slots += chance.choice(messages)
+            slots += [idle] * chance.randint(0, 2)
+        sys.stdout.buffer.write(struct.pack(">HHI", 1, cell + 1, SLOTS) + b"".join(slots[:SLOTS]))
+
+
+main()

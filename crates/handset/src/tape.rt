@@ -1,0 +1,319 @@
+//! Tapes (this project's own format): what a cell's broadcast channel sent, slot by slot, and what a handset shows of it. A tape is
+//! its cell (LAC 2 octets, CI 2), the number of its slots (4), and four blocks of 23 octets for each, high octets first; several
+//! tapes follow each other with nothing between. `specs/Tape.antt` says which octets are tapes, and what is told of them.
+
+ghost use Rattle.std.specs.Prelude.{◌≡◌, ◌≢◌, ◌↔◌, ◌+◌, ◌*◌, ◌<◌, ◌≤◌, ◌++◌, ℕ, List, false, length, IfErr, IfOk, IfSome, IfNone, IsErrOf, IsErr, IsTrue, OnOk, vec_len, [], ◌∷◌, MatchBool};
+ghost use Rattle.std.specs.Io.KnownBytes.{Consumes, IsAtEnd};
+ghost use Rattle.std.specs.Option.{option_to_list};
+ghost use Rattle.device_ends.specs.Source.{reader_of, source_failed};
+ghost use Rattle.handset.specs.Reading.{shown_in};
+ghost use Rattle.handset.specs.Keeping.{HasRead, messages_of};
+ghost use Rattle.handset.specs.Tape.{cell_in, slots_in, most_slots, reading_of, readings_of, AreSlots, AreTapes, IsNextFault, IsTape, IsTapeFault, IsTapesFault, octets_of_blocks};
+ghost use Rattle.handset.specs.declared.tape.TapeFault.TheVariants.{ReadFailed, Refused};
+ghost use Rattle.handset.specs.TapeSteps.{AreShown, ReadsBlocks, ReadsPiece, ReadsTape};
+
+use crate::input::read_front;
+use crate::{Handset, Shown};
+use cbsp_wire::Cell;
+use device_ends::{Failed, Source};
+use std::alloc::{AllocError, Global};
+use std::io::Read;
+use thiserror::Error;
+
+/// The most slots of a tape.
+pub const MAX_SLOTS: u32 = 4096;
+
+/// The most tapes of an input.
+pub const MAX_TAPES: usize = 64;
+
+/// How many octets the blocks of a slot have.
+const SLOT: usize = 92;
+
+/// How many slots are read at a time at most: their octets are just under 64 KiB.
+const PIECE_SLOTS: usize = 712;
+
+/// How many octets these are.
+const PIECE: usize = PIECE_SLOTS * SLOT;
+
+/// What a tape tells.
+#[derive(Drop, Debug)]
+pub struct Reading {
+    /// The cell whose channel it is.
+    pub cell: Cell,
+    /// How many slots it has, at most 4,096.
+    pub slots: u32,
+    /// The messages that a handset shows of its blocks, in order.
+    pub shown: Vec<Shown>,
+}
+
+/// Why an input gives no readings.
+#[derive(Clone, Copy, Debug, PartialEq, Eq, Error)]
+pub enum TapeFault {
+    /// The input ends inside a tape.
+    #[error("tape is short")]
+    Short,
+    /// The input goes on after its last tape, or a tape has more than 4,096 slots.
+    #[error("tape is long")]
+    Long,
+    /// The reader failed.
+    #[error("read failed")]
+    ReadFailed,
+    /// There was no memory.
+    #[error("out of memory")]
+    Refused,
+}
+
+impl From<Failed> for TapeFault {
+    ghost from_gives = { λ _ fault. fault ≡ ReadFailed };
+
+    fn from(_failed: Failed) -> TapeFault {
+        TapeFault::ReadFailed
+    }
+}
+
+impl From<AllocError> for TapeFault {
+    ghost from_gives = { λ _ fault. fault ≡ Refused };
+
+    fn from(_error: AllocError) -> TapeFault {
+        TapeFault::Refused
+    }
+}
+
+impl From<crate::Refused> for TapeFault {
+    ghost from_gives = { λ _ fault. fault ≡ Refused };
+
+    fn from(_error: crate::Refused) -> TapeFault {
+        TapeFault::Refused
+    }
+}
+
+/// Reads one tape, after which the input is to end.
+pub fn read_tape<R: Read>(alloc: Global, source: &mut Source<R>) -> Result<Reading, TapeFault>
+    ensures reading { IfOk result (λ reading. IfSome (R.remaining (reader_of source.old)) (λ input.
+        IsTape input (reading_of reading))) }
+    ensures fault { IfErr result (λ fault. IfSome (R.remaining (reader_of source.old)) (λ input. IsTapeFault input fault)) }
+
+    // At any reader.
+    ensures read { IsErrOf result TapeFault.ReadFailed ↔ IsTrue (source_failed source.new) }
+    ensures sound { OnOk result (source_failed source.new ≡ false) }
+{
+    if source.failed() {
+        return Err(TapeFault::ReadFailed);
+    }
+    let mut piece = zeros(alloc, PIECE)?;
+    let reading = match next_tape(alloc, source, &mut piece) {
+        Ok(Some(reading)) => reading,
+        Ok(None) => return Err(TapeFault::Short),
+        Err(fault) => return Err(fault),
+    };
+    match is_at_end(source) {
+        Ok(true) => Ok(reading),
+        Ok(false) => Err(TapeFault::Long),
+        Err(Failed) => Err(TapeFault::ReadFailed),
+    }
+}
+
+/// Reads tapes up to the end of the input, at most 64.
+pub fn read_tapes<R: Read>(
+    alloc: Global,
+    source: &mut Source<R>,
+) -> Result<Vec<Reading>, TapeFault>
+    ensures readings { IfOk result (λ readings. IfSome (R.remaining (reader_of source.old)) (λ input.
+        AreTapes input (readings_of readings.items))) }
+    ensures fault { IfErr result (λ fault. IfSome (R.remaining (reader_of source.old)) (λ input. IsTapesFault input fault)) }
+
+    // At any reader.
+    ensures read { IsErrOf result TapeFault.ReadFailed ↔ IsTrue (source_failed source.new) }
+    ensures sound { OnOk result (source_failed source.new ≡ false) }
+{
+    if source.failed() {
+        return Err(TapeFault::ReadFailed);
+    }
+    let mut piece = zeros(alloc, PIECE)?;
+    let mut readings = Vec::new(alloc);
+    while readings.len() < MAX_TAPES {
+        match next_tape(alloc, source, &mut piece) {
+            Ok(Some(reading)) => push_reading(&mut readings, reading)?,
+            Ok(None) => return Ok(readings),
+            Err(fault) => return Err(fault),
+        }
+    }
+    match is_at_end(source) {
+        Ok(true) => Ok(readings),
+        Ok(false) => Err(TapeFault::Long),
+        Err(Failed) => Err(TapeFault::ReadFailed),
+    }
+}
+
+/// Puts a reading behind others.
+fn push_reading(readings: &mut Vec<Reading>, reading: Reading) -> Result<(), TapeFault>
+    ensures readings { OnOk result (readings_of readings.new.items ≡ readings_of readings.old.items ++ reading_of reading ∷ []) }
+    ensures count { OnOk result (vec_len readings.new ≡ vec_len readings.old + 1) }
+    ensures refused { IfErr result (λ fault. fault ≡ TapeFault.Refused) }
+{
+    match readings.push(reading) {
+        Ok(()) => Ok(()),
+        Err(_) => Err(TapeFault::Refused),
+    }
+}
+
+/// So many octets of 0.
+fn zeros(alloc: Global, length: usize) -> Result<Vec<u8>, AllocError>
+    ensures { IfOk result (λ octets. vec_len octets ≡ length) }
+{
+    vec![in alloc; 0; length]
+}
+
+/// Whether the input is at its end. If it isn't, one octet more is gone.
+fn is_at_end<R: Read>(source: &mut Source<R>) -> Result<bool, Failed>
+    requires { source_failed source.old ≡ false }
+    ensures end { IfOk result (λ end. MatchBool end (IsAtEnd (R.remaining (reader_of source.old)))
+        (IfSome (R.remaining (reader_of source.old)) (λ left. 0 < length left))) }
+    ensures sound { OnOk result (source_failed source.new ≡ false) }
+    ensures failed { IsErr result ↔ IsTrue (source_failed source.new) }
+{
+    let mut octet = [0];
+    let count = read_front(source, &mut octet)?;
+    Ok(count == 0)
+}
+
+/// Reads the next tape, or answers that there is none.
+fn next_tape<R: Read>(
+    alloc: Global,
+    source: &mut Source<R>,
+    piece: &mut [u8],
+) -> Result<Option<Reading>, TapeFault>
+    requires sound { source_failed source.old ≡ false }
+    requires piece { length piece.old ≡ 65504 }
+    ensures tape { IfOk result (λ next. IfSome next (λ reading. ReadsTape (R.remaining (reader_of source.old))
+        (R.remaining (reader_of source.new)) (reading_of reading))) }
+    ensures end { IfOk result (λ next. IfNone next (IsAtEnd (R.remaining (reader_of source.old)))) }
+    ensures fault { IfErr result (λ fault. IfSome (R.remaining (reader_of source.old)) (λ left. IsNextFault left fault)) }
+    ensures read { IsErrOf result TapeFault.ReadFailed ↔ IsTrue (source_failed source.new) }
+    ensures sound { OnOk result (source_failed source.new ≡ false) }
+{
+    let mut header = [0; 8];
+    let count = read_front(source, &mut header)?;
+    if count == 0 {
+        return Ok(None);
+    }
+    if count < 8 {
+        return Err(TapeFault::Short);
+    }
+    let slots = slots_of(&header);
+    if slots > MAX_SLOTS {
+        return Err(TapeFault::Long);
+    }
+    match read_slots(alloc, source, piece, slots) {
+        Ok(shown) => Ok(Some(Reading {
+            cell: cell_of(&header),
+            slots,
+            shown,
+        })),
+        Err(fault) => Err(fault),
+    }
+}
+
+/// The cell that a header names.
+fn cell_of(header: &[u8; 8]) -> Cell
+    ensures { result ≡ cell_in header.now }
+{
+    Cell {
+        lac: u16::from_be_bytes([header[0], header[1]]),
+        ci: u16::from_be_bytes([header[2], header[3]]),
+    }
+}
+
+/// How many slots a header says.
+fn slots_of(header: &[u8; 8]) -> u32
+    ensures { result ≡ slots_in header.now }
+{
+    u32::from_be_bytes([header[4], header[5], header[6], header[7]])
+}
+
+/// Reads the blocks of so many slots, and answers what they show.
+fn read_slots<R: Read>(
+    alloc: Global,
+    source: &mut Source<R>,
+    piece: &mut [u8],
+    slots: u32,
+) -> Result<Vec<Shown>, TapeFault>
+    requires sound { source_failed source.old ≡ false }
+    requires few { slots ≤ most_slots }
+    requires piece { length piece.old ≡ 65504 }
+    ensures shown { IfOk result (λ shown. ReadsBlocks (R.remaining (reader_of source.old))
+        (R.remaining (reader_of source.new)) slots (messages_of shown.items)) }
+    ensures short { IfErr result (λ fault. fault ≡ TapeFault.Short
+        → IfSome (R.remaining (reader_of source.old)) (λ left. length left < 92 * slots)) }
+    ensures fits { IfErr result (λ fault. fault ≢ TapeFault.Long) }
+    ensures read { IsErrOf result TapeFault.ReadFailed ↔ IsTrue (source_failed source.new) }
+    ensures sound { OnOk result (source_failed source.new ≡ false) }
+{
+    let mut handset = Handset::new(alloc);
+    let mut shown = Vec::new(alloc);
+    let mut left = slots as usize;
+    while left > 0 {
+        let wanted = left.min(PIECE_SLOTS);
+        let length = SLOT * wanted;
+        match read_piece(source, &mut piece[..length], &mut handset, &mut shown) {
+            Ok(()) => left -= wanted,
+            Err(fault) => return Err(fault),
+        }
+    }
+    Ok(shown)
+}
+
+/// Reads as many octets as the piece has, and feeds the blocks that they are to a handset.
+fn read_piece<R: Read>(
+    source: &mut Source<R>,
+    piece: &mut [u8],
+    handset: &mut Handset,
+    shown: &mut Vec<Shown>,
+) -> Result<(), TapeFault>
+    requires { source_failed source.old ≡ false }
+    ensures piece { OnOk result (ReadsPiece (R.remaining (reader_of source.old)) (R.remaining (reader_of source.new))
+        (length piece.old) handset.old handset.new (messages_of shown.old.items) (messages_of shown.new.items)) }
+    ensures short { IfErr result (λ fault. fault ≡ TapeFault.Short
+        → IfSome (R.remaining (reader_of source.old)) (λ left. length left < length piece.old)) }
+    ensures fits { IfErr result (λ fault. fault ≢ TapeFault.Long) }
+    ensures read { IsErrOf result TapeFault.ReadFailed ↔ IsTrue (source_failed source.new) }
+    ensures sound { OnOk result (source_failed source.new ≡ false) }
+{
+    let count = read_front(source, piece)?;
+    if count < piece.len() {
+        return Err(TapeFault::Short);
+    }
+    let (blocks, _) = piece.as_chunks::<23>();
+    show(handset, shown, blocks)
+}
+
+/// Feeds blocks to a handset, and puts the messages that they make complete behind those that it has shown.
+fn show(
+    handset: &mut Handset,
+    shown: &mut Vec<Shown>,
+    blocks: &[[u8; 23]],
+) -> Result<(), TapeFault>
+    ensures shown { OnOk result ((before : List (List ℕ)) → AreShown handset.old (messages_of shown.old.items) before →
+        AreShown handset.new (messages_of shown.new.items) (before ++ blocks.now)) }
+    ensures refused { IfErr result (λ fault. fault ≡ TapeFault.Refused) }
+{
+    for block in blocks {
+        let answer = handset.feed(block)?;
+        push_answer(shown, answer)?;
+    }
+    Ok(())
+}
+
+/// Puts a message behind others, where there is one.
+fn push_answer(shown: &mut Vec<Shown>, answer: Option<Shown>) -> Result<(), TapeFault>
+    ensures shown { OnOk result (messages_of shown.new.items ≡ messages_of shown.old.items ++ messages_of (option_to_list answer)) }
+    ensures refused { IfErr result (λ fault. fault ≡ TapeFault.Refused) }
+{
+    match answer {
+        None => Ok(()),
+        Some(message) => match shown.push(message) {
+            Ok(()) => Ok(()),
+            Err(_) => Err(TapeFault::Refused),
+        },
+    }
+}

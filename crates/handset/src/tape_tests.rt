@@ -1,0 +1,217 @@
+//! Tapes that are built octet by octet, whole, cut short and made longer, and readers that fail.
+
+use super::*;
+use crate::tape::read_tape;
+use device_ends::Source;
+use device_ends::memory::MemoryReader;
+use std::alloc::Global;
+use std::process::Abort;
+use std::test::Fail;
+
+/// The header of a tape of cell 1-1 with two slots.
+const HEADER: [u8; 8] = [0x00, 0x01, 0x00, 0x01, 0x00, 0x00, 0x00, 0x02];
+
+/// The blocks of a page with serial number 0010, identifier 4370 and the text "@".
+const WORKED: [[u8; 23]; 4] = [
+    [
+        0x20, 0x00, 0x10, 0x11, 0x12, 0x01, 0x11, 0x80, 0x46, 0xA3, 0xD1, 0x68, 0x34, 0x1A, 0x8D,
+        0x46, 0xA3, 0xD1, 0x68, 0x34, 0x1A, 0x8D, 0x46,
+    ],
+    [
+        0x21, 0xA3, 0xD1, 0x68, 0x34, 0x1A, 0x8D, 0x46, 0xA3, 0xD1, 0x68, 0x34, 0x1A, 0x8D, 0x46,
+        0xA3, 0xD1, 0x68, 0x34, 0x1A, 0x8D, 0x46, 0xA3,
+    ],
+    [
+        0x22, 0xD1, 0x68, 0x34, 0x1A, 0x8D, 0x46, 0xA3, 0xD1, 0x68, 0x34, 0x1A, 0x8D, 0x46, 0xA3,
+        0xD1, 0x68, 0x34, 0x1A, 0x8D, 0x46, 0xA3, 0xD1,
+    ],
+    [
+        0x33, 0x68, 0x34, 0x1A, 0x8D, 0x46, 0xA3, 0xD1, 0x68, 0x34, 0x1A, 0x8D, 0x46, 0xA3, 0xD1,
+        0x68, 0x34, 0x1A, 0x8D, 0x46, 0xA3, 0xD1, 0x00,
+    ],
+];
+
+/// The tape of 192 octets: its header, the worked blocks, and those of an idle slot.
+fn worked_tape(alloc: Global) -> Result<Vec<u8>, Fail> {
+    let mut octets = Vec::new(alloc);
+    octets.extend_from_slice(&HEADER)?;
+    for block in &WORKED {
+        octets.extend_from_slice(block)?;
+    }
+    for _ in 0..4 {
+        octets.push(0x2F)?;
+        for _ in 0..22 {
+            octets.push(0x2B)?;
+        }
+    }
+    Ok(octets)
+}
+
+/// What `read_tape` says of these octets.
+fn one(alloc: Global, octets: &[u8]) -> Result<Reading, TapeFault> {
+    let mut reader = MemoryReader::new(octets, 1000, None);
+    read_tape(alloc, &mut Source::new(&mut reader))
+}
+
+/// What `read_tapes` says of these octets.
+fn all(alloc: Global, octets: &[u8]) -> Result<Vec<Reading>, TapeFault> {
+    let mut reader = MemoryReader::new(octets, 1000, None);
+    read_tapes(alloc, &mut Source::new(&mut reader))
+}
+
+/// That a reading is of the tape of 192 octets.
+fn is_worked(rt: &impl Abort, reading: &Reading) {
+    assert_eq!(rt; reading.cell.lac, 1);
+    assert_eq!(rt; reading.cell.ci, 1);
+    assert_eq!(rt; reading.slots, 2);
+    assert_eq!(rt; reading.shown.len(), 1);
+    for shown in &reading.shown {
+        assert_eq!(rt; shown.id, 4370);
+        assert_eq!(rt; shown.serial.number(), 0x0010);
+        assert_eq!(rt; shown.text.as_str(), "@");
+    }
+}
+
+#[test]
+fn the_worked_tape_is_read(rt: HostRuntime) -> Result<(), Fail> {
+    let mut octets = worked_tape(rt.alloc())?;
+    assert_eq!(rt; octets.len(), 192);
+    is_worked(&rt, &one(rt.alloc(), &octets)?);
+    let readings = all(rt.alloc(), &octets)?;
+    assert_eq!(rt; readings.len(), 1);
+    is_worked(&rt, &readings[0]);
+
+    octets.extend_from_slice(&worked_tape(rt.alloc())?)?;
+    assert!(rt; matches!(one(rt.alloc(), &octets), Err(TapeFault::Long)));
+    let readings = all(rt.alloc(), &octets)?;
+    assert_eq!(rt; readings.len(), 2);
+    is_worked(&rt, &readings[0]);
+    is_worked(&rt, &readings[1]);
+    Ok(())
+}
+
+#[test]
+fn each_front_is_short(rt: HostRuntime) -> Result<(), Fail> {
+    let octets = worked_tape(rt.alloc())?;
+    assert_eq!(rt; all(rt.alloc(), &octets[..0])?.len(), 0);
+    for count in 0..192 {
+        let front = &octets[..count];
+        assert!(rt; matches!(one(rt.alloc(), front), Err(TapeFault::Short)));
+        if count > 0 {
+            assert!(rt; matches!(all(rt.alloc(), front), Err(TapeFault::Short)));
+        }
+    }
+    Ok(())
+}
+
+#[test]
+fn an_octet_more_or_other_slots(rt: HostRuntime) -> Result<(), Fail> {
+    let mut octets = worked_tape(rt.alloc())?;
+    octets.push(0x00)?;
+    assert!(rt; matches!(one(rt.alloc(), &octets), Err(TapeFault::Long)));
+    assert!(rt; matches!(all(rt.alloc(), &octets), Err(TapeFault::Short)));
+    octets.pop();
+
+    // The idle blocks are then taken for a header with 2B2B2B2B slots.
+    octets[7] = 1;
+    assert!(rt; matches!(one(rt.alloc(), &octets), Err(TapeFault::Long)));
+    assert!(rt; matches!(all(rt.alloc(), &octets), Err(TapeFault::Long)));
+
+    octets[7] = 3;
+    assert!(rt; matches!(one(rt.alloc(), &octets), Err(TapeFault::Short)));
+    assert!(rt; matches!(all(rt.alloc(), &octets), Err(TapeFault::Short)));
+    Ok(())
+}
+
+#[test]
+fn at_most_4096_slots(rt: HostRuntime) -> Result<(), Fail> {
+    let most = [0x00, 0x01, 0x00, 0x01, 0x00, 0x00, 0x10, 0x00];
+    assert!(rt; matches!(one(rt.alloc(), &most), Err(TapeFault::Short)));
+    assert!(rt; matches!(all(rt.alloc(), &most), Err(TapeFault::Short)));
+    let more = [0x00, 0x01, 0x00, 0x01, 0x00, 0x00, 0x10, 0x01];
+    assert!(rt; matches!(one(rt.alloc(), &more), Err(TapeFault::Long)));
+    assert!(rt; matches!(all(rt.alloc(), &more), Err(TapeFault::Long)));
+
+    // A whole tape of 4,096 slots, which takes several pieces: the worked page is in its last slot.
+    let mut octets = Vec::new(rt.alloc());
+    octets.extend_from_slice(&most)?;
+    for _ in 0..4095 * 92 {
+        octets.push(0x2B)?;
+    }
+    for block in &WORKED {
+        octets.extend_from_slice(block)?;
+    }
+    let reading = one(rt.alloc(), &octets)?;
+    assert_eq!(rt; reading.slots, 4096);
+    assert_eq!(rt; reading.shown.len(), 1);
+    assert_eq!(rt; reading.shown[0].text.as_str(), "@");
+    Ok(())
+}
+
+#[test]
+fn tapes_of_no_slots(rt: HostRuntime) -> Result<(), Fail> {
+    let empty = [0x12, 0x34, 0x56, 0x78, 0x00, 0x00, 0x00, 0x00];
+    let reading = one(rt.alloc(), &empty)?;
+    assert_eq!(rt; reading.cell.lac, 0x1234);
+    assert_eq!(rt; reading.cell.ci, 0x5678);
+    assert_eq!(rt; reading.slots, 0);
+    assert_eq!(rt; reading.shown.len(), 0);
+
+    let mut octets = Vec::new(rt.alloc());
+    for _ in 0..64 {
+        octets.extend_from_slice(&empty)?;
+    }
+    assert_eq!(rt; all(rt.alloc(), &octets)?.len(), 64);
+    octets.push(0x00)?;
+    assert!(rt; matches!(all(rt.alloc(), &octets), Err(TapeFault::Long)));
+    octets.extend_from_slice(&empty)?;
+    assert!(rt; matches!(all(rt.alloc(), &octets), Err(TapeFault::Long)));
+    Ok(())
+}
+
+/// That both readings fail while the reader gives so many octets a call, and fewer calls than the tape takes.
+fn fails_until(
+    rt: &impl Abort,
+    alloc: Global,
+    octets: &[u8],
+    per_call: usize,
+    calls: usize,
+) -> Result<(), Fail> {
+    for given in 0..calls {
+        let mut reader = MemoryReader::new(octets, per_call, Some(given));
+        let mut source = Source::new(&mut reader);
+        assert!(rt; matches!(read_tape(alloc, &mut source), Err(TapeFault::ReadFailed)));
+        assert!(rt; matches!(read_tape(alloc, &mut source), Err(TapeFault::ReadFailed)));
+        let mut reader = MemoryReader::new(octets, per_call, Some(given));
+        let mut source = Source::new(&mut reader);
+        assert!(rt; matches!(read_tapes(alloc, &mut source), Err(TapeFault::ReadFailed)));
+        assert!(rt; matches!(read_tapes(alloc, &mut source), Err(TapeFault::ReadFailed)));
+    }
+    let mut reader = MemoryReader::new(octets, per_call, None);
+    is_worked(rt, &read_tape(alloc, &mut Source::new(&mut reader))?);
+    Ok(())
+}
+
+#[test]
+fn a_reader_that_fails(rt: HostRuntime) -> Result<(), Fail> {
+    let octets = worked_tape(rt.alloc())?;
+    // 192 calls of one octet, and one for the end.
+    fails_until(&rt, rt.alloc(), &octets, 1, 193)?;
+    // 27 calls of seven octets are fewer than 192.
+    fails_until(&rt, rt.alloc(), &octets, 7, 28)?;
+    fails_until(&rt, rt.alloc(), &octets, 100, 3)
+}
+
+#[test]
+fn faults_have_texts(rt: HostRuntime) -> Result<(), Fail> {
+    let texts = [
+        (TapeFault::Short, "tape is short"),
+        (TapeFault::Long, "tape is long"),
+        (TapeFault::ReadFailed, "read failed"),
+        (TapeFault::Refused, "out of memory"),
+    ];
+    for (fault, text) in texts.as_slice() {
+        assert_eq!(rt; fault.to_string(rt.alloc())?.as_str(), *text);
+    }
+    Ok(())
+}

@@ -1,0 +1,10 @@
+use Rattle.warnc.proofs.OutputLaws.{some_output}
+use Rattle.warnc.proofs.run.run_page.Goals as goal
+
+pub returns-in-Ok-clause-wrote : goal.returns-in-Ok-clause-wrote
+returns-in-Ok-clause-wrote g c = λ done.
+    let wrote = c.in-Ok.ensures.wrote in (
+      wrote.1,
+      some_output c.args.options.now.language.now c.args.options.now.id c.args.options.now.serial wrote.0 wrote.1 wrote.2,
+      wrote.3,
+    )
