@@ -3,7 +3,7 @@
 use cbs_page::{Content, Dcs, Serial};
 use std::marker::Model;
 
-/// A cell, by its location area and its identity in it (3GPP TS 48.008, 3.2.2.17: location area code and cell identity).
+/// A cell, by its location area code and its cell identity: `Cell { lac: 1, ci: 1 }`.
 #[derive(Clone, Copy, Debug, PartialEq, Eq)]
 pub struct Cell {
     /// The location area code.
@@ -12,7 +12,7 @@ pub struct Cell {
     pub ci: u16,
 }
 
-/// How many broadcasts of a message a cell completed (3GPP TS 48.049, 8.2.9).
+/// How many broadcasts of a message a cell completed (3GPP TS 48.049, 8.2, Number of Broadcasts Completed List).
 #[derive(Clone, Copy, Debug, PartialEq, Eq)]
 pub struct Count {
     /// The cell.
@@ -23,12 +23,12 @@ pub struct Count {
     pub info: u8,
 }
 
-/// A cell that refused, and why (3GPP TS 48.049, 8.2.10).
+/// A cell that refused, and why (3GPP TS 48.049, 8.2, Failure List).
 #[derive(Clone, Copy, Debug, PartialEq, Eq)]
 pub struct Failure {
     /// The cell.
     pub cell: Cell,
-    /// The cause (3GPP TS 48.049, 8.2.13).
+    /// The cause (3GPP TS 48.049, 8.2, Cause).
     pub cause: u8,
 }
 
@@ -96,13 +96,13 @@ impl Model for Contents {
     ghost view = { λ contents. contents.list.items };
 }
 
-/// A message (3GPP TS 48.049, 8.1.3). Where an element is optional, `None` or an empty list says that it is left out.
+/// A message (3GPP TS 48.049, 8.1). Where an element is optional, `None` or an empty list says that it is left out.
 ///
 /// `Message::Kill { id: 4370, old_serial: Serial::of(0x0010), cells, channel: None }`, where `cells` names the cell 1-1, is
 /// written as `04 00 00 0E 0E 11 12 02 00 10 04 00 05 01 00 01 00 01`.
 #[derive(Debug, Drop)]
 pub enum Message {
-    /// Broadcast this, in place of an older message where one is told (8.1.3.1).
+    /// Broadcast this, in place of an older message where one is told (WRITE-REPLACE).
     Write {
         /// The message identifier.
         id: u16,
@@ -125,7 +125,7 @@ pub enum Message {
         /// The pages' contents, 1 to 15.
         contents: Contents,
     },
-    /// Every cell took the order (8.1.3.2).
+    /// Every cell took the order (WRITE-REPLACE COMPLETE).
     WriteDone {
         /// The message identifier.
         id: u16,
@@ -140,7 +140,7 @@ pub enum Message {
         /// 0 basic channel, 1 extended channel.
         channel: Option<u8>,
     },
-    /// Some cell refused the order (8.1.3.3).
+    /// Some cell refused the order (WRITE-REPLACE FAILURE).
     WriteFailed {
         /// The message identifier.
         id: u16,
@@ -157,7 +157,7 @@ pub enum Message {
         /// 0 basic channel, 1 extended channel.
         channel: Option<u8>,
     },
-    /// Stop a message (8.1.3.4).
+    /// Stop a message (KILL).
     Kill {
         /// The message identifier.
         id: u16,
@@ -168,7 +168,7 @@ pub enum Message {
         /// 0 basic channel, 1 extended channel.
         channel: Option<u8>,
     },
-    /// Every cell stopped it (8.1.3.5).
+    /// Every cell stopped it (KILL COMPLETE).
     KillDone {
         /// The message identifier.
         id: u16,
@@ -181,7 +181,7 @@ pub enum Message {
         /// 0 basic channel, 1 extended channel.
         channel: Option<u8>,
     },
-    /// Some cell refused to stop it (8.1.3.6).
+    /// Some cell refused to stop it (KILL FAILURE).
     KillFailed {
         /// The message identifier.
         id: u16,

@@ -13,13 +13,6 @@ use crate::range::{are_in_range, has_mandatory};
 use crate::value::message;
 use std::alloc::Global;
 
-/// An octet of a length, as a number to count with.
-const fn wide(octet: u8) -> usize
-    ensures { result ≡ octet }
-{
-    octet as usize
-}
-
 /// The first fault of a message's elements.
 fn fault_of_elements(kind: Kind, elements: &[u8]) -> Option<WireFault>
     ensures first { result ≡ fault_of_walk kind (walk_of kind elements.now).elements (walk_of kind elements.now).stop }
@@ -53,7 +46,7 @@ fn parts(octets: &[u8]) -> Result<(Kind, &[u8]), WireFault>
     let [octet, a, b, c, elements @ ..] = octets else {
         return Err(WireFault::Truncated);
     };
-    let told = wide(*a) * 65536 + wide(*b) * 256 + wide(*c);
+    let told = usize::from(*a) * 65536 + usize::from(*b) * 256 + usize::from(*c);
     if elements.len() < told {
         return Err(WireFault::Truncated);
     }
