@@ -1,0 +1,54 @@
+-- Reservations of messages, slot by slot.
+use Rattle.std.proofs.Common.{◌≡◌, ℕ, ◌+◌, ◌*◌, ◌≤◌, ◌<◌, Bool, true, false, cond, List, [], ◌∷◌, map, filter, sum_by, Option, Some, None, inl, inr, ◌⊎◌, refl, sym, ap, ◌∙◌, arith}
+use Rattle.std.specs.Prelude.{◌==◌, if◌then◌else◌}
+use Rattle.std.proofs.lemmas.List.Sums.{sum_by-cons}
+use Rattle.std.proofs.lemmas.Bool.{eq-eqb, cases_eq, ne_eqb}
+use Rattle.std.proofs.Math.Nat.{mul-le-mul_right}
+use Rattle.admission.specs.Load.{load_of}
+use Rattle.admission.specs.Reservation.{Reservation, IsBeforeEnd, IsReservedAt, is_reserved_at, loads_at, natural_end, end_of_reservation}
+use Rattle.admission.proofs.Reservations.{is_reserved_at-from, end_of_stopped-covers}
+use Rattle.scheduler.specs.Message.{Message, release, due, HasBroadcast, IsBeforeStop}
+use Rattle.bsc_table.specs.Guarantee.{reservation_of, ReservationsCoverBroadcasts}
+
+-- a broadcast that was requested is due by the end of what runs out
+before_natural_end : (start period requested j slot : ℕ) → (requested ≡ 0) ⊎ (j < requested) → slot < start + (j + 1) * period → IsBeforeEnd slot (natural_end start period requested)
+before_natural_end start period requested j slot has before =
+    elim (cases_eq requested 0) [
+      | inl always ↦ rw (eq-eqb requested 0 always) tt
+      | inr some ↦
+          let within : j + 1 ≤ requested = elim has [ inl never ↦ absurd (some never) | inr below ↦ omega arith ] in
+          let times = mul-le-mul_right period within in
+          rw (ne_eqb requested 0 some) (omega arith)
+    ]
+
+-- the same where it may have been stopped
+before_end : (start period requested j slot : ℕ) (stop : Option ℕ) → (requested ≡ 0) ⊎ (j < requested) → IsBeforeStop (start + j * period) stop → start + j * period ≤ slot → slot < start + (j + 1) * period → IsBeforeEnd slot (end_of_reservation start period requested stop)
+before_end start period requested j slot None has standing released before =
+    before_natural_end start period requested j slot has before
+before_end start period requested j slot (Some stop) has standing released before =
+    let some : 0 < period = omega arith in
+    let covers = end_of_stopped-covers start period j stop some standing in
+    omega arith
+
+pub reservations_cover_broadcasts : ReservationsCoverBroadcasts
+reservations_cover_broadcasts m j slot has standing released before =
+    (omega arith, before_end m.start m.period m.requested j slot m.stop has standing released before)
+
+-- the load that a message has reserved at a slot
+abbrev pub load_at : Message → ℕ → ℕ
+load_at m slot = cond (is_reserved_at slot (reservation_of m)) (load_of m.pages m.period) 0
+
+pub load_at-reserved : (m : Message) (slot : ℕ) → IsReservedAt (reservation_of m) slot → load_at m slot ≡ load_of m.pages m.period
+load_at-reserved m slot reserved =
+    ap (λ (b : Bool). cond b (load_of m.pages m.period) 0) (is_reserved_at-from slot (reservation_of m) reserved)
+
+-- an element that is kept adds its own
+sum_by-kept : {X : Type 0} (f : X → ℕ) (b : Bool) (x : X) (xs : List X) → sum_by f (cond b (x ∷ xs) xs) ≡ cond b (f x) 0 + sum_by f xs
+sum_by-kept f true x xs = sum_by-cons f x xs
+sum_by-kept f false x xs = omega arith
+
+-- the loads reserved at a slot, message by message
+pub loads_by_message : (messages : List Message) (slot : ℕ) → loads_at (map reservation_of messages) slot ≡ sum_by (λ m. load_at m slot) messages
+loads_by_message [] slot = refl
+loads_by_message (m ∷ messages) slot =
+    omega (arith, loads_by_message messages slot, sum_by-cons (λ o. load_at o slot) m messages, sum_by-kept (λ (r : Reservation). r.load) (is_reserved_at slot (reservation_of m)) (reservation_of m) (filter (is_reserved_at slot) (map reservation_of messages)))

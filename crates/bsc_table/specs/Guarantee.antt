@@ -1,0 +1,66 @@
+-- What admission promises of the air (own): over messages, their reservations and an air list alone.
+use Rattle.std.specs.Prelude.{◌≡◌, ℕ, ◌+◌, ◌*◌, ◌<◌, ◌≤◌, ⊤, Option, Some, None, List, length, map, slice_index_or, All, AllPairs, Any}
+use Rattle.admission.specs.declared.measure.TheConstants.{SCALE}
+use Rattle.admission.specs.Load.{load_of}
+use Rattle.admission.specs.Reservation.{Reservation, IsReservedAt, loads_at, end_of_reservation}
+use Rattle.scheduler.specs.Message.{Message, release, due, HasBroadcast, IsBeforeStop}
+use Rattle.scheduler.specs.Air.{Air, pages_aired, IsPending, next_page, IsAirOf}
+
+-- what a message has reserved: its load, from its start up to the end that its period, its requested broadcasts and its
+-- stop give
+abbrev pub reservation_of : Message → Reservation
+reservation_of m = record {
+  number = m.number;
+  load = load_of m.pages m.period;
+  start = m.start;
+  end = end_of_reservation m.start m.period m.requested m.stop;
+}
+
+-- at each slot the loads that are reserved sum to at most SCALE
+abbrev pub LoadsFit : List Message → Type 0
+LoadsFit messages = (slot : ℕ) → loads_at (map reservation_of messages) slot ≤ SCALE
+
+-- the slot comes no later than the stop, or there is none
+abbrev pub IsUpToStop : ℕ → Option ℕ → Type 0
+IsUpToStop slot None = ⊤
+IsUpToStop slot (Some stop) = slot ≤ stop
+
+-- broadcast j of the message was requested, and neither the stop nor the end of the air list cuts it
+pub record IsUncut (m : Message) (j : ℕ) (air : Air) : Type 0 where
+  pub requested : HasBroadcast m j
+  pub standing : IsUpToStop (due m j) m.stop
+  pub aired_by : due m j ≤ length air
+
+-- the slot airs the next page of a broadcast that was released at `from` or later and is due at `to` or sooner
+abbrev pub AirsOneWithin : List Message → Air → ℕ → ℕ → ℕ → Type 0
+AirsOneWithin messages air from to slot =
+    Any (λ m. (j : ℕ) × IsPending m j air slot × (slice_index_or air slot None ≡ Some (next_page m j air slot)) × (from ≤ release m j) × (due m j ≤ to)) messages
+
+-- a message is reserved at each slot of each of its broadcasts that was released before its stop, stopped later or not
+abbrev pub ReservationsCoverBroadcasts : Type 0
+ReservationsCoverBroadcasts = (m : Message) (j slot : ℕ)
+    → HasBroadcast m j
+    → IsBeforeStop (release m j) m.stop
+    → release m j ≤ slot
+    → slot < due m j
+    → IsReservedAt (reservation_of m) slot
+
+-- where an uncut broadcast lacks a page, each slot from some slot on, no later than its release, up to its due slot airs a
+-- page of a broadcast that was released since then and is due no later
+abbrev pub LackMeansABusyPeriod : Type 0
+LackMeansABusyPeriod = (messages : List Message) (air : Air)
+    → IsAirOf messages air
+    → All (λ m. (j : ℕ)
+      → IsUncut m j air
+      → pages_aired m.number air (release m j) (due m j) < m.pages
+      → (from : ℕ) × (from ≤ release m j) × ((slot : ℕ) → from ≤ slot → slot < due m j → AirsOneWithin messages air from (due m j) slot)) messages
+
+-- where the reserved loads fit at each slot, and the air list is by the rule, each uncut broadcast has all its pages aired
+-- between its release and its due slot
+abbrev pub AdmittedLoadIsAGuarantee : Type 0
+AdmittedLoadIsAGuarantee = (messages : List Message) (air : Air)
+    → AllPairs (λ a b. a.number < b.number) messages
+    → All (λ m. 0 < m.period) messages
+    → LoadsFit messages
+    → IsAirOf messages air
+    → All (λ m. (j : ℕ) → IsUncut m j air → pages_aired m.number air (release m j) (due m j) ≡ m.pages) messages
