@@ -84,7 +84,8 @@ stop_later : (s t : ℕ) (stop : Option ℕ) → s ≤ t → IsBeforeStop t stop
 stop_later s t None le h = tt
 stop_later s t (Some stop) le h = omega arith
 
-before_up_to : (s t : ℕ) (stop : Option ℕ) → s < t → IsUpToStop t stop → IsBeforeStop s stop
+-- before a slot that comes no later than the stop is before the stop
+pub before_up_to : (s t : ℕ) (stop : Option ℕ) → s < t → IsUpToStop t stop → IsBeforeStop s stop
 before_up_to s t None le h = tt
 before_up_to s t (Some stop) le h = omega arith
 

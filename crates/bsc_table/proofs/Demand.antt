@@ -53,7 +53,7 @@ takes_on : (scale : ℕ) (m : Message) (air : Air) (a b c : ℕ) → Takes scale
 takes_on scale m air a b c first second = omega arith
 
 -- a broadcast's reservation is enough for its pages
-reserved_over : (m : Message) (j : ℕ) → HasBroadcast m j → IsBeforeStop (release m j) m.stop → loads_before m (release m j) + load_of m.pages m.period * m.period ≤ loads_before m (due m j)
+pub reserved_over : (m : Message) (j : ℕ) → HasBroadcast m j → IsBeforeStop (release m j) m.stop → loads_before m (release m j) + load_of m.pages m.period * m.period ≤ loads_before m (due m j)
 reserved_over m j has standing =
     let reach : release m j + m.period ≡ due m j = omega arith in
     let load : ℕ = load_of m.pages m.period in

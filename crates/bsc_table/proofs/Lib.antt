@@ -1,6 +1,7 @@
 pub mod Broadcasts
 pub mod Busy
 pub mod Demand
+pub mod Ranges
 pub mod Reserved
-pub mod Sums
 pub mod Served
+pub mod Sums

@@ -1,14 +1,16 @@
 -- Reservations of messages, slot by slot.
-use Rattle.std.proofs.Common.{◌≡◌, ℕ, ◌+◌, ◌*◌, ◌≤◌, ◌<◌, Bool, true, false, cond, List, [], ◌∷◌, map, filter, sum_by, Option, Some, None, inl, inr, ◌⊎◌, refl, sym, ap, ◌∙◌, arith}
+use Rattle.std.proofs.Common.{◌≡◌, ℕ, ◌+◌, ◌-◌, ◌*◌, ◌≤◌, ◌<◌, Bool, true, false, cond, List, [], ◌∷◌, map, filter, sum_by, Option, Some, None, inl, inr, ◌⊎◌, refl, sym, ap, ◌∙◌, arith}
 use Rattle.std.specs.Prelude.{◌==◌, if◌then◌else◌}
 use Rattle.std.proofs.lemmas.List.Sums.{sum_by-cons}
 use Rattle.std.proofs.lemmas.Bool.{eq-eqb, cases_eq, ne_eqb}
 use Rattle.std.proofs.Math.Nat.{mul-le-mul_right}
+use Rattle.admission.specs.declared.measure.TheConstants.{SCALE}
 use Rattle.admission.specs.Load.{load_of}
 use Rattle.admission.specs.Reservation.{Reservation, IsBeforeEnd, IsReservedAt, is_reserved_at, loads_at, natural_end, end_of_reservation}
 use Rattle.admission.proofs.Reservations.{is_reserved_at-from, end_of_stopped-covers}
 use Rattle.scheduler.specs.Message.{Message, release, due, HasBroadcast, IsBeforeStop}
-use Rattle.bsc_table.specs.Guarantee.{reservation_of, ReservationsCoverBroadcasts}
+use Rattle.bsc_table.proofs.Sums.{total, total-at_most, exchange}
+use Rattle.bsc_table.specs.Guarantee.{reservation_of, LoadsFit, ReservationsCoverBroadcasts}
 
 -- a broadcast that was requested is due by the end of what runs out
 before_natural_end : (start period requested j slot : ℕ) → (requested ≡ 0) ⊎ (j < requested) → slot < start + (j + 1) * period → IsBeforeEnd slot (natural_end start period requested)
@@ -52,3 +54,18 @@ pub loads_by_message : (messages : List Message) (slot : ℕ) → loads_at (map 
 loads_by_message [] slot = refl
 loads_by_message (m ∷ messages) slot =
     omega (arith, loads_by_message messages slot, sum_by-cons (λ o. load_at o slot) m messages, sum_by-kept (λ (r : Reservation). r.load) (is_reserved_at slot (reservation_of m)) (reservation_of m) (filter (is_reserved_at slot) (map reservation_of messages)))
+
+-- where the loads of each slot sum to at most scale, those of a range do to at most so many times that
+pub loads_grow : (scale : ℕ) (messages : List Message) (from to : ℕ) → from ≤ to → ((slot : ℕ) → sum_by (λ m. load_at m slot) messages ≤ scale) → sum_by (λ o. total (load_at o) to) messages ≤ sum_by (λ o. total (load_at o) from) messages + scale * (to - from)
+loads_grow scale messages from to forward fits =
+    let f = λ (t : ℕ). sum_by (λ (o : Message). load_at o t) messages in
+    let reach : from + (to - from) ≡ to = omega arith in
+    let grown = total-at_most f scale from (to - from) fits in
+    let at_from = exchange load_at messages from in
+    let at_to = exchange load_at messages to in
+    let moved = ap (total f) reach in
+    omega arith
+
+-- what fits at each slot, message by message
+pub fits_by_message : (messages : List Message) → LoadsFit messages → (slot : ℕ) → sum_by (λ m. load_at m slot) messages ≤ SCALE
+fits_by_message messages fit slot = omega (arith, fit slot, loads_by_message messages slot)

@@ -1,6 +1,6 @@
 -- Admitted load is a guarantee: a broadcast that lacks a page would leave more demand in its busy period than the loads
 -- that are reserved there allow.
-use Rattle.std.proofs.Common.{◌≡◌, ℕ, ◌+◌, ◌-◌, ◌*◌, ◌≤◌, ◌<◌, Bool, true, cond, List, length, get_or, map, sum_by, Option, Some, None, inl, inr, refl, sym, ap, subst, ◌∙◌, arith}
+use Rattle.std.proofs.Common.{◌≡◌, ℕ, ◌+◌, ◌-◌, ◌*◌, ◌≤◌, ◌<◌, Bool, true, cond, List, length, get_or, map, min, sum_by, Option, Some, None, inl, inr, refl, sym, ap, subst, ◌∙◌, arith}
 use Rattle.std.specs.List.{All, AllPairs}
 use Rattle.std.proofs.lemmas.Bool.{cases_lt, cases_order, eq-eqb, eqb-true}
 use Rattle.std.proofs.lemmas.List.{get_or_default}
@@ -12,12 +12,12 @@ use Rattle.admission.proofs.Loads.{load_of-enough}
 use Rattle.scheduler.specs.Message.{Message, release, due, HasBroadcast, IsBeforeStop}
 use Rattle.scheduler.specs.Air.{Air, airs, pages_aired, next_page, IsPending, IsAirOf}
 use Rattle.scheduler.proofs.Rule.{pages_aired-at_most}
-use Rattle.bsc_table.specs.Guarantee.{LoadsFit, IsUpToStop, IsUncut, AirsOneWithin, AdmittedLoadIsAGuarantee}
+use Rattle.bsc_table.specs.Guarantee.{LoadsFit, IsUpToStop, IsUncut, AirsOneWithin, AdmittedLoadIsAGuarantee, AdmittedBroadcastsAreWhole}
 use Rattle.bsc_table.proofs.Sums.{total, total-at_least, total-at_most, sum_by-plus, sum_by-times, exchange, sum_by-le_more}
 use Rattle.bsc_table.proofs.Broadcasts.{uses}
-use Rattle.bsc_table.proofs.Reserved.{load_at, loads_by_message}
+use Rattle.bsc_table.proofs.Reserved.{load_at, loads_grow, fits_by_message}
 use Rattle.bsc_table.proofs.Demand.{IsServed, Inside, pages_before, loads_before, takes_inside, takes_short}
-use Rattle.bsc_table.proofs.Busy.{lack_means_a_busy_period}
+use Rattle.bsc_table.proofs.Busy.{before_up_to, lack_means_a_busy_period}
 
 -- in a list with rising numbers, one number is one message
 same_message : (messages : List Message) (i k : ℕ) (d e : Message) → AllPairs (λ a b. a.number < b.number) messages → i < length messages → k < length messages → (get_or messages i d).number ≡ (get_or messages k e).number → get_or messages i d ≡ get_or messages k e
@@ -71,7 +71,6 @@ no_lack scale messages air k d j from some within served fits early uncut busy l
     let period = mine.period in
     let ahead : release m j < to = omega arith in
     let forward : from ≤ to = omega arith in
-    let reach : from + (to - from) ≡ to = omega arith in
     let low = λ (o : Message). scale * pages_before o air to + loads_before o from in
     let high = λ (o : Message). loads_before o to + scale * pages_before o air from in
     let inside = λ (i : ℕ) (e : Message) (h : i < length messages). inside_of_busy messages air from to i e mine.rising h busy in
@@ -84,13 +83,8 @@ no_lack scale messages air k d j from some within served fits early uncut busy l
         sum_by-plus (λ (o : Message). scale * pages_before o air to) (λ (o : Message). loads_before o from) messages ∙ ap (λ (n : ℕ). n + loads from) (sum_by-times scale (λ (o : Message). pages_before o air to) messages) in
     let high_sum : sum_by high messages ≡ loads to + scale * pages from =
         sum_by-plus (λ (o : Message). loads_before o to) (λ (o : Message). scale * pages_before o air from) messages ∙ ap (λ (n : ℕ). loads to + n) (sum_by-times scale (λ (o : Message). pages_before o air from) messages) in
-    let P : ℕ → Type 0 = λ n. pages from + 1 * (to - from) ≤ pages n in
-    let Q : ℕ → Type 0 = λ n. loads n ≤ loads from + scale * (to - from) in
     overfull_numbers scale (to - from) (pages from) (pages to) (loads from) (loads to) some (pages_grow messages air from to forward busy) (loads_grow scale messages from to forward fits) (omega arith)
   where
-    before_up_to : (s t : ℕ) (stop : Option ℕ) → s < t → IsUpToStop t stop → IsBeforeStop s stop
-    before_up_to s t None le h = tt
-    before_up_to s t (Some stop) le h = omega arith
     pages_grow : (messages : List Message) (air : Air) (from to : ℕ) → from ≤ to → IsBusy messages air from to → sum_by (λ (o : Message). pages_before o air from) messages + (to - from) ≤ sum_by (λ (o : Message). pages_before o air to) messages
     pages_grow messages air from to forward busy =
         let f = λ (t : ℕ). sum_by (λ (o : Message). uses o.number air t) messages in
@@ -98,15 +92,6 @@ no_lack scale messages air k d j from some within served fits early uncut busy l
         let grown = total-at_least f 1 from (to - from) (λ t low high. one_each messages air from to t (busy t low (omega arith))) in
         let at_from = exchange (λ (o : Message). uses o.number air) messages from in
         let at_to = exchange (λ (o : Message). uses o.number air) messages to in
-        let moved = ap (total f) reach in
-        omega arith
-    loads_grow : (scale : ℕ) (messages : List Message) (from to : ℕ) → from ≤ to → ((slot : ℕ) → sum_by (λ m. load_at m slot) messages ≤ scale) → sum_by (λ (o : Message). loads_before o to) messages ≤ sum_by (λ (o : Message). loads_before o from) messages + scale * (to - from)
-    loads_grow scale messages from to forward fits =
-        let f = λ (t : ℕ). sum_by (λ (o : Message). load_at o t) messages in
-        let reach : from + (to - from) ≡ to = omega arith in
-        let grown = total-at_most f scale from (to - from) fits in
-        let at_from = exchange load_at messages from in
-        let at_to = exchange load_at messages to in
         let moved = ap (total f) reach in
         omega arith
 
@@ -125,6 +110,18 @@ admitted_load_is_a_guarantee messages air rising periods fit rule = λ k d withi
             period = periods i e h;
             enough = load_of-enough (get_or messages i e).pages (get_or messages i e).period (periods i e h);
           } in
-          let fits : (slot : ℕ) → sum_by (λ o. load_at o slot) messages ≤ SCALE = λ slot. omega (arith, fit slot, loads_by_message messages slot) in
-          absurd (no_lack SCALE messages air k d j busy.0 (omega arith) within served fits busy.1 uncut busy.2 lacks)
+          absurd (no_lack SCALE messages air k d j busy.0 (omega arith) within served (fits_by_message messages fit) busy.1 uncut busy.2 lacks)
     ]
+
+pub admitted_broadcasts_are_whole : AdmittedBroadcastsAreWhole
+admitted_broadcasts_are_whole messages air slot rising periods fit rule = λ k d within. λ j uncut by.
+    let m = get_or messages k d in
+    let all = admitted_load_is_a_guarantee messages air rising periods fit rule k d within j uncut in
+    let ahead : release m j < due m j = omega (arith, periods k d within) in
+    let at : min (due m j) slot ≡ due m j = omega arith in
+    let P : ℕ → Type 0 = λ n. m.pages ≤ pages_aired m.number air (release m j) n in
+    record {
+      requested = uncut.requested;
+      released = before_up_to (release m j) (due m j) m.stop ahead uncut.standing;
+      aired = subst P (sym at) (omega arith);
+    }

@@ -1,10 +1,12 @@
 -- What admission promises of the air (own): over messages, their reservations and an air list alone.
-use Rattle.std.specs.Prelude.{◌≡◌, ℕ, ◌+◌, ◌*◌, ◌<◌, ◌≤◌, ⊤, Option, Some, None, List, length, map, slice_index_or, All, AllPairs, Any}
+use Rattle.std.specs.Prelude.{◌≡◌, ℕ, ◌+◌, ◌-◌, ◌*◌, ◌<◌, ◌≤◌, ⊤, Bool, ◌&&◌, nat_le, Option, Some, None, List, length, map, sum_by, count_by, slice_index_or, All, AllPairs, Any}
+use Rattle.std.specs.List.{range_with_len}
 use Rattle.admission.specs.declared.measure.TheConstants.{SCALE}
 use Rattle.admission.specs.Load.{load_of}
 use Rattle.admission.specs.Reservation.{Reservation, IsReservedAt, loads_at, end_of_reservation}
-use Rattle.scheduler.specs.Message.{Message, release, due, HasBroadcast, IsBeforeStop}
+use Rattle.scheduler.specs.Message.{Message, release, due, HasBroadcast, IsBeforeStop, has_broadcast, is_before_stop}
 use Rattle.scheduler.specs.Air.{Air, pages_aired, IsPending, next_page, IsAirOf}
+use Rattle.scheduler.specs.Completed.{IsWhole}
 
 -- what a message has reserved: its load, from its start up to the end that its period, its requested broadcasts and its
 -- stop give
@@ -45,6 +47,23 @@ ReservationsCoverBroadcasts = (m : Message) (j slot : ℕ)
     → slot < due m j
     → IsReservedAt (reservation_of m) slot
 
+-- broadcast j of the message was requested and released before its stop, no sooner than `from`, and is due by `to`
+abbrev pub is_inside : Message → ℕ → ℕ → ℕ → Bool
+is_inside m from to j =
+    has_broadcast m j && (is_before_stop (release m j) m.stop && (nat_le from (release m j) && nat_le (due m j) to))
+
+-- the pages of all broadcasts inside the slots from `from` up to, and without, `to`. Broadcast j is due later than slot j,
+-- so that those below `to` are all
+abbrev pub demand : List Message → ℕ → ℕ → ℕ
+demand messages from to = sum_by (λ m. m.pages * count_by (is_inside m from to) (range_with_len 0 to)) messages
+
+-- where the reserved loads fit at each slot, the broadcasts inside a range of slots have no more pages than it has slots
+abbrev pub DemandIsNoMoreThanTheSlots : Type 0
+DemandIsNoMoreThanTheSlots = (messages : List Message) (from to : ℕ)
+    → All (λ m. 0 < m.period) messages
+    → LoadsFit messages
+    → demand messages from to ≤ to - from
+
 -- where an uncut broadcast lacks a page, each slot from some slot on, no later than its release, up to its due slot airs a
 -- page of a broadcast that was released since then and is due no later
 abbrev pub LackMeansABusyPeriod : Type 0
@@ -64,3 +83,12 @@ AdmittedLoadIsAGuarantee = (messages : List Message) (air : Air)
     → LoadsFit messages
     → IsAirOf messages air
     → All (λ m. (j : ℕ) → IsUncut m j air → pages_aired m.number air (release m j) (due m j) ≡ m.pages) messages
+
+-- so that it is whole before each slot from its due slot on
+abbrev pub AdmittedBroadcastsAreWhole : Type 0
+AdmittedBroadcastsAreWhole = (messages : List Message) (air : Air) (slot : ℕ)
+    → AllPairs (λ a b. a.number < b.number) messages
+    → All (λ m. 0 < m.period) messages
+    → LoadsFit messages
+    → IsAirOf messages air
+    → All (λ m. (j : ℕ) → IsUncut m j air → due m j ≤ slot → IsWhole m j air slot) messages
