@@ -5,3 +5,4 @@ pub mod Ranges
 pub mod Reserved
 pub mod Served
 pub mod Sums
+mod Worked
