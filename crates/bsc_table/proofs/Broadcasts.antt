@@ -1,11 +1,12 @@
 -- Broadcasts of one message, and the pages that are aired of it.
-use Rattle.std.proofs.Common.{◌≡◌, ℕ, zero, suc, ◌+◌, ◌-◌, ◌*◌, ◌≤◌, ◌<◌, Bool, true, false, cond, length, get_or, Option, Some, None, inl, inr, refl, sym, ap, subst, ◌∙◌, arith}
+use Rattle.std.proofs.Common.{◌≡◌, ℕ, zero, suc, ◌+◌, ◌-◌, ◌*◌, ◌≤◌, ◌<◌, Bool, true, cond, length, get_or, Option, Some, None, inl, inr, ap, subst, ◌∙◌, arith}
 use Rattle.std.proofs.lemmas.Bool.{cases_Bool}
 use Rattle.std.proofs.Math.Nat.{mul-le-mul_right, lt_of_mul-lt-mul_right}
-use Rattle.scheduler.specs.Message.{Message, release, due}
+use Rattle.scheduler.specs.Message.{Message, release, due, IsBeforeStop}
 use Rattle.scheduler.specs.Air.{Air, airs, pages_aired}
 use Rattle.scheduler.proofs.Air.{pages_aired-none}
 use Rattle.scheduler.proofs.Rule.{pages_aired-more}
+use Rattle.bsc_table.specs.Guarantee.{IsUpToStop}
 use Rattle.bsc_table.proofs.Sums.{total, total-none}
 
 -- an earlier broadcast is due by the release of a later one
@@ -20,6 +21,16 @@ pub release-lt : (m : Message) (i j : ℕ) → release m i < release m j → i <
 release-lt m i j sooner =
     let times : i * m.period < j * m.period = omega arith in
     lt_of_mul-lt-mul_right m.period times
+
+-- before the stop is before it at earlier slots too
+pub before_stop-sooner : (s t : ℕ) (stop : Option ℕ) → s ≤ t → IsBeforeStop t stop → IsBeforeStop s stop
+before_stop-sooner s t None le h = tt
+before_stop-sooner s t (Some stop) le h = omega arith
+
+-- and so is a slot before one that comes no later than the stop
+pub before_stop-up_to : (s t : ℕ) (stop : Option ℕ) → s < t → IsUpToStop t stop → IsBeforeStop s stop
+before_stop-up_to s t None le h = tt
+before_stop-up_to s t (Some stop) le h = omega arith
 
 -- a page of the number at the slot
 abbrev pub uses : ℕ → Air → ℕ → ℕ
@@ -50,3 +61,7 @@ none_aired n air a b h none =
       | inl used ↦ absurd (none t low high used)
       | inr idle ↦ ap (λ (x : Bool). cond x 1 0) idle
     ])
+
+-- the pages that are aired of the message in the slots before n
+abbrev pub pages_before : Message → Air → ℕ → ℕ
+pages_before m air n = total (uses m.number air) n

@@ -1,13 +1,13 @@
 -- The busy period before the due slot of a broadcast that lacks a page.
-use Rattle.std.proofs.Common.{◌≡◌, ℕ, zero, suc, ◌+◌, ◌-◌, ◌*◌, ◌≤◌, ◌<◌, ◌⊎◌, cond, List, length, get_or, Option, Some, None, inl, inr, refl, sym, ap, subst, ◌∙◌, arith}
+use Rattle.std.proofs.Common.{◌≡◌, ℕ, zero, suc, ◌+◌, ◌-◌, ◌≤◌, ◌<◌, ◌⊎◌, List, length, get_or, Option, Some, None, inl, inr, refl, ap, subst, ◌∙◌, arith}
 use Rattle.std.specs.List.{All, Any}
 use Rattle.std.proofs.lemmas.Bool.{cases_lt}
-use Rattle.scheduler.specs.Message.{Message, release, due, HasBroadcast, IsBeforeStop}
-use Rattle.scheduler.specs.Air.{Air, pages_aired, next_page, IsPending, IsNoLater, IsChosen, IsAirOf, class}
+use Rattle.scheduler.specs.Message.{Message, release, due}
+use Rattle.scheduler.specs.Air.{Air, pages_aired, next_page, IsPending, IsNoLater, IsChosen, IsAirOf}
 use Rattle.scheduler.proofs.Air.{pages_aired-none}
-use Rattle.bsc_table.specs.Guarantee.{IsUpToStop, IsUncut, AirsOneWithin, LackMeansABusyPeriod}
-use Rattle.bsc_table.proofs.Sums.{total, total-le}
-use Rattle.bsc_table.proofs.Broadcasts.{uses, pages_by_sums}
+use Rattle.bsc_table.specs.Guarantee.{IsUncut, AirsOneWithin, LackMeansABusyPeriod}
+use Rattle.bsc_table.proofs.Sums.{total-le}
+use Rattle.bsc_table.proofs.Broadcasts.{uses, pages_by_sums, before_stop-sooner, before_stop-up_to}
 
 -- the slot airs a page of a broadcast that is due at `to` or sooner
 abbrev AirsDue : List Message → Air → ℕ → ℕ → Type 0
@@ -58,14 +58,16 @@ busy_from messages air to (suc at) rule before within busy =
           ]) in
           (more.0, record { early = omega (arith, more.1.early); busy = more.1.busy; begins = more.1.begins })
       | inr none ↦
-          let None_due : ℕ → Type 0 = λ s. NoneDue messages air to s in
-          (suc at, record {
-            early = omega arith;
-            busy = busy;
-            begins = λ slot e.
-                let same : at ≡ slot = omega arith in
-                subst None_due same none;
-          })
+          let None_due : ℕ → Type 0 = λ s. NoneDue messages air to s in (
+            suc at,
+            record {
+              early = omega arith;
+              busy = busy;
+              begins = λ slot e.
+                  let same : at ≡ slot = omega arith in
+                  subst None_due same none;
+            },
+          )
     ]
 
 -- no more pages are aired by an earlier slot
@@ -80,22 +82,13 @@ pages_aired-sooner n air from s t h within =
           omega arith
     ]
 
-stop_later : (s t : ℕ) (stop : Option ℕ) → s ≤ t → IsBeforeStop t stop → IsBeforeStop s stop
-stop_later s t None le h = tt
-stop_later s t (Some stop) le h = omega arith
-
--- before a slot that comes no later than the stop is before the stop
-pub before_up_to : (s t : ℕ) (stop : Option ℕ) → s < t → IsUpToStop t stop → IsBeforeStop s stop
-before_up_to s t None le h = tt
-before_up_to s t (Some stop) le h = omega arith
-
 -- what is pending at a slot was pending since its release
 pending_since : (m : Message) (j : ℕ) (air : Air) (s t : ℕ) → s ≤ t → t ≤ length air → release m j ≤ s → IsPending m j air t → IsPending m j air s
 pending_since m j air s t h within released pending = record {
   requested = pending.requested;
   released = released;
   not_due = omega (arith, pending.not_due);
-  standing = stop_later s t m.stop h pending.standing;
+  standing = before_stop-sooner s t m.stop h pending.standing;
   unfinished = omega (arith, pending.unfinished, pages_aired-sooner m.number air (release m j) s t h within);
 }
 
@@ -105,7 +98,7 @@ pending_throughout m j air t uncut lacks low high = record {
   requested = uncut.requested;
   released = low;
   not_due = high;
-  standing = before_up_to t (due m j) m.stop high uncut.standing;
+  standing = before_stop-up_to t (due m j) m.stop high uncut.standing;
   unfinished = omega (arith, lacks, pages_aired-sooner m.number air (release m j) t (due m j) (omega arith) uncut.aired_by);
 }
 
@@ -114,10 +107,10 @@ lack_means_a_busy_period messages air rule = λ k d inside. λ j uncut lacks.
     let m = get_or messages k d in
     let to = due m j in
     let busy_after : (slot : ℕ) → release m j ≤ slot → slot < to → AirsDue messages air to slot = λ slot low high.
-        (elim (chosen_due messages air to slot (get_or air slot None) refl (rule slot (omega (arith, uncut.aired_by)))) [
-          | inl due_by ↦ due_by
-          | inr none ↦ absurd (omega (arith, none k d inside j (pending_throughout m j air slot uncut lacks low high)))
-        ]) in
+    (elim (chosen_due messages air to slot (get_or air slot None) refl (rule slot (omega (arith, uncut.aired_by)))) [
+      | inl due_by ↦ due_by
+      | inr none ↦ absurd (omega (arith, none k d inside j (pending_throughout m j air slot uncut lacks low high)))
+    ]) in
     elim (cases_lt (release m j) to) [
       | inl ahead ↦
           let busy = busy_from messages air to (release m j) rule (omega arith) uncut.aired_by busy_after in

@@ -1,169 +1,145 @@
--- The demand of one message in a range of slots: where what is aired of it there belongs to broadcasts that are released
--- and due inside the range, it takes no more than what the message has reserved there.
-use Rattle.std.proofs.Common.{◌≡◌, ℕ, zero, suc, ◌+◌, ◌*◌, ◌≤◌, ◌<◌, Bool, true, false, ◌&&◌, List, length, get_or, Option, Some, None, inl, inr, refl, sym, ap, subst, ◌∙◌, arith}
-use Rattle.std.specs.List.{AllPairs, Contains}
-use Rattle.std.proofs.lemmas.Bool.{cases_lt, cases_Bool, and_parts, and_from, false≢true}
-use Rattle.std.proofs.Math.Nat.{mul-le-mul_left}
+-- The demand of a range of slots.
+use Rattle.std.proofs.Common.{◌≡◌, ℕ, zero, suc, ◌+◌, ◌-◌, ◌*◌, ◌≤◌, ◌<◌, ◌⊎◌, Bool, true, false, ◌&&◌, leb, cond, [], ◌∷◌, ◌++◌, get_or, sum_by, count_by, inl, inr, refl, sym, ap, ◌∙◌, arith}
+use Rattle.std.specs.List.{range_with_len}
+use Rattle.std.proofs.lemmas.Bool.{cases_lt, cases_Bool, and_parts, and_from, leb-true, le-leb}
+use Rattle.std.proofs.lemmas.List.Sums.{sum_by_push}
+use Rattle.std.proofs.Math.Nat.{add-zero, le_of_mul-le-mul_left}
+use Rattle.admission.specs.declared.measure.TheConstants.{SCALE}
 use Rattle.admission.specs.Load.{load_of}
-use Rattle.scheduler.specs.Message.{Message, release, due, broadcast_at, HasBroadcast, IsBeforeStop, has_broadcast, is_before_stop}
-use Rattle.scheduler.specs.Air.{Air, airs, pages_aired, IsPending, IsAirOf}
-use Rattle.scheduler.proofs.Air.{broadcast_at-released, broadcast_at-not_due, broadcast_at-only}
+use Rattle.admission.proofs.Loads.{load_of-enough}
+use Rattle.scheduler.specs.Message.{Message, release, due, HasBroadcast, IsBeforeStop, has_broadcast, is_before_stop}
 use Rattle.scheduler.proofs.Message.{has_broadcast-says, has_broadcast-from, is_before_stop-says, is_before_stop-from}
-use Rattle.scheduler.proofs.Rule.{aired_is_pending, pages_aired-at_most}
-use Rattle.bsc_table.proofs.Sums.{total, total-at_least, total-le}
-use Rattle.bsc_table.proofs.Broadcasts.{uses, due-le-release, release-lt, pages_by_sums, none_aired}
-use Rattle.bsc_table.proofs.Reserved.{load_at, load_at-reserved, reservations_cover_broadcasts}
+use Rattle.bsc_table.specs.Guarantee.{is_inside, DemandIsNoMoreThanTheSlots}
+use Rattle.bsc_table.proofs.Sums.{total, total-le, sum_by-plus, sum_by-times, sum_by-le_all}
+use Rattle.bsc_table.proofs.Reserved.{load_at, reserved_over, loads_grow, fits_by_message}
 
--- the message stands in a list with rising numbers, the air list is by the rule, and the message's load is enough
-pub record IsServed (scale : ℕ) (messages : List Message) (air : Air) (m : Message) : Type 0 where
-  pub rising : AllPairs (λ a b. a.number < b.number) messages
-  pub rule : IsAirOf messages air
-  pub here : Contains messages m
-  pub period : 0 < m.period
-  pub enough : scale * m.pages ≤ load_of m.pages m.period * m.period
+-- the numbers from a on, with one more
+range_push : (a n : ℕ) → range_with_len a (suc n) ≡ range_with_len a n ++ (a + n) ∷ []
+range_push a zero = ap (λ x. x ∷ []) (sym (add-zero a))
+range_push a (suc n) =
+    let here : (a + 1) + n ≡ a + suc n = omega arith in
+    ap (λ xs. a ∷ xs) (range_push (a + 1) n ∙ ap (λ x. range_with_len (a + 1) n ++ x ∷ []) here)
 
--- what is aired of the message from a up to b was released at a or later
-abbrev Since : Message → Air → ℕ → ℕ → Type 0
-Since m air a b = (t : ℕ) → a ≤ t → t < b → airs m.number (get_or air t None) ≡ true → (j : ℕ) × IsPending m j air t × (a ≤ release m j)
+-- a count over the numbers below suc n
+count_below_more : (p : ℕ → Bool) (n : ℕ) → count_by p (range_with_len 0 (suc n)) ≡ count_by p (range_with_len 0 n) + cond (p n) 1 0
+count_below_more p n =
+    let here : 0 + n ≡ n = omega arith in
+    ap (count_by p) (range_push 0 n) ∙ (sum_by_push (λ j. cond (p j) 1 0) (range_with_len 0 n) (0 + n) ∙ ap (λ j. count_by p (range_with_len 0 n) + cond (p j) 1 0) here)
 
--- and is due at b or sooner
-abbrev pub Inside : Message → Air → ℕ → ℕ → Type 0
-Inside m air a b = (t : ℕ) → a ≤ t → t < b → airs m.number (get_or air t None) ≡ true → (j : ℕ) × IsPending m j air t × (a ≤ release m j) × (due m j ≤ b)
+-- the same by a longer range
+count_below-le : (p : ℕ → Bool) (k n : ℕ) → k ≤ n → count_by p (range_with_len 0 k) ≤ count_by p (range_with_len 0 n)
+count_below-le p k zero h =
+    let none : k ≡ 0 = omega arith in
+    omega (arith, ap (λ i. count_by p (range_with_len 0 i)) none)
+count_below-le p k (suc n) h =
+    elim (cases_lt n k) [
+      | inl all ↦
+          let same : k ≡ suc n = omega arith in
+          omega (arith, ap (λ i. count_by p (range_with_len 0 i)) same)
+      | inr shorter ↦ omega (arith, count_below-le p k n shorter, count_below_more p n)
+    ]
 
--- the message's pages and its loads in the slots before n
-abbrev pub pages_before : Message → Air → ℕ → ℕ
-pages_before m air n = total (uses m.number air) n
+-- how many of the broadcasts below n are inside the range
+abbrev pub count_inside : Message → ℕ → ℕ → ℕ → ℕ
+count_inside m from to n = count_by (is_inside m from to) (range_with_len 0 n)
 
-abbrev pub loads_before : Message → ℕ → ℕ
-loads_before m n = total (load_at m) n
+pub count_inside-le : (m : Message) (from to k n : ℕ) → k ≤ n → count_inside m from to k ≤ count_inside m from to n
+count_inside-le m from to k n h = count_below-le (is_inside m from to) k n h
 
--- from a up to b the message's pages take no more than what it has reserved there
-abbrev pub Takes : ℕ → Message → Air → ℕ → ℕ → Type 0
-Takes scale m air a b = scale * pages_before m air b + loads_before m a ≤ loads_before m b + scale * pages_before m air a
+pub count_inside-one : (m : Message) (from to n : ℕ) → is_inside m from to n ≡ true → count_inside m from to (suc n) ≡ count_inside m from to n + 1
+count_inside-one m from to n one =
+    count_below_more (is_inside m from to) n ∙ ap (λ (x : Bool). count_inside m from to n + cond x 1 0) one
 
--- where nothing is aired, nothing is taken
-takes_nothing : (scale : ℕ) (m : Message) (air : Air) (a b : ℕ) → a ≤ b → pages_before m air b ≡ pages_before m air a → Takes scale m air a b
-takes_nothing scale m air a b h same =
-    let times = ap (λ (n : ℕ). scale * n) same in
-    let more = total-le (load_at m) a b h in
+pub count_inside-none : (m : Message) (from to n : ℕ) → is_inside m from to n ≡ false → count_inside m from to (suc n) ≡ count_inside m from to n
+count_inside-none m from to n none =
+    let nothing : count_inside m from to n + 0 ≡ count_inside m from to n = omega arith in
+    count_below_more (is_inside m from to) n ∙ (ap (λ (x : Bool). count_inside m from to n + cond x 1 0) none ∙ nothing)
+
+-- what the test of a broadcast inside a range says
+pub record IsInside (m : Message) (from to j : ℕ) : Type 0 where
+  pub requested : HasBroadcast m j
+  pub standing : IsBeforeStop (release m j) m.stop
+  pub released : from ≤ release m j
+  pub due_by : due m j ≤ to
+
+pub is_inside-says : (m : Message) (from to j : ℕ) → is_inside m from to j ≡ true → IsInside m from to j
+is_inside-says m from to j h =
+    let first = and_parts (has_broadcast m j) (is_before_stop (release m j) m.stop && (leb from (release m j) && leb (due m j) to)) h in
+    let second = and_parts (is_before_stop (release m j) m.stop) (leb from (release m j) && leb (due m j) to) first.1 in
+    let third = and_parts (leb from (release m j)) (leb (due m j) to) second.1 in
+    record {
+      requested = has_broadcast-says m j first.0;
+      standing = is_before_stop-says (release m j) m.stop second.0;
+      released = leb-true from (release m j) third.0;
+      due_by = leb-true (due m j) to third.1;
+    }
+
+pub is_inside-from : (m : Message) (from to j : ℕ) → IsInside m from to j → is_inside m from to j ≡ true
+is_inside-from m from to j fact =
+    let third = and_from (leb from (release m j)) (leb (due m j) to) (le-leb from (release m j) fact.released) (le-leb (due m j) to fact.due_by) in
+    let second = and_from (is_before_stop (release m j) m.stop) (leb from (release m j) && leb (due m j) to) (is_before_stop-from (release m j) m.stop fact.standing) third in
+    and_from (has_broadcast m j) (is_before_stop (release m j) m.stop && (leb from (release m j) && leb (due m j) to)) (has_broadcast-from m j fact.requested) second
+
+-- one more of the same, by numbers alone
+one_more : (scale pages count load period before upto high : ℕ) → scale * pages ≤ load * period → scale * (pages * count) + before ≤ upto → upto + load * period ≤ high → scale * (pages * (count + 1)) + before ≤ high
+one_more scale pages count load period before upto high enough taken reserved = omega arith
+
+-- the broadcasts below n inside the range have reserved, up to the release of broadcast n or the end of the range, what
+-- their pages take
+inside_below : (m : Message) (from to n b : ℕ) → 0 < m.period → from ≤ b → (release m n ≤ b) ⊎ (to ≤ b) → SCALE * (m.pages * count_inside m from to n) + total (load_at m) from ≤ total (load_at m) b
+inside_below m from to zero b period ahead upto =
+    let none : SCALE * (m.pages * count_inside m from to 0) ≡ 0 = omega arith in
+    let more = total-le (load_at m) from b ahead in
     omega arith
-
--- one range after another
-takes_on : (scale : ℕ) (m : Message) (air : Air) (a b c : ℕ) → Takes scale m air a b → Takes scale m air b c → Takes scale m air a c
-takes_on scale m air a b c first second = omega arith
-
--- a broadcast's reservation is enough for its pages
-pub reserved_over : (m : Message) (j : ℕ) → HasBroadcast m j → IsBeforeStop (release m j) m.stop → loads_before m (release m j) + load_of m.pages m.period * m.period ≤ loads_before m (due m j)
-reserved_over m j has standing =
-    let reach : release m j + m.period ≡ due m j = omega arith in
-    let load : ℕ = load_of m.pages m.period in
-    let P : ℕ → Type 0 = λ n. loads_before m (release m j) + load * m.period ≤ loads_before m n in
-    subst P reach (total-at_least (load_at m) load (release m j) m.period (λ t low high.
-      let same = load_at-reserved m t (reservations_cover_broadcasts m j t has standing low (omega arith)) in
-      at_least (load_at m t) load same))
-  where
-    at_least : (x y : ℕ) → x ≡ y → y ≤ x
-    at_least x y e = omega arith
-
--- so many pages and so many more, by numbers alone
-pages_and_more : (scale pages load period aired more before upto low high : ℕ) → scale * pages ≤ load * period → aired + before ≡ upto → aired + more ≤ pages → low + load * period ≤ high → scale * upto + low + scale * more ≤ high + scale * before
-pages_and_more scale pages load period aired more before upto low high enough sums few reserved =
-    let times = mul-le-mul_left scale few in
-    let up = ap (λ (n : ℕ). scale * n) sums in
-    omega arith
-
--- a broadcast takes no more than its reservation
-takes_broadcast : (scale : ℕ) (messages : List Message) (air : Air) (m : Message) (j : ℕ) → IsServed scale messages air m → due m j ≤ length air → Takes scale m air (release m j) (due m j)
-takes_broadcast scale messages air m j served within =
-    let ahead : release m j ≤ due m j = omega (arith, served.period) in
-    elim (cases_Bool (has_broadcast m j && is_before_stop (release m j) m.stop)) [
-      | inl stands ↦
-          let parts = and_parts (has_broadcast m j) (is_before_stop (release m j) m.stop) stands in
-          let reserved = reserved_over m j (has_broadcast-says m j parts.0) (is_before_stop-says (release m j) m.stop parts.1) in
-          let few = pages_aired-at_most messages air m j (due m j) served.rising served.here served.rule within (omega arith) in
-          let sums = pages_by_sums m.number air (release m j) (due m j) ahead within in
-          let all = pages_and_more scale m.pages (load_of m.pages m.period) m.period (pages_aired m.number air (release m j) (due m j)) 0 (pages_before m air (release m j)) (pages_before m air (due m j)) (loads_before m (release m j)) (loads_before m (due m j)) served.enough sums (omega arith) reserved in
+inside_below m from to (suc n) b period ahead upto =
+    elim (cases_Bool (is_inside m from to n)) [
+      | inl one ↦
+          let fact = is_inside-says m from to n one in
+          let by : due m n ≤ b = elim upto [ inl next ↦ omega arith | inr over ↦ omega (arith, fact.due_by, over) ] in
+          let before = inside_below m from to n (release m n) period fact.released (inl (omega arith)) in
+          let reserved = reserved_over m n fact.requested fact.standing in
+          let more = total-le (load_at m) (due m n) b by in
+          let all = one_more SCALE m.pages (count_inside m from to n) (load_of m.pages m.period) m.period (total (load_at m) from) (total (load_at m) (release m n)) (total (load_at m) (due m n)) (load_of-enough m.pages m.period period) before reserved in
+          let counted = count_inside-one m from to n one in
+          let times = ap (λ (k : ℕ). SCALE * (m.pages * k)) counted in
           omega arith
-      | inr cut ↦
-          takes_nothing scale m air (release m j) (due m j) ahead (none_aired m.number air (release m j) (due m j) ahead (λ t low high used.
-            let found = aired_is_pending messages air t m served.rising served.here served.rule (omega arith) used in
-            let only = same_broadcast m found.0 j air t served.period found.1 low high in
-            let Has : ℕ → Type 0 = λ i. HasBroadcast m i in
-            let has = has_broadcast-from m j (subst Has only found.1.requested) in
-            let standing = is_before_stop-from (release m j) m.stop (stop_later (release m j) t m.stop low found.1.standing) in
-            false≢true (sym cut ∙ and_from (has_broadcast m j) (is_before_stop (release m j) m.stop) has standing)))
+      | inr none ↦
+          let before = inside_below m from to n b period ahead (elim upto [ inl next ↦ inl (omega arith) | inr over ↦ inr over ]) in
+          let counted = count_inside-none m from to n none in
+          let times = ap (λ (k : ℕ). SCALE * (m.pages * k)) counted in
+          omega arith
+    ]
+
+-- nothing is inside a range that ends before it begins
+none_inside : (m : Message) (from to n : ℕ) → to < from → count_inside m from to n ≡ 0
+none_inside m from to zero behind = refl
+none_inside m from to (suc n) behind =
+    let before = none_inside m from to n behind in
+    elim (cases_Bool (is_inside m from to n)) [
+      | inl one ↦
+          let fact = is_inside-says m from to n one in
+          absurd (omega (arith, fact.released, fact.due_by))
+      | inr none ↦
+          let counted = count_inside-none m from to n none in
+          omega arith
+    ]
+
+pub demand_is_no_more_than_the_slots : DemandIsNoMoreThanTheSlots
+demand_is_no_more_than_the_slots messages from to periods fit =
+    let count = λ (m : Message). m.pages * count_inside m from to to in
+    elim (cases_lt to from) [
+      | inl behind ↦
+          let none = sum_by-le_all count (λ m. 0 * 0) messages (λ k d h. no_pages (get_or messages k d).pages _ (none_inside (get_or messages k d) from to to behind)) in
+          omega (arith, none, sum_by-times 0 (λ (m : Message). 0) messages)
+      | inr forward ↦
+          let taken = λ (m : Message). SCALE * count m + total (load_at m) from in
+          let each = sum_by-le_all taken (λ m. total (load_at m) to) messages (λ k d h. inside_below (get_or messages k d) from to to to (periods k d h) forward (inr (omega arith))) in
+          let parts = sum_by-plus (λ (m : Message). SCALE * count m) (λ (m : Message). total (load_at m) from) messages in
+          let times = sum_by-times SCALE count messages in
+          let grown = loads_grow SCALE messages from to forward (fits_by_message messages fit) in
+          let whole : SCALE * sum_by count messages ≤ SCALE * (to - from) = omega arith in
+          le_of_mul-le-mul_left whole (omega arith)
     ]
   where
-    same_broadcast : (m : Message) (i j : ℕ) (air : Air) (t : ℕ) → 0 < m.period → IsPending m i air t → release m j ≤ t → t < due m j → i ≡ j
-    same_broadcast m i j air t period p low high =
-        let started : m.start ≤ t = omega arith in
-        broadcast_at-only m t i period started p.released p.not_due ∙ sym (broadcast_at-only m t j period started low high)
-    stop_later : (r t : ℕ) (stop : Option ℕ) → r ≤ t → IsBeforeStop t stop → IsBeforeStop r stop
-    stop_later r t None le h = tt
-    stop_later r t (Some stop) le h = omega arith
-
--- from a up to a release
-pub takes_upto_release : (scale : ℕ) (messages : List Message) (air : Air) (m : Message) (a k : ℕ) → IsServed scale messages air m → a ≤ release m k → release m k ≤ length air → Since m air a (release m k) → Takes scale m air a (release m k)
-takes_upto_release scale messages air m a zero served ahead within since =
-    takes_nothing scale m air a (release m 0) ahead (none_aired m.number air a (release m 0) ahead (λ t low high used.
-      let found = since t low high used in
-      omega (arith, found.1.released)))
-takes_upto_release scale messages air m a (suc k) served ahead within since =
-    elim (cases_lt (release m k) a) [
-      | inl before ↦
-          takes_nothing scale m air a (release m (suc k)) ahead (none_aired m.number air a (release m (suc k)) ahead (λ t low high used.
-            let found = since t low high used in
-            let later = release-lt m k found.0 (omega (arith, found.2)) in
-            let due_by = due-le-release m k found.0 later in
-            omega (arith, found.1.released)))
-      | inr after ↦
-          let next : due m k ≡ release m (suc k) = omega arith in
-          let step : release m k ≤ release m (suc k) = omega arith in
-          let front = takes_upto_release scale messages air m a k served after (omega arith) (λ t low high used. since t low (omega arith) used) in
-          let last = takes_broadcast scale messages air m k served (omega arith) in
-          let P : ℕ → Type 0 = λ n. Takes scale m air (release m k) n in
-          takes_on scale m air a (release m k) (release m (suc k)) front (subst P next last)
-    ]
-
--- from a up to b
-pub takes_inside : (scale : ℕ) (messages : List Message) (air : Air) (m : Message) (a b : ℕ) → IsServed scale messages air m → a ≤ b → b ≤ length air → Inside m air a b → Takes scale m air a b
-takes_inside scale messages air m a b served ahead within inside =
-    elim (cases_lt b m.start) [
-      | inl early ↦
-          takes_nothing scale m air a b ahead (none_aired m.number air a b ahead (λ t low high used.
-            let found = inside t low high used in
-            omega (arith, found.1.released)))
-      | inr started ↦
-          let k = broadcast_at m b in
-          let released : release m k ≤ b = broadcast_at-released m b served.period started in
-          let not_due : b < due m k = broadcast_at-not_due m b served.period started in
-          elim (cases_lt (release m k) a) [
-            | inl before ↦
-                takes_nothing scale m air a b ahead (none_aired m.number air a b ahead (λ t low high used.
-                  let found = inside t low high used in
-                  let later = release-lt m k found.0 (omega (arith, found.2)) in
-                  let due_by = due-le-release m k found.0 later in
-                  omega (arith, found.1.released)))
-            | inr after ↦
-                let front = takes_upto_release scale messages air m a k served after (omega arith) (λ t low high used. let found = inside t low (omega arith) used in (found.0, found.1, found.2)) in
-                let rest = takes_nothing scale m air (release m k) b released (none_aired m.number air (release m k) b released (λ t low high used.
-                  let found = inside t (omega arith) high used in
-                  let sooner = release-lt m found.0 k (omega (arith, found.3, not_due, due_is_later m found.0 k b found.3 not_due)) in
-                  let due_by = due-le-release m found.0 k sooner in
-                  omega (arith, found.1.not_due))) in
-                takes_on scale m air a (release m k) b front rest
-          ]
-    ]
-  where
-    due_is_later : (m : Message) (i k b : ℕ) → due m i ≤ b → b < due m k → release m i < release m k
-    due_is_later m i k b sooner later = omega arith
-
--- where the last broadcast lacks a page, the reserved loads leave one page over
-pub takes_short : (scale : ℕ) (messages : List Message) (air : Air) (m : Message) (a j : ℕ) → IsServed scale messages air m → a ≤ release m j → due m j ≤ length air → HasBroadcast m j → IsBeforeStop (release m j) m.stop → pages_aired m.number air (release m j) (due m j) < m.pages → Inside m air a (due m j) → scale * pages_before m air (due m j) + loads_before m a + scale ≤ loads_before m (due m j) + scale * pages_before m air a
-takes_short scale messages air m a j served ahead within has standing lacks inside =
-    let ahead_due : release m j ≤ due m j = omega (arith, served.period) in
-    let front = takes_upto_release scale messages air m a j served ahead (omega arith) (λ t low high used. let found = inside t low (omega arith) used in (found.0, found.1, found.2)) in
-    let reserved = reserved_over m j has standing in
-    let sums = pages_by_sums m.number air (release m j) (due m j) ahead_due within in
-    let all = pages_and_more scale m.pages (load_of m.pages m.period) m.period (pages_aired m.number air (release m j) (due m j)) 1 (pages_before m air (release m j)) (pages_before m air (due m j)) (loads_before m (release m j)) (loads_before m (due m j)) served.enough sums (omega arith) reserved in
-    omega arith
+    no_pages : (pages n : ℕ) → n ≡ 0 → pages * n ≤ 0 * 0
+    no_pages pages n e = omega (arith, ap (λ (k : ℕ). pages * k) e)

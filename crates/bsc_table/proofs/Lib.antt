@@ -1,7 +1,7 @@
 pub mod Broadcasts
 pub mod Busy
 pub mod Demand
-pub mod Ranges
+pub mod Inside
 pub mod Reserved
 pub mod Served
 pub mod Sums

@@ -1,6 +1,5 @@
 -- Reservations of messages, slot by slot.
-use Rattle.std.proofs.Common.{◌≡◌, ℕ, ◌+◌, ◌-◌, ◌*◌, ◌≤◌, ◌<◌, Bool, true, false, cond, List, [], ◌∷◌, map, filter, sum_by, Option, Some, None, inl, inr, ◌⊎◌, refl, sym, ap, ◌∙◌, arith}
-use Rattle.std.specs.Prelude.{◌==◌, if◌then◌else◌}
+use Rattle.std.proofs.Common.{◌≡◌, ℕ, ◌+◌, ◌-◌, ◌*◌, ◌≤◌, ◌<◌, Bool, true, false, cond, List, [], ◌∷◌, map, filter, sum_by, Option, Some, None, inl, inr, ◌⊎◌, refl, ap, subst, arith}
 use Rattle.std.proofs.lemmas.List.Sums.{sum_by-cons}
 use Rattle.std.proofs.lemmas.Bool.{eq-eqb, cases_eq, ne_eqb}
 use Rattle.std.proofs.Math.Nat.{mul-le-mul_right}
@@ -9,7 +8,7 @@ use Rattle.admission.specs.Load.{load_of}
 use Rattle.admission.specs.Reservation.{Reservation, IsBeforeEnd, IsReservedAt, is_reserved_at, loads_at, natural_end, end_of_reservation}
 use Rattle.admission.proofs.Reservations.{is_reserved_at-from, end_of_stopped-covers}
 use Rattle.scheduler.specs.Message.{Message, release, due, HasBroadcast, IsBeforeStop}
-use Rattle.bsc_table.proofs.Sums.{total, total-at_most, exchange}
+use Rattle.bsc_table.proofs.Sums.{total, total-at_least, total-at_most, exchange}
 use Rattle.bsc_table.specs.Guarantee.{reservation_of, LoadsFit, ReservationsCoverBroadcasts}
 
 -- a broadcast that was requested is due by the end of what runs out
@@ -43,6 +42,19 @@ load_at m slot = cond (is_reserved_at slot (reservation_of m)) (load_of m.pages 
 pub load_at-reserved : (m : Message) (slot : ℕ) → IsReservedAt (reservation_of m) slot → load_at m slot ≡ load_of m.pages m.period
 load_at-reserved m slot reserved =
     ap (λ (b : Bool). cond b (load_of m.pages m.period) 0) (is_reserved_at-from slot (reservation_of m) reserved)
+
+-- over a broadcast that was released before its message's stop, the load is reserved in each slot
+pub reserved_over : (m : Message) (j : ℕ) → HasBroadcast m j → IsBeforeStop (release m j) m.stop → total (load_at m) (release m j) + load_of m.pages m.period * m.period ≤ total (load_at m) (due m j)
+reserved_over m j has standing =
+    let reach : release m j + m.period ≡ due m j = omega arith in
+    let load : ℕ = load_of m.pages m.period in
+    let P : ℕ → Type 0 = λ n. total (load_at m) (release m j) + load * m.period ≤ total (load_at m) n in
+    subst P reach (total-at_least (load_at m) load (release m j) m.period (λ t low high.
+    let same = load_at-reserved m t (reservations_cover_broadcasts m j t has standing low (omega arith)) in
+    at_least (load_at m t) load same))
+  where
+    at_least : (x y : ℕ) → x ≡ y → y ≤ x
+    at_least x y e = omega arith
 
 -- an element that is kept adds its own
 sum_by-kept : {X : Type 0} (f : X → ℕ) (b : Bool) (x : X) (xs : List X) → sum_by f (cond b (x ∷ xs) xs) ≡ cond b (f x) 0 + sum_by f xs

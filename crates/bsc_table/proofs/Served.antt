@@ -1,23 +1,20 @@
 -- Admitted load is a guarantee: a broadcast that lacks a page would leave more demand in its busy period than the loads
 -- that are reserved there allow.
-use Rattle.std.proofs.Common.{◌≡◌, ℕ, ◌+◌, ◌-◌, ◌*◌, ◌≤◌, ◌<◌, Bool, true, cond, List, length, get_or, map, min, sum_by, Option, Some, None, inl, inr, refl, sym, ap, subst, ◌∙◌, arith}
+use Rattle.std.proofs.Common.{◌≡◌, ℕ, ◌+◌, ◌-◌, ◌*◌, ◌≤◌, ◌<◌, Bool, true, cond, List, length, get_or, min, sum_by, Option, inl, inr, refl, sym, ap, subst, ◌∙◌, arith}
 use Rattle.std.specs.List.{All, AllPairs}
 use Rattle.std.proofs.lemmas.Bool.{cases_lt, cases_order, eq-eqb, eqb-true}
 use Rattle.std.proofs.lemmas.List.{get_or_default}
 use Rattle.std.proofs.lemmas.List.Elements.{Contains-get_or}
 use Rattle.std.proofs.lemmas.List.Sums.{get_or-le-sum_by}
-use Rattle.std.proofs.Math.Nat.{mul-le-mul_left}
-use Rattle.admission.specs.declared.measure.TheConstants.{SCALE}
-use Rattle.admission.proofs.Loads.{load_of-enough}
-use Rattle.scheduler.specs.Message.{Message, release, due, HasBroadcast, IsBeforeStop}
-use Rattle.scheduler.specs.Air.{Air, airs, pages_aired, next_page, IsPending, IsAirOf}
+use Rattle.scheduler.specs.Message.{Message, release, due}
+use Rattle.scheduler.specs.Air.{Air, airs, pages_aired, IsPending}
 use Rattle.scheduler.proofs.Rule.{pages_aired-at_most}
-use Rattle.bsc_table.specs.Guarantee.{LoadsFit, IsUpToStop, IsUncut, AirsOneWithin, AdmittedLoadIsAGuarantee, AdmittedBroadcastsAreWhole}
-use Rattle.bsc_table.proofs.Sums.{total, total-at_least, total-at_most, sum_by-plus, sum_by-times, exchange, sum_by-le_more}
-use Rattle.bsc_table.proofs.Broadcasts.{uses}
-use Rattle.bsc_table.proofs.Reserved.{load_at, loads_grow, fits_by_message}
-use Rattle.bsc_table.proofs.Demand.{IsServed, Inside, pages_before, loads_before, takes_inside, takes_short}
-use Rattle.bsc_table.proofs.Busy.{before_up_to, lack_means_a_busy_period}
+use Rattle.bsc_table.specs.Guarantee.{LoadsFit, IsUncut, AirsOneWithin, AdmittedLoadIsAGuarantee, AdmittedBroadcastsAreWhole}
+use Rattle.bsc_table.proofs.Sums.{total, total-at_least, sum_by-plus, exchange, sum_by-le_more}
+use Rattle.bsc_table.proofs.Broadcasts.{uses, pages_before, before_stop-up_to}
+use Rattle.bsc_table.proofs.Inside.{IsServed, AiredInside, aired_inside, aired_short}
+use Rattle.bsc_table.proofs.Demand.{count_inside, demand_is_no_more_than_the_slots}
+use Rattle.bsc_table.proofs.Busy.{lack_means_a_busy_period}
 
 -- in a list with rising numbers, one number is one message
 same_message : (messages : List Message) (i k : ℕ) (d e : Message) → AllPairs (λ a b. a.number < b.number) messages → i < length messages → k < length messages → (get_or messages i d).number ≡ (get_or messages k e).number → get_or messages i d ≡ get_or messages k e
@@ -37,7 +34,7 @@ abbrev IsBusy : List Message → Air → ℕ → ℕ → Type 0
 IsBusy messages air from to = (slot : ℕ) → from ≤ slot → slot < to → AirsOneWithin messages air from to slot
 
 -- so what is aired of each message there belongs to its broadcasts inside
-inside_of_busy : (messages : List Message) (air : Air) (from to i : ℕ) (e : Message) → AllPairs (λ a b. a.number < b.number) messages → i < length messages → IsBusy messages air from to → Inside (get_or messages i e) air from to
+inside_of_busy : (messages : List Message) (air : Air) (from to i : ℕ) (e : Message) → AllPairs (λ a b. a.number < b.number) messages → i < length messages → IsBusy messages air from to → AiredInside (get_or messages i e) air from to
 inside_of_busy messages air from to i e rising here busy = λ slot low high used.
     let one = busy slot low high in
     let Airs : Option (ℕ × ℕ) → Type 0 = λ u. airs (get_or messages i e).number u ≡ true in
@@ -51,49 +48,43 @@ inside_of_busy messages air from to i e rising here busy = λ slot low high used
 one_each : (messages : List Message) (air : Air) (from to slot : ℕ) → AirsOneWithin messages air from to slot → 1 ≤ sum_by (λ m. uses m.number air slot) messages
 one_each messages air from to slot one =
     let used : uses one.1.number air slot ≡ 1 =
-        ap (λ (u : Option (ℕ × ℕ)). cond (airs one.1.number u) 1 0) one.4.2 ∙ ap (λ (b : Bool). cond b 1 0) (eq-eqb one.1.number one.1.number refl) in
+    ap (λ (u : Option (ℕ × ℕ)). cond (airs one.1.number u) 1 0) one.4.2 ∙ ap (λ (b : Bool). cond b 1 0) (eq-eqb one.1.number one.1.number refl) in
     let here = ap (λ (m : Message). uses m.number air slot) one.3 in
     let part = get_or-le-sum_by (λ (m : Message). uses m.number air slot) messages one.0 one.1 one.2 in
     omega arith
 
--- demands and loads of a range, by numbers alone
-overfull_numbers : (scale slots pages_low pages_high loads_low loads_high : ℕ) → 0 < scale → pages_low + slots ≤ pages_high → loads_high ≤ loads_low + scale * slots → ¬ (scale * pages_high + loads_low + scale ≤ loads_high + scale * pages_low)
-overfull_numbers scale slots pages_low pages_high loads_low loads_high some pages loads over =
-    let times = mul-le-mul_left scale pages in
+-- so that over the range as many pages are aired as it has slots
+pages_grow : (messages : List Message) (air : Air) (from to : ℕ) → from ≤ to → IsBusy messages air from to → sum_by (λ (m : Message). pages_before m air from) messages + (to - from) ≤ sum_by (λ (m : Message). pages_before m air to) messages
+pages_grow messages air from to forward busy =
+    let f = λ (t : ℕ). sum_by (λ (m : Message). uses m.number air t) messages in
+    let reach : from + (to - from) ≡ to = omega arith in
+    let grown = total-at_least f 1 from (to - from) (λ t low high. one_each messages air from to t (busy t low (omega arith))) in
+    let at_from = exchange (λ (m : Message). uses m.number air) messages from in
+    let at_to = exchange (λ (m : Message). uses m.number air) messages to in
+    let moved = ap (total f) reach in
     omega arith
 
--- where each slot of a range airs a page of what is inside it, no broadcast inside lacks one by the range's end
-no_lack : (scale : ℕ) (messages : List Message) (air : Air) (k : ℕ) (d : Message) (j from : ℕ) → 0 < scale → k < length messages → All (λ m. IsServed scale messages air m) messages → ((slot : ℕ) → sum_by (λ m. load_at m slot) messages ≤ scale) → from ≤ release (get_or messages k d) j → IsUncut (get_or messages k d) j air → IsBusy messages air from (due (get_or messages k d) j) → ¬ (pages_aired (get_or messages k d).number air (release (get_or messages k d) j) (due (get_or messages k d) j) < (get_or messages k d).pages)
-no_lack scale messages air k d j from some within served fits early uncut busy lacks =
+-- a broadcast that is due at the end of a busy period lacks no page: else fewer pages would be aired in it than it has
+-- slots
+no_lack : (messages : List Message) (air : Air) (k : ℕ) (d : Message) (j from : ℕ) → k < length messages → All (λ m. IsServed messages air m) messages → LoadsFit messages → from ≤ release (get_or messages k d) j → IsUncut (get_or messages k d) j air → IsBusy messages air from (due (get_or messages k d) j) → ¬ (pages_aired (get_or messages k d).number air (release (get_or messages k d) j) (due (get_or messages k d) j) < (get_or messages k d).pages)
+no_lack messages air k d j from within served fit early uncut busy lacks =
     let m = get_or messages k d in
     let to = due m j in
     let mine = served k d within in
     let period = mine.period in
     let ahead : release m j < to = omega arith in
     let forward : from ≤ to = omega arith in
-    let low = λ (o : Message). scale * pages_before o air to + loads_before o from in
-    let high = λ (o : Message). loads_before o to + scale * pages_before o air from in
+    let aired = λ (o : Message). pages_before o air to in
+    let before = λ (o : Message). pages_before o air from in
+    let wanted = λ (o : Message). o.pages * count_inside o from to to in
     let inside = λ (i : ℕ) (e : Message) (h : i < length messages). inside_of_busy messages air from to i e mine.rising h busy in
-    let each : All (λ o. low o ≤ high o) messages = λ i e h. takes_inside scale messages air (get_or messages i e) from to (served i e h) forward uncut.aired_by (inside i e h) in
-    let short = takes_short scale messages air m from j mine early uncut.aired_by uncut.requested (before_up_to (release m j) to m.stop ahead uncut.standing) lacks (inside k d within) in
-    let over = sum_by-le_more low high scale messages k d within each short in
-    let pages = λ (n : ℕ). sum_by (λ (o : Message). pages_before o air n) messages in
-    let loads = λ (n : ℕ). sum_by (λ (o : Message). loads_before o n) messages in
-    let low_sum : sum_by low messages ≡ scale * pages to + loads from =
-        sum_by-plus (λ (o : Message). scale * pages_before o air to) (λ (o : Message). loads_before o from) messages ∙ ap (λ (n : ℕ). n + loads from) (sum_by-times scale (λ (o : Message). pages_before o air to) messages) in
-    let high_sum : sum_by high messages ≡ loads to + scale * pages from =
-        sum_by-plus (λ (o : Message). loads_before o to) (λ (o : Message). scale * pages_before o air from) messages ∙ ap (λ (n : ℕ). loads to + n) (sum_by-times scale (λ (o : Message). pages_before o air from) messages) in
-    overfull_numbers scale (to - from) (pages from) (pages to) (loads from) (loads to) some (pages_grow messages air from to forward busy) (loads_grow scale messages from to forward fits) (omega arith)
-  where
-    pages_grow : (messages : List Message) (air : Air) (from to : ℕ) → from ≤ to → IsBusy messages air from to → sum_by (λ (o : Message). pages_before o air from) messages + (to - from) ≤ sum_by (λ (o : Message). pages_before o air to) messages
-    pages_grow messages air from to forward busy =
-        let f = λ (t : ℕ). sum_by (λ (o : Message). uses o.number air t) messages in
-        let reach : from + (to - from) ≡ to = omega arith in
-        let grown = total-at_least f 1 from (to - from) (λ t low high. one_each messages air from to t (busy t low (omega arith))) in
-        let at_from = exchange (λ (o : Message). uses o.number air) messages from in
-        let at_to = exchange (λ (o : Message). uses o.number air) messages to in
-        let moved = ap (total f) reach in
-        omega arith
+    let each : All (λ o. aired o ≤ before o + wanted o) messages = λ i e h. aired_inside messages air (get_or messages i e) from to (served i e h) forward uncut.aired_by (inside i e h) in
+    let short = aired_short messages air m from j mine early uncut.aired_by uncut.requested (before_stop-up_to (release m j) to m.stop ahead uncut.standing) lacks (inside k d within) in
+    let fewer = sum_by-le_more aired (λ (o : Message). before o + wanted o) 1 messages k d within each short in
+    let parts = sum_by-plus before wanted messages in
+    let most = demand_is_no_more_than_the_slots messages from to (λ i e h. (served i e h).period) fit in
+    let grown = pages_grow messages air from to forward busy in
+    omega arith
 
 pub admitted_load_is_a_guarantee : AdmittedLoadIsAGuarantee
 admitted_load_is_a_guarantee messages air rising periods fit rule = λ k d within. λ j uncut.
@@ -103,14 +94,13 @@ admitted_load_is_a_guarantee messages air rising periods fit rule = λ k d withi
       | inr enough ↦ omega arith
       | inl lacks ↦
           let busy = lack_means_a_busy_period messages air rule k d within j uncut lacks in
-          let served : All (λ o. IsServed SCALE messages air o) messages = λ i e h. record {
+          let served : All (λ o. IsServed messages air o) messages = λ i e h. record {
             rising = rising;
             rule = rule;
             here = Contains-get_or messages i e h;
             period = periods i e h;
-            enough = load_of-enough (get_or messages i e).pages (get_or messages i e).period (periods i e h);
           } in
-          absurd (no_lack SCALE messages air k d j busy.0 (omega arith) within served (fits_by_message messages fit) busy.1 uncut busy.2 lacks)
+          absurd (no_lack messages air k d j busy.0 within served fit busy.1 uncut busy.2 lacks)
     ]
 
 pub admitted_broadcasts_are_whole : AdmittedBroadcastsAreWhole
@@ -122,6 +112,6 @@ admitted_broadcasts_are_whole messages air slot rising periods fit rule = λ k d
     let P : ℕ → Type 0 = λ n. m.pages ≤ pages_aired m.number air (release m j) n in
     record {
       requested = uncut.requested;
-      released = before_up_to (release m j) (due m j) m.stop ahead uncut.standing;
+      released = before_stop-up_to (release m j) (due m j) m.stop ahead uncut.standing;
       aired = subst P (sym at) (omega arith);
     }

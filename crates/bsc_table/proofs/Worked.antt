@@ -1,13 +1,13 @@
 -- The guarantee on worked runs: its premises hold of them, and matter.
-use Rattle.std.proofs.Common.{◌≡◌, ℕ, zero, suc, ◌+◌, ◌≤◌, ◌<◌, Bool, true, false, refl, Option, Some, None, List, [], ◌∷◌, map, sum_by, inl, arith}
+use Rattle.std.proofs.Common.{◌≡◌, ℕ, zero, suc, ◌≤◌, ◌<◌, Bool, true, false, refl, Option, Some, None, List, [], ◌∷◌, map, sum_by, inl, arith}
 use Rattle.std.specs.List.{All, AllPairs}
 use Rattle.std.proofs.lemmas.List.Elements.{All-cons}
 use Rattle.std.proofs.lemmas.List.Kept.{AllPairs-cons}
 use Rattle.admission.specs.declared.measure.TheConstants.{SCALE}
-use Rattle.admission.specs.Reservation.{Reservation, is_before_end, loads_at}
+use Rattle.admission.specs.Reservation.{Reservation, loads_at}
 use Rattle.admission.proofs.Reservations.{loads_at-le, loads_at-le_standing}
-use Rattle.scheduler.specs.Message.{Message}
-use Rattle.scheduler.specs.Air.{Air, pages_aired}
+use Rattle.scheduler.specs.Message.{Message, release, due}
+use Rattle.scheduler.specs.Air.{Air, pages_aired, IsAirOf}
 use Rattle.scheduler.specs.Completed.{completed}
 use Rattle.scheduler.specs.Choice.{air_of}
 use Rattle.scheduler.proofs.Choice.{IsAirOf-air_of}
@@ -108,6 +108,40 @@ all_four_aired = refl
 
 a_lacks_a_page : pages_aired 0 (air_of all_four 4) 0 4 ≡ 1
 a_lacks_a_page = refl
+
+-- so the guarantee would be false, if a stop freed its message's load at once
+all_four_rise : Rising all_four
+all_four_rise =
+    let Below : Message → Message → Type 0 = λ x y. x.number < y.number in
+    AllPairs-cons Below a (b ∷ c ∷ d ∷ []) (All-cons (Below a) b (c ∷ d ∷ []) (omega arith) (All-cons (Below a) c (d ∷ []) (omega arith) (All-cons (Below a) d [] (omega arith) (none_of (Below a))))) (AllPairs-cons Below b (c ∷ d ∷ []) (All-cons (Below b) c (d ∷ []) (omega arith) (All-cons (Below b) d [] (omega arith) (none_of (Below b)))) (AllPairs-cons Below c (d ∷ []) (All-cons (Below c) d [] (omega arith) (none_of (Below c))) (AllPairs-cons Below d [] (none_of (Below d)) none_rising)))
+
+all_four_have_periods : HavePeriods all_four
+all_four_have_periods =
+    let Has : Message → Type 0 = λ m. 0 < m.period in
+    All-cons Has a (b ∷ c ∷ d ∷ []) (omega arith) (All-cons Has b (c ∷ d ∷ []) (omega arith) (All-cons Has c (d ∷ []) (omega arith) (All-cons Has d [] (omega arith) (none_of Has))))
+
+freed_at_once_rest : sum_by (λ (x : Reservation). x.load) (map freed_at_once (a ∷ d ∷ [])) ≡ SCALE
+freed_at_once_rest = refl
+
+freed_at_once_fit : (slot : ℕ) → loads_at (map freed_at_once all_four) slot ≤ SCALE
+freed_at_once_fit zero = omega arith
+freed_at_once_fit (suc zero) = omega arith
+freed_at_once_fit (suc (suc slot)) =
+    omega (arith, loads_at-le_standing (map freed_at_once all_four) 2 (suc (suc slot)) (omega arith), freed_at_once_rest)
+
+abbrev FreedAtOnceIsAGuarantee : Type 0
+FreedAtOnceIsAGuarantee = (messages : List Message) (air : Air)
+    → Rising messages
+    → HavePeriods messages
+    → ((slot : ℕ) → loads_at (map freed_at_once messages) slot ≤ SCALE)
+    → IsAirOf messages air
+    → All (λ m. (j : ℕ) → IsUncut m j air → pages_aired m.number air (release m j) (due m j) ≡ m.pages) messages
+
+freed_at_once_is_no_guarantee : ¬ FreedAtOnceIsAGuarantee
+freed_at_once_is_no_guarantee claim =
+    let whole : pages_aired 0 (air_of all_four 4) 0 4 ≡ 2 =
+    claim all_four (air_of all_four 4) all_four_rise all_four_have_periods freed_at_once_fit (IsAirOf-air_of all_four 4 all_four_have_periods) 0 a (omega arith) 0 (record { requested = inl refl; standing = tt; aired_by = omega arith }) in
+    omega (arith, whole, a_lacks_a_page)
 
 -- by the rules slot 1 would have half as much again as there is
 all_four_over : loads_at (map reservation_of all_four) 1 ≡ 349188840

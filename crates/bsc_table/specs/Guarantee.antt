@@ -1,5 +1,5 @@
 -- What admission promises of the air (own): over messages, their reservations and an air list alone.
-use Rattle.std.specs.Prelude.{◌≡◌, ℕ, ◌+◌, ◌-◌, ◌*◌, ◌<◌, ◌≤◌, ⊤, Bool, ◌&&◌, nat_le, Option, Some, None, List, length, map, sum_by, count_by, slice_index_or, All, AllPairs, Any}
+use Rattle.std.specs.Prelude.{◌≡◌, ℕ, ◌-◌, ◌*◌, ◌<◌, ◌≤◌, ⊤, Bool, ◌&&◌, nat_le, Option, Some, None, List, length, map, sum_by, count_by, slice_index_or, All, AllPairs, Any}
 use Rattle.std.specs.List.{range_with_len}
 use Rattle.admission.specs.declared.measure.TheConstants.{SCALE}
 use Rattle.admission.specs.Load.{load_of}
@@ -70,9 +70,9 @@ abbrev pub LackMeansABusyPeriod : Type 0
 LackMeansABusyPeriod = (messages : List Message) (air : Air)
     → IsAirOf messages air
     → All (λ m. (j : ℕ)
-      → IsUncut m j air
-      → pages_aired m.number air (release m j) (due m j) < m.pages
-      → (from : ℕ) × (from ≤ release m j) × ((slot : ℕ) → from ≤ slot → slot < due m j → AirsOneWithin messages air from (due m j) slot)) messages
+    → IsUncut m j air
+    → pages_aired m.number air (release m j) (due m j) < m.pages
+    → (from : ℕ) × (from ≤ release m j) × ((slot : ℕ) → from ≤ slot → slot < due m j → AirsOneWithin messages air from (due m j) slot)) messages
 
 -- where the reserved loads fit at each slot, and the air list is by the rule, each uncut broadcast has all its pages aired
 -- between its release and its due slot

@@ -1,4 +1,4 @@
-use Rattle.bsc_table.proofs.Ranges.{demand_is_no_more_than_the_slots}
+use Rattle.bsc_table.proofs.Demand.{demand_is_no_more_than_the_slots}
 use Rattle.bsc_table.proofs.Reserved.{reservations_cover_broadcasts}
 use Rattle.bsc_table.proofs.Busy.{lack_means_a_busy_period}
 use Rattle.bsc_table.proofs.Served.{admitted_load_is_a_guarantee, admitted_broadcasts_are_whole}
