@@ -64,15 +64,17 @@ DemandIsNoMoreThanTheSlots = (messages : List Message) (from to : ℕ)
     → LoadsFit messages
     → demand messages from to ≤ to - from
 
--- where an uncut broadcast lacks a page, each slot from some slot on, no later than its release, up to its due slot airs a
--- page of a broadcast that was released since then and is due no later
+-- from some slot on, no later than the release of broadcast j of the message, each slot up to its due slot airs a page of
+-- a broadcast that was released since then and is due no later
+abbrev pub HasBusyPeriod : List Message → Air → Message → ℕ → Type 0
+HasBusyPeriod messages air m j =
+    (from : ℕ) × (from ≤ release m j) × ((slot : ℕ) → from ≤ slot → slot < due m j → AirsOneWithin messages air from (due m j) slot)
+
+-- an uncut broadcast that lacks a page by its due slot has such a busy period
 abbrev pub LackMeansABusyPeriod : Type 0
 LackMeansABusyPeriod = (messages : List Message) (air : Air)
     → IsAirOf messages air
-    → All (λ m. (j : ℕ)
-    → IsUncut m j air
-    → pages_aired m.number air (release m j) (due m j) < m.pages
-    → (from : ℕ) × (from ≤ release m j) × ((slot : ℕ) → from ≤ slot → slot < due m j → AirsOneWithin messages air from (due m j) slot)) messages
+    → All (λ m. (j : ℕ) → IsUncut m j air → pages_aired m.number air (release m j) (due m j) < m.pages → HasBusyPeriod messages air m j) messages
 
 -- where the reserved loads fit at each slot, and the air list is by the rule, each uncut broadcast has all its pages aired
 -- between its release and its due slot
@@ -84,7 +86,7 @@ AdmittedLoadIsAGuarantee = (messages : List Message) (air : Air)
     → IsAirOf messages air
     → All (λ m. (j : ℕ) → IsUncut m j air → pages_aired m.number air (release m j) (due m j) ≡ m.pages) messages
 
--- so that it is whole before each slot from its due slot on
+-- in other words, each uncut broadcast is whole before each slot from its due slot on
 abbrev pub AdmittedBroadcastsAreWhole : Type 0
 AdmittedBroadcastsAreWhole = (messages : List Message) (air : Air) (slot : ℕ)
     → AllPairs (λ a b. a.number < b.number) messages
