@@ -169,6 +169,23 @@ three_sum = refl
 three_fit : LoadsFit three
 three_fit = fit_together three (omega (arith, three_sum))
 
+three_rise : Rising three
+three_rise =
+    let Below : Message → Message → Type 0 = λ x y. x.number < y.number in
+    let q = message 1 0 1 3 None false in
+    AllPairs-cons Below r (q ∷ p ∷ []) (All-cons (Below r) q (p ∷ []) (omega arith) (All-cons (Below r) p [] (omega arith) (none_of (Below r)))) (AllPairs-cons Below q (p ∷ []) (All-cons (Below q) p [] (omega arith) (none_of (Below q))) (AllPairs-cons Below p [] (none_of (Below p)) none_rising))
+
+three_have_periods : HavePeriods three
+three_have_periods =
+    let Has : Message → Type 0 = λ m. 0 < m.period in
+    let q = message 1 0 1 3 None false in
+    All-cons Has r (q ∷ p ∷ []) (omega arith) (All-cons Has q (p ∷ []) (omega arith) (All-cons Has p [] (omega arith) (none_of Has)))
+
+-- so R's one broadcast is aired by slot 6
+r_is_whole : pages_aired 0 (air_of three 6) 0 6 ≡ 1
+r_is_whole =
+    admitted_load_is_a_guarantee three (air_of three 6) three_rise three_have_periods three_fit (IsAirOf-air_of three 6 three_have_periods) 0 r (omega arith) 0 (record { requested = inl refl; standing = tt; aired_by = omega arith })
+
 -- Q is replaced at slot 3, on the boundary of its period, by one with the same load
 abbrev replaced : List Message
 replaced = r ∷ message 1 0 1 3 (Some 3) false ∷ p ∷ message 3 3 1 3 None false ∷ []
