@@ -1,0 +1,8 @@
+pub mod Broadcasts
+pub mod Busy
+pub mod Demand
+pub mod Inside
+pub mod Reserved
+pub mod Served
+pub mod Sums
+mod Worked

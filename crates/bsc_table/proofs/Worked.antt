@@ -1,0 +1,230 @@
+-- The guarantee on worked runs: its premises hold of them, and matter.
+use Rattle.std.proofs.Common.{◌≡◌, ℕ, zero, suc, ◌≤◌, ◌<◌, Bool, true, false, refl, Option, Some, None, List, [], ◌∷◌, map, sum_by, inl, arith}
+use Rattle.std.specs.List.{All, AllPairs}
+use Rattle.std.proofs.lemmas.List.Elements.{All-cons}
+use Rattle.std.proofs.lemmas.List.Kept.{AllPairs-cons}
+use Rattle.admission.specs.declared.measure.TheConstants.{SCALE}
+use Rattle.admission.specs.Reservation.{Reservation, loads_at}
+use Rattle.admission.proofs.Reservations.{loads_at-le, loads_at-le_standing}
+use Rattle.scheduler.specs.Message.{Message, release, due}
+use Rattle.scheduler.specs.Air.{Air, pages_aired, IsAirOf}
+use Rattle.scheduler.specs.Completed.{completed}
+use Rattle.scheduler.specs.Choice.{air_of}
+use Rattle.scheduler.proofs.Choice.{IsAirOf-air_of}
+use Rattle.bsc_table.specs.Guarantee.{reservation_of, LoadsFit, IsUncut, demand}
+use Rattle.bsc_table.proofs.Served.{admitted_load_is_a_guarantee}
+
+-- a message that stands until it is stopped
+abbrev message : ℕ → ℕ → ℕ → ℕ → Option ℕ → Bool → Message
+message number start pages period stop high = record {
+  number = number;
+  start = start;
+  pages = pages;
+  period = period;
+  requested = 0;
+  stop = stop;
+  high = high;
+}
+
+abbrev Rising : List Message → Type 0
+Rising messages = AllPairs (λ a b. a.number < b.number) messages
+
+abbrev HavePeriods : List Message → Type 0
+HavePeriods messages = All (λ m. 0 < m.period) messages
+
+none_of : (P : Message → Type 0) → All P []
+none_of P = λ k d h. absurd (omega arith)
+
+none_rising : Rising []
+none_rising = λ i j d before within. absurd (omega arith)
+
+-- a list without a stop in the way fits where all its loads together do
+fit_together : (messages : List Message) → sum_by (λ (r : Reservation). r.load) (map reservation_of messages) ≤ SCALE → LoadsFit messages
+fit_together messages all = λ slot. omega (arith, loads_at-le (map reservation_of messages) slot, all)
+
+-- A: two pages in every fourth slot. B, C, D: one high page in every second, each until the next one is written
+abbrev a : Message
+a = message 0 0 2 4 None false
+
+abbrev b : Message
+b = message 1 0 1 2 (Some 1) true
+
+abbrev c : Message
+c = message 2 1 1 2 (Some 2) true
+
+abbrev d : Message
+d = message 3 2 1 2 None true
+
+-- B is stopped at slot 1, and its load stays reserved up to slot 2: C finds no room
+abbrev by_the_rules : List Message
+by_the_rules = a ∷ b ∷ []
+
+by_the_rules_aired : air_of by_the_rules 4 ≡ Some (1, 1) ∷ Some (0, 1) ∷ Some (0, 2) ∷ None ∷ []
+by_the_rules_aired = refl
+
+by_the_rules_rise : Rising by_the_rules
+by_the_rules_rise =
+    AllPairs-cons (λ (x : Message) (y : Message). x.number < y.number) a (b ∷ []) (All-cons (λ (y : Message). a.number < y.number) b [] (omega arith) (none_of (λ y. a.number < y.number))) (AllPairs-cons (λ (x : Message) (y : Message). x.number < y.number) b [] (none_of (λ y. b.number < y.number)) none_rising)
+
+by_the_rules_have_periods : HavePeriods by_the_rules
+by_the_rules_have_periods =
+    All-cons (λ (m : Message). 0 < m.period) a (b ∷ []) (omega arith) (All-cons (λ (m : Message). 0 < m.period) b [] (omega arith) (none_of (λ m. 0 < m.period)))
+
+by_the_rules_sum : sum_by (λ (r : Reservation). r.load) (map reservation_of by_the_rules) ≡ SCALE
+by_the_rules_sum = refl
+
+by_the_rules_fit : LoadsFit by_the_rules
+by_the_rules_fit = fit_together by_the_rules (omega (arith, by_the_rules_sum))
+
+-- so A's broadcast, due at slot 4, is aired whole
+a_is_whole : pages_aired 0 (air_of by_the_rules 4) 0 4 ≡ 2
+a_is_whole =
+    admitted_load_is_a_guarantee by_the_rules (air_of by_the_rules 4) by_the_rules_rise by_the_rules_have_periods by_the_rules_fit (IsAirOf-air_of by_the_rules 4 by_the_rules_have_periods) 0 a (omega arith) 0 (record { requested = inl refl; standing = tt; aired_by = omega arith })
+
+by_the_rules_demand : demand by_the_rules 0 4 ≡ 3
+by_the_rules_demand = refl
+
+-- were a load freed at the stop itself, each slot would have room, and yet A's broadcast would lack a page
+abbrev all_four : List Message
+all_four = a ∷ b ∷ c ∷ d ∷ []
+
+abbrev freed_at_once : Message → Reservation
+freed_at_once m = record (reservation_of m) { end = m.stop }
+
+freed_at_once_0 : loads_at (map freed_at_once all_four) 0 ≡ SCALE
+freed_at_once_0 = refl
+
+freed_at_once_1 : loads_at (map freed_at_once all_four) 1 ≡ SCALE
+freed_at_once_1 = refl
+
+freed_at_once_2 : loads_at (map freed_at_once all_four) 2 ≡ SCALE
+freed_at_once_2 = refl
+
+freed_at_once_3 : loads_at (map freed_at_once all_four) 3 ≡ SCALE
+freed_at_once_3 = refl
+
+all_four_aired : air_of all_four 4 ≡ Some (1, 1) ∷ Some (2, 1) ∷ Some (3, 1) ∷ Some (0, 1) ∷ []
+all_four_aired = refl
+
+a_lacks_a_page : pages_aired 0 (air_of all_four 4) 0 4 ≡ 1
+a_lacks_a_page = refl
+
+-- so the guarantee would be false, if a stop freed its message's load at once
+all_four_rise : Rising all_four
+all_four_rise =
+    let Below : Message → Message → Type 0 = λ x y. x.number < y.number in
+    AllPairs-cons Below a (b ∷ c ∷ d ∷ []) (All-cons (Below a) b (c ∷ d ∷ []) (omega arith) (All-cons (Below a) c (d ∷ []) (omega arith) (All-cons (Below a) d [] (omega arith) (none_of (Below a))))) (AllPairs-cons Below b (c ∷ d ∷ []) (All-cons (Below b) c (d ∷ []) (omega arith) (All-cons (Below b) d [] (omega arith) (none_of (Below b)))) (AllPairs-cons Below c (d ∷ []) (All-cons (Below c) d [] (omega arith) (none_of (Below c))) (AllPairs-cons Below d [] (none_of (Below d)) none_rising)))
+
+all_four_have_periods : HavePeriods all_four
+all_four_have_periods =
+    let Has : Message → Type 0 = λ m. 0 < m.period in
+    All-cons Has a (b ∷ c ∷ d ∷ []) (omega arith) (All-cons Has b (c ∷ d ∷ []) (omega arith) (All-cons Has c (d ∷ []) (omega arith) (All-cons Has d [] (omega arith) (none_of Has))))
+
+freed_at_once_rest : sum_by (λ (x : Reservation). x.load) (map freed_at_once (a ∷ d ∷ [])) ≡ SCALE
+freed_at_once_rest = refl
+
+freed_at_once_fit : (slot : ℕ) → loads_at (map freed_at_once all_four) slot ≤ SCALE
+freed_at_once_fit zero = omega arith
+freed_at_once_fit (suc zero) = omega arith
+freed_at_once_fit (suc (suc slot)) =
+    omega (arith, loads_at-le_standing (map freed_at_once all_four) 2 (suc (suc slot)) (omega arith), freed_at_once_rest)
+
+abbrev FreedAtOnceIsAGuarantee : Type 0
+FreedAtOnceIsAGuarantee = (messages : List Message) (air : Air)
+    → Rising messages
+    → HavePeriods messages
+    → ((slot : ℕ) → loads_at (map freed_at_once messages) slot ≤ SCALE)
+    → IsAirOf messages air
+    → All (λ m. (j : ℕ) → IsUncut m j air → pages_aired m.number air (release m j) (due m j) ≡ m.pages) messages
+
+freed_at_once_is_no_guarantee : ¬ FreedAtOnceIsAGuarantee
+freed_at_once_is_no_guarantee claim =
+    let whole : pages_aired 0 (air_of all_four 4) 0 4 ≡ 2 =
+    claim all_four (air_of all_four 4) all_four_rise all_four_have_periods freed_at_once_fit (IsAirOf-air_of all_four 4 all_four_have_periods) 0 a (omega arith) 0 (record { requested = inl refl; standing = tt; aired_by = omega arith }) in
+    omega (arith, whole, a_lacks_a_page)
+
+-- by the rules slot 1 would have half as much again as there is
+all_four_over : loads_at (map reservation_of all_four) 1 ≡ 349188840
+all_four_over = refl
+
+-- R, Q, P: a sixth, a third and a half fill each slot
+abbrev r : Message
+r = message 0 0 1 6 None false
+
+abbrev p : Message
+p = message 2 0 1 2 None false
+
+abbrev three : List Message
+three = r ∷ message 1 0 1 3 None false ∷ p ∷ []
+
+three_aired : air_of three 6 ≡ Some (2, 1) ∷ Some (1, 1) ∷ Some (2, 1) ∷ Some (0, 1) ∷ Some (1, 1) ∷ Some (2, 1) ∷ []
+three_aired = refl
+
+three_demand : demand three 0 6 ≡ 6
+three_demand = refl
+
+three_sum : sum_by (λ (x : Reservation). x.load) (map reservation_of three) ≡ SCALE
+three_sum = refl
+
+three_fit : LoadsFit three
+three_fit = fit_together three (omega (arith, three_sum))
+
+three_rise : Rising three
+three_rise =
+    let Below : Message → Message → Type 0 = λ x y. x.number < y.number in
+    let q = message 1 0 1 3 None false in
+    AllPairs-cons Below r (q ∷ p ∷ []) (All-cons (Below r) q (p ∷ []) (omega arith) (All-cons (Below r) p [] (omega arith) (none_of (Below r)))) (AllPairs-cons Below q (p ∷ []) (All-cons (Below q) p [] (omega arith) (none_of (Below q))) (AllPairs-cons Below p [] (none_of (Below p)) none_rising))
+
+three_have_periods : HavePeriods three
+three_have_periods =
+    let Has : Message → Type 0 = λ m. 0 < m.period in
+    let q = message 1 0 1 3 None false in
+    All-cons Has r (q ∷ p ∷ []) (omega arith) (All-cons Has q (p ∷ []) (omega arith) (All-cons Has p [] (omega arith) (none_of Has)))
+
+-- so R's one broadcast is aired by slot 6
+r_is_whole : pages_aired 0 (air_of three 6) 0 6 ≡ 1
+r_is_whole =
+    admitted_load_is_a_guarantee three (air_of three 6) three_rise three_have_periods three_fit (IsAirOf-air_of three 6 three_have_periods) 0 r (omega arith) 0 (record { requested = inl refl; standing = tt; aired_by = omega arith })
+
+-- Q is replaced at slot 3, on the boundary of its period, by one with the same load
+abbrev replaced : List Message
+replaced = r ∷ message 1 0 1 3 (Some 3) false ∷ p ∷ message 3 3 1 3 None false ∷ []
+
+replaced_aired : air_of replaced 6 ≡ Some (2, 1) ∷ Some (1, 1) ∷ Some (2, 1) ∷ Some (0, 1) ∷ Some (2, 1) ∷ Some (3, 1) ∷ []
+replaced_aired = refl
+
+replaced_completed : completed (message 1 0 1 3 (Some 3) false) (air_of replaced 6) 3 ≡ 1
+replaced_completed = refl
+
+replaced_rest : sum_by (λ (x : Reservation). x.load) (map reservation_of (r ∷ p ∷ message 3 3 1 3 None false ∷ [])) ≡ SCALE
+replaced_rest = refl
+
+replaced_fit : LoadsFit replaced
+replaced_fit zero = omega arith
+replaced_fit (suc zero) = omega arith
+replaced_fit (suc (suc zero)) = omega arith
+replaced_fit (suc (suc (suc slot))) =
+    omega (arith, loads_at-le_standing (map reservation_of replaced) 3 (suc (suc (suc slot))) (omega arith), replaced_rest)
+
+replaced_rise : Rising replaced
+replaced_rise =
+    let Below : Message → Message → Type 0 = λ x y. x.number < y.number in
+    let q = message 1 0 1 3 (Some 3) false in
+    let n = message 3 3 1 3 None false in
+    AllPairs-cons Below r (q ∷ p ∷ n ∷ []) (All-cons (Below r) q (p ∷ n ∷ []) (omega arith) (All-cons (Below r) p (n ∷ []) (omega arith) (All-cons (Below r) n [] (omega arith) (none_of (Below r))))) (AllPairs-cons Below q (p ∷ n ∷ []) (All-cons (Below q) p (n ∷ []) (omega arith) (All-cons (Below q) n [] (omega arith) (none_of (Below q)))) (AllPairs-cons Below p (n ∷ []) (All-cons (Below p) n [] (omega arith) (none_of (Below p))) (AllPairs-cons Below n [] (none_of (Below n)) none_rising)))
+
+replaced_have_periods : HavePeriods replaced
+replaced_have_periods =
+    let Has : Message → Type 0 = λ m. 0 < m.period in
+    let q = message 1 0 1 3 (Some 3) false in
+    let n = message 3 3 1 3 None false in
+    All-cons Has r (q ∷ p ∷ n ∷ []) (omega arith) (All-cons Has q (p ∷ n ∷ []) (omega arith) (All-cons Has p (n ∷ []) (omega arith) (All-cons Has n [] (omega arith) (none_of Has))))
+
+-- so the new one's first broadcast is whole by slot 6
+replacement_is_whole : pages_aired 3 (air_of replaced 6) 3 6 ≡ 1
+replacement_is_whole =
+    admitted_load_is_a_guarantee replaced (air_of replaced 6) replaced_rise replaced_have_periods replaced_fit (IsAirOf-air_of replaced 6 replaced_have_periods) 3 r (omega arith) 0 (record { requested = inl refl; standing = tt; aired_by = omega arith })
+
+-- replaced at slot 4, within its period, it would leave no room for the new one
+replaced_late_over : loads_at (map reservation_of (r ∷ message 1 0 1 3 (Some 4) false ∷ p ∷ message 3 4 1 3 None false ∷ [])) 4 ≡ 310390080
+replaced_late_over = refl

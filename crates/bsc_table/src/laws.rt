@@ -1,0 +1,26 @@
+//! The guarantee and the laws that it stands on, over the definitions of load and air alone.
+
+ghost use Rattle.bsc_table.specs.Guarantee.{ReservationsCoverBroadcasts, DemandIsNoMoreThanTheSlots, LackMeansABusyPeriod, AdmittedLoadIsAGuarantee, AdmittedBroadcastsAreWhole};
+
+/// Admitted load is a guarantee: where the loads that are reserved at each slot sum to at most `SCALE`, and each slot airs
+/// what the air rule says, each broadcast is aired whole within its own period, from its release up to its due slot.
+/// Nothing is promised of a broadcast that its message's stop or the end of the run cuts, nor of messages whose loads were
+/// freed sooner than at the end of the period in which they were stopped. Own rules, of no standard.
+///
+/// Does nothing: its contract is the law, and the three laws that carry it.
+pub fn guarantee()
+    // Over the whole time of a broadcast its message's load is reserved.
+    ensures reservations_cover_broadcasts { ReservationsCoverBroadcasts }
+
+    // So the broadcasts inside a range of slots have no more pages than it has slots.
+    ensures demand_is_no_more_than_the_slots { DemandIsNoMoreThanTheSlots }
+
+    // A broadcast lacks a page only where all slots of such a range were used by others inside it, or by itself.
+    ensures lack_means_a_busy_period { LackMeansABusyPeriod }
+
+    // So none does.
+    ensures admitted_load_is_a_guarantee { AdmittedLoadIsAGuarantee }
+
+    // In the words of the completed number: from its due slot on, each counts as whole.
+    ensures admitted_broadcasts_are_whole { AdmittedBroadcastsAreWhole }
+{}
