@@ -41,7 +41,7 @@ fn tape_of(alloc: Global, cell: [u8; 4], text: &str) -> Result<Vec<u8>, AllocErr
         let [_, _, high, low] = (character as u32).to_be_bytes();
         page.extend_from_slice(&[high, low])?;
     }
-    while page.len() < 88 {
+    for _ in text.chars().count()..41 {
         page.extend_from_slice(&[0x00, 0x0D])?;
     }
     let mut tape = Vec::new(alloc);
@@ -90,7 +90,7 @@ fn a_text_with_commas_and_quotes_is_quoted(rt: HostRuntime) -> Result<(), Fail> 
 #[test]
 fn tapes_that_end_early_are_short(rt: HostRuntime) -> Result<(), Fail> {
     let tape = worked_tape(rt.alloc())?;
-    for length in 1..192 {
+    for length in 1..tape.len() {
         expect_fault(&rt, &READ, &tape[..length], 1, "warnc: tape is short\n")?;
     }
     let mut longer = worked_tape(rt.alloc())?;
