@@ -3,3 +3,5 @@ mod BlockLaws
 mod PageLaws
 mod ReadingLaws
 pub mod TapeLaws
+pub mod TapeKinds
+pub mod TapeCases

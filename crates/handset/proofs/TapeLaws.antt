@@ -158,7 +158,7 @@ on_ok (Ok x) P Q f p = f p
 on_ok (Err e) P Q f p = p
 
 -- a header says the same with what follows it
-slots-header : (header rest : List ℕ) → length header ≡ 8 → slots_in (header ++ rest) ≡ slots_in header
+pub slots-header : (header rest : List ℕ) → length header ≡ 8 → slots_in (header ++ rest) ≡ slots_in header
 slots-header header rest eight =
     let e4 : get_or (header ++ rest) 4 0 ≡ get_or header 4 0 = get_or-append header rest 0 4 (omega arith) in
     let e5 : get_or (header ++ rest) 5 0 ≡ get_or header 5 0 = get_or-append header rest 0 5 (omega arith) in

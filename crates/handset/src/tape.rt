@@ -10,6 +10,7 @@ ghost use Rattle.handset.specs.Reading.{shown_in};
 ghost use Rattle.handset.specs.Keeping.{HasRead, messages_of};
 ghost use Rattle.handset.specs.Tape.{cell_in, slots_in, most_slots, reading_of, readings_of, AreSlots, AreTapes, IsNextFault, IsTape, IsTapeFault, IsTapesFault, octets_of_blocks};
 ghost use Rattle.handset.specs.declared.tape.TapeFault.TheVariants.{ReadFailed, Refused};
+ghost use Rattle.handset.specs.TapeLaw.{TapeHasKind, TapeIsOneKind, TapesAreOneKind, TapesHaveKind};
 ghost use Rattle.handset.specs.TapeSteps.{AreShown, ReadsBlocks, ReadsPiece, ReadsTape};
 
 use crate::input::read_front;
@@ -316,4 +317,14 @@ fn push_answer(shown: &mut Vec<Shown>, answer: Option<Shown>) -> Result<(), Tape
             Err(_) => Err(TapeFault::Refused),
         },
     }
+}
+
+/// That each input is of exactly one kind (readable, short or long), for one tape and for tapes up to the end, and that its
+/// readings are the only ones.
+pub fn tapes_law()
+    ensures tape { (input : List ℕ) → TapeIsOneKind input }
+    ensures tape_kinds { (input : List ℕ) → TapeHasKind input }
+    ensures tapes { (input : List ℕ) → TapesAreOneKind input }
+    ensures tapes_kinds { (input : List ℕ) → TapesHaveKind input }
+{
 }
