@@ -5,3 +5,4 @@ mod ReadingLaws
 pub mod TapeLaws
 pub mod TapeKinds
 pub mod TapeCases
+pub mod TapeMade

@@ -8,7 +8,7 @@ ghost use Rattle.std.specs.Option.{option_to_list};
 ghost use Rattle.device_ends.specs.Source.{reader_of, source_failed};
 ghost use Rattle.handset.specs.Reading.{shown_in};
 ghost use Rattle.handset.specs.Keeping.{HasRead, messages_of};
-ghost use Rattle.handset.specs.Tape.{cell_in, slots_in, most_slots, reading_of, readings_of, AreSlots, AreTapes, IsNextFault, IsTape, IsTapeFault, IsTapesFault, octets_of_blocks};
+ghost use Rattle.handset.specs.Tape.{cell_in, slots_in, most_slots, reading_of, readings_of, AreTapes, IsNextFault, IsTape, IsTapeFault, IsTapesFault, MadeAreTapes};
 ghost use Rattle.handset.specs.declared.tape.TapeFault.TheVariants.{ReadFailed, Refused};
 ghost use Rattle.handset.specs.TapeLaw.{TapeHasKind, TapeIsOneKind, TapesAreOneKind, TapesHaveKind};
 ghost use Rattle.handset.specs.TapeSteps.{AreShown, ReadsBlocks, ReadsPiece, ReadsTape};
@@ -320,11 +320,12 @@ fn push_answer(shown: &mut Vec<Shown>, answer: Option<Shown>) -> Result<(), Tape
 }
 
 /// That each input is of exactly one kind (readable, short or long), for one tape and for tapes up to the end, and that its
-/// readings are the only ones.
+/// readings are the only ones. And what is made of a cell, slots and blocks is a tape that says and shows these.
 pub fn tapes_law()
     ensures tape { (input : List ℕ) → TapeIsOneKind input }
     ensures tape_kinds { (input : List ℕ) → TapeHasKind input }
     ensures tapes { (input : List ℕ) → TapesAreOneKind input }
     ensures tapes_kinds { (input : List ℕ) → TapesHaveKind input }
+    ensures made { MadeAreTapes }
 {
 }

@@ -1,4 +1,5 @@
 use Rattle.handset.proofs.TapeCases.{tape_has_kind, tapes_have_kind}
+use Rattle.handset.proofs.TapeMade.{made_is_tape}
 use Rattle.handset.proofs.TapeKinds.{tape_is_one_kind, tapes_are_one_kind}
 use Rattle.handset.proofs.tape.tapes_law.Goals as goal
 
@@ -13,3 +14,6 @@ returns-clause-tapes c = tapes_are_one_kind
 
 pub returns-clause-tapes_kinds : goal.returns-clause-tapes_kinds
 returns-clause-tapes_kinds c = tapes_have_kind
+
+pub returns-clause-made : goal.returns-clause-made
+returns-clause-made c = made_is_tape
