@@ -4,7 +4,7 @@ use Rattle.std.proofs.lemmas.Bool.{cases_lt}
 use Rattle.std.proofs.lemmas.List.{length-drop, length-take-le, take-append-drop}
 use Rattle.std.specs.Simd.{first_chunks}
 use Rattle.handset.specs.Reading.{shown_in}
-use Rattle.handset.specs.Tape.{TapeReading, IsTape, IsLongTape, IsShortTape, AreJoined, AreTapes, IsShort, IsLong, IsCut, IsOversized, octets_of_blocks, slots_in, told_by, most_slots, most_tapes}
+use Rattle.handset.specs.Tape.{TapeReading, IsTape, AreJoined, IsCut, IsOversized, slots_in, told_by, most_slots, most_tapes}
 use Rattle.handset.specs.TapeLaw.{TapeHasKind, TapesHaveKind}
 use Rattle.handset.proofs.TapeLaws.{slots-header, chunks_joined, chunks_long, chunks_each}
 
@@ -71,8 +71,11 @@ tape_has_kind input =
                       elim (cases_lt 0 (length front.after)) [
                         | inl more ↦ inr (inr (headed, λ _. omega (arith, front.long, more)))
                         | inr none ↦
-                            inl (front.reading, subst (λ o. IsTape o front.reading)
-                            (sym (front.split ∙ ap (λ l. front.tape ++ l) (none_left front.after none) ∙ append-nil front.tape)) front.is)
+                            inl (
+                              front.reading,
+                              subst (λ o. IsTape o front.reading)
+                                  (sym (front.split ∙ ap (λ l. front.tape ++ l) (none_left front.after none) ∙ append-nil front.tape)) front.is,
+                            )
                       ]
                 ]
           ]

@@ -1,10 +1,10 @@
 -- Readings are unique, and no input is of two kinds: readable, short and long.
-use Rattle.std.proofs.Common.{◌≡◌, ℕ, ◌+◌, ◌-◌, ◌*◌, ◌<◌, ◌≤◌, List, [], ◌∷◌, ◌++◌, length, take, drop, zero, suc, refl, sym, ap, ◌∙◌, subst, arith, append_assoc, append-nil}
+use Rattle.std.proofs.Common.{◌≡◌, ℕ, ◌+◌, ◌-◌, ◌*◌, ◌<◌, ◌≤◌, List, [], ◌∷◌, ◌++◌, length, take, drop, refl, sym, ap, ◌∙◌, subst, arith, append_assoc, append-nil}
 use Rattle.std.specs.List.{AllByRecursion}
-use Rattle.std.proofs.lemmas.List.{length-append, take-append-le, take_all}
-use Rattle.std.proofs.Math.Seq.{take-append_seam, drop-append-add}
+use Rattle.std.proofs.lemmas.List.{length-append}
+use Rattle.std.proofs.Math.Seq.{take-append_seam}
 use Rattle.handset.specs.Reading.{shown_in}
-use Rattle.handset.specs.Tape.{TapeReading, IsTape, IsLongTape, IsShortTape, AreJoined, AreTapes, IsShort, IsLong, IsCut, IsOversized, octets_of_blocks, slots_in, told_by, most_slots, most_tapes}
+use Rattle.handset.specs.Tape.{TapeReading, IsTape, AreJoined, AreTapes, IsShort, IsLong, IsCut, IsOversized, octets_of_blocks, slots_in, told_by, most_slots, most_tapes}
 use Rattle.handset.specs.TapeLaw.{TapeIsOneKind, TapesAreOneKind}
 use Rattle.handset.proofs.TapeLaws.{tape_long}
 
@@ -58,8 +58,7 @@ tape_in_front input tape after reading split is =
     let whole : (8 ≤ length tape) × (slots_in (tape ++ after) ≡ reading.slots) × (length tape ≡ 8 + 92 * reading.slots) = tape_long tape after reading is in
     let says : slots_in input ≡ reading.slots = ap slots_in split ∙ whole.1 in
     let told : reading.slots ≡ slots_in is.header = ap (λ r. r.slots) is.told in
-    let few : slots_in is.header ≤ most_slots = is.few in
-    (
+    let few : slots_in is.header ≤ most_slots = is.few in (
       omega (arith, long, whole.0),
       subst (λ n. n ≤ most_slots) (sym (says ∙ told)) few,
       whole.2 ∙ ap (λ n. 8 + 92 * n) (sym says),

@@ -115,10 +115,7 @@ pub fn read_tape<R: Read>(alloc: Global, source: &mut Source<R>) -> Result<Readi
 }
 
 /// Reads tapes up to the end of the input, at most 64.
-pub fn read_tapes<R: Read>(
-    alloc: Global,
-    source: &mut Source<R>,
-) -> Result<Vec<Reading>, TapeFault>
+pub fn read_tapes<R: Read>(alloc: Global, source: &mut Source<R>) -> Result<Vec<Reading>, TapeFault>
     ensures readings { IfOk result (λ readings. IfSome (R.remaining (reader_of source.old)) (λ input.
         AreTapes input (readings_of readings.items))) }
     ensures fault { IfErr result (λ fault. IfSome (R.remaining (reader_of source.old)) (λ input. IsTapesFault input fault)) }
@@ -289,11 +286,7 @@ fn read_piece<R: Read>(
 }
 
 /// Feeds blocks to a handset, and puts the messages that they make complete behind those that it has shown.
-fn show(
-    handset: &mut Handset,
-    shown: &mut Vec<Shown>,
-    blocks: &[[u8; 23]],
-) -> Result<(), TapeFault>
+fn show(handset: &mut Handset, shown: &mut Vec<Shown>, blocks: &[[u8; 23]]) -> Result<(), TapeFault>
     ensures shown { OnOk result ((before : List (List ℕ)) → AreShown handset.old (messages_of shown.old.items) before →
         AreShown handset.new (messages_of shown.new.items) (before ++ blocks.now)) }
     ensures refused { IfErr result (λ fault. fault ≡ TapeFault.Refused) }
@@ -327,5 +320,4 @@ pub fn tapes_law()
     ensures tapes { (input : List ℕ) → TapesAreOneKind input }
     ensures tapes_kinds { (input : List ℕ) → TapesHaveKind input }
     ensures made { MadeAreTapes }
-{
-}
+{}
