@@ -4,3 +4,6 @@ pub mod PageLaws
 pub mod ReadingLaws
 pub mod TapeLaws
 mod Worked
+pub mod TapeKinds
+pub mod TapeCases
+pub mod TapeMade

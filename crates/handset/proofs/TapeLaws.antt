@@ -1,7 +1,7 @@
 -- Steps over tapes: blocks that are fed, slots that are read, and whole tapes.
-use Rattle.std.proofs.Common.{◌≡◌, ℕ, ◌+◌, ◌*◌, ◌/◌, ◌<◌, ◌≤◌, List, [], ◌∷◌, ◌++◌, Option, None, Some, IfSome, OnOk, Result, Ok, Err, length, take, drop, map, get_or, zero, suc, refl, sym, ap, ◌∙◌, subst, arith, append_assoc, append-nil}
+use Rattle.std.proofs.Common.{◌≡◌, ℕ, ◌+◌, ◌*◌, ◌/◌, ◌<◌, ◌≤◌, List, [], ◌∷◌, ◌++◌, Option, None, Some, IfSome, OnOk, Result, Ok, Err, length, take, drop, get_or, zero, suc, refl, sym, ap, ◌∙◌, subst, arith, append_assoc, append-nil}
 use Rattle.std.specs.Io.KnownBytes.{Consumes, IsAtEnd}
-use Rattle.std.specs.List.{flat_map, AllByRecursion}
+use Rattle.std.specs.List.{AllByRecursion}
 use Rattle.std.specs.Simd.{first_chunks}
 use Rattle.std.proofs.KnownBytes.{Consumes-trans, Consumes-nil}
 use borrow.Rule.Slice.PartMut.{put_mid, post_of}
@@ -158,7 +158,7 @@ on_ok (Ok x) P Q f p = f p
 on_ok (Err e) P Q f p = p
 
 -- a header says the same with what follows it
-slots-header : (header rest : List ℕ) → length header ≡ 8 → slots_in (header ++ rest) ≡ slots_in header
+pub slots-header : (header rest : List ℕ) → length header ≡ 8 → slots_in (header ++ rest) ≡ slots_in header
 slots-header header rest eight =
     let e4 : get_or (header ++ rest) 4 0 ≡ get_or header 4 0 = get_or-append header rest 0 4 (omega arith) in
     let e5 : get_or (header ++ rest) 5 0 ≡ get_or header 5 0 = get_or-append header rest 0 5 (omega arith) in

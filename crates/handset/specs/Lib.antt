@@ -2,3 +2,4 @@ pub mod Reading
 pub mod Keeping
 pub mod Tape
 pub mod TapeSteps
+pub mod TapeLaw

@@ -1,6 +1,6 @@
 -- What a handset shows of a list of blocks. 3GPP TS 44.012 (blocks), and 3GPP TS 23.041, clause 9.4.1
 -- (pages, repeats). That the first page of a message fixes its total and its data coding is this project's own.
-use Rattle.std.specs.Prelude.{ℕ, ◌+◌, Bool, true, false, not, ◌==◌, ◌&&◌, Option, Some, None, is_some, List, [], ◌∷◌, ◌++◌, drop, take, map, filter, find, slice_index, if◌then◌else◌, encode_utf8_all}
+use Rattle.std.specs.Prelude.{ℕ, Bool, not, ◌==◌, ◌&&◌, Option, is_some, List, [], ◌∷◌, ◌++◌, drop, take, map, filter, find, slice_index, if◌then◌else◌, encode_utf8_all}
 use Rattle.std.specs.Option.{option_map_or}
 use Rattle.std.specs.List.{flat_map, list_all, range_with_len}
 use Rattle.std.specs.Str.{bytes_eq}

@@ -140,3 +140,9 @@ IsNextFault input fault.Short = IsCut input
 IsNextFault input fault.Long = IsOversized input
 IsNextFault input fault.ReadFailed = Unit {0}
 IsNextFault input fault.Refused = Unit {0}
+
+-- the octets that are made of a cell, a number of slots and their blocks are a tape, and say and show just these
+abbrev pub MadeAreTapes : Type 0
+MadeAreTapes =
+    (cell : Cell) → (slots : ℕ) → (blocks : List (List ℕ)) → slots ≤ most_slots → AreSlots slots blocks →
+    IsTape (tape_octets cell slots blocks) (record { cell = cell; slots = slots; shown = shown_in blocks })

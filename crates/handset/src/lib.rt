@@ -17,4 +17,4 @@ mod tests;
 
 pub use handset::Handset;
 pub use messages::{Refused, Shown};
-pub use tape::{MAX_SLOTS, MAX_TAPES, Reading, TapeFault, read_tape, read_tapes};
+pub use tape::{MAX_SLOTS, MAX_TAPES, Reading, TapeFault, read_tape, read_tapes, tapes_law};

@@ -8,8 +8,9 @@ ghost use Rattle.std.specs.Option.{option_to_list};
 ghost use Rattle.device_ends.specs.Source.{reader_of, source_failed};
 ghost use Rattle.handset.specs.Reading.{shown_in};
 ghost use Rattle.handset.specs.Keeping.{HasRead, messages_of};
-ghost use Rattle.handset.specs.Tape.{cell_in, slots_in, most_slots, reading_of, readings_of, AreSlots, AreTapes, IsNextFault, IsTape, IsTapeFault, IsTapesFault, octets_of_blocks};
+ghost use Rattle.handset.specs.Tape.{cell_in, slots_in, most_slots, reading_of, readings_of, AreTapes, IsNextFault, IsTape, IsTapeFault, IsTapesFault, MadeAreTapes};
 ghost use Rattle.handset.specs.declared.tape.TapeFault.TheVariants.{ReadFailed, Refused};
+ghost use Rattle.handset.specs.TapeLaw.{TapeHasKind, TapeIsOneKind, TapesAreOneKind, TapesHaveKind};
 ghost use Rattle.handset.specs.TapeSteps.{AreShown, ReadsBlocks, ReadsPiece, ReadsTape};
 
 use crate::input::read_front;
@@ -114,10 +115,7 @@ pub fn read_tape<R: Read>(alloc: Global, source: &mut Source<R>) -> Result<Readi
 }
 
 /// Reads tapes up to the end of the input, at most 64.
-pub fn read_tapes<R: Read>(
-    alloc: Global,
-    source: &mut Source<R>,
-) -> Result<Vec<Reading>, TapeFault>
+pub fn read_tapes<R: Read>(alloc: Global, source: &mut Source<R>) -> Result<Vec<Reading>, TapeFault>
     ensures readings { IfOk result (λ readings. IfSome (R.remaining (reader_of source.old)) (λ input.
         AreTapes input (readings_of readings.items))) }
     ensures fault { IfErr result (λ fault. IfSome (R.remaining (reader_of source.old)) (λ input. IsTapesFault input fault)) }
@@ -288,11 +286,7 @@ fn read_piece<R: Read>(
 }
 
 /// Feeds blocks to a handset, and puts the messages that they make complete behind those that it has shown.
-fn show(
-    handset: &mut Handset,
-    shown: &mut Vec<Shown>,
-    blocks: &[[u8; 23]],
-) -> Result<(), TapeFault>
+fn show(handset: &mut Handset, shown: &mut Vec<Shown>, blocks: &[[u8; 23]]) -> Result<(), TapeFault>
     ensures shown { OnOk result ((before : List (List ℕ)) → AreShown handset.old (messages_of shown.old.items) before →
         AreShown handset.new (messages_of shown.new.items) (before ++ blocks.now)) }
     ensures refused { IfErr result (λ fault. fault ≡ TapeFault.Refused) }
@@ -317,3 +311,13 @@ fn push_answer(shown: &mut Vec<Shown>, answer: Option<Shown>) -> Result<(), Tape
         },
     }
 }
+
+/// That each input is of exactly one kind (readable, short or long), for one tape and for tapes up to the end, and that its
+/// readings are the only ones. And what is made of a cell, slots and blocks is a tape that says and shows these.
+pub fn tapes_law()
+    ensures tape { (input : List ℕ) → TapeIsOneKind input }
+    ensures tape_kinds { (input : List ℕ) → TapeHasKind input }
+    ensures tapes { (input : List ℕ) → TapesAreOneKind input }
+    ensures tapes_kinds { (input : List ℕ) → TapesHaveKind input }
+    ensures made { MadeAreTapes }
+{}

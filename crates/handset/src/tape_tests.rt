@@ -1,5 +1,7 @@
 //! Tapes that are built octet by octet, whole, cut short and made longer, and readers that fail.
 
+ghost use Rattle.std.specs.Prelude.{◌<◌};
+
 use super::*;
 use crate::tape::read_tape;
 use device_ends::Source;
@@ -7,9 +9,6 @@ use device_ends::memory::MemoryReader;
 use std::alloc::Global;
 use std::process::Abort;
 use std::test::Fail;
-
-/// The header of a tape of cell 1-1 with two slots.
-const HEADER: [u8; 8] = [0x00, 0x01, 0x00, 0x01, 0x00, 0x00, 0x00, 0x02];
 
 /// The blocks of a page with serial number 0010, identifier 4370 and the text "@".
 const WORKED: [[u8; 23]; 4] = [
@@ -33,8 +32,13 @@ const WORKED: [[u8; 23]; 4] = [
 
 /// The tape of 192 octets: its header, the worked blocks, and those of an idle slot.
 fn worked_tape(alloc: Global) -> Result<Vec<u8>, Fail> {
+    tape_of_slots(alloc, 2)
+}
+
+/// The same octets with another number of slots in the header.
+fn tape_of_slots(alloc: Global, slots: u8) -> Result<Vec<u8>, Fail> {
     let mut octets = Vec::new(alloc);
-    octets.extend_from_slice(&HEADER)?;
+    octets.extend_from_slice(&[0x00, 0x01, 0x00, 0x01, 0x00, 0x00, 0x00, slots])?;
     for block in &WORKED {
         octets.extend_from_slice(block)?;
     }
@@ -59,6 +63,36 @@ fn all(alloc: Global, octets: &[u8]) -> Result<Vec<Reading>, TapeFault> {
     read_tapes(alloc, &mut Source::new(&mut reader))
 }
 
+/// Whether one tape is short.
+fn is_short(read: &Result<Reading, TapeFault>) -> bool {
+    matches!(read, Err(TapeFault::Short))
+}
+
+/// Whether one tape is long.
+fn is_long(read: &Result<Reading, TapeFault>) -> bool {
+    matches!(read, Err(TapeFault::Long))
+}
+
+/// Whether the reader of one tape failed.
+fn is_failed(read: &Result<Reading, TapeFault>) -> bool {
+    matches!(read, Err(TapeFault::ReadFailed))
+}
+
+/// Whether tapes are short.
+fn are_short(read: &Result<Vec<Reading>, TapeFault>) -> bool {
+    matches!(read, Err(TapeFault::Short))
+}
+
+/// Whether tapes are long.
+fn are_long(read: &Result<Vec<Reading>, TapeFault>) -> bool {
+    matches!(read, Err(TapeFault::Long))
+}
+
+/// Whether the reader of tapes failed.
+fn are_failed(read: &Result<Vec<Reading>, TapeFault>) -> bool {
+    matches!(read, Err(TapeFault::ReadFailed))
+}
+
 /// That a reading is of the tape of 192 octets.
 fn is_worked(rt: &impl Abort, reading: &Reading) {
     assert_eq!(rt; reading.cell.lac, 1);
@@ -79,58 +113,64 @@ fn the_worked_tape_is_read(rt: HostRuntime) -> Result<(), Fail> {
     is_worked(&rt, &one(rt.alloc(), &octets)?);
     let readings = all(rt.alloc(), &octets)?;
     assert_eq!(rt; readings.len(), 1);
-    is_worked(&rt, &readings[0]);
+    for reading in &readings {
+        is_worked(&rt, reading);
+    }
 
     octets.extend_from_slice(&worked_tape(rt.alloc())?)?;
-    assert!(rt; matches!(one(rt.alloc(), &octets), Err(TapeFault::Long)));
+    assert!(rt; is_long(&one(rt.alloc(), &octets)));
     let readings = all(rt.alloc(), &octets)?;
     assert_eq!(rt; readings.len(), 2);
-    is_worked(&rt, &readings[0]);
-    is_worked(&rt, &readings[1]);
-    Ok(())
-}
-
-#[test]
-fn each_front_is_short(rt: HostRuntime) -> Result<(), Fail> {
-    let octets = worked_tape(rt.alloc())?;
-    assert_eq!(rt; all(rt.alloc(), &octets[..0])?.len(), 0);
-    for count in 0..192 {
-        let front = &octets[..count];
-        assert!(rt; matches!(one(rt.alloc(), front), Err(TapeFault::Short)));
-        if count > 0 {
-            assert!(rt; matches!(all(rt.alloc(), front), Err(TapeFault::Short)));
-        }
+    for reading in &readings {
+        is_worked(&rt, reading);
     }
     Ok(())
 }
 
 #[test]
-fn an_octet_more_or_other_slots(rt: HostRuntime) -> Result<(), Fail> {
+fn each_front_is_short(rt: HostRuntime) -> Result<(), Fail> {
+    let mut octets = worked_tape(rt.alloc())?;
+    for _ in 0..192 {
+        octets.pop();
+        assert!(rt; is_short(&one(rt.alloc(), &octets)));
+        let readings = all(rt.alloc(), &octets);
+        assert!(rt; octets.is_empty() || are_short(&readings));
+    }
+    assert!(rt; octets.is_empty());
+    assert_eq!(rt; all(rt.alloc(), &octets)?.len(), 0);
+    Ok(())
+}
+
+#[test]
+fn an_octet_more(rt: HostRuntime) -> Result<(), Fail> {
     let mut octets = worked_tape(rt.alloc())?;
     octets.push(0x00)?;
-    assert!(rt; matches!(one(rt.alloc(), &octets), Err(TapeFault::Long)));
-    assert!(rt; matches!(all(rt.alloc(), &octets), Err(TapeFault::Short)));
-    octets.pop();
+    assert!(rt; is_long(&one(rt.alloc(), &octets)));
+    assert!(rt; are_short(&all(rt.alloc(), &octets)));
+    Ok(())
+}
 
+#[test]
+fn other_slots(rt: HostRuntime) -> Result<(), Fail> {
     // The idle blocks are then taken for a header with 2B2B2B2B slots.
-    octets[7] = 1;
-    assert!(rt; matches!(one(rt.alloc(), &octets), Err(TapeFault::Long)));
-    assert!(rt; matches!(all(rt.alloc(), &octets), Err(TapeFault::Long)));
+    let octets = tape_of_slots(rt.alloc(), 1)?;
+    assert!(rt; is_long(&one(rt.alloc(), &octets)));
+    assert!(rt; are_long(&all(rt.alloc(), &octets)));
 
-    octets[7] = 3;
-    assert!(rt; matches!(one(rt.alloc(), &octets), Err(TapeFault::Short)));
-    assert!(rt; matches!(all(rt.alloc(), &octets), Err(TapeFault::Short)));
+    let octets = tape_of_slots(rt.alloc(), 3)?;
+    assert!(rt; is_short(&one(rt.alloc(), &octets)));
+    assert!(rt; are_short(&all(rt.alloc(), &octets)));
     Ok(())
 }
 
 #[test]
 fn at_most_4096_slots(rt: HostRuntime) -> Result<(), Fail> {
     let most = [0x00, 0x01, 0x00, 0x01, 0x00, 0x00, 0x10, 0x00];
-    assert!(rt; matches!(one(rt.alloc(), &most), Err(TapeFault::Short)));
-    assert!(rt; matches!(all(rt.alloc(), &most), Err(TapeFault::Short)));
+    assert!(rt; is_short(&one(rt.alloc(), &most)));
+    assert!(rt; are_short(&all(rt.alloc(), &most)));
     let more = [0x00, 0x01, 0x00, 0x01, 0x00, 0x00, 0x10, 0x01];
-    assert!(rt; matches!(one(rt.alloc(), &more), Err(TapeFault::Long)));
-    assert!(rt; matches!(all(rt.alloc(), &more), Err(TapeFault::Long)));
+    assert!(rt; is_long(&one(rt.alloc(), &more)));
+    assert!(rt; are_long(&all(rt.alloc(), &more)));
 
     // A whole tape of 4,096 slots, which takes several pieces: the worked page is in its last slot.
     let mut octets = Vec::new(rt.alloc());
@@ -144,7 +184,9 @@ fn at_most_4096_slots(rt: HostRuntime) -> Result<(), Fail> {
     let reading = one(rt.alloc(), &octets)?;
     assert_eq!(rt; reading.slots, 4096);
     assert_eq!(rt; reading.shown.len(), 1);
-    assert_eq!(rt; reading.shown[0].text.as_str(), "@");
+    for shown in &reading.shown {
+        assert_eq!(rt; shown.text.as_str(), "@");
+    }
     Ok(())
 }
 
@@ -163,9 +205,9 @@ fn tapes_of_no_slots(rt: HostRuntime) -> Result<(), Fail> {
     }
     assert_eq!(rt; all(rt.alloc(), &octets)?.len(), 64);
     octets.push(0x00)?;
-    assert!(rt; matches!(all(rt.alloc(), &octets), Err(TapeFault::Long)));
+    assert!(rt; are_long(&all(rt.alloc(), &octets)));
     octets.extend_from_slice(&empty)?;
-    assert!(rt; matches!(all(rt.alloc(), &octets), Err(TapeFault::Long)));
+    assert!(rt; are_long(&all(rt.alloc(), &octets)));
     Ok(())
 }
 
@@ -176,16 +218,18 @@ fn fails_until(
     octets: &[u8],
     per_call: usize,
     calls: usize,
-) -> Result<(), Fail> {
+) -> Result<(), Fail>
+    requires { 0 < per_call }
+{
     for given in 0..calls {
         let mut reader = MemoryReader::new(octets, per_call, Some(given));
         let mut source = Source::new(&mut reader);
-        assert!(rt; matches!(read_tape(alloc, &mut source), Err(TapeFault::ReadFailed)));
-        assert!(rt; matches!(read_tape(alloc, &mut source), Err(TapeFault::ReadFailed)));
+        assert!(rt; is_failed(&read_tape(alloc, &mut source)));
+        assert!(rt; is_failed(&read_tape(alloc, &mut source)));
         let mut reader = MemoryReader::new(octets, per_call, Some(given));
         let mut source = Source::new(&mut reader);
-        assert!(rt; matches!(read_tapes(alloc, &mut source), Err(TapeFault::ReadFailed)));
-        assert!(rt; matches!(read_tapes(alloc, &mut source), Err(TapeFault::ReadFailed)));
+        assert!(rt; are_failed(&read_tapes(alloc, &mut source)));
+        assert!(rt; are_failed(&read_tapes(alloc, &mut source)));
     }
     let mut reader = MemoryReader::new(octets, per_call, None);
     is_worked(rt, &read_tape(alloc, &mut Source::new(&mut reader))?);

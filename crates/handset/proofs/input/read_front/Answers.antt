@@ -1,4 +1,4 @@
-use Rattle.std.proofs.Common.{rules, arith}
+use Rattle.std.proofs.Common.{rules}
 use Rattle.device_ends.specs.Source.{reader_of}
 use Rattle.handset.proofs.TapeLaws.{front-more}
 use Rattle.handset.proofs.input.read_front.Goals as goal

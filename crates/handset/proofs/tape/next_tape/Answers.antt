@@ -1,4 +1,4 @@
-use Rattle.std.proofs.Common.{arith, rules, ℕ, List, Option, ◌≡◌, ◌≤◌, length, take, subst, sym}
+use Rattle.std.proofs.Common.{arith, ℕ, List, Option, ◌≡◌, length, take, subst}
 use Rattle.std.proofs.lemmas.List.{take_all}
 use Rattle.std.specs.Io.KnownBytes.{Consumes}
 use Rattle.device_ends.specs.Source.{reader_of}

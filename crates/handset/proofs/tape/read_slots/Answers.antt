@@ -1,4 +1,4 @@
-use Rattle.std.proofs.Common.{arith, rules, ℕ, ◌*◌, ◌-◌, ◌≡◌, ◌≤◌, length}
+use Rattle.std.proofs.Common.{arith, rules, ◌*◌, ◌-◌}
 use Rattle.std.proofs.lemmas.List.{length-take-le}
 use Rattle.device_ends.specs.Source.{reader_of}
 use Rattle.handset.specs.Keeping.{messages_of}
@@ -25,4 +25,4 @@ returns-in-Err-clause-short g c is =
     (c.args.slots - c.loop-left.left) c.min-wanted.result c.args.slots _
     c.loop-left.handset (messages_of c.loop-left.shown.items)
     c.loop-left.invariant.fed (c.in-Err.ensures.short is) (omega arith)
-      (length-take-le (92 * c.min-wanted.result) c.loop-left.piece (omega arith))
+    (length-take-le (92 * c.min-wanted.result) c.loop-left.piece (omega arith))

@@ -1,4 +1,4 @@
-use Rattle.std.proofs.Common.{◌≡◌, List, ℕ, ◌+◌, [], ◌∷◌, ◌++◌, ap, sym, ◌∙◌, append_assoc, take}
+use Rattle.std.proofs.Common.{List, ℕ, ◌+◌, [], ◌++◌, ap, sym, ◌∙◌, append_assoc, take}
 use Rattle.std.proofs.lemmas.List.{take_more}
 use Rattle.std.specs.Option.{option_to_list}
 use Rattle.handset.specs.Keeping.{messages_of}

@@ -1,0 +1,228 @@
+-- Each input is of one of the kinds: it is readable, short or long.
+use Rattle.std.proofs.Common.{◌≡◌, ◌⊎◌, inl, inr, ℕ, ◌+◌, ◌*◌, ◌<◌, ◌≤◌, List, [], ◌∷◌, ◌++◌, length, take, drop, zero, suc, refl, sym, ap, ◌∙◌, subst, arith, append_assoc, append-nil}
+use Rattle.std.proofs.lemmas.Bool.{cases_lt}
+use Rattle.std.proofs.lemmas.List.{length-drop, length-take-le, take-append-drop}
+use Rattle.std.specs.Simd.{first_chunks}
+use Rattle.handset.specs.Reading.{shown_in}
+use Rattle.handset.specs.Tape.{TapeReading, IsTape, AreJoined, IsCut, IsOversized, slots_in, told_by, most_slots, most_tapes}
+use Rattle.handset.specs.TapeLaw.{TapeHasKind, TapesHaveKind}
+use Rattle.handset.proofs.TapeLaws.{slots-header, chunks_joined, chunks_long, chunks_each}
+
+-- the tape that stands in front of an input that is long enough for it
+record Front (input : List ℕ) : Type 0 where
+  tape : List ℕ
+  after : List ℕ
+  reading : TapeReading
+  split : input ≡ tape ++ after
+  is : IsTape tape reading
+  long : length after + (8 + 92 * slots_in input) ≡ length input
+
+front_of : (input : List ℕ) → 8 ≤ length input → slots_in input ≤ most_slots → 8 + 92 * slots_in input ≤ length input → Front input
+front_of input headed few whole =
+    let slots : ℕ = slots_in input in
+    let header : List ℕ = take 8 input in
+    let body : List ℕ = take (92 * slots) (drop 8 input) in
+    let after : List ℕ = drop (92 * slots) (drop 8 input) in
+    let eight : length header ≡ 8 = length-take-le 8 input headed in
+    let says : slots_in header ≡ slots =
+    sym (slots-header header (drop 8 input) eight) ∙ ap slots_in (take-append-drop 8 input) in
+    let rest : length (drop 8 input) + 8 ≡ length input = omega (arith, length-drop 8 input) in
+    let long : length body ≡ 92 * slots = length-take-le (92 * slots) (drop 8 input) (omega (arith, rest)) in
+    let chunks : List (List ℕ) = first_chunks 23 (4 * slots) body in
+    record {
+      tape = header ++ body;
+      after = after;
+      reading = told_by header (shown_in chunks);
+      split =
+          sym (take-append-drop 8 input)
+          ∙ ap (λ l. header ++ l) (sym (take-append-drop (92 * slots) (drop 8 input)))
+          ∙ sym (append_assoc header body after);
+      is = record {
+        header = header;
+        blocks = chunks;
+        joined = ap (λ l. header ++ l) (sym (chunks_joined (4 * slots) body (omega (arith, long))));
+        eight = eight;
+        few = subst (λ n. n ≤ most_slots) (sym says) few;
+        slots = record {
+          four = chunks_long (4 * slots) body ∙ ap (λ n. 4 * n) (sym says);
+          each = chunks_each (4 * slots) body (omega (arith, long));
+        };
+        told = refl;
+      };
+      long = omega (arith, rest, length-drop (92 * slots) (drop 8 input));
+    }
+
+none_left : (octets : List ℕ) → length octets ≤ 0 → octets ≡ []
+none_left [] none = refl
+none_left (octet ∷ octets) none = absurd (omega arith)
+
+pub tape_has_kind : (input : List ℕ) → TapeHasKind input
+tape_has_kind input =
+    elim (cases_lt (length input) 8) [
+      | inl short ↦ inr (inl (λ headed. absurd (omega (arith, short, headed))))
+      | inr headed ↦
+          elim (cases_lt most_slots (slots_in input)) [
+            | inl many ↦ inr (inr (headed, λ few. absurd (omega (arith, many, few))))
+            | inr few ↦
+                elim (cases_lt (length input) (8 + 92 * slots_in input)) [
+                  | inl short ↦ inr (inl (λ _. (few, short)))
+                  | inr whole ↦
+                      let front : Front input = front_of input headed few whole in
+                      elim (cases_lt 0 (length front.after)) [
+                        | inl more ↦ inr (inr (headed, λ _. omega (arith, front.long, more)))
+                        | inr none ↦
+                            inl (
+                              front.reading,
+                              subst (λ o. IsTape o front.reading)
+                                  (sym (front.split ∙ ap (λ l. front.tape ++ l) (none_left front.after none) ∙ append-nil front.tape)) front.is,
+                            )
+                      ]
+                ]
+          ]
+    ]
+
+-- the kinds of an input of at most so many tapes
+record ReadIn (room : ℕ) (input : List ℕ) : Type 0 where
+  readings : List TapeReading
+  joined : AreJoined input readings
+  few : length readings ≤ room
+
+record ShortIn (room : ℕ) (input : List ℕ) : Type 0 where
+  front : List ℕ
+  rest : List ℕ
+  readings : List TapeReading
+  split : input ≡ front ++ rest
+  joined : AreJoined front readings
+  few : length readings < room
+  cut : IsCut rest
+
+record LongIn (room : ℕ) (input : List ℕ) : Type 0 where
+  front : List ℕ
+  rest : List ℕ
+  readings : List TapeReading
+  split : input ≡ front ++ rest
+  joined : AreJoined front readings
+  few : length readings ≤ room
+  oversized : length readings < room → IsOversized rest
+  more : length readings ≡ room → 0 < length rest
+
+cut_in : (room : ℕ) (input : List ℕ) → IsCut input → ShortIn (suc room) input
+cut_in room input cut = record { front = []; rest = input; readings = []; split = refl; joined = refl; few = omega arith; cut = cut }
+
+oversized_in : (room : ℕ) (input : List ℕ) → IsOversized input → LongIn (suc room) input
+oversized_in room input oversized = record {
+  front = [];
+  rest = input;
+  readings = [];
+  split = refl;
+  joined = refl;
+  few = omega arith;
+  oversized = λ _. oversized;
+  more = λ all. absurd (omega (arith, all));
+}
+
+-- a tape in front of an input of some kind
+read_more : (room : ℕ) (input : List ℕ) (front : Front input) → ReadIn room front.after → ReadIn (suc room) input
+read_more room input front r = record {
+  readings = front.reading ∷ r.readings;
+  joined = (front.tape, front.after, front.split, front.is, r.joined);
+  few = let few : length r.readings ≤ room = r.few in omega arith;
+}
+
+short_more : (room : ℕ) (input : List ℕ) (front : Front input) → ShortIn room front.after → ShortIn (suc room) input
+short_more room input front s = record {
+  front = front.tape ++ s.front;
+  rest = s.rest;
+  readings = front.reading ∷ s.readings;
+  split = front.split ∙ ap (λ l. front.tape ++ l) s.split ∙ sym (append_assoc front.tape s.front s.rest);
+  joined = (front.tape, s.front, refl, front.is, s.joined);
+  few = let few : length s.readings < room = s.few in omega arith;
+  cut = s.cut;
+}
+
+long_more : (room : ℕ) (input : List ℕ) (front : Front input) → LongIn room front.after → LongIn (suc room) input
+long_more room input front s = record {
+  front = front.tape ++ s.front;
+  rest = s.rest;
+  readings = front.reading ∷ s.readings;
+  split = front.split ∙ ap (λ l. front.tape ++ l) s.split ∙ sym (append_assoc front.tape s.front s.rest);
+  joined = (front.tape, s.front, refl, front.is, s.joined);
+  few = let few : length s.readings ≤ room = s.few in omega arith;
+  oversized = λ less. s.oversized (omega (arith, less));
+  more = λ all. s.more (omega (arith, all));
+}
+
+kind_in : (room : ℕ) (input : List ℕ) → ReadIn room input ⊎ (ShortIn room input ⊎ LongIn room input)
+kind_in zero [] = inl (record { readings = []; joined = refl; few = omega arith })
+kind_in zero (octet ∷ octets) =
+    inr (inr (record {
+      front = [];
+      rest = octet ∷ octets;
+      readings = [];
+      split = refl;
+      joined = refl;
+      few = omega arith;
+      oversized = λ less. absurd (omega (arith, less));
+      more = λ _. omega arith;
+    }))
+kind_in (suc room) input =
+    elim (cases_lt 0 (length input)) [
+      | inr none ↦ inl (record { readings = []; joined = none_left input none; few = omega arith })
+      | inl some ↦
+          elim (cases_lt (length input) 8) [
+            | inl short ↦
+                inr (inl (cut_in room input (record {
+                  some = some;
+                  few = λ headed. absurd (omega (arith, short, headed));
+                  inside = λ headed. absurd (omega (arith, short, headed));
+                })))
+            | inr headed ↦
+                elim (cases_lt most_slots (slots_in input)) [
+                  | inl many ↦ inr (inr (oversized_in room input (record { headed = headed; many = many })))
+                  | inr few ↦
+                      elim (cases_lt (length input) (8 + 92 * slots_in input)) [
+                        | inl short ↦ inr (inl (cut_in room input (record { some = some; few = λ _. few; inside = λ _. short })))
+                        | inr whole ↦
+                            let front : Front input = front_of input headed few whole in
+                            elim (kind_in room front.after) [
+                              | inl r ↦ inl (read_more room input front r)
+                              | inr other ↦
+                                  elim other [
+                                    | inl s ↦ inr (inl (short_more room input front s))
+                                    | inr s ↦ inr (inr (long_more room input front s))
+                                  ]
+                            ]
+                      ]
+                ]
+          ]
+    ]
+
+pub tapes_have_kind : (input : List ℕ) → TapesHaveKind input
+tapes_have_kind input =
+    elim (kind_in most_tapes input) [
+      | inl r ↦ inl (r.readings, record { joined = r.joined; few = r.few })
+      | inr other ↦
+          elim other [
+            | inl s ↦
+                inr (inl (record {
+                  front = s.front;
+                  rest = s.rest;
+                  readings = s.readings;
+                  split = s.split;
+                  joined = s.joined;
+                  few = s.few;
+                  cut = s.cut;
+                }))
+            | inr s ↦
+                inr (inr (record {
+                  front = s.front;
+                  rest = s.rest;
+                  readings = s.readings;
+                  split = s.split;
+                  joined = s.joined;
+                  few = s.few;
+                  oversized = s.oversized;
+                  more = s.more;
+                }))
+          ]
+    ]
