@@ -25,7 +25,7 @@ header_row = row (codes "lac" ∷ codes "ci" ∷ codes "id" ∷ codes "serial" �
 abbrev pub message_row : (lac ci : ℕ) → Message → List ℕ
 message_row lac ci message =
     row (decimal lac ∷ decimal ci ∷ decimal message.id ∷ encode_lower ((message.serial / 256) ∷ (message.serial % 256) ∷ [])
-      ∷ message.text ∷ [])
+    ∷ message.text ∷ [])
 
 -- the rows of what a tape shows, in the order in which it is shown
 abbrev pub reading_rows : TapeReading → List ℕ

@@ -65,8 +65,9 @@ fn warnc<'a>(alloc: Global) -> Result<Command<'a>, AllocError> {
 
 /// The command line of `read`.
 fn read<'a>(alloc: Global) -> Command<'a> {
-    Command::new(alloc, "read")
-        .about("Reads tapes of blocks and writes a table of what a handset shows of them, as CSV")
+    Command::new(alloc, "read").about(
+        "Reads tapes of blocks and writes a table of what a handset shows of them, as CSV",
+    )
 }
 
 /// The command line of `page`.

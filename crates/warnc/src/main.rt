@@ -35,7 +35,6 @@ fn status(rt: &HostRuntime) -> u8 {
 }
 
 #[cfg(test)]
-mod tests;
-
-#[cfg(test)]
 mod read_tests;
+#[cfg(test)]
+mod tests;
