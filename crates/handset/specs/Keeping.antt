@@ -6,7 +6,8 @@ use Rattle.cbs_page.specs.declared.octets.PageView.{PageView}
 use Rattle.cbs_page.specs.Page.{view_of, is_readable}
 use Rattle.cbs_page.specs.Text.{text_of_page}
 use Rattle.handset.specs.declared.blocks.Begun.{Begun}
-use Rattle.handset.specs.declared.blocks.Begun.TheVariants as begun
+use Rattle.handset.specs.declared.blocks.Stage.{Stage}
+use Rattle.handset.specs.declared.blocks.Stage.TheVariants as stage
 use Rattle.handset.specs.declared.messages.Shown.{Shown}
 use Rattle.handset.specs.Reading.{type_of, page_types, page_octets, pages_read, readable_pages, Name, name_of, is_of, agrees_with, page_numbered, Message, shown_in}
 
@@ -24,11 +25,14 @@ pub record Kept : Type 0 where
   pub shown : List Message
 
 -- the blocks of a page that has begun
+abbrev pub blocks_at : Stage → (first second third : List ℕ) → List (List ℕ)
+blocks_at stage.Nothing first second third = []
+blocks_at stage.First first second third = first ∷ []
+blocks_at stage.Second first second third = first ∷ second ∷ []
+blocks_at stage.Third first second third = first ∷ second ∷ third ∷ []
+
 abbrev pub blocks_of : Begun → List (List ℕ)
-blocks_of begun.Nothing = []
-blocks_of (begun.First first) = first ∷ []
-blocks_of (begun.Second first second) = first ∷ second ∷ []
-blocks_of (begun.Third first second third) = first ∷ second ∷ third ∷ []
+blocks_of begun = blocks_at begun.stage begun.first begun.second begun.third
 
 -- the blocks of a page that isn't whole, with one more: a first block begins a page, and the next one goes on with it
 abbrev pub under_way_with : List (List ℕ) → List ℕ → List (List ℕ)

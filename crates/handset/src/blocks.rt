@@ -19,29 +19,60 @@ const THIRD: u8 = 0x22;
 /// The type of the fourth and last.
 const LAST: u8 = 0x33;
 
-/// The blocks of a page that isn't whole yet.
-#[derive(Clone, Copy)]
-pub enum Begun {
+/// How many blocks of a page there are so far.
+#[derive(Clone, Copy, PartialEq, Eq)]
+pub enum Stage {
     /// None.
     Nothing,
     /// Its first block.
-    First([u8; 23]),
+    First,
     /// Its first and second.
-    Second([u8; 23], [u8; 23]),
+    Second,
     /// All but the last.
-    Third([u8; 23], [u8; 23], [u8; 23]),
+    Third,
+}
+
+/// The blocks of a page that isn't whole yet. Each stands in a place of its own, where it is put once: blocks that were moved on with each
+/// next one would cost most of the time of reading.
+#[derive(Clone, Copy)]
+pub struct Begun {
+    stage: Stage,
+    first: [u8; 23],
+    second: [u8; 23],
+    third: [u8; 23],
 }
 
 impl Begun {
-    /// The blocks of the page that isn't whole after one more block.
-    pub fn with(&self, block: &[u8; 23]) -> Begun
-        ensures { blocks_of result ≡ under_way_with (blocks_of self.now) block.now }
+    /// No block.
+    pub fn nothing() -> Begun
+        ensures { blocks_of result ≡ [] }
     {
-        match (block[0], self) {
-            (FIRST, _) => Begun::First(*block),
-            (SECOND, Begun::First(first)) => Begun::Second(*first, *block),
-            (THIRD, Begun::Second(first, second)) => Begun::Third(*first, *second, *block),
-            _ => Begun::Nothing,
+        Begun {
+            stage: Stage::Nothing,
+            first: [0; 23],
+            second: [0; 23],
+            third: [0; 23],
+        }
+    }
+
+    /// Goes on with one more block.
+    pub fn add(&mut self, block: &[u8; 23])
+        ensures { blocks_of self.new ≡ under_way_with (blocks_of self.old) block.now }
+    {
+        match (block[0], self.stage) {
+            (FIRST, _) => {
+                self.first = *block;
+                self.stage = Stage::First;
+            }
+            (SECOND, Stage::First) => {
+                self.second = *block;
+                self.stage = Stage::Second;
+            }
+            (THIRD, Stage::Second) => {
+                self.third = *block;
+                self.stage = Stage::Third;
+            }
+            _ => self.stage = Stage::Nothing,
         }
     }
 
@@ -49,12 +80,10 @@ impl Begun {
     pub fn page_with(&self, block: &[u8; 23]) -> Option<PageView>
         ensures { option_to_list result ≡ page_ended (blocks_of self.now) block.now }
     {
-        if block[0] != LAST {
-            return None;
-        }
-        match self {
-            Begun::Third(first, second, third) => {
-                Some(read_page(&octets_of(first, second, third, block)))
+        match (block[0], self.stage) {
+            (LAST, Stage::Third) => {
+                let octets = octets_of(&self.first, &self.second, &self.third, block);
+                Some(read_page(&octets))
             }
             _ => None,
         }

@@ -45,7 +45,7 @@ impl Handset {
     {
         Handset {
             alloc,
-            begun: Begun::Nothing,
+            begun: Begun::nothing(),
             pages: Vec::new(alloc),
             shown: Vec::new(alloc),
         }
@@ -63,7 +63,7 @@ impl Handset {
             None => None,
             Some(page) => take(self.alloc, &mut self.pages, &mut self.shown, &page)?,
         };
-        self.begun = self.begun.with(block);
+        self.begun.add(block);
         Ok(answer)
     }
 

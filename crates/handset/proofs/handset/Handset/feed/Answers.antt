@@ -17,7 +17,7 @@ returns-clause-read c blocks read =
           let ended : [] ≡ page_ended c.args.self.now.under_way c.args.block.now =
           w.in-None.ensures ∙ ap (λ k. page_ended k c.args.block.now) begun in
           reads_none c.args.self.now _ blocks c.args.block.now ended
-          (c.with-self-inside.ensures ∙ ap (λ k. under_way_with k c.args.block.now) (ap (λ i. blocks_of i.begun) w.self-inside-is ∙ begun))
+          (c.add.ensures ∙ ap (λ k. under_way_with k c.args.block.now) (ap (λ i. blocks_of i.begun) w.self-inside-is ∙ begun))
           (ap (λ i. i.pages.items) w.self-inside-is ∙ pages)
           (ap (λ i. messages_of i.shown.items) w.self-inside-is ∙ shown)
           read
@@ -25,7 +25,7 @@ returns-clause-read c blocks read =
           let ended : w.in-Some.page ∷ [] ≡ page_ended c.args.self.now.under_way c.args.block.now =
           w.in-Some.ensures ∙ ap (λ k. page_ended k c.args.block.now) begun in
           reads_page c.args.self.now _ blocks c.args.block.now w.in-Some.page ended
-          (c.with-self-inside.ensures ∙ ap (λ k. under_way_with k c.args.block.now) (ap (λ i. blocks_of i.begun) w.self-inside-is ∙ begun))
+          (c.add.ensures ∙ ap (λ k. under_way_with k c.args.block.now) (ap (λ i. blocks_of i.begun) w.self-inside-is ∙ begun))
           (ap (λ i. i.pages.items) w.self-inside-is ∙ w.in_ok-answer-in-Some.ensures.pages ∙ ap (λ ps. pages_with_read ps w.in-Some.page) pages)
           (ap (λ i. messages_of i.shown.items) w.self-inside-is ∙ w.in_ok-answer-in-Some.ensures.shown
           ∙ ap (λ more. messages_of c.self.inside.shown.items ++ more) w.in_ok-answer-in-Some.ensures.answer
