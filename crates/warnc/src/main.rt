@@ -1,6 +1,8 @@
 //! `warnc`: cell broadcast warnings to the blocks that cells send, and back.
 #![tactic(auto)]
 
+ghost use Rattle.std.specs.Prelude.{◌≡◌};
+
 mod command;
 pub mod page;
 pub mod read;
@@ -8,6 +10,7 @@ pub mod run;
 mod table;
 
 use crate::run::{MEMORY, USAGE, run};
+use std::io::Write;
 use std::process::ExitCode;
 use std::{env, io};
 
@@ -20,10 +23,12 @@ fn status(rt: &HostRuntime) -> u8 {
     let words: Vec<String> = match env::args(rt) {
         Ok(words) => match words.collect(rt.alloc()) {
             Ok(words) => words,
-            Err(_) => return MEMORY,
+            Err(_) => return tell(rt, "out of memory", MEMORY),
         },
-        Err(error) if error.kind() == io::ErrorKind::OutOfMemory => return MEMORY,
-        Err(_) => return USAGE,
+        Err(error) if error.kind() == io::ErrorKind::OutOfMemory => {
+            return tell(rt, "out of memory", MEMORY);
+        }
+        Err(_) => return tell(rt, "words are not UTF-8", USAGE),
     };
     run(
         rt,
@@ -32,6 +37,14 @@ fn status(rt: &HostRuntime) -> u8 {
         &mut rt.stdout(),
         &mut rt.stderr(),
     )
+}
+
+/// Tells what is wrong with the words, and answers the status.
+fn tell(rt: &HostRuntime, fault: &str, status: u8) -> u8
+    ensures { result ≡ status }
+{
+    let _ = writeln!(rt.stderr(), "warnc: {fault}");
+    status
 }
 
 #[cfg(test)]
