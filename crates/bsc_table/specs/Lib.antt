@@ -1,1 +1,5 @@
 pub mod Guarantee
+pub mod Orders
+pub mod Record
+pub mod Answer
+pub mod Legal
