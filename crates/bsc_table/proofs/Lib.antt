@@ -6,3 +6,4 @@ pub mod Reserved
 pub mod Served
 pub mod Sums
 mod Worked
+mod Histories

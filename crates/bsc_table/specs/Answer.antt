@@ -9,7 +9,7 @@
 -- 6. Cause 06: the load doesn't fit beside those that are reserved.
 --
 -- The definitions stand in the other direction, each below those that it asks next.
-use Rattle.std.specs.Prelude.{ℕ, ◌+◌, Bool, ◌==◌, nat_le, nat_lt, if◌then◌else◌, Option, Some, None, is_some, List, length, sum_by}
+use Rattle.std.specs.Prelude.{ℕ, ◌+◌, ◌==◌, nat_le, nat_lt, if◌then◌else◌, Option, Some, None, List, length, sum_by}
 use Rattle.admission.specs.declared.measure.TheConstants.{SCALE}
 use Rattle.admission.specs.Load.{load_of}
 use Rattle.admission.specs.Reservation.{Reservation}

@@ -1,5 +1,5 @@
 -- A cell's record, and the messages that its log accepted (own).
-use Rattle.std.specs.Prelude.{ℕ, ◌+◌, ◌*◌, Bool, true, false, ◌==◌, ◌&&◌, ◌||◌, not, nat_lt, if◌then◌else◌, Option, Some, None, is_some, List, [], ◌∷◌, ◌++◌, length, map, filter, find}
+use Rattle.std.specs.Prelude.{ℕ, ◌+◌, ◌*◌, Bool, true, false, ◌==◌, ◌&&◌, ◌||◌, not, nat_lt, Option, Some, None, is_some, List, [], ◌∷◌, ◌++◌, length, map, filter, find}
 use Rattle.cbsp_wire.specs.declared.message.Cell.{Cell}
 use Rattle.admission.specs.Reservation.{Reservation, is_reserved_at}
 use Rattle.scheduler.specs.Message.{Message}

@@ -78,7 +78,16 @@ impl Command {
         ensures refused { IfErr result (λ refused. IsWrite self.now) }
     {
         match self {
-            Command::Write { id, serial, replaces, category, period, broadcasts, dcs, contents } => {
+            Command::Write {
+                id,
+                serial,
+                replaces,
+                category,
+                period,
+                broadcasts,
+                dcs,
+                contents,
+            } => {
                 let list = Vec::from_slice(alloc, &contents.list)?;
                 Ok(Command::Write {
                     id: *id,
@@ -91,8 +100,14 @@ impl Command {
                     contents: Contents { list },
                 })
             }
-            Command::Kill { id, serial } => Ok(Command::Kill { id: *id, serial: *serial }),
-            Command::Status { id, serial } => Ok(Command::Status { id: *id, serial: *serial }),
+            Command::Kill { id, serial } => Ok(Command::Kill {
+                id: *id,
+                serial: *serial,
+            }),
+            Command::Status { id, serial } => Ok(Command::Status {
+                id: *id,
+                serial: *serial,
+            }),
         }
     }
 }

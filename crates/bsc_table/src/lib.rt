@@ -7,6 +7,8 @@ pub mod command;
 pub mod entry;
 mod laws;
 mod orders;
+#[cfg(test)]
+mod tests;
 
 pub use command::{Category, Command, Refused};
 pub use entry::{Aired, Answer, Entry, SlotRange, State};

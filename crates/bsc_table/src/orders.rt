@@ -38,7 +38,18 @@ pub fn orders_of(message: Message) -> Result<(Vec<Cell>, Command), u8>
     ensures { MatchResult result (λ order. order_of message ≡ Ok (order.0.items, order.1)) (λ cause. order_of message ≡ Err cause) }
 {
     match message {
-        Message::Write { id, new_serial, old_serial, cells, channel, category, period, broadcasts, dcs, contents } => {
+        Message::Write {
+            id,
+            new_serial,
+            old_serial,
+            cells,
+            channel,
+            category,
+            period,
+            broadcasts,
+            dcs,
+            contents,
+        } => {
             let Some(category) = category_of(category) else {
                 return Err(0x01);
             };
@@ -57,11 +68,22 @@ pub fn orders_of(message: Message) -> Result<(Vec<Cell>, Command), u8>
             };
             Ok((cells.list, command))
         }
-        Message::Kill { id, old_serial, cells, channel } => {
+        Message::Kill {
+            id,
+            old_serial,
+            cells,
+            channel,
+        } => {
             if !is_basic(channel) {
                 return Err(0x0C);
             }
-            Ok((cells.list, Command::Kill { id, serial: old_serial }))
+            Ok((
+                cells.list,
+                Command::Kill {
+                    id,
+                    serial: old_serial,
+                },
+            ))
         }
         _ => Err(0x04),
     }
