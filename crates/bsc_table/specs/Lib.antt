@@ -3,3 +3,4 @@ pub mod Orders
 pub mod Record
 pub mod Answer
 pub mod Legal
+pub mod Book

@@ -3,6 +3,7 @@
 //! and whatever was admitted is aired whole in each of its periods, a law over messages, reservations and an air list alone.
 #![tactic(auto)]
 
+pub mod book;
 pub mod command;
 pub mod entry;
 mod laws;
@@ -10,6 +11,7 @@ mod orders;
 #[cfg(test)]
 mod tests;
 
+pub use book::CellBook;
 pub use command::{Category, Command, Refused};
 pub use entry::{Aired, Answer, Entry, SlotRange, State};
 pub use laws::guarantee;
