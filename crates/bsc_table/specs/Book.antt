@@ -1,14 +1,14 @@
 -- What a cell's book keeps beside its record (own).
-use Rattle.std.specs.Prelude.{◌≡◌, ℕ, ◌≤◌, Option, Some, None, List, map, filter, vec_len, vec_capacity}
+use Rattle.std.specs.Prelude.{◌≡◌, ℕ, ◌≤◌, Option, Some, None, List, ◌++◌, map, filter, vec_len, vec_capacity}
 use Rattle.admission.specs.declared.budget.Held.{Held}
 use Rattle.admission.specs.Load.{load_of}
-use Rattle.admission.specs.Reservation.{Reservation, is_before_end, end_of_reservation}
+use Rattle.admission.specs.Reservation.{is_before_end, end_of_reservation}
 use Rattle.scheduler.specs.Message.{Message}
 use Rattle.scheduler.specs.Air.{Air}
 use Rattle.scheduler.specs.Follows.{Follows}
 use Rattle.bsc_table.specs.declared.entry.Aired.{Aired}
 use Rattle.bsc_table.specs.declared.book.CellBook.TheInside.{Inside}
-use Rattle.bsc_table.specs.Guarantee.{reservation_of}
+use Rattle.bsc_table.specs.declared.book.CellRecord.TheInside as kept
 use Rattle.bsc_table.specs.Record.{Record, messages_in}
 use Rattle.bsc_table.specs.Legal.{IsLegal}
 
@@ -50,3 +50,22 @@ pub record IsBook (b : Inside) : Type 0 where
   pub held : b.budget ≡ lines_at b.clock (messages_in b.log.items)
   pub places : vec_len b.air ≡ b.clock
   pub room : b.slots ≤ vec_capacity b.air
+
+-- a book after some of its slots were played: the clock stands at the slot after them, what was aired is added to, and nothing
+-- else has changed
+pub record IsPlayedUpTo (slot : ℕ) (before after : Record) : Type 0 where
+  pub same_cell : after.cell ≡ before.cell
+  pub same_slots : after.slots ≡ before.slots
+  pub same_log : after.log ≡ before.log
+  pub clock_at : after.clock ≡ slot
+  pub more_air : (more : Air) × (after.air ≡ before.air ++ more)
+
+-- the record of a run that is over
+abbrev pub record_kept : kept.Inside → Record
+record_kept r = record {
+  cell = r.cell;
+  slots = r.slots;
+  clock = r.slots;
+  log = r.log.items;
+  air = air_told r.air.items;
+}

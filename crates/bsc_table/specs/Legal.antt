@@ -5,9 +5,9 @@ use Rattle.bsc_table.specs.declared.entry.Entry.{Entry}
 use Rattle.bsc_table.specs.Record.{Record, messages_in}
 use Rattle.bsc_table.specs.Answer.{answer_of}
 
--- an entry's answer is the one that the entries before it and what is aired give, at its slot
+-- an entry's answer is the one that the entries before it and what was aired before its slot give, at its slot
 abbrev pub IsAnswered : ℕ → List Entry → Air → Entry → Type 0
-IsAnswered slots before air e = e.answer ≡ answer_of slots before air e.slot e.command
+IsAnswered slots before air e = e.answer ≡ answer_of slots before (take e.slot air) e.slot e.command
 
 -- a legal history: the slots of the entries never fall and none is past the clock, each answer is right, and one place of the
 -- air list for each played slot holds what the air rule says of the accepted messages

@@ -11,7 +11,7 @@ mod orders;
 #[cfg(test)]
 mod tests;
 
-pub use book::CellBook;
+pub use book::{CellBook, CellRecord};
 pub use command::{Category, Command, Refused};
 pub use entry::{Aired, Answer, Entry, SlotRange, State};
 pub use laws::guarantee;

@@ -1,4 +1,4 @@
-//! Which messages of the warning centre are orders.
+//! Which messages of the warning centre are orders, and a book without a command.
 
 use super::*;
 use cbs_page::{Content, Dcs, Serial};
@@ -149,5 +149,21 @@ fn category_0_is_high(rt: HostRuntime) -> Result<(), Fail> {
         };
         assert_eq!(rt; category(&command), Some(wanted));
     }
+    Ok(())
+}
+
+#[test]
+fn a_book_plays_its_slots_up_to_the_end(rt: HostRuntime) -> Result<(), Fail> {
+    let alloc = rt.alloc();
+    let mut book = CellBook::open(alloc, CELLS[0], 8)?;
+    assert_eq!(rt; (book.cell(), book.slots(), book.clock()), (CELLS[0], 8, 0));
+    assert_eq!(rt; book.play(5), SlotRange { from: 0, to: 5 });
+    assert_eq!(rt; (book.log().len(), book.air().len()), (0, 5));
+    assert_eq!(rt; book.play(5), SlotRange { from: 5, to: 8 });
+    assert_eq!(rt; book.play(1), SlotRange { from: 8, to: 8 });
+    let record = book.finish();
+    assert_eq!(rt; (record.cell(), record.slots()), (CELLS[0], 8));
+    assert_eq!(rt; record.log().len(), 0);
+    assert_eq!(rt; record.air(), [None; 8].as_slice());
     Ok(())
 }
