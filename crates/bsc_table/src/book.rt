@@ -1,6 +1,6 @@
 //! The book of a cell: a legal history at all times.
 
-ghost use Rattle.std.specs.Prelude.{◌≡◌, ℕ, ◌+◌, ◌<◌, ◌≤◌, [], ◌∷◌, ◌++◌, IfOk, min, vec_len, vec_capacity};
+ghost use Rattle.std.specs.Prelude.{◌≡◌, ℕ, ◌+◌, ◌<◌, ◌≤◌, [], ◌∷◌, ◌++◌, IfOk, IfErr, min, vec_len, vec_capacity};
 ghost use Rattle.bsc_table.specs.Record.{Record};
 ghost use Rattle.bsc_table.specs.Legal.{IsLegal};
 ghost use Rattle.bsc_table.specs.Book.{air_told, IsPlayedUpTo};
@@ -44,10 +44,11 @@ impl CellBook {
     ///
     /// # Errors
     ///
-    /// `Refused` for want of memory.
+    /// `Refused` for want of memory, which a run of no slots doesn't take.
     pub fn open(alloc: Global, cell: Cell, slots: u16) -> Result<CellBook, Refused>
         requires { slots ≤ 4096 }
-        ensures { IfOk result (λ book. book ≡ record { cell = cell; slots = slots; clock = 0; log = []; air = [] }) }
+        ensures opened { IfOk result (λ book. book ≡ record { cell = cell; slots = slots; clock = 0; log = []; air = [] }) }
+        ensures refused { IfErr result (λ refused. 0 < slots) }
     {
         let air = Vec::with_capacity(alloc, usize::from(slots))?;
         Ok(CellBook {
