@@ -6,3 +6,5 @@ pub mod Reserved
 pub mod Served
 pub mod Sums
 mod Worked
+pub mod BookLaws
+mod Histories

@@ -1,7 +1,18 @@
-//! What a cell promises of its messages: whatever was admitted is aired whole in each of its periods. So far this is the
-//! law itself, over messages, their reservations and an air list alone.
+//! What a cell is asked, what it answers, and what it promises of its messages: `orders_of` reads the commands out of a message
+//! of the warning centre; specs/ say what the answer to each command is, over the entries of the cell's log and what it aired;
+//! and whatever was admitted is aired whole in each of its periods, a law over messages, reservations and an air list alone.
 #![tactic(auto)]
 
+pub mod book;
+pub mod command;
+pub mod entry;
 mod laws;
+mod orders;
+#[cfg(test)]
+mod tests;
 
+pub use book::{CellBook, CellRecord};
+pub use command::{Category, Command, Refused};
+pub use entry::{Aired, Answer, Entry, SlotRange, State};
 pub use laws::guarantee;
+pub use orders::orders_of;

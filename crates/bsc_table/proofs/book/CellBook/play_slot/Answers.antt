@@ -1,0 +1,43 @@
+use Rattle.std.proofs.Common.{ℕ, ◌+◌, ◌<◌, refl, ap, subst, sym, ◌∙◌, [], ◌∷◌, filter, arith}
+use Rattle.admission.specs.declared.budget.Held.{Held}
+use Rattle.admission.specs.Reservation.{is_before_end}
+use Rattle.scheduler.specs.Air.{Air, IsChosen}
+use Rattle.scheduler.specs.Follows.{Follows}
+use Rattle.bsc_table.specs.Record.{Record, messages_in}
+use Rattle.bsc_table.specs.Legal.{IsLegal}
+use Rattle.bsc_table.specs.Book.{air_told, record_of, IsPlayedUpTo}
+use Rattle.bsc_table.proofs.BookLaws.{IsLegal-next, lines_at-next}
+use Rattle.bsc_table.proofs.book.CellBook.play_slot.Goals as goal
+
+pub invariant_of-self : goal.invariant_of-self
+invariant_of-self c =
+    let book = c.self.invariant in
+    let r : Record = record_of c.self.inside in
+    let messages = messages_in r.log in
+    let used = c.next-used.result in
+    let Ahead : Record → Type 0 = λ x. x.clock < x.slots in
+    let ahead = subst Ahead (sym c.self.view_is) c.requires in
+    let ChosenAt : ℕ → Type 0 = λ slot. IsChosen messages r.air slot used in
+    let chosen = subst ChosenAt (sym book.legal.played) (c.next-used.ensures.chosen messages r.air book.follows) in
+    let Legal : Air → Type 0 = λ air. IsLegal (record r { clock = r.clock + 1; air = air }) in
+    let FollowsTo : Air → Type 0 = λ air. Follows c.next-used.new.self messages air in
+    let passed = ap (filter (λ (h : Held). is_before_end (r.clock + 1) h.until)) book.held in
+    record {
+      legal = subst Legal (sym c.put.ensures.aired) (IsLegal-next r used ahead chosen book.legal);
+      short = book.short;
+      follows = subst FollowsTo (sym c.put.ensures.aired) (c.next-used.ensures.follows messages r.air book.follows);
+      held = c.pass_slot.ensures ∙ passed ∙ lines_at-next r.clock messages;
+      places = omega (arith, c.put.ensures.places, book.places);
+      room = omega (arith, c.put.ensures.room, book.room);
+    }
+
+pub returns : goal.returns
+returns c =
+    let P : Record → Type 0 = λ before. IsPlayedUpTo (before.clock + 1) before (record (record_of c.self.inside) { clock = c.self.inside.clock + 1; air = air_told c.put.new.air.items }) in
+    subst P c.self.view_is (record {
+      same_cell = refl;
+      same_slots = refl;
+      same_log = refl;
+      clock_at = refl;
+      more_air = (c.next-used.result ∷ [], c.put.ensures.aired);
+    })

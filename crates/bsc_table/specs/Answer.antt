@@ -1,0 +1,77 @@
+-- The answer to a command, by what the cell's log and air list hold: of the refusals the first that applies (own; the causes
+-- are those of 3GPP TS 48.049, clause 8.2).
+--
+-- 1. Cause 08: the log has 4,096 entries. For any command; such an answer has no entry.
+-- 2. Cause 0A: all slots of the run are played. Not for a status.
+-- 3. Cause 02: the message to replace or to stop isn't live.
+-- 4. Cause 0D: a message of the same identifier and serial number was accepted before.
+-- 5. Cause 07: 64 messages are reserved.
+-- 6. Cause 06: the load doesn't fit beside those that are reserved.
+--
+-- The definitions stand in the other direction, each below those that it asks next.
+use Rattle.std.specs.Prelude.{ℕ, ◌+◌, ◌==◌, nat_le, nat_lt, if◌then◌else◌, Option, Some, None, List, length, sum_by}
+use Rattle.admission.specs.declared.measure.TheConstants.{SCALE}
+use Rattle.admission.specs.Load.{load_of}
+use Rattle.admission.specs.Reservation.{Reservation}
+use Rattle.scheduler.specs.Message.{Message, stopped_at}
+use Rattle.scheduler.specs.Air.{Air}
+use Rattle.scheduler.specs.Completed.{completed}
+use Rattle.bsc_table.specs.declared.command.Command.{Command}
+use Rattle.bsc_table.specs.declared.command.Command.TheVariants as commands
+use Rattle.bsc_table.specs.declared.entry.Answer.{Answer}
+use Rattle.bsc_table.specs.declared.entry.Answer.TheVariants as answers
+use Rattle.bsc_table.specs.declared.entry.Entry.{Entry}
+use Rattle.bsc_table.specs.Record.{message_named, messages_in, is_live, state_at, reserved_at}
+
+-- 5 and 6, else the answer that accepts
+abbrev pub answer_beside : List Reservation → ℕ → Answer → Answer
+answer_beside reserved load accepts =
+    if nat_le 64 (length reserved) then answers.Cause 0x07
+    else if nat_lt SCALE (sum_by (λ r. r.load) reserved + load) then answers.Cause 0x06
+    else accepts
+
+-- a write in the place of no message, and in the place of an old one, whose stop counts as applied
+abbrev pub answer_to_new : List Entry → ℕ → ℕ → Answer
+answer_to_new log slot load = answer_beside (reserved_at slot (messages_in log)) load (answers.Started slot)
+
+abbrev pub answer_to_replacement : List Entry → Air → ℕ → ℕ → Message → Answer
+answer_to_replacement log air slot load old =
+    answer_beside (reserved_at slot (stopped_at old.number slot (messages_in log))) load (answers.Replaced slot (completed old air slot))
+
+-- 4, where the pair of a write was accepted before
+abbrev pub unless_accepted : Option Message → Answer → Answer
+unless_accepted (Some m) answer = answers.Cause 0x0D
+unless_accepted None answer = answer
+
+-- 3: what is said of a live message; cause 02 where it isn't live, or was never accepted
+abbrev pub of_live : ℕ → Option Message → (Message → Answer) → Answer
+of_live slot None answer = answers.Cause 0x02
+of_live slot (Some m) answer = if is_live slot m then answer m else answers.Cause 0x02
+
+abbrev pub answer_to_write : List Entry → Air → ℕ → ℕ → ℕ → Option ℕ → ℕ → Answer
+answer_to_write log air slot id serial None load = unless_accepted (message_named id serial log) (answer_to_new log slot load)
+answer_to_write log air slot id serial (Some replaced) load =
+    of_live slot (message_named id replaced log) (λ old. unless_accepted (message_named id serial log) (answer_to_replacement log air slot load old))
+
+abbrev pub answer_to_kill : List Entry → Air → ℕ → ℕ → ℕ → Answer
+answer_to_kill log air slot id serial = of_live slot (message_named id serial log) (λ m. answers.Stopped (completed m air slot))
+
+-- a status tells the completed broadcasts and the state of a message that was accepted, whether it is live or not
+abbrev pub told_of : Air → ℕ → Option Message → Answer
+told_of air slot None = answers.Unknown
+told_of air slot (Some m) = answers.Told (completed m air slot) (state_at slot m)
+
+-- 2
+abbrev pub before_end : ℕ → ℕ → Answer → Answer
+before_end slots slot answer = if slot == slots then answers.Cause 0x0A else answer
+
+abbrev pub answer_with_room : ℕ → List Entry → Air → ℕ → Command → Answer
+answer_with_room slots log air slot (commands.Status id serial) = told_of air slot (message_named id serial log)
+answer_with_room slots log air slot (commands.Kill id serial) = before_end slots slot (answer_to_kill log air slot id serial)
+answer_with_room slots log air slot (commands.Write id serial replaces category period broadcasts dcs contents) =
+    before_end slots slot (answer_to_write log air slot id serial replaces (load_of (length contents) period))
+
+-- the answer to a command at a slot of a run of so many slots, by the entries before it and what is aired
+abbrev pub answer_of : ℕ → List Entry → Air → ℕ → Command → Answer
+answer_of slots log air slot command =
+    if nat_le 4096 (length log) then answers.Cause 0x08 else answer_with_room slots log air slot command

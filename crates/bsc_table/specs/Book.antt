@@ -1,0 +1,71 @@
+-- What a cell's book keeps beside its record (own).
+use Rattle.std.specs.Prelude.{◌≡◌, ℕ, ◌≤◌, Option, Some, None, List, ◌++◌, map, filter, vec_len, vec_capacity}
+use Rattle.admission.specs.declared.budget.Held.{Held}
+use Rattle.admission.specs.Load.{load_of}
+use Rattle.admission.specs.Reservation.{is_before_end, end_of_reservation}
+use Rattle.scheduler.specs.Message.{Message}
+use Rattle.scheduler.specs.Air.{Air}
+use Rattle.scheduler.specs.Follows.{Follows}
+use Rattle.bsc_table.specs.declared.entry.Aired.{Aired}
+use Rattle.bsc_table.specs.declared.book.CellBook.TheInside.{Inside}
+use Rattle.bsc_table.specs.declared.book.CellRecord.TheInside as kept
+use Rattle.bsc_table.specs.Record.{Record, messages_in}
+use Rattle.bsc_table.specs.Legal.{IsLegal}
+
+-- what a slot airs, as a pair of the entry's number and the page
+abbrev pub use_told : Option Aired → Option (ℕ × ℕ)
+use_told None = None
+use_told (Some aired) = Some (aired.entry, aired.page)
+
+abbrev pub air_told : List (Option Aired) → Air
+air_told aired = map use_told aired
+
+abbrev pub record_of : Inside → Record
+record_of b = record {
+  cell = b.cell;
+  slots = b.slots;
+  clock = b.clock;
+  log = b.log.items;
+  air = air_told b.air.items;
+}
+
+-- a message's line of a budget
+abbrev pub line_of : Message → Held
+line_of m = record {
+  entry = m.number;
+  load = load_of m.pages m.period;
+  until = end_of_reservation m.start m.period m.requested m.stop;
+}
+
+-- the lines that a budget holds at a slot: of the messages whose reservations don't end by then
+abbrev pub lines_at : ℕ → List Message → List Held
+lines_at slot messages = filter (λ h. is_before_end slot h.until) (map line_of messages)
+
+-- a book: its record is a legal history, its plan follows the accepted messages and what was aired, its budget holds what they
+-- have reserved at the clock, and there is room for what all slots will air
+pub record IsBook (b : Inside) : Type 0 where
+  pub legal : IsLegal (record_of b)
+  pub short : b.slots ≤ 4096
+  pub follows : Follows b.plan (messages_in b.log.items) (air_told b.air.items)
+  pub held : b.budget ≡ lines_at b.clock (messages_in b.log.items)
+  pub places : vec_len b.air ≡ b.clock
+  pub room : b.slots ≤ vec_capacity b.air
+
+-- a book after some of its slots were played: the clock stands at the slot after them, what was aired is added to, and nothing
+-- else has changed
+pub record IsPlayedUpTo (slot : ℕ) (before after : Record) : Type 0 where
+  pub same_cell : after.cell ≡ before.cell
+  pub same_slots : after.slots ≡ before.slots
+  pub same_log : after.log ≡ before.log
+  pub clock_at : after.clock ≡ slot
+  pub more_air : (more : Air) × (after.air ≡ before.air ++ more)
+
+-- the record of a run that is over
+abbrev pub record_kept : kept.Inside → Record
+record_kept r = record {
+  cell = r.cell;
+  slots = r.slots;
+  clock = r.slots;
+  log = r.log.items;
+  air = air_told r.air.items;
+}

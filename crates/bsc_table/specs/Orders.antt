@@ -1,0 +1,43 @@
+-- The command that a message of the warning centre is. 3GPP TS 48.049, clauses 8.1 and 8.2; which categories and channels are
+-- taken is own.
+use Rattle.std.specs.Prelude.{ℕ, ⊤, Bool, true, ◌==◌, if◌then◌else◌, Option, Some, None, Result, Ok, Err, List}
+use Rattle.cbsp_wire.specs.declared.message.Cell.{Cell}
+use Rattle.cbsp_wire.specs.declared.message.Message.{Message}
+use Rattle.cbsp_wire.specs.declared.message.Message.TheVariants as messages
+use Rattle.bsc_table.specs.declared.command.Category.{Category}
+use Rattle.bsc_table.specs.declared.command.Category.TheVariants.{High, Normal}
+use Rattle.bsc_table.specs.declared.command.Command.{Command}
+use Rattle.bsc_table.specs.declared.command.Command.TheVariants as commands
+
+-- a write, which alone has contents
+abbrev pub IsWrite : Command → Type 0
+IsWrite (commands.Write id serial replaces category period broadcasts dcs contents) = ⊤
+IsWrite (commands.Kill id serial) = ⊥
+IsWrite (commands.Status id serial) = ⊥
+
+-- the category: 0 high, 2 normal, absent normal; 1, background, isn't taken
+abbrev pub category_of : Option ℕ → Option Category
+category_of None = Some Normal
+category_of (Some n) = if n == 0 then Some High else if n == 2 then Some Normal else None
+
+-- the basic channel: 0, or absent
+abbrev pub is_basic : Option ℕ → Bool
+is_basic None = true
+is_basic (Some n) = n == 0
+
+-- cells and a command to them, where the message is for the basic channel; else cause 0C
+abbrev pub on_basic : Option ℕ → List Cell → Command → Result (List Cell × Command) ℕ
+on_basic channel cells command = if is_basic channel then Ok (cells, command) else Err 0x0C
+
+-- a write with the category that it has, if any; else cause 01
+abbrev pub with_category : Option Category → (Category → Result (List Cell × Command) ℕ) → Result (List Cell × Command) ℕ
+with_category None order = Err 0x01
+with_category (Some category) order = order category
+
+-- the cells that a message names and the command to them, or the first cause that applies: 04 for a reply, 01 for the
+-- category, 0C for the channel
+abbrev pub order_of : Message → Result (List Cell × Command) ℕ
+order_of (messages.Write id new_serial old_serial cells channel category period broadcasts dcs contents) =
+    with_category (category_of category) (λ known. on_basic channel cells (commands.Write id new_serial old_serial known period broadcasts dcs contents))
+order_of (messages.Kill id old_serial cells channel) = on_basic channel cells (commands.Kill id old_serial)
+order_of reply = Err 0x04

@@ -1,0 +1,121 @@
+-- A cell's record, and the messages that its log accepted (own).
+use Rattle.std.specs.Prelude.{ℕ, ◌+◌, ◌*◌, Bool, true, false, ◌==◌, ◌&&◌, ◌||◌, not, nat_lt, Option, Some, None, is_some, List, [], ◌∷◌, ◌++◌, length, map, filter, find}
+use Rattle.cbsp_wire.specs.declared.message.Cell.{Cell}
+use Rattle.admission.specs.Reservation.{Reservation, is_reserved_at}
+use Rattle.scheduler.specs.Message.{Message}
+use Rattle.scheduler.specs.Air.{Air}
+use Rattle.bsc_table.specs.declared.command.Category.{Category}
+use Rattle.bsc_table.specs.declared.command.Category.TheVariants.{High, Normal}
+use Rattle.bsc_table.specs.declared.command.Command.{Command}
+use Rattle.bsc_table.specs.declared.command.Command.TheVariants as commands
+use Rattle.bsc_table.specs.declared.entry.Answer.{Answer}
+use Rattle.bsc_table.specs.declared.entry.Answer.TheVariants as answers
+use Rattle.bsc_table.specs.declared.entry.State.{State}
+use Rattle.bsc_table.specs.declared.entry.State.TheVariants as states
+use Rattle.bsc_table.specs.declared.entry.Entry.{Entry}
+use Rattle.bsc_table.specs.Guarantee.{reservation_of}
+
+-- a cell's record: how many slots its run has, how many of them were played, the commands that were answered, in order, and
+-- what each played slot aired
+pub record Record : Type 0 where
+  pub cell : Cell
+  pub slots : ℕ
+  pub clock : ℕ
+  pub log : List Entry
+  pub air : Air
+
+-- a message that was accepted: the pair that names it, and the message as the schedule sees it
+pub record Accepted : Type 0 where
+  pub id : ℕ
+  pub serial : ℕ
+  pub message : Message
+
+-- the slot from which a write's message stands, where the answer accepts it
+abbrev pub start_of : Answer → Option ℕ
+start_of (answers.Started slot) = Some slot
+start_of (answers.Replaced slot completed) = Some slot
+start_of other = None
+
+abbrev pub is_high : Category → Bool
+is_high High = true
+is_high Normal = false
+
+-- whether an entry stopped the message of this pair: a kill of it that was answered `Stopped`, or a write in its place that
+-- was answered `Replaced`
+abbrev pub is_stop_by : ℕ → ℕ → Command → Answer → Bool
+is_stop_by id serial (commands.Kill of_id of_serial) (answers.Stopped completed) = (of_id == id) && (of_serial == serial)
+is_stop_by id serial (commands.Write of_id new (Some of_serial) category period broadcasts dcs contents) (answers.Replaced slot completed) =
+    (of_id == id) && (of_serial == serial)
+is_stop_by id serial command answer = false
+
+abbrev pub is_stop_of : ℕ → ℕ → Entry → Bool
+is_stop_of id serial e = is_stop_by id serial e.command e.answer
+
+-- the slot of the first of the entries that stopped the message of this pair, if any did
+abbrev pub slot_told : Option Entry → Option ℕ
+slot_told None = None
+slot_told (Some e) = Some e.slot
+
+abbrev pub stop_in : List Entry → ℕ → ℕ → Option ℕ
+stop_in later id serial = slot_told (find (is_stop_of id serial) later)
+
+-- the message of a command that stands at this place of the log, with the entries after it: a write's that was accepted
+abbrev pub accepted_with : Option ℕ → ℕ → List Entry → Command → List Accepted
+accepted_with (Some start) place later (commands.Write id serial replaces category period broadcasts dcs contents) =
+    record {
+      id = id;
+      serial = serial;
+      message = record {
+        number = place;
+        start = start;
+        pages = length contents;
+        period = period;
+        requested = broadcasts;
+        stop = stop_in later id serial;
+        high = is_high category;
+      };
+    } ∷ []
+accepted_with start place later command = []
+
+-- the accepted messages of entries of which the first stands at this place of the log, in order
+abbrev pub accepted_from : ℕ → List Entry → List Accepted
+accepted_from place [] = []
+accepted_from place (e ∷ later) = accepted_with (start_of e.answer) place later e.command ++ accepted_from (place + 1) later
+
+-- the accepted messages of a log, each numbered by its place, and stopped by the first later entry that stopped it
+abbrev pub accepted_in : List Entry → List Accepted
+accepted_in log = accepted_from 0 log
+
+abbrev pub messages_in : List Entry → List Message
+messages_in log = map (λ a. a.message) (accepted_in log)
+
+-- the accepted message of a pair, if there is one
+abbrev pub is_of_pair : ℕ → ℕ → Accepted → Bool
+is_of_pair id serial a = (a.id == id) && (a.serial == serial)
+
+abbrev pub message_told : Option Accepted → Option Message
+message_told None = None
+message_told (Some a) = Some a.message
+
+abbrev pub message_named : ℕ → ℕ → List Entry → Option Message
+message_named id serial log = message_told (find (is_of_pair id serial) (accepted_in log))
+
+-- a message that wasn't stopped by now is live up to the end of the periods of its requested broadcasts, if they have an end
+abbrev pub is_live : ℕ → Message → Bool
+is_live slot m = not (is_some m.stop) && ((m.requested == 0) || nat_lt slot (m.start + m.requested * m.period))
+
+-- how an accepted message stands before a slot
+abbrev pub unstopped_state : Bool → State
+unstopped_state true = states.Standing
+unstopped_state false = states.RanOut
+
+abbrev pub state_by : Option ℕ → Bool → State
+state_by (Some slot) live = states.Stopped slot
+state_by None live = unstopped_state live
+
+abbrev pub state_at : ℕ → Message → State
+state_at slot m = state_by m.stop (is_live slot m)
+
+-- the reservations of messages that count at a slot
+abbrev pub reserved_at : ℕ → List Message → List Reservation
+reserved_at slot messages = filter (is_reserved_at slot) (map reservation_of messages)

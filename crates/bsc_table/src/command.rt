@@ -1,0 +1,113 @@
+//! Commands: what a cell is asked to do. A copy of a command is equal to it.
+
+ghost use Rattle.std.specs.Prelude.{◌≡◌, IfOk, IfErr};
+ghost use Rattle.bsc_table.specs.Orders.{IsWrite};
+
+use cbs_page::{Dcs, Serial};
+use cbsp_wire::Contents;
+use std::alloc::{AllocError, Global};
+use thiserror::Error;
+
+/// There was no memory: what was asked is undone.
+#[derive(Clone, Copy, Debug, PartialEq, Eq, Error)]
+#[error("out of memory")]
+pub struct Refused;
+
+impl From<AllocError> for Refused {
+    fn from(_error: AllocError) -> Refused {
+        Refused
+    }
+}
+
+/// The category of a message (3GPP TS 48.049, 8.2, Category). Of two broadcasts that are due at the same slot, the one of the
+/// high category is aired first.
+#[derive(Clone, Copy, Debug, PartialEq, Eq)]
+pub enum Category {
+    /// High priority.
+    High,
+    /// Normal.
+    Normal,
+}
+
+/// What a cell is asked to do.
+#[derive(Debug, Drop)]
+pub enum Command {
+    /// Broadcast this message, in place of an older one where one is told (3GPP TS 48.049, 8.1, WRITE-REPLACE).
+    Write {
+        /// The message identifier.
+        id: u16,
+        /// The serial number of the message.
+        serial: Serial,
+        /// The serial number of the message, of the same identifier, that it replaces.
+        replaces: Option<Serial>,
+        /// The category.
+        category: Category,
+        /// The repetition period in slots, from 1.
+        period: u16,
+        /// The broadcasts requested; 0 asks for broadcasts until a stop.
+        broadcasts: u16,
+        /// The data coding of the pages.
+        dcs: Dcs,
+        /// The pages' contents, in page order.
+        contents: Contents,
+    },
+    /// Stop a message (3GPP TS 48.049, 8.1, KILL).
+    Kill {
+        /// The message identifier.
+        id: u16,
+        /// The serial number.
+        serial: Serial,
+    },
+    /// Tell how often a message was broadcast, and whether it still is. Own: no message of 3GPP TS 48.049 here asks it.
+    Status {
+        /// The message identifier.
+        id: u16,
+        /// The serial number.
+        serial: Serial,
+    },
+}
+
+impl Command {
+    /// An equal command.
+    ///
+    /// # Errors
+    ///
+    /// `Refused` for want of memory, which a write alone takes.
+    pub fn copy(&self, alloc: Global) -> Result<Command, Refused>
+        ensures copied { IfOk result (λ command. command ≡ self.now) }
+        ensures refused { IfErr result (λ refused. IsWrite self.now) }
+    {
+        match self {
+            Command::Write {
+                id,
+                serial,
+                replaces,
+                category,
+                period,
+                broadcasts,
+                dcs,
+                contents,
+            } => {
+                let list = Vec::from_slice(alloc, &contents.list)?;
+                Ok(Command::Write {
+                    id: *id,
+                    serial: *serial,
+                    replaces: *replaces,
+                    category: *category,
+                    period: *period,
+                    broadcasts: *broadcasts,
+                    dcs: *dcs,
+                    contents: Contents { list },
+                })
+            }
+            Command::Kill { id, serial } => Ok(Command::Kill {
+                id: *id,
+                serial: *serial,
+            }),
+            Command::Status { id, serial } => Ok(Command::Status {
+                id: *id,
+                serial: *serial,
+            }),
+        }
+    }
+}

@@ -1,0 +1,90 @@
+//! Orders: the cells that a message of the warning centre names, and the command to each of them.
+
+ghost use Rattle.std.specs.Prelude.{◌≡◌, Ok, Err, MatchResult};
+ghost use Rattle.bsc_table.specs.Orders.{order_of, category_of, is_basic};
+
+use crate::command::{Category, Command};
+use cbsp_wire::{Cell, Message};
+
+/// The category that a value stands for: 0 high, 2 normal, and normal where it is absent. None for 1, background, and for any
+/// other value.
+fn category_of(value: Option<u8>) -> Option<Category>
+    ensures { result ≡ category_of value }
+{
+    match value {
+        None | Some(2) => Some(Category::Normal),
+        Some(0) => Some(Category::High),
+        Some(_) => None,
+    }
+}
+
+/// Whether the value stands for the basic channel: 0, or absent.
+fn is_basic(channel: Option<u8>) -> bool
+    ensures { result ≡ is_basic channel }
+{
+    match channel {
+        None | Some(0) => true,
+        Some(_) => false,
+    }
+}
+
+/// The cells that a message of the warning centre names, in its order, and the command to each of them. No memory is taken.
+///
+/// # Errors
+///
+/// The first of these causes (3GPP TS 48.049, 8.2, Cause) that applies: 04 for a reply, which is no order; 01 for a category
+/// other than high and normal; 0C for a channel other than the basic one.
+pub fn orders_of(message: Message) -> Result<(Vec<Cell>, Command), u8>
+    ensures { MatchResult result (λ order. order_of message ≡ Ok (order.0.items, order.1)) (λ cause. order_of message ≡ Err cause) }
+{
+    match message {
+        Message::Write {
+            id,
+            new_serial,
+            old_serial,
+            cells,
+            channel,
+            category,
+            period,
+            broadcasts,
+            dcs,
+            contents,
+        } => {
+            let Some(category) = category_of(category) else {
+                return Err(0x01);
+            };
+            if !is_basic(channel) {
+                return Err(0x0C);
+            }
+            let command = Command::Write {
+                id,
+                serial: new_serial,
+                replaces: old_serial,
+                category,
+                period,
+                broadcasts,
+                dcs,
+                contents,
+            };
+            Ok((cells.list, command))
+        }
+        Message::Kill {
+            id,
+            old_serial,
+            cells,
+            channel,
+        } => {
+            if !is_basic(channel) {
+                return Err(0x0C);
+            }
+            Ok((
+                cells.list,
+                Command::Kill {
+                    id,
+                    serial: old_serial,
+                },
+            ))
+        }
+        _ => Err(0x04),
+    }
+}
