@@ -8,3 +8,4 @@ pub mod Sums
 mod Worked
 pub mod BookLaws
 mod Histories
+pub mod Appended
