@@ -12,3 +12,4 @@ pub mod Appended
 pub mod Named
 pub mod Numbers
 pub mod Outcome
+pub mod Sound
