@@ -13,3 +13,4 @@ pub mod Named
 pub mod Numbers
 pub mod Outcome
 pub mod Sound
+pub mod Entered
