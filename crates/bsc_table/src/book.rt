@@ -7,6 +7,7 @@ ghost use Rattle.bsc_table.specs.Book.{air_told, IsPlayedUpTo};
 
 use crate::command::Refused;
 use crate::entry::{Aired, Entry, SlotRange};
+use crate::kept::Kept;
 use admission::Budget;
 use cbsp_wire::Cell;
 use scheduler::Plan;
@@ -23,6 +24,7 @@ pub struct CellBook {
     clock: u16,
     log: Vec<Entry>,
     air: Vec<Option<Aired>>,
+    accepted: Vec<Kept>,
     plan: Plan,
     budget: Budget,
 }
@@ -57,6 +59,7 @@ impl CellBook {
             clock: 0,
             log: Vec::new(alloc),
             air,
+            accepted: Vec::new(alloc),
             plan: Plan::new(alloc),
             budget: Budget::new(),
         })
