@@ -14,3 +14,4 @@ pub mod Numbers
 pub mod Outcome
 pub mod Sound
 pub mod Entered
+pub mod Rooms

@@ -1,11 +1,15 @@
 -- What a cell's book keeps beside its record (own).
-use Rattle.std.specs.Prelude.{◌≡◌, ℕ, ◌≤◌, ◌==◌, if◌then◌else◌, Option, Some, None, List, ◌++◌, map, filter, vec_len, vec_capacity}
+use Rattle.std.specs.Prelude.{◌≡◌, ℕ, ◌≤◌, ◌==◌, if◌then◌else◌, Option, Some, None, Result, Ok, Err, List, ◌++◌, map, filter, vec_len, vec_capacity}
 use Rattle.admission.specs.declared.budget.Held.{Held}
+use Rattle.admission.specs.declared.budget.NoRoom.{NoRoom}
+use Rattle.admission.specs.declared.budget.NoRoom.TheVariants.{Table, Load}
 use Rattle.admission.specs.Load.{load_of}
 use Rattle.admission.specs.Reservation.{is_before_end, end_of_reservation}
 use Rattle.scheduler.specs.Message.{Message}
 use Rattle.scheduler.specs.Air.{Air}
 use Rattle.scheduler.specs.Follows.{Follows}
+use Rattle.bsc_table.specs.declared.entry.Answer.{Answer}
+use Rattle.bsc_table.specs.declared.entry.Answer.TheVariants as answers
 use Rattle.bsc_table.specs.declared.entry.Aired.{Aired}
 use Rattle.bsc_table.specs.declared.kept.Kept.{Kept}
 use Rattle.bsc_table.specs.declared.book.CellBook.TheInside.{Inside}
@@ -61,6 +65,12 @@ line_of m = record {
 -- the lines that a budget holds at a slot: of the messages whose reservations don't end by then
 abbrev pub lines_at : ℕ → List Message → List Held
 lines_at slot messages = filter (λ h. is_before_end slot h.until) (map line_of messages)
+
+-- the answer to a write, by whether its load has room: the answer that accepts it, or cause 07 or 06
+abbrev pub by_room : Result (Unit {0}) NoRoom → Answer → Answer
+by_room (Ok done) accepts = accepts
+by_room (Err Table) accepts = answers.Cause 0x07
+by_room (Err Load) accepts = answers.Cause 0x06
 
 -- a book: its record is a legal history, it keeps the accepted messages, its plan follows them and what was aired, its budget
 -- holds what they have reserved at the clock, and there is room for what all slots will air
