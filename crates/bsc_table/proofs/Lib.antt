@@ -15,3 +15,4 @@ pub mod Outcome
 pub mod Sound
 pub mod Entered
 pub mod Rooms
+pub mod Booked

@@ -62,8 +62,8 @@ pub record Outcome (log : List Entry) (e : Entry) : Type 0 where
 pub stops_none : (log : List Entry) (e : Entry) → ((id serial : ℕ) → is_stop_of id serial e ≡ false) → map (accepted_after e) (accepted_in log) ≡ accepted_in log
 stops_none log e never =
     map_agree (accepted_after e) (λ a. a) (accepted_in log) (λ k d h.
-        let a : Accepted = get_or (accepted_in log) k d in
-        stopped_once-false (is_stop_of a.id a.serial e) e.slot a (never a.id a.serial)) ∙ map-id (accepted_in log)
+    let a : Accepted = get_or (accepted_in log) k d in
+    stopped_once-false (is_stop_of a.id a.serial e) e.slot a (never a.id a.serial)) ∙ map-id (accepted_in log)
 
 -- so an entry that adds none either changes nothing
 pub does_nothing : (log : List Entry) (e : Entry) → ((id serial : ℕ) → is_stop_of id serial e ≡ false) → ((n : ℕ) → accepted_with (start_of e.answer) n [] e.command ≡ []) → accepted_in (log ++ e ∷ []) ≡ accepted_in log

@@ -46,7 +46,7 @@ same_room slot (m ∷ messages) begun =
     let rest = same_room slot messages (All-tail Begun m messages begun) in
     let counted : Bool = is_before_end slot (line_of m).until in
     let kept : is_reserved_at slot (reservation_of m) ≡ counted =
-        ap (λ (b : Bool). b && counted) (le-leb m.start slot (All-head Begun m messages begun)) in
+    ap (λ (b : Bool). b && counted) (le-leb m.start slot (All-head Begun m messages begun)) in
     let P : Bool → Type 0 = λ b. SameRoom (cond b (reservation_of m ∷ reserved_at slot messages) (reserved_at slot messages)) (cond counted (line_of m ∷ lines_at slot messages) (lines_at slot messages)) in
     subst P (sym kept) (same_room_more counted (reservation_of m) (line_of m) (reserved_at slot messages) (lines_at slot messages) refl rest)
 

@@ -27,10 +27,15 @@ use Rattle.bsc_table.proofs.Outcome.{Outcome, IsBegun, entry_with, with, without
 abbrev pub BeginsBy : ℕ → Accepted → Type 0
 BeginsBy slot a = a.message.start ≤ slot
 
+-- the message has a page and a period
+abbrev pub HasLoad : Accepted → Type 0
+HasLoad a = (0 < a.message.pages) × (0 < a.message.period)
+
 -- what is true of the accepted messages of a log, up to a slot
 pub record IsSound (all : List Accepted) (slot : ℕ) : Type 0 where
   pub once : AllPairs OfAnotherPair all
   pub begun : All (BeginsBy slot) all
+  pub loaded : All HasLoad all
 
 AllPairs-map : (R : Accepted → Accepted → Type 0) (f : Accepted → Accepted) → ((a b : Accepted) → R a b → R (f a) (f b)) → (all : List Accepted) → AllPairs R all → AllPairs R (map f all)
 AllPairs-map R f kept [] pairs = λ i j d before within. absurd (omega arith)
@@ -43,6 +48,7 @@ without_sound None slot at all sound = sound
 without_sound (Some a) slot at all sound = record {
   once = AllPairs-map OfAnotherPair (stop_numbered a.message.number at) (λ x y apart. apart) all sound.once;
   begun = All-map (BeginsBy slot) (stop_numbered a.message.number at) all sound.begun;
+  loaded = All-map HasLoad (stop_numbered a.message.number at) all sound.loaded;
 }
 
 -- where no message has the pair, each has another one
@@ -65,7 +71,7 @@ others_are_apart : (new : Accepted) (all : List Accepted) → find (is_of_pair n
 others_are_apart new all none =
     All-weaker (λ (a : Accepted). is_of_pair new.id new.serial a ≡ false) (λ (a : Accepted). OfAnotherPair a new) (λ a apart.
     let turned : is_of_pair a.id a.serial new ≡ is_of_pair new.id new.serial a =
-        ap (λ (b : Bool). b && (new.serial == a.serial)) (same_test new.id a.id) ∙ ap (λ (b : Bool). (a.id == new.id) && b) (same_test new.serial a.serial) in
+    ap (λ (b : Bool). b && (new.serial == a.serial)) (same_test new.id a.id) ∙ ap (λ (b : Bool). (a.id == new.id) && b) (same_test new.serial a.serial) in
     turned ∙ apart) all (not_found (is_of_pair new.id new.serial) all none)
 
 -- pairs stay as they are where a message is stopped
@@ -86,6 +92,7 @@ with_sound None number slot before fresh begun sound = sound
 with_sound (Some new) number slot before fresh begun sound = record {
   once = all_pairs_push OfAnotherPair before new sound.once (others_are_apart new before fresh);
   begun = All-push (BeginsBy slot) before new sound.begun (omega (arith, begun.begins));
+  loaded = All-push HasLoad before new sound.loaded (begun.some_pages, begun.some_period);
 }
 
 fresh_without : (started stopped : Option Accepted) (at : ℕ) (all : List Accepted) → IfSome started (λ a. find (is_of_pair a.id a.serial) all ≡ None) → IfSome started (λ a. find (is_of_pair a.id a.serial) (without stopped at all) ≡ None)
@@ -103,6 +110,7 @@ IsSound-later : (all : List Accepted) (slot later : ℕ) → slot ≤ later → 
 IsSound-later all slot later after sound = record {
   once = sound.once;
   begun = All-weaker (BeginsBy slot) (BeginsBy later) (λ a begun. omega arith) all sound.begun;
+  loaded = sound.loaded;
 }
 
 -- an entry of a legal history and those before it
@@ -117,23 +125,23 @@ some_entry [] some = absurd (omega arith)
 some_entry (e ∷ log) some = e
 
 pub sound_at : (r : Record) → IsLegal r → (k slot : ℕ) → k ≤ length r.log → All (λ e. e.slot ≤ slot) (take k r.log) → IsSound (accepted_in (take k r.log)) slot
-sound_at r legal zero slot within before = record { once = λ i j d b w. absurd (omega arith); begun = All-nil (BeginsBy slot) }
+sound_at r legal zero slot within before = record { once = λ i j d b w. absurd (omega arith); begun = All-nil (BeginsBy slot); loaded = All-nil HasLoad }
 sound_at r legal (suc k) slot within before =
     let d : Entry = some_entry r.log (omega arith) in
     let e : Entry = get_or r.log k d in
     let grown : take (suc k) r.log ≡ take k r.log ++ e ∷ [] = take-suc r.log k d (omega arith) in
     let earlier : All (λ x. x.slot ≤ e.slot) (take k r.log) = λ i x h.
-        let short = length-take-le k r.log (omega arith) in
-        let same = get_or-take k r.log i x (omega arith) in
-        let rises = legal.rising i k x (omega arith) (omega arith) in
-        let here : get_or r.log k x ≡ e = get_or_default r.log k x d (omega arith) in
-        omega (arith, ap (λ (y : Entry). y.slot) same, ap (λ (y : Entry). y.slot) here, rises) in
+    let short = length-take-le k r.log (omega arith) in
+    let same = get_or-take k r.log i x (omega arith) in
+    let rises = legal.rising i k x (omega arith) (omega arith) in
+    let here : get_or r.log k x ≡ e = get_or_default r.log k x d (omega arith) in
+    omega (arith, ap (λ (y : Entry). y.slot) same, ap (λ (y : Entry). y.slot) here, rises) in
     let sound = sound_at r legal k e.slot (omega arith) earlier in
     let outcome = outcome_at r legal k d (omega arith) sound.once in
     let Sound : List Entry → Type 0 = λ log. IsSound (accepted_in log) slot in
     let last : get_or (take (suc k) r.log) k d ≡ e = get_or-take (suc k) r.log k d (omega arith) in
     let at_e : e.slot ≤ slot =
-        omega (arith, ap (λ (y : Entry). y.slot) last, before k d (omega (arith, length-take-le (suc k) r.log within))) in
+    omega (arith, ap (λ (y : Entry). y.slot) last, before k d (omega (arith, length-take-le (suc k) r.log within))) in
     subst Sound (sym grown) (IsSound-later (accepted_in (take k r.log ++ e ∷ [])) e.slot slot at_e (IsSound-push (take k r.log) e outcome sound))
 
 -- of the whole history, at the clock

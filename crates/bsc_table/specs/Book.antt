@@ -1,5 +1,5 @@
 -- What a cell's book keeps beside its record (own).
-use Rattle.std.specs.Prelude.{◌≡◌, ℕ, ◌≤◌, ◌==◌, if◌then◌else◌, Option, Some, None, Result, Ok, Err, List, ◌++◌, map, filter, vec_len, vec_capacity}
+use Rattle.std.specs.Prelude.{◌≡◌, ℕ, ⊤, true, false, find, ◌≤◌, ◌==◌, if◌then◌else◌, Option, Some, None, Result, Ok, Err, List, ◌++◌, map, filter, vec_len, vec_capacity}
 use Rattle.admission.specs.declared.budget.Held.{Held}
 use Rattle.admission.specs.declared.budget.NoRoom.{NoRoom}
 use Rattle.admission.specs.declared.budget.NoRoom.TheVariants.{Table, Load}
@@ -11,10 +11,11 @@ use Rattle.scheduler.specs.Follows.{Follows}
 use Rattle.bsc_table.specs.declared.entry.Answer.{Answer}
 use Rattle.bsc_table.specs.declared.entry.Answer.TheVariants as answers
 use Rattle.bsc_table.specs.declared.entry.Aired.{Aired}
+use Rattle.bsc_table.specs.declared.entry.Entry.{Entry}
 use Rattle.bsc_table.specs.declared.kept.Kept.{Kept}
 use Rattle.bsc_table.specs.declared.book.CellBook.TheInside.{Inside}
 use Rattle.bsc_table.specs.declared.book.CellRecord.TheInside as kept
-use Rattle.bsc_table.specs.Record.{Record, Accepted, accepted_in, messages_in}
+use Rattle.bsc_table.specs.Record.{Record, Accepted, accepted_in, messages_in, is_of_pair, is_live}
 use Rattle.bsc_table.specs.Legal.{IsLegal}
 
 -- what a slot airs, as a pair of the entry's number and the page
@@ -65,6 +66,15 @@ line_of m = record {
 -- the lines that a budget holds at a slot: of the messages whose reservations don't end by then
 abbrev pub lines_at : ℕ → List Message → List Held
 lines_at slot messages = filter (λ h. is_before_end slot h.until) (map line_of messages)
+
+-- no message of a pair is live, and one is
+abbrev pub IsNotLive : ℕ → Option Message → Type 0
+IsNotLive slot None = ⊤
+IsNotLive slot (Some m) = is_live slot m ≡ false
+
+pub record IsLiveAs (slot id serial : ℕ) (log : List Entry) (a : Accepted) : Type 0 where
+  pub found : find (is_of_pair id serial) (accepted_in log) ≡ Some a
+  pub live : is_live slot a.message ≡ true
 
 -- the answer to a write, by whether its load has room: the answer that accepts it, or cause 07 or 06
 abbrev pub by_room : Result (Unit {0}) NoRoom → Answer → Answer

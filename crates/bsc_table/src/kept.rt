@@ -1,6 +1,6 @@
 //! What a cell's book keeps of the messages that it accepted.
 
-ghost use Rattle.std.specs.Prelude.{◌≡◌, ◌<◌, ◌==◌, ◌&&◌, map};
+ghost use Rattle.std.specs.Prelude.{◌≡◌, ◌<◌, ◌==◌, if◌then◌else◌, Some, None, map};
 ghost use Rattle.std.specs.List.{find};
 ghost use Rattle.std.specs.Option.{option_map};
 ghost use Rattle.admission.specs.Load.{load_of};
@@ -76,6 +76,18 @@ impl Kept {
     {
         let periods = slot.saturating_sub(self.start).div_ceil(self.period);
         u32::from(self.start) + u32::from(self.period) * u32::from(periods)
+    }
+
+    /// Its number, where a stop at `slot` would end its reservation there and then: on the boundary of its period.
+    pub fn leaving_at(&self, slot: u16) -> Option<u16>
+        requires { 0 < self.now.period }
+        ensures { result ≡ (if end_of_stopped self.now.start self.now.period slot == slot then Some self.now.number else None) }
+    {
+        if self.end_if_stopped(slot) == u32::from(slot) {
+            Some(self.number)
+        } else {
+            None
+        }
     }
 
     /// Whether it is live at `slot`: it wasn't stopped, and hasn't run out.
