@@ -19,9 +19,10 @@ use Rattle.bsc_table.specs.Orders.{IsWellFormed}
 use Rattle.bsc_table.specs.Record.{Record, Accepted, accepted_in, messages_in, is_of_pair, is_live}
 use Rattle.bsc_table.specs.Answer.{answer_of}
 use Rattle.bsc_table.specs.Legal.{IsAnswered, IsLegal}
-use Rattle.bsc_table.proofs.Named.{OfAnotherPair, BelowIt, AllPairs-head, AllPairs-tail, stop_numbered, live_is_standing}
+use Rattle.bsc_table.proofs.Named.{OfAnotherPair, BelowIt, AllPairs-head, AllPairs-tail, live_is_standing}
 use Rattle.bsc_table.proofs.Numbers.{numbers_rise, numbers_below}
-use Rattle.bsc_table.proofs.Outcome.{Outcome, IsBegun, entry_with, with, without, outcome_of, messages_stopped}
+use Rattle.bsc_table.specs.Book.{stop_numbered, IsBegun}
+use Rattle.bsc_table.proofs.Outcome.{Outcome, entry_with, with, without, outcome_of, messages_stopped}
 
 -- the message begins at the slot or before it
 abbrev pub BeginsBy : ℕ → Accepted → Type 0
