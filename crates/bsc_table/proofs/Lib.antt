@@ -16,3 +16,5 @@ pub mod Sound
 pub mod Entered
 pub mod Rooms
 pub mod Booked
+pub mod Accepting
+pub mod Entering
