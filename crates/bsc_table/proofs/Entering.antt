@@ -1,9 +1,9 @@
 -- A book with one more entry: its record, its messages, and what its plan and budget hold of them.
 use Rattle.std.proofs.Common.{◌≡◌, ℕ, ◌+◌, ◌≤◌, ◌<◌, ◌==◌, Bool, true, false, cond, Option, Some, None, Result, Ok, Err, List, [], ◌∷◌, ◌++◌, length, map, filter, sum_by, get_or, refl, ap, sym, subst, ◌∙◌, arith}
 use Rattle.std.specs.List.{All, AllPairs, Any, Contains}
-use Rattle.std.proofs.lemmas.Bool.{lt-leb, lt-ltb, le-leb, cond-false}
+use Rattle.std.proofs.lemmas.Bool.{lt-leb, lt-ltb, le-leb, ne_eqb, cond-false}
 use Rattle.std.proofs.lemmas.List.{map-append, append_assoc, length-map, get_or-map}
-use Rattle.std.proofs.lemmas.List.Elements.{All-nil, All-cons, Contains-append_right, All-map, All-filter, All-weaker, All-contains}
+use Rattle.std.proofs.lemmas.List.Elements.{All-nil, All-cons, Contains-append_left, Contains-append_right, All-map, All-filter, All-weaker, All-contains}
 use Rattle.admission.specs.declared.budget.Held.{Held}
 use Rattle.admission.specs.declared.budget.NoRoom.{NoRoom}
 use Rattle.admission.specs.declared.measure.TheConstants.{SCALE}
@@ -68,9 +68,30 @@ planned_below plan log air follows =
     subst Below (sym follows.told) (All-map (λ (m : Message). m.number < length log) (λ (a : Accepted). a.message) (accepted_in log) (numbers_below log))
 
 -- so are those of a budget
+numbers_of : (log : List Entry) → All (λ m. m.number < length log) (messages_in log)
+numbers_of log =
+    All-map (λ (m : Message). m.number < length log) (λ (a : Accepted). a.message) (accepted_in log) (numbers_below log)
+
+held_below_of : (slot n : ℕ) (messages : List Message) → All (λ m. m.number < n) messages → All (λ h. h.entry < n) (lines_at slot messages)
+held_below_of slot n messages below =
+    All-filter (λ (h : Held). is_before_end slot h.until) (λ (h : Held). h.entry < n) (map line_of messages) (All-map (λ (h : Held). h.entry < n) line_of messages below)
+
 pub held_below : (slot : ℕ) (log : List Entry) → All (λ h. h.entry < length log) (lines_at slot (messages_in log))
-held_below slot log =
-    All-filter (λ (h : Held). is_before_end slot h.until) (λ (h : Held). h.entry < length log) (map line_of (messages_in log)) (All-map (λ (h : Held). h.entry < length log) line_of (messages_in log) (All-map (λ (m : Message). (line_of m).entry < length log) (λ (a : Accepted). a.message) (accepted_in log) (numbers_below log)))
+held_below slot log = held_below_of slot (length log) (messages_in log) (numbers_of log)
+
+pub held_below_without : (slot number : ℕ) (log : List Entry) → All (λ h. h.entry < length log) (lines_at slot (stopped_at number slot (messages_in log)))
+held_below_without slot number log =
+    held_below_of slot (length log) (stopped_at number slot (messages_in log)) (All-map (λ (m : Message). m.number < length log) (λ (m : Message). stopped_if (m.number == number) slot m) (messages_in log) (numbers_of log))
+
+-- a message with another number stays as it is where one is stopped
+pub stopped_beside : (number slot : ℕ) (messages : List Message) (m : Message) → (m.number ≡ number → ⊥) → stopped_at number slot (messages ++ m ∷ []) ≡ stopped_at number slot messages ++ m ∷ []
+stopped_beside number slot messages m other =
+    let stop : Message → Message = λ x. stopped_if (x.number == number) slot x in
+    map-append stop messages (m ∷ []) ∙ ap (λ (b : Bool). stopped_at number slot messages ++ stopped_if b slot m ∷ []) (ne_eqb m.number number other)
+
+pub number_below : (log : List Entry) (a : Accepted) → Contains (accepted_in log) a → a.message.number < length log
+number_below log a there =
+    All-contains (λ (x : Accepted). x.message.number < length log) (accepted_in log) a (numbers_below log) there
 
 -- a message that may begin has room in a budget that holds the lines of those before it
 pub begun_fits : (slot load : ℕ) (messages : List Message) → All (λ m. m.start ≤ slot) messages → length (reserved_at slot messages) < 64 → sum_by (λ r. r.load) (reserved_at slot messages) + load ≤ SCALE → answer_for (lines_at slot messages) load ≡ Ok tt
@@ -86,6 +107,14 @@ standing_in plan slot log air a follows there live =
     let P : List Message → Type 0 = λ messages. Any (λ (m : Message). (m.number ≡ a.message.number) × (m.stop ≡ None)) messages in
     let found = Contains-message log a there in
     subst P (sym follows.told) (found.0, a.message, found.1, found.2, (refl, live_is_standing slot a.message live))
+
+-- also where one more was told
+pub standing_beside : (plan : Planned) (slot : ℕ) (log : List Entry) (a : Accepted) (told : List Message) (m : Message) → messages_of plan ≡ told ++ m ∷ [] → Any (λ x. (x.number ≡ a.message.number) × (x.stop ≡ None)) told → Any (λ x. (x.number ≡ a.message.number) × (x.stop ≡ None)) (messages_of plan)
+standing_beside plan slot log a told m same found =
+    let P : List Message → Type 0 = λ messages. Any (λ (x : Message). (x.number ≡ a.message.number) × (x.stop ≡ None)) messages in
+    let there : Contains (told ++ m ∷ []) found.1 =
+        Contains-append_left told (m ∷ []) found.1 (found.0, found.2, found.3) in
+    subst P (sym same) (there.0, found.1, there.1, there.2, found.4)
 
 -- and its line is held
 more_there : {X : Type 0} (b : Bool) (x : X) (xs : List X) (y : X) → Contains xs y → Contains (cond b (x ∷ xs) xs) y
@@ -134,3 +163,6 @@ begun_room number slot before a begun may =
 pub begun_lines : (number slot : ℕ) (before : List Accepted) (a : Accepted) → IsBegun number slot before a → lines_at slot (map (λ x. x.message) before ++ a.message ∷ []) ≡ lines_at slot (map (λ x. x.message) before) ++ line_of a.message ∷ []
 begun_lines number slot before a may =
     lines_at-new slot (map (λ (x : Accepted). x.message) before) a.message may.begins may.standing may.some_period
+
+pub stopped_begun : (number slot : ℕ) (all : List Accepted) → All (BeginsBy slot) all → All (BeginsBy slot) (map (stop_numbered number slot) all)
+stopped_begun number slot all begun = All-map (BeginsBy slot) (stop_numbered number slot) all begun
