@@ -1,15 +1,15 @@
 //! The book of a cell: a legal history at all times.
 
-ghost use Rattle.std.specs.Prelude.{◌≡◌, ℕ, true, ◌+◌, ◌<◌, ◌≤◌, [], ◌∷◌, ◌++◌, length, map, filter, IfOk, IfErr, OnOk, OnErr, min, vec_len, vec_capacity};
+ghost use Rattle.std.specs.Prelude.{◌≡◌, ◌⊎◌, ℕ, true, ◌+◌, ◌<◌, ◌≤◌, [], ◌∷◌, ◌++◌, length, map, filter, IfOk, IfErr, OnOk, OnErr, min, vec_len, vec_capacity};
 ghost use Rattle.std.specs.List.{Any, Contains, find};
 ghost use Rattle.std.specs.Option.{MatchOption, option_map};
 ghost use Rattle.scheduler.specs.Completed.{completed};
 ghost use Rattle.bsc_table.specs.declared.entry.Answer.TheVariants as answers;
 ghost use Rattle.bsc_table.specs.Record.{Record, accepted_in, is_of_pair, is_live, message_named};
-ghost use Rattle.bsc_table.specs.Answer.{told_of, answer_to_kill, answer_to_write, answer_to_new, answer_to_replacement, answer_with_room};
+ghost use Rattle.bsc_table.specs.Answer.{told_of, answer_to_kill, answer_to_write, answer_to_new, answer_to_replacement, answer_with_room, answer_of};
 ghost use Rattle.bsc_table.specs.Orders.{IsWellFormed};
 ghost use Rattle.bsc_table.specs.Legal.{IsLegal};
-ghost use Rattle.bsc_table.specs.Book.{accepted_of, air_told, IsPlayedUpTo, IsNotLive, IsLiveAs, IsBegun, IsNext, with_entry, stop_numbered, by_room};
+ghost use Rattle.bsc_table.specs.Book.{accepted_of, air_told, IsPlayedUpTo, IsNotLive, IsLiveAs, IsBegun, IsNext, with_entry, answered_with, stop_numbered, by_room};
 ghost use Rattle.admission.specs.Reservation.{is_before_end, end_of_stopped};
 ghost use Rattle.admission.specs.Table.{ends_at};
 
@@ -143,6 +143,39 @@ impl CellBook {
         Some((self.completed(&message), message.state(self.clock)))
     }
 
+    /// Answers a command at the slot that is aired next, and enters it with its answer. The first of these that applies is the
+    /// answer (the causes are those of 3GPP TS 48.049, 8.2, Cause; when each applies is own):
+    ///
+    /// - cause 08 where the log has 4,096 entries;
+    /// - to a status, `Told` where the message was accepted, else `Unknown`;
+    /// - cause 0A where all slots of the run are played;
+    /// - cause 02 where the message to stop or to replace isn't live;
+    /// - to a kill, `Stopped`;
+    /// - cause 0D where a message of the pair was accepted before;
+    /// - cause 07 where 64 messages are reserved, the one to replace being stopped;
+    /// - cause 06 where the load doesn't fit beside those that are then reserved;
+    /// - `Started`, or `Replaced` where one is replaced.
+    ///
+    /// Each answer but cause 08 has an entry, which is the only trace of a refusal. Where there is no memory for what an answer
+    /// takes, the answer is `Refused` instead, and the book is as it was. The command is one that `orders_of` gives of a message
+    /// that was read, or a status.
+    pub fn apply(&mut self, command: &Command) -> Answer
+        requires { IsWellFormed command.now }
+        ensures answered { (result ≡ answers.Refused)
+            ⊎ (result ≡ answer_of self.old.slots self.old.log self.old.air self.old.clock command.now) }
+        ensures entered { self.new ≡ answered_with command.now result self.old }
+        ensures legal { IsLegal self.new }
+    {
+        if self.log.len() >= ENTRIES {
+            return Answer::Cause(LOG_IS_FULL);
+        }
+        let answer = self.answer(command);
+        match self.enter(command, answer) {
+            Ok(()) => answer,
+            Err(Refused) => Answer::Refused,
+        }
+    }
+
     /// Plays `k` slots, or those up to the run's end, and tells which they were. No memory is taken.
     pub fn play(&mut self, k: u16) -> SlotRange
         ensures range { result ≡ record { from = self.old.clock; to = min (self.old.clock + k) self.old.slots } }
@@ -175,6 +208,59 @@ impl CellBook {
             slots,
             log,
             air,
+        }
+    }
+
+    /// Enters a command with its answer.
+    fn enter(&mut self, command: &Command, answer: Answer) -> Result<(), Refused>
+        requires formed { IsWellFormed command.now }
+        requires room { length self.old.log < 4096 }
+        requires right { answer ≡ answer_with_room self.old.slots self.old.log self.old.air self.old.clock command.now }
+        ensures entered { OnOk result (self.new ≡ with_entry (record { command = command.now; slot = self.old.clock; answer = answer }) self.old) }
+        ensures refused { OnErr result (self.new ≡ self.old) }
+    {
+        let entry = Entry {
+            command: command.copy(*self.log.allocator())?,
+            slot: self.clock,
+            answer,
+        };
+        match command {
+            Command::Status { .. } => self.enter_alone(entry),
+            Command::Kill { .. } if !answer.stops() => self.enter_alone(entry),
+            Command::Kill { id, serial } => match self.live(*id, *serial) {
+                Some(old) => self.enter_stop(entry, &old),
+                None => self.enter_alone(entry),
+            },
+            Command::Write { .. } if !answer.starts() => self.enter_alone(entry),
+            Command::Write {
+                id,
+                serial,
+                replaces,
+                category,
+                period,
+                broadcasts,
+                contents,
+                ..
+            } => {
+                let new = Kept {
+                    id: *id,
+                    serial: *serial,
+                    number: self.log.len() as u16,
+                    start: self.clock,
+                    pages: contents.list.len() as u8,
+                    period: *period,
+                    broadcasts: *broadcasts,
+                    high: category.is_high(),
+                    stop: None,
+                };
+                match replaces {
+                    None => self.enter_new(entry, new),
+                    Some(replaced) => match self.live(*id, *replaced) {
+                        Some(old) => self.enter_replacement(entry, &old, new),
+                        None => self.enter_alone(entry),
+                    },
+                }
+            }
         }
     }
 
