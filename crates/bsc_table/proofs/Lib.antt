@@ -18,3 +18,4 @@ pub mod Rooms
 pub mod Booked
 pub mod Accepting
 pub mod Entering
+pub mod Deciding
