@@ -1,6 +1,6 @@
 -- What an answer that stops or starts a message says of the record before it.
-use Rattle.std.proofs.Common.{◌≡◌, ℕ, ◌+◌, ◌≤◌, ◌<◌, ◌==◌, Bool, true, false, not, Option, Some, None, is_some, List, [], ◌∷◌, ◌++◌, length, map, sum_by, refl, ap, sym, subst, ◌∙◌, arith}
-use Rattle.std.specs.List.{Contains, find}
+use Rattle.std.proofs.Common.{◌≡◌, ℕ, ◌+◌, ◌≤◌, ◌<◌, ◌==◌, true, false, Option, Some, None, is_some, List, [], ◌∷◌, ◌++◌, length, map, sum_by, refl, sym, subst, arith}
+use Rattle.std.specs.List.{find}
 use Rattle.std.proofs.lemmas.Bool.{false≢true, true≢false, not_from_false}
 use Rattle.admission.specs.declared.measure.TheConstants.{SCALE}
 use Rattle.admission.specs.Load.{load_of}
@@ -48,15 +48,18 @@ write_starts r id serial category period broadcasts dcs contents formed =
     let P : Answer → Type 0 = λ answer. is_some (start_of answer) ≡ true → (answer ≡ answers.Started r.clock) × IsBegun (length r.log) r.clock (accepted_in r.log) new in
     let refuses : (cause : ℕ) → (cause == 0x08) ≡ false → P (answers.Cause cause) = λ cause other started. absurd (false≢true started) in
     let load : ℕ = load_of (length contents) period in
-    before_end_cases P r.slots r.clock (answer_to_write r.log r.air r.clock id serial None load) refuses (unless_accepted_cases P (find (is_of_pair id serial) (accepted_in r.log)) (answer_to_new r.log r.clock load) refuses (λ fresh. beside_cases P (reserved_at r.clock (messages_in r.log)) load (answers.Started r.clock) refuses (λ room fits started. (refl, record {
-      numbered = refl;
-      begins = refl;
-      standing = refl;
-      some_pages = omega (arith, formed.some_pages);
-      some_period = omega (arith, formed.some_period);
-      room = room;
-      fits = fits;
-    }))))
+    before_end_cases P r.slots r.clock (answer_to_write r.log r.air r.clock id serial None load) refuses (unless_accepted_cases P (find (is_of_pair id serial) (accepted_in r.log)) (answer_to_new r.log r.clock load) refuses (λ fresh. beside_cases P (reserved_at r.clock (messages_in r.log)) load (answers.Started r.clock) refuses (λ room fits started. (
+      refl,
+      record {
+        numbered = refl;
+        begins = refl;
+        standing = refl;
+        some_pages = omega (arith, formed.some_pages);
+        some_period = omega (arith, formed.some_period);
+        room = room;
+        fits = fits;
+      },
+    ))))
 
 pub record Replaces (r : Record) (id old : ℕ) (new : Accepted) (answer : Answer) : Type 0 where
   pub stopped : Accepted
@@ -124,6 +127,7 @@ kill_does_nothing log slot id serial answer none =
     never i s answers.Unknown stopped = refl
     never i s (answers.Cause cause) stopped = refl
     never i s answers.Refused stopped = refl
+
     adds_none : (start : Option ℕ) (n : ℕ) → accepted_with start n [] (commands.Kill id serial) ≡ []
     adds_none None n = refl
     adds_none (Some at) n = refl
@@ -142,6 +146,7 @@ write_does_nothing log slot id serial replaces category period broadcasts dcs co
     never i s (Some old) answers.Unknown started = refl
     never i s (Some old) (answers.Cause cause) started = refl
     never i s (Some old) answers.Refused started = refl
+
     adds_none : (start : Option ℕ) (n : ℕ) → is_some start ≡ false → accepted_with start n [] (commands.Write id serial replaces category period broadcasts dcs contents) ≡ []
     adds_none None n started = refl
     adds_none (Some at) n started = absurd (true≢false started)

@@ -1,24 +1,21 @@
 -- What an entry that stops or starts a message does, by its right answer.
-use Rattle.std.proofs.Common.{◌≡◌, ℕ, true, Bool, Option, Some, None, is_some, List, [], ◌∷◌, ◌++◌, length, map, refl, ap, sym, subst, ◌∙◌}
+use Rattle.std.proofs.Common.{◌≡◌, ℕ, true, Option, Some, None, is_some, List, [], ◌∷◌, ◌++◌, length, map, sym, subst, ◌∙◌}
 use Rattle.std.specs.List.{find}
 use Rattle.scheduler.specs.Completed.{completed}
 use Rattle.cbs_page.specs.declared.content.Content.{Content}
 use Rattle.cbs_page.specs.declared.Dcs.{Dcs}
 use Rattle.bsc_table.specs.declared.command.Category.{Category}
-use Rattle.bsc_table.specs.declared.command.Command.{Command}
 use Rattle.bsc_table.specs.declared.command.Command.TheVariants as commands
 use Rattle.bsc_table.specs.declared.entry.Answer.{Answer}
-use Rattle.bsc_table.specs.declared.entry.Answer.TheVariants as answers
-use Rattle.bsc_table.specs.declared.kept.Kept.{Kept}
 use Rattle.bsc_table.specs.Orders.{IsBroadcastable}
-use Rattle.bsc_table.specs.Record.{Record, Accepted, start_of, accepted_in, is_of_pair, is_high, is_live}
+use Rattle.bsc_table.specs.Record.{Record, Accepted, start_of, accepted_in, is_of_pair}
 use Rattle.bsc_table.specs.Answer.{answer_with_room}
 use Rattle.bsc_table.specs.Legal.{IsLegal}
-use Rattle.bsc_table.specs.Book.{accepted_of, stop_numbered, IsBegun, IsLiveAs, is_stopped}
+use Rattle.bsc_table.specs.Book.{stop_numbered, IsBegun, IsLiveAs, is_stopped}
 use Rattle.bsc_table.proofs.Named.{live_is_standing}
 use Rattle.bsc_table.proofs.Outcome.{entry_with, new_message, starts_one, stops_one, replaces_one}
 use Rattle.bsc_table.proofs.Sound.{IsSound-legal}
-use Rattle.bsc_table.proofs.Accepting.{Stops, kill_stops, write_starts, Replaces, write_replaces}
+use Rattle.bsc_table.proofs.Accepting.{kill_stops, write_starts, write_replaces}
 
 -- a kill that is accepted stops its message
 pub killed : (r : Record) (id serial : ℕ) (answer : Answer) (a : Accepted) → IsLegal r → answer ≡ answer_with_room r.slots r.log r.air r.clock (commands.Kill id serial) → is_stopped answer ≡ true → IsLiveAs r.clock id serial r.log a → accepted_in (r.log ++ entry_with (commands.Kill id serial) r.clock answer ∷ []) ≡ map (stop_numbered a.message.number r.clock) (accepted_in r.log)

@@ -1,16 +1,15 @@
 -- A legal history stays one where a command is entered with its right answer.
-use Rattle.std.proofs.Common.{◌≡◌, ℕ, ◌+◌, ◌≤◌, ◌<◌, true, Option, Some, None, List, [], ◌∷◌, ◌++◌, length, take, map, get_or, refl, ap, sym, subst, ◌∙◌, inl, inr, arith}
+use Rattle.std.proofs.Common.{◌≡◌, ℕ, ◌≤◌, ◌<◌, true, Option, Some, None, List, [], ◌∷◌, ◌++◌, length, take, map, get_or, ap, sym, subst, ◌∙◌, inl, inr, arith}
 use Rattle.std.specs.List.{All, AllPairs, Contains}
 use Rattle.std.specs.Option.{IfSome}
 use Rattle.std.proofs.lemmas.Bool.{cases_order, cases_lt}
-use Rattle.std.proofs.lemmas.List.{take_all, take_at, take-append-le, get_or_append_left, get_or_default, get_or_push, length_push, map-append, length-map, get_or-map}
+use Rattle.std.proofs.lemmas.List.{take_all, take_at, take-append-le, get_or_append_left, get_or_default, get_or_push, length_push, map-append}
 use Rattle.std.proofs.lemmas.List.Elements.{All-push, All-map}
 use Rattle.std.proofs.lemmas.List.Quantifiers.{all_pairs_push}
-use Rattle.scheduler.specs.Message.{Message, stopped_at}
+use Rattle.scheduler.specs.Message.{Message}
 use Rattle.scheduler.specs.Air.{Air, IsAirOf}
 use Rattle.scheduler.proofs.Rule.{IsAirOf-add, IsAirOf-stop}
 use Rattle.bsc_table.specs.declared.command.Command.{Command}
-use Rattle.bsc_table.specs.declared.entry.Answer.{Answer}
 use Rattle.bsc_table.specs.declared.entry.Entry.{Entry}
 use Rattle.bsc_table.specs.Orders.{IsWellFormed}
 use Rattle.bsc_table.specs.Record.{Record, Accepted, accepted_in, messages_in, is_live}
@@ -18,9 +17,9 @@ use Rattle.bsc_table.specs.Answer.{answer_of}
 use Rattle.bsc_table.specs.Legal.{IsAnswered, IsLegal}
 use Rattle.bsc_table.proofs.Named.{BelowIt, live_is_standing}
 use Rattle.bsc_table.proofs.Numbers.{numbers_rise}
-use Rattle.bsc_table.specs.Book.{stop_numbered, IsBegun}
+use Rattle.bsc_table.specs.Book.{IsBegun}
 use Rattle.bsc_table.proofs.Outcome.{Outcome, entry_with, with, without, outcome_of, messages_stopped}
-use Rattle.bsc_table.proofs.Sound.{IsSound, IsSound-legal}
+use Rattle.bsc_table.proofs.Sound.{IsSound-legal}
 
 -- in a list whose numbers rise, one number is that of one message
 pub same_number : (all : List Accepted) (a : Accepted) → AllPairs BelowIt all → Contains all a → All (λ x. x.message.number ≡ a.message.number → x ≡ a) all

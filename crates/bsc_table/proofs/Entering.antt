@@ -1,15 +1,14 @@
 -- A book with one more entry: its record, its messages, and what its plan and budget hold of them.
-use Rattle.std.proofs.Common.{◌≡◌, ℕ, ◌+◌, ◌≤◌, ◌<◌, ◌==◌, Bool, true, false, cond, Option, Some, None, Result, Ok, Err, List, [], ◌∷◌, ◌++◌, length, map, filter, sum_by, get_or, refl, ap, sym, subst, ◌∙◌, arith}
-use Rattle.std.specs.List.{All, AllPairs, Any, Contains}
+use Rattle.std.proofs.Common.{◌≡◌, ℕ, ◌+◌, ◌≤◌, ◌<◌, ◌==◌, Bool, true, false, cond, Option, None, Ok, List, [], ◌∷◌, ◌++◌, length, map, filter, sum_by, refl, ap, sym, subst, ◌∙◌, arith}
+use Rattle.std.specs.List.{All, Any, Contains}
 use Rattle.std.proofs.lemmas.Bool.{lt-leb, lt-ltb, le-leb, ne_eqb, cond-false}
-use Rattle.std.proofs.lemmas.List.{map-append, append_assoc, length-map, get_or-map}
+use Rattle.std.proofs.lemmas.List.{map-append, length-map, get_or-map}
 use Rattle.std.proofs.lemmas.List.Elements.{All-nil, All-cons, Contains-append_left, Contains-append_right, All-map, All-filter, All-weaker, All-contains}
 use Rattle.admission.specs.declared.budget.Held.{Held}
-use Rattle.admission.specs.declared.budget.NoRoom.{NoRoom}
 use Rattle.admission.specs.declared.measure.TheConstants.{SCALE}
 use Rattle.admission.specs.Load.{load_of}
-use Rattle.admission.specs.Reservation.{Reservation, is_before_end, natural_end, end_of_reservation}
-use Rattle.admission.specs.Table.{answer_for, ends_at}
+use Rattle.admission.specs.Reservation.{is_before_end, natural_end, end_of_reservation}
+use Rattle.admission.specs.Table.{answer_for}
 use Rattle.scheduler.specs.Message.{Message, stopped_if, stopped_at}
 use Rattle.scheduler.specs.Air.{Air}
 use Rattle.scheduler.specs.Follows.{Kept as Planned, messages_of, Follows}
@@ -20,13 +19,13 @@ use Rattle.bsc_table.specs.Record.{Record, Accepted, accepted_in, messages_in, i
 use Rattle.bsc_table.specs.Answer.{answer_with_room, answer_of}
 use Rattle.bsc_table.specs.Legal.{IsLegal}
 use Rattle.bsc_table.specs.Book.{accepted_of, kept_stopped, stop_numbered, IsBegun, IsNext, with_entry, line_of, lines_at}
-use Rattle.bsc_table.proofs.Named.{BelowIt, live_is_standing}
-use Rattle.bsc_table.proofs.Numbers.{numbers_rise, numbers_below}
+use Rattle.bsc_table.proofs.Named.{live_is_standing}
+use Rattle.bsc_table.proofs.Numbers.{numbers_below}
 use Rattle.bsc_table.proofs.Outcome.{entry_with, messages_stopped}
-use Rattle.bsc_table.proofs.Entered.{IsLegal-entry, standing_number}
-use Rattle.bsc_table.proofs.Rooms.{SameRoom, same_room, live_is_counted, lines_at-new}
-use Rattle.bsc_table.proofs.Sound.{BeginsBy, IsSound-legal}
-use Rattle.bsc_table.proofs.Booked.{Contains-message, lines_without}
+use Rattle.bsc_table.proofs.Entered.{IsLegal-entry}
+use Rattle.bsc_table.proofs.Rooms.{same_room, live_is_counted, lines_at-new}
+use Rattle.bsc_table.proofs.Sound.{BeginsBy}
+use Rattle.bsc_table.proofs.Booked.{Contains-message}
 
 -- where the log has room, cause 08 doesn't apply
 pub answer-with_room : (r : Record) (e : Entry) → length r.log < 4096 → answer_of r.slots r.log r.air r.clock e.command ≡ answer_with_room r.slots r.log r.air r.clock e.command
@@ -37,7 +36,7 @@ answer-with_room r e room =
 pub IsLegal-with : (r : Record) (e : Entry) → IsLegal r → IsNext r e → IsLegal (with_entry e r)
 IsLegal-with r e legal next =
     let same : entry_with e.command r.clock (answer_of r.slots r.log r.air r.clock e.command) ≡ e =
-        ap (λ (answer : Answer). entry_with e.command r.clock answer) (answer-with_room r e next.room ∙ sym next.right) ∙ ap (λ (slot : ℕ). entry_with e.command slot e.answer) (sym next.now) in
+    ap (λ (answer : Answer). entry_with e.command r.clock answer) (answer-with_room r e next.room ∙ sym next.right) ∙ ap (λ (slot : ℕ). entry_with e.command slot e.answer) (sym next.now) in
     let P : Entry → Type 0 = λ x. IsLegal (with_entry x r) in
     subst P same (IsLegal-entry r e.command legal next.room next.formed)
 
@@ -113,7 +112,7 @@ pub standing_beside : (plan : Planned) (slot : ℕ) (log : List Entry) (a : Acce
 standing_beside plan slot log a told m same found =
     let P : List Message → Type 0 = λ messages. Any (λ (x : Message). (x.number ≡ a.message.number) × (x.stop ≡ None)) messages in
     let there : Contains (told ++ m ∷ []) found.1 =
-        Contains-append_left told (m ∷ []) found.1 (found.0, found.2, found.3) in
+    Contains-append_left told (m ∷ []) found.1 (found.0, found.2, found.3) in
     subst P (sym same) (there.0, found.1, there.1, there.2, found.4)
 
 -- and its line is held
@@ -134,7 +133,7 @@ held_in slot log a there live =
     let lines : List Held = map line_of (messages_in log) in
     let message = Contains-message log a there in
     let line : Contains lines (line_of a.message) =
-        (message.0, omega (arith, length-map (messages_in log) line_of, message.1), get_or-map line_of (messages_in log) message.0 a.message (line_of a.message) message.1 ∙ ap line_of message.2) in
+    (message.0, omega (arith, length-map (messages_in log) line_of, message.1), get_or-map line_of (messages_in log) message.0 a.message (line_of a.message) message.1 ∙ ap line_of message.2) in
     let kept = All-contains (λ (h : Held). p h ≡ true → Contains (filter p lines) h) lines (line_of a.message) (all_that_pass p lines) line (live_is_counted slot a.message live) in
     (kept.0, line_of a.message, kept.1, kept.2, refl)
 

@@ -19,3 +19,4 @@ pub mod Booked
 pub mod Accepting
 pub mod Entering
 pub mod Deciding
+pub mod Ordered

@@ -1,9 +1,9 @@
 -- What an entry with the right answer does to the accepted messages: it stops a live one or none, and adds an admitted one or none.
-use Rattle.std.proofs.Common.{◌≡◌, ℕ, ◌+◌, ◌≤◌, ◌<◌, ◌==◌, Bool, true, false, cond, ◌&&◌, Option, Some, None, List, [], ◌∷◌, ◌++◌, length, map, sum_by, get_or, refl, ap, sym, subst, ◌∙◌, inl, inr, arith, ltb, leb}
-use Rattle.std.specs.List.{All, AllPairs, Contains, find}
+use Rattle.std.proofs.Common.{◌≡◌, ℕ, ◌+◌, ◌≤◌, ◌<◌, ◌==◌, Bool, true, false, cond, Option, Some, None, List, [], ◌∷◌, ◌++◌, length, map, sum_by, get_or, refl, ap, sym, subst, ◌∙◌, arith, ltb, leb}
+use Rattle.std.specs.List.{AllPairs, Contains, find}
 use Rattle.std.specs.Option.{IfSome}
-use Rattle.std.proofs.lemmas.Bool.{cases_Bool, cond_both, leb-false, ltb-false}
-use Rattle.std.proofs.lemmas.List.{append-nil, map-append, map-id}
+use Rattle.std.proofs.lemmas.Bool.{cond_both, leb-false, ltb-false}
+use Rattle.std.proofs.lemmas.List.{append-nil, map-id}
 use Rattle.std.proofs.lemmas.List.Elements.{All-contains_itself}
 use Rattle.admission.specs.declared.measure.TheConstants.{SCALE}
 use Rattle.admission.specs.Load.{load_of}
@@ -18,14 +18,13 @@ use Rattle.bsc_table.specs.declared.command.Command.{Command}
 use Rattle.bsc_table.specs.declared.command.Command.TheVariants as commands
 use Rattle.bsc_table.specs.declared.entry.Answer.{Answer}
 use Rattle.bsc_table.specs.declared.entry.Answer.TheVariants as answers
-use Rattle.bsc_table.specs.declared.entry.State.{State}
 use Rattle.bsc_table.specs.declared.entry.Entry.{Entry}
 use Rattle.bsc_table.specs.Orders.{IsBroadcastable, IsWellFormed}
 use Rattle.bsc_table.specs.Record.{Accepted, start_of, is_stop_by, is_stop_of, accepted_with, accepted_in, messages_in, is_high, is_of_pair, message_told, message_named, is_live, reserved_at}
 use Rattle.bsc_table.specs.Answer.{answer_beside, answer_to_new, answer_to_replacement, unless_accepted, of_live, answer_to_write, answer_to_kill, told_of, before_end, answer_with_room, answer_of}
 use Rattle.bsc_table.specs.Book.{stop_numbered, IsBegun}
-use Rattle.bsc_table.proofs.Appended.{stop_after, accepted_after, accepted_in-push}
-use Rattle.bsc_table.proofs.Named.{OfAnotherPair, BelowIt, stopped_once, stopped_once-false, map_agree, All-find, stopped_by_pair, live_is_standing}
+use Rattle.bsc_table.proofs.Appended.{accepted_after, accepted_in-push}
+use Rattle.bsc_table.proofs.Named.{OfAnotherPair, stopped_once-false, map_agree, All-find, stopped_by_pair, live_is_standing}
 use Rattle.bsc_table.proofs.Numbers.{numbers_rise}
 
 abbrev pub entry_with : Command → ℕ → Answer → Entry

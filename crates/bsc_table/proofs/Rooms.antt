@@ -1,19 +1,17 @@
 -- What a budget holds at the clock, against the reservations of the accepted messages.
-use Rattle.std.proofs.Common.{◌≡◌, ◌≢◌, ℕ, ◌+◌, ◌*◌, ◌≤◌, ◌<◌, ◌==◌, Bool, true, false, cond, not, ◌&&◌, ◌||◌, Option, Some, None, is_some, Result, Ok, Err, List, [], ◌∷◌, ◌++◌, length, map, filter, sum_by, get_or, refl, ap, sym, subst, ◌∙◌, inl, inr, arith, ltb, leb}
-use Rattle.std.specs.List.{All, Any, Contains}
-use Rattle.std.proofs.lemmas.Bool.{cases_Bool, cases_eq, true≢false, le-ltb, and_parts, eq-eqb, ne_eqb, le-leb, lt-ltb, lt-leb, cases_lt, leb-true, ltb-true, ltb-false, leb-false, cond_both, cond-true, cond-false, or_cases, eqb-true, eqb-false}
-use Rattle.std.proofs.lemmas.List.Elements.{All-head, All-tail, All-nil, All-cons, filter-append, All-filter, All-map, filter_passes}
+use Rattle.std.proofs.Common.{◌≡◌, ℕ, ◌+◌, ◌*◌, ◌≤◌, ◌<◌, ◌==◌, Bool, true, false, cond, not, ◌&&◌, ◌||◌, Option, Some, None, is_some, Ok, Err, List, [], ◌∷◌, ◌++◌, length, map, filter, sum_by, refl, ap, sym, subst, ◌∙◌, inl, inr, arith, ltb, leb}
+use Rattle.std.specs.List.{All}
+use Rattle.std.proofs.lemmas.Bool.{cases_eq, true≢false, le-ltb, and_parts, eq-eqb, ne_eqb, le-leb, lt-ltb, lt-leb, cases_lt, cond-false, eqb-true}
+use Rattle.std.proofs.lemmas.List.Elements.{All-head, All-tail, filter-append}
 use Rattle.std.proofs.Math.Nat.{mul-pos}
 use Rattle.std.proofs.lemmas.List.{map-append}
 use Rattle.std.proofs.lemmas.List.Sums.{sum_by-cons}
 use Rattle.admission.specs.declared.budget.Held.{Held}
-use Rattle.admission.specs.declared.budget.NoRoom.{NoRoom}
 use Rattle.admission.specs.declared.budget.NoRoom.TheVariants as no_rooms
 use Rattle.admission.specs.declared.measure.TheConstants.{SCALE}
 use Rattle.admission.specs.Load.{load_of}
 use Rattle.admission.specs.Reservation.{Reservation, is_before_end, is_reserved_at, end_of_reservation, end_of_stopped, natural_end}
 use Rattle.admission.specs.Table.{answer_of as answer_by, answer_for, remaining_without, ends_if, ends_at}
-use Rattle.admission.proofs.Reservations.{is_before_end-from}
 use Rattle.scheduler.specs.Message.{Message, stopped_if, stopped_at}
 use Rattle.bsc_table.specs.Guarantee.{reservation_of}
 use Rattle.bsc_table.specs.declared.entry.Answer.{Answer}

@@ -1,28 +1,21 @@
 -- Of a legal history: each pair was accepted once, and no message begins after the clock.
-use Rattle.std.proofs.Common.{◌≡◌, ℕ, zero, suc, ◌+◌, ◌≤◌, ◌<◌, ◌==◌, Bool, true, false, cond, ◌&&◌, Option, Some, None, List, [], ◌∷◌, ◌++◌, length, take, map, get_or, refl, ap, sym, subst, ◌∙◌, inl, inr, arith}
-use Rattle.std.specs.List.{All, AllPairs, Contains, find}
+use Rattle.std.proofs.Common.{◌≡◌, ℕ, zero, suc, ◌≤◌, ◌<◌, ◌==◌, Bool, false, ◌&&◌, Option, Some, None, List, [], ◌∷◌, ◌++◌, length, take, map, get_or, refl, ap, sym, subst, ◌∙◌, inl, inr, arith}
+use Rattle.std.specs.List.{All, AllPairs, find}
 use Rattle.std.specs.Option.{IfSome}
 use Rattle.std.proofs.lemmas.Bool.{cases_Bool, cases_eq, eq-eqb, ne_eqb}
 use Rattle.std.proofs.lemmas.Option.{none-some}
 use Rattle.std.proofs.Math.Seq.{take-suc}
-use Rattle.std.proofs.lemmas.List.{get_or_default, take_all, take_at, take-append-le, length-take-le, get_or-take, get_or_append_left, get_or_push, length_push}
-use Rattle.std.proofs.lemmas.List.Elements.{All-nil, All-cons, All-push, All-map, All-weaker, All-take, All-same, All-contains}
+use Rattle.std.proofs.lemmas.List.{get_or_default, take_all, length-take-le, get_or-take}
+use Rattle.std.proofs.lemmas.List.Elements.{All-nil, All-cons, All-push, All-map, All-weaker, All-take}
 use Rattle.std.proofs.lemmas.List.Kept.{AllPairs-cons}
 use Rattle.std.proofs.lemmas.List.Quantifiers.{all_pairs_push}
-use Rattle.scheduler.specs.Message.{Message, stopped_at}
-use Rattle.scheduler.specs.Air.{Air, IsAirOf}
-use Rattle.scheduler.proofs.Rule.{IsAirOf-add, IsAirOf-stop}
-use Rattle.bsc_table.specs.declared.command.Command.{Command}
 use Rattle.bsc_table.specs.declared.entry.Answer.{Answer}
 use Rattle.bsc_table.specs.declared.entry.Entry.{Entry}
-use Rattle.bsc_table.specs.Orders.{IsWellFormed}
-use Rattle.bsc_table.specs.Record.{Record, Accepted, accepted_in, messages_in, is_of_pair, is_live}
-use Rattle.bsc_table.specs.Answer.{answer_of}
-use Rattle.bsc_table.specs.Legal.{IsAnswered, IsLegal}
-use Rattle.bsc_table.proofs.Named.{OfAnotherPair, BelowIt, AllPairs-head, AllPairs-tail, live_is_standing}
-use Rattle.bsc_table.proofs.Numbers.{numbers_rise, numbers_below}
+use Rattle.bsc_table.specs.Record.{Record, Accepted, accepted_in, is_of_pair}
+use Rattle.bsc_table.specs.Legal.{IsLegal}
+use Rattle.bsc_table.proofs.Named.{OfAnotherPair, AllPairs-head, AllPairs-tail}
 use Rattle.bsc_table.specs.Book.{stop_numbered, IsBegun}
-use Rattle.bsc_table.proofs.Outcome.{Outcome, entry_with, with, without, outcome_of, messages_stopped}
+use Rattle.bsc_table.proofs.Outcome.{Outcome, entry_with, with, without, outcome_of}
 
 -- the message begins at the slot or before it
 abbrev pub BeginsBy : ℕ → Accepted → Type 0

@@ -304,7 +304,9 @@ impl CellBook {
         self.log.reserve(1)?;
         self.accepted.reserve(1)?;
         self.plan.add(new.item())?;
-        let _ = self.budget.reserve(new.number, new.load(), new.natural_end());
+        let _ = self
+            .budget
+            .reserve(new.number, new.load(), new.natural_end());
         push_within(&mut self.accepted, new);
         push_within(&mut self.log, entry);
         Ok(())
@@ -327,7 +329,9 @@ impl CellBook {
         kept::stop(self.accepted.as_mut_slice(), old.number, self.clock);
         let _ = self.plan.stop(old.number, self.clock);
         release(&mut self.budget, old, self.clock);
-        let _ = self.budget.reserve(new.number, new.load(), new.natural_end());
+        let _ = self
+            .budget
+            .reserve(new.number, new.load(), new.natural_end());
         push_within(&mut self.accepted, new);
         push_within(&mut self.log, entry);
         Ok(())

@@ -1,7 +1,8 @@
 //! Orders: the cells that a message of the warning centre names, and the command to each of them.
 
-ghost use Rattle.std.specs.Prelude.{◌≡◌, Ok, Err, MatchResult};
-ghost use Rattle.bsc_table.specs.Orders.{order_of, category_of, is_basic};
+ghost use Rattle.std.specs.Prelude.{◌≡◌, ℕ, List, Ok, Err, IfOk, MatchResult};
+ghost use Rattle.cbsp_wire.specs.Meaning.{IsMessage};
+ghost use Rattle.bsc_table.specs.Orders.{IsWellFormed, order_of, category_of, is_basic};
 
 use crate::command::{Category, Command};
 use cbsp_wire::{Cell, Message};
@@ -35,7 +36,10 @@ fn is_basic(channel: Option<u8>) -> bool
 /// The first of these causes (3GPP TS 48.049, 8.2, Cause) that applies: 04 for a reply, which is no order; 01 for a category
 /// other than high and normal; 0C for a channel other than the basic one.
 pub fn orders_of(message: Message) -> Result<(Vec<Cell>, Command), u8>
-    ensures { MatchResult result (λ order. order_of message ≡ Ok (order.0.items, order.1)) (λ cause. order_of message ≡ Err cause) }
+    ensures order { MatchResult result (λ order. order_of message ≡ Ok (order.0.items, order.1)) (λ cause. order_of message ≡ Err cause) }
+
+    // Of a message that octets mean, which is what is read, the command is well-formed.
+    ensures formed { (octets : List ℕ) → IsMessage octets message → IfOk result (λ order. IsWellFormed order.1) }
 {
     match message {
         Message::Write {

@@ -1,15 +1,14 @@
-use Rattle.std.proofs.Common.{◌≡◌, ℕ, ◌==◌, true, cond, Option, Some, None, List, subst, sym, ap, ◌∙◌, arith}
+use Rattle.std.proofs.Common.{◌≡◌, ℕ, ◌==◌, true, cond, Option, Some, None, List, subst, sym, ap, ◌∙◌}
 use Rattle.std.specs.List.{Contains}
 use Rattle.std.proofs.lemmas.List.Elements.{All-contains}
-use Rattle.std.proofs.lemmas.Bool.{eq-eqb, ne_eqb}
 use Rattle.admission.specs.declared.budget.Held.{Held}
 use Rattle.admission.specs.Reservation.{end_of_stopped}
 use Rattle.admission.specs.Table.{answer_for, remaining_without}
 use Rattle.scheduler.specs.Completed.{completed}
 use Rattle.bsc_table.specs.declared.entry.Answer.TheVariants as answers
-use Rattle.bsc_table.specs.Record.{Record, Accepted, accepted_in, messages_in, is_live}
+use Rattle.bsc_table.specs.Record.{Record, Accepted, accepted_in, is_live}
 use Rattle.bsc_table.specs.Answer.{answer_to_replacement}
-use Rattle.bsc_table.specs.Book.{accepted_of, record_of, lines_at, by_room}
+use Rattle.bsc_table.specs.Book.{accepted_of, record_of, by_room}
 use Rattle.bsc_table.proofs.Sound.{HasLoad, IsSound-legal}
 use Rattle.bsc_table.proofs.Booked.{replacement_by_room}
 use Rattle.bsc_table.proofs.book.CellBook.answer_to_replacement.Goals as goal

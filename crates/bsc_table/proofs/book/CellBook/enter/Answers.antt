@@ -1,4 +1,4 @@
-use Rattle.std.proofs.Common.{◌≡◌, ◌<◌, ℕ, true, false, Bool, is_some, Option, Some, None, List, [], ◌∷◌, ◌++◌, length, map, subst, sym, ap, ◌∙◌, arith}
+use Rattle.std.proofs.Common.{◌≡◌, ℕ, true, false, Bool, is_some, Option, Some, None, List, [], ◌∷◌, ◌++◌, length, map, subst, sym, ap, ◌∙◌, arith}
 use Rattle.cbs_page.specs.declared.content.Content.{Content}
 use Rattle.bsc_table.specs.declared.command.Category.{Category}
 use Rattle.bsc_table.specs.declared.command.Command.{Command}
@@ -81,7 +81,7 @@ enter_new-requires-clause-started c =
     let answer : Answer = c.args.answer in
     let inside = sym c.self.view_is in
     let written : c.args.command.now ≡ commands.Write w.id w.serial None w.category w.period w.broadcasts w.dcs w.contents =
-        w.is ∙ ap (λ (x : Option ℕ). commands.Write w.id w.serial x w.category w.period w.broadcasts w.dcs w.contents) c.in-None-replaces.is in
+    w.is ∙ ap (λ (x : Option ℕ). commands.Write w.id w.serial x w.category w.period w.broadcasts w.dcs w.contents) c.in-None-replaces.is in
     let write : Command = commands.Write w.id w.serial None w.category w.period w.broadcasts w.dcs w.contents in
     let new : Accepted = new_message (length r.log) r.clock w.id w.serial w.category w.period w.broadcasts w.contents in
     let Right : Record → Type 0 = λ x. answer ≡ answer_with_room x.slots x.log x.air x.clock write in
@@ -90,7 +90,7 @@ enter_new-requires-clause-started c =
     let formed : IsWellFormed write = subst IsWellFormed written c.requires.formed in
     let after = started r w.id w.serial w.category w.period w.broadcasts w.dcs w.contents answer formed (subst Right inside right) starts in
     let same : made c.len.result r.clock w.id w.serial c.len-in-Write-2.result w.period w.broadcasts c.is_high.result ≡ new =
-        made_is c.len.result r.clock w.id w.serial c.len-in-Write-2.result w.period w.broadcasts c.is_high.result (length r.log) w.category w.contents (omega (arith, c.len.ensures, c.self.inside.log.ok.0)) (omega (arith, c.len-in-Write-2.ensures, c.contents.inside.list.ok.0, ap length c.contents.view_is)) c.is_high.ensures in
+    made_is c.len.result r.clock w.id w.serial c.len-in-Write-2.result w.period w.broadcasts c.is_high.result (length r.log) w.category w.contents (omega (arith, c.len.ensures, c.self.inside.log.ok.0)) (omega (arith, c.len-in-Write-2.ensures, c.contents.inside.list.ok.0, ap length c.contents.view_is)) c.is_high.ensures in
     let After : Record → Type 0 = λ x. accepted_in (x.log ++ entry_with write r.clock answer ∷ []) ≡ accepted_in x.log ++ new ∷ [] in
     let Entered : Command → Type 0 = λ x. accepted_in (c.args.self.now.log ++ entry_with x r.clock answer ∷ []) ≡ accepted_in c.args.self.now.log ++ new ∷ [] in
     let New : Accepted → Type 0 = λ a. accepted_in (c.args.self.now.log ++ entry_with c.in_ok-copy.field-0 r.clock answer ∷ []) ≡ accepted_in c.args.self.now.log ++ a ∷ [] in
@@ -110,7 +110,7 @@ enter_replacement-requires-clause-begun c =
     let inside = sym c.self.view_is in
     let write : Command = commands.Write w.id w.serial (Some replaced_serial) w.category w.period w.broadcasts w.dcs w.contents in
     let written : c.args.command.now ≡ write =
-        w.is ∙ ap (λ (x : Option ℕ). commands.Write w.id w.serial x w.category w.period w.broadcasts w.dcs w.contents) c.in-Some-replaces.is in
+    w.is ∙ ap (λ (x : Option ℕ). commands.Write w.id w.serial x w.category w.period w.broadcasts w.dcs w.contents) c.in-Some-replaces.is in
     let new : Accepted = new_message (length r.log) r.clock w.id w.serial w.category w.period w.broadcasts w.contents in
     let Right : Record → Type 0 = λ x. answer ≡ answer_with_room x.slots x.log x.air x.clock write in
     let Live : Record → Type 0 = λ x. IsLiveAs x.clock w.id replaced_serial x.log old in
@@ -119,7 +119,7 @@ enter_replacement-requires-clause-begun c =
     let formed : IsWellFormed write = subst IsWellFormed written c.requires.formed in
     let facts = replaced r w.id w.serial replaced_serial w.category w.period w.broadcasts w.dcs w.contents answer old c.self.invariant.legal formed (subst Right inside right) starts (subst Live inside c.in-Some-live.ensures) in
     let same : made c.len.result r.clock w.id w.serial c.len-in-Write-2.result w.period w.broadcasts c.is_high.result ≡ new =
-        made_is c.len.result r.clock w.id w.serial c.len-in-Write-2.result w.period w.broadcasts c.is_high.result (length r.log) w.category w.contents (omega (arith, c.len.ensures, c.self.inside.log.ok.0)) (omega (arith, c.len-in-Write-2.ensures, c.contents.inside.list.ok.0, ap length c.contents.view_is)) c.is_high.ensures in
+    made_is c.len.result r.clock w.id w.serial c.len-in-Write-2.result w.period w.broadcasts c.is_high.result (length r.log) w.category w.contents (omega (arith, c.len.ensures, c.self.inside.log.ok.0)) (omega (arith, c.len-in-Write-2.ensures, c.contents.inside.list.ok.0, ap length c.contents.view_is)) c.is_high.ensures in
     let May : Record → Type 0 = λ x. IsBegun (length x.log) x.clock (map (stop_numbered old.message.number x.clock) (accepted_in x.log)) new in
     let New : Accepted → Type 0 = λ a. IsBegun (length c.args.self.now.log) c.args.self.now.clock (map (stop_numbered old.message.number c.args.self.now.clock) (accepted_in c.args.self.now.log)) a in
     subst New (sym same) (subst May c.self.view_is facts.0)
@@ -134,7 +134,7 @@ enter_replacement-requires-clause-replaced c =
     let inside = sym c.self.view_is in
     let write : Command = commands.Write w.id w.serial (Some replaced_serial) w.category w.period w.broadcasts w.dcs w.contents in
     let written : c.args.command.now ≡ write =
-        w.is ∙ ap (λ (x : Option ℕ). commands.Write w.id w.serial x w.category w.period w.broadcasts w.dcs w.contents) c.in-Some-replaces.is in
+    w.is ∙ ap (λ (x : Option ℕ). commands.Write w.id w.serial x w.category w.period w.broadcasts w.dcs w.contents) c.in-Some-replaces.is in
     let new : Accepted = new_message (length r.log) r.clock w.id w.serial w.category w.period w.broadcasts w.contents in
     let Right : Record → Type 0 = λ x. answer ≡ answer_with_room x.slots x.log x.air x.clock write in
     let Live : Record → Type 0 = λ x. IsLiveAs x.clock w.id replaced_serial x.log old in
@@ -143,7 +143,7 @@ enter_replacement-requires-clause-replaced c =
     let formed : IsWellFormed write = subst IsWellFormed written c.requires.formed in
     let facts = replaced r w.id w.serial replaced_serial w.category w.period w.broadcasts w.dcs w.contents answer old c.self.invariant.legal formed (subst Right inside right) starts (subst Live inside c.in-Some-live.ensures) in
     let same : made c.len.result r.clock w.id w.serial c.len-in-Write-2.result w.period w.broadcasts c.is_high.result ≡ new =
-        made_is c.len.result r.clock w.id w.serial c.len-in-Write-2.result w.period w.broadcasts c.is_high.result (length r.log) w.category w.contents (omega (arith, c.len.ensures, c.self.inside.log.ok.0)) (omega (arith, c.len-in-Write-2.ensures, c.contents.inside.list.ok.0, ap length c.contents.view_is)) c.is_high.ensures in
+    made_is c.len.result r.clock w.id w.serial c.len-in-Write-2.result w.period w.broadcasts c.is_high.result (length r.log) w.category w.contents (omega (arith, c.len.ensures, c.self.inside.log.ok.0)) (omega (arith, c.len-in-Write-2.ensures, c.contents.inside.list.ok.0, ap length c.contents.view_is)) c.is_high.ensures in
     let After : Record → Type 0 = λ x. accepted_in (x.log ++ entry_with write r.clock answer ∷ []) ≡ map (stop_numbered old.message.number x.clock) (accepted_in x.log) ++ new ∷ [] in
     let Entered : Command → Type 0 = λ x. accepted_in (c.args.self.now.log ++ entry_with x r.clock answer ∷ []) ≡ map (stop_numbered old.message.number c.args.self.now.clock) (accepted_in c.args.self.now.log) ++ new ∷ [] in
     let New : Accepted → Type 0 = λ a. accepted_in (c.args.self.now.log ++ entry_with c.in_ok-copy.field-0 r.clock answer ∷ []) ≡ map (stop_numbered old.message.number c.args.self.now.clock) (accepted_in c.args.self.now.log) ++ a ∷ [] in

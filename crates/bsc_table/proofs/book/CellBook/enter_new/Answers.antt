@@ -1,16 +1,16 @@
-use Rattle.std.proofs.Common.{◌≡◌, ◌<◌, ℕ, Option, Result, Ok, List, [], ◌∷◌, ◌++◌, length, map, subst, sym, ap, ◌∙◌, arith}
+use Rattle.std.proofs.Common.{◌≡◌, ◌<◌, ℕ, Result, List, [], ◌∷◌, ◌++◌, length, map, subst, sym, ap, ◌∙◌, arith}
 use Rattle.std.specs.List.{All}
 use Rattle.std.specs.Result.{OnOk}
 use Rattle.admission.specs.declared.budget.Held.{Held}
 use Rattle.admission.specs.declared.budget.NoRoom.{NoRoom}
 use Rattle.admission.specs.Table.{answer_for}
 use Rattle.scheduler.specs.Message.{Message}
-use Rattle.scheduler.specs.Follows.{Follows, messages_of, message_from}
+use Rattle.scheduler.specs.Follows.{Follows, message_from}
 use Rattle.bsc_table.specs.declared.entry.Entry.{Entry}
 use Rattle.bsc_table.specs.declared.kept.Kept.{Kept}
 use Rattle.bsc_table.specs.Record.{Record, Accepted, accepted_in, messages_in}
 use Rattle.bsc_table.specs.Legal.{IsLegal}
-use Rattle.bsc_table.specs.Book.{accepted_of, record_of, line_of, lines_at, IsBegun, IsNext}
+use Rattle.bsc_table.specs.Book.{accepted_of, record_of, lines_at, IsBegun, IsNext}
 use Rattle.bsc_table.proofs.Sound.{IsSound-legal}
 use Rattle.bsc_table.proofs.Entering.{IsLegal-with, messages_with, kept_more, planned_below, held_below, item_message, begun_line, begun_room, begun_lines}
 use Rattle.bsc_table.proofs.book.CellBook.enter_new.Goals as goal

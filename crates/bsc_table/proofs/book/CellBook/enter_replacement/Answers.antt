@@ -1,4 +1,4 @@
-use Rattle.std.proofs.Common.{◌≡◌, ◌<◌, ◌==◌, true, ℕ, Option, None, Result, Ok, List, [], ◌∷◌, ◌++◌, length, map, filter, subst, sym, ap, ◌∙◌, arith}
+use Rattle.std.proofs.Common.{◌≡◌, ◌<◌, true, ℕ, Result, List, [], ◌∷◌, ◌++◌, length, map, filter, subst, sym, ap, ◌∙◌, arith}
 use Rattle.std.specs.Vec.{vec_len, with_items}
 use Rattle.std.specs.List.{All, Any, Contains}
 use Rattle.std.specs.Result.{OnOk}
@@ -11,12 +11,11 @@ use Rattle.admission.specs.Table.{answer_for, ends_at}
 use Rattle.scheduler.specs.Message.{Message, stopped_at}
 use Rattle.scheduler.specs.Follows.{Follows, messages_of, message_from}
 use Rattle.bsc_table.specs.declared.entry.Entry.{Entry}
-use Rattle.bsc_table.specs.declared.kept.Kept.{Kept}
 use Rattle.bsc_table.specs.Record.{Record, Accepted, accepted_in, messages_in, is_live}
 use Rattle.bsc_table.specs.Legal.{IsLegal}
 use Rattle.bsc_table.specs.Book.{accepted_of, kept_stopped, stop_numbered, record_of, line_of, lines_at, IsBegun, IsNext}
 use Rattle.bsc_table.proofs.Outcome.{messages_stopped}
-use Rattle.bsc_table.proofs.Sound.{BeginsBy, HasLoad, IsSound-legal}
+use Rattle.bsc_table.proofs.Sound.{HasLoad, IsSound-legal}
 use Rattle.bsc_table.proofs.Booked.{lines_without}
 use Rattle.bsc_table.proofs.Entering.{IsLegal-with, messages_with, kept_stop, kept_more, planned_below, held_below_without, number_below, standing_in, standing_beside, held_in, item_message, begun_line, begun_room, begun_lines, stopped_beside, stopped_begun}
 use Rattle.bsc_table.proofs.book.CellBook.enter_replacement.Goals as goal
@@ -101,9 +100,9 @@ invariant_of-self-2 c =
     -- the log and what is kept
     let grown = sym (c.push_within-2.ensures.items ∙ ap (λ (l : List Entry). l ++ e ∷ []) c.reserve.ensures.items) in
     let table : c.stop.new.table ≡ map (kept_stopped number r.clock) c.self.inside.accepted.items =
-        c.stop.ensures ∙ ap (map (kept_stopped number r.clock)) (c.as_mut_slice.ensures.value ∙ c.reserve-2.ensures.items) in
+    c.stop.ensures ∙ ap (map (kept_stopped number r.clock)) (c.as_mut_slice.ensures.value ∙ c.reserve-2.ensures.items) in
     let long : length c.stop.new.table ≡ vec_len c.reserve-2.new.self =
-        ap length c.stop.ensures ∙ length-map c.as_mut_slice.result.now (kept_stopped number r.clock) ∙ c.as_mut_slice.ensures.len in
+    ap length c.stop.ensures ∙ length-map c.as_mut_slice.result.now (kept_stopped number r.clock) ∙ c.as_mut_slice.ensures.len in
     let written = with_items_is c.reserve-2.new.self c.stop.new.table long ∙ table in
     let stopped = ap (map accepted_of) written ∙ kept_stop number r.clock c.self.inside.accepted.items ∙ ap (map (stop_numbered number r.clock)) book.kept in
     let kept = ap (map accepted_of) c.push_within.ensures.items ∙ kept_more (with_items c.reserve-2.new.self c.stop.new.table).items c.args.new rest stopped ∙ sym replaces in

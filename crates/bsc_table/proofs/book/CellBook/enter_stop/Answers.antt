@@ -1,15 +1,14 @@
-use Rattle.std.proofs.Common.{◌≡◌, ◌<◌, ◌==◌, true, ℕ, Option, None, Result, Ok, List, [], ◌∷◌, ◌++◌, length, map, filter, subst, sym, ap, ◌∙◌, arith}
+use Rattle.std.proofs.Common.{◌≡◌, true, ℕ, List, [], ◌∷◌, ◌++◌, length, map, filter, subst, sym, ap, ◌∙◌}
 use Rattle.std.specs.Vec.{vec_len, with_items}
-use Rattle.std.specs.List.{All, Any, Contains}
+use Rattle.std.specs.List.{Any, Contains}
 use Rattle.std.proofs.lemmas.List.{length-map, with_items_is}
 use Rattle.std.proofs.lemmas.List.Elements.{All-contains}
 use Rattle.admission.specs.declared.budget.Held.{Held}
 use Rattle.admission.specs.Reservation.{is_before_end, end_of_stopped}
 use Rattle.admission.specs.Table.{ends_at}
-use Rattle.scheduler.specs.Message.{Message, stopped_at}
-use Rattle.scheduler.specs.Follows.{Follows, messages_of}
+use Rattle.scheduler.specs.Message.{Message}
+use Rattle.scheduler.specs.Follows.{Follows}
 use Rattle.bsc_table.specs.declared.entry.Entry.{Entry}
-use Rattle.bsc_table.specs.declared.kept.Kept.{Kept}
 use Rattle.bsc_table.specs.Record.{Record, Accepted, accepted_in, messages_in, is_live}
 use Rattle.bsc_table.specs.Legal.{IsLegal}
 use Rattle.bsc_table.specs.Book.{accepted_of, kept_stopped, stop_numbered, record_of, lines_at, IsNext}
@@ -65,9 +64,9 @@ invariant_of-self-2 c =
     -- the log and what is kept
     let grown = sym (c.push_within.ensures.items ∙ ap (λ (l : List Entry). l ++ e ∷ []) c.reserve.ensures.items) in
     let kept : c.stop.new.table ≡ map (kept_stopped number r.clock) c.self.inside.accepted.items =
-        c.stop.ensures ∙ ap (map (kept_stopped number r.clock)) c.as_mut_slice.ensures.value in
+    c.stop.ensures ∙ ap (map (kept_stopped number r.clock)) c.as_mut_slice.ensures.value in
     let long : length c.stop.new.table ≡ vec_len c.self.inside.accepted =
-        ap length c.stop.ensures ∙ length-map c.as_mut_slice.result.now (kept_stopped number r.clock) ∙ c.as_mut_slice.ensures.len in
+    ap length c.stop.ensures ∙ length-map c.as_mut_slice.result.now (kept_stopped number r.clock) ∙ c.as_mut_slice.ensures.len in
     let written = with_items_is c.self.inside.accepted c.stop.new.table long ∙ kept in
     let fewer = ap (map accepted_of) written ∙ kept_stop number r.clock c.self.inside.accepted.items ∙ ap (map (stop_numbered number r.clock)) book.kept ∙ sym stops in
     -- the plan and the budget
