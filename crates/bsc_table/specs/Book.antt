@@ -16,7 +16,7 @@ use Rattle.bsc_table.specs.declared.entry.Aired.{Aired}
 use Rattle.bsc_table.specs.declared.entry.Entry.{Entry}
 use Rattle.bsc_table.specs.declared.kept.Kept.{Kept}
 use Rattle.bsc_table.specs.declared.book.CellBook.TheInside.{Inside}
-use Rattle.bsc_table.specs.declared.book.CellRecord.TheInside as kept
+use Rattle.bsc_table.specs.declared.record.CellRecord.TheInside as kept
 use Rattle.bsc_table.specs.Record.{Record, Accepted, accepted_in, messages_in, is_of_pair, is_live, reserved_at}
 use Rattle.bsc_table.specs.Orders.{IsWellFormed}
 use Rattle.bsc_table.specs.Answer.{answer_with_room}

@@ -16,6 +16,7 @@ ghost use Rattle.admission.specs.Table.{ends_at};
 use crate::command::{Command, Refused};
 use crate::entry::{Aired, Answer, Entry, SlotRange, State};
 use crate::kept::{self, Kept};
+use crate::record::CellRecord;
 use admission::{Budget, NoRoom};
 use cbs_page::Serial;
 use cbsp_wire::Cell;
@@ -203,12 +204,7 @@ impl CellBook {
             air,
             ..
         } = self;
-        CellRecord {
-            cell,
-            slots,
-            log,
-            air,
-        }
+        CellRecord::of(cell, slots, log, air)
     }
 
     /// Enters a command with its answer.
@@ -516,58 +512,4 @@ fn put(air: &mut Vec<Option<Aired>>, used: Option<(u16, u8)>)
         Some((entry, page)) => Some(Aired { entry, page }),
     };
     push_within(air, aired);
-}
-
-/// The record of a cell whose run is over. In clauses its clock is the number of its slots.
-#[derive(Drop)]
-pub struct CellRecord {
-    cell: Cell,
-    slots: u16,
-    log: Vec<Entry>,
-    air: Vec<Option<Aired>>,
-}
-
-impl Model for CellRecord {
-    ghost use Rattle.bsc_table.specs.Record.{Record};
-
-    ghost Value = { Record };
-
-    ghost use Rattle.bsc_table.specs.Book.{record_kept};
-    ghost use Rattle.bsc_table.specs.Legal.{IsLegal};
-
-    ghost view = { record_kept };
-
-    ghost invariant = { λ r. IsLegal (record_kept r) };
-}
-
-impl CellRecord {
-    /// The cell.
-    pub fn cell(&self) -> Cell
-        ensures { result ≡ self.now.cell }
-    {
-        self.cell
-    }
-
-    /// How many slots its run had. All of them were played.
-    pub fn slots(&self) -> u16
-        ensures slots { result ≡ self.now.slots }
-        ensures clock { result ≡ self.now.clock }
-        ensures legal { IsLegal self.now }
-    {
-        self.slots
-    }
-
-    /// The commands that were answered, in order.
-    pub fn log(&self) -> &[Entry]
-        ensures { result.now ≡ self.now.log }
-    {
-        self.log.as_slice()
-    }
-
-    /// What each slot aired.
-    pub fn air(&self) -> &[Option<Aired>]
-        ensures { air_told result.now ≡ self.now.air }
-    {
-        self.air.as_slice()
-    }
 }

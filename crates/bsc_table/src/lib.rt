@@ -9,11 +9,13 @@ pub mod entry;
 mod kept;
 mod laws;
 mod orders;
+pub mod record;
 #[cfg(test)]
 mod tests;
 
-pub use book::{CellBook, CellRecord};
+pub use book::CellBook;
 pub use command::{Category, Command, Refused};
 pub use entry::{Aired, Answer, Entry, SlotRange, State};
 pub use laws::guarantee;
 pub use orders::orders_of;
+pub use record::CellRecord;

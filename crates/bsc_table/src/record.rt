@@ -1,0 +1,76 @@
+//! The record of a cell whose run is over.
+
+ghost use Rattle.std.specs.Prelude.{◌≡◌};
+ghost use Rattle.bsc_table.specs.Legal.{IsLegal};
+ghost use Rattle.bsc_table.specs.Book.{air_told};
+
+use crate::entry::{Aired, Entry};
+use cbsp_wire::Cell;
+use std::marker::Model;
+
+/// The record of a cell whose run is over. In clauses its clock is the number of its slots.
+#[derive(Drop)]
+pub struct CellRecord {
+    cell: Cell,
+    slots: u16,
+    log: Vec<Entry>,
+    air: Vec<Option<Aired>>,
+}
+
+impl Model for CellRecord {
+    ghost use Rattle.bsc_table.specs.Record.{Record};
+
+    ghost Value = { Record };
+
+    ghost use Rattle.bsc_table.specs.Book.{record_kept};
+    ghost use Rattle.bsc_table.specs.Legal.{IsLegal};
+
+    ghost view = { record_kept };
+
+    ghost invariant = { λ r. IsLegal (record_kept r) };
+}
+
+impl CellRecord {
+    /// The record of a run of which all slots were played.
+    pub(crate) fn of(cell: Cell, slots: u16, log: Vec<Entry>, air: Vec<Option<Aired>>) -> CellRecord
+        requires { IsLegal (record { cell = cell; slots = slots; clock = slots; log = log.items; air = air_told air.items }) }
+        ensures { result ≡ record { cell = cell; slots = slots; clock = slots; log = log.items; air = air_told air.items } }
+    {
+        CellRecord {
+            cell,
+            slots,
+            log,
+            air,
+        }
+    }
+
+    /// The cell.
+    pub fn cell(&self) -> Cell
+        ensures { result ≡ self.now.cell }
+    {
+        self.cell
+    }
+
+    /// How many slots its run had. All of them were played.
+    pub fn slots(&self) -> u16
+        ensures slots { result ≡ self.now.slots }
+        ensures clock { result ≡ self.now.clock }
+        ensures legal { IsLegal self.now }
+    {
+        self.slots
+    }
+
+    /// The commands that were answered, in order.
+    pub fn log(&self) -> &[Entry]
+        ensures { result.now ≡ self.now.log }
+    {
+        self.log.as_slice()
+    }
+
+    /// What each slot aired.
+    pub fn air(&self) -> &[Option<Aired>]
+        ensures { air_told result.now ≡ self.now.air }
+    {
+        self.air.as_slice()
+    }
+}
