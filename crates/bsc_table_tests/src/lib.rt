@@ -1,0 +1,9 @@
+//! Tests of `bsc_table`'s book: worked runs with their answers and airs, each refusal in its place, and both sides of each limit.
+#![tactic(auto)]
+
+#[cfg(test)]
+mod airs;
+#[cfg(test)]
+mod orders;
+#[cfg(test)]
+mod refusals;
