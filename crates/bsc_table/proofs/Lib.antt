@@ -1,3 +1,4 @@
+pub mod Bounds
 pub mod Broadcasts
 pub mod Busy
 pub mod Demand

@@ -1,4 +1,5 @@
 pub mod Guarantee
+pub mod Bounds
 pub mod Orders
 pub mod Record
 pub mod Answer

@@ -1,6 +1,7 @@
 //! The guarantee and the laws that it stands on, over the definitions of load and air alone.
 
 ghost use Rattle.bsc_table.specs.Guarantee.{ReservationsCoverBroadcasts, DemandIsNoMoreThanTheSlots, LackMeansABusyPeriod, AdmittedLoadIsAGuarantee, AdmittedBroadcastsAreWhole};
+ghost use Rattle.bsc_table.specs.Bounds.{CompletedIsAtMost, CompletedIsAtLeast, BoundsAreNear};
 
 /// Admitted load is a guarantee: where the loads that are reserved at each slot sum to at most `SCALE`, and each slot airs
 /// what the air rule says, each broadcast is aired whole within its own period, from its release up to its due slot.
@@ -23,4 +24,20 @@ pub fn guarantee()
 
     // In the words of the completed number: from its due slot on, each counts as whole.
     ensures admitted_broadcasts_are_whole { AdmittedBroadcastsAreWhole }
+{}
+
+/// What the completed number of a message can be, before any slot that was played: at most as many as its requested broadcasts
+/// whose period had begun while it stood, and, where what is aired was admitted, at least as many as those whose period was over.
+/// Own rules, of no standard.
+///
+/// Does nothing: its contract is the law.
+pub fn completed_bounds()
+    // No broadcast counts that had not begun, whatever the cell airs.
+    ensures completed_is_at_most { CompletedIsAtMost }
+
+    // Each broadcast counts whose period was over, where the reserved loads fit and each slot airs what the air rule says.
+    ensures completed_is_at_least { CompletedIsAtLeast }
+
+    // So the number is known up to one: only the broadcast under way, or cut by the stop, is in doubt.
+    ensures bounds_are_near { BoundsAreNear }
 {}
