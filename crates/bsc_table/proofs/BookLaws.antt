@@ -44,6 +44,7 @@ IsLegal-next r used ahead chosen legal = record {
   within = omega (arith, ahead);
   rising = legal.rising;
   known = λ k d h. omega (arith, legal.known k d h);
+  formed = legal.formed;
   answered = λ i d h.
       let e : Entry = get_or r.log i d in
       let same : take e.slot (r.air ++ used ∷ []) ≡ take e.slot r.air = take-append-le e.slot r.air (used ∷ []) (omega (arith, legal.known i d h, legal.played)) in

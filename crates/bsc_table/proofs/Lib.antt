@@ -11,3 +11,6 @@ mod Worked
 pub mod BookLaws
 mod Histories
 pub mod Appended
+pub mod Named
+pub mod Numbers
+pub mod Outcome

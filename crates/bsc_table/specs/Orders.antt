@@ -1,6 +1,9 @@
 -- The command that a message of the warning centre is. 3GPP TS 48.049, clauses 8.1 and 8.2; which categories and channels are
 -- taken is own.
-use Rattle.std.specs.Prelude.{ℕ, ⊤, Bool, true, ◌==◌, if◌then◌else◌, Option, Some, None, Result, Ok, Err, List}
+use Rattle.std.specs.Prelude.{◌≡◌, ℕ, ◌≤◌, ⊤, Bool, true, ◌==◌, if◌then◌else◌, Option, Some, None, Result, Ok, Err, List, length, All}
+use Rattle.cbs_page.specs.declared.content.Content.{Content}
+use Rattle.cbs_page.specs.declared.Dcs.{Dcs}
+use Rattle.cbsp_wire.specs.Range.{is_coding}
 use Rattle.cbsp_wire.specs.declared.message.Cell.{Cell}
 use Rattle.cbsp_wire.specs.declared.message.Message.{Message}
 use Rattle.cbsp_wire.specs.declared.message.Message.TheVariants as messages
@@ -14,6 +17,22 @@ abbrev pub IsWrite : Command → Type 0
 IsWrite (commands.Write id serial replaces category period broadcasts dcs contents) = ⊤
 IsWrite (commands.Kill id serial) = ⊥
 IsWrite (commands.Status id serial) = ⊥
+
+-- what a message of the warning centre can ask to be broadcast: from 1 to 15 pages with at most 82 octets used, a period from 1 to
+-- 1,024 slots, and a data coding that tells an alphabet
+pub record IsBroadcastable (period : ℕ) (dcs : Dcs) (contents : List Content) : Type 0 where
+  pub some_pages : 1 ≤ length contents
+  pub few_pages : length contents ≤ 15
+  pub used : All (λ c. c.used ≤ 82) contents
+  pub some_period : 1 ≤ period
+  pub short_period : period ≤ 1024
+  pub coded : is_coding dcs.0 ≡ true
+
+-- a command that such a message can ask for
+abbrev pub IsWellFormed : Command → Type 0
+IsWellFormed (commands.Write id serial replaces category period broadcasts dcs contents) = IsBroadcastable period dcs contents
+IsWellFormed (commands.Kill id serial) = ⊤
+IsWellFormed (commands.Status id serial) = ⊤
 
 -- the category: 0 high, 2 normal, absent normal; 1, background, isn't taken
 abbrev pub category_of : Option ℕ → Option Category

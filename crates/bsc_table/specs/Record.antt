@@ -43,9 +43,9 @@ is_high Normal = false
 -- whether an entry stopped the message of this pair: a kill of it that was answered `Stopped`, or a write in its place that
 -- was answered `Replaced`
 abbrev pub is_stop_by : ℕ → ℕ → Command → Answer → Bool
-is_stop_by id serial (commands.Kill of_id of_serial) (answers.Stopped completed) = (of_id == id) && (of_serial == serial)
+is_stop_by id serial (commands.Kill of_id of_serial) (answers.Stopped completed) = (id == of_id) && (serial == of_serial)
 is_stop_by id serial (commands.Write of_id new (Some of_serial) category period broadcasts dcs contents) (answers.Replaced slot completed) =
-    (of_id == id) && (of_serial == serial)
+    (id == of_id) && (serial == of_serial)
 is_stop_by id serial command answer = false
 
 abbrev pub is_stop_of : ℕ → ℕ → Entry → Bool
