@@ -4,6 +4,7 @@ pub mod Busy
 pub mod Demand
 pub mod Fitting
 pub mod Inside
+pub mod Promised
 pub mod Reserved
 pub mod Served
 pub mod Sums

@@ -4,4 +4,5 @@ pub mod Orders
 pub mod Record
 pub mod Answer
 pub mod Legal
+pub mod Promised
 pub mod Book

@@ -1,7 +1,9 @@
-//! The guarantee and the laws that it stands on, over the definitions of load and air alone.
+//! The guarantee and the laws that it stands on, over the definitions of load and air alone; and what it comes to for a cell's
+//! legal history.
 
 ghost use Rattle.bsc_table.specs.Guarantee.{ReservationsCoverBroadcasts, DemandIsNoMoreThanTheSlots, LackMeansABusyPeriod, AdmittedLoadIsAGuarantee, AdmittedBroadcastsAreWhole};
 ghost use Rattle.bsc_table.specs.Bounds.{CompletedIsAtMost, CompletedIsAtLeast, BoundsAreNear};
+ghost use Rattle.bsc_table.specs.Promised.{LegalLoadsFit, LegalHistoriesAreServed, LegalHistoriesAreBounded};
 
 /// Admitted load is a guarantee: where the loads that are reserved at each slot sum to at most `SCALE`, and each slot airs
 /// what the air rule says, each broadcast is aired whole within its own period, from its release up to its due slot.
@@ -40,4 +42,24 @@ pub fn completed_bounds()
 
     // So the number is known up to one: only the broadcast under way, or cut by the stop, is in doubt.
     ensures bounds_are_near { BoundsAreNear }
+{}
+
+/// What a cell promises of each message that it accepted. Its history is legal: commands came in order, each was answered by the
+/// rules, and each slot aired what the air rule says. Nothing else is asked of the commands, of the messages or of the air.
+///
+/// Nothing is promised of a broadcast that a stop or the end of the slots played so far cuts: of each message that is one at most.
+/// Own rules, of no standard.
+///
+/// Does nothing: its contract is the law.
+pub fn legal_histories()
+    // However messages were accepted, replaced and killed, the loads that are reserved sum to at most `SCALE` at each slot.
+    ensures legal_loads_fit { LegalLoadsFit }
+
+    // Each broadcast that was requested, that is due by the clock and that no stop cut was aired whole, from its release up to the
+    // slot in which it was due.
+    ensures legal_histories_are_served { LegalHistoriesAreServed }
+
+    // So before each slot played, at least as many broadcasts of a message are whole as its periods that were over, and at most as
+    // many as its periods that had begun.
+    ensures legal_histories_are_bounded { LegalHistoriesAreBounded }
 {}

@@ -14,5 +14,5 @@ mod tests;
 pub use book::{CellBook, CellRecord};
 pub use command::{Category, Command, Refused};
 pub use entry::{Aired, Answer, Entry, SlotRange, State};
-pub use laws::{completed_bounds, guarantee};
+pub use laws::{completed_bounds, guarantee, legal_histories};
 pub use orders::orders_of;
