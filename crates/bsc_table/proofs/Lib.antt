@@ -15,3 +15,5 @@ pub mod Appended
 pub mod Named
 pub mod Numbers
 pub mod Outcome
+pub mod Sound
+pub mod Entered

@@ -4,7 +4,8 @@ use Rattle.std.specs.List.{All, AllPairs, Contains, find}
 use Rattle.std.specs.Option.{IfSome}
 use Rattle.std.proofs.lemmas.Bool.{cases_Bool, cases_eq, eq-eqb, ne_eqb}
 use Rattle.std.proofs.lemmas.Option.{none-some}
-use Rattle.std.proofs.lemmas.List.{take_more, take_all, take_at, take-append-le, length-take-le, get_or-take, get_or_append_left, get_or_push, length_push}
+use Rattle.std.proofs.Math.Seq.{take-suc}
+use Rattle.std.proofs.lemmas.List.{get_or_default, take_all, take_at, take-append-le, length-take-le, get_or-take, get_or_append_left, get_or_push, length_push}
 use Rattle.std.proofs.lemmas.List.Elements.{All-nil, All-cons, All-push, All-map, All-weaker, All-take, All-same, All-contains}
 use Rattle.std.proofs.lemmas.List.Kept.{AllPairs-cons}
 use Rattle.std.proofs.lemmas.List.Quantifiers.{all_pairs_push}
@@ -111,12 +112,16 @@ outcome_at r legal k d within once =
     let P : Answer → Type 0 = λ answer. Outcome (take k r.log) (entry_with e.command e.slot answer) in
     subst P (sym (legal.answered k d within)) (outcome_of r.slots (take k r.log) (take e.slot r.air) e.slot e.command once (legal.formed k d within))
 
+some_entry : (log : List Entry) → 0 < length log → Entry
+some_entry [] some = absurd (omega arith)
+some_entry (e ∷ log) some = e
+
 pub sound_at : (r : Record) → IsLegal r → (k slot : ℕ) → k ≤ length r.log → All (λ e. e.slot ≤ slot) (take k r.log) → IsSound (accepted_in (take k r.log)) slot
 sound_at r legal zero slot within before = record { once = λ i j d b w. absurd (omega arith); begun = All-nil (BeginsBy slot) }
 sound_at r legal (suc k) slot within before =
     let d : Entry = some_entry r.log (omega arith) in
     let e : Entry = get_or r.log k d in
-    let grown : take (suc k) r.log ≡ take k r.log ++ e ∷ [] = take_next k r.log d (omega arith) in
+    let grown : take (suc k) r.log ≡ take k r.log ++ e ∷ [] = take-suc r.log k d (omega arith) in
     let earlier : All (λ x. x.slot ≤ e.slot) (take k r.log) = λ i x h.
         let short = length-take-le k r.log (omega arith) in
         let same = get_or-take k r.log i x (omega arith) in
@@ -126,5 +131,14 @@ sound_at r legal (suc k) slot within before =
     let sound = sound_at r legal k e.slot (omega arith) earlier in
     let outcome = outcome_at r legal k d (omega arith) sound.once in
     let Sound : List Entry → Type 0 = λ log. IsSound (accepted_in log) slot in
-    let at_e : e.slot ≤ slot = last_of (take k r.log) e (subst (All (λ (x : Entry). x.slot ≤ slot)) grown before) in
+    let last : get_or (take (suc k) r.log) k d ≡ e = get_or-take (suc k) r.log k d (omega arith) in
+    let at_e : e.slot ≤ slot =
+        omega (arith, ap (λ (y : Entry). y.slot) last, before k d (omega (arith, length-take-le (suc k) r.log within))) in
     subst Sound (sym grown) (IsSound-later (accepted_in (take k r.log ++ e ∷ [])) e.slot slot at_e (IsSound-push (take k r.log) e outcome sound))
+
+-- of the whole history, at the clock
+pub IsSound-legal : (r : Record) → IsLegal r → IsSound (accepted_in r.log) r.clock
+IsSound-legal r legal =
+    let all : take (length r.log) r.log ≡ r.log = take_all (length r.log) r.log (omega arith) in
+    let Sound : List Entry → Type 0 = λ log. IsSound (accepted_in log) r.clock in
+    subst Sound all (sound_at r legal (length r.log) r.clock (omega arith) (All-take (λ (e : Entry). e.slot ≤ r.clock) (length r.log) r.log legal.known))
