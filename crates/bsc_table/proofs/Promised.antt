@@ -1,15 +1,15 @@
 -- What a cell promises: entry by entry of a legal history the reserved loads fit on, so that each broadcast is served.
-use Rattle.std.proofs.Common.{◌≡◌, ℕ, zero, suc, ◌+◌, ◌≤◌, ◌<◌, true, Option, Some, None, List, [], ◌∷◌, ◌++◌, length, take, map, get_or, sum_by, refl, ap, sym, subst, ◌∙◌, inl, inr, arith}
+use Rattle.std.proofs.Common.{◌≡◌, ℕ, zero, suc, ◌+◌, ◌≤◌, ◌<◌, true, Option, Some, None, List, [], ◌∷◌, ◌++◌, length, take, map, get_or, sum_by, ap, sym, subst, ◌∙◌, inl, inr, arith}
 use Rattle.std.specs.List.{All, AllPairs, Contains}
 use Rattle.std.specs.Option.{IfSome}
 use Rattle.std.proofs.Math.Seq.{take-suc}
 use Rattle.std.proofs.lemmas.Bool.{cases_order}
-use Rattle.std.proofs.lemmas.List.{get_or_default, get_or-map, get_or-take, length-map, length-take-le, map-append, take_all}
+use Rattle.std.proofs.lemmas.List.{get_or_default, get_or-map, length-map, map-append, take_all}
 use Rattle.std.proofs.lemmas.List.Elements.{All-nil, All-push, All-map, All-weaker}
 use Rattle.admission.specs.declared.measure.TheConstants.{SCALE}
 use Rattle.admission.specs.Load.{load_of}
 use Rattle.admission.specs.Reservation.{Reservation}
-use Rattle.scheduler.specs.Message.{Message, stopped_at}
+use Rattle.scheduler.specs.Message.{Message}
 use Rattle.bsc_table.specs.declared.entry.Entry.{Entry}
 use Rattle.bsc_table.specs.Guarantee.{LoadsFit}
 use Rattle.bsc_table.specs.Record.{Record, Accepted, accepted_in, messages_in, is_live, reserved_at}
@@ -21,7 +21,7 @@ use Rattle.bsc_table.proofs.Named.{BelowIt, stop_numbered}
 use Rattle.bsc_table.proofs.Numbers.{numbers_rise}
 use Rattle.bsc_table.proofs.Outcome.{Outcome, IsBegun, with, without, messages_stopped}
 use Rattle.bsc_table.proofs.Served.{admitted_load_is_a_guarantee}
-use Rattle.bsc_table.proofs.Sound.{BeginsBy, sound_at, outcome_at, some_entry}
+use Rattle.bsc_table.proofs.Sound.{BeginsBy, slots_before, sound_at, outcome_at, some_entry}
 
 -- the messages of accepted ones
 abbrev messages_of : List Accepted → List Message
@@ -88,15 +88,6 @@ fitting_after log e outcome begun fitting =
     let stopped = fitting_without outcome.stopped e.slot all (numbers_rise log) outcome.live fitting in
     let started = fitting_with outcome.started (length log) e.slot (without outcome.stopped e.slot all) outcome.begun (begun_without outcome.stopped e.slot e.slot all begun) stopped in
     subst IsFitting (sym outcome.after) started
-
--- the entries before one have no later slots
-slots_before : (r : Record) → IsLegal r → (k : ℕ) (d : Entry) → k < length r.log → All (λ e. e.slot ≤ (get_or r.log k d).slot) (take k r.log)
-slots_before r legal k d within = λ i x h.
-    let short = length-take-le k r.log (omega arith) in
-    let same = get_or-take k r.log i x (omega arith) in
-    let rises = legal.rising i k x (omega arith) within in
-    let here : get_or r.log k x ≡ get_or r.log k d = get_or_default r.log k x d within in
-    omega (arith, ap (λ (e : Entry). e.slot) same, ap (λ (e : Entry). e.slot) here, rises)
 
 -- after each of its entries the messages of a legal history fit
 fitting_at : (r : Record) → IsLegal r → (k : ℕ) → k ≤ length r.log → IsFitting (accepted_in (take k r.log))

@@ -1,27 +1,20 @@
 -- Of a legal history: each pair was accepted once, and no message begins after the clock.
-use Rattle.std.proofs.Common.{◌≡◌, ℕ, zero, suc, ◌+◌, ◌≤◌, ◌<◌, ◌==◌, Bool, true, false, cond, ◌&&◌, Option, Some, None, List, [], ◌∷◌, ◌++◌, length, take, map, get_or, refl, ap, sym, subst, ◌∙◌, inl, inr, arith}
-use Rattle.std.specs.List.{All, AllPairs, Contains, find}
+use Rattle.std.proofs.Common.{◌≡◌, ℕ, zero, suc, ◌≤◌, ◌<◌, ◌==◌, Bool, false, ◌&&◌, Option, Some, None, List, [], ◌∷◌, ◌++◌, length, take, map, get_or, refl, ap, sym, subst, ◌∙◌, inl, inr, arith}
+use Rattle.std.specs.List.{All, AllPairs, find}
 use Rattle.std.specs.Option.{IfSome}
 use Rattle.std.proofs.lemmas.Bool.{cases_Bool, cases_eq, eq-eqb, ne_eqb}
 use Rattle.std.proofs.lemmas.Option.{none-some}
 use Rattle.std.proofs.Math.Seq.{take-suc}
-use Rattle.std.proofs.lemmas.List.{get_or_default, take_all, take_at, take-append-le, length-take-le, get_or-take, get_or_append_left, get_or_push, length_push}
-use Rattle.std.proofs.lemmas.List.Elements.{All-nil, All-cons, All-push, All-map, All-weaker, All-take, All-same, All-contains}
+use Rattle.std.proofs.lemmas.List.{get_or_default, take_all, length-take-le, get_or-take}
+use Rattle.std.proofs.lemmas.List.Elements.{All-nil, All-cons, All-push, All-map, All-weaker, All-take}
 use Rattle.std.proofs.lemmas.List.Kept.{AllPairs-cons}
 use Rattle.std.proofs.lemmas.List.Quantifiers.{all_pairs_push}
-use Rattle.scheduler.specs.Message.{Message, stopped_at}
-use Rattle.scheduler.specs.Air.{Air, IsAirOf}
-use Rattle.scheduler.proofs.Rule.{IsAirOf-add, IsAirOf-stop}
-use Rattle.bsc_table.specs.declared.command.Command.{Command}
 use Rattle.bsc_table.specs.declared.entry.Answer.{Answer}
 use Rattle.bsc_table.specs.declared.entry.Entry.{Entry}
-use Rattle.bsc_table.specs.Orders.{IsWellFormed}
-use Rattle.bsc_table.specs.Record.{Record, Accepted, accepted_in, messages_in, is_of_pair, is_live}
-use Rattle.bsc_table.specs.Answer.{answer_of}
-use Rattle.bsc_table.specs.Legal.{IsAnswered, IsLegal}
-use Rattle.bsc_table.proofs.Named.{OfAnotherPair, BelowIt, AllPairs-head, AllPairs-tail, stop_numbered, live_is_standing}
-use Rattle.bsc_table.proofs.Numbers.{numbers_rise, numbers_below}
-use Rattle.bsc_table.proofs.Outcome.{Outcome, IsBegun, entry_with, with, without, outcome_of, messages_stopped}
+use Rattle.bsc_table.specs.Record.{Record, Accepted, accepted_in, is_of_pair}
+use Rattle.bsc_table.specs.Legal.{IsLegal}
+use Rattle.bsc_table.proofs.Named.{OfAnotherPair, AllPairs-head, AllPairs-tail, stop_numbered}
+use Rattle.bsc_table.proofs.Outcome.{Outcome, IsBegun, entry_with, with, without, outcome_of}
 
 -- the message begins at the slot or before it
 abbrev pub BeginsBy : ℕ → Accepted → Type 0
@@ -65,7 +58,7 @@ others_are_apart : (new : Accepted) (all : List Accepted) → find (is_of_pair n
 others_are_apart new all none =
     All-weaker (λ (a : Accepted). is_of_pair new.id new.serial a ≡ false) (λ (a : Accepted). OfAnotherPair a new) (λ a apart.
     let turned : is_of_pair a.id a.serial new ≡ is_of_pair new.id new.serial a =
-        ap (λ (b : Bool). b && (new.serial == a.serial)) (same_test new.id a.id) ∙ ap (λ (b : Bool). (a.id == new.id) && b) (same_test new.serial a.serial) in
+    ap (λ (b : Bool). b && (new.serial == a.serial)) (same_test new.id a.id) ∙ ap (λ (b : Bool). (a.id == new.id) && b) (same_test new.serial a.serial) in
     turned ∙ apart) all (not_found (is_of_pair new.id new.serial) all none)
 
 -- pairs stay as they are where a message is stopped
@@ -112,9 +105,19 @@ outcome_at r legal k d within once =
     let P : Answer → Type 0 = λ answer. Outcome (take k r.log) (entry_with e.command e.slot answer) in
     subst P (sym (legal.answered k d within)) (outcome_of r.slots (take k r.log) (take e.slot r.air) e.slot e.command once (legal.formed k d within))
 
-some_entry : (log : List Entry) → 0 < length log → Entry
+-- an entry of a log that has one
+pub some_entry : (log : List Entry) → 0 < length log → Entry
 some_entry [] some = absurd (omega arith)
 some_entry (e ∷ log) some = e
+
+-- the entries before it have no later slots
+pub slots_before : (r : Record) → IsLegal r → (k : ℕ) (d : Entry) → k < length r.log → All (λ e. e.slot ≤ (get_or r.log k d).slot) (take k r.log)
+slots_before r legal k d within = λ i x h.
+    let short = length-take-le k r.log (omega arith) in
+    let same = get_or-take k r.log i x (omega arith) in
+    let rises = legal.rising i k x (omega arith) within in
+    let here : get_or r.log k x ≡ get_or r.log k d = get_or_default r.log k x d within in
+    omega (arith, ap (λ (e : Entry). e.slot) same, ap (λ (e : Entry). e.slot) here, rises)
 
 pub sound_at : (r : Record) → IsLegal r → (k slot : ℕ) → k ≤ length r.log → All (λ e. e.slot ≤ slot) (take k r.log) → IsSound (accepted_in (take k r.log)) slot
 sound_at r legal zero slot within before = record { once = λ i j d b w. absurd (omega arith); begun = All-nil (BeginsBy slot) }
@@ -122,18 +125,12 @@ sound_at r legal (suc k) slot within before =
     let d : Entry = some_entry r.log (omega arith) in
     let e : Entry = get_or r.log k d in
     let grown : take (suc k) r.log ≡ take k r.log ++ e ∷ [] = take-suc r.log k d (omega arith) in
-    let earlier : All (λ x. x.slot ≤ e.slot) (take k r.log) = λ i x h.
-        let short = length-take-le k r.log (omega arith) in
-        let same = get_or-take k r.log i x (omega arith) in
-        let rises = legal.rising i k x (omega arith) (omega arith) in
-        let here : get_or r.log k x ≡ e = get_or_default r.log k x d (omega arith) in
-        omega (arith, ap (λ (y : Entry). y.slot) same, ap (λ (y : Entry). y.slot) here, rises) in
-    let sound = sound_at r legal k e.slot (omega arith) earlier in
+    let sound = sound_at r legal k e.slot (omega arith) (slots_before r legal k d (omega arith)) in
     let outcome = outcome_at r legal k d (omega arith) sound.once in
     let Sound : List Entry → Type 0 = λ log. IsSound (accepted_in log) slot in
     let last : get_or (take (suc k) r.log) k d ≡ e = get_or-take (suc k) r.log k d (omega arith) in
     let at_e : e.slot ≤ slot =
-        omega (arith, ap (λ (y : Entry). y.slot) last, before k d (omega (arith, length-take-le (suc k) r.log within))) in
+    omega (arith, ap (λ (y : Entry). y.slot) last, before k d (omega (arith, length-take-le (suc k) r.log within))) in
     subst Sound (sym grown) (IsSound-later (accepted_in (take k r.log ++ e ∷ [])) e.slot slot at_e (IsSound-push (take k r.log) e outcome sound))
 
 -- of the whole history, at the clock

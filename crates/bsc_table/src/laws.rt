@@ -47,8 +47,7 @@ pub fn completed_bounds()
 /// What a cell promises of each message that it accepted. Its history is legal: commands came in order, each was answered by the
 /// rules, and each slot aired what the air rule says. Nothing else is asked of the commands, of the messages or of the air.
 ///
-/// Nothing is promised of a broadcast that a stop or the end of the slots played so far cuts: of each message that is one at most.
-/// Own rules, of no standard.
+/// Nothing is promised of the broadcast that was under way at a message's stop, or is at the clock. Own rules, of no standard.
 ///
 /// Does nothing: its contract is the law.
 pub fn legal_histories()
