@@ -44,8 +44,9 @@ pub fn completed_bounds()
     ensures bounds_are_near { BoundsAreNear }
 {}
 
-/// What a cell promises of each message that it accepted. Its history is legal: commands came in order, each was answered by the
-/// rules, and each slot aired what the air rule says. Nothing else is asked of the commands, of the messages or of the air.
+/// What a cell promises of each message that it accepted. Its history is legal: the commands are such as a message of the warning
+/// centre can ask for, they came in the order of their slots, each was answered by the rules, and each slot aired what the air rule
+/// says. No other premise is made.
 ///
 /// Nothing is promised of the broadcast that was under way at a message's stop, or is at the clock. Own rules, of no standard.
 ///
@@ -58,7 +59,7 @@ pub fn legal_histories()
     // slot in which it was due.
     ensures legal_histories_are_served { LegalHistoriesAreServed }
 
-    // So before each slot played, at least as many broadcasts of a message are whole as its periods that were over, and at most as
-    // many as its periods that had begun.
+    // So before each slot up to the clock, the broadcasts of a message that are whole are at least those requested whose period was
+    // over while it stood, and at most those requested whose period had begun while it stood.
     ensures legal_histories_are_bounded { LegalHistoriesAreBounded }
 {}
