@@ -17,3 +17,5 @@ pub mod Numbers
 pub mod Outcome
 pub mod Sound
 pub mod Entered
+pub mod Rooms
+pub mod Booked

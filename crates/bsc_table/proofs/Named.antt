@@ -100,13 +100,13 @@ stopped_by_pair id serial slot (x ∷ xs) a once rising e standing =
           let above = AllPairs-head BelowIt x xs rising in
           let apart = AllPairs-head OfAnotherPair x xs once in
           let rest : map by_pair xs ≡ map by_number xs = map_agree by_pair by_number xs (λ k d h.
-              let y : Accepted = get_or xs k d in
-              let number : x.message.number ≡ a.message.number = ap (λ (z : Accepted). z.message.number) here in
-              let alone = stopped_once-false (p y) slot y (others id serial x passes y (apart k d h)) in
-              let kept = stop_numbered-other a.message.number slot y (λ same. omega (arith, above k d h)) in
-              alone ∙ sym kept) in
+          let y : Accepted = get_or xs k d in
+          let number : x.message.number ≡ a.message.number = ap (λ (z : Accepted). z.message.number) here in
+          let alone = stopped_once-false (p y) slot y (others id serial x passes y (apart k d h)) in
+          let kept = stop_numbered-other a.message.number slot y (λ same. omega (arith, above k d h)) in
+          alone ∙ sym kept) in
           let first : by_pair x ≡ by_number x =
-              ap (λ (b : Bool). stopped_once b slot x) passes ∙ (let P : Accepted → Type 0 = λ y. stopped_once true slot y ≡ by_number y in subst P (sym here) (stop_numbered-same slot a standing)) in
+          ap (λ (b : Bool). stopped_once b slot x) passes ∙ (let P : Accepted → Type 0 = λ y. stopped_once true slot y ≡ by_number y in subst P (sym here) (stop_numbered-same slot a standing)) in
           cc
       | inr fails ↦
           let found : find p xs ≡ Some a = rw fails at e in

@@ -47,6 +47,7 @@ pub record IsBegun (number slot : ℕ) (before : List Accepted) (a : Accepted) :
   pub standing : a.message.stop ≡ None
   pub some_pages : 0 < a.message.pages
   pub some_period : 0 < a.message.period
+  pub room : length (reserved_at slot (map (λ x. x.message) before)) < 64
   pub fits : sum_by (λ r. r.load) (reserved_at slot (map (λ x. x.message) before)) + load_of a.message.pages a.message.period ≤ SCALE
 
 pub record Outcome (log : List Entry) (e : Entry) : Type 0 where
@@ -61,8 +62,8 @@ pub record Outcome (log : List Entry) (e : Entry) : Type 0 where
 pub stops_none : (log : List Entry) (e : Entry) → ((id serial : ℕ) → is_stop_of id serial e ≡ false) → map (accepted_after e) (accepted_in log) ≡ accepted_in log
 stops_none log e never =
     map_agree (accepted_after e) (λ a. a) (accepted_in log) (λ k d h.
-        let a : Accepted = get_or (accepted_in log) k d in
-        stopped_once-false (is_stop_of a.id a.serial e) e.slot a (never a.id a.serial)) ∙ map-id (accepted_in log)
+    let a : Accepted = get_or (accepted_in log) k d in
+    stopped_once-false (is_stop_of a.id a.serial e) e.slot a (never a.id a.serial)) ∙ map-id (accepted_in log)
 
 -- so an entry that adds none either changes nothing
 pub does_nothing : (log : List Entry) (e : Entry) → ((id serial : ℕ) → is_stop_of id serial e ≡ false) → ((n : ℕ) → accepted_with (start_of e.answer) n [] e.command ≡ []) → accepted_in (log ++ e ∷ []) ≡ accepted_in log
@@ -128,26 +129,26 @@ status_does_nothing log slot id serial answer =
     adds_none (Some slot) n = refl
 
 -- the answers by cases: a cause, or what accepts, with what then holds
-before_end_cases : (P : Answer → Type 0) (slots slot : ℕ) (answer : Answer) → ((cause : ℕ) → P (answers.Cause cause)) → P answer → P (before_end slots slot answer)
+pub before_end_cases : (P : Answer → Type 0) (slots slot : ℕ) (answer : Answer) → ((cause : ℕ) → P (answers.Cause cause)) → P answer → P (before_end slots slot answer)
 before_end_cases P slots slot answer refuses accepts =
     cond_both (slot == slots) (answers.Cause 0x0A) answer P (λ _. refuses 0x0A) (λ _. accepts)
 
-of_live_cases : (P : Answer → Type 0) (slot : ℕ) (found : Option Accepted) (answer : Message → Answer) → ((cause : ℕ) → P (answers.Cause cause)) → ((a : Accepted) → found ≡ Some a → is_live slot a.message ≡ true → P (answer a.message)) → P (of_live slot (message_told found) answer)
+pub of_live_cases : (P : Answer → Type 0) (slot : ℕ) (found : Option Accepted) (answer : Message → Answer) → ((cause : ℕ) → P (answers.Cause cause)) → ((a : Accepted) → found ≡ Some a → is_live slot a.message ≡ true → P (answer a.message)) → P (of_live slot (message_told found) answer)
 of_live_cases P slot None answer refuses accepts = refuses 0x02
 of_live_cases P slot (Some a) answer refuses accepts =
     cond_both (is_live slot a.message) (answer a.message) (answers.Cause 0x02) P (λ live. accepts a refl live) (λ _. refuses 0x02)
 
-unless_accepted_cases : (P : Answer → Type 0) (found : Option Accepted) (answer : Answer) → ((cause : ℕ) → P (answers.Cause cause)) → (found ≡ None → P answer) → P (unless_accepted (message_told found) answer)
+pub unless_accepted_cases : (P : Answer → Type 0) (found : Option Accepted) (answer : Answer) → ((cause : ℕ) → P (answers.Cause cause)) → (found ≡ None → P answer) → P (unless_accepted (message_told found) answer)
 unless_accepted_cases P None answer refuses accepts = accepts refl
 unless_accepted_cases P (Some a) answer refuses accepts = refuses 0x0D
 
-beside_cases : (P : Answer → Type 0) (reserved : List Reservation) (load : ℕ) (answer : Answer) → ((cause : ℕ) → P (answers.Cause cause)) → (sum_by (λ r. r.load) reserved + load ≤ SCALE → P answer) → P (answer_beside reserved load answer)
+pub beside_cases : (P : Answer → Type 0) (reserved : List Reservation) (load : ℕ) (answer : Answer) → ((cause : ℕ) → P (answers.Cause cause)) → (length reserved < 64 → sum_by (λ r. r.load) reserved + load ≤ SCALE → P answer) → P (answer_beside reserved load answer)
 beside_cases P reserved load answer refuses accepts =
     let sum : ℕ = sum_by (λ (r : Reservation). r.load) reserved + load in
-    cond_both (leb 64 (length reserved)) (answers.Cause 0x07) (cond (ltb SCALE sum) (answers.Cause 0x06) answer) P (λ _. refuses 0x07) (λ _. cond_both (ltb SCALE sum) (answers.Cause 0x06) answer P (λ _. refuses 0x06) (λ fits. accepts (ltb-false SCALE sum fits)))
+    cond_both (leb 64 (length reserved)) (answers.Cause 0x07) (cond (ltb SCALE sum) (answers.Cause 0x06) answer) P (λ _. refuses 0x07) (λ room. cond_both (ltb SCALE sum) (answers.Cause 0x06) answer P (λ _. refuses 0x06) (λ fits. accepts (leb-false 64 (length reserved) room) (ltb-false SCALE sum fits)))
 
 -- to find is to have
-Contains-find : (p : Accepted → Bool) (all : List Accepted) (a : Accepted) → find p all ≡ Some a → Contains all a
+pub Contains-find : (p : Accepted → Bool) (all : List Accepted) (a : Accepted) → find p all ≡ Some a → Contains all a
 Contains-find p all a found = All-find (Contains all) p all a (All-contains_itself all) found
 
 -- stopped as accepted messages, or as messages alone
@@ -176,13 +177,13 @@ new_outcome log slot id serial category period broadcasts dcs contents formed =
     let P : Answer → Type 0 = λ answer. Outcome log (entry_with command slot answer) in
     let refuses : (cause : ℕ) → P (answers.Cause cause) = λ cause. nothing log (entry_with command slot (answers.Cause cause)) (refused_does_nothing log slot cause command) in
     let load = load_of (length contents) period in
-    unless_accepted_cases P (find (is_of_pair id serial) (accepted_in log)) (answer_to_new log slot load) refuses (λ fresh. beside_cases P (reserved_at slot (messages_in log)) load (answers.Started slot) refuses (λ fits. record {
+    unless_accepted_cases P (find (is_of_pair id serial) (accepted_in log)) (answer_to_new log slot load) refuses (λ fresh. beside_cases P (reserved_at slot (messages_in log)) load (answers.Started slot) refuses (λ room fits. record {
       stopped = None;
       started = Some (new_message (length log) slot id serial category period broadcasts contents);
       after = starts_one log slot slot id serial category period broadcasts dcs contents;
       live = tt;
       fresh = fresh;
-      begun = record { numbered = refl; begins = refl; standing = refl; some_pages = omega (arith, formed.some_pages); some_period = omega (arith, formed.some_period); fits = fits };
+      begun = record { numbered = refl; begins = refl; standing = refl; some_pages = omega (arith, formed.some_pages); some_period = omega (arith, formed.some_period); room = room; fits = fits };
     }))
 
 replacement_outcome : (log : List Entry) (air : Air) (slot id serial old : ℕ) (category : Category) (period broadcasts : ℕ) (dcs : Dcs) (contents : List Content) → AllPairs OfAnotherPair (accepted_in log) → IsBroadcastable period dcs contents → Outcome log (entry_with (commands.Write id serial (Some old) category period broadcasts dcs contents) slot (answer_to_write log air slot id serial (Some old) (load_of (length contents) period)))
@@ -191,15 +192,17 @@ replacement_outcome log air slot id serial old category period broadcasts dcs co
     let P : Answer → Type 0 = λ answer. Outcome log (entry_with command slot answer) in
     let refuses : (cause : ℕ) → P (answers.Cause cause) = λ cause. nothing log (entry_with command slot (answers.Cause cause)) (refused_does_nothing log slot cause command) in
     let load = load_of (length contents) period in
-    of_live_cases P slot (find (is_of_pair id old) (accepted_in log)) (λ m. unless_accepted (message_named id serial log) (answer_to_replacement log air slot load m)) refuses (λ a found live. unless_accepted_cases P (find (is_of_pair id serial) (accepted_in log)) (answer_to_replacement log air slot load a.message) refuses (λ fresh. beside_cases P (reserved_at slot (stopped_at a.message.number slot (messages_in log))) load (answers.Replaced slot (completed a.message air slot)) refuses (λ fits.
+    of_live_cases P slot (find (is_of_pair id old) (accepted_in log)) (λ m. unless_accepted (message_named id serial log) (answer_to_replacement log air slot load m)) refuses (λ a found live. unless_accepted_cases P (find (is_of_pair id serial) (accepted_in log)) (answer_to_replacement log air slot load a.message) refuses (λ fresh. beside_cases P (reserved_at slot (stopped_at a.message.number slot (messages_in log))) load (answers.Replaced slot (completed a.message air slot)) refuses (λ room fits.
+    let Room : List Message → Type 0 = λ messages. length (reserved_at slot messages) < 64 in
     let Fits : List Message → Type 0 = λ messages. sum_by (λ (r : Reservation). r.load) (reserved_at slot messages) + load ≤ SCALE in
+    let same = sym (messages_stopped a.message.number slot (accepted_in log)) in
     record {
       stopped = Some a;
       started = Some (new_message (length log) slot id serial category period broadcasts contents);
       after = replaces_one log slot id serial old (completed a.message air slot) category period broadcasts dcs contents a once found (live_is_standing slot a.message live);
       live = (Contains-find (is_of_pair id old) (accepted_in log) a found, live);
       fresh = fresh;
-      begun = record { numbered = refl; begins = refl; standing = refl; some_pages = omega (arith, formed.some_pages); some_period = omega (arith, formed.some_period); fits = subst Fits (sym (messages_stopped a.message.number slot (accepted_in log))) fits };
+      begun = record { numbered = refl; begins = refl; standing = refl; some_pages = omega (arith, formed.some_pages); some_period = omega (arith, formed.some_period); room = subst Room same room; fits = subst Fits same fits };
     })))
 
 outcome_with_room : (slots : ℕ) (log : List Entry) (air : Air) (slot : ℕ) (command : Command) → AllPairs OfAnotherPair (accepted_in log) → IsWellFormed command → Outcome log (entry_with command slot (answer_with_room slots log air slot command))

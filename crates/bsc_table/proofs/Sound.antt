@@ -20,10 +20,15 @@ use Rattle.bsc_table.proofs.Outcome.{Outcome, IsBegun, entry_with, with, without
 abbrev pub BeginsBy : ℕ → Accepted → Type 0
 BeginsBy slot a = a.message.start ≤ slot
 
+-- the message has a page and a period
+abbrev pub HasLoad : Accepted → Type 0
+HasLoad a = (0 < a.message.pages) × (0 < a.message.period)
+
 -- what is true of the accepted messages of a log, up to a slot
 pub record IsSound (all : List Accepted) (slot : ℕ) : Type 0 where
   pub once : AllPairs OfAnotherPair all
   pub begun : All (BeginsBy slot) all
+  pub loaded : All HasLoad all
 
 AllPairs-map : (R : Accepted → Accepted → Type 0) (f : Accepted → Accepted) → ((a b : Accepted) → R a b → R (f a) (f b)) → (all : List Accepted) → AllPairs R all → AllPairs R (map f all)
 AllPairs-map R f kept [] pairs = λ i j d before within. absurd (omega arith)
@@ -36,6 +41,7 @@ without_sound None slot at all sound = sound
 without_sound (Some a) slot at all sound = record {
   once = AllPairs-map OfAnotherPair (stop_numbered a.message.number at) (λ x y apart. apart) all sound.once;
   begun = All-map (BeginsBy slot) (stop_numbered a.message.number at) all sound.begun;
+  loaded = All-map HasLoad (stop_numbered a.message.number at) all sound.loaded;
 }
 
 -- where no message has the pair, each has another one
@@ -79,6 +85,7 @@ with_sound None number slot before fresh begun sound = sound
 with_sound (Some new) number slot before fresh begun sound = record {
   once = all_pairs_push OfAnotherPair before new sound.once (others_are_apart new before fresh);
   begun = All-push (BeginsBy slot) before new sound.begun (omega (arith, begun.begins));
+  loaded = All-push HasLoad before new sound.loaded (begun.some_pages, begun.some_period);
 }
 
 fresh_without : (started stopped : Option Accepted) (at : ℕ) (all : List Accepted) → IfSome started (λ a. find (is_of_pair a.id a.serial) all ≡ None) → IfSome started (λ a. find (is_of_pair a.id a.serial) (without stopped at all) ≡ None)
@@ -96,6 +103,7 @@ IsSound-later : (all : List Accepted) (slot later : ℕ) → slot ≤ later → 
 IsSound-later all slot later after sound = record {
   once = sound.once;
   begun = All-weaker (BeginsBy slot) (BeginsBy later) (λ a begun. omega arith) all sound.begun;
+  loaded = sound.loaded;
 }
 
 -- an entry of a legal history and those before it
@@ -120,7 +128,7 @@ slots_before r legal k d within = λ i x h.
     omega (arith, ap (λ (e : Entry). e.slot) same, ap (λ (e : Entry). e.slot) here, rises)
 
 pub sound_at : (r : Record) → IsLegal r → (k slot : ℕ) → k ≤ length r.log → All (λ e. e.slot ≤ slot) (take k r.log) → IsSound (accepted_in (take k r.log)) slot
-sound_at r legal zero slot within before = record { once = λ i j d b w. absurd (omega arith); begun = All-nil (BeginsBy slot) }
+sound_at r legal zero slot within before = record { once = λ i j d b w. absurd (omega arith); begun = All-nil (BeginsBy slot); loaded = All-nil HasLoad }
 sound_at r legal (suc k) slot within before =
     let d : Entry = some_entry r.log (omega arith) in
     let e : Entry = get_or r.log k d in

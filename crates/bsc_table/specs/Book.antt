@@ -1,15 +1,21 @@
 -- What a cell's book keeps beside its record (own).
-use Rattle.std.specs.Prelude.{◌≡◌, ℕ, ◌≤◌, Option, Some, None, List, ◌++◌, map, filter, vec_len, vec_capacity}
+use Rattle.std.specs.Prelude.{◌≡◌, ℕ, ⊤, true, false, find, ◌≤◌, ◌==◌, if◌then◌else◌, Option, Some, None, Result, Ok, Err, List, ◌++◌, map, filter, vec_len, vec_capacity}
 use Rattle.admission.specs.declared.budget.Held.{Held}
+use Rattle.admission.specs.declared.budget.NoRoom.{NoRoom}
+use Rattle.admission.specs.declared.budget.NoRoom.TheVariants.{Table, Load}
 use Rattle.admission.specs.Load.{load_of}
 use Rattle.admission.specs.Reservation.{is_before_end, end_of_reservation}
 use Rattle.scheduler.specs.Message.{Message}
 use Rattle.scheduler.specs.Air.{Air}
 use Rattle.scheduler.specs.Follows.{Follows}
+use Rattle.bsc_table.specs.declared.entry.Answer.{Answer}
+use Rattle.bsc_table.specs.declared.entry.Answer.TheVariants as answers
 use Rattle.bsc_table.specs.declared.entry.Aired.{Aired}
+use Rattle.bsc_table.specs.declared.entry.Entry.{Entry}
+use Rattle.bsc_table.specs.declared.kept.Kept.{Kept}
 use Rattle.bsc_table.specs.declared.book.CellBook.TheInside.{Inside}
 use Rattle.bsc_table.specs.declared.book.CellRecord.TheInside as kept
-use Rattle.bsc_table.specs.Record.{Record, messages_in}
+use Rattle.bsc_table.specs.Record.{Record, Accepted, accepted_in, messages_in, is_of_pair, is_live}
 use Rattle.bsc_table.specs.Legal.{IsLegal}
 
 -- what a slot airs, as a pair of the entry's number and the page
@@ -29,6 +35,26 @@ record_of b = record {
   air = air_told b.air.items;
 }
 
+-- an accepted message as it is kept
+abbrev pub accepted_of : Kept → Accepted
+accepted_of k = record {
+  id = k.id;
+  serial = k.serial;
+  message = record {
+    number = k.number;
+    start = k.start;
+    pages = k.pages;
+    period = k.period;
+    requested = k.broadcasts;
+    stop = k.stop;
+    high = k.high;
+  };
+}
+
+-- what is kept, with the message of that number stopped at the slot
+abbrev pub kept_stopped : ℕ → ℕ → Kept → Kept
+kept_stopped number slot k = record k { stop = if k.number == number then Some slot else k.stop }
+
 -- a message's line of a budget
 abbrev pub line_of : Message → Held
 line_of m = record {
@@ -41,11 +67,27 @@ line_of m = record {
 abbrev pub lines_at : ℕ → List Message → List Held
 lines_at slot messages = filter (λ h. is_before_end slot h.until) (map line_of messages)
 
--- a book: its record is a legal history, its plan follows the accepted messages and what was aired, its budget holds what they
--- have reserved at the clock, and there is room for what all slots will air
+-- no message of a pair is live, and one is
+abbrev pub IsNotLive : ℕ → Option Message → Type 0
+IsNotLive slot None = ⊤
+IsNotLive slot (Some m) = is_live slot m ≡ false
+
+pub record IsLiveAs (slot id serial : ℕ) (log : List Entry) (a : Accepted) : Type 0 where
+  pub found : find (is_of_pair id serial) (accepted_in log) ≡ Some a
+  pub live : is_live slot a.message ≡ true
+
+-- the answer to a write, by whether its load has room: the answer that accepts it, or cause 07 or 06
+abbrev pub by_room : Result (Unit {0}) NoRoom → Answer → Answer
+by_room (Ok done) accepts = accepts
+by_room (Err Table) accepts = answers.Cause 0x07
+by_room (Err Load) accepts = answers.Cause 0x06
+
+-- a book: its record is a legal history, it keeps the accepted messages, its plan follows them and what was aired, its budget
+-- holds what they have reserved at the clock, and there is room for what all slots will air
 pub record IsBook (b : Inside) : Type 0 where
   pub legal : IsLegal (record_of b)
   pub short : b.slots ≤ 4096
+  pub kept : map accepted_of b.accepted.items ≡ accepted_in b.log.items
   pub follows : Follows b.plan (messages_in b.log.items) (air_told b.air.items)
   pub held : b.budget ≡ lines_at b.clock (messages_in b.log.items)
   pub places : vec_len b.air ≡ b.clock

@@ -1,17 +1,46 @@
 //! The book of a cell: a legal history at all times.
 
-ghost use Rattle.std.specs.Prelude.{◌≡◌, ℕ, ◌+◌, ◌<◌, ◌≤◌, [], ◌∷◌, ◌++◌, IfOk, IfErr, min, vec_len, vec_capacity};
-ghost use Rattle.bsc_table.specs.Record.{Record};
+ghost use Rattle.std.specs.Prelude.{◌≡◌, ℕ, true, ◌+◌, ◌<◌, ◌≤◌, [], ◌∷◌, ◌++◌, IfOk, IfErr, min, vec_len, vec_capacity};
+ghost use Rattle.std.specs.List.{Contains, find};
+ghost use Rattle.std.specs.Option.{MatchOption, option_map};
+ghost use Rattle.scheduler.specs.Completed.{completed};
+ghost use Rattle.bsc_table.specs.declared.entry.Answer.TheVariants as answers;
+ghost use Rattle.bsc_table.specs.Record.{Record, accepted_in, is_of_pair, is_live, message_named};
+ghost use Rattle.bsc_table.specs.Answer.{told_of, answer_to_kill, answer_to_write, answer_to_new, answer_to_replacement, answer_with_room};
+ghost use Rattle.bsc_table.specs.Orders.{IsWellFormed};
 ghost use Rattle.bsc_table.specs.Legal.{IsLegal};
-ghost use Rattle.bsc_table.specs.Book.{air_told, IsPlayedUpTo};
+ghost use Rattle.bsc_table.specs.Book.{accepted_of, air_told, IsPlayedUpTo, IsNotLive, IsLiveAs, by_room};
 
-use crate::command::Refused;
-use crate::entry::{Aired, Entry, SlotRange};
-use admission::Budget;
+use crate::command::{Command, Refused};
+use crate::entry::{Aired, Answer, Entry, SlotRange, State};
+use crate::kept::{self, Kept};
+use admission::{Budget, NoRoom};
+use cbs_page::Serial;
 use cbsp_wire::Cell;
 use scheduler::Plan;
 use std::alloc::Global;
 use std::marker::Model;
+
+/// The causes of refusals, as they are checked (3GPP TS 48.049, 8.2, Cause; which applies when is own). The log is full.
+const LOG_IS_FULL: u8 = 0x08;
+
+/// The run is over.
+const RUN_IS_OVER: u8 = 0x0A;
+
+/// The message to stop or to replace isn't live.
+const NOT_LIVE: u8 = 0x02;
+
+/// A message of this identifier and serial number was accepted before.
+const ACCEPTED_BEFORE: u8 = 0x0D;
+
+/// 64 messages are reserved.
+const TABLE_IS_FULL: u8 = 0x07;
+
+/// The load doesn't fit beside those that are reserved.
+const LOAD_IS_FULL: u8 = 0x06;
+
+/// How many entries a log has room for (own).
+const ENTRIES: usize = 4096;
 
 /// The book of a cell: the log of its commands with their answers, and what each played slot aired.
 ///
@@ -23,6 +52,7 @@ pub struct CellBook {
     clock: u16,
     log: Vec<Entry>,
     air: Vec<Option<Aired>>,
+    accepted: Vec<Kept>,
     plan: Plan,
     budget: Budget,
 }
@@ -57,6 +87,7 @@ impl CellBook {
             clock: 0,
             log: Vec::new(alloc),
             air,
+            accepted: Vec::new(alloc),
             plan: Plan::new(alloc),
             budget: Budget::new(),
         })
@@ -99,6 +130,17 @@ impl CellBook {
         self.air.as_slice()
     }
 
+    /// How many broadcasts of a message were whole before the clock's slot, and how it stands there. None where the message was
+    /// never accepted. No memory is taken, and there is no entry.
+    pub fn status(&self, id: u16, serial: Serial) -> Option<(u16, State)>
+        ensures { MatchOption result
+            (told_of self.now.air self.now.clock (message_named id serial self.now.log) ≡ answers.Unknown)
+            (λ told. told_of self.now.air self.now.clock (message_named id serial self.now.log) ≡ answers.Told told.0 told.1) }
+    {
+        let message = self.named(id, serial)?;
+        Some((self.completed(&message), message.state(self.clock)))
+    }
+
     /// Plays `k` slots, or those up to the run's end, and tells which they were. No memory is taken.
     pub fn play(&mut self, k: u16) -> SlotRange
         ensures range { result ≡ record { from = self.old.clock; to = min (self.old.clock + k) self.old.slots } }
@@ -134,6 +176,119 @@ impl CellBook {
         }
     }
 
+    /// The message of a pair, if one was accepted.
+    fn named(&self, id: u16, serial: Serial) -> Option<Kept>
+        ensures { option_map accepted_of result ≡ find (is_of_pair id serial) (accepted_in self.now.log) }
+    {
+        kept::named(self.accepted.as_slice(), id, serial)
+    }
+
+    /// How many broadcasts of a message were whole before the clock's slot.
+    fn completed(&self, message: &Kept) -> u16
+        requires { Contains (accepted_in self.now.log) (accepted_of message.now) }
+        ensures { result ≡ completed (accepted_of message.now).message self.now.air self.now.clock }
+    {
+        self.plan.done(message.number)
+    }
+
+    /// The message of a pair, if it is live.
+    fn live(&self, id: u16, serial: Serial) -> Option<Kept>
+        ensures { MatchOption result
+            (IsNotLive self.now.clock (message_named id serial self.now.log))
+            (λ kept. IsLiveAs self.now.clock id serial self.now.log (accepted_of kept)) }
+    {
+        let message = self.named(id, serial)?;
+        if message.is_live(self.clock) {
+            Some(message)
+        } else {
+            None
+        }
+    }
+
+    /// The answer to a kill before the run's end.
+    fn answer_to_kill(&self, id: u16, serial: Serial) -> Answer
+        ensures { result ≡ answer_to_kill self.now.log self.now.air self.now.clock id serial }
+    {
+        match self.live(id, serial) {
+            None => Answer::Cause(NOT_LIVE),
+            Some(message) => Answer::Stopped {
+                completed: self.completed(&message),
+            },
+        }
+    }
+
+    /// The answer to a write before the run's end.
+    fn answer_to_write(
+        &self,
+        id: u16,
+        serial: Serial,
+        replaces: Option<Serial>,
+        load: u64,
+    ) -> Answer
+        ensures { result ≡ answer_to_write self.now.log self.now.air self.now.clock id serial replaces load }
+    {
+        match replaces {
+            None if self.named(id, serial).is_some() => Answer::Cause(ACCEPTED_BEFORE),
+            None => self.answer_to_new(load),
+            Some(replaced) => match self.live(id, replaced) {
+                None => Answer::Cause(NOT_LIVE),
+                Some(_) if self.named(id, serial).is_some() => Answer::Cause(ACCEPTED_BEFORE),
+                Some(old) => self.answer_to_replacement(load, &old),
+            },
+        }
+    }
+
+    /// The answer to a write in the place of no message, but for its pair.
+    fn answer_to_new(&self, load: u64) -> Answer
+        ensures { result ≡ answer_to_new self.now.log self.now.clock load }
+    {
+        by_room(
+            self.budget.fits(load, None),
+            Answer::Started { slot: self.clock },
+        )
+    }
+
+    /// The answer to a write in the place of a live message, but for its pair: the old message counts as stopped.
+    fn answer_to_replacement(&self, load: u64, old: &Kept) -> Answer
+        requires there { Contains (accepted_in self.now.log) (accepted_of old.now) }
+        requires live { is_live self.now.clock (accepted_of old.now).message ≡ true }
+        ensures { result ≡ answer_to_replacement self.now.log self.now.air self.now.clock load (accepted_of old.now).message }
+    {
+        by_room(
+            self.budget.fits(load, old.leaving_at(self.clock)),
+            Answer::Replaced {
+                slot: self.clock,
+                completed: self.completed(old),
+            },
+        )
+    }
+
+    /// The answer to a command where the log isn't full.
+    fn answer(&self, command: &Command) -> Answer
+        requires { IsWellFormed command.now }
+        ensures { result ≡ answer_with_room self.now.slots self.now.log self.now.air self.now.clock command.now }
+    {
+        match command {
+            Command::Status { id, serial } => match self.status(*id, *serial) {
+                None => Answer::Unknown,
+                Some((completed, state)) => Answer::Told { completed, state },
+            },
+            _ if self.clock == self.slots => Answer::Cause(RUN_IS_OVER),
+            Command::Kill { id, serial } => self.answer_to_kill(*id, *serial),
+            Command::Write {
+                id,
+                serial,
+                replaces,
+                period,
+                contents,
+                ..
+            } => {
+                let load = admission::load(contents.list.len() as u8, *period);
+                self.answer_to_write(*id, *serial, *replaces, load)
+            }
+        }
+    }
+
     /// Plays the slots before `to`.
     fn play_up_to(&mut self, to: u16)
         requires ahead { self.old.clock ≤ to }
@@ -154,6 +309,17 @@ impl CellBook {
         put(&mut self.air, used);
         self.clock += 1;
         self.budget.pass_slot(self.clock);
+    }
+}
+
+/// The answer to a write, by whether its load has room: the answer that accepts it, or the cause of the refusal.
+fn by_room(room: Result<(), NoRoom>, accepts: Answer) -> Answer
+    ensures { result ≡ by_room room accepts }
+{
+    match room {
+        Ok(()) => accepts,
+        Err(NoRoom::Table) => Answer::Cause(TABLE_IS_FULL),
+        Err(NoRoom::Load) => Answer::Cause(LOAD_IS_FULL),
     }
 }
 

@@ -6,6 +6,7 @@
 pub mod book;
 pub mod command;
 pub mod entry;
+mod kept;
 mod laws;
 mod orders;
 #[cfg(test)]

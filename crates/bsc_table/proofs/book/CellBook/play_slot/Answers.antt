@@ -25,6 +25,7 @@ invariant_of-self c =
     record {
       legal = subst Legal (sym c.put.ensures.aired) (IsLegal-next r used ahead chosen book.legal);
       short = book.short;
+      kept = book.kept;
       follows = subst FollowsTo (sym c.put.ensures.aired) (c.next-used.ensures.follows messages r.air book.follows);
       held = c.pass_slot.ensures ∙ passed ∙ lines_at-next r.clock messages;
       places = omega (arith, c.put.ensures.places, book.places);

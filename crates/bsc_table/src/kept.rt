@@ -1,0 +1,149 @@
+//! What a cell's book keeps of the messages that it accepted.
+
+ghost use Rattle.std.specs.Prelude.{◌≡◌, ◌<◌, ◌==◌, if◌then◌else◌, Some, None, map};
+ghost use Rattle.std.specs.List.{find};
+ghost use Rattle.std.specs.Option.{option_map};
+ghost use Rattle.admission.specs.Load.{load_of};
+ghost use Rattle.admission.specs.Reservation.{natural_end, end_of_stopped};
+ghost use Rattle.scheduler.specs.Follows.{message_from};
+ghost use Rattle.bsc_table.specs.Record.{is_of_pair, is_live, state_at};
+ghost use Rattle.bsc_table.specs.Book.{accepted_of, kept_stopped};
+
+use crate::entry::State;
+use cbs_page::Serial;
+use scheduler::Item;
+
+/// A message that was accepted.
+#[derive(Clone, Copy, Debug, PartialEq, Eq)]
+pub struct Kept {
+    /// The message identifier.
+    pub id: u16,
+    /// The serial number.
+    pub serial: Serial,
+    /// Its place in the log.
+    pub number: u16,
+    /// The slot from which it stands.
+    pub start: u16,
+    /// Its pages, from 1 to 15.
+    pub pages: u8,
+    /// The repetition period in slots, from 1 to 1,024.
+    pub period: u16,
+    /// The broadcasts requested; 0 where it stands until it is stopped.
+    pub broadcasts: u16,
+    /// Whether it is of the high category.
+    pub high: bool,
+    /// The slot before which it was stopped, if it was.
+    pub stop: Option<u16>,
+}
+
+impl Kept {
+    /// The message as a plan is told of it.
+    pub fn item(&self) -> Item
+        ensures { message_from result ≡ record ((accepted_of self.now).message) { stop = None } }
+    {
+        Item {
+            entry: self.number,
+            start: u32::from(self.start),
+            pages: self.pages,
+            period: self.period,
+            broadcasts: self.broadcasts,
+            high: self.high,
+        }
+    }
+
+    /// Its load, in parts of `SCALE`.
+    pub fn load(&self) -> u64
+        requires { 0 < self.now.period }
+        ensures { result ≡ load_of self.now.pages self.now.period }
+    {
+        admission::load(self.pages, self.period)
+    }
+
+    /// The slot at which the periods of its requested broadcasts end. None where it stands until it is stopped.
+    pub fn natural_end(&self) -> Option<u32>
+        ensures { result ≡ natural_end self.now.start self.now.period self.now.broadcasts }
+    {
+        if self.broadcasts == 0 {
+            return None;
+        }
+        Some(u32::from(self.start) + u32::from(self.broadcasts) * u32::from(self.period))
+    }
+
+    /// The slot up to which its load stays reserved if it is stopped at `slot`: the end of the period in which that is.
+    pub fn end_if_stopped(&self, slot: u16) -> u32
+        requires { 0 < self.now.period }
+        ensures { result ≡ end_of_stopped self.now.start self.now.period slot }
+    {
+        let periods = slot.saturating_sub(self.start).div_ceil(self.period);
+        u32::from(self.start) + u32::from(self.period) * u32::from(periods)
+    }
+
+    /// Its number, where a stop at `slot` would end its reservation there and then: on the boundary of its period.
+    pub fn leaving_at(&self, slot: u16) -> Option<u16>
+        requires { 0 < self.now.period }
+        ensures { result ≡ (if end_of_stopped self.now.start self.now.period slot == slot then Some self.now.number else None) }
+    {
+        if self.end_if_stopped(slot) == u32::from(slot) {
+            Some(self.number)
+        } else {
+            None
+        }
+    }
+
+    /// Whether it is live at `slot`: it wasn't stopped, and hasn't run out.
+    pub fn is_live(&self, slot: u16) -> bool
+        ensures { result ≡ is_live slot (accepted_of self.now).message }
+    {
+        self.stop.is_none()
+            && match self.natural_end() {
+                None => true,
+                Some(end) => u32::from(slot) < end,
+            }
+    }
+
+    /// How it stands before `slot`.
+    pub fn state(&self, slot: u16) -> State
+        ensures { result ≡ state_at slot (accepted_of self.now).message }
+    {
+        match self.stop {
+            Some(slot) => State::Stopped { slot },
+            None if self.is_live(slot) => State::Standing,
+            None => State::RanOut,
+        }
+    }
+
+    /// The message, stopped before `slot` where its number is this one.
+    fn stopped_if(self, number: u16, slot: u16) -> Kept
+        ensures { result ≡ kept_stopped number slot self }
+    {
+        if self.number == number {
+            Kept {
+                stop: Some(slot),
+                ..self
+            }
+        } else {
+            self
+        }
+    }
+}
+
+/// The message of a pair, if one was accepted.
+pub fn named(table: &[Kept], id: u16, serial: Serial) -> Option<Kept>
+    ensures { option_map accepted_of result ≡ find (is_of_pair id serial) (map accepted_of table.now) }
+{
+    for kept in table {
+        if kept.id == id && kept.serial == serial {
+            return Some(*kept);
+        }
+    }
+    None
+}
+
+/// Stops the message of this number before `slot`.
+pub fn stop(table: &mut [Kept], number: u16, slot: u16)
+    ensures { table.new ≡ map (kept_stopped number slot) table.old }
+{
+    for kept in table.iter_mut() {
+        *kept = kept.stopped_if(number, slot);
+    }
+}
