@@ -1,7 +1,7 @@
 -- Legal histories worked by hand: answers, and what is aired.
 use Rattle.std.proofs.Common.{◌≡◌, ℕ, zero, suc, ◌≤◌, ◌<◌, Bool, true, false, ◌&&◌, inl, refl, Option, Some, None, List, [], ◌∷◌, ◌++◌, length, take, get_or, arith}
 use Rattle.std.specs.Prelude.{nat_le, nat_lt}
-use Rattle.std.specs.List.{All, AllPairs, list_all}
+use Rattle.std.specs.List.{All, AllPairs, Any, list_all}
 use Rattle.std.proofs.lemmas.Bool.{and_parts, leb-true, ltb-true}
 use Rattle.std.proofs.lemmas.List.Elements.{All-nil, All-cons, All-weaker}
 use Rattle.std.proofs.lemmas.List.Kept.{AllPairs-cons}
@@ -23,10 +23,12 @@ use Rattle.bsc_table.specs.declared.entry.State.TheVariants as states
 use Rattle.bsc_table.specs.declared.entry.Entry.{Entry}
 use Rattle.bsc_table.specs.Bounds.{least_completed, most_completed}
 use Rattle.bsc_table.specs.Orders.{IsWellFormed}
-use Rattle.bsc_table.specs.Record.{Record, messages_in}
+use Rattle.bsc_table.specs.Record.{Record, accepted_in, messages_in}
 use Rattle.bsc_table.specs.Answer.{answer_of}
 use Rattle.bsc_table.specs.Legal.{IsAnswered, IsLegal}
+use Rattle.bsc_table.specs.Told.{IsTrulyTold}
 use Rattle.bsc_table.proofs.Promised.{legal_histories_are_served, legal_histories_are_bounded}
+use Rattle.bsc_table.proofs.Told.{legal_answers_are_true}
 
 abbrev contents : ℕ → List Content
 contents zero = []
@@ -309,3 +311,7 @@ whole_is_legal = legal_run whole 8 (omega arith) refl refl refl whole_answered r
 c_is_served : pages_aired 4 (aired whole 8) 4 8 ≡ 2
 c_is_served =
     legal_histories_are_served (run whole 8) whole_is_legal 2 half (omega arith) 0 (record { requested = inl refl; standing = tt; aired_by = omega arith })
+
+-- and the number that B's kill told is true, of B as it was accepted first
+kill_was_true : Any (IsTrulyTold (aired whole 8) (entry (kill 2) 3 (answers.Stopped 0)) 0) (accepted_in whole)
+kill_was_true = legal_answers_are_true (run whole 8) whole_is_legal 2 (entry (kill 2) 3 (answers.Stopped 0)) (omega arith) 0 refl

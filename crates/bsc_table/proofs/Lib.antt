@@ -8,6 +8,7 @@ pub mod Promised
 pub mod Reserved
 pub mod Served
 pub mod Sums
+pub mod Told
 mod Worked
 pub mod BookLaws
 mod Histories

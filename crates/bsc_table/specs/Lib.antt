@@ -5,4 +5,5 @@ pub mod Record
 pub mod Answer
 pub mod Legal
 pub mod Promised
+pub mod Told
 pub mod Book

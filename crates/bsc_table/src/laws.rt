@@ -4,6 +4,7 @@
 ghost use Rattle.bsc_table.specs.Guarantee.{ReservationsCoverBroadcasts, DemandIsNoMoreThanTheSlots, LackMeansABusyPeriod, AdmittedLoadIsAGuarantee, AdmittedBroadcastsAreWhole};
 ghost use Rattle.bsc_table.specs.Bounds.{CompletedIsAtMost, CompletedIsAtLeast, BoundsAreNear};
 ghost use Rattle.bsc_table.specs.Promised.{LegalLoadsFit, LegalHistoriesAreServed, LegalHistoriesAreBounded};
+ghost use Rattle.bsc_table.specs.Told.{LegalAnswersAreTrue};
 
 /// Admitted load is a guarantee: where the loads that are reserved at each slot sum to at most `SCALE`, and each slot airs
 /// what the air rule says, each broadcast is aired whole within its own period, from its release up to its due slot.
@@ -62,4 +63,8 @@ pub fn legal_histories()
     // So before each slot up to the clock, the broadcasts of a message that are whole are at least those requested whose period was
     // over while it stood, and at most those requested whose period had begun while it stood.
     ensures legal_histories_are_bounded { LegalHistoriesAreBounded }
+
+    // And each number that was told of a message, in answer to its kill, to its replacement or to a status, is the number of its
+    // broadcasts that were whole by then, and lies between these bounds.
+    ensures legal_answers_are_true { LegalAnswersAreTrue }
 {}
