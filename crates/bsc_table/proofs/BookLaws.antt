@@ -44,6 +44,7 @@ IsLegal-next r used ahead chosen legal = record {
   within = omega (arith, ahead);
   rising = legal.rising;
   known = λ k d h. omega (arith, legal.known k d h);
+  few = legal.few;
   formed = legal.formed;
   answered = λ i d h.
       let e : Entry = get_or r.log i d in

@@ -16,9 +16,10 @@ use Rattle.bsc_table.specs.Orders.{IsWellFormed}
 use Rattle.bsc_table.specs.Record.{Record, Accepted, accepted_in, messages_in, is_live}
 use Rattle.bsc_table.specs.Answer.{answer_of}
 use Rattle.bsc_table.specs.Legal.{IsAnswered, IsLegal}
-use Rattle.bsc_table.proofs.Named.{BelowIt, stop_numbered, live_is_standing}
+use Rattle.bsc_table.proofs.Named.{BelowIt, live_is_standing}
 use Rattle.bsc_table.proofs.Numbers.{numbers_rise}
-use Rattle.bsc_table.proofs.Outcome.{Outcome, IsBegun, entry_with, with, without, outcome_of, messages_stopped}
+use Rattle.bsc_table.specs.Book.{stop_numbered, IsBegun}
+use Rattle.bsc_table.proofs.Outcome.{Outcome, entry_with, with, without, outcome_of, messages_stopped}
 use Rattle.bsc_table.proofs.Sound.{IsSound, IsSound-legal}
 
 -- in a list whose numbers rise, one number is that of one message
@@ -83,11 +84,12 @@ pub outcome_now : (r : Record) (command : Command) → IsLegal r → IsWellForme
 outcome_now r command legal formed =
     outcome_of r.slots r.log r.air r.clock command ((IsSound-legal r legal).once) formed
 
-pub IsLegal-entry : (r : Record) (command : Command) → IsLegal r → IsWellFormed command → IsLegal (record r { log = r.log ++ entry_with command r.clock (answer_of r.slots r.log r.air r.clock command) ∷ [] })
-IsLegal-entry r command legal formed =
+pub IsLegal-entry : (r : Record) (command : Command) → IsLegal r → length r.log < 4096 → IsWellFormed command → IsLegal (record r { log = r.log ++ entry_with command r.clock (answer_of r.slots r.log r.air r.clock command) ∷ [] })
+IsLegal-entry r command legal room formed =
     let e : Entry = entry_with command r.clock (answer_of r.slots r.log r.air r.clock command) in
     record {
       within = legal.within;
+      few = omega (arith, length_push r.log e);
       rising = all_pairs_push (λ (a b : Entry). a.slot ≤ b.slot) r.log e legal.rising legal.known;
       known = All-push (λ (x : Entry). x.slot ≤ r.clock) r.log e legal.known (omega arith);
       formed = All-push (λ (x : Entry). IsWellFormed x.command) r.log e legal.formed formed;

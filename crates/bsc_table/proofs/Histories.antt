@@ -250,9 +250,10 @@ filled_answered (suc (suc (suc zero))) d within = refl
 filled_answered (suc (suc (suc (suc i)))) d within = absurd (omega arith)
 
 -- what is left to show of a run whose air list is computed
-legal_run : (log : List Entry) (clock : ℕ) → clock ≤ 8 → slots_rise 0 log clock ≡ true → list_all (λ e. is_formed e.command) log ≡ true → list_all (λ m. nat_lt 0 m.period) (messages_in log) ≡ true → ((i : ℕ) (d : Entry) → i < length log → IsAnswered 8 (take i log) (aired log clock) (get_or log i d)) → length (aired log clock) ≡ clock → IsLegal (run log clock)
-legal_run log clock within rise formed periods answered played = record {
+legal_run : (log : List Entry) (clock : ℕ) → length log ≤ 4096 → clock ≤ 8 → slots_rise 0 log clock ≡ true → list_all (λ e. is_formed e.command) log ≡ true → list_all (λ m. nat_lt 0 m.period) (messages_in log) ≡ true → ((i : ℕ) (d : Entry) → i < length log → IsAnswered 8 (take i log) (aired log clock) (get_or log i d)) → length (aired log clock) ≡ clock → IsLegal (run log clock)
+legal_run log clock few within rise formed periods answered played = record {
   within = within;
+  few = few;
   rising = slots_rise-all 0 log clock rise;
   known = (slots_rise-upto 0 log clock rise).1;
   formed = All-weaker (λ (e : Entry). is_formed e.command ≡ true) (λ (e : Entry). IsWellFormed e.command) (λ e. is_formed-says e.command) log (AllPass-from_list_all (λ (e : Entry). is_formed e.command) log formed);
@@ -262,7 +263,7 @@ legal_run log clock within rise formed periods answered played = record {
 }
 
 filled_is_legal : IsLegal (run filled 6)
-filled_is_legal = legal_run filled 6 (omega arith) refl refl refl filled_answered refl
+filled_is_legal = legal_run filled 6 (omega arith) (omega arith) refl refl refl filled_answered refl
 
 -- after five of the slots the half has the least number of whole broadcasts that it may have, and the third the most
 abbrev half : Message
@@ -306,7 +307,7 @@ whole_answered (suc (suc (suc (suc zero)))) d within = refl
 whole_answered (suc (suc (suc (suc (suc i))))) d within = absurd (omega arith)
 
 whole_is_legal : IsLegal (run whole 8)
-whole_is_legal = legal_run whole 8 (omega arith) refl refl refl whole_answered refl
+whole_is_legal = legal_run whole 8 (omega arith) (omega arith) refl refl refl whole_answered refl
 
 c_is_served : pages_aired 4 (aired whole 8) 4 8 ≡ 2
 c_is_served =

@@ -20,3 +20,5 @@ pub mod Sound
 pub mod Entered
 pub mod Rooms
 pub mod Booked
+pub mod Accepting
+pub mod Entering

@@ -7,6 +7,7 @@ use Rattle.std.specs.Prelude.{nat_lt}
 use Rattle.std.proofs.lemmas.List.Elements.{All-head, All-tail}
 use Rattle.scheduler.specs.Message.{Message, stopped_if}
 use Rattle.bsc_table.specs.Record.{Accepted, is_of_pair, is_live}
+use Rattle.bsc_table.specs.Book.{stop_numbered}
 use Rattle.bsc_table.proofs.Appended.{stop_after}
 
 -- no later message has the pair of an earlier one
@@ -20,10 +21,6 @@ BelowIt a b = a.message.number < b.message.number
 -- a message that is stopped at the slot, if the test says so and it wasn't stopped before
 abbrev pub stopped_once : Bool → ℕ → Accepted → Accepted
 stopped_once says slot a = record a { message = record (a.message) { stop = stop_after a.message.stop says slot } }
-
--- the message of that number stopped at the slot
-abbrev pub stop_numbered : ℕ → ℕ → Accepted → Accepted
-stop_numbered number slot a = record a { message = stopped_if (a.message.number == number) slot a.message }
 
 pub AllPairs-head : {X : Type 0} (R : X → X → Type 0) (x : X) (xs : List X) → AllPairs R (x ∷ xs) → All (R x) xs
 AllPairs-head R x xs pairs = λ k d h. pairs 0 (suc k) d (omega arith) (omega arith)

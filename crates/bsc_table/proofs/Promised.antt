@@ -14,12 +14,13 @@ use Rattle.bsc_table.specs.declared.entry.Entry.{Entry}
 use Rattle.bsc_table.specs.Guarantee.{LoadsFit}
 use Rattle.bsc_table.specs.Record.{Record, Accepted, accepted_in, messages_in, is_live, reserved_at}
 use Rattle.bsc_table.specs.Legal.{IsLegal}
+use Rattle.bsc_table.specs.Book.{stop_numbered, IsBegun}
 use Rattle.bsc_table.specs.Promised.{LegalLoadsFit, LegalHistoriesAreServed, LegalHistoriesAreBounded}
 use Rattle.bsc_table.proofs.Bounds.{completed_is_at_most, completed_is_at_least}
 use Rattle.bsc_table.proofs.Fitting.{LoadsFit-stop, LoadsFit-add}
-use Rattle.bsc_table.proofs.Named.{BelowIt, stop_numbered}
+use Rattle.bsc_table.proofs.Named.{BelowIt}
 use Rattle.bsc_table.proofs.Numbers.{numbers_rise}
-use Rattle.bsc_table.proofs.Outcome.{Outcome, IsBegun, with, without, messages_stopped}
+use Rattle.bsc_table.proofs.Outcome.{Outcome, with, without, messages_stopped}
 use Rattle.bsc_table.proofs.Served.{admitted_load_is_a_guarantee}
 use Rattle.bsc_table.proofs.Sound.{BeginsBy, HasLoad, IsSound, IsSound-legal, slots_before, sound_at, outcome_at, some_entry}
 

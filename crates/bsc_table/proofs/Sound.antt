@@ -13,8 +13,9 @@ use Rattle.bsc_table.specs.declared.entry.Answer.{Answer}
 use Rattle.bsc_table.specs.declared.entry.Entry.{Entry}
 use Rattle.bsc_table.specs.Record.{Record, Accepted, accepted_in, is_of_pair}
 use Rattle.bsc_table.specs.Legal.{IsLegal}
-use Rattle.bsc_table.proofs.Named.{OfAnotherPair, AllPairs-head, AllPairs-tail, stop_numbered}
-use Rattle.bsc_table.proofs.Outcome.{Outcome, IsBegun, entry_with, with, without, outcome_of}
+use Rattle.bsc_table.specs.Book.{stop_numbered, IsBegun}
+use Rattle.bsc_table.proofs.Named.{OfAnotherPair, AllPairs-head, AllPairs-tail}
+use Rattle.bsc_table.proofs.Outcome.{Outcome, entry_with, with, without, outcome_of}
 
 -- the message begins at the slot or before it
 abbrev pub BeginsBy : ℕ → Accepted → Type 0

@@ -1,13 +1,15 @@
 -- What a cell's book keeps beside its record (own).
-use Rattle.std.specs.Prelude.{◌≡◌, ℕ, ⊤, true, false, find, ◌≤◌, ◌==◌, if◌then◌else◌, Option, Some, None, Result, Ok, Err, List, ◌++◌, map, filter, vec_len, vec_capacity}
+use Rattle.std.specs.Prelude.{◌≡◌, ℕ, ◌+◌, ◌<◌, ⊤, Bool, true, false, not, find, ◌≤◌, ◌==◌, if◌then◌else◌, Option, Some, None, Result, Ok, Err, List, [], ◌∷◌, ◌++◌, length, sum_by, map, filter, vec_len, vec_capacity}
 use Rattle.admission.specs.declared.budget.Held.{Held}
 use Rattle.admission.specs.declared.budget.NoRoom.{NoRoom}
 use Rattle.admission.specs.declared.budget.NoRoom.TheVariants.{Table, Load}
+use Rattle.admission.specs.declared.measure.TheConstants.{SCALE}
 use Rattle.admission.specs.Load.{load_of}
 use Rattle.admission.specs.Reservation.{is_before_end, end_of_reservation}
-use Rattle.scheduler.specs.Message.{Message}
+use Rattle.scheduler.specs.Message.{Message, stopped_if}
 use Rattle.scheduler.specs.Air.{Air}
 use Rattle.scheduler.specs.Follows.{Follows}
+use Rattle.bsc_table.specs.declared.command.Command.{Command}
 use Rattle.bsc_table.specs.declared.entry.Answer.{Answer}
 use Rattle.bsc_table.specs.declared.entry.Answer.TheVariants as answers
 use Rattle.bsc_table.specs.declared.entry.Aired.{Aired}
@@ -15,7 +17,9 @@ use Rattle.bsc_table.specs.declared.entry.Entry.{Entry}
 use Rattle.bsc_table.specs.declared.kept.Kept.{Kept}
 use Rattle.bsc_table.specs.declared.book.CellBook.TheInside.{Inside}
 use Rattle.bsc_table.specs.declared.book.CellRecord.TheInside as kept
-use Rattle.bsc_table.specs.Record.{Record, Accepted, accepted_in, messages_in, is_of_pair, is_live}
+use Rattle.bsc_table.specs.Record.{Record, Accepted, accepted_in, messages_in, is_of_pair, is_live, reserved_at}
+use Rattle.bsc_table.specs.Orders.{IsWellFormed}
+use Rattle.bsc_table.specs.Answer.{answer_with_room}
 use Rattle.bsc_table.specs.Legal.{IsLegal}
 
 -- what a slot airs, as a pair of the entry's number and the page
@@ -54,6 +58,47 @@ accepted_of k = record {
 -- what is kept, with the message of that number stopped at the slot
 abbrev pub kept_stopped : ℕ → ℕ → Kept → Kept
 kept_stopped number slot k = record k { stop = if k.number == number then Some slot else k.stop }
+
+-- the message of that number stopped at the slot
+abbrev pub stop_numbered : ℕ → ℕ → Accepted → Accepted
+stop_numbered number slot a = record a { message = stopped_if (a.message.number == number) slot a.message }
+
+-- a message that may begin at the slot beside those accepted before: it has a page and a period, and there is room for it
+pub record IsBegun (number slot : ℕ) (before : List Accepted) (a : Accepted) : Type 0 where
+  pub numbered : a.message.number ≡ number
+  pub begins : a.message.start ≡ slot
+  pub standing : a.message.stop ≡ None
+  pub some_pages : 0 < a.message.pages
+  pub some_period : 0 < a.message.period
+  pub room : length (reserved_at slot (map (λ x. x.message) before)) < 64
+  pub fits : sum_by (λ r. r.load) (reserved_at slot (map (λ x. x.message) before)) + load_of a.message.pages a.message.period ≤ SCALE
+
+-- an entry that is to come next: at the clock, with the right answer to a well-formed command, where the log has room
+pub record IsNext (r : Record) (e : Entry) : Type 0 where
+  pub now : e.slot ≡ r.clock
+  pub room : length r.log < 4096
+  pub formed : IsWellFormed e.command
+  pub right : e.answer ≡ answer_with_room r.slots r.log r.air r.clock e.command
+
+-- a record with one more entry
+abbrev pub with_entry : Entry → Record → Record
+with_entry e r = record r { log = r.log ++ e ∷ [] }
+
+-- an answer has an entry, but for cause 08 and the want of memory
+abbrev pub has_entry : Answer → Bool
+has_entry (answers.Cause cause) = not (cause == 0x08)
+has_entry answers.Refused = false
+has_entry other = true
+
+-- a record after a command was answered: with an entry where the answer has one, and otherwise as it was
+abbrev pub answered_with : Command → Answer → Record → Record
+answered_with command answer r =
+    if has_entry answer then with_entry (record { command = command; slot = r.clock; answer = answer }) r else r
+
+-- an answer that kills
+abbrev pub is_stopped : Answer → Bool
+is_stopped (answers.Stopped completed) = true
+is_stopped other = false
 
 -- a message's line of a budget
 abbrev pub line_of : Message → Held

@@ -1,7 +1,7 @@
 //! The book of a cell: a legal history at all times.
 
-ghost use Rattle.std.specs.Prelude.{◌≡◌, ℕ, true, ◌+◌, ◌<◌, ◌≤◌, [], ◌∷◌, ◌++◌, IfOk, IfErr, min, vec_len, vec_capacity};
-ghost use Rattle.std.specs.List.{Contains, find};
+ghost use Rattle.std.specs.Prelude.{◌≡◌, ℕ, true, ◌+◌, ◌<◌, ◌≤◌, [], ◌∷◌, ◌++◌, length, map, filter, IfOk, IfErr, OnOk, OnErr, min, vec_len, vec_capacity};
+ghost use Rattle.std.specs.List.{Any, Contains, find};
 ghost use Rattle.std.specs.Option.{MatchOption, option_map};
 ghost use Rattle.scheduler.specs.Completed.{completed};
 ghost use Rattle.bsc_table.specs.declared.entry.Answer.TheVariants as answers;
@@ -9,7 +9,9 @@ ghost use Rattle.bsc_table.specs.Record.{Record, accepted_in, is_of_pair, is_liv
 ghost use Rattle.bsc_table.specs.Answer.{told_of, answer_to_kill, answer_to_write, answer_to_new, answer_to_replacement, answer_with_room};
 ghost use Rattle.bsc_table.specs.Orders.{IsWellFormed};
 ghost use Rattle.bsc_table.specs.Legal.{IsLegal};
-ghost use Rattle.bsc_table.specs.Book.{accepted_of, air_told, IsPlayedUpTo, IsNotLive, IsLiveAs, by_room};
+ghost use Rattle.bsc_table.specs.Book.{accepted_of, air_told, IsPlayedUpTo, IsNotLive, IsLiveAs, IsBegun, IsNext, with_entry, stop_numbered, by_room};
+ghost use Rattle.admission.specs.Reservation.{is_before_end, end_of_stopped};
+ghost use Rattle.admission.specs.Table.{ends_at};
 
 use crate::command::{Command, Refused};
 use crate::entry::{Aired, Answer, Entry, SlotRange, State};
@@ -176,6 +178,75 @@ impl CellBook {
         }
     }
 
+    /// Enters an entry that stops and starts nothing.
+    fn enter_alone(&mut self, entry: Entry) -> Result<(), Refused>
+        requires next { IsNext self.old entry }
+        requires same { accepted_in (self.old.log ++ entry ∷ []) ≡ accepted_in self.old.log }
+        ensures entered { OnOk result (self.new ≡ with_entry entry self.old) }
+        ensures refused { OnErr result (self.new ≡ self.old) }
+    {
+        self.log.reserve(1)?;
+        push_within(&mut self.log, entry);
+        Ok(())
+    }
+
+    /// Enters an entry that stops a message.
+    fn enter_stop(&mut self, entry: Entry, old: &Kept) -> Result<(), Refused>
+        requires next { IsNext self.old entry }
+        requires there { Contains (accepted_in self.old.log) (accepted_of old.now) }
+        requires live { is_live self.old.clock (accepted_of old.now).message ≡ true }
+        requires stopped { accepted_in (self.old.log ++ entry ∷ []) ≡ map (stop_numbered old.now.number self.old.clock) (accepted_in self.old.log) }
+        ensures entered { OnOk result (self.new ≡ with_entry entry self.old) }
+        ensures refused { OnErr result (self.new ≡ self.old) }
+    {
+        self.log.reserve(1)?;
+        kept::stop(self.accepted.as_mut_slice(), old.number, self.clock);
+        let _ = self.plan.stop(old.number, self.clock);
+        release(&mut self.budget, old, self.clock);
+        push_within(&mut self.log, entry);
+        Ok(())
+    }
+
+    /// Enters an entry that starts a message.
+    fn enter_new(&mut self, entry: Entry, new: Kept) -> Result<(), Refused>
+        requires next { IsNext self.old entry }
+        requires begun { IsBegun (length self.old.log) self.old.clock (accepted_in self.old.log) (accepted_of new) }
+        requires started { accepted_in (self.old.log ++ entry ∷ []) ≡ accepted_in self.old.log ++ accepted_of new ∷ [] }
+        ensures entered { OnOk result (self.new ≡ with_entry entry self.old) }
+        ensures refused { OnErr result (self.new ≡ self.old) }
+    {
+        self.log.reserve(1)?;
+        self.accepted.reserve(1)?;
+        self.plan.add(new.item())?;
+        let _ = self.budget.reserve(new.number, new.load(), new.natural_end());
+        push_within(&mut self.accepted, new);
+        push_within(&mut self.log, entry);
+        Ok(())
+    }
+
+    /// Enters an entry that stops a message and starts one in its place.
+    fn enter_replacement(&mut self, entry: Entry, old: &Kept, new: Kept) -> Result<(), Refused>
+        requires next { IsNext self.old entry }
+        requires there { Contains (accepted_in self.old.log) (accepted_of old.now) }
+        requires live { is_live self.old.clock (accepted_of old.now).message ≡ true }
+        requires begun { IsBegun (length self.old.log) self.old.clock (map (stop_numbered old.now.number self.old.clock) (accepted_in self.old.log)) (accepted_of new) }
+        requires replaced { accepted_in (self.old.log ++ entry ∷ [])
+            ≡ map (stop_numbered old.now.number self.old.clock) (accepted_in self.old.log) ++ accepted_of new ∷ [] }
+        ensures entered { OnOk result (self.new ≡ with_entry entry self.old) }
+        ensures refused { OnErr result (self.new ≡ self.old) }
+    {
+        self.log.reserve(1)?;
+        self.accepted.reserve(1)?;
+        self.plan.add(new.item())?;
+        kept::stop(self.accepted.as_mut_slice(), old.number, self.clock);
+        let _ = self.plan.stop(old.number, self.clock);
+        release(&mut self.budget, old, self.clock);
+        let _ = self.budget.reserve(new.number, new.load(), new.natural_end());
+        push_within(&mut self.accepted, new);
+        push_within(&mut self.log, entry);
+        Ok(())
+    }
+
     /// The message of a pair, if one was accepted.
     fn named(&self, id: u16, serial: Serial) -> Option<Kept>
         ensures { option_map accepted_of result ≡ find (is_of_pair id serial) (accepted_in self.now.log) }
@@ -312,6 +383,16 @@ impl CellBook {
     }
 }
 
+/// Gives the reservation of a message that is stopped at `slot` its end.
+fn release(budget: &mut Budget, old: &Kept, slot: u16)
+    requires period { 0 < old.now.period }
+    requires reserved { Any (λ h. h.entry ≡ old.now.number) budget.old }
+    ensures { budget.new ≡ filter (λ h. is_before_end slot h.until) (ends_at old.now.number (end_of_stopped old.now.start old.now.period slot) budget.old) }
+{
+    budget.release_at(old.number, old.end_if_stopped(slot));
+    budget.pass_slot(slot);
+}
+
 /// The answer to a write, by whether its load has room: the answer that accepts it, or the cause of the refusal.
 fn by_room(room: Result<(), NoRoom>, accepts: Answer) -> Answer
     ensures { result ≡ by_room room accepts }
@@ -321,6 +402,16 @@ fn by_room(room: Result<(), NoRoom>, accepts: Answer) -> Answer
         Err(NoRoom::Table) => Answer::Cause(TABLE_IS_FULL),
         Err(NoRoom::Load) => Answer::Cause(LOAD_IS_FULL),
     }
+}
+
+/// Adds an item, where there is room for it.
+fn push_within<T: Drop>(list: &mut Vec<T>, item: T)
+    requires { vec_len list.old < vec_capacity list.old }
+    ensures items { list.new.items ≡ list.old.items ++ item ∷ [] }
+    ensures len { vec_len list.new ≡ vec_len list.old + 1 }
+    ensures capacity { vec_capacity list.old ≤ vec_capacity list.new }
+{
+    let _ = list.push(item);
 }
 
 /// Adds what a slot airs, where there is room for it.
@@ -334,7 +425,7 @@ fn put(air: &mut Vec<Option<Aired>>, used: Option<(u16, u8)>)
         None => None,
         Some((entry, page)) => Some(Aired { entry, page }),
     };
-    let _ = air.push(aired);
+    push_within(air, aired);
 }
 
 /// The record of a cell whose run is over. In clauses its clock is the number of its slots.

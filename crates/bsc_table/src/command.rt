@@ -2,6 +2,7 @@
 
 ghost use Rattle.std.specs.Prelude.{◌≡◌, IfOk, IfErr};
 ghost use Rattle.bsc_table.specs.Orders.{IsWrite};
+ghost use Rattle.bsc_table.specs.Record.{is_high};
 
 use cbs_page::{Dcs, Serial};
 use cbsp_wire::Contents;
@@ -19,6 +20,12 @@ impl From<AllocError> for Refused {
     }
 }
 
+impl From<scheduler::Refused> for Refused {
+    fn from(_error: scheduler::Refused) -> Refused {
+        Refused
+    }
+}
+
 /// The category of a message (3GPP TS 48.049, 8.2, Category). Of two broadcasts that are due at the same slot, the one of the
 /// high category is aired first.
 #[derive(Clone, Copy, Debug, PartialEq, Eq)]
@@ -27,6 +34,18 @@ pub enum Category {
     High,
     /// Normal.
     Normal,
+}
+
+impl Category {
+    /// Whether it is the high one.
+    pub fn is_high(self) -> bool
+        ensures { result ≡ is_high self }
+    {
+        match self {
+            Category::High => true,
+            Category::Normal => false,
+        }
+    }
 }
 
 /// What a cell is asked to do.

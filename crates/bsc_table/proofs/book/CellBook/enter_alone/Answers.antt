@@ -1,0 +1,34 @@
+use Rattle.std.proofs.Common.{◌≡◌, List, [], ◌∷◌, ◌++◌, map, subst, sym, ap, ◌∙◌}
+use Rattle.scheduler.specs.Follows.{Follows}
+use Rattle.bsc_table.specs.declared.entry.Entry.{Entry}
+use Rattle.bsc_table.specs.Record.{Record, Accepted, accepted_in, messages_in}
+use Rattle.bsc_table.specs.Legal.{IsLegal}
+use Rattle.bsc_table.specs.Book.{accepted_of, record_of, lines_at, IsNext}
+use Rattle.bsc_table.proofs.Entering.{IsLegal-with}
+use Rattle.bsc_table.proofs.book.CellBook.enter_alone.Goals as goal
+
+pub invariant_of-self-2 : goal.invariant_of-self-2
+invariant_of-self-2 c =
+    let book = c.self.invariant in
+    let r : Record = record_of c.self.inside in
+    let e : Entry = c.args.entry in
+    let inside = sym c.self.view_is in
+    let Next : Record → Type 0 = λ x. IsNext x e in
+    let Same : Record → Type 0 = λ x. accepted_in (x.log ++ e ∷ []) ≡ accepted_in x.log in
+    let next = subst Next inside c.requires.next in
+    let same = subst Same inside c.requires.same in
+    let grown = sym (c.push_within.ensures.items ∙ ap (λ (l : List Entry). l ++ e ∷ []) c.reserve.ensures.items) in
+    let Legal : List Entry → Type 0 = λ log. IsLegal (record r { log = log }) in
+    let Kept : List Accepted → Type 0 = λ all. map accepted_of c.self.inside.accepted.items ≡ all in
+    let FollowsThem : List Accepted → Type 0 = λ all. Follows c.self.inside.plan (map (λ (a : Accepted). a.message) all) r.air in
+    let Holds : List Accepted → Type 0 = λ all. c.self.inside.budget ≡ lines_at r.clock (map (λ (a : Accepted). a.message) all) in
+    let after = sym same ∙ ap accepted_in grown in
+    record {
+      legal = subst Legal grown (IsLegal-with r e book.legal next);
+      short = book.short;
+      kept = subst Kept after book.kept;
+      follows = subst FollowsThem after book.follows;
+      held = subst Holds after book.held;
+      places = book.places;
+      room = book.room;
+    }
