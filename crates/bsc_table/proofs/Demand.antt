@@ -21,7 +21,7 @@ range_push a (suc n) =
     ap (λ xs. a ∷ xs) (range_push (a + 1) n ∙ ap (λ x. range_with_len (a + 1) n ++ x ∷ []) here)
 
 -- a count over the numbers below suc n
-count_below_more : (p : ℕ → Bool) (n : ℕ) → count_by p (range_with_len 0 (suc n)) ≡ count_by p (range_with_len 0 n) + cond (p n) 1 0
+pub count_below_more : (p : ℕ → Bool) (n : ℕ) → count_by p (range_with_len 0 (suc n)) ≡ count_by p (range_with_len 0 n) + cond (p n) 1 0
 count_below_more p n =
     let here : 0 + n ≡ n = omega arith in
     ap (count_by p) (range_push 0 n) ∙ (sum_by_push (λ j. cond (p j) 1 0) (range_with_len 0 n) (0 + n) ∙ ap (λ j. count_by p (range_with_len 0 n) + cond (p j) 1 0) here)

@@ -1,8 +1,18 @@
 -- Legal histories worked by hand: answers, and what is aired.
-use Rattle.std.proofs.Common.{◌≡◌, ℕ, zero, suc, refl, Option, Some, None, List, [], ◌∷◌, ◌++◌}
+use Rattle.std.proofs.Common.{◌≡◌, ℕ, zero, suc, ◌≤◌, ◌<◌, Bool, true, false, ◌&&◌, inl, refl, Option, Some, None, List, [], ◌∷◌, ◌++◌, length, take, get_or, arith}
+use Rattle.std.specs.Prelude.{nat_le, nat_lt}
+use Rattle.std.specs.List.{All, AllPairs, Any, list_all}
+use Rattle.std.proofs.lemmas.Bool.{and_parts, leb-true, ltb-true}
+use Rattle.std.proofs.lemmas.List.Elements.{All-nil, All-cons, All-weaker}
+use Rattle.std.proofs.lemmas.List.Kept.{AllPairs-cons}
+use Rattle.std.proofs.lemmas.List.Sums.{AllPass-from_list_all}
 use Rattle.cbs_page.specs.declared.content.Content.{Content}
-use Rattle.scheduler.specs.Air.{Air}
+use Rattle.cbsp_wire.specs.Range.{is_coding}
+use Rattle.scheduler.specs.Air.{Air, pages_aired}
+use Rattle.scheduler.specs.Completed.{completed}
 use Rattle.scheduler.specs.Choice.{air_of}
+use Rattle.scheduler.specs.Message.{Message}
+use Rattle.scheduler.proofs.Choice.{IsAirOf-air_of}
 use Rattle.bsc_table.specs.declared.command.Category.{Category}
 use Rattle.bsc_table.specs.declared.command.Category.TheVariants.{High, Normal}
 use Rattle.bsc_table.specs.declared.command.Command.{Command}
@@ -11,8 +21,14 @@ use Rattle.bsc_table.specs.declared.entry.Answer.{Answer}
 use Rattle.bsc_table.specs.declared.entry.Answer.TheVariants as answers
 use Rattle.bsc_table.specs.declared.entry.State.TheVariants as states
 use Rattle.bsc_table.specs.declared.entry.Entry.{Entry}
-use Rattle.bsc_table.specs.Record.{messages_in}
+use Rattle.bsc_table.specs.Bounds.{least_completed, most_completed}
+use Rattle.bsc_table.specs.Orders.{IsWellFormed}
+use Rattle.bsc_table.specs.Record.{Record, accepted_in, messages_in}
 use Rattle.bsc_table.specs.Answer.{answer_of}
+use Rattle.bsc_table.specs.Legal.{IsAnswered, IsLegal}
+use Rattle.bsc_table.specs.Told.{IsTrulyTold}
+use Rattle.bsc_table.proofs.Promised.{legal_histories_are_served, legal_histories_are_bounded}
+use Rattle.bsc_table.proofs.Told.{legal_answers_are_true}
 
 abbrev contents : ℕ → List Content
 contents zero = []
@@ -163,3 +179,140 @@ twice_ran_out = refl
 
 twice_is_dead : answer twice 6 (kill 9) ≡ answers.Cause 0x02
 twice_is_dead = refl
+
+-- the record of a run of 8 slots by a log, after so many of them
+abbrev run : List Entry → ℕ → Record
+run log clock = record { cell = record { lac = 1; ci = 1 }; slots = 8; clock = clock; log = log; air = aired log clock }
+
+-- the slots of a log rise, from a slot on, up to another
+abbrev slots_rise : ℕ → List Entry → ℕ → Bool
+slots_rise from [] to = nat_le from to
+slots_rise from (e ∷ log) to = nat_le from e.slot && slots_rise e.slot log to
+
+slots_rise-from : (from : ℕ) (log : List Entry) (to : ℕ) → slots_rise from log to ≡ true → All (λ e. from ≤ e.slot) log
+slots_rise-from from [] to rise = All-nil (λ (e : Entry). from ≤ e.slot)
+slots_rise-from from (e ∷ log) to rise =
+    let parts = and_parts (nat_le from e.slot) (slots_rise e.slot log to) rise in
+    let here = leb-true from e.slot parts.0 in
+    All-cons (λ (x : Entry). from ≤ x.slot) e log here (All-weaker (λ (x : Entry). e.slot ≤ x.slot) (λ (x : Entry). from ≤ x.slot) (λ x h. omega arith) log (slots_rise-from e.slot log to parts.1))
+
+slots_rise-all : (from : ℕ) (log : List Entry) (to : ℕ) → slots_rise from log to ≡ true → AllPairs (λ a b. a.slot ≤ b.slot) log
+slots_rise-all from [] to rise = λ i j d before within. absurd (omega arith)
+slots_rise-all from (e ∷ log) to rise =
+    let parts = and_parts (nat_le from e.slot) (slots_rise e.slot log to) rise in
+    AllPairs-cons (λ (a : Entry) (b : Entry). a.slot ≤ b.slot) e log (slots_rise-from e.slot log to parts.1) (slots_rise-all e.slot log to parts.1)
+
+slots_rise-upto : (from : ℕ) (log : List Entry) (to : ℕ) → slots_rise from log to ≡ true → (from ≤ to) × All (λ e. e.slot ≤ to) log
+slots_rise-upto from [] to rise = (leb-true from to rise, All-nil (λ (e : Entry). e.slot ≤ to))
+slots_rise-upto from (e ∷ log) to rise =
+    let parts = and_parts (nat_le from e.slot) (slots_rise e.slot log to) rise in
+    let here = leb-true from e.slot parts.0 in
+    let later = slots_rise-upto e.slot log to parts.1 in
+    (omega (arith, later.0), All-cons (λ (x : Entry). x.slot ≤ to) e log later.0 later.1)
+
+-- well-formed commands, as a test
+abbrev is_formed : Command → Bool
+is_formed (commands.Write id serial replaces category period broadcasts dcs contents) =
+    (nat_le 1 (length contents) && nat_le (length contents) 15) && (list_all (λ c. nat_le c.used 82) contents && ((nat_le 1 period && nat_le period 1024) && is_coding dcs.0))
+is_formed (commands.Kill id serial) = true
+is_formed (commands.Status id serial) = true
+
+is_formed-says : (command : Command) → is_formed command ≡ true → IsWellFormed command
+is_formed-says (commands.Write id serial replaces category period broadcasts dcs contents) formed =
+    let first = and_parts _ _ formed in
+    let pages = and_parts _ _ first.0 in
+    let second = and_parts _ _ first.1 in
+    let third = and_parts _ _ second.1 in
+    let periods = and_parts _ _ third.0 in
+    record {
+      some_pages = leb-true 1 (length contents) pages.0;
+      few_pages = leb-true (length contents) 15 pages.1;
+      used = All-weaker (λ (c : Content). nat_le c.used 82 ≡ true) (λ (c : Content). c.used ≤ 82) (λ c h. leb-true c.used 82 h) contents (AllPass-from_list_all (λ (c : Content). nat_le c.used 82) contents second.0);
+      some_period = leb-true 1 period periods.0;
+      short_period = leb-true period 1024 periods.1;
+      coded = third.1;
+    }
+is_formed-says (commands.Kill id serial) formed = tt
+is_formed-says (commands.Status id serial) formed = tt
+
+-- R, Q and P have one page each, in every sixth, third and second slot, and fill the cell: there is no room for a fourth
+abbrev filled : List Entry
+filled = entry (write 1 None Normal 1 6 0) 0 (answers.Started 0) ∷ entry (write 2 None Normal 1 3 0) 0 (answers.Started 0) ∷ entry (write 3 None Normal 1 2 0) 0 (answers.Started 0) ∷ entry (write 4 None Normal 1 1024 0) 0 (answers.Cause 0x06) ∷ []
+
+filled_aired : aired filled 6 ≡ Some (2, 1) ∷ Some (1, 1) ∷ Some (2, 1) ∷ Some (0, 1) ∷ Some (1, 1) ∷ Some (2, 1) ∷ []
+filled_aired = refl
+
+filled_answered : (i : ℕ) (d : Entry) → i < length filled → IsAnswered 8 (take i filled) (aired filled 6) (get_or filled i d)
+filled_answered zero d within = refl
+filled_answered (suc zero) d within = refl
+filled_answered (suc (suc zero)) d within = refl
+filled_answered (suc (suc (suc zero))) d within = refl
+filled_answered (suc (suc (suc (suc i)))) d within = absurd (omega arith)
+
+-- what is left to show of a run whose air list is computed
+legal_run : (log : List Entry) (clock : ℕ) → length log ≤ 4096 → clock ≤ 8 → slots_rise 0 log clock ≡ true → list_all (λ e. is_formed e.command) log ≡ true → list_all (λ m. nat_lt 0 m.period) (messages_in log) ≡ true → ((i : ℕ) (d : Entry) → i < length log → IsAnswered 8 (take i log) (aired log clock) (get_or log i d)) → length (aired log clock) ≡ clock → IsLegal (run log clock)
+legal_run log clock few within rise formed periods answered played = record {
+  within = within;
+  few = few;
+  rising = slots_rise-all 0 log clock rise;
+  known = (slots_rise-upto 0 log clock rise).1;
+  formed = All-weaker (λ (e : Entry). is_formed e.command ≡ true) (λ (e : Entry). IsWellFormed e.command) (λ e. is_formed-says e.command) log (AllPass-from_list_all (λ (e : Entry). is_formed e.command) log formed);
+  answered = answered;
+  played = played;
+  aired = IsAirOf-air_of (messages_in log) clock (All-weaker (λ (m : Message). nat_lt 0 m.period ≡ true) (λ (m : Message). 0 < m.period) (λ m. ltb-true 0 m.period) (messages_in log) (AllPass-from_list_all (λ (m : Message). nat_lt 0 m.period) (messages_in log) periods));
+}
+
+filled_is_legal : IsLegal (run filled 6)
+filled_is_legal = legal_run filled 6 (omega arith) (omega arith) refl refl refl filled_answered refl
+
+-- after five of the slots the half has the least number of whole broadcasts that it may have, and the third the most
+abbrev half : Message
+half = record { number = 2; start = 0; pages = 1; period = 2; requested = 0; stop = None; high = false }
+
+abbrev third : Message
+third = record { number = 1; start = 0; pages = 1; period = 3; requested = 0; stop = None; high = false }
+
+filled_messages : messages_in filled ≡ record { number = 0; start = 0; pages = 1; period = 6; requested = 0; stop = None; high = false } ∷ third ∷ half ∷ []
+filled_messages = refl
+
+half_least : least_completed half 5 ≡ 2
+half_least = refl
+
+half_has_the_least : completed half (aired filled 6) 5 ≡ 2
+half_has_the_least = refl
+
+half_most : most_completed half 5 ≡ 3
+half_most = refl
+
+third_least : least_completed third 5 ≡ 1
+third_least = refl
+
+third_has_the_most : completed third (aired filled 6) 5 ≡ 2
+third_has_the_most = refl
+
+third_most : most_completed third 5 ≡ 2
+third_most = refl
+
+-- so it is at each slot up to the clock
+half_is_bounded : (slot : ℕ) → slot ≤ 6 → (least_completed half slot ≤ completed half (aired filled 6) slot) × (completed half (aired filled 6) slot ≤ most_completed half slot)
+half_is_bounded slot by = legal_histories_are_bounded (run filled 6) filled_is_legal 2 half (omega arith) slot by
+
+-- the history with a kill and refusals is legal too, so that C, which had to wait for room, is whole by slot 8
+whole_answered : (i : ℕ) (d : Entry) → i < length whole → IsAnswered 8 (take i whole) (aired whole 8) (get_or whole i d)
+whole_answered zero d within = refl
+whole_answered (suc zero) d within = refl
+whole_answered (suc (suc zero)) d within = refl
+whole_answered (suc (suc (suc zero))) d within = refl
+whole_answered (suc (suc (suc (suc zero)))) d within = refl
+whole_answered (suc (suc (suc (suc (suc i))))) d within = absurd (omega arith)
+
+whole_is_legal : IsLegal (run whole 8)
+whole_is_legal = legal_run whole 8 (omega arith) (omega arith) refl refl refl whole_answered refl
+
+c_is_served : pages_aired 4 (aired whole 8) 4 8 ≡ 2
+c_is_served =
+    legal_histories_are_served (run whole 8) whole_is_legal 2 half (omega arith) 0 (record { requested = inl refl; standing = tt; aired_by = omega arith })
+
+-- and the number that B's kill told is true, of B as it was accepted first
+kill_was_true : Any (IsTrulyTold (aired whole 8) (entry (kill 2) 3 (answers.Stopped 0)) 0) (accepted_in whole)
+kill_was_true = legal_answers_are_true (run whole 8) whole_is_legal 2 (entry (kill 2) 3 (answers.Stopped 0)) (omega arith) 0 refl

@@ -1,10 +1,14 @@
+pub mod Bounds
 pub mod Broadcasts
 pub mod Busy
 pub mod Demand
+pub mod Fitting
 pub mod Inside
+pub mod Promised
 pub mod Reserved
 pub mod Served
 pub mod Sums
+pub mod Told
 mod Worked
 pub mod BookLaws
 mod Histories

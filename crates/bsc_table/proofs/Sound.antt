@@ -13,8 +13,8 @@ use Rattle.bsc_table.specs.declared.entry.Answer.{Answer}
 use Rattle.bsc_table.specs.declared.entry.Entry.{Entry}
 use Rattle.bsc_table.specs.Record.{Record, Accepted, accepted_in, is_of_pair}
 use Rattle.bsc_table.specs.Legal.{IsLegal}
-use Rattle.bsc_table.proofs.Named.{OfAnotherPair, AllPairs-head, AllPairs-tail}
 use Rattle.bsc_table.specs.Book.{stop_numbered, IsBegun}
+use Rattle.bsc_table.proofs.Named.{OfAnotherPair, AllPairs-head, AllPairs-tail}
 use Rattle.bsc_table.proofs.Outcome.{Outcome, entry_with, with, without, outcome_of}
 
 -- the message begins at the slot or before it
@@ -114,9 +114,19 @@ outcome_at r legal k d within once =
     let P : Answer → Type 0 = λ answer. Outcome (take k r.log) (entry_with e.command e.slot answer) in
     subst P (sym (legal.answered k d within)) (outcome_of r.slots (take k r.log) (take e.slot r.air) e.slot e.command once (legal.formed k d within))
 
-some_entry : (log : List Entry) → 0 < length log → Entry
+-- an entry of a log that has one
+pub some_entry : (log : List Entry) → 0 < length log → Entry
 some_entry [] some = absurd (omega arith)
 some_entry (e ∷ log) some = e
+
+-- the entries before it have no later slots
+pub slots_before : (r : Record) → IsLegal r → (k : ℕ) (d : Entry) → k < length r.log → All (λ e. e.slot ≤ (get_or r.log k d).slot) (take k r.log)
+slots_before r legal k d within = λ i x h.
+    let short = length-take-le k r.log (omega arith) in
+    let same = get_or-take k r.log i x (omega arith) in
+    let rises = legal.rising i k x (omega arith) within in
+    let here : get_or r.log k x ≡ get_or r.log k d = get_or_default r.log k x d within in
+    omega (arith, ap (λ (e : Entry). e.slot) same, ap (λ (e : Entry). e.slot) here, rises)
 
 pub sound_at : (r : Record) → IsLegal r → (k slot : ℕ) → k ≤ length r.log → All (λ e. e.slot ≤ slot) (take k r.log) → IsSound (accepted_in (take k r.log)) slot
 sound_at r legal zero slot within before = record { once = λ i j d b w. absurd (omega arith); begun = All-nil (BeginsBy slot); loaded = All-nil HasLoad }
@@ -124,13 +134,7 @@ sound_at r legal (suc k) slot within before =
     let d : Entry = some_entry r.log (omega arith) in
     let e : Entry = get_or r.log k d in
     let grown : take (suc k) r.log ≡ take k r.log ++ e ∷ [] = take-suc r.log k d (omega arith) in
-    let earlier : All (λ x. x.slot ≤ e.slot) (take k r.log) = λ i x h.
-    let short = length-take-le k r.log (omega arith) in
-    let same = get_or-take k r.log i x (omega arith) in
-    let rises = legal.rising i k x (omega arith) (omega arith) in
-    let here : get_or r.log k x ≡ e = get_or_default r.log k x d (omega arith) in
-    omega (arith, ap (λ (y : Entry). y.slot) same, ap (λ (y : Entry). y.slot) here, rises) in
-    let sound = sound_at r legal k e.slot (omega arith) earlier in
+    let sound = sound_at r legal k e.slot (omega arith) (slots_before r legal k d (omega arith)) in
     let outcome = outcome_at r legal k d (omega arith) sound.once in
     let Sound : List Entry → Type 0 = λ log. IsSound (accepted_in log) slot in
     let last : get_or (take (suc k) r.log) k d ≡ e = get_or-take (suc k) r.log k d (omega arith) in

@@ -12,6 +12,7 @@ use Rattle.scheduler.specs.Completed.{completed}
 use Rattle.scheduler.specs.Choice.{air_of}
 use Rattle.scheduler.proofs.Choice.{IsAirOf-air_of}
 use Rattle.bsc_table.specs.Guarantee.{reservation_of, LoadsFit, IsUncut, demand}
+use Rattle.bsc_table.specs.Bounds.{least_completed, most_completed}
 use Rattle.bsc_table.proofs.Served.{admitted_load_is_a_guarantee}
 
 -- a message that stands until it is stopped
@@ -228,3 +229,49 @@ replacement_is_whole =
 -- replaced at slot 4, within its period, it would leave no room for the new one
 replaced_late_over : loads_at (map reservation_of (r ∷ message 1 0 1 3 (Some 4) false ∷ p ∷ message 3 4 1 3 None false ∷ [])) 4 ≡ 310390080
 replaced_late_over = refl
+
+-- two broadcasts, in the slots 0 to 2 and 3 to 5: by slot 10 both are whole, and by slot 4 the first is
+abbrev twice : Message
+twice = record (message 0 0 1 3 None false) { requested = 2 }
+
+twice_least : least_completed twice 10 ≡ 2
+twice_least = refl
+
+twice_most : most_completed twice 10 ≡ 2
+twice_most = refl
+
+twice_least_within : least_completed twice 4 ≡ 1
+twice_least_within = refl
+
+twice_most_within : most_completed twice 4 ≡ 2
+twice_most_within = refl
+
+-- a broadcast that a stop cuts may be whole or not, as its pages and the others have it
+abbrev cut : ℕ → Message
+cut pages = message 0 0 pages 4 (Some 3) false
+
+cut_least : least_completed (cut 1) 8 ≡ 0
+cut_least = refl
+
+cut_most : most_completed (cut 1) 8 ≡ 1
+cut_most = refl
+
+cut_but_whole : completed (cut 1) (air_of (cut 1 ∷ d ∷ []) 8) 8 ≡ 1
+cut_but_whole = refl
+
+cut_and_lost : completed (cut 2) (air_of (cut 2 ∷ message 1 0 1 2 None true ∷ []) 8) 8 ≡ 0
+cut_and_lost = refl
+
+-- stopped on the boundary of a period, nothing of it is in doubt
+boundary_least : least_completed (message 0 0 1 3 (Some 3) false) 8 ≡ 1
+boundary_least = refl
+
+boundary_most : most_completed (message 0 0 1 3 (Some 3) false) 8 ≡ 1
+boundary_most = refl
+
+-- nor of one that has not begun
+unbegun_least : least_completed (message 0 5 1 3 None false) 4 ≡ 0
+unbegun_least = refl
+
+unbegun_most : most_completed (message 0 5 1 3 None false) 4 ≡ 0
+unbegun_most = refl

@@ -1,6 +1,10 @@
-//! The guarantee and the laws that it stands on, over the definitions of load and air alone.
+//! The guarantee and the laws that it stands on, over the definitions of load and air alone; and what it comes to for a cell's
+//! legal history.
 
 ghost use Rattle.bsc_table.specs.Guarantee.{ReservationsCoverBroadcasts, DemandIsNoMoreThanTheSlots, LackMeansABusyPeriod, AdmittedLoadIsAGuarantee, AdmittedBroadcastsAreWhole};
+ghost use Rattle.bsc_table.specs.Bounds.{CompletedIsAtMost, CompletedIsAtLeast, BoundsAreNear};
+ghost use Rattle.bsc_table.specs.Promised.{LegalLoadsFit, LegalHistoriesAreServed, LegalHistoriesAreBounded};
+ghost use Rattle.bsc_table.specs.Told.{LegalAnswersAreTrue};
 
 /// Admitted load is a guarantee: where the loads that are reserved at each slot sum to at most `SCALE`, and each slot airs
 /// what the air rule says, each broadcast is aired whole within its own period, from its release up to its due slot.
@@ -23,4 +27,44 @@ pub fn guarantee()
 
     // In the words of the completed number: from its due slot on, each counts as whole.
     ensures admitted_broadcasts_are_whole { AdmittedBroadcastsAreWhole }
+{}
+
+/// What the completed number of a message can be, before any slot that was played: at most as many as its requested broadcasts
+/// whose period had begun while it stood, and, where what is aired was admitted, at least as many as those whose period was over.
+/// Own rules, of no standard.
+///
+/// Does nothing: its contract is the law.
+pub fn completed_bounds()
+    // No broadcast counts that had not begun, whatever the cell airs.
+    ensures completed_is_at_most { CompletedIsAtMost }
+
+    // Each broadcast counts whose period was over, where the reserved loads fit and each slot airs what the air rule says.
+    ensures completed_is_at_least { CompletedIsAtLeast }
+
+    // So the number is known up to one: only the broadcast under way, or cut by the stop, is in doubt.
+    ensures bounds_are_near { BoundsAreNear }
+{}
+
+/// What a cell promises of each message that it accepted. Its history is legal: the commands are such as a message of the warning
+/// centre can ask for, they came in the order of their slots, each was answered by the rules, and each slot aired what the air rule
+/// says. No other premise is made.
+///
+/// Nothing is promised of the broadcast that was under way at a message's stop, or is at the clock. Own rules, of no standard.
+///
+/// Does nothing: its contract is the law.
+pub fn legal_histories()
+    // However messages were accepted, replaced and killed, the loads that are reserved sum to at most `SCALE` at each slot.
+    ensures legal_loads_fit { LegalLoadsFit }
+
+    // Each broadcast that was requested, that is due by the clock and that no stop cut was aired whole, from its release up to the
+    // slot in which it was due.
+    ensures legal_histories_are_served { LegalHistoriesAreServed }
+
+    // So before each slot up to the clock, the broadcasts of a message that are whole are at least those requested whose period was
+    // over while it stood, and at most those requested whose period had begun while it stood.
+    ensures legal_histories_are_bounded { LegalHistoriesAreBounded }
+
+    // And each number that was told of a message, in answer to its kill, to its replacement or to a status, is the number of its
+    // broadcasts that were whole by then, and lies between these bounds.
+    ensures legal_answers_are_true { LegalAnswersAreTrue }
 {}

@@ -16,6 +16,6 @@ mod tests;
 pub use book::CellBook;
 pub use command::{Category, Command, Refused};
 pub use entry::{Aired, Answer, Entry, SlotRange, State};
-pub use laws::guarantee;
+pub use laws::{completed_bounds, guarantee, legal_histories};
 pub use orders::orders_of;
 pub use record::CellRecord;
