@@ -1,25 +1,23 @@
 -- What an answer that stops or starts a message says of the record before it.
-use Rattle.std.proofs.Common.{◌≡◌, ℕ, ◌+◌, ◌≤◌, ◌<◌, ◌==◌, true, false, Option, Some, None, is_some, List, [], ◌∷◌, ◌++◌, length, map, sum_by, refl, sym, subst, arith}
+use Rattle.std.proofs.Common.{◌≡◌, ℕ, ◌+◌, ◌≤◌, ◌<◌, true, false, Option, Some, None, is_some, List, [], ◌∷◌, ◌++◌, length, map, sum_by, refl, sym, subst, arith}
 use Rattle.std.specs.List.{find}
-use Rattle.std.proofs.lemmas.Bool.{false≢true, true≢false, not_from_false}
+use Rattle.std.proofs.lemmas.Bool.{false≢true, true≢false}
 use Rattle.admission.specs.declared.measure.TheConstants.{SCALE}
 use Rattle.admission.specs.Load.{load_of}
 use Rattle.admission.specs.Reservation.{Reservation}
 use Rattle.scheduler.specs.Message.{Message, stopped_at}
-use Rattle.scheduler.specs.Air.{Air}
 use Rattle.scheduler.specs.Completed.{completed}
 use Rattle.cbs_page.specs.declared.content.Content.{Content}
 use Rattle.cbs_page.specs.declared.Dcs.{Dcs}
 use Rattle.bsc_table.specs.declared.command.Category.{Category}
-use Rattle.bsc_table.specs.declared.command.Command.{Command}
 use Rattle.bsc_table.specs.declared.command.Command.TheVariants as commands
 use Rattle.bsc_table.specs.declared.entry.Answer.{Answer}
 use Rattle.bsc_table.specs.declared.entry.Answer.TheVariants as answers
 use Rattle.bsc_table.specs.declared.entry.Entry.{Entry}
 use Rattle.bsc_table.specs.Orders.{IsBroadcastable}
 use Rattle.bsc_table.specs.Record.{Record, Accepted, start_of, is_stop_by, accepted_with, accepted_in, messages_in, is_of_pair, message_named, is_live, reserved_at}
-use Rattle.bsc_table.specs.Answer.{told_of, answer_to_new, answer_to_replacement, unless_accepted, answer_to_write, answer_to_kill, answer_with_room}
-use Rattle.bsc_table.specs.Book.{stop_numbered, IsBegun, has_entry, is_stopped}
+use Rattle.bsc_table.specs.Answer.{answer_to_new, answer_to_replacement, unless_accepted, answer_to_write, answer_to_kill, answer_with_room}
+use Rattle.bsc_table.specs.Book.{stop_numbered, IsBegun, is_stopped}
 use Rattle.bsc_table.proofs.Outcome.{entry_with, does_nothing, new_message, before_end_cases, of_live_cases, unless_accepted_cases, beside_cases, messages_stopped}
 
 -- the message that is to be stopped was accepted, and is live
