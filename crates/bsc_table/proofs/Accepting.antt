@@ -1,25 +1,23 @@
 -- What an answer that stops or starts a message says of the record before it.
-use Rattle.std.proofs.Common.{◌≡◌, ℕ, ◌+◌, ◌≤◌, ◌<◌, ◌==◌, true, false, Option, Some, None, is_some, List, [], ◌∷◌, ◌++◌, length, map, sum_by, refl, sym, subst, arith}
+use Rattle.std.proofs.Common.{◌≡◌, ℕ, ◌+◌, ◌≤◌, ◌<◌, true, false, Option, Some, None, is_some, List, [], ◌∷◌, ◌++◌, length, map, sum_by, refl, sym, subst, arith}
 use Rattle.std.specs.List.{find}
-use Rattle.std.proofs.lemmas.Bool.{false≢true, true≢false, not_from_false}
+use Rattle.std.proofs.lemmas.Bool.{false≢true, true≢false}
 use Rattle.admission.specs.declared.measure.TheConstants.{SCALE}
 use Rattle.admission.specs.Load.{load_of}
 use Rattle.admission.specs.Reservation.{Reservation}
 use Rattle.scheduler.specs.Message.{Message, stopped_at}
-use Rattle.scheduler.specs.Air.{Air}
 use Rattle.scheduler.specs.Completed.{completed}
 use Rattle.cbs_page.specs.declared.content.Content.{Content}
 use Rattle.cbs_page.specs.declared.Dcs.{Dcs}
 use Rattle.bsc_table.specs.declared.command.Category.{Category}
-use Rattle.bsc_table.specs.declared.command.Command.{Command}
 use Rattle.bsc_table.specs.declared.command.Command.TheVariants as commands
 use Rattle.bsc_table.specs.declared.entry.Answer.{Answer}
 use Rattle.bsc_table.specs.declared.entry.Answer.TheVariants as answers
 use Rattle.bsc_table.specs.declared.entry.Entry.{Entry}
 use Rattle.bsc_table.specs.Orders.{IsBroadcastable}
 use Rattle.bsc_table.specs.Record.{Record, Accepted, start_of, is_stop_by, accepted_with, accepted_in, messages_in, is_of_pair, message_named, is_live, reserved_at}
-use Rattle.bsc_table.specs.Answer.{told_of, answer_to_new, answer_to_replacement, unless_accepted, answer_to_write, answer_to_kill, answer_with_room}
-use Rattle.bsc_table.specs.Book.{stop_numbered, IsBegun, has_entry, is_stopped}
+use Rattle.bsc_table.specs.Answer.{answer_to_new, answer_to_replacement, unless_accepted, answer_to_write, answer_to_kill, answer_with_room}
+use Rattle.bsc_table.specs.Book.{stop_numbered, IsBegun, is_stopped}
 use Rattle.bsc_table.proofs.Outcome.{entry_with, does_nothing, new_message, before_end_cases, of_live_cases, unless_accepted_cases, beside_cases, messages_stopped}
 
 -- the message that is to be stopped was accepted, and is live
@@ -35,7 +33,7 @@ pub record Stops (r : Record) (id serial : ℕ) (answer : Answer) : Type 0 where
 pub kill_stops : (r : Record) (id serial : ℕ) → is_stopped (answer_with_room r.slots r.log r.air r.clock (commands.Kill id serial)) ≡ true → Stops r id serial (answer_with_room r.slots r.log r.air r.clock (commands.Kill id serial))
 kill_stops r id serial =
     let P : Answer → Type 0 = λ answer. is_stopped answer ≡ true → Stops r id serial answer in
-    let refuses : (cause : ℕ) → (cause == 0x08) ≡ false → P (answers.Cause cause) = λ cause other stopped. absurd (false≢true stopped) in
+    let refuses : (cause : ℕ) → P (answers.Cause cause) = λ cause stopped. absurd (false≢true stopped) in
     before_end_cases P r.slots r.clock (answer_to_kill r.log r.air r.clock id serial) refuses (of_live_cases P r.clock (find (is_of_pair id serial) (accepted_in r.log)) (λ m. answers.Stopped (completed m r.air r.clock)) refuses (λ a found live stopped. record {
       stopped = a;
       live = record { found = found; live = live };
@@ -46,7 +44,7 @@ pub write_starts : (r : Record) (id serial : ℕ) (category : Category) (period 
 write_starts r id serial category period broadcasts dcs contents formed =
     let new = new_message (length r.log) r.clock id serial category period broadcasts contents in
     let P : Answer → Type 0 = λ answer. is_some (start_of answer) ≡ true → (answer ≡ answers.Started r.clock) × IsBegun (length r.log) r.clock (accepted_in r.log) new in
-    let refuses : (cause : ℕ) → (cause == 0x08) ≡ false → P (answers.Cause cause) = λ cause other started. absurd (false≢true started) in
+    let refuses : (cause : ℕ) → P (answers.Cause cause) = λ cause started. absurd (false≢true started) in
     let load : ℕ = load_of (length contents) period in
     before_end_cases P r.slots r.clock (answer_to_write r.log r.air r.clock id serial None load) refuses (unless_accepted_cases P (find (is_of_pair id serial) (accepted_in r.log)) (answer_to_new r.log r.clock load) refuses (λ fresh. beside_cases P (reserved_at r.clock (messages_in r.log)) load (answers.Started r.clock) refuses (λ room fits started. (
       refl,
@@ -71,7 +69,7 @@ pub write_replaces : (r : Record) (id serial old : ℕ) (category : Category) (p
 write_replaces r id serial old category period broadcasts dcs contents formed =
     let new = new_message (length r.log) r.clock id serial category period broadcasts contents in
     let P : Answer → Type 0 = λ answer. is_some (start_of answer) ≡ true → Replaces r id old new answer in
-    let refuses : (cause : ℕ) → (cause == 0x08) ≡ false → P (answers.Cause cause) = λ cause other started. absurd (false≢true started) in
+    let refuses : (cause : ℕ) → P (answers.Cause cause) = λ cause started. absurd (false≢true started) in
     let load : ℕ = load_of (length contents) period in
     before_end_cases P r.slots r.clock (answer_to_write r.log r.air r.clock id serial (Some old) load) refuses (of_live_cases P r.clock (find (is_of_pair id old) (accepted_in r.log)) (λ m. unless_accepted (message_named id serial r.log) (answer_to_replacement r.log r.air r.clock load m)) refuses (λ a found live. unless_accepted_cases P (find (is_of_pair id serial) (accepted_in r.log)) (answer_to_replacement r.log r.air r.clock load a.message) refuses (λ fresh. beside_cases P (reserved_at r.clock (stopped_at a.message.number r.clock (messages_in r.log))) load (answers.Replaced r.clock (completed a.message r.air r.clock)) refuses (λ room fits started.
     let Room : List Message → Type 0 = λ messages. length (reserved_at r.clock messages) < 64 in
@@ -91,28 +89,6 @@ write_replaces r id serial old category period broadcasts dcs contents formed =
         fits = subst Fits same fits;
       };
     }))))
-
--- an answer where the log has room has an entry
-abbrev Has : Answer → Type 0
-Has answer = has_entry answer ≡ true
-
-cause_has : (cause : ℕ) → (cause == 0x08) ≡ false → has_entry (answers.Cause cause) ≡ true
-cause_has cause other = not_from_false (cause == 0x08) other
-
-told_has : (air : Air) (slot : ℕ) (m : Option Message) → has_entry (told_of air slot m) ≡ true
-told_has air slot None = refl
-told_has air slot (Some m) = refl
-
-pub has_its_entry : (r : Record) (command : Command) → has_entry (answer_with_room r.slots r.log r.air r.clock command) ≡ true
-has_its_entry r (commands.Status id serial) = told_has r.air r.clock (message_named id serial r.log)
-has_its_entry r (commands.Kill id serial) =
-    before_end_cases Has r.slots r.clock (answer_to_kill r.log r.air r.clock id serial) cause_has (of_live_cases Has r.clock (find (is_of_pair id serial) (accepted_in r.log)) (λ m. answers.Stopped (completed m r.air r.clock)) cause_has (λ a found live. refl))
-has_its_entry r (commands.Write id serial None category period broadcasts dcs contents) =
-    let load : ℕ = load_of (length contents) period in
-    before_end_cases Has r.slots r.clock (answer_to_write r.log r.air r.clock id serial None load) cause_has (unless_accepted_cases Has (find (is_of_pair id serial) (accepted_in r.log)) (answer_to_new r.log r.clock load) cause_has (λ fresh. beside_cases Has (reserved_at r.clock (messages_in r.log)) load (answers.Started r.clock) cause_has (λ room fits. refl)))
-has_its_entry r (commands.Write id serial (Some old) category period broadcasts dcs contents) =
-    let load : ℕ = load_of (length contents) period in
-    before_end_cases Has r.slots r.clock (answer_to_write r.log r.air r.clock id serial (Some old) load) cause_has (of_live_cases Has r.clock (find (is_of_pair id old) (accepted_in r.log)) (λ m. unless_accepted (message_named id serial r.log) (answer_to_replacement r.log r.air r.clock load m)) cause_has (λ a found live. unless_accepted_cases Has (find (is_of_pair id serial) (accepted_in r.log)) (answer_to_replacement r.log r.air r.clock load a.message) cause_has (λ fresh. beside_cases Has (reserved_at r.clock (stopped_at a.message.number r.clock (messages_in r.log))) load (answers.Replaced r.clock (completed a.message r.air r.clock)) cause_has (λ room fits. refl))))
 
 -- a kill that stops nothing, and a write that starts none, change no message
 pub kill_does_nothing : (log : List Entry) (slot id serial : ℕ) (answer : Answer) → is_stopped answer ≡ false → accepted_in (log ++ entry_with (commands.Kill id serial) slot answer ∷ []) ≡ accepted_in log

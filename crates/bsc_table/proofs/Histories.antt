@@ -1,8 +1,8 @@
 -- Legal histories worked by hand: answers, and what is aired.
-use Rattle.std.proofs.Common.{◌≡◌, ℕ, zero, suc, ◌≤◌, ◌<◌, Bool, true, false, ◌&&◌, inl, refl, Option, Some, None, List, [], ◌∷◌, ◌++◌, length, take, get_or, arith}
+use Rattle.std.proofs.Common.{◌≡◌, ℕ, zero, suc, ◌≤◌, ◌<◌, Bool, true, false, ◌&&◌, inl, refl, Option, Some, None, List, [], ◌∷◌, ◌++◌, length, sum_by, take, get_or, arith}
 use Rattle.std.specs.Prelude.{nat_le, nat_lt}
 use Rattle.std.specs.List.{All, AllPairs, Any, list_all}
-use Rattle.std.proofs.lemmas.Bool.{and_parts, leb-true, ltb-true}
+use Rattle.std.proofs.lemmas.Bool.{and_parts, leb-true, le-leb, ltb-true}
 use Rattle.std.proofs.lemmas.List.Elements.{All-nil, All-cons, All-weaker}
 use Rattle.std.proofs.lemmas.List.Kept.{AllPairs-cons}
 use Rattle.std.proofs.lemmas.List.Sums.{AllPass-from_list_all}
@@ -13,6 +13,8 @@ use Rattle.scheduler.specs.Completed.{completed}
 use Rattle.scheduler.specs.Choice.{air_of}
 use Rattle.scheduler.specs.Message.{Message}
 use Rattle.scheduler.proofs.Choice.{IsAirOf-air_of}
+use Rattle.admission.specs.declared.measure.TheConstants.{SCALE}
+use Rattle.admission.specs.Reservation.{Reservation}
 use Rattle.bsc_table.specs.declared.command.Category.{Category}
 use Rattle.bsc_table.specs.declared.command.Category.TheVariants.{High, Normal}
 use Rattle.bsc_table.specs.declared.command.Command.{Command}
@@ -23,7 +25,7 @@ use Rattle.bsc_table.specs.declared.entry.State.TheVariants as states
 use Rattle.bsc_table.specs.declared.entry.Entry.{Entry}
 use Rattle.bsc_table.specs.Bounds.{least_completed, most_completed}
 use Rattle.bsc_table.specs.Orders.{IsWellFormed}
-use Rattle.bsc_table.specs.Record.{Record, accepted_in, messages_in}
+use Rattle.bsc_table.specs.Record.{Record, accepted_in, messages_in, reserved_at}
 use Rattle.bsc_table.specs.Answer.{answer_of}
 use Rattle.bsc_table.specs.Legal.{IsAnswered, IsLegal}
 use Rattle.bsc_table.specs.Told.{IsTrulyTold}
@@ -316,3 +318,38 @@ c_is_served =
 -- and the number that B's kill told is true, of B as it was accepted first
 kill_was_true : Any (IsTrulyTold (aired whole 8) (entry (kill 2) 3 (answers.Stopped 0)) 0) (accepted_in whole)
 kill_was_true = legal_answers_are_true (run whole 8) whole_is_legal 2 (entry (kill 2) 3 (answers.Stopped 0)) (omega arith) 0 refl
+
+-- three messages of one page in every third slot take the whole, and no load fits beside them
+abbrev of_third : ℕ → Command
+of_third serial = write serial None Normal 1 3 0
+
+abbrev three : List Entry
+three = entry (of_third 1) 0 (answers.Started 0) ∷ entry (of_third 2) 0 (answers.Started 0) ∷ entry (of_third 3) 0 (answers.Started 0) ∷ []
+
+third_starts : answer (entry (of_third 1) 0 (answers.Started 0) ∷ entry (of_third 2) 0 (answers.Started 0) ∷ []) 0 (of_third 3) ≡ answers.Started 0
+third_starts = refl
+
+thirds_are_the_whole : sum_by (λ (r : Reservation). r.load) (reserved_at 0 (messages_in three)) ≡ SCALE
+thirds_are_the_whole = refl
+
+no_load_fits : answer three 0 (write 4 None Normal 1 1024 0) ≡ answers.Cause 0x06
+no_load_fits = refl
+
+-- so many messages of one page in 1,024 slots
+abbrev many : ℕ → List Entry
+many zero = []
+many (suc n) = many n ++ entry (write n None Normal 1 1024 0) 0 (answers.Started 0) ∷ []
+
+the_64th_starts : answer (many 63) 0 (write 63 None Normal 1 1024 0) ≡ answers.Started 0
+the_64th_starts = refl
+
+the_65th_has_no_place : answer (many 64) 0 (write 64 None Normal 1 1024 0) ≡ answers.Cause 0x07
+the_65th_has_no_place = refl
+
+-- in the place of one of them it has, since that one's load ends at once
+replacement_has_a_place : answer (many 64) 0 (write 64 (Some 63) Normal 1 1024 0) ≡ answers.Replaced 0 0
+replacement_has_a_place = refl
+
+-- a log of 4,096 entries answers nothing else than that it is full
+full_log : (log : List Entry) (air : Air) (slots slot : ℕ) (command : Command) → 4096 ≤ length log → answer_of slots log air slot command ≡ answers.Cause 0x08
+full_log log air slots slot command full = rw (le-leb 4096 (length log) full) refl

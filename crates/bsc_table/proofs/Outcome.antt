@@ -119,23 +119,23 @@ status_does_nothing log slot id serial answer =
     adds_none (Some slot) n = refl
 
 -- the answers by cases: a cause, or what accepts, with what then holds
-pub before_end_cases : (P : Answer → Type 0) (slots slot : ℕ) (answer : Answer) → ((cause : ℕ) → (cause == 0x08) ≡ false → P (answers.Cause cause)) → P answer → P (before_end slots slot answer)
+pub before_end_cases : (P : Answer → Type 0) (slots slot : ℕ) (answer : Answer) → ((cause : ℕ) → P (answers.Cause cause)) → P answer → P (before_end slots slot answer)
 before_end_cases P slots slot answer refuses accepts =
-    cond_both (slot == slots) (answers.Cause 0x0A) answer P (λ _. refuses 0x0A refl) (λ _. accepts)
+    cond_both (slot == slots) (answers.Cause 0x0A) answer P (λ _. refuses 0x0A) (λ _. accepts)
 
-pub of_live_cases : (P : Answer → Type 0) (slot : ℕ) (found : Option Accepted) (answer : Message → Answer) → ((cause : ℕ) → (cause == 0x08) ≡ false → P (answers.Cause cause)) → ((a : Accepted) → found ≡ Some a → is_live slot a.message ≡ true → P (answer a.message)) → P (of_live slot (message_told found) answer)
-of_live_cases P slot None answer refuses accepts = refuses 0x02 refl
+pub of_live_cases : (P : Answer → Type 0) (slot : ℕ) (found : Option Accepted) (answer : Message → Answer) → ((cause : ℕ) → P (answers.Cause cause)) → ((a : Accepted) → found ≡ Some a → is_live slot a.message ≡ true → P (answer a.message)) → P (of_live slot (message_told found) answer)
+of_live_cases P slot None answer refuses accepts = refuses 0x02
 of_live_cases P slot (Some a) answer refuses accepts =
-    cond_both (is_live slot a.message) (answer a.message) (answers.Cause 0x02) P (λ live. accepts a refl live) (λ _. refuses 0x02 refl)
+    cond_both (is_live slot a.message) (answer a.message) (answers.Cause 0x02) P (λ live. accepts a refl live) (λ _. refuses 0x02)
 
-pub unless_accepted_cases : (P : Answer → Type 0) (found : Option Accepted) (answer : Answer) → ((cause : ℕ) → (cause == 0x08) ≡ false → P (answers.Cause cause)) → (found ≡ None → P answer) → P (unless_accepted (message_told found) answer)
+pub unless_accepted_cases : (P : Answer → Type 0) (found : Option Accepted) (answer : Answer) → ((cause : ℕ) → P (answers.Cause cause)) → (found ≡ None → P answer) → P (unless_accepted (message_told found) answer)
 unless_accepted_cases P None answer refuses accepts = accepts refl
-unless_accepted_cases P (Some a) answer refuses accepts = refuses 0x0D refl
+unless_accepted_cases P (Some a) answer refuses accepts = refuses 0x0D
 
-pub beside_cases : (P : Answer → Type 0) (reserved : List Reservation) (load : ℕ) (answer : Answer) → ((cause : ℕ) → (cause == 0x08) ≡ false → P (answers.Cause cause)) → (length reserved < 64 → sum_by (λ r. r.load) reserved + load ≤ SCALE → P answer) → P (answer_beside reserved load answer)
+pub beside_cases : (P : Answer → Type 0) (reserved : List Reservation) (load : ℕ) (answer : Answer) → ((cause : ℕ) → P (answers.Cause cause)) → (length reserved < 64 → sum_by (λ r. r.load) reserved + load ≤ SCALE → P answer) → P (answer_beside reserved load answer)
 beside_cases P reserved load answer refuses accepts =
     let sum : ℕ = sum_by (λ (r : Reservation). r.load) reserved + load in
-    cond_both (leb 64 (length reserved)) (answers.Cause 0x07) (cond (ltb SCALE sum) (answers.Cause 0x06) answer) P (λ _. refuses 0x07 refl) (λ room. cond_both (ltb SCALE sum) (answers.Cause 0x06) answer P (λ _. refuses 0x06 refl) (λ fits. accepts (leb-false 64 (length reserved) room) (ltb-false SCALE sum fits)))
+    cond_both (leb 64 (length reserved)) (answers.Cause 0x07) (cond (ltb SCALE sum) (answers.Cause 0x06) answer) P (λ _. refuses 0x07) (λ room. cond_both (ltb SCALE sum) (answers.Cause 0x06) answer P (λ _. refuses 0x06) (λ fits. accepts (leb-false 64 (length reserved) room) (ltb-false SCALE sum fits)))
 
 -- to find is to have
 pub Contains-find : (p : Accepted → Bool) (all : List Accepted) (a : Accepted) → find p all ≡ Some a → Contains all a
@@ -151,7 +151,7 @@ kill_outcome : (log : List Entry) (air : Air) (slot id serial : ℕ) → AllPair
 kill_outcome log air slot id serial once =
     let command = commands.Kill id serial in
     let P : Answer → Type 0 = λ answer. Outcome log (entry_with command slot answer) in
-    let refuses : (cause : ℕ) → (cause == 0x08) ≡ false → P (answers.Cause cause) = λ cause other. nothing log (entry_with command slot (answers.Cause cause)) (refused_does_nothing log slot cause command) in
+    let refuses : (cause : ℕ) → P (answers.Cause cause) = λ cause. nothing log (entry_with command slot (answers.Cause cause)) (refused_does_nothing log slot cause command) in
     of_live_cases P slot (find (is_of_pair id serial) (accepted_in log)) (λ m. answers.Stopped (completed m air slot)) refuses (λ a found live. record {
       stopped = Some a;
       started = None;
@@ -165,7 +165,7 @@ new_outcome : (log : List Entry) (slot id serial : ℕ) (category : Category) (p
 new_outcome log slot id serial category period broadcasts dcs contents formed =
     let command = commands.Write id serial None category period broadcasts dcs contents in
     let P : Answer → Type 0 = λ answer. Outcome log (entry_with command slot answer) in
-    let refuses : (cause : ℕ) → (cause == 0x08) ≡ false → P (answers.Cause cause) = λ cause other. nothing log (entry_with command slot (answers.Cause cause)) (refused_does_nothing log slot cause command) in
+    let refuses : (cause : ℕ) → P (answers.Cause cause) = λ cause. nothing log (entry_with command slot (answers.Cause cause)) (refused_does_nothing log slot cause command) in
     let load = load_of (length contents) period in
     unless_accepted_cases P (find (is_of_pair id serial) (accepted_in log)) (answer_to_new log slot load) refuses (λ fresh. beside_cases P (reserved_at slot (messages_in log)) load (answers.Started slot) refuses (λ room fits. record {
       stopped = None;
@@ -180,7 +180,7 @@ replacement_outcome : (log : List Entry) (air : Air) (slot id serial old : ℕ) 
 replacement_outcome log air slot id serial old category period broadcasts dcs contents once formed =
     let command = commands.Write id serial (Some old) category period broadcasts dcs contents in
     let P : Answer → Type 0 = λ answer. Outcome log (entry_with command slot answer) in
-    let refuses : (cause : ℕ) → (cause == 0x08) ≡ false → P (answers.Cause cause) = λ cause other. nothing log (entry_with command slot (answers.Cause cause)) (refused_does_nothing log slot cause command) in
+    let refuses : (cause : ℕ) → P (answers.Cause cause) = λ cause. nothing log (entry_with command slot (answers.Cause cause)) (refused_does_nothing log slot cause command) in
     let load = load_of (length contents) period in
     of_live_cases P slot (find (is_of_pair id old) (accepted_in log)) (λ m. unless_accepted (message_named id serial log) (answer_to_replacement log air slot load m)) refuses (λ a found live. unless_accepted_cases P (find (is_of_pair id serial) (accepted_in log)) (answer_to_replacement log air slot load a.message) refuses (λ fresh. beside_cases P (reserved_at slot (stopped_at a.message.number slot (messages_in log))) load (answers.Replaced slot (completed a.message air slot)) refuses (λ room fits.
     let Room : List Message → Type 0 = λ messages. length (reserved_at slot messages) < 64 in
@@ -202,15 +202,15 @@ outcome_with_room slots log air slot (commands.Status id serial) once formed =
 outcome_with_room slots log air slot (commands.Kill id serial) once formed =
     let command = commands.Kill id serial in
     let P : Answer → Type 0 = λ answer. Outcome log (entry_with command slot answer) in
-    before_end_cases P slots slot (answer_to_kill log air slot id serial) (λ cause other. nothing log (entry_with command slot (answers.Cause cause)) (refused_does_nothing log slot cause command)) (kill_outcome log air slot id serial once)
+    before_end_cases P slots slot (answer_to_kill log air slot id serial) (λ cause. nothing log (entry_with command slot (answers.Cause cause)) (refused_does_nothing log slot cause command)) (kill_outcome log air slot id serial once)
 outcome_with_room slots log air slot (commands.Write id serial None category period broadcasts dcs contents) once formed =
     let command = commands.Write id serial None category period broadcasts dcs contents in
     let P : Answer → Type 0 = λ answer. Outcome log (entry_with command slot answer) in
-    before_end_cases P slots slot (answer_to_write log air slot id serial None (load_of (length contents) period)) (λ cause other. nothing log (entry_with command slot (answers.Cause cause)) (refused_does_nothing log slot cause command)) (new_outcome log slot id serial category period broadcasts dcs contents formed)
+    before_end_cases P slots slot (answer_to_write log air slot id serial None (load_of (length contents) period)) (λ cause. nothing log (entry_with command slot (answers.Cause cause)) (refused_does_nothing log slot cause command)) (new_outcome log slot id serial category period broadcasts dcs contents formed)
 outcome_with_room slots log air slot (commands.Write id serial (Some old) category period broadcasts dcs contents) once formed =
     let command = commands.Write id serial (Some old) category period broadcasts dcs contents in
     let P : Answer → Type 0 = λ answer. Outcome log (entry_with command slot answer) in
-    before_end_cases P slots slot (answer_to_write log air slot id serial (Some old) (load_of (length contents) period)) (λ cause other. nothing log (entry_with command slot (answers.Cause cause)) (refused_does_nothing log slot cause command)) (replacement_outcome log air slot id serial old category period broadcasts dcs contents once formed)
+    before_end_cases P slots slot (answer_to_write log air slot id serial (Some old) (load_of (length contents) period)) (λ cause. nothing log (entry_with command slot (answers.Cause cause)) (refused_does_nothing log slot cause command)) (replacement_outcome log air slot id serial old category period broadcasts dcs contents once formed)
 
 -- what an entry with the right answer does, where each pair was accepted once before
 pub outcome_of : (slots : ℕ) (log : List Entry) (air : Air) (slot : ℕ) (command : Command) → AllPairs OfAnotherPair (accepted_in log) → IsWellFormed command → Outcome log (entry_with command slot (answer_of slots log air slot command))

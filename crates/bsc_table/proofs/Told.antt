@@ -62,7 +62,7 @@ status_tells log air slot id serial (Some a) e = λ told says. record {
 kill_tells : (log : List Entry) (air : Air) (slot id serial : ℕ) → TellsTrue log air slot (commands.Kill id serial) (answer_to_kill log air slot id serial)
 kill_tells log air slot id serial =
     let P : Answer → Type 0 = TellsTrue log air slot (commands.Kill id serial) in
-    of_live_cases P slot (find (is_of_pair id serial) (accepted_in log)) (λ m. answers.Stopped (completed m air slot)) (λ cause _. tells_none log air slot (commands.Kill id serial) (answers.Cause cause) refl) (λ a found live. λ told says. record {
+    of_live_cases P slot (find (is_of_pair id serial) (accepted_in log)) (λ m. answers.Stopped (completed m air slot)) (λ cause. tells_none log air slot (commands.Kill id serial) (answers.Cause cause) refl) (λ a found live. λ told says. record {
       of_message = a;
       here = Contains-find (is_of_pair id serial) (accepted_in log) a found;
       about = found_pair id serial (accepted_in log) a found;
@@ -73,11 +73,11 @@ kill_tells log air slot id serial =
 write_tells : (log : List Entry) (air : Air) (slot load id serial : ℕ) (replaces : Option ℕ) (command : Command) → ((a : Accepted) → (id ≡ a.id) → replaces ≡ Some a.serial → IsAbout a.id a.serial command) → TellsTrue log air slot command (answer_to_write log air slot id serial replaces load)
 write_tells log air slot load id serial None command about =
     let P : Answer → Type 0 = TellsTrue log air slot command in
-    let refuses : (cause : ℕ) → (cause == 0x08) ≡ false → P (answers.Cause cause) = λ cause _. tells_none log air slot command (answers.Cause cause) refl in
+    let refuses : (cause : ℕ) → P (answers.Cause cause) = λ cause. tells_none log air slot command (answers.Cause cause) refl in
     unless_accepted_cases P (find (is_of_pair id serial) (accepted_in log)) (answer_to_new log slot load) refuses (λ fresh. beside_cases P (reserved_at slot (messages_in log)) load (answers.Started slot) refuses (λ places fits. tells_none log air slot command (answers.Started slot) refl))
 write_tells log air slot load id serial (Some old) command about =
     let P : Answer → Type 0 = TellsTrue log air slot command in
-    let refuses : (cause : ℕ) → (cause == 0x08) ≡ false → P (answers.Cause cause) = λ cause _. tells_none log air slot command (answers.Cause cause) refl in
+    let refuses : (cause : ℕ) → P (answers.Cause cause) = λ cause. tells_none log air slot command (answers.Cause cause) refl in
     of_live_cases P slot (find (is_of_pair id old) (accepted_in log)) (λ m. unless_accepted (message_named id serial log) (answer_to_replacement log air slot load m)) refuses (λ a found live. unless_accepted_cases P (find (is_of_pair id serial) (accepted_in log)) (answer_to_replacement log air slot load a.message) refuses (λ fresh. beside_cases P _ load (answers.Replaced slot (completed a.message air slot)) refuses (λ places fits. λ told says.
     let pair = found_pair id old (accepted_in log) a found in
     record {
@@ -92,11 +92,11 @@ tells_with_room slots log air slot (commands.Status id serial) =
     status_tells log air slot id serial (find (is_of_pair id serial) (accepted_in log)) refl
 tells_with_room slots log air slot (commands.Kill id serial) =
     let command = commands.Kill id serial in
-    before_end_cases (TellsTrue log air slot command) slots slot (answer_to_kill log air slot id serial) (λ cause _. tells_none log air slot command (answers.Cause cause) refl) (kill_tells log air slot id serial)
+    before_end_cases (TellsTrue log air slot command) slots slot (answer_to_kill log air slot id serial) (λ cause. tells_none log air slot command (answers.Cause cause) refl) (kill_tells log air slot id serial)
 tells_with_room slots log air slot (commands.Write id serial replaces category period broadcasts dcs contents) =
     let command = commands.Write id serial replaces category period broadcasts dcs contents in
     let load = load_of (length contents) period in
-    before_end_cases (TellsTrue log air slot command) slots slot (answer_to_write log air slot id serial replaces load) (λ cause _. tells_none log air slot command (answers.Cause cause) refl) (write_tells log air slot load id serial replaces command (λ a same replaced. (same, replaced)))
+    before_end_cases (TellsTrue log air slot command) slots slot (answer_to_write log air slot id serial replaces load) (λ cause. tells_none log air slot command (answers.Cause cause) refl) (write_tells log air slot load id serial replaces command (λ a same replaced. (same, replaced)))
 
 tells_true : (slots : ℕ) (log : List Entry) (air : Air) (slot : ℕ) (command : Command) → TellsTrue log air slot command (answer_of slots log air slot command)
 tells_true slots log air slot command =

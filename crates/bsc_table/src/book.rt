@@ -166,6 +166,9 @@ impl CellBook {
             ⊎ (result ≡ answer_of self.old.slots self.old.log self.old.air self.old.clock command.now) }
         ensures entered { self.new ≡ answered_with command.now result self.old }
         ensures legal { IsLegal self.new }
+
+        // A full log takes no memory to say so.
+        ensures full { 4096 ≤ length self.old.log → result ≡ answers.Cause 0x08 }
     {
         if self.log.len() >= ENTRIES {
             return Answer::Cause(LOG_IS_FULL);

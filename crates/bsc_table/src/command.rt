@@ -38,7 +38,7 @@ pub enum Category {
 
 impl Category {
     /// Whether it is the high one.
-    pub fn is_high(self) -> bool
+    pub(crate) fn is_high(self) -> bool
         ensures { result ≡ is_high self }
     {
         match self {

@@ -57,14 +57,14 @@ pub enum Answer {
 
 impl Answer {
     /// Whether it is that of a kill that was accepted.
-    pub fn stops(self) -> bool
+    pub(crate) fn stops(self) -> bool
         ensures { result ≡ is_stopped self }
     {
         matches!(self, Answer::Stopped { .. })
     }
 
     /// Whether it is that of a write that was accepted.
-    pub fn starts(self) -> bool
+    pub(crate) fn starts(self) -> bool
         ensures { result ≡ is_some (start_of self) }
     {
         matches!(self, Answer::Started { .. } | Answer::Replaced { .. })
