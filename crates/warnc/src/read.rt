@@ -55,6 +55,7 @@ pub fn read_stream<R: Read, W: Write>(
         × Appends (W.contents (writer_of sink.old)) (W.contents (writer_of sink.new)) output) }
     ensures nothing { IfErr result (λ fault. fault ≢ TableFault.Write
         → Keeps (W.contents (writer_of sink.old)) (W.contents (writer_of sink.new))) }
+    ensures untouched { IfErr result (λ fault. fault ≢ TableFault.Write → sink.new ≡ sink.old) }
     ensures read { IsErrOf result TableFault.Read ↔ IsTrue (source_failed source.new) }
     ensures write { IsErrOf result TableFault.Write → IsTrue (sink_failed sink.new) }
     ensures sound { OnOk result (sink_failed sink.new ≡ false) }
