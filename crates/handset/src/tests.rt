@@ -136,7 +136,11 @@ fn shows_what_the_pages_say(rt: HostRuntime) -> Result<(), Fail> {
         ((0x0020, UCS2, 0x11, b'A'), "A", "one page"),
         ((0x0030, UCS2, 0x12, b'B'), "", "first of two"),
         ((0x0020, UCS2, 0x11, b'A'), "", "one page again"),
-        ((0x0030, UCS2, 0x22, b'C'), "BC", "second of two, after another message"),
+        (
+            (0x0030, UCS2, 0x22, b'C'),
+            "BC",
+            "second of two, after another message",
+        ),
         ((0x0040, UCS2, 0x12, b'D'), "", "first of two"),
         (
             (0x0041, UCS2, 0x22, b'E'),

@@ -46,7 +46,8 @@ pub fn run<T: AllocGlobal, S: AsStr, R: Read, W: Write, F: Write>(
     writer: &mut W,
     faults: &mut F,
 ) -> u8
-    ensures { result ≤ 4 }
+    ensures refused { result ≡ REFUSED_INPUT → IsRefusedBySome (R.remaining reader.old) }
+    ensures statuses { result ≤ 4 }
 {
     let mut source = Source::new(reader);
     let mut sink = Sink::new(writer);
