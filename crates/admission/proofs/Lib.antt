@@ -1,4 +1,5 @@
 pub mod Loads
 pub mod Reservations
+mod Scale
 mod Tables
 mod Worked

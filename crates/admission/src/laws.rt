@@ -1,7 +1,25 @@
-//! Laws of reservations, over their definitions alone.
+//! Laws of loads and of reservations, over their definitions alone.
 
-ghost use Rattle.std.specs.Prelude.{◌≡◌, ℕ, ◌+◌, ◌*◌, ◌<◌, ◌≤◌, List, filter, sum_by};
+ghost use Rattle.std.specs.Prelude.{◌≡◌, ℕ, ◌+◌, ◌*◌, ◌%◌, ◌<◌, ◌≤◌, List, filter, sum_by};
+ghost use Rattle.admission.specs.declared.measure.TheConstants.{SCALE};
+ghost use Rattle.admission.specs.Load.{load_of};
 ghost use Rattle.admission.specs.Reservation.{Reservation, is_before_end, loads_at, end_of_stopped};
+
+/// States, as its contract, what the parts of a cell's slots are. It does nothing.
+pub fn scale_laws()
+    // Each period of up to 20 slots divides `SCALE`, and it is the least number of which that is true.
+    ensures divided { (period : ℕ) → 0 < period → period ≤ 20 → SCALE % period ≡ 0 }
+    ensures least { (other : ℕ)
+        → 0 < other
+        → ((period : ℕ) → 0 < period → period ≤ 20 → other % period ≡ 0)
+        → SCALE ≤ other }
+
+    // So the load of a message with such a period is exact.
+    ensures exact { (pages period : ℕ)
+        → 0 < period
+        → period ≤ 20
+        → load_of pages period * period ≡ SCALE * pages }
+{}
 
 /// States, as its contract, what reservations promise one another. It does nothing.
 pub fn reservation_laws()

@@ -10,5 +10,5 @@ mod measure;
 mod tests;
 
 pub use budget::{Budget, Held, NoRoom};
-pub use laws::reservation_laws;
+pub use laws::{reservation_laws, scale_laws};
 pub use measure::{SCALE, load};

@@ -3,7 +3,7 @@
 ghost use Rattle.std.specs.Prelude.{◌≢◌, All, ◌≡◌, Any, MatchBool};
 
 use crate::budget::{Budget, NoRoom};
-use crate::laws::reservation_laws;
+use crate::laws::{reservation_laws, scale_laws};
 use crate::measure::{SCALE, load};
 
 /// What a budget answers to a reservation, or `None` where the entry is reserved already.
@@ -30,6 +30,7 @@ fn released(budget: &mut Budget, entry: u16, slot: u32) -> bool {
 
 #[test]
 fn gives_worked_loads(rt: HostRuntime) {
+    scale_laws();
     reservation_laws();
     for (pages, period, parts) in [
         (1, 1, 232_792_560),

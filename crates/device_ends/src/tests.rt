@@ -1,3 +1,5 @@
+//! Ends over memory with a set number of octets and of calls, and over a device that fails at its first call alone.
+
 ghost use Rattle.std.specs.Prelude.{◌≡◌, ◌<◌, IfOk};
 
 use super::*;
@@ -125,6 +127,22 @@ fn a_write_that_takes_nothing_fails(rt: HostRuntime) {
     assert!(rt; !sink.failed());
     assert_eq!(rt; sink.write(b"x"), Err(Failed));
     assert!(rt; sink.failed());
+}
+
+#[test]
+fn a_sound_device_fails_at_no_length(rt: HostRuntime) {
+    for length in 0..11 {
+        let mut source = Source::new(MemoryReader::new(TEXT, usize::MAX, None));
+        let mut buffer = [0; 10];
+        let want = length.min(TEXT.len());
+        assert_eq!(rt; source.read(&mut buffer[..length]), Ok(want), "{length}");
+        assert!(rt; !source.failed(), "{length}");
+    }
+    for length in 0..10 {
+        let mut sink = Sink::new(MemoryWriter::new(rt.alloc(), usize::MAX, None));
+        assert_eq!(rt; sink.write(&TEXT[..length]), Ok(length), "{length}");
+        assert!(rt; !sink.failed(), "{length}");
+    }
 }
 
 #[test]

@@ -95,6 +95,7 @@ pub fn read_tape<R: Read>(alloc: Global, source: &mut Source<R>) -> Result<Readi
     ensures fault { IfErr result (λ fault. IfSome (R.remaining (reader_of source.old)) (λ input. IsTapeFault input fault)) }
 
     // At any reader.
+    ensures tape { IfOk result (λ reading. (octets : List ℕ) × IsTape octets (reading_of reading)) }
     ensures read { IsErrOf result TapeFault.ReadFailed ↔ IsTrue (source_failed source.new) }
     ensures sound { OnOk result (source_failed source.new ≡ false) }
 {
@@ -121,6 +122,7 @@ pub fn read_tapes<R: Read>(alloc: Global, source: &mut Source<R>) -> Result<Vec<
     ensures fault { IfErr result (λ fault. IfSome (R.remaining (reader_of source.old)) (λ input. IsTapesFault input fault)) }
 
     // At any reader.
+    ensures tapes { IfOk result (λ readings. (octets : List ℕ) × AreTapes octets (readings_of readings.items)) }
     ensures read { IsErrOf result TapeFault.ReadFailed ↔ IsTrue (source_failed source.new) }
     ensures sound { OnOk result (source_failed source.new ≡ false) }
 {

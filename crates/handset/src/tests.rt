@@ -126,16 +126,21 @@ fn reads_four_blocks_in_a_row(rt: HostRuntime) -> Result<(), Fail> {
     Ok(())
 }
 
+/// A line for each page that comes, with the text that it shows: so the function is long.
 #[test]
 fn shows_what_the_pages_say(rt: HostRuntime) -> Result<(), Fail> {
     let mut handset = Handset::new(rt.alloc());
     let pages: [(Letter, &str, &str); 23] = [
         ((0x0010, UCS2, 0x00, b'a'), "a", "page parameter 00"),
         ((0x0010, UCS2, 0x11, b'b'), "", "a repeat with another text"),
-        ((0x0020, UCS2, 0x11, b'A'), "A", "A1"),
-        ((0x0030, UCS2, 0x12, b'B'), "", "B1"),
-        ((0x0020, UCS2, 0x11, b'A'), "", "A1"),
-        ((0x0030, UCS2, 0x22, b'C'), "BC", "B2"),
+        ((0x0020, UCS2, 0x11, b'A'), "A", "one page"),
+        ((0x0030, UCS2, 0x12, b'B'), "", "first of two"),
+        ((0x0020, UCS2, 0x11, b'A'), "", "one page again"),
+        (
+            (0x0030, UCS2, 0x22, b'C'),
+            "BC",
+            "second of two, after another message",
+        ),
         ((0x0040, UCS2, 0x12, b'D'), "", "first of two"),
         (
             (0x0041, UCS2, 0x22, b'E'),
@@ -171,6 +176,21 @@ fn shows_what_the_pages_say(rt: HostRuntime) -> Result<(), Fail> {
         assert_eq!(rt; shown.as_str(), text, "{what}");
     }
     assert_eq!(rt; handset.shown().len(), 8);
+    Ok(())
+}
+
+/// Neither pages nor messages are forgotten, however many: the first pages of 100 messages, and then their second pages.
+#[test]
+fn keeps_many(rt: HostRuntime) -> Result<(), Fail> {
+    let mut handset = Handset::new(rt.alloc());
+    for (parameter, letter, text) in [(0x12, b'a', ""), (0x22, b'b', "ab")] {
+        for serial in 0..100 {
+            let page = (serial, UCS2, parameter, letter);
+            let shown = shows(&rt, rt.alloc(), &mut handset, page)?;
+            assert_eq!(rt; shown.as_str(), text, "{serial}");
+        }
+    }
+    assert_eq!(rt; handset.shown().len(), 100);
     Ok(())
 }
 

@@ -4,7 +4,7 @@ mod Chosen
 pub mod Completed
 mod Counts
 mod Followed
-mod Lists
+pub mod Lists
 pub mod Message
 mod Ready
 pub mod Rule

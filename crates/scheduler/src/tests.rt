@@ -173,6 +173,26 @@ fn drops_what_is_due(rt: HostRuntime) {
     assert_eq!(rt; done(&plan, 5), Some(1));
 }
 
+/// A plan keeps each message that was added, however many: 300 of one broadcast, all stopped but the last.
+#[test]
+fn keeps_many(rt: HostRuntime) {
+    let mut plan = Plan::new(rt.alloc());
+    for entry in 0..300 {
+        assert!(rt;
+            add(&mut plan, entry, 2, 1024, 1, false).is_some(),
+            "{entry}"
+        );
+        if entry < 299 {
+            assert_eq!(rt; stop(&mut plan, entry), Some(0), "{entry}");
+        }
+    }
+    for used in [Some((299, 1)), Some((299, 2)), None] {
+        assert_eq!(rt; air(&mut plan), used);
+    }
+    assert_eq!(rt; done(&plan, 299), Some(1));
+    assert_eq!(rt; done(&plan, 298), Some(0));
+}
+
 #[test]
 fn tells_the_fault(rt: HostRuntime) -> Result<(), Fail> {
     air_laws();

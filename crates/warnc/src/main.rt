@@ -1,7 +1,7 @@
 //! `warnc`: cell broadcast warnings to the blocks that cells send, and back.
 #![tactic(auto)]
 
-ghost use Rattle.std.specs.Prelude.{◌≡◌};
+ghost use Rattle.std.specs.Prelude.{◌≡◌, ◌≤◌};
 
 mod command;
 pub mod page;
@@ -19,7 +19,9 @@ fn main(rt: HostRuntime) -> ExitCode {
 }
 
 /// The status of the run that the process's words ask for.
-fn status(rt: &HostRuntime) -> u8 {
+fn status(rt: &HostRuntime) -> u8
+    ensures { result ≤ 4 }
+{
     let words: Vec<String> = match env::args(rt) {
         Ok(words) => match words.collect(rt.alloc()) {
             Ok(words) => words,

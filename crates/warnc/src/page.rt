@@ -65,6 +65,7 @@ pub fn page_stream<R: Read, W: Write>(
         × Appends (W.contents (writer_of sink.old)) (W.contents (writer_of sink.new)) output) }
     ensures nothing { IfErr result (λ fault. fault ≢ PageFault.Write
         → Keeps (W.contents (writer_of sink.old)) (W.contents (writer_of sink.new))) }
+    ensures untouched { IfErr result (λ fault. fault ≢ PageFault.Write → sink.new ≡ sink.old) }
     ensures read { IsErrOf result PageFault.Read ↔ IsTrue (source_failed source.new) }
     ensures write { IsErrOf result PageFault.Write → IsTrue (sink_failed sink.new) }
     ensures sound { OnOk result (sink_failed sink.new ≡ false) }

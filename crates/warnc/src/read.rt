@@ -1,11 +1,11 @@
 //! The command `read`: tapes to a table of what a handset shows of them.
 
-ghost use Rattle.std.specs.Prelude.{◌≡◌, ◌≢◌, ◌↔◌, ◌++◌, ℕ, List, true, false, IfErr, IfOk, IfSome, IsErrOf, IsTrue, OnOk};
+ghost use Rattle.std.specs.Prelude.{◌≡◌, ◌≢◌, ◌↔◌, ◌++◌, ℕ, List, false, IfErr, IfOk, IfSome, IsErrOf, IsTrue, OnOk};
 ghost use Rattle.std.specs.Io.KnownBytes.{Appends, Keeps};
 ghost use Rattle.std.specs.List.{flat_map};
 ghost use Rattle.device_ends.specs.Sink.{sink_failed, writer_of};
 ghost use Rattle.device_ends.specs.Source.{reader_of, source_failed};
-ghost use Rattle.handset.specs.Tape.{TapeReading, reading_of, readings_of};
+ghost use Rattle.handset.specs.Tape.{reading_of, readings_of};
 ghost use Rattle.warnc.specs.ReadOutput.{reading_rows, table_fault_of, table_of, IsReadOutput, IsReadFault};
 
 use crate::table::{push_header, push_message};
@@ -51,12 +51,13 @@ pub fn read_stream<R: Read, W: Write>(
         IsReadFault input (W.contents (writer_of sink.old)) (W.contents (writer_of sink.new)) fault)) }
 
     // At any reader and any writer.
-    ensures wrote { OnOk result ((readings : List TapeReading)
-        × Appends (W.contents (writer_of sink.old)) (W.contents (writer_of sink.new)) (table_of readings)) }
+    ensures wrote { OnOk result ((input output : List ℕ) × IsReadOutput input output
+        × Appends (W.contents (writer_of sink.old)) (W.contents (writer_of sink.new)) output) }
     ensures nothing { IfErr result (λ fault. fault ≢ TableFault.Write
         → Keeps (W.contents (writer_of sink.old)) (W.contents (writer_of sink.new))) }
-    ensures read { IsErrOf result TableFault.Read → source_failed source.new ≡ true }
-    ensures write { IsErrOf result TableFault.Write → sink_failed sink.new ≡ true }
+    ensures untouched { IfErr result (λ fault. fault ≢ TableFault.Write → sink.new ≡ sink.old) }
+    ensures read { IsErrOf result TableFault.Read ↔ IsTrue (source_failed source.new) }
+    ensures write { IsErrOf result TableFault.Write → IsTrue (sink_failed sink.new) }
     ensures sound { OnOk result (sink_failed sink.new ≡ false) }
 {
     let readings = match read_tapes(alloc, source) {

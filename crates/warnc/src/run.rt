@@ -1,6 +1,6 @@
 //! One run of the program: words in, a status out.
 
-ghost use Rattle.std.specs.Prelude.{◌≡◌, ◌≢◌, ◌≤◌, ◌⊎◌, ℕ, List, true, IfSome};
+ghost use Rattle.std.specs.Prelude.{◌≡◌, ◌≢◌, ◌≤◌, ◌⊎◌, ℕ, List, false, true, IfSome};
 ghost use Rattle.std.specs.Io.KnownBytes.{Appends, Keeps};
 ghost use Rattle.device_ends.specs.Sink.{sink_failed, writer_of};
 ghost use Rattle.device_ends.specs.Source.{reader_of, source_failed};
@@ -46,7 +46,8 @@ pub fn run<T: AllocGlobal, S: AsStr, R: Read, W: Write, F: Write>(
     writer: &mut W,
     faults: &mut F,
 ) -> u8
-    ensures { result ≤ 4 }
+    ensures refused { result ≡ REFUSED_INPUT → IsRefusedBySome (R.remaining reader.old) }
+    ensures statuses { result ≤ 4 }
 {
     let mut source = Source::new(reader);
     let mut sink = Sink::new(writer);
@@ -64,8 +65,12 @@ pub fn run_ends<S: AsStr, R: Read, W: Write, F: Write>(
     ensures done { result ≡ DONE → WritesSome (W.contents (writer_of sink.old)) (W.contents (writer_of sink.new)) }
     ensures nothing { (result ≢ DONE) → (result ≢ DEVICE)
         → Keeps (W.contents (writer_of sink.old)) (W.contents (writer_of sink.new)) }
+    ensures untouched { (result ≢ DONE) → (result ≢ DEVICE) → sink.new ≡ sink.old }
     ensures refused { result ≡ REFUSED_INPUT → IsRefusedBySome (R.remaining (reader_of source.old)) }
     ensures device { result ≡ DEVICE → (source_failed source.new ≡ true) ⊎ (sink_failed sink.new ≡ true) }
+    ensures unread { result ≡ USAGE → source.new ≡ source.old }
+    ensures failed { (source_failed source.old ≡ false) → (sink_failed sink.old ≡ false)
+        → (source_failed source.new ≡ true) ⊎ (sink_failed sink.new ≡ true) → result ≡ DEVICE }
     ensures statuses { result ≤ 4 }
 {
     match order_of(alloc, words) {
@@ -93,8 +98,11 @@ fn run_page<R: Read, W: Write, F: Write>(
     ensures wrote { result ≡ DONE → WritesSome (W.contents (writer_of sink.old)) (W.contents (writer_of sink.new)) }
     ensures nothing { (result ≢ DONE) → (result ≢ DEVICE)
         → Keeps (W.contents (writer_of sink.old)) (W.contents (writer_of sink.new)) }
+    ensures untouched { (result ≢ DONE) → (result ≢ DEVICE) → sink.new ≡ sink.old }
     ensures refused { result ≡ REFUSED_INPUT → IfSome (R.remaining (reader_of source.old)) (IsRefused options.now.language.now) }
     ensures device { result ≡ DEVICE → (source_failed source.new ≡ true) ⊎ (sink_failed sink.new ≡ true) }
+    ensures failed { (sink_failed sink.old ≡ false)
+        → (source_failed source.new ≡ true) ⊎ (sink_failed sink.new ≡ true) → result ≡ DEVICE }
     ensures not_usage { result ≢ USAGE }
     ensures statuses { result ≤ 4 }
 {
@@ -139,8 +147,11 @@ fn run_read<R: Read, W: Write, F: Write>(
     ensures wrote { result ≡ DONE → WritesSome (W.contents (writer_of sink.old)) (W.contents (writer_of sink.new)) }
     ensures nothing { (result ≢ DONE) → (result ≢ DEVICE)
         → Keeps (W.contents (writer_of sink.old)) (W.contents (writer_of sink.new)) }
+    ensures untouched { (result ≢ DONE) → (result ≢ DEVICE) → sink.new ≡ sink.old }
     ensures refused { result ≡ REFUSED_INPUT → IfSome (R.remaining (reader_of source.old)) IsNoTapes }
     ensures device { result ≡ DEVICE → (source_failed source.new ≡ true) ⊎ (sink_failed sink.new ≡ true) }
+    ensures failed { (sink_failed sink.old ≡ false)
+        → (source_failed source.new ≡ true) ⊎ (sink_failed sink.new ≡ true) → result ≡ DEVICE }
     ensures not_usage { result ≢ USAGE }
     ensures statuses { result ≤ 4 }
 {
@@ -174,8 +185,10 @@ fn run_help<W: Write, F: Write>(
     ensures done { result ≡ DONE → WritesSome (W.contents (writer_of sink.old)) (W.contents (writer_of sink.new)) }
     ensures nothing { (result ≢ DONE) → (result ≢ DEVICE)
         → Keeps (W.contents (writer_of sink.old)) (W.contents (writer_of sink.new)) }
+    ensures untouched { (result ≢ DONE) → (result ≢ DEVICE) → sink.new ≡ sink.old }
     ensures not_refused { result ≢ REFUSED_INPUT }
     ensures device { result ≡ DEVICE → sink_failed sink.new ≡ true }
+    ensures failed { (sink_failed sink.old ≡ false) → sink_failed sink.new ≡ true → result ≡ DEVICE }
     ensures statuses { result ≤ 4 }
 {
     if error.kind() == ErrorKind::OutOfMemory {
