@@ -1,5 +1,6 @@
 pub mod PagingLaws
 pub mod TrailingLaws
+pub mod Cutting
 pub mod CuttingLaws
 pub mod TextLaws
 pub mod PaginateLaws
