@@ -5,3 +5,4 @@ pub mod CuttingLaws
 pub mod TextLaws
 pub mod PaginateLaws
 pub mod CodingLaws
+mod Worked

@@ -69,7 +69,6 @@ impl Piece {
 
     /// A page that has taken one character.
     pub fn of(alphabet: Alphabet, character: char) -> Piece
-        requires { cost_of alphabet character ≤ capacity alphabet }
         ensures taken { codes_in result ≡ codes_of alphabet character }
         ensures same { alphabet_in result ≡ alphabet }
         ensures sound { AreCodes result }
