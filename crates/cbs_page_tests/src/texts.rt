@@ -221,10 +221,7 @@ fn each_fault_has_its_text(rt: HostRuntime) -> Result<(), Fail> {
     let texts = [
         (TextFault::BadLanguage, "unknown language"),
         (TextFault::Empty, "text is empty"),
-        (
-            TextFault::BadCharacter { place: 12 },
-            "bad character at 12",
-        ),
+        (TextFault::BadCharacter { place: 12 }, "bad character at 12"),
         (TextFault::TooManyPages, "too many pages"),
         (TextFault::Refused, "out of memory"),
     ];
