@@ -2,7 +2,7 @@
 use Rattle.std.proofs.Common.{◌≡◌, ℕ, ◌+◌, ◌<◌, ◌≤◌, List, [], ◌∷◌, ◌++◌, length, get_or, drop, refl, suc, sym, ◌∙◌, ap, arith, subst, append_assoc}
 use Rattle.std.proofs.lemmas.Bool.{le-leb, lt-leb}
 use Rattle.std.proofs.lemmas.List.{at_drop_more, at_drop_all}
-use Rattle.cbs_page.specs.Cutting.{cuts_from, count_from}
+use Rattle.cbs_page.proofs.Cutting.{cuts_from, count_from}
 use Rattle.cbs_page.specs.Text.{capacity, codes_of, IsContentOf, AreContentsOf}
 use Rattle.cbs_page.specs.declared.coding.Alphabet.{Alphabet}
 use Rattle.cbs_page.specs.declared.content.Content.{Content}

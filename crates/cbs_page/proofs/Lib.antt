@@ -1,6 +1,8 @@
 pub mod PagingLaws
 pub mod TrailingLaws
+pub mod Cutting
 pub mod CuttingLaws
 pub mod TextLaws
 pub mod PaginateLaws
 pub mod CodingLaws
+mod Worked

@@ -14,8 +14,8 @@ use Rattle.cbs_page.specs.declared.coding.Alphabet.{Alphabet}
 use Rattle.cbs_page.specs.declared.coding.Alphabet.TheVariants.{Gsm, Ucs2}
 use Rattle.cbs_page.specs.declared.content.Content.{Content}
 use Rattle.cbs_page.specs.Paging.{IsPaging}
-use Rattle.cbs_page.specs.Cutting.{pieces_from, cuts_from, count_from}
-use Rattle.cbs_page.specs.Text.{capacity, codes_of, cost_of, is_bad, alphabet_for, text_of_content, AreContentsOf}
+use Rattle.cbs_page.proofs.Cutting.{pieces_from, cuts_from, count_from}
+use Rattle.cbs_page.specs.Text.{capacity, codes_of, cost_of, is_bad, alphabet_for, text_of_content, AreContentsOf, IsPagingOf}
 use Rattle.cbs_page.proofs.PagingLaws.{EachFits, paging_of_pieces, cuts_of_pieces, cost_of_one}
 use Rattle.cbs_page.proofs.TextLaws.{IsSendable, cost-small, capacity-bounds, shows_pieces, none_bad, good-no_return, good-fits, by_parts, both}
 
@@ -37,17 +37,12 @@ count_of_cuts codes limit piece (c ∷ rest) =
 pub record HasPages (alphabet : Alphabet) (text : List ℕ) : Type 0 where
   pub pieces : List (List ℕ)
   pub paging : IsPaging (cost_of alphabet) (capacity alphabet) text pieces
-  pub some : 1 ≤ length pieces
   pub cut : cuts_from (codes_of alphabet) (capacity alphabet) [] text ≡ map (flat_map (codes_of alphabet)) pieces
   pub count : count_from (codes_of alphabet) (capacity alphabet) 0 text ≡ length pieces
 
 each_fits : (alphabet : Alphabet) (text : List ℕ) → EachFits (cost_of alphabet) (capacity alphabet) text
 each_fits alphabet [] = tt
 each_fits alphabet (c ∷ text) = (omega (arith, cost-small alphabet c, capacity-bounds alphabet), each_fits alphabet text)
-
-some_piece : (c : ℕ) (rest : List ℕ) (pieces : List (List ℕ)) → concat pieces ≡ c ∷ rest → 1 ≤ length pieces
-some_piece c rest [] whole = let none : [] ≡ c ∷ rest = whole in cc
-some_piece c rest (piece ∷ pieces) whole = omega arith
 
 pub has_pages : (alphabet : Alphabet) (text : List ℕ) → text ≢ [] → HasPages alphabet text
 has_pages alphabet [] some = absurd (some refl)
@@ -66,7 +61,6 @@ has_pages alphabet (c ∷ rest) some =
     record {
       pieces = pieces;
       paging = paging;
-      some = some_piece c rest pieces paging.whole;
       cut = cut;
       count = sym (count_of_cuts codes limit [] (c ∷ rest)) ∙ ap length cut ∙ length-map pieces (flat_map codes);
     }
@@ -100,10 +94,14 @@ sendable text known none =
     sendable_in (list_all (λ c. is_some (code_of c)) text) text refl known (none_bad 0 text (sym (position_from-zero is_bad text) ∙ none))
 
 -- The pages of a text, joined, show it.
-pub pages_show : (text : List ℕ) (pages : HasPages (alphabet_for text) text) (contents : List Content) →
+pub pages_show : (text : List ℕ) (pieces : List (List ℕ)) (contents : List Content) → IsPagingOf text pieces →
     AllByRecursion (IsSendable (alphabet_for text)) text →
-    AreContentsOf (alphabet_for text) (cuts_from (codes_of (alphabet_for text)) (capacity (alphabet_for text)) [] text) contents →
+    AreContentsOf (alphabet_for text) (map (flat_map (codes_of (alphabet_for text))) pieces) contents →
     flat_map (λ content. text_of_content (alphabet_for text) content.octets) contents ≡ text
-pages_show text pages contents good held =
-    shows_pieces (alphabet_for text) pages.pieces contents (rw pages.paging.whole good) pages.paging.within (rw (← pages.cut) held)
-    ∙ pages.paging.whole
+pages_show text pieces contents paging good held =
+    shows_pieces (alphabet_for text) pieces contents (rw paging.whole good) paging.within held ∙ paging.whole
+
+-- A text that isn't empty has a page.
+pub some_page : (text : List ℕ) (pieces : List (List ℕ)) → text ≢ [] → concat pieces ≡ text → 1 ≤ length pieces
+some_page text [] some whole = absurd (some (sym whole))
+some_page text (piece ∷ pieces) some whole = omega arith

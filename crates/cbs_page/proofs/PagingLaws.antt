@@ -7,7 +7,7 @@ use Rattle.std.proofs.lemmas.Bool.Decides.{leb_tells, nat_tests}
 use Rattle.std.proofs.lemmas.List.Sums.{sum_by-append}
 use Rattle.std.proofs.lemmas.List.Concat.{flat_map-append, length-flat_map}
 use Rattle.cbs_page.specs.Paging.{IsFilled, AreFilled, IsPaging}
-use Rattle.cbs_page.specs.Cutting.{pieces_from, cuts_from}
+use Rattle.cbs_page.proofs.Cutting.{pieces_from, cuts_from}
 
 not_over : (a b : ℕ) → b < a → nat_le a b ≡ false
 not_over a b over = grind (arith, nat_tests)

@@ -2,6 +2,5 @@ pub mod Coding
 pub mod Serial
 pub mod Page
 pub mod Paging
-pub mod Cutting
 pub mod Text
 pub mod Piece

@@ -43,9 +43,17 @@ abbrev pub coding_for : Alphabet → ℕ → ℕ
 coding_for Gsm value = value
 coding_for Ucs2 value = 72
 
+-- the pages of a text in an alphabet, as pieces of it
+abbrev pub IsPagingIn : Alphabet → List ℕ → List (List ℕ) → Type 0
+IsPagingIn alphabet text pieces = IsPaging (cost_of alphabet) (capacity alphabet) text pieces
+
 -- the pages of a text, as pieces of it
 abbrev pub IsPagingOf : List ℕ → List (List ℕ) → Type 0
-IsPagingOf text pieces = IsPaging (cost_of (alphabet_for text)) (capacity (alphabet_for text)) text pieces
+IsPagingOf text pieces = IsPagingIn (alphabet_for text) text pieces
+
+-- a text takes so many pages in an alphabet
+abbrev pub TakesPages : Alphabet → List ℕ → ℕ → Type 0
+TakesPages alphabet text count = (pieces : List (List ℕ)) × IsPagingIn alphabet text pieces × (count ≡ length pieces)
 
 -- the content of a page that shows a piece: its codes and then CR to the end, and the octets that the codes begin in
 abbrev pub IsContentOf : Alphabet → List ℕ → Content → Type 0
@@ -59,6 +67,12 @@ AreContentsOf alphabet [] (content ∷ contents) = ⊥
 AreContentsOf alphabet (codes ∷ rest) [] = ⊥
 AreContentsOf alphabet (codes ∷ rest) (content ∷ contents) =
     IsContentOf alphabet codes content × AreContentsOf alphabet rest contents
+
+-- contents of the pages of a text in an alphabet, one each
+abbrev pub HoldText : Alphabet → List ℕ → List Content → Type 0
+HoldText alphabet text contents =
+    (pieces : List (List ℕ)) × IsPagingIn alphabet text pieces
+    × AreContentsOf alphabet (map (flat_map (codes_of alphabet)) pieces) contents
 
 -- a list up to its last element that is another
 abbrev pub without_trailing : ℕ → List ℕ → List ℕ

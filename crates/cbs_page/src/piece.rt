@@ -67,9 +67,8 @@ impl Piece {
         }
     }
 
-    /// A page that has taken one character.
+    /// A page that has taken one character, for which each page has room.
     pub fn of(alphabet: Alphabet, character: char) -> Piece
-        requires { cost_of alphabet character ≤ capacity alphabet }
         ensures taken { codes_in result ≡ codes_of alphabet character }
         ensures same { alphabet_in result ≡ alphabet }
         ensures sound { AreCodes result }

@@ -1,6 +1,6 @@
 //! The text that a page shows (3GPP TS 23.038, clauses 6.1.2.2, 6.2.1 and 6.2.3).
 
-ghost use Rattle.std.specs.Prelude.{◌≡◌, ℕ, IsTrue, IfOk, All, ◌<◌, ◌≤◌, ◌++◌, take, length, map, encode_utf8_all, string_bytes};
+ghost use Rattle.std.specs.Prelude.{◌≡◌, IsTrue, IfOk, ◌≤◌, take, length, map, encode_utf8_all, string_bytes};
 ghost use Rattle.gsm_alphabet.specs.Alphabet.{text_of_septets};
 ghost use Rattle.ucs2_text.specs.Ucs2.{character_of_unit};
 ghost use Rattle.cbs_page.specs.Page.{is_readable};
@@ -82,9 +82,8 @@ fn units_used(units: &[u16]) -> usize
     used
 }
 
-/// The text of septets, each below 128.
+/// The text of septets.
 fn gsm_text(alloc: Global, septets: &[u8]) -> Result<String, AllocError>
-    requires { All (λ septet. septet < 128) septets.now }
     ensures { IfOk result (λ text. string_bytes text ≡ encode_utf8_all (text_of_septets septets.now)) }
 {
     let mut text = String::new(alloc);

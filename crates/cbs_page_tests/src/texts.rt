@@ -1,7 +1,7 @@
 //! Texts cut into pages, and pages shown again.
 
 use cbs_page::{
-    Content, Dcs, Paged, Serial, TextFault, page_bytes, page_text, paginate, read_page,
+    Content, Dcs, Paged, Refused, Serial, TextFault, page_bytes, page_text, paginate, read_page,
 };
 use std::alloc::{AllocError, Global};
 use std::process::Abort;
@@ -213,5 +213,21 @@ fn odd_contents_are_shown(rt: HostRuntime) -> Result<(), Fail> {
     let units =
         "d83d000d0041000d000d000d000d000d000d000d000d000d000d000d000d000d000d000d000d000d000d000d000d000d000d000d000d000d000d000d000d000d000d000d000d000d000d000d000d000d000d";
     assert_eq!(rt; text_of(&rt, alloc, 0x48, units)?.as_str(), "\u{FFFD}\rA");
+    Ok(())
+}
+
+#[test]
+fn each_fault_has_its_text(rt: HostRuntime) -> Result<(), Fail> {
+    let texts = [
+        (TextFault::BadLanguage, "unknown language"),
+        (TextFault::Empty, "text is empty"),
+        (TextFault::BadCharacter { place: 12 }, "bad character at 12"),
+        (TextFault::TooManyPages, "too many pages"),
+        (TextFault::Refused, "out of memory"),
+    ];
+    for (fault, text) in texts {
+        assert_eq!(rt; fault.to_string(rt.alloc())?.as_str(), text);
+    }
+    assert_eq!(rt; Refused.to_string(rt.alloc())?.as_str(), "out of memory");
     Ok(())
 }

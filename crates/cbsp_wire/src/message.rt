@@ -17,9 +17,9 @@ pub struct Cell {
 pub struct Count {
     /// The cell.
     pub cell: Cell,
-    /// The number of broadcasts.
+    /// The number of broadcasts, 0 to 65,535.
     pub number: u16,
-    /// What the number is worth: 0 says that it is valid.
+    /// What the number is worth: 0 says that it is valid; any octet is read and written.
     pub info: u8,
 }
 
@@ -48,7 +48,8 @@ impl Model for Cells {
     ghost view = { λ cells. cells.list.items };
 }
 
-/// A list of completed broadcasts: `Counts { list }` of a `Vec`. In clauses it is the list itself.
+/// A list of completed broadcasts: `Counts { list }` of a `Vec`. In clauses it is the list itself. It names at most 64 cells, none
+/// twice.
 #[derive(Debug, Drop)]
 pub struct Counts {
     /// The cells with their numbers, in the list's order.
@@ -64,7 +65,7 @@ impl Model for Counts {
     ghost view = { λ counts. counts.list.items };
 }
 
-/// A list of failures: `Failures { list }` of a `Vec`. In clauses it is the list itself.
+/// A list of failures: `Failures { list }` of a `Vec`. In clauses it is the list itself. It names at most 64 cells, none twice.
 #[derive(Debug, Drop)]
 pub struct Failures {
     /// The cells with their causes, in the list's order.
@@ -116,9 +117,9 @@ pub enum Message {
         channel: Option<u8>,
         /// 0 high, 1 background, 2 normal.
         category: Option<u8>,
-        /// The repetition period, 1 to 1,024.
+        /// The repetition period in slots, 1 to 1,024.
         period: u16,
-        /// The broadcasts requested; 0 asks for broadcasts until a stop.
+        /// How many broadcasts are requested, 0 to 65,535; 0 asks for broadcasts until a stop.
         broadcasts: u16,
         /// The data coding of the pages.
         dcs: Dcs,

@@ -70,6 +70,7 @@ pub(crate) fn kind_of(message: &Message) -> Kind
 }
 
 /// The fields of a message.
+// Long, since each of the six types names its fields once; there is nothing else in it.
 pub(crate) fn parts_of(message: &Message) -> Parts<'_>
     ensures { fields_seen result ≡ fields_of message.now }
 {

@@ -205,6 +205,7 @@ fn read_contents(alloc: Global, kind: Kind, octets: &[u8]) -> Result<Vec<Content
 }
 
 /// The message of this type that the elements say.
+// Long, since each of the six types names its fields once; there is nothing else in it.
 #[tactic(auto, unfolding(crate::specs::Value::message_of))]
 pub(crate) fn message(alloc: Global, kind: Kind, octets: &[u8]) -> Result<Message, AllocError>
     ensures { IfOk result (λ message. message ≡ message_of kind (walk_of kind octets.now).elements) }

@@ -14,13 +14,16 @@ use crate::parts::{Parts, is_writable, kind_of, parts_of};
 use cbs_page::Content;
 use std::alloc::Global;
 
-/// Appends octets to a vector that has room for them, so that no memory is taken.
+/// Appends octets to a vector that has room for them, one by one, so that no memory is taken: `extend_from_slice` doesn't promise that
+/// the capacity stays.
 fn put(out: &mut Vec<u8>, octets: &[u8])
     requires { HasRoom out.old octets.now }
     ensures appended { out.new.items ≡ out.old.items ++ octets.now }
-    ensures room { vec_capacity out.old ≤ vec_capacity out.new }
+    ensures room { vec_capacity out.new ≡ vec_capacity out.old }
 {
-    let _ = out.extend_from_slice(octets);
+    for octet in octets {
+        out.push_reserved(*octet);
+    }
 }
 
 /// The two octets of a number, the high one first.
@@ -34,7 +37,7 @@ fn octets_of_number(number: u16) -> [u8; 2]
 fn put_number(out: &mut Vec<u8>, element: u8, number: Option<u16>)
     requires { HasRoom out.old (slot element (number_bodies number)) }
     ensures appended { out.new.items ≡ out.old.items ++ slot element (number_bodies number) }
-    ensures room { vec_capacity out.old ≤ vec_capacity out.new }
+    ensures room { vec_capacity out.new ≡ vec_capacity out.old }
 {
     if let Some(number) = number {
         let [high, low] = octets_of_number(number);
@@ -46,7 +49,7 @@ fn put_number(out: &mut Vec<u8>, element: u8, number: Option<u16>)
 fn put_octet(out: &mut Vec<u8>, element: u8, octet: Option<u8>)
     requires { HasRoom out.old (slot element (octet_bodies octet)) }
     ensures appended { out.new.items ≡ out.old.items ++ slot element (octet_bodies octet) }
-    ensures room { vec_capacity out.old ≤ vec_capacity out.new }
+    ensures room { vec_capacity out.new ≡ vec_capacity out.old }
 {
     if let Some(octet) = octet {
         put(out, &[element, octet]);
@@ -57,7 +60,7 @@ fn put_octet(out: &mut Vec<u8>, element: u8, octet: Option<u8>)
 fn put_cell_items(out: &mut Vec<u8>, cells: &[Cell])
     requires { HasRoom out.old (flat_map cell_octets cells.now) }
     ensures appended { out.new.items ≡ out.old.items ++ flat_map cell_octets cells.now }
-    ensures room { vec_capacity out.old ≤ vec_capacity out.new }
+    ensures room { vec_capacity out.new ≡ vec_capacity out.old }
 {
     for cell in cells {
         let [a, b] = octets_of_number(cell.lac);
@@ -70,7 +73,7 @@ fn put_cell_items(out: &mut Vec<u8>, cells: &[Cell])
 fn put_count_items(out: &mut Vec<u8>, counts: &[Count])
     requires { HasRoom out.old (flat_map count_octets counts.now) }
     ensures appended { out.new.items ≡ out.old.items ++ flat_map count_octets counts.now }
-    ensures room { vec_capacity out.old ≤ vec_capacity out.new }
+    ensures room { vec_capacity out.new ≡ vec_capacity out.old }
 {
     for count in counts {
         let [a, b] = octets_of_number(count.cell.lac);
@@ -84,7 +87,7 @@ fn put_count_items(out: &mut Vec<u8>, counts: &[Count])
 fn put_failure_items(out: &mut Vec<u8>, failures: &[Failure])
     requires { HasRoom out.old (flat_map failure_octets failures.now) }
     ensures appended { out.new.items ≡ out.old.items ++ flat_map failure_octets failures.now }
-    ensures room { vec_capacity out.old ≤ vec_capacity out.new }
+    ensures room { vec_capacity out.new ≡ vec_capacity out.old }
 {
     for failure in failures {
         let [a, b] = octets_of_number(failure.cell.lac);
@@ -98,7 +101,7 @@ fn put_list_head(out: &mut Vec<u8>, element: u8, items_len: u16)
     requires fits { items_len < 65535 }
     requires room { vec_len out.old + 4 ≤ vec_capacity out.old }
     ensures appended { out.new.items ≡ out.old.items ++ element ∷ (1 + items_len) / 256 ∷ (1 + items_len) % 256 ∷ 1 ∷ [] }
-    ensures room { vec_capacity out.old ≤ vec_capacity out.new }
+    ensures room { vec_capacity out.new ≡ vec_capacity out.old }
 {
     let [high, low] = octets_of_number(1 + items_len);
     put(out, &[element, high, low, 1]);
@@ -109,7 +112,7 @@ fn put_cells(out: &mut Vec<u8>, element: u8, cells: &[Cell])
     requires short { length cells.now ≤ 64 }
     requires room { HasRoom out.old (slot element (list_bodies cell_octets cells.now)) }
     ensures appended { out.new.items ≡ out.old.items ++ slot element (list_bodies cell_octets cells.now) }
-    ensures room { vec_capacity out.old ≤ vec_capacity out.new }
+    ensures room { vec_capacity out.new ≡ vec_capacity out.old }
 {
     if cells.is_empty() {
         return;
@@ -123,7 +126,7 @@ fn put_counts(out: &mut Vec<u8>, element: u8, counts: &[Count])
     requires short { length counts.now ≤ 64 }
     requires room { HasRoom out.old (slot element (list_bodies count_octets counts.now)) }
     ensures appended { out.new.items ≡ out.old.items ++ slot element (list_bodies count_octets counts.now) }
-    ensures room { vec_capacity out.old ≤ vec_capacity out.new }
+    ensures room { vec_capacity out.new ≡ vec_capacity out.old }
 {
     if counts.is_empty() {
         return;
@@ -137,7 +140,7 @@ fn put_failures(out: &mut Vec<u8>, element: u8, failures: &[Failure])
     requires short { length failures.now ≤ 64 }
     requires room { HasRoom out.old (slot element (list_bodies failure_octets failures.now)) }
     ensures appended { out.new.items ≡ out.old.items ++ slot element (list_bodies failure_octets failures.now) }
-    ensures room { vec_capacity out.old ≤ vec_capacity out.new }
+    ensures room { vec_capacity out.new ≡ vec_capacity out.old }
 {
     if failures.is_empty() {
         return;
@@ -151,7 +154,7 @@ fn put_pages(out: &mut Vec<u8>, element: u8, pages: Option<usize>)
     requires few { IfSome pages (λ n. n ≤ 15) }
     requires room { HasRoom out.old (slot element (octet_bodies pages)) }
     ensures appended { out.new.items ≡ out.old.items ++ slot element (octet_bodies pages) }
-    ensures room { vec_capacity out.old ≤ vec_capacity out.new }
+    ensures room { vec_capacity out.new ≡ vec_capacity out.old }
 {
     if let Some(pages) = pages {
         put(out, &[element, pages as u8]);
@@ -162,7 +165,7 @@ fn put_pages(out: &mut Vec<u8>, element: u8, pages: Option<usize>)
 fn put_contents(out: &mut Vec<u8>, element: u8, contents: &[Content])
     requires { HasRoom out.old (slot element (map content_body contents.now)) }
     ensures appended { out.new.items ≡ out.old.items ++ slot element (map content_body contents.now) }
-    ensures room { vec_capacity out.old ≤ vec_capacity out.new }
+    ensures room { vec_capacity out.new ≡ vec_capacity out.old }
 {
     let mut left = contents;
     'contents: while let [content, rest @ ..] = left {
@@ -197,7 +200,7 @@ fn put_elements_with(out: &mut Vec<u8>, parts: &Parts<'_>, number: u8)
     requires short { AreShort (fields_seen parts.now) }
     requires room { HasRoom out.old (slot_octets (fields_seen parts.now) number) }
     ensures appended { out.new.items ≡ out.old.items ++ slot_octets (fields_seen parts.now) number }
-    ensures room { vec_capacity out.old ≤ vec_capacity out.new }
+    ensures room { vec_capacity out.new ≡ vec_capacity out.old }
 {
     elements!(put_for, out, parts, number)
 }
@@ -207,14 +210,14 @@ fn put_elements(out: &mut Vec<u8>, parts: &Parts<'_>, numbers: &[u8])
     requires short { AreShort (fields_seen parts.now) }
     requires room { HasRoom out.old (flat_map (slot_octets (fields_seen parts.now)) numbers.now) }
     ensures appended { out.new.items ≡ out.old.items ++ flat_map (slot_octets (fields_seen parts.now)) numbers.now }
-    ensures room { vec_capacity out.old ≤ vec_capacity out.new }
+    ensures room { vec_capacity out.new ≡ vec_capacity out.old }
 {
     for number in numbers {
         put_elements_with(out, parts, *number);
     }
 }
 
-/// Appends the octets of a message, with its elements in the table's order, and takes no memory.
+/// Appends the octets of a message, with its elements in the table's order, and takes no memory: the vector keeps its capacity.
 ///
 /// It asks for a message that some octets mean, for which `write` answers no cause, and for room of 1,547 octets, the longest
 /// message.
@@ -222,7 +225,8 @@ fn put_elements(out: &mut Vec<u8>, parts: &Parts<'_>, numbers: &[u8])
 pub fn write_in(message: &Message, out: &mut Vec<u8>)
     requires meant { IsTrue (is_writable message.now) }
     requires room { vec_len out.old + 1547 ≤ vec_capacity out.old }
-    ensures { out.new.items ≡ out.old.items ++ octets_of_message message.now }
+    ensures appended { out.new.items ≡ out.old.items ++ octets_of_message message.now }
+    ensures room_stays { vec_capacity out.new ≡ vec_capacity out.old }
 {
     let parts = parts_of(message);
     let start = out.len();

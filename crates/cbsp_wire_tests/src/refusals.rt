@@ -181,3 +181,17 @@ fn replies_have_their_own_elements(rt: HostRuntime) -> Result<(), Fail> {
     }
     Ok(())
 }
+
+#[test]
+fn each_refusal_has_its_text(rt: HostRuntime) -> Result<(), Fail> {
+    let texts = [
+        (WireFault::Truncated, "the message is cut off"),
+        (WireFault::TrailingBytes, "octets stand after the message"),
+        (WireFault::Cause(0x04), "refused with cause 4"),
+        (WireFault::Refused, "out of memory"),
+    ];
+    for (fault, text) in texts {
+        assert_eq!(rt; fault.to_string(rt.alloc())?.as_str(), text);
+    }
+    Ok(())
+}

@@ -1,6 +1,6 @@
 //! The two tables, written once, and the three functions that read them.
 
-ghost use Rattle.std.specs.Prelude.{◌≡◌, ◌<◌, IfSome};
+ghost use Rattle.std.specs.Prelude.{◌≡◌, IfSome};
 ghost use Rattle.gsm_alphabet.specs.Alphabet.{code_of, character_of_code, IsSeptetCode, main_character, extension_character};
 
 use crate::Code;
@@ -70,10 +70,10 @@ pub fn encode_char(character: char) -> Option<Code>
     alphabet!(code_for, character)
 }
 
-/// The character that the septet `code` shows by itself. The escape 1B, which has none, shows a space.
+/// The character that the septet `code` shows by itself. The escape 1B, which has none, shows a space, and so does a number from 128
+/// on, which is no septet.
 #[tactic(auto, unfolding(crate::specs::Alphabet::main_table))]
 pub fn decode_one(code: u8) -> char
-    requires { code < 128 }
     ensures { result ≡ main_character code }
 {
     alphabet!(main_character, code)
@@ -84,7 +84,6 @@ pub fn decode_one(code: u8) -> char
 /// standard a page break, a line feed (own).
 #[tactic(auto, unfolding(crate::specs::Alphabet::extension_table))]
 pub fn decode_ext(code: u8) -> char
-    requires { code < 128 }
     ensures { result ≡ extension_character code }
 {
     alphabet!(extension_character, code)

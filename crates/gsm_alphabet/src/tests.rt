@@ -149,7 +149,6 @@ const EXTENDED: [(char, u8); 9] = [
 #[test]
 fn agrees_with_other_programs(rt: HostRuntime) {
     for (character, code) in SINGLE {
-        assert!(rt; code < 128);
         assert_eq!(rt;
             encode_char(character),
             Some(Code::One(code)),
@@ -158,7 +157,6 @@ fn agrees_with_other_programs(rt: HostRuntime) {
         assert_eq!(rt; decode_one(code), character, "at {code}");
     }
     for (character, code) in EXTENDED {
-        assert!(rt; code < 128);
         assert_eq!(rt;
             encode_char(character),
             Some(Code::Ext(code)),

@@ -5,7 +5,7 @@
 //! octets, and [`packing_law`] says that the two are inverse to each other. Nothing here allocates.
 #![tactic(auto)]
 
-ghost use Rattle.std.specs.Prelude.{◌≡◌, ◌+◌, ◌*◌, ◌<◌, ◌≤◌, ℕ, All, length, slice_index};
+ghost use Rattle.std.specs.Prelude.{◌≡◌, ◌+◌, ◌*◌, ◌<◌, ℕ, All, slice_index};
 ghost use Rattle.std.specs.Int.{bit_at};
 ghost use Rattle.septets.specs.Packing.{IsPacked, IsUnpacked, PackingIsUnique, SpareBitsAreIgnored, UnpackingGivesBack, UnpackingIsBitwise, filled, septet_at, septet_bit, unpacked};
 
@@ -55,7 +55,6 @@ pub fn packing_law()
 
 /// The septet at a place of the filled page, and 0 past its end, as the spare bits want it.
 fn filled_septet(septets: &[u8], place: usize) -> u8
-    requires { length septets.now ≤ 93 }
     ensures { result ≡ slice_index (filled septets.now) place }
 {
     match septets.get(place) {
@@ -67,7 +66,6 @@ fn filled_septet(septets: &[u8], place: usize) -> u8
 
 /// The octet at a place of the packed page: two septets, of which it has a part each.
 fn packed_octet(septets: &[u8], place: usize) -> u8
-    requires short { length septets.now ≤ 93 }
     requires septets_of_seven { All (λ septet. septet < 128) septets.now }
     requires in_page { place < 82 }
     ensures { (j : ℕ) → j < 8 → bit_at result j ≡ septet_bit (filled septets.now) (8 * place + j) }

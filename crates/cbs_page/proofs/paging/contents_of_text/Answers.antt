@@ -6,6 +6,7 @@ use Rattle.std.proofs.lemmas.List.{length_push}
 use Rattle.cbs_page.specs.Text.{capacity, codes_of, IsContentOf}
 use Rattle.cbs_page.specs.Piece.{codes_in}
 use Rattle.cbs_page.proofs.CuttingLaws.{HasCut, HasCut-takes, HasCut-begins, HasCut-end}
+use Rattle.cbs_page.proofs.PaginateLaws.{has_pages}
 use Rattle.cbs_page.proofs.paging.contents_of_text.Goals as goal
 
 pub loop-character-preserved-then-len-cost : goal.loop-character-preserved-then-len-cost
@@ -56,6 +57,8 @@ returns c =
     let ended = YieldsList-end (YieldsList-from_chars c.args.text.now c.utf8.text cc) c.loop-character.yielded _ c.loop-character.yielded_by _ _ c.in-None.is c.next.ensures.steps in
     let here : IsContentOf alphabet (codes_in c.loop-character.piece) c.content-2.result =
     subst (λ (a : _). IsContentOf a (codes_in c.loop-character.piece) c.content-2.result) c.loop-character.invariant.same c.content-2.ensures in
-    rw c.in_ok-push-2.ensures.items
-    (HasCut-end alphabet (chars c.args.text.now) (length c.loop-character.yielded) (codes_in c.loop-character.piece)
-    c.loop-character.pages.items c.content-2.result c.loop-character.invariant.made ended.1 here)
+    let held = HasCut-end alphabet (chars c.args.text.now) (length c.loop-character.yielded) (codes_in c.loop-character.piece)
+    c.loop-character.pages.items c.content-2.result c.loop-character.invariant.made ended.1 here
+    in
+    let has = has_pages alphabet (chars c.args.text.now) c.requires in
+    (has.pieces, has.paging, rw (c.in_ok-push-2.ensures.items, ← has.cut) held)

@@ -1,11 +1,12 @@
-use Rattle.std.proofs.Common.{◌+◌, ◌<◌, ◌≤◌, length, arith}
+use Rattle.std.proofs.Common.{◌≡◌, ◌∙◌, ◌+◌, ◌<◌, ◌≤◌, length, arith}
 use Rattle.std.specs.Str.{chars}
 use Rattle.std.proofs.lemmas.Iterator.{YieldsList-from_chars}
 use Rattle.std.proofs.lemmas.Iterator.Consumers.{YieldsList-turn, YieldsList-end}
 use Rattle.std.proofs.lemmas.List.{length_push, at_drop_all}
-use Rattle.cbs_page.specs.Cutting.{count_from}
+use Rattle.cbs_page.proofs.Cutting.{count_from}
 use Rattle.cbs_page.specs.Text.{capacity, codes_of}
 use Rattle.cbs_page.proofs.CuttingLaws.{count-takes, count-begins}
+use Rattle.cbs_page.proofs.PaginateLaws.{has_pages}
 use Rattle.cbs_page.proofs.paging.page_count.Goals as goal
 
 pub loop-character-preserved-then-used-cost : goal.loop-character-preserved-then-used-cost
@@ -39,8 +40,11 @@ loop-character-preserved c =
 pub returns : goal.returns
 returns c =
     let ended = YieldsList-end (YieldsList-from_chars c.args.text.now c.utf8.text cc) c.loop-character.yielded _ c.loop-character.yielded_by _ _ c.in-None.is c.next.ensures.steps in
-    omega (
+    let text = chars c.args.text.now in
+    let count : c.loop-character.pages ≡ count_from (codes_of c.args.alphabet) (capacity c.args.alphabet) 0 text = omega (
       arith,
       c.loop-character.invariant.counted,
-      at_drop_all (count_from (codes_of c.args.alphabet) (capacity c.args.alphabet) c.loop-character.used) (chars c.args.text.now) (length c.loop-character.yielded) (omega (arith, ended.1)),
-    )
+      at_drop_all (count_from (codes_of c.args.alphabet) (capacity c.args.alphabet) c.loop-character.used) text (length c.loop-character.yielded) (omega (arith, ended.1)),
+    ) in
+    let has = has_pages c.args.alphabet text c.requires in
+    (has.pieces, has.paging, count ∙ has.count)

@@ -1,6 +1,6 @@
 use Rattle.std.proofs.Common.{◌≡◌, ◌+◌, ◌≤◌, length, drop}
 use Rattle.std.specs.Str.{chars}
-use Rattle.cbs_page.specs.Cutting.{count_from}
+use Rattle.cbs_page.proofs.Cutting.{count_from}
 use Rattle.cbs_page.specs.Text.{capacity, codes_of}
 use Rattle.cbs_page.proofs.paging.page_count.Given as goal
 

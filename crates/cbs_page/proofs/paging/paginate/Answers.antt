@@ -1,4 +1,4 @@
-use Rattle.std.proofs.Common.{◌≡◌, ◌≢◌, ℕ, List, [], length, refl, sym, ap, ◌∙◌, arith, IsSome, Some, true, false, Option, eqb, subst, map}
+use Rattle.std.proofs.Common.{◌≡◌, ◌≢◌, ℕ, ◌≤◌, List, [], length, refl, sym, ap, ◌∙◌, arith, IsSome, Some, true, false, Option, eqb, subst, map}
 use Rattle.std.specs.List.{flat_map}
 use Rattle.std.specs.Prelude.{is_some}
 use Rattle.std.specs.Str.{IsUtf8, chars}
@@ -9,11 +9,11 @@ use Rattle.std.proofs.lemmas.Str.{encodes-chars, scalars-chars, chars-nil}
 use Rattle.cbs_page.specs.declared.coding.Alphabet.{Alphabet}
 use Rattle.cbs_page.specs.declared.content.Content.{Content}
 use Rattle.cbs_page.specs.Coding.{language_value}
-use Rattle.cbs_page.specs.Cutting.{cuts_from, count_from}
-use Rattle.cbs_page.specs.Text.{capacity, codes_of, alphabet_for, coding_for, AreContentsOf}
+use Rattle.cbs_page.specs.Text.{capacity, codes_of, cost_of, alphabet_for, coding_for, TakesPages, HoldText}
 use Rattle.std.proofs.lemmas.List.{length-map}
 use Rattle.cbs_page.proofs.CuttingLaws.{AreContentsOf-length}
-use Rattle.cbs_page.proofs.PaginateLaws.{HasPages, has_pages, each_scalar, sendable, pages_show}
+use Rattle.cbs_page.proofs.PagingLaws.{one_paging}
+use Rattle.cbs_page.proofs.PaginateLaws.{each_scalar, sendable, pages_show, some_page}
 use Rattle.cbs_page.proofs.paging.paginate.Goals as goal
 
 spoken : (value : Option ℕ) (v : ℕ) → Some v ≡ value → IsSome value
@@ -29,22 +29,31 @@ some_characters bytes utf8 not_empty none =
     let impossible : false ≡ true = not_empty ∙ empty in
     cc
 
--- the pages that a text has
-pages_of : (bytes : List ℕ) → IsUtf8 bytes → false ≡ eqb (length bytes) 0 → HasPages (alphabet_for (chars bytes)) (chars bytes)
-pages_of bytes utf8 not_empty = has_pages (alphabet_for (chars bytes)) (chars bytes) (some_characters bytes utf8 not_empty)
+-- how many pages a text takes in its alphabet
+counted : (text : List ℕ) (alphabet : Alphabet) (count : ℕ) → alphabet ≡ alphabet_for text → TakesPages alphabet text count →
+    TakesPages (alphabet_for text) text count
+counted text alphabet count is takes = subst (λ (a : Alphabet). TakesPages a text count) is takes
 
--- how many they are
-counted : (bytes : List ℕ) (alphabet : Alphabet) (pages : HasPages (alphabet_for (chars bytes)) (chars bytes)) (count : ℕ) →
-    alphabet ≡ alphabet_for (chars bytes) → count ≡ count_from (codes_of alphabet) (capacity alphabet) 0 (chars bytes) → count ≡ length pages.pieces
-counted bytes alphabet pages count is counts =
-    counts ∙ ap (λ a. count_from (codes_of a) (capacity a) 0 (chars bytes)) is ∙ pages.count
+-- the contents of its pages
+held_in : (text : List ℕ) (alphabet : Alphabet) (contents : List Content) → alphabet ≡ alphabet_for text → HoldText alphabet text contents →
+    HoldText (alphabet_for text) text contents
+held_in text alphabet contents is hold = subst (λ (a : Alphabet). HoldText a text contents) is hold
 
-held_in : (bytes : List ℕ) (alphabet : Alphabet) (contents : List Content) → alphabet ≡ alphabet_for (chars bytes) →
-    AreContentsOf alphabet (cuts_from (codes_of alphabet) (capacity alphabet) [] (chars bytes)) contents →
-    AreContentsOf (alphabet_for (chars bytes))
-    (cuts_from (codes_of (alphabet_for (chars bytes))) (capacity (alphabet_for (chars bytes))) [] (chars bytes)) contents
-held_in bytes alphabet contents is held =
-    subst (λ (a : Alphabet). AreContentsOf a (cuts_from (codes_of a) (capacity a) [] (chars bytes)) contents) is held
+-- there are as many pieces as pages were counted
+pieces_counted : (text : List ℕ) (count : ℕ) (contents : List Content) (takes : TakesPages (alphabet_for text) text count)
+    (hold : HoldText (alphabet_for text) text contents) → count ≡ length hold.0
+pieces_counted text count contents takes hold =
+    takes.2 ∙ ap length (one_paging (cost_of (alphabet_for text)) (capacity (alphabet_for text)) text takes.0 hold.0 takes.1 hold.1)
+
+-- a text that isn't empty has a page
+page_there : (text : List ℕ) (contents : List Content) → text ≢ [] → (hold : HoldText (alphabet_for text) text contents) → 1 ≤ length hold.0
+page_there text contents some hold = some_page text hold.0 some hold.1.whole
+
+pub page_count-requires : goal.page_count-requires
+page_count-requires c = some_characters c.args.text.now c.utf8.text c.if-is_empty.ensures
+
+pub contents_of_text-requires : goal.contents_of_text-requires
+contents_of_text-requires c = some_characters c.args.text.now c.utf8.text c.if-is_empty.ensures
 
 pub returns-then-is_empty-clause-fault : goal.returns-then-is_empty-clause-fault
 returns-then-is_empty-clause-fault c =
@@ -52,58 +61,57 @@ returns-then-is_empty-clause-fault c =
 
 pub returns-then-page_count-gt-MAX_PAGES-clause-fault : goal.returns-then-page_count-gt-MAX_PAGES-clause-fault
 returns-then-page_count-gt-MAX_PAGES-clause-fault c =
-    let pages = pages_of c.args.text.now c.utf8.text c.if-is_empty.ensures in
-    let count = counted c.args.text.now c.alphabet_of_text-alphabet.result pages c.page_count.result c.alphabet_of_text-alphabet.ensures c.page_count.ensures in (
+    let takes = counted (chars c.args.text.now) _ _ c.alphabet_of_text-alphabet.ensures c.page_count.ensures in (
       spoken (language_value c.args.language.now) c.in-Some.value c.in-Some.ensures,
       sym c.in-None.ensures,
-      (pages.pieces, pages.paging, omega (arith, count)),
+      (takes.0, takes.1, omega (arith, takes.2)),
     )
 
 pub returns-in-Ok-clause-sent : goal.returns-in-Ok-clause-sent
 returns-in-Ok-clause-sent c =
-    let pages = pages_of c.args.text.now c.utf8.text c.if-is_empty.ensures in
-    let count = counted c.args.text.now c.alphabet_of_text-alphabet.result pages c.page_count.result c.alphabet_of_text-alphabet.ensures c.page_count.ensures in
-    let held = held_in c.args.text.now c.alphabet_of_text-alphabet.result c.in-Ok.pages.items c.alphabet_of_text-alphabet.ensures c.in-Ok.ensures in
+    let text = chars c.args.text.now in
+    let takes = counted text _ _ c.alphabet_of_text-alphabet.ensures c.page_count.ensures in
+    let hold = held_in text _ _ c.alphabet_of_text-alphabet.ensures c.in-Ok.ensures in
     record {
       value = c.in-Some.value;
       spoken = sym c.in-Some.ensures;
       good = sym c.in-None.ensures;
       dcs = c.coding.ensures ∙ ap (λ a. coding_for a c.in-Some.value) c.alphabet_of_text-alphabet.ensures;
-      pieces = pages.pieces;
-      paging = pages.paging;
-      some = pages.some;
-      few = omega (arith, count);
-      contents = rw (← pages.cut) held;
+      pieces = hold.0;
+      paging = hold.1;
+      some = page_there text _ (some_characters c.args.text.now c.utf8.text c.if-is_empty.ensures) hold;
+      few = omega (arith, pieces_counted text _ _ takes hold);
+      contents = hold.2;
     }
 
 pub returns-in-Ok-clause-shown : goal.returns-in-Ok-clause-shown
 returns-in-Ok-clause-shown c =
-    let pages = pages_of c.args.text.now c.utf8.text c.if-is_empty.ensures in
-    let held = held_in c.args.text.now c.alphabet_of_text-alphabet.result c.in-Ok.pages.items c.alphabet_of_text-alphabet.ensures c.in-Ok.ensures in
-    let good = sendable (chars c.args.text.now) (each_scalar (chars c.args.text.now) (scalars-chars c.args.text.now c.utf8.text)) (sym c.in-None.ensures) in
-    pages_show (chars c.args.text.now) pages c.in-Ok.pages.items good held
+    let text = chars c.args.text.now in
+    let hold = held_in text _ _ c.alphabet_of_text-alphabet.ensures c.in-Ok.ensures in
+    let good = sendable text (each_scalar text (scalars-chars c.args.text.now c.utf8.text)) (sym c.in-None.ensures) in
+    pages_show text hold.0 c.in-Ok.pages.items hold.1 good hold.2
 
 pub returns-in-Ok-clause-count : goal.returns-in-Ok-clause-count
 returns-in-Ok-clause-count c =
-    let pages = pages_of c.args.text.now c.utf8.text c.if-is_empty.ensures in
-    let count = counted c.args.text.now c.alphabet_of_text-alphabet.result pages c.page_count.result c.alphabet_of_text-alphabet.ensures
-    c.page_count.ensures
-    in
-    let held = held_in c.args.text.now c.alphabet_of_text-alphabet.result c.in-Ok.pages.items c.alphabet_of_text-alphabet.ensures
-    c.in-Ok.ensures
-    in
-    let same : length c.in-Ok.pages.items ≡ length pages.pieces =
-    AreContentsOf-length (alphabet_for (chars c.args.text.now))
-    (map (flat_map (codes_of (alphabet_for (chars c.args.text.now)))) pages.pieces) c.in-Ok.pages.items (rw (← pages.cut) held)
-    ∙ length-map pages.pieces (flat_map (codes_of (alphabet_for (chars c.args.text.now))))
-    in
-    (omega (arith, same, pages.some), omega (arith, same, count))
+    let text = chars c.args.text.now in
+    let takes = counted text _ _ c.alphabet_of_text-alphabet.ensures c.page_count.ensures in
+    let hold = held_in text _ _ c.alphabet_of_text-alphabet.ensures c.in-Ok.ensures in
+    let codes = codes_of (alphabet_for text) in
+    let same : length c.in-Ok.pages.items ≡ length hold.0 =
+    AreContentsOf-length (alphabet_for text) (map (flat_map codes) hold.0) c.in-Ok.pages.items hold.2 ∙ length-map hold.0 (flat_map codes) in
+    let some = page_there text _ (some_characters c.args.text.now c.utf8.text c.if-is_empty.ensures) hold in
+    (omega (arith, same, some), omega (arith, same, pieces_counted text _ _ takes hold))
 
 pub returns-in-Err-clause-fault : goal.returns-in-Err-clause-fault
 returns-in-Err-clause-fault c =
-    let pages = pages_of c.args.text.now c.utf8.text c.if-is_empty.ensures in
-    let count = counted c.args.text.now c.alphabet_of_text-alphabet.result pages c.page_count.result c.alphabet_of_text-alphabet.ensures c.page_count.ensures in (
+    let text = chars c.args.text.now in
+    let takes = counted text _ _ c.alphabet_of_text-alphabet.ensures c.page_count.ensures in (
       spoken (language_value c.args.language.now) c.in-Some.value c.in-Some.ensures,
       sym c.in-None.ensures,
-      (pages.pieces, pages.paging, pages.some, omega (arith, count)),
+      (
+        takes.0,
+        takes.1,
+        some_page text takes.0 (some_characters c.args.text.now c.utf8.text c.if-is_empty.ensures) takes.1.whole,
+        omega (arith, takes.2),
+      ),
     )

@@ -1,4 +1,4 @@
-use Rattle.std.proofs.Common.{◌≡◌, ◌≤◌, ◌++◌, take, vec_capacity}
+use Rattle.std.proofs.Common.{◌≡◌, ◌++◌, take, vec_capacity}
 use Rattle.std.specs.List.{flat_map}
 use Rattle.cbsp_wire.specs.Parts.{fields_seen}
 use Rattle.cbsp_wire.specs.Written.{slot_octets}
@@ -7,5 +7,5 @@ use Rattle.cbsp_wire.proofs.writing.put_elements.Given as goal
 abbrev pub invariant-loop-number : goal.invariant-loop-number
 invariant-loop-number l = record {
   so_far : l.out.items ≡ l.fn.out.items ++ flat_map (slot_octets (fields_seen l.parts)) (take l.number-index l.numbers);
-  room : vec_capacity l.fn.out ≤ vec_capacity l.out;
+  room : vec_capacity l.out ≡ vec_capacity l.fn.out;
 }

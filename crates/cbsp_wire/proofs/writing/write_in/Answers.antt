@@ -23,8 +23,8 @@ overflow_cast-length c =
     let fits = fields_fit c.args.message.now f c.parts_of-parts.ensures c.requires.meant in
     cast_fits _ _ len fits
 
-pub returns : goal.returns
-returns c =
+pub returns-clause-appended : goal.returns-clause-appended
+returns-clause-appended c =
     let f = fields_seen c.parts_of-parts.result in
     let n : c.len-start.result ≡ length c.args.out.now.items = omega arith in
     let l : c.len.result ≡ length c.put_elements.new.out.items = omega arith in
