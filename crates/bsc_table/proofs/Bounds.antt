@@ -11,7 +11,7 @@ use Rattle.scheduler.proofs.Completed.{one_if, is_whole-unreleased}
 use Rattle.scheduler.proofs.Rule.{is_whole-says, is_whole-from}
 use Rattle.bsc_table.specs.Guarantee.{IsUpToStop}
 use Rattle.bsc_table.specs.Bounds.{sooner_of, stands_until, cut_at, least_completed, most_completed, CompletedIsAtMost, CompletedIsAtLeast, BoundsAreNear}
-use Rattle.bsc_table.proofs.Demand.{count_below_more}
+use Rattle.scheduler.proofs.Lists.{count_below_more}
 use Rattle.bsc_table.proofs.Served.{admitted_broadcasts_are_whole}
 
 -- of the numbers below n no more than n pass a test

@@ -1,32 +1,19 @@
 -- The demand of a range of slots.
-use Rattle.std.proofs.Common.{◌≡◌, ℕ, zero, suc, ◌+◌, ◌-◌, ◌*◌, ◌≤◌, ◌<◌, ◌⊎◌, Bool, true, false, ◌&&◌, leb, cond, [], ◌∷◌, ◌++◌, get_or, sum_by, count_by, inl, inr, refl, sym, ap, ◌∙◌, arith}
+use Rattle.std.proofs.Common.{◌≡◌, ℕ, zero, suc, ◌+◌, ◌-◌, ◌*◌, ◌≤◌, ◌<◌, ◌⊎◌, Bool, true, false, ◌&&◌, leb, cond, get_or, sum_by, count_by, inl, inr, refl, ap, ◌∙◌, arith}
 use Rattle.std.specs.List.{range_with_len}
 use Rattle.std.proofs.lemmas.Bool.{cases_lt, cases_Bool, and_parts, and_from, leb-true, le-leb}
-use Rattle.std.proofs.lemmas.List.Sums.{sum_by_push}
-use Rattle.std.proofs.Math.Nat.{add-zero, le_of_mul-le-mul_left}
+use Rattle.std.proofs.Math.Nat.{le_of_mul-le-mul_left}
 use Rattle.admission.specs.declared.measure.TheConstants.{SCALE}
 use Rattle.admission.specs.Load.{load_of}
 use Rattle.admission.proofs.Loads.{load_of-enough}
 use Rattle.scheduler.specs.Message.{Message, release, due, HasBroadcast, IsBeforeStop, has_broadcast, is_before_stop}
+use Rattle.scheduler.proofs.Lists.{count_below_more}
 use Rattle.scheduler.proofs.Message.{has_broadcast-says, has_broadcast-from, is_before_stop-says, is_before_stop-from}
 use Rattle.bsc_table.specs.Guarantee.{is_inside, DemandIsNoMoreThanTheSlots}
 use Rattle.bsc_table.proofs.Sums.{total, total-le, sum_by-plus, sum_by-times, sum_by-le_all}
 use Rattle.bsc_table.proofs.Reserved.{load_at, reserved_over, loads_grow, fits_by_message}
 
--- the numbers from a on, with one more
-range_push : (a n : ℕ) → range_with_len a (suc n) ≡ range_with_len a n ++ (a + n) ∷ []
-range_push a zero = ap (λ x. x ∷ []) (sym (add-zero a))
-range_push a (suc n) =
-    let here : (a + 1) + n ≡ a + suc n = omega arith in
-    ap (λ xs. a ∷ xs) (range_push (a + 1) n ∙ ap (λ x. range_with_len (a + 1) n ++ x ∷ []) here)
-
--- a count over the numbers below suc n
-pub count_below_more : (p : ℕ → Bool) (n : ℕ) → count_by p (range_with_len 0 (suc n)) ≡ count_by p (range_with_len 0 n) + cond (p n) 1 0
-count_below_more p n =
-    let here : 0 + n ≡ n = omega arith in
-    ap (count_by p) (range_push 0 n) ∙ (sum_by_push (λ j. cond (p j) 1 0) (range_with_len 0 n) (0 + n) ∙ ap (λ j. count_by p (range_with_len 0 n) + cond (p j) 1 0) here)
-
--- the same by a longer range
+-- a count by a longer range is no less
 count_below-le : (p : ℕ → Bool) (k n : ℕ) → k ≤ n → count_by p (range_with_len 0 k) ≤ count_by p (range_with_len 0 n)
 count_below-le p k zero h =
     let none : k ≡ 0 = omega arith in

@@ -2,12 +2,13 @@
 use Rattle.std.proofs.Common.{◌≡◌, ℕ, ◌≤◌, ◌<◌, true, Option, Some, None, List, [], ◌∷◌, ◌++◌, length, take, map, get_or, ap, sym, subst, ◌∙◌, inl, inr, arith}
 use Rattle.std.specs.List.{All, AllPairs, Contains}
 use Rattle.std.specs.Option.{IfSome}
-use Rattle.std.proofs.lemmas.Bool.{cases_order, cases_lt}
+use Rattle.std.proofs.lemmas.Bool.{cases_lt}
 use Rattle.std.proofs.lemmas.List.{take_all, take_at, take-append-le, get_or_append_left, get_or_default, get_or_push, length_push, map-append}
 use Rattle.std.proofs.lemmas.List.Elements.{All-push, All-map}
 use Rattle.std.proofs.lemmas.List.Quantifiers.{all_pairs_push}
 use Rattle.scheduler.specs.Message.{Message}
 use Rattle.scheduler.specs.Air.{Air, IsAirOf}
+use Rattle.scheduler.proofs.Lists.{rising-same}
 use Rattle.scheduler.proofs.Rule.{IsAirOf-add, IsAirOf-stop}
 use Rattle.bsc_table.specs.declared.command.Command.{Command}
 use Rattle.bsc_table.specs.declared.entry.Entry.{Entry}
@@ -26,13 +27,7 @@ pub same_number : (all : List Accepted) (a : Accepted) → AllPairs BelowIt all 
 same_number all a rising there = λ i d within same.
     let here : get_or all there.0 d ≡ a = get_or_default all there.0 d a there.1 ∙ there.2 in
     let its : (get_or all there.0 d).message.number ≡ a.message.number = ap (λ (x : Accepted). x.message.number) here in
-    elim (cases_order i there.0) [
-      | inl at ↦ ap (λ (k : ℕ). get_or all k d) at ∙ here
-      | inr apart ↦ elim apart [
-        | inl before ↦ absurd (omega (arith, rising i there.0 d before there.1, same, its))
-        | inr after ↦ absurd (omega (arith, rising there.0 i d after within, same, its))
-      ]
-    ]
+    ap (λ (k : ℕ). get_or all k d) (rising-same (λ (x : Accepted). x.message.number) all rising i there.0 d within there.1 (same ∙ sym its)) ∙ here
 
 -- a live message and no other one is stopped
 pub standing_number : (all : List Accepted) (slot : ℕ) (a : Accepted) → AllPairs BelowIt all → Contains all a → is_live slot a.message ≡ true → All (λ m. m.number ≡ a.message.number → m.stop ≡ None) (map (λ x. x.message) all)

@@ -2,7 +2,7 @@
 -- that are reserved there allow.
 use Rattle.std.proofs.Common.{◌≡◌, ℕ, ◌+◌, ◌-◌, ◌*◌, ◌≤◌, ◌<◌, Bool, true, cond, List, length, get_or, min, sum_by, Option, inl, inr, refl, sym, ap, subst, ◌∙◌, arith}
 use Rattle.std.specs.List.{All, AllPairs}
-use Rattle.std.proofs.lemmas.Bool.{cases_lt, cases_order, eq-eqb, eqb-true}
+use Rattle.std.proofs.lemmas.Bool.{cases_lt, eq-eqb, eqb-true}
 use Rattle.std.proofs.lemmas.List.{get_or_default}
 use Rattle.std.proofs.lemmas.List.Elements.{Contains-get_or}
 use Rattle.std.proofs.lemmas.List.Sums.{get_or-le-sum_by}
@@ -13,6 +13,7 @@ use Rattle.bsc_table.specs.Guarantee.{LoadsFit, IsUncut, AirsOneWithin, Admitted
 use Rattle.bsc_table.proofs.Sums.{total, total-at_least, sum_by-plus, exchange, sum_by-le_more}
 use Rattle.bsc_table.proofs.Broadcasts.{uses, pages_before, before_stop-up_to}
 use Rattle.bsc_table.proofs.Inside.{IsServed, AiredInside, aired_inside, aired_short}
+use Rattle.scheduler.proofs.Lists.{rising-same}
 use Rattle.bsc_table.proofs.Demand.{count_inside, demand_is_no_more_than_the_slots}
 use Rattle.bsc_table.proofs.Busy.{lack_means_a_busy_period}
 
@@ -21,13 +22,7 @@ same_message : (messages : List Message) (i k : ℕ) (d e : Message) → AllPair
 same_message messages i k d e rising here there same =
     let other = get_or_default messages k e d there in
     let number : (get_or messages i d).number ≡ (get_or messages k d).number = same ∙ ap (λ (m : Message). m.number) other in
-    elim (cases_order i k) [
-      | inl equal ↦ ap (λ n. get_or messages n d) equal ∙ sym other
-      | inr apart ↦ elim apart [
-        | inl before ↦ absurd (omega (arith, rising i k d before there, number))
-        | inr after ↦ absurd (omega (arith, rising k i d after here, number))
-      ]
-    ]
+    ap (λ n. get_or messages n d) (rising-same (λ (m : Message). m.number) messages rising i k d here there number) ∙ sym other
 
 -- each slot of the range airs a page of a broadcast inside it
 abbrev IsBusy : List Message → Air → ℕ → ℕ → Type 0

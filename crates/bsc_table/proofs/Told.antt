@@ -1,7 +1,7 @@
 -- What a cell tells is true: the number in an answer is that of a message as it was, and what came after doesn't change it.
-use Rattle.std.proofs.Common.{◌≡◌, ℕ, zero, suc, ◌+◌, ◌-◌, ◌≤◌, ◌<◌, ◌==◌, ◌&&◌, min, Bool, true, false, leb, Option, Some, None, List, [], ◌∷◌, ◌++◌, length, take, drop, map, get_or, count_by, refl, ap, sym, subst, ◌∙◌, inl, inr, arith}
+use Rattle.std.proofs.Common.{◌≡◌, ℕ, zero, suc, ◌+◌, ◌-◌, ◌≤◌, ◌<◌, ◌==◌, ◌&&◌, min, Bool, true, false, leb, Option, Some, None, List, [], ◌∷◌, ◌++◌, length, take, drop, map, get_or, refl, ap, sym, subst, ◌∙◌, inl, inr, arith}
 use Rattle.std.specs.Prelude.{⊤}
-use Rattle.std.specs.List.{Contains, find, range_with_len}
+use Rattle.std.specs.List.{Contains, find}
 use Rattle.std.proofs.Math.Seq.{take-suc}
 use Rattle.std.proofs.lemmas.Bool.{cases_lt, cond_both, and_parts, eqb-true, lt-ltb}
 use Rattle.std.proofs.lemmas.List.{get_or-map, length-map, length-take-le, take-append-drop, take_all}
@@ -12,7 +12,7 @@ use Rattle.scheduler.specs.Message.{Message, release, due, has_broadcast, is_bef
 use Rattle.scheduler.specs.Air.{Air, pages_aired}
 use Rattle.scheduler.specs.Completed.{completed, is_whole}
 use Rattle.scheduler.proofs.Air.{pages_aired-append}
-use Rattle.scheduler.proofs.Completed.{one_if, is_whole-unreleased}
+use Rattle.scheduler.proofs.Completed.{is_whole-unreleased}
 use Rattle.bsc_table.specs.declared.command.Command.{Command}
 use Rattle.bsc_table.specs.declared.command.Command.TheVariants as commands
 use Rattle.bsc_table.specs.declared.entry.Answer.{Answer}
@@ -24,7 +24,7 @@ use Rattle.bsc_table.specs.Answer.{answer_to_new, answer_to_replacement, unless_
 use Rattle.bsc_table.specs.Legal.{IsLegal}
 use Rattle.bsc_table.specs.Told.{completed_told, IsAbout, IsTrulyTold, LegalAnswersAreTrue}
 use Rattle.bsc_table.proofs.Appended.{stop_after, accepted_after, accepted_in-push}
-use Rattle.bsc_table.proofs.Demand.{count_below_more}
+use Rattle.scheduler.proofs.Lists.{count_below_same}
 use Rattle.bsc_table.proofs.Named.{find_passes}
 use Rattle.bsc_table.proofs.Outcome.{before_end_cases, of_live_cases, unless_accepted_cases, beside_cases, Contains-find}
 use Rattle.bsc_table.proofs.Promised.{legal_histories_are_bounded}
@@ -164,12 +164,6 @@ continued_by r legal k (suc more) d a within upto here =
     let Goes : List Entry → Type 0 = λ log. (b : Accepted) × Contains (accepted_in log) b × IsContinued slot a b in
     subst (λ n. Goes (take n r.log)) next (subst Goes (sym grown) (continued_after (take (k + more) r.log) e slot a before.0 after before.1 before.2))
 
--- tests that agree below n count the same
-count_below-same : (p q : ℕ → Bool) (n : ℕ) → ((j : ℕ) → p j ≡ q j) → count_by p (range_with_len 0 n) ≡ count_by q (range_with_len 0 n)
-count_below-same p q zero same = refl
-count_below-same p q (suc n) same =
-    omega (arith, count_below-same p q n same, ap one_if (same n), count_below_more p n, count_below_more q n)
-
 -- what is aired from a slot on changes nothing of what is whole before it
 is_whole-before : (m : Message) (air : Air) (slot j : ℕ) → slot ≤ length air → is_whole m (take slot air) slot j ≡ is_whole m air slot j
 is_whole-before m air slot j within =
@@ -200,8 +194,8 @@ completed-continued : (a b : Accepted) (air : Air) (slot : ℕ) → slot ≤ len
 completed-continued a b air slot within pages on =
     let m = a.message in
     let stopped : Message = record m { stop = b.message.stop } in
-    let before = count_below-same (is_whole m (take slot air) slot) (is_whole m air slot) (slot + 1) (λ j. is_whole-before m air slot j within) in
-    let later = count_below-same (is_whole stopped air slot) (is_whole m air slot) (slot + 1) (λ j. is_whole-stopped_later m b.message.stop air slot j pages on.later) in
+    let before = count_below_same (is_whole m (take slot air) slot) (is_whole m air slot) (slot + 1) (λ j below. is_whole-before m air slot j within) in
+    let later = count_below_same (is_whole stopped air slot) (is_whole m air slot) (slot + 1) (λ j below. is_whole-stopped_later m b.message.stop air slot j pages on.later) in
     before ∙ sym later ∙ ap (λ (x : Accepted). completed x.message air slot) (sym on.same)
 
 -- a message that became another has its pages
