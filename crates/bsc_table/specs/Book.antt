@@ -1,5 +1,5 @@
 -- What a cell's book keeps beside its record (own).
-use Rattle.std.specs.Prelude.{◌≡◌, ℕ, ◌+◌, ◌<◌, ⊤, Bool, true, false, not, find, ◌≤◌, ◌==◌, if◌then◌else◌, Option, Some, None, Result, Ok, Err, List, [], ◌∷◌, ◌++◌, length, sum_by, map, filter, vec_len, vec_capacity}
+use Rattle.std.specs.Prelude.{◌≡◌, ℕ, ◌+◌, ◌<◌, ⊤, Bool, true, false, not, find, ◌≤◌, ◌==◌, if◌then◌else◌, Option, Some, None, Result, Ok, Err, List, [], ◌∷◌, ◌++◌, length, sum_by, map, filter, Contains, vec_len, vec_capacity}
 use Rattle.admission.specs.declared.budget.Held.{Held}
 use Rattle.admission.specs.declared.budget.NoRoom.{NoRoom}
 use Rattle.admission.specs.declared.budget.NoRoom.TheVariants.{Table, Load}
@@ -79,6 +79,24 @@ pub record IsNext (r : Record) (e : Entry) : Type 0 where
   pub room : length r.log < 4096
   pub formed : IsWellFormed e.command
   pub right : e.answer ≡ answer_with_room r.slots r.log r.air r.clock e.command
+
+-- an entry stops a message and no other: it was accepted, and is live
+pub record IsStop (r : Record) (e : Entry) (old : Accepted) : Type 0 where
+  pub there : Contains (accepted_in r.log) old
+  pub live : is_live r.clock old.message ≡ true
+  pub after : accepted_in (r.log ++ e ∷ []) ≡ map (stop_numbered old.message.number r.clock) (accepted_in r.log)
+
+-- an entry starts a message
+pub record IsStart (r : Record) (e : Entry) (new : Accepted) : Type 0 where
+  pub begun : IsBegun (length r.log) r.clock (accepted_in r.log) new
+  pub after : accepted_in (r.log ++ e ∷ []) ≡ accepted_in r.log ++ new ∷ []
+
+-- an entry stops a message and starts one in its place
+pub record IsReplacement (r : Record) (e : Entry) (old new : Accepted) : Type 0 where
+  pub there : Contains (accepted_in r.log) old
+  pub live : is_live r.clock old.message ≡ true
+  pub begun : IsBegun (length r.log) r.clock (map (stop_numbered old.message.number r.clock) (accepted_in r.log)) new
+  pub after : accepted_in (r.log ++ e ∷ []) ≡ map (stop_numbered old.message.number r.clock) (accepted_in r.log) ++ new ∷ []
 
 -- a record with one more entry
 abbrev pub with_entry : Entry → Record → Record

@@ -9,7 +9,7 @@ ghost use Rattle.bsc_table.specs.Record.{Record, accepted_in, is_of_pair, is_liv
 ghost use Rattle.bsc_table.specs.Answer.{told_of, answer_to_kill, answer_to_write, answer_to_new, answer_to_replacement, answer_with_room, answer_of};
 ghost use Rattle.bsc_table.specs.Orders.{IsWellFormed};
 ghost use Rattle.bsc_table.specs.Legal.{IsLegal};
-ghost use Rattle.bsc_table.specs.Book.{accepted_of, air_told, IsPlayedUpTo, IsNotLive, IsLiveAs, IsBegun, IsNext, with_entry, answered_with, stop_numbered, by_room};
+ghost use Rattle.bsc_table.specs.Book.{accepted_of, air_told, IsPlayedUpTo, IsNotLive, IsLiveAs, IsNext, IsStop, IsStart, IsReplacement, with_entry, answered_with, by_room};
 ghost use Rattle.admission.specs.Reservation.{is_before_end, end_of_stopped};
 ghost use Rattle.admission.specs.Table.{ends_at};
 
@@ -210,7 +210,10 @@ impl CellBook {
         CellRecord::of(cell, slots, log, air)
     }
 
-    /// Enters a command with its answer.
+    /// Enters a command with its answer. An answer that stops or replaces a message is given of a live one alone, so that where
+    /// none is found there is nothing to stop.
+    //
+    // Longer than others for the fields of a write, which it names twice.
     fn enter(&mut self, command: &Command, answer: Answer) -> Result<(), Refused>
         requires formed { IsWellFormed command.now }
         requires room { length self.old.log < 4096 }
@@ -278,9 +281,7 @@ impl CellBook {
     /// Enters an entry that stops a message.
     fn enter_stop(&mut self, entry: Entry, old: &Kept) -> Result<(), Refused>
         requires next { IsNext self.old entry }
-        requires there { Contains (accepted_in self.old.log) (accepted_of old.now) }
-        requires live { is_live self.old.clock (accepted_of old.now).message ≡ true }
-        requires stopped { accepted_in (self.old.log ++ entry ∷ []) ≡ map (stop_numbered old.now.number self.old.clock) (accepted_in self.old.log) }
+        requires stop { IsStop self.old entry (accepted_of old.now) }
         ensures entered { OnOk result (self.new ≡ with_entry entry self.old) }
         ensures refused { OnErr result (self.new ≡ self.old) }
     {
@@ -295,8 +296,7 @@ impl CellBook {
     /// Enters an entry that starts a message.
     fn enter_new(&mut self, entry: Entry, new: Kept) -> Result<(), Refused>
         requires next { IsNext self.old entry }
-        requires begun { IsBegun (length self.old.log) self.old.clock (accepted_in self.old.log) (accepted_of new) }
-        requires started { accepted_in (self.old.log ++ entry ∷ []) ≡ accepted_in self.old.log ++ accepted_of new ∷ [] }
+        requires start { IsStart self.old entry (accepted_of new) }
         ensures entered { OnOk result (self.new ≡ with_entry entry self.old) }
         ensures refused { OnErr result (self.new ≡ self.old) }
     {
@@ -314,11 +314,7 @@ impl CellBook {
     /// Enters an entry that stops a message and starts one in its place.
     fn enter_replacement(&mut self, entry: Entry, old: &Kept, new: Kept) -> Result<(), Refused>
         requires next { IsNext self.old entry }
-        requires there { Contains (accepted_in self.old.log) (accepted_of old.now) }
-        requires live { is_live self.old.clock (accepted_of old.now).message ≡ true }
-        requires begun { IsBegun (length self.old.log) self.old.clock (map (stop_numbered old.now.number self.old.clock) (accepted_in self.old.log)) (accepted_of new) }
-        requires replaced { accepted_in (self.old.log ++ entry ∷ [])
-            ≡ map (stop_numbered old.now.number self.old.clock) (accepted_in self.old.log) ++ accepted_of new ∷ [] }
+        requires replacement { IsReplacement self.old entry (accepted_of old.now) (accepted_of new) }
         ensures entered { OnOk result (self.new ≡ with_entry entry self.old) }
         ensures refused { OnErr result (self.new ≡ self.old) }
     {

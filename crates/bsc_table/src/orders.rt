@@ -35,6 +35,8 @@ fn is_basic(channel: Option<u8>) -> bool
 ///
 /// The first of these causes (3GPP TS 48.049, 8.2, Cause) that applies: 04 for a reply, which is no order; 01 for a category
 /// other than high and normal; 0C for a channel other than the basic one.
+//
+// Longer than others for the fields of a write, which it names twice.
 pub fn orders_of(message: Message) -> Result<(Vec<Cell>, Command), u8>
     ensures order { MatchResult result (λ order. order_of message ≡ Ok (order.0.items, order.1)) (λ cause. order_of message ≡ Err cause) }
 

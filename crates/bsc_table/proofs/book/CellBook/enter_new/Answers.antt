@@ -10,7 +10,7 @@ use Rattle.bsc_table.specs.declared.entry.Entry.{Entry}
 use Rattle.bsc_table.specs.declared.kept.Kept.{Kept}
 use Rattle.bsc_table.specs.Record.{Record, Accepted, accepted_in, messages_in}
 use Rattle.bsc_table.specs.Legal.{IsLegal}
-use Rattle.bsc_table.specs.Book.{accepted_of, record_of, lines_at, IsBegun, IsNext}
+use Rattle.bsc_table.specs.Book.{accepted_of, record_of, lines_at, IsNext, IsStart}
 use Rattle.bsc_table.proofs.Sound.{IsSound-legal}
 use Rattle.bsc_table.proofs.Entering.{IsLegal-with, messages_with, kept_more, planned_below, held_below, item_message, begun_line, begun_room, begun_lines}
 use Rattle.bsc_table.proofs.book.CellBook.enter_new.Goals as goal
@@ -18,8 +18,9 @@ use Rattle.bsc_table.proofs.book.CellBook.enter_new.Goals as goal
 pub add-requires-clause-rising : goal.add-requires-clause-rising
 add-requires-clause-rising c =
     let r : Record = record_of c.self.inside in
-    let May : Record → Type 0 = λ x. IsBegun (length x.log) x.clock (accepted_in x.log) (accepted_of c.args.new) in
-    let may = subst May (sym c.self.view_is) c.requires.begun in
+    let Starts : Record → Type 0 = λ x. IsStart x c.args.entry (accepted_of c.args.new) in
+    let start = subst Starts (sym c.self.view_is) c.requires.start in
+    let may = start.begun in
     let below = planned_below c.self.inside.plan r.log r.air c.self.invariant.follows in
     let entry = ap (λ (m : Message). m.number) c.item.ensures in
     λ k d h. omega (arith, below k d h, entry, may.numbered)
@@ -27,8 +28,9 @@ add-requires-clause-rising c =
 pub reserve-requires-3 : goal.reserve-requires-3
 reserve-requires-3 c =
     let r : Record = record_of c.self.inside in
-    let May : Record → Type 0 = λ x. IsBegun (length x.log) x.clock (accepted_in x.log) (accepted_of c.args.new) in
-    let may = subst May (sym c.self.view_is) c.requires.begun in
+    let Starts : Record → Type 0 = λ x. IsStart x c.args.entry (accepted_of c.args.new) in
+    let start = subst Starts (sym c.self.view_is) c.requires.start in
+    let may = start.begun in
     let Below : List Held → Type 0 = λ lines. All (λ (h : Held). h.entry < length r.log) lines in
     let below = subst Below (sym c.self.invariant.held) (held_below r.clock r.log) in
     λ k d h same. omega (arith, below k d h, may.numbered, same)
@@ -42,11 +44,11 @@ invariant_of-self-2 c =
     let before : List Message = messages_in r.log in
     let inside = sym c.self.view_is in
     let Next : Record → Type 0 = λ x. IsNext x e in
-    let May : Record → Type 0 = λ x. IsBegun (length x.log) x.clock (accepted_in x.log) new in
-    let Adds : Record → Type 0 = λ x. accepted_in (x.log ++ e ∷ []) ≡ accepted_in x.log ++ new ∷ [] in
+    let Starts : Record → Type 0 = λ x. IsStart x e new in
     let next = subst Next inside c.requires.next in
-    let may = subst May inside c.requires.begun in
-    let adds = subst Adds inside c.requires.started in
+    let start = subst Starts inside c.requires.start in
+    let may = start.begun in
+    let adds = start.after in
     let sound = IsSound-legal r book.legal in
     -- the log and what is kept
     let grown = sym (c.push_within-2.ensures.items ∙ ap (λ (l : List Entry). l ++ e ∷ []) c.reserve.ensures.items) in

@@ -1,6 +1,6 @@
-use Rattle.std.proofs.Common.{◌≡◌, ◌<◌, true, ℕ, Result, List, [], ◌∷◌, ◌++◌, length, map, filter, subst, sym, ap, ◌∙◌, arith}
+use Rattle.std.proofs.Common.{◌≡◌, ◌<◌, ℕ, Result, List, [], ◌∷◌, ◌++◌, length, map, filter, subst, sym, ap, ◌∙◌, arith}
 use Rattle.std.specs.Vec.{vec_len, with_items}
-use Rattle.std.specs.List.{All, Any, Contains}
+use Rattle.std.specs.List.{All, Any}
 use Rattle.std.specs.Result.{OnOk}
 use Rattle.std.proofs.lemmas.List.{length-map, with_items_is}
 use Rattle.std.proofs.lemmas.List.Elements.{All-contains}
@@ -11,9 +11,9 @@ use Rattle.admission.specs.Table.{answer_for, ends_at}
 use Rattle.scheduler.specs.Message.{Message, stopped_at}
 use Rattle.scheduler.specs.Follows.{Follows, messages_of, message_from}
 use Rattle.bsc_table.specs.declared.entry.Entry.{Entry}
-use Rattle.bsc_table.specs.Record.{Record, Accepted, accepted_in, messages_in, is_live}
+use Rattle.bsc_table.specs.Record.{Record, Accepted, accepted_in, messages_in}
 use Rattle.bsc_table.specs.Legal.{IsLegal}
-use Rattle.bsc_table.specs.Book.{accepted_of, kept_stopped, stop_numbered, record_of, line_of, lines_at, IsBegun, IsNext}
+use Rattle.bsc_table.specs.Book.{accepted_of, kept_stopped, stop_numbered, record_of, line_of, lines_at, IsNext, IsReplacement}
 use Rattle.bsc_table.proofs.Outcome.{messages_stopped}
 use Rattle.bsc_table.proofs.Sound.{HasLoad, IsSound-legal}
 use Rattle.bsc_table.proofs.Booked.{lines_without}
@@ -23,8 +23,10 @@ use Rattle.bsc_table.proofs.book.CellBook.enter_replacement.Goals as goal
 pub add-requires-clause-rising : goal.add-requires-clause-rising
 add-requires-clause-rising c =
     let r : Record = record_of c.self.inside in
-    let May : Record → Type 0 = λ x. IsBegun (length x.log) x.clock (map (stop_numbered (accepted_of c.args.old.now).message.number x.clock) (accepted_in x.log)) (accepted_of c.args.new) in
-    let may = subst May (sym c.self.view_is) c.requires.begun in
+    let old : Accepted = accepted_of c.args.old.now in
+    let Replaces : Record → Type 0 = λ x. IsReplacement x c.args.entry old (accepted_of c.args.new) in
+    let change = subst Replaces (sym c.self.view_is) c.requires.replacement in
+    let may = change.begun in
     let below = planned_below c.self.inside.plan r.log r.air c.self.invariant.follows in
     let entry = ap (λ (m : Message). m.number) c.item.ensures in
     λ k d h. omega (arith, below k d h, entry, may.numbered)
@@ -33,45 +35,41 @@ pub stop-requires-2-clause-standing : goal.stop-requires-2-clause-standing
 stop-requires-2-clause-standing c =
     let r : Record = record_of c.self.inside in
     let old : Accepted = accepted_of c.args.old.now in
-    let There : Record → Type 0 = λ x. Contains (accepted_in x.log) old in
-    let Live : Record → Type 0 = λ x. is_live x.clock old.message ≡ true in
-    let inside = sym c.self.view_is in
-    let found = standing_in c.self.inside.plan r.clock r.log r.air old c.self.invariant.follows (subst There inside c.requires.there) (subst Live inside c.requires.live) in
+    let Replaces : Record → Type 0 = λ x. IsReplacement x c.args.entry old (accepted_of c.args.new) in
+    let change = subst Replaces (sym c.self.view_is) c.requires.replacement in
+    let found = standing_in c.self.inside.plan r.clock r.log r.air old c.self.invariant.follows change.there change.live in
     standing_beside c.add.new.self r.clock r.log old (messages_of c.self.inside.plan) (message_from c.item.result) c.in_ok-add.ensures.told found
 
 pub release-requires-clause-period : goal.release-requires-clause-period
 release-requires-clause-period c =
     let r : Record = record_of c.self.inside in
     let old : Accepted = accepted_of c.args.old.now in
-    let There : Record → Type 0 = λ x. Contains (accepted_in x.log) old in
-    (All-contains HasLoad (accepted_in r.log) old ((IsSound-legal r c.self.invariant.legal).loaded) (subst There (sym c.self.view_is) c.requires.there)).1
+    let Replaces : Record → Type 0 = λ x. IsReplacement x c.args.entry old (accepted_of c.args.new) in
+    let change = subst Replaces (sym c.self.view_is) c.requires.replacement in
+    (All-contains HasLoad (accepted_in r.log) old ((IsSound-legal r c.self.invariant.legal).loaded) change.there).1
 
 pub release-requires-clause-reserved : goal.release-requires-clause-reserved
 release-requires-clause-reserved c =
     let r : Record = record_of c.self.inside in
     let old : Accepted = accepted_of c.args.old.now in
-    let There : Record → Type 0 = λ x. Contains (accepted_in x.log) old in
-    let Live : Record → Type 0 = λ x. is_live x.clock old.message ≡ true in
+    let Replaces : Record → Type 0 = λ x. IsReplacement x c.args.entry old (accepted_of c.args.new) in
+    let change = subst Replaces (sym c.self.view_is) c.requires.replacement in
     let Has : List Held → Type 0 = λ lines. Any (λ (h : Held). h.entry ≡ old.message.number) lines in
-    let inside = sym c.self.view_is in
-    subst Has (sym c.self.invariant.held) (held_in r.clock r.log old (subst There inside c.requires.there) (subst Live inside c.requires.live))
+    subst Has (sym c.self.invariant.held) (held_in r.clock r.log old change.there change.live)
 
 pub reserve-requires-3 : goal.reserve-requires-3
 reserve-requires-3 c =
     let r : Record = record_of c.self.inside in
     let old : Accepted = accepted_of c.args.old.now in
     let number : ℕ = old.message.number in
-    let inside = sym c.self.view_is in
-    let There : Record → Type 0 = λ x. Contains (accepted_in x.log) old in
-    let Live : Record → Type 0 = λ x. is_live x.clock old.message ≡ true in
-    let May : Record → Type 0 = λ x. IsBegun (length x.log) x.clock (map (stop_numbered number x.clock) (accepted_in x.log)) (accepted_of c.args.new) in
-    let may = subst May inside c.requires.begun in
+    let Replaces : Record → Type 0 = λ x. IsReplacement x c.args.entry old (accepted_of c.args.new) in
+    let change = subst Replaces (sym c.self.view_is) c.requires.replacement in
     let end : ℕ = end_of_stopped old.message.start old.message.period r.clock in
     let counted = λ (h : Held). is_before_end r.clock h.until in
-    let lines = c.release.ensures ∙ ap (λ (l : List Held). filter counted (ends_at number end l)) c.self.invariant.held ∙ lines_without r.clock r.log old (subst There inside c.requires.there) (subst Live inside c.requires.live) in
+    let lines = c.release.ensures ∙ ap (λ (l : List Held). filter counted (ends_at number end l)) c.self.invariant.held ∙ lines_without r.clock r.log old change.there change.live in
     let Below : List Held → Type 0 = λ l. All (λ (h : Held). h.entry < length r.log) l in
     let below = subst Below (sym lines) (held_below_without r.clock number r.log) in
-    λ k d h same. omega (arith, below k d h, may.numbered, same)
+    λ k d h same. omega (arith, below k d h, change.begun.numbered, same)
 
 pub invariant_of-self-2 : goal.invariant_of-self-2
 invariant_of-self-2 c =
@@ -86,15 +84,10 @@ invariant_of-self-2 c =
     let after : List Message = stopped_at number r.clock before in
     let inside = sym c.self.view_is in
     let Next : Record → Type 0 = λ x. IsNext x e in
-    let There : Record → Type 0 = λ x. Contains (accepted_in x.log) old in
-    let Live : Record → Type 0 = λ x. is_live x.clock old.message ≡ true in
-    let May : Record → Type 0 = λ x. IsBegun (length x.log) x.clock (map (stop_numbered number x.clock) (accepted_in x.log)) new in
-    let Replaces : Record → Type 0 = λ x. accepted_in (x.log ++ e ∷ []) ≡ map (stop_numbered number x.clock) (accepted_in x.log) ++ new ∷ [] in
+    let Replaces : Record → Type 0 = λ x. IsReplacement x e old new in
     let next = subst Next inside c.requires.next in
-    let there = subst There inside c.requires.there in
-    let live = subst Live inside c.requires.live in
-    let may = subst May inside c.requires.begun in
-    let replaces = subst Replaces inside c.requires.replaced in
+    let change = subst Replaces inside c.requires.replacement in
+    let may = change.begun in
     let sound = IsSound-legal r book.legal in
     let same = messages_stopped number r.clock (accepted_in r.log) in
     -- the log and what is kept
@@ -105,20 +98,20 @@ invariant_of-self-2 c =
     ap length c.stop.ensures ∙ length-map c.as_mut_slice.result.now (kept_stopped number r.clock) ∙ c.as_mut_slice.ensures.len in
     let written = with_items_is c.reserve-2.new.self c.stop.new.table long ∙ table in
     let stopped = ap (map accepted_of) written ∙ kept_stop number r.clock c.self.inside.accepted.items ∙ ap (map (stop_numbered number r.clock)) book.kept in
-    let kept = ap (map accepted_of) c.push_within.ensures.items ∙ kept_more (with_items c.reserve-2.new.self c.stop.new.table).items c.args.new rest stopped ∙ sym replaces in
+    let kept = ap (map accepted_of) c.push_within.ensures.items ∙ kept_more (with_items c.reserve-2.new.self c.stop.new.table).items c.args.new rest stopped ∙ sym change.after in
     -- the plan
     let told = item_message new.message (message_from c.item.result) c.item.ensures may.standing in
-    let messages = messages_with r.log e rest new replaces ∙ ap (λ (l : List Message). l ++ new.message ∷ []) same in
+    let messages = messages_with r.log e rest new change.after ∙ ap (λ (l : List Message). l ++ new.message ∷ []) same in
     let FollowsOne : Message → Type 0 = λ m. Follows c.add.new.self (before ++ m ∷ []) r.air in
     let added = subst FollowsOne told (c.in_ok-add.ensures.follows before r.air book.follows) in
     let FollowsThese : List Message → Type 0 = λ all. Follows c.stop-2.new.self all r.air in
-    let below = number_below r.log old there in
+    let below = number_below r.log old change.there in
     let apart = stopped_beside number r.clock before new.message (λ equal. omega (arith, below, may.numbered, equal)) in
     let follows = subst FollowsThese apart (c.stop-2.ensures.follows (before ++ new.message ∷ []) r.air added) in
     -- the budget
     let end : ℕ = end_of_stopped old.message.start old.message.period r.clock in
     let counted = λ (h : Held). is_before_end r.clock h.until in
-    let released = c.release.ensures ∙ ap (λ (l : List Held). filter counted (ends_at number end l)) book.held ∙ lines_without r.clock r.log old there live in
+    let released = c.release.ensures ∙ ap (λ (l : List Held). filter counted (ends_at number end l)) book.held ∙ lines_without r.clock r.log old change.there change.live in
     let load = c.load.ensures in
     let room = ap (λ (l : List Message). answer_for (lines_at r.clock l) c.load.result) (sym same) ∙ ap (λ (n : ℕ). answer_for (lines_at r.clock (map (λ (a : Accepted). a.message) rest)) n) load ∙ begun_room (length r.log) r.clock rest new (stopped_begun number r.clock (accepted_in r.log) sound.begun) may in
     let asked = c.reserve-3.ensures.answer ∙ ap (λ (l : List Held). answer_for l c.load.result) released ∙ room in

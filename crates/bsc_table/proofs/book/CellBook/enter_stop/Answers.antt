@@ -1,6 +1,6 @@
-use Rattle.std.proofs.Common.{◌≡◌, true, ℕ, List, [], ◌∷◌, ◌++◌, length, map, filter, subst, sym, ap, ◌∙◌}
+use Rattle.std.proofs.Common.{◌≡◌, ℕ, List, [], ◌∷◌, ◌++◌, length, map, filter, subst, sym, ap, ◌∙◌}
 use Rattle.std.specs.Vec.{vec_len, with_items}
-use Rattle.std.specs.List.{Any, Contains}
+use Rattle.std.specs.List.{Any}
 use Rattle.std.proofs.lemmas.List.{length-map, with_items_is}
 use Rattle.std.proofs.lemmas.List.Elements.{All-contains}
 use Rattle.admission.specs.declared.budget.Held.{Held}
@@ -9,9 +9,9 @@ use Rattle.admission.specs.Table.{ends_at}
 use Rattle.scheduler.specs.Message.{Message}
 use Rattle.scheduler.specs.Follows.{Follows}
 use Rattle.bsc_table.specs.declared.entry.Entry.{Entry}
-use Rattle.bsc_table.specs.Record.{Record, Accepted, accepted_in, messages_in, is_live}
+use Rattle.bsc_table.specs.Record.{Record, Accepted, accepted_in, messages_in}
 use Rattle.bsc_table.specs.Legal.{IsLegal}
-use Rattle.bsc_table.specs.Book.{accepted_of, kept_stopped, stop_numbered, record_of, lines_at, IsNext}
+use Rattle.bsc_table.specs.Book.{accepted_of, kept_stopped, stop_numbered, record_of, lines_at, IsNext, IsStop}
 use Rattle.bsc_table.proofs.Sound.{HasLoad, IsSound-legal}
 use Rattle.bsc_table.proofs.Booked.{lines_without}
 use Rattle.bsc_table.proofs.Entering.{IsLegal-with, messages_without, kept_stop, standing_in, held_in}
@@ -21,27 +21,26 @@ pub stop-requires-2-clause-standing : goal.stop-requires-2-clause-standing
 stop-requires-2-clause-standing c =
     let r : Record = record_of c.self.inside in
     let old : Accepted = accepted_of c.args.old.now in
-    let There : Record → Type 0 = λ x. Contains (accepted_in x.log) old in
-    let Live : Record → Type 0 = λ x. is_live x.clock old.message ≡ true in
-    let inside = sym c.self.view_is in
-    standing_in c.self.inside.plan r.clock r.log r.air old c.self.invariant.follows (subst There inside c.requires.there) (subst Live inside c.requires.live)
+    let Stops : Record → Type 0 = λ x. IsStop x c.args.entry old in
+    let stop = subst Stops (sym c.self.view_is) c.requires.stop in
+    standing_in c.self.inside.plan r.clock r.log r.air old c.self.invariant.follows stop.there stop.live
 
 pub release-requires-clause-period : goal.release-requires-clause-period
 release-requires-clause-period c =
     let r : Record = record_of c.self.inside in
     let old : Accepted = accepted_of c.args.old.now in
-    let There : Record → Type 0 = λ x. Contains (accepted_in x.log) old in
-    (All-contains HasLoad (accepted_in r.log) old ((IsSound-legal r c.self.invariant.legal).loaded) (subst There (sym c.self.view_is) c.requires.there)).1
+    let Stops : Record → Type 0 = λ x. IsStop x c.args.entry old in
+    let stop = subst Stops (sym c.self.view_is) c.requires.stop in
+    (All-contains HasLoad (accepted_in r.log) old ((IsSound-legal r c.self.invariant.legal).loaded) stop.there).1
 
 pub release-requires-clause-reserved : goal.release-requires-clause-reserved
 release-requires-clause-reserved c =
     let r : Record = record_of c.self.inside in
     let old : Accepted = accepted_of c.args.old.now in
-    let There : Record → Type 0 = λ x. Contains (accepted_in x.log) old in
-    let Live : Record → Type 0 = λ x. is_live x.clock old.message ≡ true in
+    let Stops : Record → Type 0 = λ x. IsStop x c.args.entry old in
     let Has : List Held → Type 0 = λ lines. Any (λ (h : Held). h.entry ≡ old.message.number) lines in
-    let inside = sym c.self.view_is in
-    subst Has (sym c.self.invariant.held) (held_in r.clock r.log old (subst There inside c.requires.there) (subst Live inside c.requires.live))
+    let stop = subst Stops (sym c.self.view_is) c.requires.stop in
+    subst Has (sym c.self.invariant.held) (held_in r.clock r.log old stop.there stop.live)
 
 pub invariant_of-self-2 : goal.invariant_of-self-2
 invariant_of-self-2 c =
@@ -53,13 +52,9 @@ invariant_of-self-2 c =
     let before : List Message = messages_in r.log in
     let inside = sym c.self.view_is in
     let Next : Record → Type 0 = λ x. IsNext x e in
-    let There : Record → Type 0 = λ x. Contains (accepted_in x.log) old in
-    let Live : Record → Type 0 = λ x. is_live x.clock old.message ≡ true in
-    let Stops : Record → Type 0 = λ x. accepted_in (x.log ++ e ∷ []) ≡ map (stop_numbered number x.clock) (accepted_in x.log) in
+    let Stops : Record → Type 0 = λ x. IsStop x e old in
     let next = subst Next inside c.requires.next in
-    let there = subst There inside c.requires.there in
-    let live = subst Live inside c.requires.live in
-    let stops = subst Stops inside c.requires.stopped in
+    let stop = subst Stops inside c.requires.stop in
     let end : ℕ = end_of_stopped old.message.start old.message.period r.clock in
     -- the log and what is kept
     let grown = sym (c.push_within.ensures.items ∙ ap (λ (l : List Entry). l ++ e ∷ []) c.reserve.ensures.items) in
@@ -68,12 +63,12 @@ invariant_of-self-2 c =
     let long : length c.stop.new.table ≡ vec_len c.self.inside.accepted =
     ap length c.stop.ensures ∙ length-map c.as_mut_slice.result.now (kept_stopped number r.clock) ∙ c.as_mut_slice.ensures.len in
     let written = with_items_is c.self.inside.accepted c.stop.new.table long ∙ kept in
-    let fewer = ap (map accepted_of) written ∙ kept_stop number r.clock c.self.inside.accepted.items ∙ ap (map (stop_numbered number r.clock)) book.kept ∙ sym stops in
+    let fewer = ap (map accepted_of) written ∙ kept_stop number r.clock c.self.inside.accepted.items ∙ ap (map (stop_numbered number r.clock)) book.kept ∙ sym stop.after in
     -- the plan and the budget
-    let messages = messages_without r.log e number r.clock stops in
+    let messages = messages_without r.log e number r.clock stop.after in
     let follows = c.stop-2.ensures.follows before r.air book.follows in
     let counted = λ (h : Held). is_before_end r.clock h.until in
-    let lines = c.release.ensures ∙ ap (λ (l : List Held). filter counted (ends_at number end l)) book.held ∙ lines_without r.clock r.log old there live in
+    let lines = c.release.ensures ∙ ap (λ (l : List Held). filter counted (ends_at number end l)) book.held ∙ lines_without r.clock r.log old stop.there stop.live in
     let Legal : List Entry → Type 0 = λ log. IsLegal (record r { log = log }) in
     let KeptBy : List Entry → Type 0 = λ log. map accepted_of (with_items c.self.inside.accepted c.stop.new.table).items ≡ accepted_in log in
     let FollowsLog : List Entry → Type 0 = λ log. Follows c.stop-2.new.self (messages_in log) r.air in
