@@ -1,6 +1,6 @@
 -- What `warnc page` makes of the octets that it reads: the blocks of the text's pages as hexadecimal digits, a line each, and then
 -- what a handset shows of these blocks. The forms of the lines are this project's own.
-use Rattle.std.specs.Prelude.{◌≡◌, ℕ, ◌+◌, ◌-◌, ◌/◌, ◌%◌, ◌<◌, ◌≤◌, ◌==◌, if◌then◌else◌, Option, List, [], ◌∷◌, ◌++◌, length, take, slice_index}
+use Rattle.std.specs.Prelude.{◌≡◌, ◌≢◌, ℕ, ◌+◌, ◌-◌, ◌/◌, ◌%◌, ◌<◌, ◌≤◌, ◌==◌, if◌then◌else◌, Option, List, [], ◌∷◌, ◌++◌, length, take, slice_index}
 use Rattle.std.specs.Fmt.{decimal}
 use Rattle.std.specs.Io.KnownBytes.{Keeps}
 use Rattle.std.specs.List.{flat_map}
@@ -13,6 +13,7 @@ use Rattle.cbs_page.specs.Text.{IsPagedText, IsTextFault}
 use Rattle.device_ends.specs.Moves.{AppendsFront}
 use Rattle.handset.specs.Reading.{Message, shown_in}
 use Rattle.cbch_blocks.specs.Blocks.{blocks_of_page}
+use Rattle.cbs_page.specs.declared.paging.TextFault.TheVariants as text
 use Rattle.warnc.specs.declared.page.PageFault.{PageFault}
 use Rattle.warnc.specs.declared.page.PageFault.TheVariants as fault
 
@@ -57,13 +58,13 @@ pub record IsPageOutput (language : List ℕ) (id serial : ℕ) (input output : 
   pub shown : shown_in (blocks_of_message id serial paged)
       ≡ record { id = id; serial = serial; text = without_final_lf input } ∷ []
 
--- why nothing is: the first of these that applies, want of memory and devices aside
+-- why nothing is: the first of these that applies, want of memory and devices aside. Want of memory is told as `Refused` alone
 abbrev pub IsPageFault : (language input : List ℕ) → PageFault → Type 0
 IsPageFault language input fault.TooLong = most_octets < length input
 IsPageFault language input fault.NotUtf8 = (length input ≤ most_octets) × ¬ IsUtf8 (without_final_lf input)
 IsPageFault language input (fault.Text text_fault) =
     (length input ≤ most_octets) × IsUtf8 (without_final_lf input)
-    × IsTextFault language (chars (without_final_lf input)) text_fault
+    × IsTextFault language (chars (without_final_lf input)) text_fault × (text_fault ≢ text.Refused)
 IsPageFault language input fault.Refused = Unit {0}
 IsPageFault language input fault.Read = ⊥
 IsPageFault language input fault.Write = ⊥
