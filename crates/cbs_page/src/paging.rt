@@ -1,12 +1,12 @@
 //! The pages of a text: which alphabet it gets, how it is cut, and what each page holds (3GPP TS 23.041, clause 9.4.1.2.5; the
 //! cutting is this project's own: each page takes all that it can, and an escape pair is never split).
 
-ghost use Rattle.std.specs.Prelude.{◌≡◌, ◌≢◌, ◌≤◌, [], length, IfOk, IfErr, position, is_some};
+ghost use Rattle.std.specs.Prelude.{◌≡◌, ◌≢◌, ◌≤◌, [], ◌∷◌, length, IfOk, IfErr, position, is_some};
 ghost use Rattle.std.specs.List.{list_all};
 ghost use Rattle.std.specs.Str.{chars};
 ghost use Rattle.gsm_alphabet.specs.Alphabet.{code_of};
 ghost use Rattle.cbs_page.specs.Paging.{PagingIsUnique};
-ghost use Rattle.cbs_page.specs.Text.{is_bad, alphabet_for, coding_for, TakesPages, HoldText, IsTextFault, IsPagedText, ShowsText};
+ghost use Rattle.cbs_page.specs.Text.{is_bad, alphabet_for, coding_for, TakesPages, AreContentsOf, HoldText, IsTextFault, IsPagedText, ShowsText};
 
 use crate::coding::{Alphabet, Dcs, language_dcs};
 use crate::content::Content;
@@ -137,10 +137,10 @@ fn coding(alphabet: Alphabet, value: u8) -> Dcs
     }
 }
 
-/// How many pages a text that isn't empty takes.
+/// How many pages a text takes; for no text, one.
 fn page_count(text: &str, alphabet: Alphabet) -> usize
-    requires { chars text.now ≢ [] }
-    ensures { TakesPages alphabet (chars text.now) result }
+    ensures counted { chars text.now ≢ [] → TakesPages alphabet (chars text.now) result }
+    ensures empty { chars text.now ≡ [] → result ≡ 1 }
 {
     let capacity = alphabet.capacity();
     let mut pages = 1;
@@ -157,14 +157,14 @@ fn page_count(text: &str, alphabet: Alphabet) -> usize
     pages
 }
 
-/// The contents of the pages of a text that isn't empty.
+/// The contents of a text's pages; of no text, a page that is all filling.
 fn contents_of_text(
     alloc: Global,
     text: &str,
     alphabet: Alphabet,
 ) -> Result<Vec<Content>, AllocError>
-    requires { chars text.now ≢ [] }
-    ensures { IfOk result (λ pages. HoldText alphabet (chars text.now) pages.items) }
+    ensures held { IfOk result (λ pages. chars text.now ≢ [] → HoldText alphabet (chars text.now) pages.items) }
+    ensures empty { IfOk result (λ pages. chars text.now ≡ [] → AreContentsOf alphabet ([] ∷ []) pages.items) }
 {
     let capacity = alphabet.capacity();
     let mut pages = Vec::new(alloc);

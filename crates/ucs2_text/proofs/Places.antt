@@ -1,9 +1,8 @@
 -- The octets of a page and the units of its octets, place by place.
 use Rattle.std.proofs.Common.{◌≡◌, ℕ, ◌+◌, ◌-◌, ◌*◌, ◌/◌, ◌%◌, ◌<◌, ◌≤◌, zero, suc, List, [], ◌∷◌, ◌++◌, length, get_or, replicate, refl, sym, ap, ◌∙◌, arith, length-append}
-use Rattle.std.specs.Prelude.{◌==◌, if◌then◌else◌}
 use Rattle.std.proofs.lemmas.List.FromFn.{fill_by_all}
 use Rattle.std.specs.List.{flat_map}
-use Rattle.ucs2_text.specs.Ucs2.{octets_of_unit, page_units, octets_of_units, units_of_octets}
+use Rattle.ucs2_text.specs.Ucs2.{octets_of_unit, page_units, octets_of_units, units_of_octets, octet_at_place}
 
 -- two lists of one length that agree at each place are one
 same_from_places : (xs ys : List ℕ) (n : ℕ) → length xs ≡ n → length ys ≡ n → ((k : ℕ) → k < n → get_or xs k 0 ≡ get_or ys k 0) → xs ≡ ys
@@ -13,12 +12,6 @@ same_from_places xs ys n xs_length ys_length agree =
 length-octets : (units : List ℕ) → length (flat_map octets_of_unit units) ≡ 2 * length units
 length-octets [] = refl
 length-octets (unit ∷ units) = omega (arith, length-octets units)
-
--- the octet at a place: of the unit at half that place, the high one at an even place
-abbrev pub octet_at_place : List ℕ → ℕ → ℕ
-octet_at_place units place =
-    let unit = get_or units (place / 2) 13 in
-    if place % 2 == 0 then unit / 256 else unit % 256
 
 -- each unit has two places
 octet-at : (units : List ℕ) (k : ℕ) → k < 2 * length units → get_or (flat_map octets_of_unit units) k 0 ≡ octet_at_place units k
@@ -55,17 +48,14 @@ length-page_units units short =
 pub length-octets_of_units : (units : List ℕ) → length units ≤ 41 → length (octets_of_units units) ≡ 82
 length-octets_of_units units short = omega (arith, length-octets (page_units units), length-page_units units short)
 
--- the octet at a place of the page
-pub octets_of_units-at : (units : List ℕ) (k : ℕ) → length units ≤ 41 → k < 82 → get_or (octets_of_units units) k 0 ≡ octet_at_place units k
-octets_of_units-at units k short below =
+-- the octets that the loop wrote, each at its place, are those of the page
+pub octets-by_place : (units octets : List ℕ) → length units ≤ 41 → length octets ≡ 82 → ((k : ℕ) → k < 82 → get_or octets k 0 ≡ octet_at_place units k) → octets ≡ octets_of_units units
+octets-by_place units octets short whole each =
+    same_from_places octets (octets_of_units units) 82 whole (length-octets_of_units units short)
+    (λ k below.
     let filled = get_or-filled units (41 - length units) (k / 2) in
     let at = octet-at (page_units units) k (omega (arith, length-page_units units short)) in
-    rw filled at at
-
--- the octets that the loop wrote, each at its place, are those of the page
-pub octets-by_place : (units octets : List ℕ) → length units ≤ 41 → length octets ≡ 82 → ((k : ℕ) → k < 82 → get_or octets k 0 ≡ get_or (octets_of_units units) k 0) → octets ≡ octets_of_units units
-octets-by_place units octets short whole each =
-    same_from_places octets (octets_of_units units) 82 whole (length-octets_of_units units short) each
+    each k below ∙ sym (rw filled at at))
 
 pub length-units_of_octets : (n : ℕ) (octets : List ℕ) → length octets ≡ 2 * n → length (units_of_octets octets) ≡ n
 length-units_of_octets zero [] whole = refl

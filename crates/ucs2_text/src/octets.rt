@@ -1,7 +1,7 @@
 //! The units of a page as octets and back. Each octet, and each unit, is a function of its place.
 
-ghost use Rattle.std.specs.Prelude.{◌≡◌, ◌<◌, ◌≤◌, length, slice_index};
-ghost use Rattle.ucs2_text.specs.Ucs2.{octets_of_units, units_of_octets};
+ghost use Rattle.std.specs.Prelude.{◌≡◌, ◌+◌, ◌*◌, ◌<◌, ◌≤◌, length, slice_index};
+ghost use Rattle.ucs2_text.specs.Ucs2.{octets_of_units, units_of_octets, octet_at_place};
 
 use arrayvec::ArrayVec;
 
@@ -39,9 +39,7 @@ fn write_units(octets: &mut [u8], units: &[u16])
 
 /// The octet at a place of the page: of the unit at half that place, the high one at an even place.
 fn octet_at(units: &[u16], place: usize) -> u8
-    requires at_most_a_page { length units.now ≤ 41 }
-    requires in_page { place < 82 }
-    ensures { result ≡ slice_index (octets_of_units units.now) place }
+    ensures { result ≡ octet_at_place units.now place }
 {
     let unit = units.get(place / 2).copied().unwrap_or(FILL);
     if place % 2 == 0 {
@@ -64,8 +62,7 @@ fn read_units(units: &mut [u16], octets: &[u8])
 
 /// The unit at a place of the page: the octets at twice that place.
 fn unit_at(octets: &[u8], place: usize) -> u16
-    requires whole_octets { length octets.now ≡ 82 }
-    requires in_page { place < 41 }
+    requires { 2 * place + 1 < length octets.now }
     ensures { result ≡ slice_index (units_of_octets octets.now) place }
 {
     256 * u16::from(octets[2 * place]) + u16::from(octets[2 * place + 1])

@@ -1,10 +1,11 @@
-use Rattle.std.proofs.Common.{◌≡◌, ◌+◌, ◌<◌, ◌≤◌, length, ap, ◌∙◌, arith, ◌++◌, length-append, subst}
+use Rattle.std.proofs.Common.{[], ◌≡◌, ◌+◌, ◌<◌, ◌≤◌, length, ap, ◌∙◌, arith, ◌++◌, length-append, subst}
 use Rattle.std.specs.Str.{chars}
 use Rattle.std.proofs.lemmas.Iterator.{YieldsList-from_chars}
 use Rattle.std.proofs.lemmas.Iterator.Consumers.{YieldsList-turn, YieldsList-end}
 use Rattle.std.proofs.lemmas.List.{length_push}
 use Rattle.cbs_page.specs.Text.{capacity, codes_of, IsContentOf}
 use Rattle.cbs_page.specs.Piece.{codes_in}
+use Rattle.cbs_page.proofs.Cutting.{cuts_from}
 use Rattle.cbs_page.proofs.CuttingLaws.{HasCut, HasCut-takes, HasCut-begins, HasCut-end}
 use Rattle.cbs_page.proofs.PaginateLaws.{has_pages}
 use Rattle.cbs_page.proofs.paging.contents_of_text.Goals as goal
@@ -51,8 +52,8 @@ loop-character-preserved c =
       made = rw (next, c.of-piece.ensures.taken, c.in_ok-push.ensures.items) cut;
     }
 
-pub returns : goal.returns
-returns c =
+pub returns-clause-held : goal.returns-clause-held
+returns-clause-held c = λ some.
     let alphabet = c.args.alphabet in
     let ended = YieldsList-end (YieldsList-from_chars c.args.text.now c.utf8.text cc) c.loop-character.yielded _ c.loop-character.yielded_by _ _ c.in-None.is c.next.ensures.steps in
     let here : IsContentOf alphabet (codes_in c.loop-character.piece) c.content-2.result =
@@ -60,5 +61,17 @@ returns c =
     let held = HasCut-end alphabet (chars c.args.text.now) (length c.loop-character.yielded) (codes_in c.loop-character.piece)
     c.loop-character.pages.items c.content-2.result c.loop-character.invariant.made ended.1 here
     in
-    let has = has_pages alphabet (chars c.args.text.now) c.requires in
+    let has = has_pages alphabet (chars c.args.text.now) some in
     (has.pieces, has.paging, rw (c.in_ok-push-2.ensures.items, ← has.cut) held)
+
+pub returns-clause-empty : goal.returns-clause-empty
+returns-clause-empty c = λ none.
+    let alphabet = c.args.alphabet in
+    let ended = YieldsList-end (YieldsList-from_chars c.args.text.now c.utf8.text cc) c.loop-character.yielded _ c.loop-character.yielded_by _ _ c.in-None.is c.next.ensures.steps in
+    let here : IsContentOf alphabet (codes_in c.loop-character.piece) c.content-2.result =
+    subst (λ (a : _). IsContentOf a (codes_in c.loop-character.piece) c.content-2.result) c.loop-character.invariant.same c.content-2.ensures in
+    let held = HasCut-end alphabet (chars c.args.text.now) (length c.loop-character.yielded) (codes_in c.loop-character.piece)
+    c.loop-character.pages.items c.content-2.result c.loop-character.invariant.made ended.1 here
+    in
+    let nothing = ap (λ cs. cuts_from (codes_of alphabet) (capacity alphabet) [] cs) none in
+    rw (c.in_ok-push-2.ensures.items, ← nothing) held

@@ -49,19 +49,13 @@ pieces_counted text count contents takes hold =
 page_there : (text : List ℕ) (contents : List Content) → text ≢ [] → (hold : HoldText (alphabet_for text) text contents) → 1 ≤ length hold.0
 page_there text contents some hold = some_page text hold.0 some hold.1.whole
 
-pub page_count-requires : goal.page_count-requires
-page_count-requires c = some_characters c.args.text.now c.utf8.text c.if-is_empty.ensures
-
-pub contents_of_text-requires : goal.contents_of_text-requires
-contents_of_text-requires c = some_characters c.args.text.now c.utf8.text c.if-is_empty.ensures
-
 pub returns-then-is_empty-clause-fault : goal.returns-then-is_empty-clause-fault
 returns-then-is_empty-clause-fault c =
     (spoken (language_value c.args.language.now) c.in-Some.value c.in-Some.ensures, no_characters c.args.text.now c.if-is_empty.ensures)
 
 pub returns-then-page_count-gt-MAX_PAGES-clause-fault : goal.returns-then-page_count-gt-MAX_PAGES-clause-fault
 returns-then-page_count-gt-MAX_PAGES-clause-fault c =
-    let takes = counted (chars c.args.text.now) _ _ c.alphabet_of_text-alphabet.ensures c.page_count.ensures in (
+    let takes = counted (chars c.args.text.now) _ _ c.alphabet_of_text-alphabet.ensures (c.page_count.ensures.counted (some_characters c.args.text.now c.utf8.text c.if-is_empty.ensures)) in (
       spoken (language_value c.args.language.now) c.in-Some.value c.in-Some.ensures,
       sym c.in-None.ensures,
       (takes.0, takes.1, omega (arith, takes.2)),
@@ -70,8 +64,8 @@ returns-then-page_count-gt-MAX_PAGES-clause-fault c =
 pub returns-in-Ok-clause-sent : goal.returns-in-Ok-clause-sent
 returns-in-Ok-clause-sent c =
     let text = chars c.args.text.now in
-    let takes = counted text _ _ c.alphabet_of_text-alphabet.ensures c.page_count.ensures in
-    let hold = held_in text _ _ c.alphabet_of_text-alphabet.ensures c.in-Ok.ensures in
+    let takes = counted text _ _ c.alphabet_of_text-alphabet.ensures (c.page_count.ensures.counted (some_characters c.args.text.now c.utf8.text c.if-is_empty.ensures)) in
+    let hold = held_in text _ _ c.alphabet_of_text-alphabet.ensures (c.in-Ok.ensures.held (some_characters c.args.text.now c.utf8.text c.if-is_empty.ensures)) in
     record {
       value = c.in-Some.value;
       spoken = sym c.in-Some.ensures;
@@ -87,15 +81,15 @@ returns-in-Ok-clause-sent c =
 pub returns-in-Ok-clause-shown : goal.returns-in-Ok-clause-shown
 returns-in-Ok-clause-shown c =
     let text = chars c.args.text.now in
-    let hold = held_in text _ _ c.alphabet_of_text-alphabet.ensures c.in-Ok.ensures in
+    let hold = held_in text _ _ c.alphabet_of_text-alphabet.ensures (c.in-Ok.ensures.held (some_characters c.args.text.now c.utf8.text c.if-is_empty.ensures)) in
     let good = sendable text (each_scalar text (scalars-chars c.args.text.now c.utf8.text)) (sym c.in-None.ensures) in
     pages_show text hold.0 c.in-Ok.pages.items hold.1 good hold.2
 
 pub returns-in-Ok-clause-count : goal.returns-in-Ok-clause-count
 returns-in-Ok-clause-count c =
     let text = chars c.args.text.now in
-    let takes = counted text _ _ c.alphabet_of_text-alphabet.ensures c.page_count.ensures in
-    let hold = held_in text _ _ c.alphabet_of_text-alphabet.ensures c.in-Ok.ensures in
+    let takes = counted text _ _ c.alphabet_of_text-alphabet.ensures (c.page_count.ensures.counted (some_characters c.args.text.now c.utf8.text c.if-is_empty.ensures)) in
+    let hold = held_in text _ _ c.alphabet_of_text-alphabet.ensures (c.in-Ok.ensures.held (some_characters c.args.text.now c.utf8.text c.if-is_empty.ensures)) in
     let codes = codes_of (alphabet_for text) in
     let same : length c.in-Ok.pages.items ≡ length hold.0 =
     AreContentsOf-length (alphabet_for text) (map (flat_map codes) hold.0) c.in-Ok.pages.items hold.2 ∙ length-map hold.0 (flat_map codes) in
@@ -105,7 +99,7 @@ returns-in-Ok-clause-count c =
 pub returns-in-Err-clause-fault : goal.returns-in-Err-clause-fault
 returns-in-Err-clause-fault c =
     let text = chars c.args.text.now in
-    let takes = counted text _ _ c.alphabet_of_text-alphabet.ensures c.page_count.ensures in (
+    let takes = counted text _ _ c.alphabet_of_text-alphabet.ensures (c.page_count.ensures.counted (some_characters c.args.text.now c.utf8.text c.if-is_empty.ensures)) in (
       spoken (language_value c.args.language.now) c.in-Some.value c.in-Some.ensures,
       sym c.in-None.ensures,
       (
