@@ -47,7 +47,7 @@ const ENTRIES: usize = 4096;
 
 /// The book of a cell: the log of its commands with their answers, and what each played slot aired.
 ///
-/// In clauses it is its record. `IsLegal` is true of it at all times: `history` says so.
+/// In clauses it is its record. That is a legal history at all times: `clock`, `apply` and `play` say so (`legal`).
 #[derive(Drop)]
 pub struct CellBook {
     cell: Cell,
