@@ -13,8 +13,14 @@ fn page(entry: u16, page: u8) -> Option<Aired> {
 fn the_message_that_is_due_first_is_aired_first(rt: HostRuntime) -> Result<(), Fail> {
     let alloc = rt.alloc();
     let mut book = open(alloc, 8)?;
-    assert_eq!(rt; write_one(alloc, &mut book, standing(1, 2))?, Answer::Started { slot: 0 });
-    assert_eq!(rt; write_two(alloc, &mut book, standing(2, 4))?, Answer::Started { slot: 0 });
+    assert_eq!(rt;
+        write_one(alloc, &mut book, standing(1, 2))?,
+        Answer::Started { slot: 0 }
+    );
+    assert_eq!(rt;
+        write_two(alloc, &mut book, standing(2, 4))?,
+        Answer::Started { slot: 0 }
+    );
     assert_eq!(rt; book.play(4), SlotRange { from: 0, to: 4 });
     assert_eq!(rt;
         book.air(),
@@ -31,13 +37,25 @@ fn the_message_that_is_due_first_is_aired_first(rt: HostRuntime) -> Result<(), F
 fn a_load_stays_until_the_period_of_the_stop_is_over(rt: HostRuntime) -> Result<(), Fail> {
     let alloc = rt.alloc();
     let mut book = open(alloc, 8)?;
-    assert_eq!(rt; write_one(alloc, &mut book, standing(1, 2))?, Answer::Started { slot: 0 });
-    assert_eq!(rt; write_two(alloc, &mut book, standing(2, 4))?, Answer::Started { slot: 0 });
+    assert_eq!(rt;
+        write_one(alloc, &mut book, standing(1, 2))?,
+        Answer::Started { slot: 0 }
+    );
+    assert_eq!(rt;
+        write_two(alloc, &mut book, standing(2, 4))?,
+        Answer::Started { slot: 0 }
+    );
     book.play(3);
     assert_eq!(rt; kill(&mut book, 2), Answer::Stopped { completed: 0 });
-    assert_eq!(rt; write_two(alloc, &mut book, standing(3, 4))?, Answer::Cause(0x06));
+    assert_eq!(rt;
+        write_two(alloc, &mut book, standing(3, 4))?,
+        Answer::Cause(0x06)
+    );
     book.play(1);
-    assert_eq!(rt; write_two(alloc, &mut book, standing(3, 4))?, Answer::Started { slot: 4 });
+    assert_eq!(rt;
+        write_two(alloc, &mut book, standing(3, 4))?,
+        Answer::Started { slot: 4 }
+    );
     assert_eq!(rt;
         ask(&mut book, 2),
         Answer::Told {
@@ -61,7 +79,10 @@ fn a_load_stays_until_the_period_of_the_stop_is_over(rt: HostRuntime) -> Result<
         .as_slice()
     );
     assert_eq!(rt; book.log().len(), 6);
-    assert_eq!(rt; (book.log()[3].slot, book.log()[3].answer), (3, Answer::Cause(0x06)));
+    assert_eq!(rt;
+        (book.log()[3].slot, book.log()[3].answer),
+        (3, Answer::Cause(0x06))
+    );
     Ok(())
 }
 
@@ -69,12 +90,24 @@ fn a_load_stays_until_the_period_of_the_stop_is_over(rt: HostRuntime) -> Result<
 fn a_stop_on_the_boundary_frees_the_load_at_once(rt: HostRuntime) -> Result<(), Fail> {
     let alloc = rt.alloc();
     let mut book = open(alloc, 4)?;
-    assert_eq!(rt; write_two(alloc, &mut book, standing(7, 2))?, Answer::Started { slot: 0 });
+    assert_eq!(rt;
+        write_two(alloc, &mut book, standing(7, 2))?,
+        Answer::Started { slot: 0 }
+    );
     assert_eq!(rt; kill(&mut book, 7), Answer::Stopped { completed: 0 });
     assert_eq!(rt; kill(&mut book, 7), Answer::Cause(0x02));
-    assert_eq!(rt; write_two(alloc, &mut book, standing(7, 2))?, Answer::Cause(0x0D));
-    assert_eq!(rt; write_two(alloc, &mut book, standing(8, 2))?, Answer::Started { slot: 0 });
-    assert_eq!(rt; write_one(alloc, &mut book, standing(9, 1024))?, Answer::Cause(0x06));
+    assert_eq!(rt;
+        write_two(alloc, &mut book, standing(7, 2))?,
+        Answer::Cause(0x0D)
+    );
+    assert_eq!(rt;
+        write_two(alloc, &mut book, standing(8, 2))?,
+        Answer::Started { slot: 0 }
+    );
+    assert_eq!(rt;
+        write_one(alloc, &mut book, standing(9, 1024))?,
+        Answer::Cause(0x06)
+    );
     Ok(())
 }
 
@@ -86,18 +119,30 @@ fn requested_broadcasts_run_out(rt: HostRuntime) -> Result<(), Fail> {
         ..standing(9, 3)
     };
     let mut stopped = open(alloc, 10)?;
-    assert_eq!(rt; write_one(alloc, &mut stopped, twice)?, Answer::Started { slot: 0 });
+    assert_eq!(rt;
+        write_one(alloc, &mut stopped, twice)?,
+        Answer::Started { slot: 0 }
+    );
     stopped.play(5);
     assert_eq!(rt; kill(&mut stopped, 9), Answer::Stopped { completed: 2 });
 
     let mut book = open(alloc, 10)?;
-    assert_eq!(rt; write_one(alloc, &mut book, twice)?, Answer::Started { slot: 0 });
+    assert_eq!(rt;
+        write_one(alloc, &mut book, twice)?,
+        Answer::Started { slot: 0 }
+    );
     book.play(5);
-    assert_eq!(rt; write_one(alloc, &mut book, standing(1, 1))?, Answer::Cause(0x06));
+    assert_eq!(rt;
+        write_one(alloc, &mut book, standing(1, 1))?,
+        Answer::Cause(0x06)
+    );
     book.play(1);
     assert_eq!(rt; status(&book, 9), Some((2, State::RanOut)));
     assert_eq!(rt; kill(&mut book, 9), Answer::Cause(0x02));
-    assert_eq!(rt; write_one(alloc, &mut book, standing(1, 1))?, Answer::Started { slot: 6 });
+    assert_eq!(rt;
+        write_one(alloc, &mut book, standing(1, 1))?,
+        Answer::Started { slot: 6 }
+    );
     book.play(4);
     assert_eq!(rt;
         book.air(),
@@ -126,8 +171,14 @@ fn high_comes_before_normal(rt: HostRuntime) -> Result<(), Fail> {
         category: Category::High,
         ..standing(2, 2)
     };
-    assert_eq!(rt; write_one(alloc, &mut book, standing(1, 2))?, Answer::Started { slot: 0 });
-    assert_eq!(rt; write_one(alloc, &mut book, high)?, Answer::Started { slot: 0 });
+    assert_eq!(rt;
+        write_one(alloc, &mut book, standing(1, 2))?,
+        Answer::Started { slot: 0 }
+    );
+    assert_eq!(rt;
+        write_one(alloc, &mut book, high)?,
+        Answer::Started { slot: 0 }
+    );
     book.play(2);
     assert_eq!(rt; book.air(), [page(1, 1), page(0, 1)].as_slice());
     Ok(())
@@ -141,8 +192,14 @@ fn a_load_that_is_not_free_yet_guards_the_others(rt: HostRuntime) -> Result<(), 
         category: Category::High,
         ..standing(2, 2)
     };
-    assert_eq!(rt; write_two(alloc, &mut book, standing(1, 4))?, Answer::Started { slot: 0 });
-    assert_eq!(rt; write_one(alloc, &mut book, high)?, Answer::Started { slot: 0 });
+    assert_eq!(rt;
+        write_two(alloc, &mut book, standing(1, 4))?,
+        Answer::Started { slot: 0 }
+    );
+    assert_eq!(rt;
+        write_one(alloc, &mut book, high)?,
+        Answer::Started { slot: 0 }
+    );
     book.play(1);
     assert_eq!(rt; kill(&mut book, 2), Answer::Stopped { completed: 1 });
     assert_eq!(rt;
@@ -159,7 +216,9 @@ fn a_load_that_is_not_free_yet_guards_the_others(rt: HostRuntime) -> Result<(), 
 }
 
 #[test]
-fn a_replacement_on_the_boundary_takes_the_room_of_the_old_message(rt: HostRuntime) -> Result<(), Fail> {
+fn a_replacement_on_the_boundary_takes_the_room_of_the_old_message(
+    rt: HostRuntime,
+) -> Result<(), Fail> {
     let alloc = rt.alloc();
     for (slot, answer) in [
         (
