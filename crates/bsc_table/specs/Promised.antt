@@ -1,12 +1,16 @@
 -- What a cell promises of the messages that it accepted (own): of each legal history, with no other premise.
-use Rattle.std.specs.Prelude.{◌≡◌, ℕ, ◌≤◌, All}
+use Rattle.std.specs.Prelude.{◌≡◌, ℕ, ◌≤◌, false, All, AllPairs}
 use Rattle.scheduler.specs.Message.{release, due}
 use Rattle.scheduler.specs.Air.{pages_aired}
 use Rattle.scheduler.specs.Completed.{completed}
 use Rattle.bsc_table.specs.Guarantee.{LoadsFit, IsUncut}
 use Rattle.bsc_table.specs.Bounds.{least_completed, most_completed}
-use Rattle.bsc_table.specs.Record.{Record, messages_in}
+use Rattle.bsc_table.specs.Record.{Record, accepted_in, messages_in, is_of_pair}
 use Rattle.bsc_table.specs.Legal.{IsLegal}
+
+-- no two accepted messages have the same identifier and serial number
+abbrev pub LegalPairsComeOnce : Type 0
+LegalPairsComeOnce = (r : Record) → IsLegal r → AllPairs (λ a b. is_of_pair a.id a.serial b ≡ false) (accepted_in r.log)
 
 -- the loads that the accepted messages have reserved sum to at most SCALE at each slot
 abbrev pub LegalLoadsFit : Type 0

@@ -3,7 +3,7 @@
 
 ghost use Rattle.bsc_table.specs.Guarantee.{ReservationsCoverBroadcasts, DemandIsNoMoreThanTheSlots, LackMeansABusyPeriod, AdmittedLoadIsAGuarantee, AdmittedBroadcastsAreWhole};
 ghost use Rattle.bsc_table.specs.Bounds.{CompletedIsAtMost, CompletedIsAtLeast, BoundsAreNear};
-ghost use Rattle.bsc_table.specs.Promised.{LegalLoadsFit, LegalHistoriesAreServed, LegalHistoriesAreBounded};
+ghost use Rattle.bsc_table.specs.Promised.{LegalPairsComeOnce, LegalLoadsFit, LegalHistoriesAreServed, LegalHistoriesAreBounded};
 ghost use Rattle.bsc_table.specs.Told.{LegalAnswersAreTrue};
 
 /// Admitted load is a guarantee: where the loads that are reserved at each slot sum to at most `SCALE`, and each slot airs
@@ -53,6 +53,9 @@ pub fn completed_bounds()
 ///
 /// Does nothing: its contract is the law.
 pub fn legal_histories()
+    // A message is known by its identifier and serial number: no two that were accepted have the same.
+    ensures legal_pairs_come_once { LegalPairsComeOnce }
+
     // However messages were accepted, replaced and killed, the loads that are reserved sum to at most `SCALE` at each slot.
     ensures legal_loads_fit { LegalLoadsFit }
 
