@@ -1,31 +1,9 @@
--- Items at the front of a list.
+-- The item at the front of octets, and the cells of lists by their octets or by their items.
 use Rattle.std.proofs.Common.{◌≡◌, ℕ, ◌-◌, ◌≤◌, List, [], ◌∷◌, length, take, drop, get_or, refl, sym, ap, arith}
 use Rattle.std.proofs.lemmas.List.{take_all}
 use Rattle.cbsp_wire.specs.declared.items.Layout.TheVariants as layouts
-use Rattle.cbsp_wire.specs.Value.{cell_at, count_at, failure_at, cells_in, counts_in, failures_in, first_items}
+use Rattle.cbsp_wire.specs.Value.{count_at, failure_at, cells_in, counts_in, failures_in, first_items}
 use Rattle.cbsp_wire.specs.Range.{cells_by, cells_of_counts, cells_of_failures}
-
-pub first_count : (o : List ℕ) → 7 ≤ length o → cells_by layouts.Counts o ≡ cell_at (get_or o 0 0) (get_or o 1 0) (get_or o 2 0) (get_or o 3 0) ∷ cells_by layouts.Counts (take (length o - 7) (drop 7 o))
-first_count [] h = absurd (omega arith)
-first_count (a ∷ []) h = absurd (omega arith)
-first_count (a ∷ b ∷ []) h = absurd (omega arith)
-first_count (a ∷ b ∷ c ∷ []) h = absurd (omega arith)
-first_count (a ∷ b ∷ c ∷ d ∷ []) h = absurd (omega arith)
-first_count (a ∷ b ∷ c ∷ d ∷ e ∷ []) h = absurd (omega arith)
-first_count (a ∷ b ∷ c ∷ d ∷ e ∷ f ∷ []) h = absurd (omega arith)
-first_count (a ∷ b ∷ c ∷ d ∷ e ∷ f ∷ g ∷ o) h =
-    let le : length o ≤ length (a ∷ b ∷ c ∷ d ∷ e ∷ f ∷ g ∷ o) - 7 = omega arith in
-    ap (λ (r : List ℕ). cell_at a b c d ∷ cells_by layouts.Counts r) (sym (take_all (length (a ∷ b ∷ c ∷ d ∷ e ∷ f ∷ g ∷ o) - 7) o le))
-
-pub first_failure : (o : List ℕ) → 5 ≤ length o → cells_by layouts.Failures o ≡ cell_at (get_or o 0 0) (get_or o 1 0) (get_or o 2 0) (get_or o 3 0) ∷ cells_by layouts.Failures (take (length o - 5) (drop 5 o))
-first_failure [] h = absurd (omega arith)
-first_failure (a ∷ []) h = absurd (omega arith)
-first_failure (a ∷ b ∷ []) h = absurd (omega arith)
-first_failure (a ∷ b ∷ c ∷ []) h = absurd (omega arith)
-first_failure (a ∷ b ∷ c ∷ d ∷ []) h = absurd (omega arith)
-first_failure (a ∷ b ∷ c ∷ d ∷ e ∷ o) h =
-    let le : length o ≤ length (a ∷ b ∷ c ∷ d ∷ e ∷ o) - 5 = omega arith in
-    ap (λ (r : List ℕ). cell_at a b c d ∷ cells_by layouts.Failures r) (sym (take_all (length (a ∷ b ∷ c ∷ d ∷ e ∷ o) - 5) o le))
 
 pub counts_in-first : (o : List ℕ) → 7 ≤ length o
     → counts_in o ≡ count_at (get_or o 0 0) (get_or o 1 0) (get_or o 2 0) (get_or o 3 0) (get_or o 4 0) (get_or o 5 0) (get_or o 6 0) ∷ counts_in (take (length o - 7) (drop 7 o))

@@ -1,5 +1,5 @@
 -- A message that some octets mean is written.
-use Rattle.std.proofs.Common.{◌≡◌, ℕ, zero, suc, ◌<◌, Bool, true, false, cond, eqb, eq-eqb, List, [], ◌∷◌, length, map, get_or, Option, Some, refl, sym, ap, subst, ◌∙◌, arith}
+use Rattle.std.proofs.Common.{◌≡◌, ℕ, zero, suc, ◌<◌, Bool, true, false, cond, eqb, eq-eqb, List, [], ◌∷◌, length, map, get_or, Option, Some, None, refl, sym, ap, subst, ◌∙◌, arith}
 use Rattle.std.specs.Prelude.{◌&&◌, ◌%◌, not, nat_le}
 use Rattle.std.specs.List.{AllByRecursion, list_all}
 use Rattle.std.proofs.lemmas.Bool.{eqb-true}
@@ -10,11 +10,13 @@ use Rattle.cbsp_wire.specs.declared.kind.Kind.{Kind}
 use Rattle.cbsp_wire.specs.declared.kind.Kind.TheVariants as kinds
 use Rattle.cbsp_wire.specs.declared.kind.Need.{Need}
 use Rattle.cbsp_wire.specs.declared.kind.Need.TheVariants as needs
+use Rattle.cbsp_wire.specs.declared.message.Cell.{Cell}
+use Rattle.cbsp_wire.specs.declared.message.Count.{Count}
 use Rattle.cbsp_wire.specs.declared.message.Failure.{Failure}
 use Rattle.cbsp_wire.specs.declared.message.Message.{Message}
 use Rattle.cbsp_wire.specs.Element.{Element, bodies_of, octet_of}
 use Rattle.cbsp_wire.specs.Table.{table, need_of, size_of}
-use Rattle.cbsp_wire.specs.Value.{Fields, fields_in, fields_of, first_number, first_octet, first_items, content_of, cells_in, failures_in, or_0, message_with, message_of, kind_of}
+use Rattle.cbsp_wire.specs.Value.{Fields, no_fields, fields_in, fields_of, first_number, first_octet, first_items, content_of, cells_in, failures_in, or_0, message_with, message_of, kind_of}
 use Rattle.cbsp_wire.specs.Range.{numbers, is_nothing, is_there_if, has_mandatory, has_none_twice, are_lists, first_passes, is_list, are_items, item_size, cells_by, passes, is_period, is_coding, is_page_count, are_contents, are_numbers, are_cells, cells_of_counts, cells_of_failures, are_all_cells, are_values, is_writable, is_full}
 use Rattle.cbsp_wire.specs.Meaning.{IsOf, AreElementsOf, IsMessage}
 use Rattle.cbsp_wire.proofs.Tests.{and_parts, and_both, not_true, there_from, list_all-parts}
@@ -61,6 +63,32 @@ values_from f h =
     (and_both (are_contents f.pages f.contents) (are_numbers f) h.contents
     (and_both ((a && b) && c) d (and_both (a && b) c (and_both a b h.period h.coding) h.category) h.channel))
     (and_both (x && y) z (and_both x y h.cells h.completed) h.failures)
+
+-- the fields of a message that broadcasts nothing new: all but a write
+abbrev beside : Option ℕ → Option ℕ → Option ℕ → List Failure → List Count → List Cell → Option ℕ → Fields
+beside id new old failures completed cells channel = record no_fields {
+  id = id;
+  new_serial = new;
+  old_serial = old;
+  failures = failures;
+  completed = completed;
+  cells = cells;
+  channel = channel;
+}
+
+pub values_beside : (id new old : Option ℕ) (failures : List Failure) (completed : List Count) (cells : List Cell) (channel : Option ℕ)
+    → passes (λ n. nat_le n 1) channel ≡ true → are_cells cells ≡ true → are_cells (cells_of_counts completed) ≡ true → are_cells (cells_of_failures failures) ≡ true
+    → are_values (beside id new old failures completed cells channel) ≡ true
+values_beside id new old failures completed cells channel told right counted failed = values_from (beside id new old failures completed cells channel) (record {
+  contents = refl;
+  period = refl;
+  coding = refl;
+  category = refl;
+  channel = told;
+  cells = right;
+  completed = counted;
+  failures = failed;
+})
 
 -- a mandatory element is there
 mandatory_at : (kind : Kind) (es : List Element) (ns : List ℕ) (k : ℕ) → k < length ns → list_all (λ n. is_there_if (need_of kind n) (bodies_of n es)) ns ≡ true
@@ -172,81 +200,46 @@ right_written kinds.Write es h = record {
   failures = refl;
   full = full_contents kinds.Write es h.of_kind;
 }
-right_written kinds.WriteDone es h = record {
-  values = values_from (fields_of (message_with kinds.WriteDone (fields_in es))) (record {
-    contents = refl;
-    period = refl;
-    coding = refl;
-    category = refl;
-    channel = h.ranges.channel;
-    cells = h.ranges.cells;
-    completed = h.ranges.completed;
-    failures = refl;
-  });
-  cells = refl;
-  failures = refl;
-  full = refl;
-}
-right_written kinds.WriteFailed es h = record {
-  values = values_from (fields_of (message_with kinds.WriteFailed (fields_in es))) (record {
-    contents = refl;
-    period = refl;
-    coding = refl;
-    category = refl;
-    channel = h.ranges.channel;
-    cells = h.ranges.cells;
-    completed = h.ranges.completed;
-    failures = h.ranges.failures;
-  });
-  cells = refl;
-  failures = failures_there kinds.WriteFailed es h;
-  full = refl;
-}
-right_written kinds.Kill es h = record {
-  values = values_from (fields_of (message_with kinds.Kill (fields_in es))) (record {
-    contents = refl;
-    period = refl;
-    coding = refl;
-    category = refl;
-    channel = h.ranges.channel;
-    cells = h.ranges.cells;
-    completed = refl;
-    failures = refl;
-  });
-  cells = cells_there kinds.Kill es h;
-  failures = refl;
-  full = refl;
-}
-right_written kinds.KillDone es h = record {
-  values = values_from (fields_of (message_with kinds.KillDone (fields_in es))) (record {
-    contents = refl;
-    period = refl;
-    coding = refl;
-    category = refl;
-    channel = h.ranges.channel;
-    cells = h.ranges.cells;
-    completed = h.ranges.completed;
-    failures = refl;
-  });
-  cells = refl;
-  failures = refl;
-  full = refl;
-}
-right_written kinds.KillFailed es h = record {
-  values = values_from (fields_of (message_with kinds.KillFailed (fields_in es))) (record {
-    contents = refl;
-    period = refl;
-    coding = refl;
-    category = refl;
-    channel = h.ranges.channel;
-    cells = h.ranges.cells;
-    completed = h.ranges.completed;
-    failures = h.ranges.failures;
-  });
-  cells = refl;
-  failures = failures_there kinds.KillFailed es h;
-  full = refl;
-}
+right_written kinds.WriteDone es h =
+    let f = fields_in es in
+    record {
+      values = values_beside (Some (or_0 f.id)) (Some (or_0 f.new_serial)) f.old_serial [] f.completed f.cells f.channel h.ranges.channel h.ranges.cells h.ranges.completed refl;
+      cells = refl;
+      failures = refl;
+      full = refl;
+    }
+right_written kinds.WriteFailed es h =
+    let f = fields_in es in
+    record {
+      values = values_beside (Some (or_0 f.id)) (Some (or_0 f.new_serial)) f.old_serial f.failures f.completed f.cells f.channel h.ranges.channel h.ranges.cells h.ranges.completed h.ranges.failures;
+      cells = refl;
+      failures = failures_there kinds.WriteFailed es h;
+      full = refl;
+    }
+right_written kinds.Kill es h =
+    let f = fields_in es in
+    record {
+      values = values_beside (Some (or_0 f.id)) None (Some (or_0 f.old_serial)) [] [] f.cells f.channel h.ranges.channel h.ranges.cells refl refl;
+      cells = cells_there kinds.Kill es h;
+      failures = refl;
+      full = refl;
+    }
+right_written kinds.KillDone es h =
+    let f = fields_in es in
+    record {
+      values = values_beside (Some (or_0 f.id)) None (Some (or_0 f.old_serial)) [] f.completed f.cells f.channel h.ranges.channel h.ranges.cells h.ranges.completed refl;
+      cells = refl;
+      failures = refl;
+      full = refl;
+    }
+right_written kinds.KillFailed es h =
+    let f = fields_in es in
+    record {
+      values = values_beside (Some (or_0 f.id)) None (Some (or_0 f.old_serial)) f.failures f.completed f.cells f.channel h.ranges.channel h.ranges.cells h.ranges.completed h.ranges.failures;
+      cells = refl;
+      failures = failures_there kinds.KillFailed es h;
+      full = refl;
+    }
 
 elements_written : (m : Message) (es : List Element) → AreElementsOf m es → is_writable m ≡ true
 unfolding message_of

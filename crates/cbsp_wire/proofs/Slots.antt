@@ -3,13 +3,10 @@ use Rattle.std.proofs.Common.{◌≡◌, ℕ, ◌+◌, ◌*◌, ◌/◌, ◌%◌
 use Rattle.std.specs.List.{flat_map}
 use Rattle.std.proofs.lemmas.List.{append-nil, set-append_right}
 use Rattle.std.proofs.lemmas.List.Concat.{flat_map-cons}
-use Rattle.cbsp_wire.specs.declared.message.Cell.{Cell}
-use Rattle.cbsp_wire.specs.declared.message.Count.{Count}
-use Rattle.cbsp_wire.specs.declared.message.Failure.{Failure}
 use Rattle.cbsp_wire.specs.Element.{Element, octets_of_elements}
 use Rattle.cbsp_wire.specs.Value.{Fields}
-use Rattle.cbsp_wire.specs.Written.{bodies_in, cell_octets, count_octets, failure_octets, list_bodies, element, elements_among, slot, slot_octets}
-use Rattle.cbsp_wire.proofs.WrittenItems.{length-items, cell_len, count_len, failure_len}
+use Rattle.cbsp_wire.specs.Written.{bodies_in, list_bodies, element, elements_among, slot, slot_octets}
+use Rattle.cbsp_wire.proofs.WrittenItems.{length-items}
 
 octets-append : (xs ys : List Element) → octets_of_elements (xs ++ ys) ≡ octets_of_elements xs ++ octets_of_elements ys
 octets-append [] ys = refl
@@ -26,7 +23,7 @@ octets-among f (n ∷ ns) =
     ∙ sym (flat_map-cons (slot_octets f) n ns)
 
 -- a list with its head and its items
-list_slot : {X : Type 0} (octets : X → List ℕ) (size : ℕ) → ((x : X) → length (octets x) ≡ size) → (old : List ℕ) (n : ℕ) (xs : List X) → eqb (length xs) 0 ≡ false
+pub list_slot : {X : Type 0} (octets : X → List ℕ) (size : ℕ) → ((x : X) → length (octets x) ≡ size) → (old : List ℕ) (n : ℕ) (xs : List X) → eqb (length xs) 0 ≡ false
     → (old ++ n ∷ (1 + length xs * size) / 256 ∷ (1 + length xs * size) % 256 ∷ 1 ∷ []) ++ flat_map octets xs ≡ old ++ slot n (list_bodies octets xs)
 list_slot octets size len old n [] some = absurd cc
 list_slot octets size len old n (x ∷ xs) some =
@@ -35,18 +32,6 @@ list_slot octets size len old n (x ∷ xs) some =
     append_assoc old (n ∷ (1 + length (x ∷ xs) * size) / 256 ∷ (1 + length (x ∷ xs) * size) % 256 ∷ 1 ∷ []) items
     ∙ ap (λ (m : ℕ). old ++ (n ∷ (1 + m) / 256 ∷ (1 + m) % 256 ∷ 1 ∷ items)) (sym k)
     ∙ ap (λ (i : List ℕ). old ++ (n ∷ (1 + length items) / 256 ∷ (1 + length items) % 256 ∷ 1 ∷ i)) (sym (append-nil items))
-
-pub cells_slot : (old : List ℕ) (n : ℕ) (cs : List Cell) → eqb (length cs) 0 ≡ false
-    → (old ++ n ∷ (1 + length cs * 4) / 256 ∷ (1 + length cs * 4) % 256 ∷ 1 ∷ []) ++ flat_map cell_octets cs ≡ old ++ slot n (list_bodies cell_octets cs)
-cells_slot old n cs some = list_slot cell_octets 4 cell_len old n cs some
-
-pub counts_slot : (old : List ℕ) (n : ℕ) (cs : List Count) → eqb (length cs) 0 ≡ false
-    → (old ++ n ∷ (1 + length cs * 7) / 256 ∷ (1 + length cs * 7) % 256 ∷ 1 ∷ []) ++ flat_map count_octets cs ≡ old ++ slot n (list_bodies count_octets cs)
-counts_slot old n cs some = list_slot count_octets 7 count_len old n cs some
-
-pub failures_slot : (old : List ℕ) (n : ℕ) (fs : List Failure) → eqb (length fs) 0 ≡ false
-    → (old ++ n ∷ (1 + length fs * 5) / 256 ∷ (1 + length fs * 5) % 256 ∷ 1 ∷ []) ++ flat_map failure_octets fs ≡ old ++ slot n (list_bodies failure_octets fs)
-failures_slot old n fs some = list_slot failure_octets 5 failure_len old n fs some
 
 -- a length that is written into its place
 pub patched : (old body : List ℕ) (k a b c : ℕ) (n : ℕ) → length old ≡ n

@@ -1,5 +1,5 @@
 -- Which messages are written, type by type, for callers that make them; and what a message that was read has.
-use Rattle.std.proofs.Common.{◌≡◌, ℕ, true, false, List, length, Option, Some, None, refl}
+use Rattle.std.proofs.Common.{◌≡◌, ℕ, true, false, List, [], length, Option, Some, None, refl}
 use Rattle.std.specs.Prelude.{nat_le}
 use Rattle.std.specs.List.{list_all}
 use Rattle.cbs_page.specs.declared.coding.Dcs.{Dcs}
@@ -15,7 +15,7 @@ use Rattle.cbsp_wire.specs.Range.{passes, is_period, is_coding, are_cells, are_c
 use Rattle.cbsp_wire.specs.Meaning.{IsMessage}
 use Rattle.cbsp_wire.proofs.Tests.{there_from}
 use Rattle.cbsp_wire.proofs.WrittenLaws.{IsWritten-from, is_writable-from}
-use Rattle.cbsp_wire.proofs.MeantLaws.{HaveRanges, ranges_from, values_from, IsMessage-writable}
+use Rattle.cbsp_wire.proofs.MeantLaws.{HaveRanges, ranges_from, values_from, values_beside, IsMessage-writable}
 
 -- an order to write
 pub write-writable : (id new : ℕ) (old : Option ℕ) (cells : List Cell) (channel category : Option ℕ) (period broadcasts : ℕ) (dcs : Dcs) (contents : List Content)
@@ -39,7 +39,7 @@ unfolding need_of table
 kill-writable id old cells channel some right ch =
     let m = messages.Kill id old cells channel in
     is_writable-from m (record {
-      values = values_from (fields_of m) (record { contents = refl; period = refl; coding = refl; category = refl; channel = ch; cells = right; completed = refl; failures = refl });
+      values = values_beside (Some id) None (Some old) [] [] cells channel ch right refl refl;
       cells = there_from (need_of (kind_of m) 4) cells some;
       failures = refl;
       full = refl;
@@ -52,7 +52,7 @@ unfolding need_of table
 write_done-writable id new old completed cells counted right =
     let m = messages.WriteDone id new old completed cells None in
     is_writable-from m (record {
-      values = values_from (fields_of m) (record { contents = refl; period = refl; coding = refl; category = refl; channel = refl; cells = right; completed = counted; failures = refl });
+      values = values_beside (Some id) (Some new) old [] completed cells None refl right counted refl;
       cells = refl;
       failures = refl;
       full = refl;
@@ -65,7 +65,7 @@ unfolding need_of table
 write_failed-writable id new old failures completed cells some failed counted right =
     let m = messages.WriteFailed id new old failures completed cells None in
     is_writable-from m (record {
-      values = values_from (fields_of m) (record { contents = refl; period = refl; coding = refl; category = refl; channel = refl; cells = right; completed = counted; failures = failed });
+      values = values_beside (Some id) (Some new) old failures completed cells None refl right counted failed;
       cells = refl;
       failures = there_from (need_of (kind_of m) 9) failures some;
       full = refl;
@@ -77,7 +77,7 @@ unfolding need_of table
 kill_done-writable id old completed cells counted right =
     let m = messages.KillDone id old completed cells None in
     is_writable-from m (record {
-      values = values_from (fields_of m) (record { contents = refl; period = refl; coding = refl; category = refl; channel = refl; cells = right; completed = counted; failures = refl });
+      values = values_beside (Some id) None (Some old) [] completed cells None refl right counted refl;
       cells = refl;
       failures = refl;
       full = refl;
@@ -90,7 +90,7 @@ unfolding need_of table
 kill_failed-writable id old failures completed cells some failed counted right =
     let m = messages.KillFailed id old failures completed cells None in
     is_writable-from m (record {
-      values = values_from (fields_of m) (record { contents = refl; period = refl; coding = refl; category = refl; channel = refl; cells = right; completed = counted; failures = failed });
+      values = values_beside (Some id) None (Some old) failures completed cells None refl right counted failed;
       cells = refl;
       failures = there_from (need_of (kind_of m) 9) failures some;
       full = refl;

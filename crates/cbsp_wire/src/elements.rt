@@ -27,9 +27,9 @@ macro_rules! elements {
             0x0E, fixed 2, M M M M M M, number id;
             0x03, fixed 2, M M M F F F, number new_serial;
             0x02, fixed 2, O O O M M M, number old_serial;
-            0x09, listed 2, F F M F F M, failures failures;
-            0x08, listed 2, F O O F O O, counts completed;
-            0x04, listed 2, M O O M O O, cells cells;
+            0x09, listed 2, F F M F F M, list failures;
+            0x08, listed 2, F O O F O O, list completed;
+            0x04, listed 2, M O O M O O, list cells;
             0x12, fixed 1, O O O O O O, octet channel;
             0x05, fixed 1, O F F F F F, octet category;
             0x06, fixed 2, M F F F F F, number period;

@@ -6,6 +6,7 @@ ghost use Rattle.cbsp_wire.specs.Value.{cell_at};
 ghost use Rattle.cbsp_wire.specs.Range.{is_cell, are_distinct, are_cells, cells_by, are_items, item_size, is_list};
 ghost use Rattle.cbsp_wire.specs.Named.{cells_named};
 
+use crate::item::Item;
 use crate::message::{Cell, Count, Failure};
 
 /// What the items of a list's octets are.
@@ -47,17 +48,14 @@ fn first_in(layout: Layout, octets: &[u8]) -> Option<(Cell, &[u8])>
     ensures { MatchOption result (cells_by layout octets.now ≡ []) (λ x. cells_by layout octets.now ≡ x.0 ∷ cells_by layout x.1.now) }
 {
     match layout {
-        Layout::Cells => match octets {
-            [a, b, c, d, rest @ ..] => Some((cell_of(*a, *b, *c, *d), rest)),
-            _ => None,
+        Layout::Cells => Cell::first_of(octets),
+        Layout::Counts => match Count::first_of(octets) {
+            Some((count, rest)) => Some((count.cell, rest)),
+            None => None,
         },
-        Layout::Counts => match octets {
-            [a, b, c, d, _, _, _, rest @ ..] => Some((cell_of(*a, *b, *c, *d), rest)),
-            _ => None,
-        },
-        Layout::Failures => match octets {
-            [a, b, c, d, _, rest @ ..] => Some((cell_of(*a, *b, *c, *d), rest)),
-            _ => None,
+        Layout::Failures => match Failure::first_of(octets) {
+            Some((failure, rest)) => Some((failure.cell, rest)),
+            None => None,
         },
     }
 }
@@ -132,9 +130,9 @@ fn item_size(layout: Layout) -> usize
     ensures { result ≡ item_size layout }
 {
     match layout {
-        Layout::Cells => 4,
-        Layout::Counts => 7,
-        Layout::Failures => 5,
+        Layout::Cells => usize::from(Cell::SIZE),
+        Layout::Counts => usize::from(Count::SIZE),
+        Layout::Failures => usize::from(Failure::SIZE),
     }
 }
 

@@ -6,6 +6,7 @@
 
 mod elements;
 pub mod fault;
+mod item;
 mod items;
 mod kind;
 mod law;

@@ -1,13 +1,14 @@
 //! The value of a message, looked up among its elements.
 
 ghost use Rattle.std.specs.Prelude.{◌≡◌, ◌<◌, [], ◌∷◌, length, drop, unwrap_or, IfOk, IfSome, MatchOption};
+ghost use Rattle.cbsp_wire.specs.Element.{bodies_of};
 ghost use Rattle.cbsp_wire.specs.Walk.{walk_of};
-ghost use Rattle.cbsp_wire.specs.Value.{cells_in, counts_in, failures_in, content_of, number_in, octet_in, cells_of, counts_of, failures_of, contents_of, message_of};
+ghost use Rattle.cbsp_wire.specs.Value.{first_items, content_of, number_in, octet_in, cells_of, counts_of, failures_of, contents_of, message_of};
 
 use crate::elements::{find, number_of, octet_of};
-use crate::items::cell_of;
+use crate::item::{Item, read_items};
 use crate::kind::Kind;
-use crate::message::{Cell, Cells, Contents, Count, Counts, Failure, Failures, Message};
+use crate::message::{Cells, Contents, Counts, Failures, Message};
 use cbs_page::{Content, Dcs, Serial};
 use std::alloc::{AllocError, Global};
 
@@ -62,111 +63,46 @@ pub(crate) fn items_of(body: &[u8]) -> &[u8]
     if body.len() < 3 { &[] } else { &body[3..] }
 }
 
-/// The items that octets are.
-fn read_cells(alloc: Global, octets: &[u8]) -> Result<Vec<Cell>, AllocError>
-    ensures { IfOk result (λ cells. cells.items ≡ cells_in octets.now) }
+/// The items of the list with this number, none where it isn't there.
+fn list<T: Item>(
+    alloc: Global,
+    kind: Kind,
+    element: u8,
+    octets: &[u8],
+) -> Result<Vec<T>, AllocError>
+    ensures { IfOk result (λ items. items.items ≡ first_items T.items_in (bodies_of element (walk_of kind octets.now).elements)) }
 {
-    let mut cells = Vec::new(alloc);
-    let mut left = octets;
-    'items: while let [a, b, c, d, rest @ ..] = left {
-        cells.push(cell_of(*a, *b, *c, *d))?;
-        left = rest;
+    match find(kind, element, octets) {
+        Some((body, _)) => read_items(alloc, items_of(body)),
+        None => Ok(Vec::new(alloc)),
     }
-    Ok(cells)
-}
-
-/// The first completed broadcast, and the octets after it.
-fn first_count(octets: &[u8]) -> Option<(Count, &[u8])>
-    ensures first { MatchOption result (counts_in octets.now ≡ []) (λ x. counts_in octets.now ≡ x.0 ∷ counts_in x.1.now) }
-    ensures shorter { IfSome result (λ x. length x.1.now < length octets.now) }
-{
-    match octets {
-        [a, b, c, d, high, low, info, rest @ ..] => {
-            let count = Count {
-                cell: cell_of(*a, *b, *c, *d),
-                number: u16::from(*high) * 256 + u16::from(*low),
-                info: *info,
-            };
-            Some((count, rest))
-        }
-        _ => None,
-    }
-}
-
-/// The completed broadcasts that octets are.
-fn read_counts(alloc: Global, octets: &[u8]) -> Result<Vec<Count>, AllocError>
-    ensures { IfOk result (λ counts. counts.items ≡ counts_in octets.now) }
-{
-    let mut counts = Vec::new(alloc);
-    let mut left = octets;
-    'items: while let Some((count, rest)) = first_count(left) {
-        counts.push(count)?;
-        left = rest;
-    }
-    Ok(counts)
-}
-
-/// The first failure, and the octets after it.
-fn first_failure(octets: &[u8]) -> Option<(Failure, &[u8])>
-    ensures first { MatchOption result (failures_in octets.now ≡ []) (λ x. failures_in octets.now ≡ x.0 ∷ failures_in x.1.now) }
-    ensures shorter { IfSome result (λ x. length x.1.now < length octets.now) }
-{
-    match octets {
-        [a, b, c, d, cause, rest @ ..] => {
-            let failure = Failure {
-                cell: cell_of(*a, *b, *c, *d),
-                cause: *cause,
-            };
-            Some((failure, rest))
-        }
-        _ => None,
-    }
-}
-
-/// The failures that octets are.
-fn read_failures(alloc: Global, octets: &[u8]) -> Result<Vec<Failure>, AllocError>
-    ensures { IfOk result (λ failures. failures.items ≡ failures_in octets.now) }
-{
-    let mut failures = Vec::new(alloc);
-    let mut left = octets;
-    'items: while let Some((failure, rest)) = first_failure(left) {
-        failures.push(failure)?;
-        left = rest;
-    }
-    Ok(failures)
 }
 
 /// The cells of element 04, none where it isn't there.
 fn cells(alloc: Global, kind: Kind, octets: &[u8]) -> Result<Cells, AllocError>
     ensures { IfOk result (λ cells. cells ≡ cells_of (walk_of kind octets.now).elements) }
 {
-    let list = match find(kind, 0x04, octets) {
-        Some((body, _)) => read_cells(alloc, items_of(body))?,
-        None => Vec::new(alloc),
-    };
-    Ok(Cells { list })
+    Ok(Cells {
+        list: list(alloc, kind, 0x04, octets)?,
+    })
 }
 
 /// The completed broadcasts of element 08, none where it isn't there.
 fn counts(alloc: Global, kind: Kind, octets: &[u8]) -> Result<Counts, AllocError>
     ensures { IfOk result (λ counts. counts ≡ counts_of (walk_of kind octets.now).elements) }
 {
-    let list = match find(kind, 0x08, octets) {
-        Some((body, _)) => read_counts(alloc, items_of(body))?,
-        None => Vec::new(alloc),
-    };
-    Ok(Counts { list })
+    Ok(Counts {
+        list: list(alloc, kind, 0x08, octets)?,
+    })
 }
 
 /// The failures of element 09, none where it isn't there.
 fn failures(alloc: Global, kind: Kind, octets: &[u8]) -> Result<Failures, AllocError>
     ensures { IfOk result (λ failures. failures ≡ failures_of (walk_of kind octets.now).elements) }
 {
-    let list = match find(kind, 0x09, octets) {
-        Some((body, _)) => read_failures(alloc, items_of(body))?,
-        None => Vec::new(alloc),
-    };
-    Ok(Failures { list })
+    Ok(Failures {
+        list: list(alloc, kind, 0x09, octets)?,
+    })
 }
 
 /// The content that the body of an element 01 is.

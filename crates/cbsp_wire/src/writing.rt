@@ -9,14 +9,15 @@ ghost use Rattle.cbsp_wire.specs.Written.{number_octets, number_bodies, octet_bo
 
 use crate::elements::{NUMBERS, elements};
 use crate::fault::WireFault;
-use crate::message::{Cell, Count, Failure, Message};
+use crate::item::{Item, put_items};
+use crate::message::Message;
 use crate::parts::{Parts, is_writable, kind_of, parts_of};
 use cbs_page::Content;
 use std::alloc::Global;
 
 /// Appends octets to a vector that has room for them, one by one, so that no memory is taken: `extend_from_slice` doesn't promise that
 /// the capacity stays.
-fn put(out: &mut Vec<u8>, octets: &[u8])
+pub(crate) fn put(out: &mut Vec<u8>, octets: &[u8])
     requires { HasRoom out.old octets.now }
     ensures appended { out.new.items ≡ out.old.items ++ octets.now }
     ensures room { vec_capacity out.new ≡ vec_capacity out.old }
@@ -27,7 +28,7 @@ fn put(out: &mut Vec<u8>, octets: &[u8])
 }
 
 /// The two octets of a number, the high one first.
-fn octets_of_number(number: u16) -> [u8; 2]
+pub(crate) fn octets_of_number(number: u16) -> [u8; 2]
     ensures { result ≡ number_octets number }
 {
     [(number / 256) as u8, (number % 256) as u8]
@@ -56,46 +57,6 @@ fn put_octet(out: &mut Vec<u8>, element: u8, octet: Option<u8>)
     }
 }
 
-/// Appends the octets of cells.
-fn put_cell_items(out: &mut Vec<u8>, cells: &[Cell])
-    requires { HasRoom out.old (flat_map cell_octets cells.now) }
-    ensures appended { out.new.items ≡ out.old.items ++ flat_map cell_octets cells.now }
-    ensures room { vec_capacity out.new ≡ vec_capacity out.old }
-{
-    for cell in cells {
-        let [a, b] = octets_of_number(cell.lac);
-        let [c, d] = octets_of_number(cell.ci);
-        put(out, &[a, b, c, d]);
-    }
-}
-
-/// Appends the octets of completed broadcasts.
-fn put_count_items(out: &mut Vec<u8>, counts: &[Count])
-    requires { HasRoom out.old (flat_map count_octets counts.now) }
-    ensures appended { out.new.items ≡ out.old.items ++ flat_map count_octets counts.now }
-    ensures room { vec_capacity out.new ≡ vec_capacity out.old }
-{
-    for count in counts {
-        let [a, b] = octets_of_number(count.cell.lac);
-        let [c, d] = octets_of_number(count.cell.ci);
-        let [high, low] = octets_of_number(count.number);
-        put(out, &[a, b, c, d, high, low, count.info]);
-    }
-}
-
-/// Appends the octets of failures.
-fn put_failure_items(out: &mut Vec<u8>, failures: &[Failure])
-    requires { HasRoom out.old (flat_map failure_octets failures.now) }
-    ensures appended { out.new.items ≡ out.old.items ++ flat_map failure_octets failures.now }
-    ensures room { vec_capacity out.new ≡ vec_capacity out.old }
-{
-    for failure in failures {
-        let [a, b] = octets_of_number(failure.cell.lac);
-        let [c, d] = octets_of_number(failure.cell.ci);
-        put(out, &[a, b, c, d, failure.cause]);
-    }
-}
-
 /// Appends what stands before the items of a list: its number, its length, the discriminator.
 fn put_list_head(out: &mut Vec<u8>, element: u8, items_len: u16)
     requires fits { items_len < 65535 }
@@ -107,46 +68,18 @@ fn put_list_head(out: &mut Vec<u8>, element: u8, items_len: u16)
     put(out, &[element, high, low, 1]);
 }
 
-/// Appends the list of cells, if there are any.
-fn put_cells(out: &mut Vec<u8>, element: u8, cells: &[Cell])
-    requires short { length cells.now ≤ 64 }
-    requires room { HasRoom out.old (slot element (list_bodies cell_octets cells.now)) }
-    ensures appended { out.new.items ≡ out.old.items ++ slot element (list_bodies cell_octets cells.now) }
+/// Appends a list, if it has items.
+fn put_list<T: Item>(out: &mut Vec<u8>, element: u8, items: &[T])
+    requires short { length items.now ≤ 64 }
+    requires room { HasRoom out.old (slot element (list_bodies T.octets_of items.now)) }
+    ensures appended { out.new.items ≡ out.old.items ++ slot element (list_bodies T.octets_of items.now) }
     ensures room { vec_capacity out.new ≡ vec_capacity out.old }
 {
-    if cells.is_empty() {
+    if items.is_empty() {
         return;
     }
-    put_list_head(out, element, cells.len() as u16 * 4);
-    put_cell_items(out, cells);
-}
-
-/// Appends the list of completed broadcasts, if there are any.
-fn put_counts(out: &mut Vec<u8>, element: u8, counts: &[Count])
-    requires short { length counts.now ≤ 64 }
-    requires room { HasRoom out.old (slot element (list_bodies count_octets counts.now)) }
-    ensures appended { out.new.items ≡ out.old.items ++ slot element (list_bodies count_octets counts.now) }
-    ensures room { vec_capacity out.new ≡ vec_capacity out.old }
-{
-    if counts.is_empty() {
-        return;
-    }
-    put_list_head(out, element, counts.len() as u16 * 7);
-    put_count_items(out, counts);
-}
-
-/// Appends the list of failures, if there are any.
-fn put_failures(out: &mut Vec<u8>, element: u8, failures: &[Failure])
-    requires short { length failures.now ≤ 64 }
-    requires room { HasRoom out.old (slot element (list_bodies failure_octets failures.now)) }
-    ensures appended { out.new.items ≡ out.old.items ++ slot element (list_bodies failure_octets failures.now) }
-    ensures room { vec_capacity out.new ≡ vec_capacity out.old }
-{
-    if failures.is_empty() {
-        return;
-    }
-    put_list_head(out, element, failures.len() as u16 * 5);
-    put_failure_items(out, failures);
+    put_list_head(out, element, items.len() as u16 * T::SIZE);
+    put_items(out, items);
 }
 
 /// Appends the number of pages, if it is told.
@@ -179,9 +112,7 @@ macro_rules! put_field {
     ($out:expr, $row:literal, $parts:expr, number $field:ident) => { put_number($out, $row, $parts.$field) };
     ($out:expr, $row:literal, $parts:expr, octet $field:ident) => { put_octet($out, $row, $parts.$field) };
     ($out:expr, $row:literal, $parts:expr, pages $field:ident) => { put_pages($out, $row, $parts.$field) };
-    ($out:expr, $row:literal, $parts:expr, cells $field:ident) => { put_cells($out, $row, $parts.$field) };
-    ($out:expr, $row:literal, $parts:expr, counts $field:ident) => { put_counts($out, $row, $parts.$field) };
-    ($out:expr, $row:literal, $parts:expr, failures $field:ident) => { put_failures($out, $row, $parts.$field) };
+    ($out:expr, $row:literal, $parts:expr, list $field:ident) => { put_list($out, $row, $parts.$field) };
     ($out:expr, $row:literal, $parts:expr, contents $field:ident) => { put_contents($out, $row, $parts.$field) };
 }
 
