@@ -5,7 +5,7 @@ use Rattle.std.proofs.lemmas.List.{append-nil, append_assoc, map-append}
 use Rattle.bsc_table.specs.declared.command.Command.{Command}
 use Rattle.bsc_table.specs.declared.command.Command.TheVariants as commands
 use Rattle.bsc_table.specs.declared.entry.Entry.{Entry}
-use Rattle.bsc_table.specs.Record.{Accepted, start_of, is_stop_of, slot_told, stop_in, accepted_with, accepted_from, accepted_in, is_high}
+use Rattle.bsc_table.specs.Record.{Accepted, start_of, is_stop_of, slot_told, stop_in, write_message, accepted_with, accepted_from, accepted_in, is_high}
 
 -- the stop of a message after one more entry: at its slot, where it stops the message and nothing did before
 abbrev pub stop_after : Option ℕ → Bool → ℕ → Option ℕ
@@ -32,19 +32,7 @@ stop_in-push (x ∷ later) e id serial =
 
 accepted_with-push : (start : Option ℕ) (place : ℕ) (later : List Entry) (e : Entry) (command : Command) → accepted_with start place (later ++ e ∷ []) command ≡ map (accepted_after e) (accepted_with start place later command)
 accepted_with-push (Some start) place later e (commands.Write id serial replaces category period broadcasts dcs contents) =
-    ap (λ (stop : Option ℕ). record {
-      id = id;
-      serial = serial;
-      message = record {
-        number = place;
-        start = start;
-        pages = length contents;
-        period = period;
-        requested = broadcasts;
-        stop = stop;
-        high = is_high category;
-      };
-    } ∷ []) (stop_in-push later e id serial)
+    ap (λ (stop : Option ℕ). write_message place start stop id serial (length contents) period broadcasts (is_high category) ∷ []) (stop_in-push later e id serial)
 accepted_with-push (Some start) place later e (commands.Kill id serial) = refl
 accepted_with-push (Some start) place later e (commands.Status id serial) = refl
 accepted_with-push None place later e command = refl

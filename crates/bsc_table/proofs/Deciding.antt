@@ -27,7 +27,7 @@ killed r id serial answer a legal right stops live =
     let told = right ∙ stopped.told in
     let After : Answer → Type 0 = λ x. accepted_in (r.log ++ entry_with kill r.clock x ∷ []) ≡ map (stop_numbered a.message.number r.clock) (accepted_in r.log) in
     let stops_it = stops_one r.log r.clock id serial (completed stopped.stopped.message r.air r.clock) a ((IsSound-legal r legal).once) live.found (live_is_standing r.clock a.message live.live) in
-    record { there = found_is_there id serial r.log a live.found; live = live.live; after = subst After (sym told) stops_it }
+    record { stops = record { there = found_is_there id serial r.log a live.found; live = live.live }; after = subst After (sym told) stops_it }
 
 -- a write in the place of none that is accepted starts its message
 pub started : (r : Record) (id serial : ℕ) (category : Category) (period broadcasts : ℕ) (dcs : Dcs) (contents : List Content) (answer : Answer) → IsBroadcastable period dcs contents → answer ≡ answer_with_room r.slots r.log r.air r.clock (commands.Write id serial None category period broadcasts dcs contents) → is_some (start_of answer) ≡ true → IsStart r (entry_with (commands.Write id serial None category period broadcasts dcs contents) r.clock answer) (new_message (length r.log) r.clock id serial category period broadcasts contents)
@@ -55,4 +55,4 @@ replaced r id serial old category period broadcasts dcs contents answer a legal 
     let May : Accepted → Type 0 = λ x. IsBegun (length r.log) r.clock (map (stop_numbered x.message.number r.clock) (accepted_in r.log)) new in
     let After : Answer → Type 0 = λ x. accepted_in (r.log ++ entry_with write r.clock x ∷ []) ≡ map (stop_numbered a.message.number r.clock) (accepted_in r.log) ++ new ∷ [] in
     let replaces = replaces_one r.log r.clock id serial old (completed facts.stopped.message r.air r.clock) category period broadcasts dcs contents a ((IsSound-legal r legal).once) live.found (live_is_standing r.clock a.message live.live) in
-    record { there = found_is_there id old r.log a live.found; live = live.live; begun = subst May same facts.begun; after = subst After (sym told) replaces }
+    record { stops = record { there = found_is_there id old r.log a live.found; live = live.live }; begun = subst May same facts.begun; after = subst After (sym told) replaces }

@@ -1,31 +1,34 @@
 -- A book with one more entry: its record, its messages, and what its plan and budget hold of them.
 use Rattle.std.proofs.Common.{◌≡◌, ℕ, ◌+◌, ◌≤◌, ◌<◌, ◌==◌, Bool, true, false, cond, Option, None, Ok, List, [], ◌∷◌, ◌++◌, length, map, filter, sum_by, refl, ap, sym, subst, ◌∙◌, arith}
 use Rattle.std.specs.List.{All, Any, Contains}
+use Rattle.std.specs.Global.{Vec}
+use Rattle.std.specs.Vec.{vec_len, with_items}
 use Rattle.std.proofs.lemmas.Bool.{lt-leb, lt-ltb, le-leb, ne_eqb, cond-false}
-use Rattle.std.proofs.lemmas.List.{map-append, length-map, get_or-map}
+use Rattle.std.proofs.lemmas.List.{map-append, length-map, get_or-map, with_items_is}
 use Rattle.std.proofs.lemmas.List.Elements.{All-nil, All-cons, Contains-append_left, Contains-append_right, All-map, All-filter, All-weaker, All-contains}
 use Rattle.admission.specs.declared.budget.Held.{Held}
 use Rattle.admission.specs.declared.measure.TheConstants.{SCALE}
 use Rattle.admission.specs.Load.{load_of}
-use Rattle.admission.specs.Reservation.{is_before_end, natural_end, end_of_reservation}
-use Rattle.admission.specs.Table.{answer_for}
+use Rattle.admission.specs.Reservation.{is_before_end, natural_end, end_of_reservation, end_of_stopped}
+use Rattle.admission.specs.Table.{answer_for, ends_at}
 use Rattle.scheduler.specs.Message.{Message, stopped_if, stopped_at}
 use Rattle.scheduler.specs.Air.{Air}
 use Rattle.scheduler.specs.Follows.{Kept as Planned, messages_of, Follows}
 use Rattle.bsc_table.specs.declared.kept.Kept.{Kept}
+use Rattle.bsc_table.specs.declared.book.CellBook.TheInside.{Inside}
 use Rattle.bsc_table.specs.declared.entry.Answer.{Answer}
 use Rattle.bsc_table.specs.declared.entry.Entry.{Entry}
 use Rattle.bsc_table.specs.Record.{Record, Accepted, accepted_in, messages_in, is_live, reserved_at}
 use Rattle.bsc_table.specs.Answer.{answer_with_room, answer_of}
 use Rattle.bsc_table.specs.Legal.{IsLegal}
-use Rattle.bsc_table.specs.Book.{accepted_of, kept_stopped, stop_numbered, IsBegun, IsNext, with_entry, line_of, lines_at}
+use Rattle.bsc_table.specs.Book.{accepted_of, air_told, record_of, kept_stopped, stop_numbered, IsBegun, IsLiveIn, IsNext, IsBook, with_entry, line_of, lines_at}
 use Rattle.bsc_table.proofs.Named.{live_is_standing}
 use Rattle.bsc_table.proofs.Numbers.{numbers_below}
 use Rattle.bsc_table.proofs.Outcome.{entry_with, messages_stopped}
 use Rattle.bsc_table.proofs.Entered.{IsLegal-entry}
 use Rattle.bsc_table.proofs.Rooms.{same_room, live_is_counted, lines_at-new}
 use Rattle.bsc_table.proofs.Sound.{BeginsBy}
-use Rattle.bsc_table.proofs.Booked.{Contains-message}
+use Rattle.bsc_table.proofs.Booked.{Contains-message, lines_without}
 
 -- where the log has room, cause 08 doesn't apply
 pub answer-with_room : (r : Record) (e : Entry) → length r.log < 4096 → answer_of r.slots r.log r.air r.clock e.command ≡ answer_with_room r.slots r.log r.air r.clock e.command
@@ -165,3 +168,33 @@ begun_lines number slot before a may =
 
 pub stopped_begun : (number slot : ℕ) (all : List Accepted) → All (BeginsBy slot) all → All (BeginsBy slot) (map (stop_numbered number slot) all)
 stopped_begun number slot all begun = All-map (BeginsBy slot) (stop_numbered number slot) all begun
+
+-- a table in whose items a message was stopped in place
+pub table_stopped : (table : Vec Kept) (seen after : List Kept) (number slot : ℕ) → seen ≡ table.items → length seen ≡ vec_len table → after ≡ map (kept_stopped number slot) seen → map accepted_of (with_items table after).items ≡ map (stop_numbered number slot) (map accepted_of table.items)
+table_stopped table seen after number slot same long stopped =
+    let length_is : length after ≡ vec_len table = ap length stopped ∙ length-map seen (kept_stopped number slot) ∙ long in
+    let items = with_items_is table after length_is ∙ stopped ∙ ap (map (kept_stopped number slot)) same in
+    ap (map accepted_of) items ∙ kept_stop number slot table.items
+
+-- the lines that are left of a budget where a message was released
+pub released_lines : (r : Record) (a : Accepted) (before after : List Held) → IsLiveIn r a → before ≡ lines_at r.clock (messages_in r.log) → after ≡ filter (λ h. is_before_end r.clock h.until) (ends_at a.message.number (end_of_stopped a.message.start a.message.period r.clock) before) → after ≡ lines_at r.clock (stopped_at a.message.number r.clock (messages_in r.log))
+released_lines r a before after live held released =
+    let left : List Held → List Held = λ lines. filter (λ (h : Held). is_before_end r.clock h.until) (ends_at a.message.number (end_of_stopped a.message.start a.message.period r.clock) lines) in
+    released ∙ ap left held ∙ lines_without r.clock r.log a live.there live.live
+
+-- a book whose log has the entry that was to come next, and whose table, plan and budget are those of the messages with it
+pub book_with : (b : Inside) (e : Entry) (log : Vec Entry) (accepted : Vec Kept) (plan : Planned) (budget : List Held) → IsBook b → IsNext (record_of b) e → log.items ≡ b.log.items ++ e ∷ [] → map accepted_of accepted.items ≡ accepted_in (b.log.items ++ e ∷ []) → Follows plan (messages_in (b.log.items ++ e ∷ [])) (air_told b.air.items) → budget ≡ lines_at b.clock (messages_in (b.log.items ++ e ∷ [])) → IsBook (record b { log = log; accepted = accepted; plan = plan; budget = budget })
+book_with b e log accepted plan budget book next grown kept follows held =
+    let Legal : List Entry → Type 0 = λ l. IsLegal (record (record_of b) { log = l }) in
+    let KeptBy : List Entry → Type 0 = λ l. map accepted_of accepted.items ≡ accepted_in l in
+    let FollowsLog : List Entry → Type 0 = λ l. Follows plan (messages_in l) (air_told b.air.items) in
+    let HeldBy : List Entry → Type 0 = λ l. budget ≡ lines_at b.clock (messages_in l) in
+    record {
+      legal = subst Legal (sym grown) (IsLegal-with (record_of b) e book.legal next);
+      short = book.short;
+      kept = subst KeptBy (sym grown) kept;
+      follows = subst FollowsLog (sym grown) follows;
+      held = subst HeldBy (sym grown) held;
+      places = book.places;
+      room = book.room;
+    }

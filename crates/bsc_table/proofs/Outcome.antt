@@ -20,7 +20,7 @@ use Rattle.bsc_table.specs.declared.entry.Answer.{Answer}
 use Rattle.bsc_table.specs.declared.entry.Answer.TheVariants as answers
 use Rattle.bsc_table.specs.declared.entry.Entry.{Entry}
 use Rattle.bsc_table.specs.Orders.{IsBroadcastable, IsWellFormed}
-use Rattle.bsc_table.specs.Record.{Accepted, start_of, is_stop_by, is_stop_of, accepted_with, accepted_in, messages_in, is_high, is_of_pair, message_told, message_named, is_live, reserved_at}
+use Rattle.bsc_table.specs.Record.{Accepted, start_of, is_stop_by, is_stop_of, write_message, accepted_with, accepted_in, messages_in, is_high, is_of_pair, message_told, message_named, is_live, reserved_at}
 use Rattle.bsc_table.specs.Answer.{answer_beside, answer_to_new, answer_to_replacement, unless_accepted, of_live, answer_to_write, answer_to_kill, told_of, before_end, answer_with_room, answer_of}
 use Rattle.bsc_table.specs.Book.{stop_numbered, IsBegun}
 use Rattle.bsc_table.proofs.Appended.{accepted_after, accepted_in-push}
@@ -63,19 +63,8 @@ does_nothing log e never adds =
 
 -- the message that a write adds
 abbrev pub new_message : ℕ → ℕ → ℕ → ℕ → Category → ℕ → ℕ → List Content → Accepted
-new_message number slot id serial category period broadcasts contents = record {
-  id = id;
-  serial = serial;
-  message = record {
-    number = number;
-    start = slot;
-    pages = length contents;
-    period = period;
-    requested = broadcasts;
-    stop = None;
-    high = is_high category;
-  };
-}
+new_message number slot id serial category period broadcasts contents =
+    write_message number slot None id serial (length contents) period broadcasts (is_high category)
 
 -- a write in the place of none
 pub starts_one : (log : List Entry) (at slot id serial : ℕ) (category : Category) (period broadcasts : ℕ) (dcs : Dcs) (contents : List Content) → accepted_in (log ++ entry_with (commands.Write id serial None category period broadcasts dcs contents) at (answers.Started slot) ∷ []) ≡ accepted_in log ++ new_message (length log) slot id serial category period broadcasts contents ∷ []

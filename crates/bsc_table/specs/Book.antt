@@ -80,10 +80,14 @@ pub record IsNext (r : Record) (e : Entry) : Type 0 where
   pub formed : IsWellFormed e.command
   pub right : e.answer ≡ answer_with_room r.slots r.log r.air r.clock e.command
 
--- an entry stops a message and no other: it was accepted, and is live
+-- a message was accepted, and is live
+pub record IsLiveIn (r : Record) (a : Accepted) : Type 0 where
+  pub there : Contains (accepted_in r.log) a
+  pub live : is_live r.clock a.message ≡ true
+
+-- an entry stops a message and no other
 pub record IsStop (r : Record) (e : Entry) (old : Accepted) : Type 0 where
-  pub there : Contains (accepted_in r.log) old
-  pub live : is_live r.clock old.message ≡ true
+  pub stops : IsLiveIn r old
   pub after : accepted_in (r.log ++ e ∷ []) ≡ map (stop_numbered old.message.number r.clock) (accepted_in r.log)
 
 -- an entry starts a message
@@ -93,8 +97,7 @@ pub record IsStart (r : Record) (e : Entry) (new : Accepted) : Type 0 where
 
 -- an entry stops a message and starts one in its place
 pub record IsReplacement (r : Record) (e : Entry) (old new : Accepted) : Type 0 where
-  pub there : Contains (accepted_in r.log) old
-  pub live : is_live r.clock old.message ≡ true
+  pub stops : IsLiveIn r old
   pub begun : IsBegun (length r.log) r.clock (map (stop_numbered old.message.number r.clock) (accepted_in r.log)) new
   pub after : accepted_in (r.log ++ e ∷ []) ≡ map (stop_numbered old.message.number r.clock) (accepted_in r.log) ++ new ∷ []
 

@@ -59,22 +59,26 @@ slot_told (Some e) = Some e.slot
 abbrev pub stop_in : List Entry → ℕ → ℕ → Option ℕ
 stop_in later id serial = slot_told (find (is_stop_of id serial) later)
 
+-- a write's message: by its place in the log, the slots of its start and of its stop, its pair, and what is broadcast of it
+abbrev pub write_message : ℕ → ℕ → Option ℕ → ℕ → ℕ → ℕ → ℕ → ℕ → Bool → Accepted
+write_message place start stop id serial pages period broadcasts high = record {
+  id = id;
+  serial = serial;
+  message = record {
+    number = place;
+    start = start;
+    pages = pages;
+    period = period;
+    requested = broadcasts;
+    stop = stop;
+    high = high;
+  };
+}
+
 -- the message of a command that stands at this place of the log, with the entries after it: a write's that was accepted
 abbrev pub accepted_with : Option ℕ → ℕ → List Entry → Command → List Accepted
 accepted_with (Some start) place later (commands.Write id serial replaces category period broadcasts dcs contents) =
-    record {
-      id = id;
-      serial = serial;
-      message = record {
-        number = place;
-        start = start;
-        pages = length contents;
-        period = period;
-        requested = broadcasts;
-        stop = stop_in later id serial;
-        high = is_high category;
-      };
-    } ∷ []
+    write_message place start (stop_in later id serial) id serial (length contents) period broadcasts (is_high category) ∷ []
 accepted_with start place later command = []
 
 -- the accepted messages of entries of which the first stands at this place of the log, in order

@@ -9,10 +9,9 @@ use Rattle.scheduler.specs.Follows.{Follows, message_from}
 use Rattle.bsc_table.specs.declared.entry.Entry.{Entry}
 use Rattle.bsc_table.specs.declared.kept.Kept.{Kept}
 use Rattle.bsc_table.specs.Record.{Record, Accepted, accepted_in, messages_in}
-use Rattle.bsc_table.specs.Legal.{IsLegal}
 use Rattle.bsc_table.specs.Book.{accepted_of, record_of, lines_at, IsNext, IsStart}
 use Rattle.bsc_table.proofs.Sound.{IsSound-legal}
-use Rattle.bsc_table.proofs.Entering.{IsLegal-with, messages_with, kept_more, planned_below, held_below, item_message, begun_line, begun_room, begun_lines}
+use Rattle.bsc_table.proofs.Entering.{book_with, messages_with, kept_more, planned_below, held_below, item_message, begun_line, begun_room, begun_lines}
 use Rattle.bsc_table.proofs.book.CellBook.enter_new.Goals as goal
 
 pub add-requires-clause-rising : goal.add-requires-clause-rising
@@ -51,7 +50,7 @@ invariant_of-self-2 c =
     let adds = start.after in
     let sound = IsSound-legal r book.legal in
     -- the log and what is kept
-    let grown = sym (c.push_within-2.ensures.items ∙ ap (λ (l : List Entry). l ++ e ∷ []) c.reserve.ensures.items) in
+    let grown = c.push_within-2.ensures.items ∙ ap (λ (l : List Entry). l ++ e ∷ []) c.reserve.ensures.items in
     let kept = c.push_within.ensures.items ∙ ap (λ (l : List Kept). l ++ c.args.new ∷ []) c.reserve-2.ensures.items in
     let more = ap (map accepted_of) kept ∙ kept_more c.self.inside.accepted.items c.args.new (accepted_in r.log) book.kept ∙ sym adds in
     -- the plan
@@ -66,18 +65,6 @@ invariant_of-self-2 c =
     let Reserved : Result (Unit {0}) NoRoom → Type 0 = λ x. OnOk x (c.reserve-3.new.self ≡ c.self.inside.budget ++ line ∷ []) in
     let reserved : c.reserve-3.new.self ≡ c.self.inside.budget ++ line ∷ [] = subst Reserved asked c.reserve-3.ensures.reserved in
     let lines = reserved ∙ ap (λ (l : List Held). l ++ line ∷ []) book.held ∙ ap (λ (h : Held). lines_at r.clock before ++ h ∷ []) (begun_line c.args.new c.load.result c.natural_end.result load c.natural_end.ensures may.standing) ∙ sym (begun_lines (length r.log) r.clock (accepted_in r.log) new may) in
-    let Legal : List Entry → Type 0 = λ log. IsLegal (record r { log = log }) in
-    let KeptBy : List Entry → Type 0 = λ log. map accepted_of c.push_within.new.list.items ≡ accepted_in log in
-    let FollowsLog : List Entry → Type 0 = λ log. Follows c.add.new.self (messages_in log) r.air in
     let FollowsAll : List Message → Type 0 = λ all. Follows c.add.new.self all r.air in
-    let HeldBy : List Entry → Type 0 = λ log. c.reserve-3.new.self ≡ lines_at r.clock (messages_in log) in
     let HeldFor : List Message → Type 0 = λ all. c.reserve-3.new.self ≡ lines_at r.clock all in
-    record {
-      legal = subst Legal grown (IsLegal-with r e book.legal next);
-      short = book.short;
-      kept = subst KeptBy grown more;
-      follows = subst FollowsLog grown (subst FollowsAll (sym messages) follows);
-      held = subst HeldBy grown (subst HeldFor (sym messages) lines);
-      places = book.places;
-      room = book.room;
-    }
+    book_with c.self.inside e c.push_within-2.new.list c.push_within.new.list c.add.new.self c.reserve-3.new.self book next grown more (subst FollowsAll (sym messages) follows) (subst HeldFor (sym messages) lines)

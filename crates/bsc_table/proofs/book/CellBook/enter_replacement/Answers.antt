@@ -1,23 +1,20 @@
-use Rattle.std.proofs.Common.{◌≡◌, ◌<◌, ℕ, Result, List, [], ◌∷◌, ◌++◌, length, map, filter, subst, sym, ap, ◌∙◌, arith}
-use Rattle.std.specs.Vec.{vec_len, with_items}
+use Rattle.std.proofs.Common.{◌≡◌, ◌<◌, ℕ, Result, List, [], ◌∷◌, ◌++◌, length, map, subst, sym, ap, ◌∙◌, arith}
+use Rattle.std.specs.Vec.{with_items}
 use Rattle.std.specs.List.{All, Any}
 use Rattle.std.specs.Result.{OnOk}
-use Rattle.std.proofs.lemmas.List.{length-map, with_items_is}
 use Rattle.std.proofs.lemmas.List.Elements.{All-contains}
 use Rattle.admission.specs.declared.budget.Held.{Held}
 use Rattle.admission.specs.declared.budget.NoRoom.{NoRoom}
-use Rattle.admission.specs.Reservation.{is_before_end, end_of_stopped}
-use Rattle.admission.specs.Table.{answer_for, ends_at}
+use Rattle.admission.specs.Table.{answer_for}
 use Rattle.scheduler.specs.Message.{Message, stopped_at}
 use Rattle.scheduler.specs.Follows.{Follows, messages_of, message_from}
 use Rattle.bsc_table.specs.declared.entry.Entry.{Entry}
+use Rattle.bsc_table.specs.declared.kept.Kept.{Kept}
 use Rattle.bsc_table.specs.Record.{Record, Accepted, accepted_in, messages_in}
-use Rattle.bsc_table.specs.Legal.{IsLegal}
-use Rattle.bsc_table.specs.Book.{accepted_of, kept_stopped, stop_numbered, record_of, line_of, lines_at, IsNext, IsReplacement}
+use Rattle.bsc_table.specs.Book.{accepted_of, stop_numbered, record_of, line_of, lines_at, IsNext, IsReplacement}
 use Rattle.bsc_table.proofs.Outcome.{messages_stopped}
 use Rattle.bsc_table.proofs.Sound.{HasLoad, IsSound-legal}
-use Rattle.bsc_table.proofs.Booked.{lines_without}
-use Rattle.bsc_table.proofs.Entering.{IsLegal-with, messages_with, kept_stop, kept_more, planned_below, held_below_without, number_below, standing_in, standing_beside, held_in, item_message, begun_line, begun_room, begun_lines, stopped_beside, stopped_begun}
+use Rattle.bsc_table.proofs.Entering.{book_with, table_stopped, released_lines, messages_with, kept_more, planned_below, held_below_without, number_below, standing_in, standing_beside, held_in, item_message, begun_line, begun_room, begun_lines, stopped_beside, stopped_begun}
 use Rattle.bsc_table.proofs.book.CellBook.enter_replacement.Goals as goal
 
 pub add-requires-clause-rising : goal.add-requires-clause-rising
@@ -37,7 +34,7 @@ stop-requires-2-clause-standing c =
     let old : Accepted = accepted_of c.args.old.now in
     let Replaces : Record → Type 0 = λ x. IsReplacement x c.args.entry old (accepted_of c.args.new) in
     let change = subst Replaces (sym c.self.view_is) c.requires.replacement in
-    let found = standing_in c.self.inside.plan r.clock r.log r.air old c.self.invariant.follows change.there change.live in
+    let found = standing_in c.self.inside.plan r.clock r.log r.air old c.self.invariant.follows change.stops.there change.stops.live in
     standing_beside c.add.new.self r.clock r.log old (messages_of c.self.inside.plan) (message_from c.item.result) c.in_ok-add.ensures.told found
 
 pub release-requires-clause-period : goal.release-requires-clause-period
@@ -46,7 +43,7 @@ release-requires-clause-period c =
     let old : Accepted = accepted_of c.args.old.now in
     let Replaces : Record → Type 0 = λ x. IsReplacement x c.args.entry old (accepted_of c.args.new) in
     let change = subst Replaces (sym c.self.view_is) c.requires.replacement in
-    (All-contains HasLoad (accepted_in r.log) old ((IsSound-legal r c.self.invariant.legal).loaded) change.there).1
+    (All-contains HasLoad (accepted_in r.log) old ((IsSound-legal r c.self.invariant.legal).loaded) change.stops.there).1
 
 pub release-requires-clause-reserved : goal.release-requires-clause-reserved
 release-requires-clause-reserved c =
@@ -55,7 +52,7 @@ release-requires-clause-reserved c =
     let Replaces : Record → Type 0 = λ x. IsReplacement x c.args.entry old (accepted_of c.args.new) in
     let change = subst Replaces (sym c.self.view_is) c.requires.replacement in
     let Has : List Held → Type 0 = λ lines. Any (λ (h : Held). h.entry ≡ old.message.number) lines in
-    subst Has (sym c.self.invariant.held) (held_in r.clock r.log old change.there change.live)
+    subst Has (sym c.self.invariant.held) (held_in r.clock r.log old change.stops.there change.stops.live)
 
 pub reserve-requires-3 : goal.reserve-requires-3
 reserve-requires-3 c =
@@ -64,9 +61,7 @@ reserve-requires-3 c =
     let number : ℕ = old.message.number in
     let Replaces : Record → Type 0 = λ x. IsReplacement x c.args.entry old (accepted_of c.args.new) in
     let change = subst Replaces (sym c.self.view_is) c.requires.replacement in
-    let end : ℕ = end_of_stopped old.message.start old.message.period r.clock in
-    let counted = λ (h : Held). is_before_end r.clock h.until in
-    let lines = c.release.ensures ∙ ap (λ (l : List Held). filter counted (ends_at number end l)) c.self.invariant.held ∙ lines_without r.clock r.log old change.there change.live in
+    let lines = released_lines r old c.self.inside.budget c.release.new.budget change.stops c.self.invariant.held c.release.ensures in
     let Below : List Held → Type 0 = λ l. All (λ (h : Held). h.entry < length r.log) l in
     let below = subst Below (sym lines) (held_below_without r.clock number r.log) in
     λ k d h same. omega (arith, below k d h, change.begun.numbered, same)
@@ -91,46 +86,28 @@ invariant_of-self-2 c =
     let sound = IsSound-legal r book.legal in
     let same = messages_stopped number r.clock (accepted_in r.log) in
     -- the log and what is kept
-    let grown = sym (c.push_within-2.ensures.items ∙ ap (λ (l : List Entry). l ++ e ∷ []) c.reserve.ensures.items) in
-    let table : c.stop.new.table ≡ map (kept_stopped number r.clock) c.self.inside.accepted.items =
-    c.stop.ensures ∙ ap (map (kept_stopped number r.clock)) (c.as_mut_slice.ensures.value ∙ c.reserve-2.ensures.items) in
-    let long : length c.stop.new.table ≡ vec_len c.reserve-2.new.self =
-    ap length c.stop.ensures ∙ length-map c.as_mut_slice.result.now (kept_stopped number r.clock) ∙ c.as_mut_slice.ensures.len in
-    let written = with_items_is c.reserve-2.new.self c.stop.new.table long ∙ table in
-    let stopped = ap (map accepted_of) written ∙ kept_stop number r.clock c.self.inside.accepted.items ∙ ap (map (stop_numbered number r.clock)) book.kept in
-    let kept = ap (map accepted_of) c.push_within.ensures.items ∙ kept_more (with_items c.reserve-2.new.self c.stop.new.table).items c.args.new rest stopped ∙ sym change.after in
+    let grown = c.push_within-2.ensures.items ∙ ap (λ (l : List Entry). l ++ e ∷ []) c.reserve.ensures.items in
+    let room = c.reserve-2.new.self in
+    let stopped = table_stopped room c.as_mut_slice.result.now c.stop.new.table number r.clock c.as_mut_slice.ensures.value c.as_mut_slice.ensures.len c.stop.ensures ∙ ap (λ (l : List Kept). map (stop_numbered number r.clock) (map accepted_of l)) c.reserve-2.ensures.items ∙ ap (map (stop_numbered number r.clock)) book.kept in
+    let kept = ap (map accepted_of) c.push_within.ensures.items ∙ kept_more (with_items room c.stop.new.table).items c.args.new rest stopped ∙ sym change.after in
     -- the plan
     let told = item_message new.message (message_from c.item.result) c.item.ensures may.standing in
     let messages = messages_with r.log e rest new change.after ∙ ap (λ (l : List Message). l ++ new.message ∷ []) same in
     let FollowsOne : Message → Type 0 = λ m. Follows c.add.new.self (before ++ m ∷ []) r.air in
     let added = subst FollowsOne told (c.in_ok-add.ensures.follows before r.air book.follows) in
     let FollowsThese : List Message → Type 0 = λ all. Follows c.stop-2.new.self all r.air in
-    let below = number_below r.log old change.there in
+    let below = number_below r.log old change.stops.there in
     let apart = stopped_beside number r.clock before new.message (λ equal. omega (arith, below, may.numbered, equal)) in
     let follows = subst FollowsThese apart (c.stop-2.ensures.follows (before ++ new.message ∷ []) r.air added) in
     -- the budget
-    let end : ℕ = end_of_stopped old.message.start old.message.period r.clock in
-    let counted = λ (h : Held). is_before_end r.clock h.until in
-    let released = c.release.ensures ∙ ap (λ (l : List Held). filter counted (ends_at number end l)) book.held ∙ lines_without r.clock r.log old change.there change.live in
+    let released = released_lines r old c.self.inside.budget c.release.new.budget change.stops book.held c.release.ensures in
     let load = c.load.ensures in
-    let room = ap (λ (l : List Message). answer_for (lines_at r.clock l) c.load.result) (sym same) ∙ ap (λ (n : ℕ). answer_for (lines_at r.clock (map (λ (a : Accepted). a.message) rest)) n) load ∙ begun_room (length r.log) r.clock rest new (stopped_begun number r.clock (accepted_in r.log) sound.begun) may in
-    let asked = c.reserve-3.ensures.answer ∙ ap (λ (l : List Held). answer_for l c.load.result) released ∙ room in
+    let fits = ap (λ (l : List Message). answer_for (lines_at r.clock l) c.load.result) (sym same) ∙ ap (λ (n : ℕ). answer_for (lines_at r.clock (map (λ (a : Accepted). a.message) rest)) n) load ∙ begun_room (length r.log) r.clock rest new (stopped_begun number r.clock (accepted_in r.log) sound.begun) may in
+    let asked = c.reserve-3.ensures.answer ∙ ap (λ (l : List Held). answer_for l c.load.result) released ∙ fits in
     let line : Held = record { entry = c.args.new.number; load = c.load.result; until = c.natural_end.result } in
     let Reserved : Result (Unit {0}) NoRoom → Type 0 = λ x. OnOk x (c.reserve-3.new.self ≡ c.release.new.budget ++ line ∷ []) in
     let reserved : c.reserve-3.new.self ≡ c.release.new.budget ++ line ∷ [] = subst Reserved asked c.reserve-3.ensures.reserved in
     let begins = begun_lines (length r.log) r.clock rest new may in
     let lines = reserved ∙ ap (λ (l : List Held). l ++ line ∷ []) released ∙ ap (λ (h : Held). lines_at r.clock after ++ h ∷ []) (begun_line c.args.new c.load.result c.natural_end.result load c.natural_end.ensures may.standing) ∙ ap (λ (l : List Message). lines_at r.clock l ++ line_of new.message ∷ []) (sym same) ∙ sym begins ∙ ap (λ (l : List Message). lines_at r.clock (l ++ new.message ∷ [])) same in
-    let Legal : List Entry → Type 0 = λ log. IsLegal (record r { log = log }) in
-    let KeptBy : List Entry → Type 0 = λ log. map accepted_of c.push_within.new.list.items ≡ accepted_in log in
-    let FollowsLog : List Entry → Type 0 = λ log. Follows c.stop-2.new.self (messages_in log) r.air in
-    let HeldBy : List Entry → Type 0 = λ log. c.reserve-3.new.self ≡ lines_at r.clock (messages_in log) in
     let HeldFor : List Message → Type 0 = λ all. c.reserve-3.new.self ≡ lines_at r.clock all in
-    record {
-      legal = subst Legal grown (IsLegal-with r e book.legal next);
-      short = book.short;
-      kept = subst KeptBy grown kept;
-      follows = subst FollowsLog grown (subst FollowsThese (sym messages) follows);
-      held = subst HeldBy grown (subst HeldFor (sym messages) lines);
-      places = book.places;
-      room = book.room;
-    }
+    book_with c.self.inside e c.push_within-2.new.list c.push_within.new.list c.stop-2.new.self c.reserve-3.new.self book next grown kept (subst FollowsThese (sym messages) follows) (subst HeldFor (sym messages) lines)
