@@ -110,9 +110,9 @@ completed_is_at_most m air slot pages period =
     cut_at-below m.requested (div_ceil (stands_until m slot - m.start) m.period) j (had_begun m.start m.period j (stands_until m slot) period stood) fact.requested)
 
 pub completed_is_at_least : CompletedIsAtLeast
-completed_is_at_least messages air slot rising periods fit rule played = λ k d within.
+completed_is_at_least messages air slot admitted rule played = λ k d within.
     let m = get_or messages k d in
-    let period = periods k d within in
+    let period = admitted.periods k d within in
     let over = λ (j : ℕ) (h : j < least_completed m slot). below_cut_at m.requested ((stands_until m slot - m.start) / m.period) j h in
     let uncut = λ (j : ℕ) (h : j < least_completed m slot). upto_sooner (due m j) slot m.stop (was_over m.start m.period j (stands_until m slot) period (over j h).0) in
     let few : least_completed m slot ≤ slot + 1 = elim (cases_lt (slot + 1) (least_completed m slot)) [
@@ -120,7 +120,7 @@ completed_is_at_least messages air slot rising periods fit rule played = λ k d 
       | inr few ↦ few
     ] in
     count_below-at_least (is_whole m air slot) (least_completed m slot) (slot + 1) few (λ j h.
-    is_whole-from m air slot j (admitted_broadcasts_are_whole messages air slot rising periods fit rule k d within j (record {
+    is_whole-from m air slot j (admitted_broadcasts_are_whole messages air slot admitted rule k d within j (record {
       requested = (over j h).1;
       standing = (uncut j h).1;
       aired_by = omega (arith, (uncut j h).0);

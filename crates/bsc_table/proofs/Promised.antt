@@ -11,7 +11,7 @@ use Rattle.admission.specs.Load.{load_of}
 use Rattle.admission.specs.Reservation.{Reservation}
 use Rattle.scheduler.specs.Message.{Message}
 use Rattle.bsc_table.specs.declared.entry.Entry.{Entry}
-use Rattle.bsc_table.specs.Guarantee.{LoadsFit}
+use Rattle.bsc_table.specs.Guarantee.{LoadsFit, AreAdmitted}
 use Rattle.bsc_table.specs.Record.{Record, Accepted, accepted_in, messages_in, is_live, reserved_at}
 use Rattle.bsc_table.specs.Legal.{IsLegal}
 use Rattle.bsc_table.specs.Book.{stop_numbered, IsBegun}
@@ -114,16 +114,22 @@ numbers_of_messages_rise log = λ i j d before within.
     let second = ap (λ (m : Message). m.number) (get_or-map message all j default d (omega arith)) in
     omega (arith, first, second, numbers_rise log i j default before (omega arith))
 
+-- so they are admitted
+admitted_of : (r : Record) → IsLegal r → AreAdmitted (messages_in r.log)
+admitted_of r legal = record {
+  rising = numbers_of_messages_rise r.log;
+  periods = have_periods (accepted_in r.log) (IsSound-legal r legal).loaded;
+  fit = legal_loads_fit r legal;
+}
+
 pub legal_histories_are_served : LegalHistoriesAreServed
 legal_histories_are_served r legal =
-    let periods = have_periods (accepted_in r.log) (IsSound-legal r legal).loaded in
-    admitted_load_is_a_guarantee (messages_in r.log) r.air (numbers_of_messages_rise r.log) periods (legal_loads_fit r legal) legal.aired
+    admitted_load_is_a_guarantee (messages_in r.log) r.air (admitted_of r legal) legal.aired
 
 pub legal_histories_are_bounded : LegalHistoriesAreBounded
 legal_histories_are_bounded r legal = λ k d within. λ slot by.
     let messages = messages_in r.log in
-    let loaded = (IsSound-legal r legal).loaded in
-    let pages = have_pages (accepted_in r.log) loaded in
-    let periods = have_periods (accepted_in r.log) loaded in
-    let least = completed_is_at_least messages r.air slot (numbers_of_messages_rise r.log) periods (legal_loads_fit r legal) legal.aired (omega (arith, legal.played)) in
-    (least k d within, completed_is_at_most (get_or messages k d) r.air slot (pages k d within) (periods k d within))
+    let admitted = admitted_of r legal in
+    let pages = have_pages (accepted_in r.log) (IsSound-legal r legal).loaded in
+    let least = completed_is_at_least messages r.air slot admitted legal.aired (omega (arith, legal.played)) in
+    (least k d within, completed_is_at_most (get_or messages k d) r.air slot (pages k d within) (admitted.periods k d within))

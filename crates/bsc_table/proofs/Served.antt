@@ -82,27 +82,27 @@ no_lack messages air k d j from within served fit early uncut busy lacks =
     omega arith
 
 pub admitted_load_is_a_guarantee : AdmittedLoadIsAGuarantee
-admitted_load_is_a_guarantee messages air rising periods fit rule = λ k d within. λ j uncut.
+admitted_load_is_a_guarantee messages air admitted rule = λ k d within. λ j uncut.
     let m = get_or messages k d in
-    let most = pages_aired-at_most messages air m j (due m j) rising (Contains-get_or messages k d within) rule uncut.aired_by (omega arith) in
+    let most = pages_aired-at_most messages air m j (due m j) admitted.rising (Contains-get_or messages k d within) rule uncut.aired_by (omega arith) in
     elim (cases_lt (pages_aired m.number air (release m j) (due m j)) m.pages) [
       | inr enough ↦ omega arith
       | inl lacks ↦
           let busy = lack_means_a_busy_period messages air rule k d within j uncut lacks in
           let served : All (λ o. IsServed messages air o) messages = λ i e h. record {
-            rising = rising;
+            rising = admitted.rising;
             rule = rule;
             here = Contains-get_or messages i e h;
-            period = periods i e h;
+            period = admitted.periods i e h;
           } in
-          absurd (no_lack messages air k d j busy.0 within served fit busy.1 uncut busy.2 lacks)
+          absurd (no_lack messages air k d j busy.0 within served admitted.fit busy.1 uncut busy.2 lacks)
     ]
 
 pub admitted_broadcasts_are_whole : AdmittedBroadcastsAreWhole
-admitted_broadcasts_are_whole messages air slot rising periods fit rule = λ k d within. λ j uncut by.
+admitted_broadcasts_are_whole messages air slot admitted rule = λ k d within. λ j uncut by.
     let m = get_or messages k d in
-    let all = admitted_load_is_a_guarantee messages air rising periods fit rule k d within j uncut in
-    let ahead : release m j < due m j = omega (arith, periods k d within) in
+    let all = admitted_load_is_a_guarantee messages air admitted rule k d within j uncut in
+    let ahead : release m j < due m j = omega (arith, admitted.periods k d within) in
     let at : min (due m j) slot ≡ due m j = omega arith in
     let P : ℕ → Type 0 = λ n. m.pages ≤ pages_aired m.number air (release m j) n in
     record {

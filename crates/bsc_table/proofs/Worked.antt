@@ -80,7 +80,7 @@ by_the_rules_fit = fit_together by_the_rules (omega (arith, by_the_rules_sum))
 -- so A's broadcast, due at slot 4, is aired whole
 a_is_whole : pages_aired 0 (air_of by_the_rules 4) 0 4 ≡ 2
 a_is_whole =
-    admitted_load_is_a_guarantee by_the_rules (air_of by_the_rules 4) by_the_rules_rise by_the_rules_have_periods by_the_rules_fit (IsAirOf-air_of by_the_rules 4 by_the_rules_have_periods) 0 a (omega arith) 0 (record { requested = inl refl; standing = tt; aired_by = omega arith })
+    admitted_load_is_a_guarantee by_the_rules (air_of by_the_rules 4) (record { rising = by_the_rules_rise; periods = by_the_rules_have_periods; fit = by_the_rules_fit }) (IsAirOf-air_of by_the_rules 4 by_the_rules_have_periods) 0 a (omega arith) 0 (record { requested = inl refl; standing = tt; aired_by = omega arith })
 
 by_the_rules_demand : demand by_the_rules 0 4 ≡ 3
 by_the_rules_demand = refl
@@ -185,7 +185,7 @@ three_have_periods =
 -- so R's one broadcast is aired by slot 6
 r_is_whole : pages_aired 0 (air_of three 6) 0 6 ≡ 1
 r_is_whole =
-    admitted_load_is_a_guarantee three (air_of three 6) three_rise three_have_periods three_fit (IsAirOf-air_of three 6 three_have_periods) 0 r (omega arith) 0 (record { requested = inl refl; standing = tt; aired_by = omega arith })
+    admitted_load_is_a_guarantee three (air_of three 6) (record { rising = three_rise; periods = three_have_periods; fit = three_fit }) (IsAirOf-air_of three 6 three_have_periods) 0 r (omega arith) 0 (record { requested = inl refl; standing = tt; aired_by = omega arith })
 
 -- Q is replaced at slot 3, on the boundary of its period, by one with the same load
 abbrev replaced : List Message
@@ -224,7 +224,7 @@ replaced_have_periods =
 -- so the new one's first broadcast is whole by slot 6
 replacement_is_whole : pages_aired 3 (air_of replaced 6) 3 6 ≡ 1
 replacement_is_whole =
-    admitted_load_is_a_guarantee replaced (air_of replaced 6) replaced_rise replaced_have_periods replaced_fit (IsAirOf-air_of replaced 6 replaced_have_periods) 3 r (omega arith) 0 (record { requested = inl refl; standing = tt; aired_by = omega arith })
+    admitted_load_is_a_guarantee replaced (air_of replaced 6) (record { rising = replaced_rise; periods = replaced_have_periods; fit = replaced_fit }) (IsAirOf-air_of replaced 6 replaced_have_periods) 3 r (omega arith) 0 (record { requested = inl refl; standing = tt; aired_by = omega arith })
 
 -- replaced at slot 4, within its period, it would leave no room for the new one
 replaced_late_over : loads_at (map reservation_of (r ∷ message 1 0 1 3 (Some 4) false ∷ p ∷ message 3 4 1 3 None false ∷ [])) 4 ≡ 310390080

@@ -1,10 +1,10 @@
 -- How many broadcasts of a message are whole before a slot, at least and at most, by the message alone (own).
-use Rattle.std.specs.Prelude.{ℕ, ◌+◌, ◌-◌, ◌/◌, ◌<◌, ◌≤◌, ◌==◌, min, if◌then◌else◌, Option, Some, None, List, length, All, AllPairs}
+use Rattle.std.specs.Prelude.{ℕ, ◌+◌, ◌-◌, ◌/◌, ◌<◌, ◌≤◌, ◌==◌, min, if◌then◌else◌, Option, Some, None, List, length, All}
 use Rattle.std.specs.Int.{div_ceil}
 use Rattle.scheduler.specs.Message.{Message}
 use Rattle.scheduler.specs.Air.{Air, IsAirOf}
 use Rattle.scheduler.specs.Completed.{completed}
-use Rattle.bsc_table.specs.Guarantee.{LoadsFit}
+use Rattle.bsc_table.specs.Guarantee.{AreAdmitted}
 
 -- the slot, or the stop where that comes sooner
 abbrev pub sooner_of : Option ℕ → ℕ → ℕ
@@ -37,9 +37,7 @@ CompletedIsAtMost = (m : Message) (air : Air) (slot : ℕ)
 -- where the reserved loads fit at each slot, and the air list is by the rule, all that were over are whole
 abbrev pub CompletedIsAtLeast : Type 0
 CompletedIsAtLeast = (messages : List Message) (air : Air) (slot : ℕ)
-    → AllPairs (λ a b. a.number < b.number) messages
-    → All (λ m. 0 < m.period) messages
-    → LoadsFit messages
+    → AreAdmitted messages
     → IsAirOf messages air
     → slot ≤ length air
     → All (λ m. least_completed m slot ≤ completed m air slot) messages

@@ -22,6 +22,12 @@ reservation_of m = record {
 abbrev pub LoadsFit : List Message → Type 0
 LoadsFit messages = (slot : ℕ) → loads_at (map reservation_of messages) slot ≤ SCALE
 
+-- messages as a cell admits them: each later one has a greater number, each has a period, and their loads fit
+pub record AreAdmitted (messages : List Message) : Type 0 where
+  pub rising : AllPairs (λ a b. a.number < b.number) messages
+  pub periods : All (λ m. 0 < m.period) messages
+  pub fit : LoadsFit messages
+
 -- the slot comes no later than the stop, or there is none
 abbrev pub IsUpToStop : ℕ → Option ℕ → Type 0
 IsUpToStop slot None = ⊤
@@ -80,17 +86,13 @@ LackMeansABusyPeriod = (messages : List Message) (air : Air)
 -- between its release and its due slot
 abbrev pub AdmittedLoadIsAGuarantee : Type 0
 AdmittedLoadIsAGuarantee = (messages : List Message) (air : Air)
-    → AllPairs (λ a b. a.number < b.number) messages
-    → All (λ m. 0 < m.period) messages
-    → LoadsFit messages
+    → AreAdmitted messages
     → IsAirOf messages air
     → All (λ m. (j : ℕ) → IsUncut m j air → pages_aired m.number air (release m j) (due m j) ≡ m.pages) messages
 
 -- in other words, each uncut broadcast is whole before each slot from its due slot on
 abbrev pub AdmittedBroadcastsAreWhole : Type 0
 AdmittedBroadcastsAreWhole = (messages : List Message) (air : Air) (slot : ℕ)
-    → AllPairs (λ a b. a.number < b.number) messages
-    → All (λ m. 0 < m.period) messages
-    → LoadsFit messages
+    → AreAdmitted messages
     → IsAirOf messages air
     → All (λ m. (j : ℕ) → IsUncut m j air → due m j ≤ slot → IsWhole m j air slot) messages
