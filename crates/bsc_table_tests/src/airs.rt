@@ -1,7 +1,7 @@
 //! What runs answer and air.
 
 use crate::orders::*;
-use bsc_table::{Aired, Answer, Category, SlotRange, State};
+use bsc_table::{Aired, Answer, SlotRange, State};
 use std::test::Fail;
 
 /// A page of the message of an entry.
@@ -167,16 +167,12 @@ fn requested_broadcasts_run_out(rt: HostRuntime) -> Result<(), Fail> {
 fn high_comes_before_normal(rt: HostRuntime) -> Result<(), Fail> {
     let alloc = rt.alloc();
     let mut book = open(alloc, 2)?;
-    let high = Wish {
-        category: Category::High,
-        ..standing(2, 2)
-    };
     assert_eq!(rt;
         write_one(alloc, &mut book, standing(1, 2))?,
         Answer::Started { slot: 0 }
     );
     assert_eq!(rt;
-        write_one(alloc, &mut book, high)?,
+        write_one(alloc, &mut book, standing_high(2, 2))?,
         Answer::Started { slot: 0 }
     );
     book.play(2);
@@ -188,22 +184,18 @@ fn high_comes_before_normal(rt: HostRuntime) -> Result<(), Fail> {
 fn a_load_that_is_not_free_yet_guards_the_others(rt: HostRuntime) -> Result<(), Fail> {
     let alloc = rt.alloc();
     let mut book = open(alloc, 4)?;
-    let high = Wish {
-        category: Category::High,
-        ..standing(2, 2)
-    };
     assert_eq!(rt;
         write_two(alloc, &mut book, standing(1, 4))?,
         Answer::Started { slot: 0 }
     );
     assert_eq!(rt;
-        write_one(alloc, &mut book, high)?,
+        write_one(alloc, &mut book, standing_high(2, 2))?,
         Answer::Started { slot: 0 }
     );
     book.play(1);
     assert_eq!(rt; kill(&mut book, 2), Answer::Stopped { completed: 1 });
     assert_eq!(rt;
-        write_one(alloc, &mut book, Wish { serial: 3, ..high })?,
+        write_one(alloc, &mut book, standing_high(3, 2))?,
         Answer::Cause(0x06)
     );
     book.play(3);

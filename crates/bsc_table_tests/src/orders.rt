@@ -38,6 +38,16 @@ pub fn standing(serial: u16, period: u16) -> Wish
     }
 }
 
+/// One of high category.
+pub fn standing_high(serial: u16, period: u16) -> Wish
+    ensures { result.period ≡ period }
+{
+    Wish {
+        category: Category::High,
+        ..standing(serial, period)
+    }
+}
+
 /// A write with these pages.
 fn write(alloc: Global, wish: Wish, pages: &[Content]) -> Result<Command, Fail>
     requires pages { 1 ≤ length pages.now }
