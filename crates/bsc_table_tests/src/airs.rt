@@ -33,6 +33,7 @@ fn the_message_that_is_due_first_is_aired_first(rt: HostRuntime) -> Result<(), F
     Ok(())
 }
 
+// Longer than others, since it follows one run from its beginning to its end.
 #[test]
 fn a_load_stays_until_the_period_of_the_stop_is_over(rt: HostRuntime) -> Result<(), Fail> {
     let alloc = rt.alloc();
@@ -111,6 +112,7 @@ fn a_stop_on_the_boundary_frees_the_load_at_once(rt: HostRuntime) -> Result<(), 
     Ok(())
 }
 
+// Longer than others, since it follows one run from its beginning to its end.
 #[test]
 fn requested_broadcasts_run_out(rt: HostRuntime) -> Result<(), Fail> {
     let alloc = rt.alloc();
