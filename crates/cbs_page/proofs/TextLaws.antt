@@ -5,7 +5,7 @@ use Rattle.std.specs.Char.{IsScalar}
 use Rattle.std.specs.Option.{option_map_or, option_to_list}
 use Rattle.std.specs.List.{concat, flat_map, position_from, AllByRecursion}
 use Rattle.std.proofs.lemmas.Bool.{ltb-false, lt-ltb}
-use Rattle.std.proofs.lemmas.List.Elements.{All-from_recursion, recursion_from_All}
+use Rattle.std.proofs.lemmas.List.Elements.{All-from_recursion}
 use Rattle.std.proofs.lemmas.List.Concat.{length-flat_map}
 use Rattle.gsm_alphabet.specs.declared.Code.{Code}
 use Rattle.gsm_alphabet.specs.declared.Code.TheVariants.{One, Ext}
@@ -19,8 +19,8 @@ use Rattle.ucs2_text.proofs.Ucs2Laws.{units_come_back, map-character_of_unit}
 use Rattle.cbs_page.specs.declared.coding.Alphabet.{Alphabet}
 use Rattle.cbs_page.specs.declared.coding.Alphabet.TheVariants.{Gsm, Ucs2}
 use Rattle.cbs_page.specs.declared.content.Content.{Content}
-use Rattle.cbs_page.specs.Text.{capacity, codes_of, cost_of, is_bad, without_trailing, text_of_content, IsContentOf, AreContentsOf}
-use Rattle.cbs_page.proofs.TrailingLaws.{without_trailing-none, without_trailing-fill}
+use Rattle.cbs_page.specs.Text.{capacity, codes_of, cost_of, is_bad, without_trailing, is_filling, text_of_content, IsContentOf, AreContentsOf}
+use Rattle.cbs_page.proofs.TrailingLaws.{without_trailing-fill}
 
 -- a character costs at most two codes
 pub cost-small : (alphabet : Alphabet) (c : ℕ) → cost_of alphabet c ≤ 2
@@ -51,10 +51,8 @@ gsm_shows piece octets known no_return within packed =
     let septets = flat_map septets_of piece in
     let read : unpacked octets ≡ septets ++ replicate (93 - length septets) 13 =
     unpacking_gives_back septets octets (flat_map-small piece) within packed in
-    ap (λ xs. text_of_septets (without_trailing 13 xs)) read
-    ∙ ap text_of_septets
-    (without_trailing-fill 13 septets (93 - length septets)
-    ∙ without_trailing-none 13 septets (recursion_from_All (λ x. x ≢ 13) septets (flat_map-no_return piece no_return)))
+    ap (λ xs. text_of_septets (without_trailing is_filling xs)) read
+    ∙ ap text_of_septets (without_trailing-fill septets (93 - length septets) (flat_map-no_return piece no_return))
     ∙ text_comes_back piece known
 
 units_are : (piece : List ℕ) → AllByRecursion (λ c. c < 65536) piece → flat_map (λ c. option_to_list (unit_of_character c)) piece ≡ piece
@@ -68,8 +66,8 @@ ucs2_shows : (piece octets : List ℕ) → All IsScalar piece → AllByRecursion
 ucs2_shows piece octets known fit no_return is =
     let read : units_of_octets octets ≡ piece ++ replicate (41 - length piece) 13 =
     ap units_of_octets (is ∙ ap octets_of_units (units_are piece fit)) ∙ units_come_back piece in
-    ap (λ xs. map character_of_unit (without_trailing 13 xs)) read
-    ∙ ap (map character_of_unit) (without_trailing-fill 13 piece (41 - length piece) ∙ without_trailing-none 13 piece no_return)
+    ap (λ xs. map character_of_unit (without_trailing is_filling xs)) read
+    ∙ ap (map character_of_unit) (without_trailing-fill piece (41 - length piece) (All-from_recursion (λ c. c ≢ 13) piece no_return))
     ∙ map-character_of_unit piece known
 
 pub by_parts : (P Q : ℕ → Type 0) → ((c : ℕ) → P c → Q c) → (xs : List ℕ) → AllByRecursion P xs → AllByRecursion Q xs

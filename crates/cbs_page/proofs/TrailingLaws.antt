@@ -1,66 +1,30 @@
--- A list without the last of its elements that are one and the same: how it grows at its end.
-use Rattle.std.proofs.Common.{◌≡◌, ◌≢◌, ℕ, ◌+◌, Bool, true, false, List, [], ◌∷◌, ◌++◌, refl, sym, ◌∙◌, ap, replicate, suc, zero, append-nil, append_assoc, take, length, get_or, ◌<◌}
-use Rattle.std.specs.Prelude.{◌&&◌, ◌==◌}
-use Rattle.std.specs.List.{list_all, AllByRecursion}
+-- A list without the elements at its end that pass a test.
+use Rattle.std.proofs.Common.{◌≡◌, ◌≢◌, ℕ, ◌-◌, ◌<◌, ◌≤◌, Bool, true, false, All, List, ◌++◌, length, take, get_or, replicate, refl, ◌∙◌, arith, length-append}
+use Rattle.std.specs.List.{suffix_len}
 use Rattle.std.proofs.lemmas.Bool.{eq-eqb, ne_eqb}
-use Rattle.std.proofs.lemmas.List.Folds.{list_all-append}
-use Rattle.std.proofs.lemmas.List.{take_more}
-use Rattle.cbs_page.specs.Text.{without_trailing}
+use Rattle.std.proofs.lemmas.List.{get_or_append_left, get_or-append_right, get_or-replicate, length-replicate, take-append-le, take_all}
+use Rattle.std.proofs.lemmas.List.Sums.{suffix_len_is}
+use Rattle.cbs_page.specs.Text.{without_trailing, is_filling}
 
--- each element is `last`
-all_are : ℕ → List ℕ → Bool
-all_are last xs = list_all (λ y. y == last) xs
+-- what is left is the front of n elements: each from n on passes, and the one before n does not
+pub without_trailing-is : {X : Type 0} (test : X → Bool) (xs : List X) (n : ℕ) (d : X) → n ≤ length xs →
+    ((k : ℕ) → n ≤ k → k < length xs → test (get_or xs k d) ≡ true) → (0 < n → test (get_or xs (n - 1) d) ≡ false) →
+    without_trailing test xs ≡ take n xs
+without_trailing-is test xs n d within passes stops =
+    let left : length xs - suffix_len test xs ≡ n = omega (arith, suffix_len_is test xs n d within passes stops) in
+    rw left refl
 
-and-false : (b : Bool) → (b && false) ≡ false
-and-false true = refl
-and-false false = refl
-
-and-true : (b : Bool) → (b && true) ≡ b
-and-true true = refl
-and-true false = refl
-
-all_are-push_other : (last : ℕ) (xs : List ℕ) (x : ℕ) → x ≢ last → list_all (λ y. y == last) (xs ++ x ∷ []) ≡ false
-all_are-push_other last xs x other =
-    list_all-append (λ y. y == last) xs (x ∷ [])
-    ∙ ap (λ b. list_all (λ y. y == last) xs && b) (rw (ne_eqb x last other) refl)
-    ∙ and-false (list_all (λ y. y == last) xs)
-
-all_are-push : (last : ℕ) (xs : List ℕ) → list_all (λ y. y == last) (xs ++ last ∷ []) ≡ list_all (λ y. y == last) xs
-all_are-push last xs =
-    list_all-append (λ y. y == last) xs (last ∷ [])
-    ∙ ap (λ b. list_all (λ y. y == last) xs && b) (rw (eq-eqb last last refl) refl)
-    ∙ and-true (list_all (λ y. y == last) xs)
-
-pub without_trailing-push_other : (last : ℕ) (xs : List ℕ) (x : ℕ) → x ≢ last →
-    without_trailing last (xs ++ x ∷ []) ≡ xs ++ x ∷ []
-without_trailing-push_other last [] x other = rw (ne_eqb x last other) refl
-without_trailing-push_other last (y ∷ xs) x other =
-    rw (all_are-push_other last (y ∷ xs) x other) (ap (λ zs. y ∷ zs) (without_trailing-push_other last xs x other))
-
-pub without_trailing-push : (last : ℕ) (xs : List ℕ) → without_trailing last (xs ++ last ∷ []) ≡ without_trailing last xs
-without_trailing-push last [] = rw (eq-eqb last last refl) refl
-without_trailing-push last (y ∷ xs) = rw (all_are-push last (y ∷ xs), without_trailing-push last xs) refl
-
--- a step of a search for the last element that is another
-pub without_trailing-take_same : (last : ℕ) (xs : List ℕ) (i used : ℕ) → i < length xs → get_or xs i 0 ≡ last →
-    without_trailing last (take i xs) ≡ take used xs → without_trailing last (take (i + 1) xs) ≡ take used xs
-without_trailing-take_same last xs i used lt same here =
-    ap (without_trailing last) (take_more xs i 0 lt ∙ ap (λ x. take i xs ++ x ∷ []) same) ∙ without_trailing-push last (take i xs) ∙ here
-
-pub without_trailing-take_other : (last : ℕ) (xs : List ℕ) (i : ℕ) → i < length xs → get_or xs i 0 ≢ last →
-    without_trailing last (take (i + 1) xs) ≡ take (i + 1) xs
-without_trailing-take_other last xs i lt other =
-    rw (take_more xs i 0 lt) (without_trailing-push_other last (take i xs) (get_or xs i 0) other)
-
--- a list that has no such element stays as it is
-pub without_trailing-none : (last : ℕ) (xs : List ℕ) → AllByRecursion (λ x. x ≢ last) xs → without_trailing last xs ≡ xs
-without_trailing-none last [] others = refl
-without_trailing-none last (x ∷ xs) others =
-    rw (ne_eqb x last others.0) (ap (λ ys. x ∷ ys) (without_trailing-none last xs others.1))
-
--- what fills a list up at its end goes
-pub without_trailing-fill : (last : ℕ) (xs : List ℕ) (n : ℕ) → without_trailing last (xs ++ replicate n last) ≡ without_trailing last xs
-without_trailing-fill last xs zero = ap (without_trailing last) (append-nil xs)
-without_trailing-fill last xs (suc n) =
-    ap (without_trailing last) (sym (append_assoc xs (last ∷ []) (replicate n last)))
-    ∙ without_trailing-fill last (xs ++ last ∷ []) n ∙ without_trailing-push last xs
+-- what fills a page goes, and no more
+pub without_trailing-fill : (xs : List ℕ) (n : ℕ) → All (λ x. x ≢ 13) xs → without_trailing is_filling (xs ++ replicate n 13) ≡ xs
+without_trailing-fill xs n others =
+    without_trailing-is is_filling (xs ++ replicate n 13) (length xs) 0 (omega (arith, length-append xs (replicate n 13)))
+    (λ k past within.
+    let at : get_or (xs ++ replicate n 13) k 0 ≡ 13 =
+    get_or-append_right xs (replicate n 13) (length xs) k 0 refl past
+    ∙ get_or-replicate n (k - length xs) 13 0 (omega (arith, length-append xs (replicate n 13), length-replicate {A = ℕ} n 13)) in
+    eq-eqb (get_or (xs ++ replicate n 13) k 0) 13 at)
+    (λ some.
+    let at : get_or (xs ++ replicate n 13) (length xs - 1) 0 ≡ get_or xs (length xs - 1) 0 =
+    get_or_append_left xs (replicate n 13) 0 (length xs - 1) (omega arith) in
+    rw at (ne_eqb (get_or xs (length xs - 1) 0) 13 (others (length xs - 1) 0 (omega arith))))
+    ∙ take-append-le (length xs) xs (replicate n 13) (omega arith) ∙ take_all (length xs) xs (omega arith)

@@ -6,7 +6,7 @@ use Rattle.cbs_page.specs.Coding.{language_value, alphabet_of}
 use Rattle.cbs_page.specs.Page.{octets_of_page, place_of}
 use Rattle.cbs_page.specs.Paging.{IsPaging, AreFilled}
 use Rattle.cbs_page.specs.Serial.{serial_number}
-use Rattle.cbs_page.specs.Text.{without_trailing}
+use Rattle.cbs_page.specs.Text.{without_trailing, is_filling}
 
 -- all bits, and message code 1 alone
 serials : (serial_number 3 1023 15 ≡ 0xFFFF) × (serial_number 0 1 0 ≡ 0x0010) × (serial_number 1 2 3 ≡ 0x4023)
@@ -32,7 +32,7 @@ places : (place_of 0x23 ≡ (2, 3)) × (place_of 0x07 ≡ (1, 1)) × (place_of 0
 places = (refl, refl, refl, refl)
 
 -- carriage returns are dropped at the end alone
-trailing : without_trailing 13 (0x41 ∷ 13 ∷ 0x42 ∷ 13 ∷ 13 ∷ []) ≡ 0x41 ∷ 13 ∷ 0x42 ∷ []
+trailing : without_trailing is_filling (0x41 ∷ 13 ∷ 0x42 ∷ 13 ∷ 13 ∷ []) ≡ 0x41 ∷ 13 ∷ 0x42 ∷ []
 trailing = refl
 
 -- characters that cost 1, 2 and 1 on pages that hold 2: a page each, for none could take the next

@@ -1,8 +1,8 @@
 -- What the pages of a text hold, and what text a page shows. 3GPP TS 23.038, clauses 6.1.2.2, 6.2.1 and 6.2.3, and
 -- 3GPP TS 23.041, clause 9.4.1.2.5. Which alphabet a text gets, and that CR ends no text, are this project's own.
-use Rattle.std.specs.Prelude.{◌≡◌, ℕ, ◌+◌, ◌*◌, ◌/◌, ◌<◌, ◌≤◌, ◌==◌, ◌&&◌, ◌||◌, not, nat_lt, Bool, if◌then◌else◌, Option, Some, None, IsSome, is_some, List, [], ◌∷◌, length, map, position}
+use Rattle.std.specs.Prelude.{◌≡◌, ℕ, ◌+◌, ◌-◌, ◌*◌, ◌/◌, ◌<◌, ◌≤◌, ◌==◌, ◌&&◌, ◌||◌, not, nat_lt, Bool, if◌then◌else◌, Option, Some, None, IsSome, is_some, List, [], ◌∷◌, length, map, position, take}
 use Rattle.std.specs.Option.{option_to_list}
-use Rattle.std.specs.List.{list_all, flat_map}
+use Rattle.std.specs.List.{list_all, flat_map, suffix_len}
 use Rattle.gsm_alphabet.specs.Alphabet.{code_of, septets_of, text_of_septets}
 use Rattle.septets.specs.Packing.{IsPacked, unpacked}
 use Rattle.ucs2_text.specs.Ucs2.{unit_of_character, octets_of_units, units_of_octets, character_of_unit}
@@ -74,15 +74,18 @@ HoldText alphabet text contents =
     (pieces : List (List ℕ)) × IsPagingIn alphabet text pieces
     × AreContentsOf alphabet (map (flat_map (codes_of alphabet)) pieces) contents
 
--- a list up to its last element that is another
-abbrev pub without_trailing : ℕ → List ℕ → List ℕ
-without_trailing last [] = []
-without_trailing last (x ∷ xs) = if list_all (λ y. y == last) (x ∷ xs) then [] else x ∷ without_trailing last xs
+-- a list without the elements at its end that pass a test
+abbrev pub without_trailing : {X : Type 0} → (X → Bool) → List X → List X
+without_trailing test xs = take (length xs - suffix_len test xs) xs
+
+-- CR, which fills a page: the same number as a septet and as a unit
+abbrev pub is_filling : ℕ → Bool
+is_filling code = code == 13
 
 -- the characters that a content shows: its codes without the CR at their end, decoded
 abbrev pub text_of_content : Alphabet → List ℕ → List ℕ
-text_of_content Gsm octets = text_of_septets (without_trailing 13 (unpacked octets))
-text_of_content Ucs2 octets = map character_of_unit (without_trailing 13 (units_of_octets octets))
+text_of_content Gsm octets = text_of_septets (without_trailing is_filling (unpacked octets))
+text_of_content Ucs2 octets = map character_of_unit (without_trailing is_filling (units_of_octets octets))
 
 -- the text of a page; one whose alphabet isn't known has none
 abbrev pub text_in : Option Alphabet → List ℕ → List ℕ

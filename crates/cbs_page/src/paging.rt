@@ -52,7 +52,7 @@ pub enum TextFault {
 }
 
 /// The pages of a text in a language. The text is GSM 7-bit where that alphabet has each of its characters, with the language's
-/// data coding value, and UCS-2 otherwise.
+/// data coding value, and UCS-2 otherwise. The error is the first of `TextFault` that applies, with want of memory last.
 pub fn paginate(alloc: Global, text: &str, language: &str) -> Result<Paged, TextFault>
     ensures sent { IfOk result (IsPagedText language.now (chars text.now)) }
     ensures shown { IfOk result (λ paged. ShowsText (chars text.now) paged) }

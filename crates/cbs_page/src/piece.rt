@@ -24,7 +24,7 @@ pub enum Piece {
 }
 
 impl Alphabet {
-    /// How many codes a page holds.
+    /// How many codes a page holds: 93 septets, or 41 units of 16 bits (3GPP TS 23.038, clauses 6.1.2.2 and 6.2.3).
     pub fn capacity(self) -> usize
         ensures value { result ≡ capacity self }
         ensures bounds { (2 ≤ result) × (result ≤ 93) }
@@ -35,7 +35,7 @@ impl Alphabet {
         }
     }
 
-    /// How many codes a character has: 0 where the alphabet doesn't have it.
+    /// How many codes a character has: one or two septets, or one unit, and 0 where the alphabet doesn't have it.
     pub fn cost(self, character: char) -> usize
         ensures value { result ≡ cost_of self character }
         ensures small { result ≤ 2 }

@@ -43,43 +43,25 @@ pub fn page_text(alloc: Global, view: &PageView) -> Result<String, Refused>
     let text = match view.dcs.alphabet() {
         Some(Alphabet::Gsm) => {
             let septets = unpack(&view.content);
-            gsm_text(alloc, &septets[..septets_used(&septets)])?
+            gsm_text(alloc, without_filling(&septets, CR))?
         }
         Some(Alphabet::Ucs2) => {
             let units = units_of(&view.content);
-            units_text(alloc, &units[..units_used(&units)])?
+            units_text(alloc, without_filling(&units, CR_UNIT))?
         }
         None => String::new(alloc),
     };
     Ok(text)
 }
 
-/// How many septets stand before the carriage returns at the end.
-fn septets_used(septets: &[u8]) -> usize
-    ensures within { result ≤ length septets.now }
-    ensures text { take result septets.now ≡ without_trailing 13 septets.now }
+/// The items before those at the end that fill the page.
+fn without_filling<T: Copy + PartialEq>(items: &[T], filling: T) -> &[T]
+    ensures { result.now ≡ without_trailing (λ item. T.eq item filling) items.now }
 {
-    let mut used = 0;
-    for (place, septet) in septets.iter().enumerate() {
-        if *septet != CR {
-            used = place + 1;
-        }
+    match items.iter().rposition(|item| *item != filling) {
+        Some(last) => &items[..=last],
+        None => &items[..0],
     }
-    used
-}
-
-/// How many units stand before the carriage returns at the end.
-fn units_used(units: &[u16]) -> usize
-    ensures within { result ≤ length units.now }
-    ensures text { take result units.now ≡ without_trailing 13 units.now }
-{
-    let mut used = 0;
-    for (place, unit) in units.iter().enumerate() {
-        if *unit != CR_UNIT {
-            used = place + 1;
-        }
-    }
-    used
 }
 
 /// The text of septets.

@@ -42,6 +42,21 @@ fn content_of(
     Ok((content, digits))
 }
 
+/// Expects of a page of the text that so many octets of it are used, and that it begins with these digits.
+fn expect_page(
+    rt: &impl Abort,
+    alloc: Global,
+    paged: &Paged,
+    place: usize,
+    used: u8,
+    begin: &str,
+) -> Result<(), Fail> {
+    let (content, digits) = content_of(rt, alloc, paged, place)?;
+    assert_eq!(rt; content.used, used, "of page {place}");
+    assert!(rt; digits.starts_with(begin), "{digits}");
+    Ok(())
+}
+
 #[test]
 fn an_escape_pair_is_not_split(rt: HostRuntime) -> Result<(), Fail> {
     let alloc = rt.alloc();
@@ -53,9 +68,7 @@ fn an_escape_pair_is_not_split(rt: HostRuntime) -> Result<(), Fail> {
     assert_eq!(rt; first.used, 81);
     // Septet 92 is the carriage return that fills the page: the last septet, but for its lowest bit.
     assert!(rt; digits.ends_with("7038dc00"), "{digits}");
-    let (second, digits) = content_of(&rt, alloc, &paged, 1)?;
-    assert_eq!(rt; second.used, 2);
-    assert!(rt; digits.starts_with("9b72a3d168341a8d"), "{digits}");
+    expect_page(&rt, alloc, &paged, 1, 2, "9b72a3d168341a8d")?;
     assert_eq!(rt; shown(alloc, &paged)?.as_str(), text.as_str());
     Ok(())
 }
@@ -101,11 +114,8 @@ fn one_cyrillic_letter_makes_a_text_ucs2(rt: HostRuntime) -> Result<(), Fail> {
     let paged = paginate(alloc, &text, "en")?;
     assert_eq!(rt; paged.dcs, Dcs(0x48));
     assert_eq!(rt; paged.pages.len(), 2);
-    let (first, _) = content_of(&rt, alloc, &paged, 0)?;
-    assert_eq!(rt; first.used, 82);
-    let (second, digits) = content_of(&rt, alloc, &paged, 1)?;
-    assert_eq!(rt; second.used, 2);
-    assert!(rt; digits.starts_with("042f000d000d"), "{digits}");
+    expect_page(&rt, alloc, &paged, 0, 82, "00610061")?;
+    expect_page(&rt, alloc, &paged, 1, 2, "042f000d000d")?;
     assert_eq!(rt; shown(alloc, &paged)?.as_str(), text.as_str());
     Ok(())
 }

@@ -8,120 +8,101 @@ use Rattle.std.specs.List.{list_all, flat_map}
 use Rattle.std.specs.Option.{option_map_or}
 use Rattle.gsm_alphabet.specs.declared.Code.{Code}
 use Rattle.gsm_alphabet.specs.declared.Code.TheVariants.{One, Ext}
-use Rattle.gsm_alphabet.specs.Alphabet.{main_table, extension_table, septet_in, character_in, code_by, code_of, IsInAlphabet, IsExtension, septets_of, septets_of_code, main_character, extension_character, character_of_code, text_of_septets, text_after}
+use Rattle.gsm_alphabet.specs.Alphabet.{main_table, extension_table, look_up, septet_in, character_in, code_by, code_of, IsInAlphabet, IsExtension, septets_of, septets_of_code, main_character, extension_character, character_of_code, text_of_septets, text_after}
 use Rattle.gsm_alphabet.specs.AlphabetLaw.{IsBasicScalar, TextBeginsWithCharacter, TextBeginsWithCharacters, TextComesBack, TakesOneOrTwo, SeptetsAreSmall, OnlyReturnTakesReturn, ShowsBasicScalars, HasBasicScalars, EntriesAreCodes}
 
--- the code is this one septet
-is_one : ℕ → Option Code → Bool
-is_one septet None = false
-is_one septet (Some (One code)) = eqb code septet
-is_one septet (Some (Ext code)) = false
+-- two codes are the same
+is_same : Code → Code → Bool
+is_same (One septet) (One other) = eqb septet other
+is_same (One septet) (Ext other) = false
+is_same (Ext septet) (One other) = false
+is_same (Ext septet) (Ext other) = eqb septet other
 
--- the code is the escape and this septet
-is_ext : ℕ → Option Code → Bool
-is_ext septet None = false
-is_ext septet (Some (One code)) = false
-is_ext septet (Some (Ext code)) = eqb code septet
+same-from_is_same : (a b : Code) → is_same a b ≡ true → a ≡ b
+unfolding is_same
+same-from_is_same (One septet) (One other) h = ap (λ x. One x) (eqb-true septet other h)
+same-from_is_same (One septet) (Ext other) h = cc
+same-from_is_same (Ext septet) (One other) h = cc
+same-from_is_same (Ext septet) (Ext other) h = ap (λ x. Ext x) (eqb-true septet other h)
 
-one-from_is_one : (septet : ℕ) (code : Option Code) → is_one septet code ≡ true → code ≡ Some (One septet)
-unfolding is_one
-one-from_is_one septet None h = cc
-one-from_is_one septet (Some (One code)) h = ap (λ x. Some (One x)) (eqb-true code septet h)
-one-from_is_one septet (Some (Ext code)) h = cc
+-- what was found is this code
+is_code : Option Code → Code → Bool
+is_code None code = false
+is_code (Some found) code = is_same found code
 
-ext-from_is_ext : (septet : ℕ) (code : Option Code) → is_ext septet code ≡ true → code ≡ Some (Ext septet)
-unfolding is_ext
-ext-from_is_ext septet None h = cc
-ext-from_is_ext septet (Some (One code)) h = cc
-ext-from_is_ext septet (Some (Ext code)) h = ap (λ x. Some (Ext x)) (eqb-true code septet h)
+code-from_is_code : (found : Option Code) (code : Code) → is_code found code ≡ true → found ≡ Some code
+unfolding is_code
+code-from_is_code None code h = cc
+code-from_is_code (Some found) code h = ap (λ x. Some x) (same-from_is_same found code h)
 
--- what holds of each entry of the default alphabet
-pub record IsMainEntry (septet character : ℕ) : Type 0 where
+-- what holds of each entry of a table: its septet, which is never a certain one, is sent as a code and shows a character
+pub record IsEntry (code : ℕ → Code) (shown : ℕ → ℕ) (never septet character : ℕ) : Type 0 where
   pub is_small : septet < 128
-  pub is_no_escape : septet ≢ 27
-  pub shows : main_character septet ≡ character
-  pub code : code_of character ≡ Some (One septet)
+  pub is_other : septet ≢ never
+  pub shows : shown septet ≡ character
+  pub code_is : code_of character ≡ Some (code septet)
   pub is_low : character < 55296
 
--- what holds of each entry of the extension table
-pub record IsExtensionEntry (septet character : ℕ) : Type 0 where
-  pub is_small : septet < 128
-  pub is_no_return : septet ≢ 13
-  pub shows : extension_character septet ≡ character
-  pub code : code_of character ≡ Some (Ext septet)
-  pub is_low : character < 55296
+-- an entry of the default alphabet, whose septet isn't the escape
+abbrev pub IsMainEntry : ℕ → ℕ → Type 0
+IsMainEntry septet character = IsEntry (λ x. One x) main_character 27 septet character
 
--- the tests of these facts, which compute
-is_main_entry : ℕ × ℕ → Bool
-is_main_entry entry =
-    ltb entry.0 128 && (not (eqb entry.0 27) && (eqb (main_character entry.0) entry.1 && (is_one entry.0 (code_of entry.1) && ltb entry.1 55296)))
+-- an entry of the extension table, whose septet isn't the carriage return
+abbrev pub IsExtensionEntry : ℕ → ℕ → Type 0
+IsExtensionEntry septet character = IsEntry (λ x. Ext x) extension_character 13 septet character
 
-is_extension_entry : ℕ × ℕ → Bool
-is_extension_entry entry =
-    ltb entry.0 128 && (not (eqb entry.0 13) && (eqb (extension_character entry.0) entry.1 && (is_ext entry.0 (code_of entry.1) && ltb entry.1 55296)))
+-- the test of these facts, which computes
+is_entry : (code : ℕ → Code) (shown : ℕ → ℕ) (never : ℕ) → ℕ × ℕ → Bool
+is_entry code shown never entry =
+    ltb entry.0 128 && (not (eqb entry.0 never) && (eqb (shown entry.0) entry.1 && (is_code (code_of entry.1) (code entry.0) && ltb entry.1 55296)))
 
-main_entries : list_all is_main_entry main_table ≡ true
-unfolding main_table extension_table is_one is_main_entry
+main_entries : list_all (is_entry (λ x. One x) main_character 27) main_table ≡ true
+unfolding main_table extension_table is_same is_code is_entry
 main_entries = refl
 
-extension_entries : list_all is_extension_entry extension_table ≡ true
-unfolding main_table extension_table is_ext is_extension_entry
+extension_entries : list_all (is_entry (λ x. Ext x) extension_character 13) extension_table ≡ true
+unfolding main_table extension_table is_same is_code is_entry
 extension_entries = refl
 
-IsMainEntry-from_test : (entry : ℕ × ℕ) → is_main_entry entry ≡ true → IsMainEntry entry.0 entry.1
-unfolding is_main_entry
-IsMainEntry-from_test entry h =
+IsEntry-from_test : (code : ℕ → Code) (shown : ℕ → ℕ) (never : ℕ) (entry : ℕ × ℕ) → is_entry code shown never entry ≡ true → IsEntry code shown never entry.0 entry.1
+unfolding is_entry
+IsEntry-from_test code shown never entry h =
     let a = and_parts _ _ h in
     let b = and_parts _ _ a.1 in
     let d = and_parts _ _ b.1 in
     let e = and_parts _ _ d.1 in
     record {
       is_small = ltb-true _ _ a.0;
-      is_no_escape = eqb-false _ _ (not-true _ b.0);
+      is_other = eqb-false _ _ (not-true _ b.0);
       shows = eqb-true _ _ d.0;
-      code = one-from_is_one _ _ e.0;
+      code_is = code-from_is_code _ _ e.0;
       is_low = ltb-true _ _ e.1;
     }
 
-IsExtensionEntry-from_test : (entry : ℕ × ℕ) → is_extension_entry entry ≡ true → IsExtensionEntry entry.0 entry.1
-unfolding is_extension_entry
-IsExtensionEntry-from_test entry h =
-    let a = and_parts _ _ h in
-    let b = and_parts _ _ a.1 in
-    let d = and_parts _ _ b.1 in
-    let e = and_parts _ _ d.1 in
-    record {
-      is_small = ltb-true _ _ a.0;
-      is_no_return = eqb-false _ _ (not-true _ b.0);
-      shows = eqb-true _ _ d.0;
-      code = ext-from_is_ext _ _ e.0;
-      is_low = ltb-true _ _ e.1;
-    }
-
--- a pair that a look-up finds passes a test that each entry passes
-septet_in-passes : (test : ℕ × ℕ → Bool) (table : List (ℕ × ℕ)) (character septet : ℕ) → list_all test table ≡ true → septet_in table character ≡ Some septet → test (septet, character) ≡ true
-septet_in-passes test [] character septet all found = cc
-septet_in-passes test (entry ∷ table) character septet all found =
+-- what holds of each entry holds of the one that a look-up finds
+look_up-holds : (key value : ℕ × ℕ → ℕ) (P : ℕ → ℕ → Type 0) (test : ℕ × ℕ → Bool) → ((entry : ℕ × ℕ) → test entry ≡ true → P (key entry) (value entry)) →
+    (table : List (ℕ × ℕ)) (wanted found : ℕ) → list_all test table ≡ true → look_up key value table wanted ≡ Some found → P wanted found
+look_up-holds key value P test holds [] wanted found all is = cc
+look_up-holds key value P test holds (entry ∷ table) wanted found all is =
     let parts = and_parts (test entry) (list_all test table) all in
-    elim (cases_eq entry.1 character) [
+    elim (cases_eq (key entry) wanted) [
       | inl same ↦
-          let here : Some entry.0 ≡ Some septet = rw (eq-eqb entry.1 character same) at found in
-          let septet_is : entry.0 ≡ septet = cc in
-          rw (← septet_is, ← same) parts.0
-      | inr other ↦ septet_in-passes test table character septet parts.1 (rw (ne_eqb entry.1 character other) at found)
+          let here : Some (value entry) ≡ Some found = rw (eq-eqb (key entry) wanted same) at is in
+          let value_is : value entry ≡ found = cc in
+          rw (← value_is, ← same) (holds entry parts.0)
+      | inr other ↦ look_up-holds key value P test holds table wanted found parts.1 (rw (ne_eqb (key entry) wanted other) at is)
     ]
 
-character_in-passes : (test : ℕ × ℕ → Bool) (table : List (ℕ × ℕ)) (septet character : ℕ) → list_all test table ≡ true → character_in table septet ≡ Some character → test (septet, character) ≡ true
-character_in-passes test [] septet character all found = cc
-character_in-passes test (entry ∷ table) septet character all found =
-    let parts = and_parts (test entry) (list_all test table) all in
-    elim (cases_eq entry.0 septet) [
-      | inl same ↦
-          let here : Some entry.1 ≡ Some character = rw (eq-eqb entry.0 septet same) at found in
-          let character_is : entry.1 ≡ character = cc in
-          rw (← character_is, ← same) parts.0
-      | inr other ↦ character_in-passes test table septet character parts.1 (rw (ne_eqb entry.0 septet other) at found)
-    ]
+module _ (code : ℕ → Code) (shown : ℕ → ℕ) (never : ℕ) (table : List (ℕ × ℕ)) (all : list_all (is_entry code shown never) table ≡ true) where
+  entry_by_character : (character septet : ℕ) → septet_in table character ≡ Some septet → IsEntry code shown never septet character
+  entry_by_character character septet found =
+      look_up-holds (λ entry. entry.1) (λ entry. entry.0) (λ c s. IsEntry code shown never s c) (is_entry code shown never)
+      (IsEntry-from_test code shown never) table character septet all found
+
+  entry_by_septet : (septet character : ℕ) → character_in table septet ≡ Some character → IsEntry code shown never septet character
+  entry_by_septet septet character found =
+      look_up-holds (λ entry. entry.0) (λ entry. entry.1) (IsEntry code shown never) (is_entry code shown never)
+      (IsEntry-from_test code shown never) table septet character all found
 
 code_by-one : (main extended : Option ℕ) (septet : ℕ) → code_by main extended ≡ Some (One septet) → main ≡ Some septet
 code_by-one (Some code) extended septet e = cc
@@ -137,12 +118,12 @@ code_by-ext None None septet e = cc
 pub one_entry : (character septet : ℕ) → code_of character ≡ Some (One septet) → IsMainEntry septet character
 one_entry character septet e =
     let found = code_by-one (septet_in main_table character) (septet_in extension_table character) septet e in
-    IsMainEntry-from_test (septet, character) (septet_in-passes is_main_entry main_table character septet main_entries found)
+    entry_by_character (λ x. One x) main_character 27 main_table main_entries character septet found
 
 pub ext_entry : (character septet : ℕ) → code_of character ≡ Some (Ext septet) → IsExtensionEntry septet character
 ext_entry character septet e =
     let found = code_by-ext (septet_in main_table character) (septet_in extension_table character) septet e in
-    IsExtensionEntry-from_test (septet, character) (septet_in-passes is_extension_entry extension_table character septet extension_entries found)
+    entry_by_character (λ x. Ext x) extension_character 13 extension_table extension_entries character septet found
 
 -- the text of a code's septets and of any others
 text_begins-at : (character : ℕ) (code : Option Code) (rest : List ℕ) → code_of character ≡ code → IsSome code → text_of_septets (option_map_or septets_of_code code [] ++ rest) ≡ character ∷ text_of_septets rest
@@ -150,7 +131,7 @@ text_begins-at character None rest e some = absurd (false≢true some)
 text_begins-at character (Some (One septet)) rest e some =
     let entry = one_entry character septet e in
     let shows = entry.shows in
-    rw (ne_eqb septet 27 entry.is_no_escape, shows)
+    rw (ne_eqb septet 27 entry.is_other, shows)
 text_begins-at character (Some (Ext septet)) rest e some =
     let entry = ext_entry character septet e in
     let shows = entry.shows in
@@ -177,7 +158,7 @@ text_comes_back characters all =
 one_and_found : (character septet : ℕ) (found : Option ℕ) → code_of character ≡ Some (One septet) → septet_in extension_table character ≡ found → IsSome found → ⊥
 one_and_found character septet None e is some = absurd (false≢true some)
 one_and_found character septet (Some after) e is some =
-    let code = (IsExtensionEntry-from_test (after, character) (septet_in-passes is_extension_entry extension_table character after extension_entries is)).code in
+    let code = (entry_by_character (λ x. Ext x) extension_character 13 extension_table extension_entries character after is).code_is in
     cc
 
 -- the septet of the carriage return shows it
@@ -200,46 +181,45 @@ takes-at character (Some (Ext septet)) e some =
 pub takes_one_or_two : TakesOneOrTwo
 takes_one_or_two character in_alphabet = takes-at character (code_of character) refl in_alphabet
 
-small-at : (character : ℕ) (code : Option Code) → code_of character ≡ code → All (λ septet. septet < 128) (option_map_or septets_of_code code [])
-small-at character None e = All-nil (λ septet. septet < 128)
-small-at character (Some (One septet)) e =
-    All-cons (λ x. x < 128) septet [] (one_entry character septet e).is_small (All-nil (λ x. x < 128))
-small-at character (Some (Ext septet)) e =
-    All-cons (λ x. x < 128) 27 (septet ∷ []) (omega arith) (All-cons (λ x. x < 128) septet [] (ext_entry character septet e).is_small (All-nil (λ x. x < 128)))
+-- what holds of the escape, and of a character's septet in its table, holds of each of its septets
+All-at : (P : ℕ → Type 0) (character : ℕ) → P 27 → ((septet : ℕ) → IsMainEntry septet character → P septet) → ((septet : ℕ) → IsExtensionEntry septet character → P septet) →
+    (code : Option Code) → code_of character ≡ code → All P (option_map_or septets_of_code code [])
+All-at P character escape main extension None e = All-nil P
+All-at P character escape main extension (Some (One septet)) e =
+    All-cons P septet [] (main septet (one_entry character septet e)) (All-nil P)
+All-at P character escape main extension (Some (Ext septet)) e =
+    All-cons P 27 (septet ∷ []) escape (All-cons P septet [] (extension septet (ext_entry character septet e)) (All-nil P))
 
 pub septets_are_small : SeptetsAreSmall
-septets_are_small character = small-at character (code_of character) refl
-
-no_return-at : (character : ℕ) (code : Option Code) → code_of character ≡ code → character ≢ 13 → All (λ septet. septet ≢ 13) (option_map_or septets_of_code code [])
-no_return-at character None e other = All-nil (λ septet. septet ≢ 13)
-no_return-at character (Some (One septet)) e other =
-    let entry = one_entry character septet e in
-    All-cons (λ x. x ≢ 13) septet [] (λ is. other (return_shown character septet entry.shows is)) (All-nil (λ x. x ≢ 13))
-no_return-at character (Some (Ext septet)) e other =
-    All-cons (λ x. x ≢ 13) 27 (septet ∷ []) (omega arith) (All-cons (λ x. x ≢ 13) septet [] (ext_entry character septet e).is_no_return (All-nil (λ x. x ≢ 13)))
+septets_are_small character =
+    All-at (λ x. x < 128) character (omega arith) (λ septet entry. entry.is_small) (λ septet entry. entry.is_small) (code_of character) refl
 
 pub only_return_takes_return : OnlyReturnTakesReturn
-only_return_takes_return character other = no_return-at character (code_of character) refl other
+only_return_takes_return character other =
+    All-at (λ x. x ≢ 13) character (omega arith) (λ septet entry is. other (return_shown character septet entry.shows is))
+    (λ septet entry. entry.is_other) (code_of character) refl
 
 -- characters below the surrogates are scalar values of one unit
 basic-low : (character : ℕ) → character < 55296 → IsBasicScalar character
 basic-low character low = (low_scalar character low, omega arith)
 
-main-at : (septet : ℕ) (found : Option ℕ) → character_in main_table septet ≡ found → IsBasicScalar (unwrap_or found 32)
-main-at septet None e = basic-low 32 (omega arith)
-main-at septet (Some character) e =
-    basic-low character (IsMainEntry-from_test (septet, character) (character_in-passes is_main_entry main_table septet character main_entries e)).is_low
+-- what a look-up finds, or what stands for it where it finds nothing
+basic_or : (found : Option ℕ) (default : ℕ) → ((character : ℕ) → found ≡ Some character → character < 55296) → IsBasicScalar default → IsBasicScalar (unwrap_or found default)
+basic_or None default low basic = basic
+basic_or (Some character) default low basic = basic-low character (low character refl)
 
 main_character-basic : (septet : ℕ) → IsBasicScalar (main_character septet)
-main_character-basic septet = main-at septet (character_in main_table septet) refl
-
-extension-at : (septet : ℕ) (found : Option ℕ) → character_in extension_table septet ≡ found → IsBasicScalar (unwrap_or found (main_character septet))
-extension-at septet None e = main_character-basic septet
-extension-at septet (Some character) e =
-    basic-low character (IsExtensionEntry-from_test (septet, character) (character_in-passes is_extension_entry extension_table septet character extension_entries e)).is_low
+main_character-basic septet =
+    basic_or (character_in main_table septet) 32
+    (λ character e. (entry_by_septet (λ x. One x) main_character 27 main_table main_entries septet character e).is_low) (basic-low 32 (omega arith))
 
 pub shows_basic_scalars : ShowsBasicScalars
-shows_basic_scalars septet = (main_character-basic septet, extension-at septet (character_in extension_table septet) refl)
+shows_basic_scalars septet = (
+  main_character-basic septet,
+  basic_or (character_in extension_table septet) (main_character septet)
+      (λ character e. (entry_by_septet (λ x. Ext x) extension_character 13 extension_table extension_entries septet character e).is_low)
+      (main_character-basic septet),
+)
 
 has_basic-at : (character : ℕ) (code : Option Code) → code_of character ≡ code → IsSome code → IsBasicScalar character
 has_basic-at character None e some = absurd (false≢true some)
@@ -251,8 +231,8 @@ has_basic_scalars character in_alphabet = has_basic-at character (code_of charac
 
 pub entries_are_codes : EntriesAreCodes
 entries_are_codes = (
-  (λ k entry h. (IsMainEntry-from_test _ (AllPass-from_list_all is_main_entry main_table main_entries k entry h)).code),
-  (λ k entry h. (IsExtensionEntry-from_test _ (AllPass-from_list_all is_extension_entry extension_table extension_entries k entry h)).code),
+  (λ k entry h. (IsEntry-from_test _ _ 27 _ (AllPass-from_list_all (is_entry (λ x. One x) main_character 27) main_table main_entries k entry h)).code_is),
+  (λ k entry h. (IsEntry-from_test _ _ 13 _ (AllPass-from_list_all (is_entry (λ x. Ext x) extension_character 13) extension_table extension_entries k entry h)).code_is),
 )
 
 decodes-at : (character : ℕ) (code : Option Code) → code_of character ≡ code → IfSome code (λ c. character_of_code c ≡ character)

@@ -30,15 +30,18 @@ extension_table =
     (0x14, 0x005E) ∷ (0x28, 0x007B) ∷ (0x29, 0x007D) ∷ (0x2F, 0x005C) ∷ (0x3C, 0x005B) ∷
     (0x3D, 0x007E) ∷ (0x3E, 0x005D) ∷ (0x40, 0x007C) ∷ (0x65, 0x20AC) ∷ []
 
+-- the number that stands beside another in a table: of the first entry with this key
+abbrev pub look_up : (key value : ℕ × ℕ → ℕ) → List (ℕ × ℕ) → ℕ → Option ℕ
+look_up key value [] wanted = None
+look_up key value (entry ∷ table) wanted = if key entry == wanted then Some (value entry) else look_up key value table wanted
+
 -- the septet that stands beside a character in a table
 abbrev pub septet_in : List (ℕ × ℕ) → ℕ → Option ℕ
-septet_in [] character = None
-septet_in (entry ∷ table) character = if entry.1 == character then Some entry.0 else septet_in table character
+septet_in table character = look_up (λ entry. entry.1) (λ entry. entry.0) table character
 
 -- the character that stands beside a septet in a table
 abbrev pub character_in : List (ℕ × ℕ) → ℕ → Option ℕ
-character_in [] septet = None
-character_in (entry ∷ table) septet = if entry.0 == septet then Some entry.1 else character_in table septet
+character_in table septet = look_up (λ entry. entry.0) (λ entry. entry.1) table septet
 
 -- one septet where the default alphabet has the character, else an escape and one where the extension table has it
 abbrev pub code_by : Option ℕ → Option ℕ → Option Code

@@ -1,8 +1,8 @@
 -- The octets of a page and the units of its octets, place by place.
-use Rattle.std.proofs.Common.{◌≡◌, ℕ, ◌+◌, ◌-◌, ◌*◌, ◌/◌, ◌%◌, ◌<◌, ◌≤◌, zero, suc, List, [], ◌∷◌, ◌++◌, length, get_or, replicate, refl, sym, ap, ◌∙◌, arith, length-append}
+use Rattle.std.proofs.Common.{◌≡◌, ◌==◌, if◌then◌else◌, ℕ, ◌+◌, ◌-◌, ◌*◌, ◌/◌, ◌%◌, ◌<◌, ◌≤◌, zero, suc, List, [], ◌∷◌, ◌++◌, length, get_or, replicate, refl, sym, ap, ◌∙◌, arith, length-append}
 use Rattle.std.proofs.lemmas.List.FromFn.{fill_by_all}
 use Rattle.std.specs.List.{flat_map}
-use Rattle.ucs2_text.specs.Ucs2.{octets_of_unit, page_units, octets_of_units, units_of_octets, octet_at_place}
+use Rattle.ucs2_text.specs.Ucs2.{octets_of_unit, page_units, octets_of_units, units_of_octets}
 
 -- two lists of one length that agree at each place are one
 same_from_places : (xs ys : List ℕ) (n : ℕ) → length xs ≡ n → length ys ≡ n → ((k : ℕ) → k < n → get_or xs k 0 ≡ get_or ys k 0) → xs ≡ ys
@@ -13,15 +13,21 @@ length-octets : (units : List ℕ) → length (flat_map octets_of_unit units) �
 length-octets [] = refl
 length-octets (unit ∷ units) = omega (arith, length-octets units)
 
+-- the octet at a place: of the unit at half that place, the high one at an even place
+abbrev pub octet_at_place : List ℕ → ℕ → ℕ
+octet_at_place units place =
+    let unit = get_or units (place / 2) 13 in
+    if place % 2 == 0 then unit / 256 else unit % 256
+
 -- each unit has two places
-octet-at : (units : List ℕ) (k : ℕ) → k < 2 * length units → get_or (flat_map octets_of_unit units) k 0 ≡ octet_at_place units k
-octet-at [] k below = absurd (omega arith)
-octet-at (unit ∷ units) zero below = refl
-octet-at (unit ∷ units) (suc zero) below = refl
-octet-at (unit ∷ units) (suc (suc k)) below =
+octet-at_unit : (units : List ℕ) (k : ℕ) → k < 2 * length units → get_or (flat_map octets_of_unit units) k 0 ≡ octet_at_place units k
+octet-at_unit [] k below = absurd (omega arith)
+octet-at_unit (unit ∷ units) zero below = refl
+octet-at_unit (unit ∷ units) (suc zero) below = refl
+octet-at_unit (unit ∷ units) (suc (suc k)) below =
     let half : suc (suc k) / 2 ≡ suc (k / 2) = omega arith in
     let parity : suc (suc k) % 2 ≡ k % 2 = omega arith in
-    rw (half, parity) (octet-at units k (omega arith))
+    rw (half, parity) (octet-at_unit units k (omega arith))
 
 -- what fills a page
 abbrev fill : ℕ → List ℕ
@@ -48,14 +54,17 @@ length-page_units units short =
 pub length-octets_of_units : (units : List ℕ) → length units ≤ 41 → length (octets_of_units units) ≡ 82
 length-octets_of_units units short = omega (arith, length-octets (page_units units), length-page_units units short)
 
--- the octets that the loop wrote, each at its place, are those of the page
-pub octets-by_place : (units octets : List ℕ) → length units ≤ 41 → length octets ≡ 82 → ((k : ℕ) → k < 82 → get_or octets k 0 ≡ octet_at_place units k) → octets ≡ octets_of_units units
-octets-by_place units octets short whole each =
-    same_from_places octets (octets_of_units units) 82 whole (length-octets_of_units units short)
-    (λ k below.
+-- an octet of the page: past the units of the text it is one of what fills the page
+pub octet-at : (units : List ℕ) (k : ℕ) → length units ≤ 41 → k < 82 → get_or (octets_of_units units) k 0 ≡ octet_at_place units k
+octet-at units k short below =
     let filled = get_or-filled units (41 - length units) (k / 2) in
-    let at = octet-at (page_units units) k (omega (arith, length-page_units units short)) in
-    each k below ∙ sym (rw filled at at))
+    let at = octet-at_unit (page_units units) k (omega (arith, length-page_units units short)) in
+    rw filled at at
+
+-- the octets that the loop wrote, each at its place, are those of the page
+pub octets-by_place : (units octets : List ℕ) → length units ≤ 41 → length octets ≡ 82 → ((k : ℕ) → k < 82 → get_or octets k 0 ≡ get_or (octets_of_units units) k 0) → octets ≡ octets_of_units units
+octets-by_place units octets short whole each =
+    same_from_places octets (octets_of_units units) 82 whole (length-octets_of_units units short) each
 
 pub length-units_of_octets : (n : ℕ) (octets : List ℕ) → length octets ≡ 2 * n → length (units_of_octets octets) ≡ n
 length-units_of_octets zero [] whole = refl

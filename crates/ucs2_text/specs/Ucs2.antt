@@ -1,5 +1,5 @@
 -- UCS-2 of a page (3GPP TS 23.038, clause 6.2.3): a character is a unit of 16 bits, sent as two octets, the high one first.
-use Rattle.std.specs.Prelude.{ℕ, ◌+◌, ◌-◌, ◌*◌, ◌/◌, ◌%◌, Option, Some, None, if◌then◌else◌, nat_lt, ◌==◌, List, [], ◌∷◌, ◌++◌, length, replicate, slice_index_or}
+use Rattle.std.specs.Prelude.{ℕ, ◌+◌, ◌-◌, ◌*◌, ◌/◌, ◌%◌, Option, Some, None, if◌then◌else◌, nat_lt, List, [], ◌∷◌, ◌++◌, length, replicate}
 use Rattle.std.specs.Int.{is_in_range}
 use Rattle.std.specs.List.{flat_map}
 
@@ -28,9 +28,3 @@ abbrev pub units_of_octets : List ℕ → List ℕ
 units_of_octets [] = []
 units_of_octets (high ∷ []) = []
 units_of_octets (high ∷ low ∷ rest) = (256 * high + low) ∷ units_of_octets rest
-
--- the octet at a place: of the unit at half that place, the high one at an even place
-abbrev pub octet_at_place : List ℕ → ℕ → ℕ
-octet_at_place units place =
-    let unit = slice_index_or units (place / 2) 13 in
-    if place % 2 == 0 then unit / 256 else unit % 256

@@ -1,7 +1,7 @@
 //! The units of a page as octets and back. Each octet, and each unit, is a function of its place.
 
 ghost use Rattle.std.specs.Prelude.{◌≡◌, ◌+◌, ◌*◌, ◌<◌, ◌≤◌, length, slice_index};
-ghost use Rattle.ucs2_text.specs.Ucs2.{octets_of_units, units_of_octets, octet_at_place};
+ghost use Rattle.ucs2_text.specs.Ucs2.{octets_of_units, units_of_octets};
 
 use arrayvec::ArrayVec;
 
@@ -39,7 +39,9 @@ fn write_units(octets: &mut [u8], units: &[u16])
 
 /// The octet at a place of the page: of the unit at half that place, the high one at an even place.
 fn octet_at(units: &[u16], place: usize) -> u8
-    ensures { result ≡ octet_at_place units.now place }
+    requires at_most_a_page { length units.now ≤ 41 }
+    requires within { place < 82 }
+    ensures { result ≡ slice_index (octets_of_units units.now) place }
 {
     let unit = units.get(place / 2).copied().unwrap_or(FILL);
     if place % 2 == 0 {

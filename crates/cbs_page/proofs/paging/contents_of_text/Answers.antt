@@ -52,26 +52,20 @@ loop-character-preserved c =
       made = rw (next, c.of-piece.ensures.taken, c.in_ok-push.ensures.items) cut;
     }
 
-pub returns-clause-held : goal.returns-clause-held
-returns-clause-held c = λ some.
+pub returns : goal.returns
+returns c =
     let alphabet = c.args.alphabet in
     let ended = YieldsList-end (YieldsList-from_chars c.args.text.now c.utf8.text cc) c.loop-character.yielded _ c.loop-character.yielded_by _ _ c.in-None.is c.next.ensures.steps in
     let here : IsContentOf alphabet (codes_in c.loop-character.piece) c.content-2.result =
     subst (λ (a : _). IsContentOf a (codes_in c.loop-character.piece) c.content-2.result) c.loop-character.invariant.same c.content-2.ensures in
-    let held = HasCut-end alphabet (chars c.args.text.now) (length c.loop-character.yielded) (codes_in c.loop-character.piece)
+    let made = HasCut-end alphabet (chars c.args.text.now) (length c.loop-character.yielded) (codes_in c.loop-character.piece)
     c.loop-character.pages.items c.content-2.result c.loop-character.invariant.made ended.1 here
     in
-    let has = has_pages alphabet (chars c.args.text.now) some in
-    (has.pieces, has.paging, rw (c.in_ok-push-2.ensures.items, ← has.cut) held)
-
-pub returns-clause-empty : goal.returns-clause-empty
-returns-clause-empty c = λ none.
-    let alphabet = c.args.alphabet in
-    let ended = YieldsList-end (YieldsList-from_chars c.args.text.now c.utf8.text cc) c.loop-character.yielded _ c.loop-character.yielded_by _ _ c.in-None.is c.next.ensures.steps in
-    let here : IsContentOf alphabet (codes_in c.loop-character.piece) c.content-2.result =
-    subst (λ (a : _). IsContentOf a (codes_in c.loop-character.piece) c.content-2.result) c.loop-character.invariant.same c.content-2.ensures in
-    let held = HasCut-end alphabet (chars c.args.text.now) (length c.loop-character.yielded) (codes_in c.loop-character.piece)
-    c.loop-character.pages.items c.content-2.result c.loop-character.invariant.made ended.1 here
-    in
-    let nothing = ap (λ cs. cuts_from (codes_of alphabet) (capacity alphabet) [] cs) none in
-    rw (c.in_ok-push-2.ensures.items, ← nothing) held
+    record {
+      held = λ some.
+          let has = has_pages alphabet (chars c.args.text.now) some in
+          (has.pieces, has.paging, rw (c.in_ok-push-2.ensures.items, ← has.cut) made);
+      empty = λ none.
+          let nothing = ap (λ cs. cuts_from (codes_of alphabet) (capacity alphabet) [] cs) none in
+          rw (c.in_ok-push-2.ensures.items, ← nothing) made;
+    }

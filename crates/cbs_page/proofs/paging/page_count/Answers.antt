@@ -37,8 +37,8 @@ loop-character-preserved c =
       counted = rw (next, c.cost-cost.ensures.value) (omega (arith, step, c.loop-character.invariant.counted));
     }
 
-pub returns-clause-counted : goal.returns-clause-counted
-returns-clause-counted c = λ some.
+pub returns : goal.returns
+returns c =
     let text = chars c.args.text.now in
     let ended = YieldsList-end (YieldsList-from_chars c.args.text.now c.utf8.text cc) c.loop-character.yielded _ c.loop-character.yielded_by _ _ c.in-None.is c.next.ensures.steps in
     let count : c.loop-character.pages ≡ count_from (codes_of c.args.alphabet) (capacity c.args.alphabet) 0 text = omega (
@@ -46,16 +46,7 @@ returns-clause-counted c = λ some.
       c.loop-character.invariant.counted,
       at_drop_all (count_from (codes_of c.args.alphabet) (capacity c.args.alphabet) c.loop-character.used) text (length c.loop-character.yielded) (omega (arith, ended.1)),
     ) in
-    let has = has_pages c.args.alphabet text some in
-    (has.pieces, has.paging, count ∙ has.count)
-
-pub returns-clause-empty : goal.returns-clause-empty
-returns-clause-empty c = λ none.
-    let text = chars c.args.text.now in
-    let ended = YieldsList-end (YieldsList-from_chars c.args.text.now c.utf8.text cc) c.loop-character.yielded _ c.loop-character.yielded_by _ _ c.in-None.is c.next.ensures.steps in
-    let count : c.loop-character.pages ≡ count_from (codes_of c.args.alphabet) (capacity c.args.alphabet) 0 text = omega (
-      arith,
-      c.loop-character.invariant.counted,
-      at_drop_all (count_from (codes_of c.args.alphabet) (capacity c.args.alphabet) c.loop-character.used) text (length c.loop-character.yielded) (omega (arith, ended.1)),
-    ) in
-    count ∙ ap (λ cs. count_from (codes_of c.args.alphabet) (capacity c.args.alphabet) 0 cs) none
+    record {
+      counted = λ some. let has = has_pages c.args.alphabet text some in (has.pieces, has.paging, count ∙ has.count);
+      empty = λ none. count ∙ ap (λ cs. count_from (codes_of c.args.alphabet) (capacity c.args.alphabet) 0 cs) none;
+    }
