@@ -9,6 +9,7 @@ use std::fmt;
 #[derive(Clone, Copy, Debug, PartialEq, Eq)]
 pub struct Failed;
 
+// By hand: a derived text has no contract.
 impl fmt::Display for Failed {
     ghost output = { λ _. Some (codes "device failed") };
 

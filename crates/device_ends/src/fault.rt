@@ -17,6 +17,7 @@ pub enum ReadFault {
     Refused,
 }
 
+// By hand, as the conversions: what is derived has no contract.
 impl fmt::Display for ReadFault {
     ghost use Rattle.device_ends.specs.ReadFault.{text_of};
 

@@ -1,6 +1,7 @@
 //! A reader and a writer over memory, for tests: with a set number of octets per call and a set
 //! number of calls before a failure.
 
+mod calls;
 mod reader;
 mod writer;
 

@@ -4,7 +4,8 @@ use Rattle.std.specs.Prelude.{◌⊎◌, ◌&&◌}
 use Rattle.std.proofs.lemmas.Bool.{cases_eq, ne_eqb}
 use Rattle.cbs_page.specs.Page.{view_of}
 use Rattle.handset.specs.Reading.{page_octets, type_of, page_types, pages_read}
-use Rattle.handset.specs.Keeping.{under_way_with, page_ended, IsUnderWay}
+use Rattle.handset.specs.Keeping.{IsUnderWay}
+use Rattle.handset.specs.KeepingSteps.{under_way_with, page_ended}
 
 -- what a block does to the blocks of a page that isn't whole
 record Steps (kept : List (List ℕ)) (block : List ℕ) : Type 0 where

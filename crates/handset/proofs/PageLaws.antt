@@ -11,7 +11,8 @@ use Rattle.std.proofs.lemmas.List.FromFn.{length-range_with_len, get_or-range_wi
 use Rattle.cbs_page.specs.declared.octets.PageView.{PageView}
 use Rattle.cbs_page.specs.Text.{text_of_page}
 use Rattle.handset.specs.Reading.{Name, name_of, is_of, pages_named, agrees_with, agreeing, pages_of, page_numbered, total_in, total_of, is_complete, text_of, Message, message_of, completed_by}
-use Rattle.handset.specs.Keeping.{is_numbered, agrees_with_first, counts, pages_with, total_kept, is_whole, text_kept, message_kept, message_whole, message_ended, AreKept}
+use Rattle.handset.specs.Keeping.{is_numbered, AreKept}
+use Rattle.handset.specs.KeepingSteps.{agrees_with_first, counts, pages_with, total_kept, is_whole, text_kept, message_kept, message_whole, message_ended}
 use Rattle.handset.proofs.Lists.{first_in, first_in-filter, found_by_first, option_or-some, option_or-none}
 
 -- a page agrees with itself

@@ -7,7 +7,8 @@ use Rattle.cbs_page.specs.declared.octets.PageView.{PageView}
 use Rattle.cbs_page.specs.Page.{view_of, place_of, is_readable}
 use Rattle.cbs_page.specs.Coding.{alphabet_of}
 use Rattle.handset.specs.Reading.{type_of, page_octets, pages_read, readable_pages, completed_by, completed_after, shown_in}
-use Rattle.handset.specs.Keeping.{Kept, under_way_with, page_ended, pages_with_read, message_ended_read, AreKept, IsUnderWay, HasRead}
+use Rattle.handset.specs.Keeping.{Kept, AreKept, IsUnderWay, HasRead}
+use Rattle.handset.specs.KeepingSteps.{under_way_with, page_ended, pages_with_read, message_ended_read}
 use Rattle.handset.proofs.BlockLaws.{under_way-more, pages-more}
 use Rattle.handset.proofs.PageLaws.{kept-more, completed-more}
 

@@ -4,7 +4,7 @@ use Rattle.std.proofs.lemmas.Bool.{cases_lt}
 use Rattle.std.proofs.lemmas.List.{length-drop, length-take-le, take-append-drop}
 use Rattle.std.specs.Simd.{first_chunks}
 use Rattle.handset.specs.Reading.{shown_in}
-use Rattle.handset.specs.Tape.{TapeReading, IsTape, AreJoined, IsCut, IsOversized, slots_in, told_by, most_slots, most_tapes}
+use Rattle.handset.specs.Tape.{TapeReading, IsTape, AreTapesWithin, BeginsWith, IsCut, IsLongWithin, IsOversized, IsShortWithin, slots_in, told_by, most_slots, most_tapes}
 use Rattle.handset.specs.TapeLaw.{TapeHasKind, TapesHaveKind}
 use Rattle.handset.proofs.TapeLaws.{slots-header, chunks_joined, chunks_long, chunks_each}
 
@@ -82,92 +82,82 @@ tape_has_kind input =
     ]
 
 -- the kinds of an input of at most so many tapes
-record ReadIn (room : ℕ) (input : List ℕ) : Type 0 where
-  readings : List TapeReading
-  joined : AreJoined input readings
-  few : length readings ≤ room
+abbrev KindWithin : ℕ → List ℕ → Type 0
+KindWithin room input =
+    ((readings : List TapeReading) × AreTapesWithin room input readings) ⊎ (IsShortWithin room input ⊎ IsLongWithin room input)
 
-record ShortIn (room : ℕ) (input : List ℕ) : Type 0 where
-  front : List ℕ
-  rest : List ℕ
-  readings : List TapeReading
-  split : input ≡ front ++ rest
-  joined : AreJoined front readings
-  few : length readings < room
-  cut : IsCut rest
+-- no tape stands before an input, or one more
+none_before : (input : List ℕ) → BeginsWith input [] input
+none_before input = record { front = []; split = refl; joined = refl }
 
-record LongIn (room : ℕ) (input : List ℕ) : Type 0 where
-  front : List ℕ
-  rest : List ℕ
-  readings : List TapeReading
-  split : input ≡ front ++ rest
-  joined : AreJoined front readings
-  few : length readings ≤ room
-  oversized : length readings < room → IsOversized rest
-  more : length readings ≡ room → 0 < length rest
+one_before : (input : List ℕ) (front : Front input) (readings : List TapeReading) (rest : List ℕ) → BeginsWith front.after readings rest →
+    BeginsWith input (front.reading ∷ readings) rest
+one_before input front readings rest begins = record {
+  front = front.tape ++ begins.front;
+  split = front.split ∙ ap (λ l. front.tape ++ l) begins.split ∙ sym (append_assoc front.tape begins.front rest);
+  joined = (front.tape, begins.front, refl, front.is, begins.joined);
+}
 
-cut_in : (room : ℕ) (input : List ℕ) → IsCut input → ShortIn (suc room) input
-cut_in room input cut = record { front = []; rest = input; readings = []; split = refl; joined = refl; few = omega arith; cut = cut }
+cut_in : (room : ℕ) (input : List ℕ) → IsCut input → IsShortWithin (suc room) input
+cut_in room input cut = record { readings = []; rest = input; begins = none_before input; few = omega arith; cut = cut }
 
-oversized_in : (room : ℕ) (input : List ℕ) → IsOversized input → LongIn (suc room) input
+oversized_in : (room : ℕ) (input : List ℕ) → IsOversized input → IsLongWithin (suc room) input
 oversized_in room input oversized = record {
-  front = [];
-  rest = input;
   readings = [];
-  split = refl;
-  joined = refl;
+  rest = input;
+  begins = none_before input;
   few = omega arith;
   oversized = λ _. oversized;
   more = λ all. absurd (omega (arith, all));
 }
 
 -- a tape in front of an input of some kind
-read_more : (room : ℕ) (input : List ℕ) (front : Front input) → ReadIn room front.after → ReadIn (suc room) input
-read_more room input front r = record {
-  readings = front.reading ∷ r.readings;
-  joined = (front.tape, front.after, front.split, front.is, r.joined);
-  few = let few : length r.readings ≤ room = r.few in omega arith;
-}
-
-short_more : (room : ℕ) (input : List ℕ) (front : Front input) → ShortIn room front.after → ShortIn (suc room) input
+short_more : (room : ℕ) (input : List ℕ) (front : Front input) → IsShortWithin room front.after → IsShortWithin (suc room) input
 short_more room input front s = record {
-  front = front.tape ++ s.front;
-  rest = s.rest;
   readings = front.reading ∷ s.readings;
-  split = front.split ∙ ap (λ l. front.tape ++ l) s.split ∙ sym (append_assoc front.tape s.front s.rest);
-  joined = (front.tape, s.front, refl, front.is, s.joined);
+  rest = s.rest;
+  begins = one_before input front s.readings s.rest s.begins;
   few = let few : length s.readings < room = s.few in omega arith;
   cut = s.cut;
 }
 
-long_more : (room : ℕ) (input : List ℕ) (front : Front input) → LongIn room front.after → LongIn (suc room) input
+long_more : (room : ℕ) (input : List ℕ) (front : Front input) → IsLongWithin room front.after → IsLongWithin (suc room) input
 long_more room input front s = record {
-  front = front.tape ++ s.front;
-  rest = s.rest;
   readings = front.reading ∷ s.readings;
-  split = front.split ∙ ap (λ l. front.tape ++ l) s.split ∙ sym (append_assoc front.tape s.front s.rest);
-  joined = (front.tape, s.front, refl, front.is, s.joined);
+  rest = s.rest;
+  begins = one_before input front s.readings s.rest s.begins;
   few = let few : length s.readings ≤ room = s.few in omega arith;
   oversized = λ less. s.oversized (omega (arith, less));
   more = λ all. s.more (omega (arith, all));
 }
 
-kind_in : (room : ℕ) (input : List ℕ) → ReadIn room input ⊎ (ShortIn room input ⊎ LongIn room input)
-kind_in zero [] = inl (record { readings = []; joined = refl; few = omega arith })
+more_tapes : (room : ℕ) (input : List ℕ) (front : Front input) → KindWithin room front.after → KindWithin (suc room) input
+more_tapes room input front kind =
+    elim kind [
+      | inl r ↦
+          let few : length r.0 ≤ room = r.1.few in
+          inl (front.reading ∷ r.0, record { joined = (front.tape, front.after, front.split, front.is, r.1.joined); few = omega arith })
+      | inr other ↦
+          elim other [
+            | inl s ↦ inr (inl (short_more room input front s))
+            | inr s ↦ inr (inr (long_more room input front s))
+          ]
+    ]
+
+kind_in : (room : ℕ) (input : List ℕ) → KindWithin room input
+kind_in zero [] = inl ([], record { joined = refl; few = omega arith })
 kind_in zero (octet ∷ octets) =
     inr (inr (record {
-      front = [];
-      rest = octet ∷ octets;
       readings = [];
-      split = refl;
-      joined = refl;
+      rest = octet ∷ octets;
+      begins = none_before (octet ∷ octets);
       few = omega arith;
       oversized = λ less. absurd (omega (arith, less));
       more = λ _. omega arith;
     }))
 kind_in (suc room) input =
     elim (cases_lt 0 (length input)) [
-      | inr none ↦ inl (record { readings = []; joined = none_left input none; few = omega arith })
+      | inr none ↦ inl ([], record { joined = none_left input none; few = omega arith })
       | inl some ↦
           elim (cases_lt (length input) 8) [
             | inl short ↦
@@ -184,45 +174,11 @@ kind_in (suc room) input =
                         | inl short ↦ inr (inl (cut_in room input (record { some = some; few = λ _. few; inside = λ _. short })))
                         | inr whole ↦
                             let front : Front input = front_of input headed few whole in
-                            elim (kind_in room front.after) [
-                              | inl r ↦ inl (read_more room input front r)
-                              | inr other ↦
-                                  elim other [
-                                    | inl s ↦ inr (inl (short_more room input front s))
-                                    | inr s ↦ inr (inr (long_more room input front s))
-                                  ]
-                            ]
+                            more_tapes room input front (kind_in room front.after)
                       ]
                 ]
           ]
     ]
 
 pub tapes_have_kind : (input : List ℕ) → TapesHaveKind input
-tapes_have_kind input =
-    elim (kind_in most_tapes input) [
-      | inl r ↦ inl (r.readings, record { joined = r.joined; few = r.few })
-      | inr other ↦
-          elim other [
-            | inl s ↦
-                inr (inl (record {
-                  front = s.front;
-                  rest = s.rest;
-                  readings = s.readings;
-                  split = s.split;
-                  joined = s.joined;
-                  few = s.few;
-                  cut = s.cut;
-                }))
-            | inr s ↦
-                inr (inr (record {
-                  front = s.front;
-                  rest = s.rest;
-                  readings = s.readings;
-                  split = s.split;
-                  joined = s.joined;
-                  few = s.few;
-                  oversized = s.oversized;
-                  more = s.more;
-                }))
-          ]
-    ]
+tapes_have_kind input = kind_in most_tapes input

@@ -115,7 +115,7 @@ oversized_stops rest oversized headed few = let many : most_slots < slots_in res
 tapes_and_short : (input : List ℕ) (readings : List TapeReading) → AreTapes input readings → ¬ IsShort input
 tapes_and_short input readings are short =
     let same : (readings ≡ short.readings) × ([] ≡ short.rest) =
-    same_stop most_tapes readings short.readings input [] short.front short.rest (append-nil input ∙ short.split) are.joined short.joined
+    same_stop most_tapes readings short.readings input [] short.begins.front short.rest (append-nil input ∙ short.begins.split) are.joined short.begins.joined
     are.few (omega (arith, short.few)) (λ _. nothing_stops) (λ _. cut_stops short.rest short.cut) in
     let some : 0 < length short.rest = short.cut.some in
     let none : 0 ≡ length short.rest = ap length same.1 in
@@ -127,7 +127,7 @@ long_stops input long less = oversized_stops long.rest (long.oversized less)
 tapes_and_long : (input : List ℕ) (readings : List TapeReading) → AreTapes input readings → ¬ IsLong input
 tapes_and_long input readings are long =
     let same : (readings ≡ long.readings) × ([] ≡ long.rest) =
-    same_stop most_tapes readings long.readings input [] long.front long.rest (append-nil input ∙ long.split) are.joined long.joined
+    same_stop most_tapes readings long.readings input [] long.begins.front long.rest (append-nil input ∙ long.begins.split) are.joined long.begins.joined
     are.few long.few (λ _. nothing_stops) (long_stops input long) in
     let none : 0 ≡ length long.rest = ap length same.1 in
     let full : length long.readings ≡ most_tapes → ⊥ = λ all. let some : 0 < length long.rest = long.more all in omega (arith, some, none) in
@@ -138,7 +138,7 @@ tapes_and_long input readings are long =
 short_and_long : (input : List ℕ) → IsShort input → ¬ IsLong input
 short_and_long input short long =
     let same : (short.readings ≡ long.readings) × (short.rest ≡ long.rest) =
-    same_stop most_tapes short.readings long.readings short.front short.rest long.front long.rest (sym short.split ∙ long.split) short.joined long.joined
+    same_stop most_tapes short.readings long.readings short.begins.front short.rest long.begins.front long.rest (sym short.begins.split ∙ long.begins.split) short.begins.joined long.begins.joined
     (omega (arith, short.few)) long.few (λ _. cut_stops short.rest short.cut) (long_stops input long) in
     let few : length short.readings < most_tapes = short.few in
     let count : length short.readings ≡ length long.readings = ap length same.0 in

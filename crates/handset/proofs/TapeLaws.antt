@@ -13,7 +13,7 @@ use Rattle.handset.specs.Reading.{Message, shown_in}
 use Rattle.handset.specs.Keeping.{Kept, HasRead}
 use Rattle.handset.specs.declared.tape.TapeFault.{TapeFault}
 use Rattle.handset.specs.declared.tape.TapeFault.TheVariants as fault
-use Rattle.handset.specs.Tape.{TapeReading, IsNextFault, IsTapeFault, IsTapesFault, IsTape, IsLongTape, IsShortTape, AreSlots, AreJoined, AreTapes, IsShort, IsLong, IsCut, IsOversized, octets_of_blocks, slots_in, told_by, most_slots, most_tapes}
+use Rattle.handset.specs.Tape.{TapeReading, IsNextFault, IsTapeFault, IsTapesFault, IsTape, IsLongTape, IsShortTape, AreSlots, AreJoined, AreTapes, BeginsWith, IsShort, IsLong, IsCut, IsOversized, octets_of_blocks, slots_in, told_by, most_slots, most_tapes}
 use Rattle.handset.specs.TapeSteps.{AreShown, ReadsBlocks, ReadsPiece, ReadsTape}
 
 -- the reader gave the blocks of so many slots, and a handset has read them
@@ -28,6 +28,20 @@ pub record ReadsTapes (old new : Option (List ℕ)) (readings : List TapeReading
   pub octets : List ℕ
   pub consumed : Consumes old new octets
   pub joined : AreJoined octets readings
+
+-- what is known of an input, by what is known of the octets that are left of it
+behind : (P Q : List ℕ → Type 0) (a b : Option (List ℕ)) (octets : List ℕ) → Consumes a b octets → IfSome b P →
+    ((rest : List ℕ) → P rest → Q (octets ++ rest)) → IfSome a Q
+behind P Q None b octets consumed left all = tt
+behind P Q (Some input) None octets consumed left all = absurd consumed
+behind P Q (Some input) (Some rest) octets consumed left all = subst Q (sym consumed) (all rest left)
+
+-- nothing is left of it
+at_end : (Q : List ℕ → Type 0) (a b : Option (List ℕ)) (octets : List ℕ) → Consumes a b octets → IsAtEnd b → Q octets → IfSome a Q
+at_end Q None b octets consumed end all = tt
+at_end Q (Some input) None octets consumed end all = absurd consumed
+at_end Q (Some input) (Some rest) octets consumed end all =
+    subst Q (sym (consumed ∙ ap (λ l. octets ++ l) end ∙ append-nil octets)) all
 
 -- a buffer filled so far, and one read more
 pub front-more : (a b c : Option (List ℕ)) (filled count k : ℕ) (buffer new : List ℕ) → filled ≤ length buffer → count ≤ length new →
@@ -121,23 +135,16 @@ Fed-whole old new slots all handset shown fed same = record {
 -- the end came before all slots
 pub Fed-short : (a b : Option (List ℕ)) (slots more all size : ℕ) (handset : Kept) (shown : List Message) →
     Fed a b slots handset shown → IfSome b (λ left. length left < size) → slots + more ≤ all → size ≡ 92 * more → IfSome a (λ left. length left < 92 * all)
-Fed-short None b slots more all size handset shown fed short within whole = tt
-Fed-short (Some left) None slots more all size handset shown fed short within whole = absurd fed.consumed
-Fed-short (Some left) (Some rest) slots more all size handset shown fed short within whole =
-    let front : length left ≡ length (octets_of_blocks fed.blocks) + length rest =
-    ap length fed.consumed ∙ length-append (octets_of_blocks fed.blocks) rest in
+Fed-short a b slots more all size handset shown fed short within whole =
+    let front : List ℕ = octets_of_blocks fed.blocks in
     let four : length fed.blocks ≡ 4 * slots = fed.slots_are.four in
-    omega (arith, front, four, short, octets_long fed.blocks fed.slots_are.each)
+    behind (λ left. length left < size) (λ left. length left < 92 * all) a b front fed.consumed short
+    (λ rest less. omega (arith, length-append front rest, four, less, octets_long fed.blocks fed.slots_are.each))
 
 -- the end came before all octets of a piece
 pub piece-short : (a b : Option (List ℕ)) (octets : List ℕ) (count : ℕ) → Consumes a b octets → IsAtEnd b → length octets < count →
     IfSome a (λ left. length left < count)
-piece-short None b octets count consumed end short = tt
-piece-short (Some left) None octets count consumed end short = absurd consumed
-piece-short (Some left) (Some rest) octets count consumed end short =
-    let long : length left ≡ length octets + length rest = ap length consumed ∙ length-append octets rest in
-    let none : length rest ≡ 0 = ap length end in
-    omega (arith, long, none)
+piece-short a b octets count consumed end short = at_end (λ left. length left < count) a b octets consumed end short
 
 -- a piece that was filled
 pub ReadsPiece-from : (a b : Option (List ℕ)) (count size : ℕ) (octets : List ℕ) (before after : Kept) (was shown : List Message) (blocks : List (List ℕ)) →
@@ -185,16 +192,12 @@ ReadsTape-from a b c header shown eight few consumed blocks = record {
 
 -- why there is no next tape
 pub header-cut : (a b : Option (List ℕ)) (octets : List ℕ) → Consumes a b octets → IsAtEnd b → 0 < length octets → length octets < 8 → IfSome a IsCut
-header-cut None b octets consumed end some short = tt
-header-cut (Some left) None octets consumed end some short = absurd consumed
-header-cut (Some left) (Some rest) octets consumed end some short =
-    let long : length left ≡ length octets + length rest = ap length consumed ∙ length-append octets rest in
-    let none : length rest ≡ 0 = ap length end in
-    record {
-      some = omega (arith, long, none);
-      few = λ headed. absurd (omega (arith, long, none, headed));
-      inside = λ headed. absurd (omega (arith, long, none, headed));
-    }
+header-cut a b octets consumed end some short =
+    at_end IsCut a b octets consumed end (record {
+      some = some;
+      few = λ headed. absurd (omega (arith, short, headed));
+      inside = λ headed. absurd (omega (arith, short, headed));
+    })
 
 pub header-end : (a b : Option (List ℕ)) (octets : List ℕ) → Consumes a b octets → IsAtEnd b → length octets ≡ 0 → IsAtEnd a
 header-end None b octets consumed end none = tt
@@ -216,24 +219,19 @@ header-oversized (Some left) (Some rest) header consumed eight many =
 
 pub blocks-cut : (a b : Option (List ℕ)) (header : List ℕ) → Consumes a b header → length header ≡ 8 → slots_in header ≤ most_slots →
     IfSome b (λ left. length left < 92 * slots_in header) → IfSome a IsCut
-blocks-cut None b header consumed eight few short = tt
-blocks-cut (Some left) None header consumed eight few short = absurd consumed
-blocks-cut (Some left) (Some rest) header consumed eight few short =
-    let long : length left ≡ length header + length rest = ap length consumed ∙ length-append header rest in
-    let says : slots_in left ≡ slots_in header = ap slots_in consumed ∙ slots-header header rest eight in
+blocks-cut a b header consumed eight few short =
+    behind (λ left. length left < 92 * slots_in header) IsCut a b header consumed short (λ rest less.
+    let long : length (header ++ rest) ≡ length header + length rest = length-append header rest in
+    let says : slots_in (header ++ rest) ≡ slots_in header = slots-header header rest eight in
     record {
       some = omega (arith, long, eight);
       few = λ _. subst (λ n. n ≤ most_slots) (sym says) few;
-      inside = λ _. subst (λ n. length left < 8 + 92 * n) (sym says) (omega (arith, long, eight, short));
-    }
+      inside = λ _. subst (λ n. length (header ++ rest) < 8 + 92 * n) (sym says) (omega (arith, long, eight, less));
+    })
 
 -- one tape and then the end
 pub tape_whole : (a b : Option (List ℕ)) (reading : TapeReading) → ReadsTape a b reading → IsAtEnd b → IfSome a (λ input. IsTape input reading)
-tape_whole None b reading reads end = tt
-tape_whole (Some input) None reading reads end = absurd reads.consumed
-tape_whole (Some input) (Some []) reading reads end =
-    subst (λ octets. IsTape octets reading) (sym (reads.consumed ∙ append-nil reads.octets)) reads.tape
-tape_whole (Some input) (Some (octet ∷ rest)) reading reads end = absurd (cc)
+tape_whole a b reading reads end = at_end (λ input. IsTape input reading) a b reads.octets reads.consumed end reads.tape
 
 -- a tape is as long as its header says
 pub tape_long : (octets rest : List ℕ) (reading : TapeReading) → IsTape octets reading →
@@ -251,14 +249,13 @@ tape_long octets rest reading tape =
     (omega (arith, long, eight), says ∙ sym told, omega (arith, long, eight, four, blocks, told))
 
 pub tape_goes_on : (a b : Option (List ℕ)) (reading : TapeReading) → ReadsTape a b reading → IfSome b (λ left. 0 < length left) → IfSome a IsLongTape
-tape_goes_on None b reading reads more = tt
-tape_goes_on (Some input) None reading reads more = absurd reads.consumed
-tape_goes_on (Some input) (Some rest) reading reads more =
-    let long : length input ≡ length reads.octets + length rest = ap length reads.consumed ∙ length-append reads.octets rest in
-    let tape : (8 ≤ length reads.octets) × (slots_in (reads.octets ++ rest) ≡ reading.slots) × (length reads.octets ≡ 8 + 92 * reading.slots) =
+tape_goes_on a b reading reads more =
+    behind (λ left. 0 < length left) IsLongTape a b reads.octets reads.consumed more (λ rest some.
+    let input : List ℕ = reads.octets ++ rest in
+    let long : length input ≡ length reads.octets + length rest = length-append reads.octets rest in
+    let tape : (8 ≤ length reads.octets) × (slots_in input ≡ reading.slots) × (length reads.octets ≡ 8 + 92 * reading.slots) =
     tape_long reads.octets rest reading reads.tape in
-    let says : slots_in input ≡ reading.slots = ap slots_in reads.consumed ∙ tape.1 in
-    (omega (arith, long, tape.0), λ _. subst (λ n. 8 + 92 * n < length input) (sym says) (omega (arith, long, tape.2, more)))
+    (omega (arith, long, tape.0), λ _. subst (λ n. 8 + 92 * n < length input) (sym tape.1) (omega (arith, long, tape.2, some))))
 
 pub cut_is_short : (input : List ℕ) → IsCut input → IsShortTape input
 cut_is_short input cut headed = (cut.few headed, cut.inside headed)
@@ -304,56 +301,45 @@ ReadsTapes-more a b c readings reading reads next = record {
 
 pub tapes_whole : (a b : Option (List ℕ)) (readings : List TapeReading) → ReadsTapes a b readings → IsAtEnd b → length readings ≤ most_tapes →
     IfSome a (λ input. AreTapes input readings)
-tapes_whole None b readings reads end few = tt
-tapes_whole (Some input) None readings reads end few = absurd reads.consumed
-tapes_whole (Some input) (Some rest) readings reads end few = record {
-  joined = subst (λ octets. AreJoined octets readings) (sym (reads.consumed ∙ ap (λ l. reads.octets ++ l) end ∙ append-nil reads.octets)) reads.joined;
-  few = few;
-}
+tapes_whole a b readings reads end few =
+    at_end (λ input. AreTapes input readings) a b reads.octets reads.consumed end (record { joined = reads.joined; few = few })
+
+-- the input begins with the tapes that were read
+begins : (a b : Option (List ℕ)) (readings : List TapeReading) (reads : ReadsTapes a b readings) (rest : List ℕ) →
+    BeginsWith (reads.octets ++ rest) readings rest
+begins a b readings reads rest = record { front = reads.octets; split = refl; joined = reads.joined }
 
 pub tapes_cut : (a b : Option (List ℕ)) (readings : List TapeReading) → ReadsTapes a b readings → IfSome b IsCut → length readings < most_tapes →
     IfSome a IsShort
-tapes_cut None b readings reads cut few = tt
-tapes_cut (Some input) None readings reads cut few = absurd reads.consumed
-tapes_cut (Some input) (Some rest) readings reads cut few = record {
-  front = reads.octets;
-  rest = rest;
-  readings = readings;
-  split = reads.consumed;
-  joined = reads.joined;
-  few = few;
-  cut = cut;
-}
+tapes_cut a b readings reads cut few =
+    behind IsCut IsShort a b reads.octets reads.consumed cut (λ rest inside.
+    record { readings = readings; rest = rest; begins = begins a b readings reads rest; few = few; cut = inside })
 
 pub tapes_oversized : (a b : Option (List ℕ)) (readings : List TapeReading) → ReadsTapes a b readings → IfSome b IsOversized → length readings < most_tapes →
     IfSome a IsLong
-tapes_oversized None b readings reads oversized few = tt
-tapes_oversized (Some input) None readings reads oversized few = absurd reads.consumed
-tapes_oversized (Some input) (Some rest) readings reads oversized few = record {
-  front = reads.octets;
-  rest = rest;
-  readings = readings;
-  split = reads.consumed;
-  joined = reads.joined;
-  few = omega (arith, few);
-  oversized = λ _. oversized;
-  more = λ all. absurd (omega (arith, few, all));
-}
+tapes_oversized a b readings reads oversized few =
+    behind IsOversized IsLong a b reads.octets reads.consumed oversized (λ rest many.
+    record {
+      readings = readings;
+      rest = rest;
+      begins = begins a b readings reads rest;
+      few = omega (arith, few);
+      oversized = λ _. many;
+      more = λ all. absurd (omega (arith, few, all));
+    })
 
 pub tapes_go_on : (a b : Option (List ℕ)) (readings : List TapeReading) → ReadsTapes a b readings → IfSome b (λ left. 0 < length left) → length readings ≡ most_tapes →
     IfSome a IsLong
-tapes_go_on None b readings reads more all = tt
-tapes_go_on (Some input) None readings reads more all = absurd reads.consumed
-tapes_go_on (Some input) (Some rest) readings reads more all = record {
-  front = reads.octets;
-  rest = rest;
-  readings = readings;
-  split = reads.consumed;
-  joined = reads.joined;
-  few = omega (arith, all);
-  oversized = λ few. absurd (omega (arith, few, all));
-  more = λ _. more;
-}
+tapes_go_on a b readings reads more all =
+    behind (λ left. 0 < length left) IsLong a b reads.octets reads.consumed more (λ rest some.
+    record {
+      readings = readings;
+      rest = rest;
+      begins = begins a b readings reads rest;
+      few = omega (arith, all);
+      oversized = λ few. absurd (omega (arith, few, all));
+      more = λ _. some;
+    })
 
 pub next_is_tapes : (a b : Option (List ℕ)) (readings : List TapeReading) (why : TapeFault) → ReadsTapes a b readings → length readings < most_tapes →
     IfSome b (λ left. IsNextFault left why) → IfSome a (λ input. IsTapesFault input why)

@@ -1,5 +1,6 @@
 pub mod Reading
 pub mod Keeping
+pub mod KeepingSteps
 pub mod Tape
 pub mod TapeSteps
 pub mod TapeLaw

@@ -95,31 +95,43 @@ IsShortTape input = (8 ≤ length input) → (slots_in input ≤ most_slots) × 
 abbrev pub IsLongTape : List ℕ → Type 0
 IsLongTape input = (8 ≤ length input) × (slots_in input ≤ most_slots → tape_length input < length input)
 
--- tapes up to the end, with these readings
-pub record AreTapes (input : List ℕ) (readings : List TapeReading) : Type 0 where
-  pub joined : AreJoined input readings
-  pub few : length readings ≤ most_tapes
-
--- an input that ends inside one of its tapes
-pub record IsShort (input : List ℕ) : Type 0 where
+-- an input begins with whole tapes, which have these readings, and behind them stands a rest
+pub record BeginsWith (input : List ℕ) (readings : List TapeReading) (rest : List ℕ) : Type 0 where
   pub front : List ℕ
-  pub rest : List ℕ
-  pub readings : List TapeReading
   pub split : input ≡ front ++ rest
   pub joined : AreJoined front readings
-  pub few : length readings < most_tapes
+
+-- tapes up to the end, at most so many, with these readings
+pub record AreTapesWithin (most : ℕ) (input : List ℕ) (readings : List TapeReading) : Type 0 where
+  pub joined : AreJoined input readings
+  pub few : length readings ≤ most
+
+-- an input that ends inside one of its tapes, which are at most so many
+pub record IsShortWithin (most : ℕ) (input : List ℕ) : Type 0 where
+  pub readings : List TapeReading
+  pub rest : List ℕ
+  pub begins : BeginsWith input readings rest
+  pub few : length readings < most
   pub cut : IsCut rest
 
 -- an input that goes on after the last tape that it may have, or in which a header says too many slots
-pub record IsLong (input : List ℕ) : Type 0 where
-  pub front : List ℕ
-  pub rest : List ℕ
+pub record IsLongWithin (most : ℕ) (input : List ℕ) : Type 0 where
   pub readings : List TapeReading
-  pub split : input ≡ front ++ rest
-  pub joined : AreJoined front readings
-  pub few : length readings ≤ most_tapes
-  pub oversized : length readings < most_tapes → IsOversized rest
-  pub more : length readings ≡ most_tapes → 0 < length rest
+  pub rest : List ℕ
+  pub begins : BeginsWith input readings rest
+  pub few : length readings ≤ most
+  pub oversized : length readings < most → IsOversized rest
+  pub more : length readings ≡ most → 0 < length rest
+
+-- the same of the most tapes that an input may have
+abbrev pub AreTapes : List ℕ → List TapeReading → Type 0
+AreTapes input readings = AreTapesWithin most_tapes input readings
+
+abbrev pub IsShort : List ℕ → Type 0
+IsShort input = IsShortWithin most_tapes input
+
+abbrev pub IsLong : List ℕ → Type 0
+IsLong input = IsLongWithin most_tapes input
 
 -- why an input gives no readings, want of memory and the reader's failure aside
 abbrev pub IsTapeFault : List ℕ → TapeFault → Type 0

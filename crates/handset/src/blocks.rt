@@ -3,7 +3,8 @@
 ghost use Rattle.std.specs.Prelude.{◌≡◌, ◌++◌, ◌∷◌, [], drop};
 ghost use Rattle.std.specs.Option.{option_to_list};
 ghost use Rattle.handset.specs.Reading.{page_octets};
-ghost use Rattle.handset.specs.Keeping.{blocks_of, under_way_with, page_ended};
+ghost use Rattle.handset.specs.Keeping.{blocks_of};
+ghost use Rattle.handset.specs.KeepingSteps.{under_way_with, page_ended};
 
 use cbs_page::{PageView, read_page};
 

@@ -5,7 +5,8 @@ ghost use Rattle.std.specs.Prelude.{◌≡◌, [], ◌∷◌, ◌++◌, List, �
 ghost use Rattle.std.specs.Option.{option_to_list};
 ghost use Rattle.cbs_page.specs.Page.{is_readable};
 ghost use Rattle.handset.specs.Reading.{shown_in};
-ghost use Rattle.handset.specs.Keeping.{HasRead, messages_of, pages_with_read, message_ended_read, message_whole};
+ghost use Rattle.handset.specs.Keeping.{HasRead, messages_of};
+ghost use Rattle.handset.specs.KeepingSteps.{pages_with_read, message_ended_read, message_whole};
 
 use crate::blocks::Begun;
 use crate::messages::{Refused, Shown, is_complete, is_counted, message};

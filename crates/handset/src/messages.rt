@@ -6,7 +6,8 @@ ghost use Rattle.std.specs.List.{flat_map, list_all, range_with_len};
 ghost use Rattle.cbs_page.specs.Page.{is_readable};
 ghost use Rattle.cbs_page.specs.Text.{text_of_page};
 ghost use Rattle.handset.specs.Reading.{name_of, is_of};
-ghost use Rattle.handset.specs.Keeping.{is_numbered, agrees_with_first, counts, total_kept, is_whole, text_kept, message_kept, message_shown};
+ghost use Rattle.handset.specs.Keeping.{is_numbered, message_shown};
+ghost use Rattle.handset.specs.KeepingSteps.{agrees_with_first, counts, total_kept, is_whole, text_kept, message_kept};
 
 use cbs_page::{PageView, Serial, page_text};
 use std::alloc::{AllocError, Global};

@@ -64,6 +64,7 @@ pub enum TapeFault {
     Refused,
 }
 
+// By hand, as the two below: a derived conversion has no contract, and `?` is to give a fault that clauses name.
 impl From<Failed> for TapeFault {
     ghost from_gives = { λ _ fault. fault ≡ ReadFailed };
 
@@ -89,6 +90,10 @@ impl From<crate::Refused> for TapeFault {
 }
 
 /// Reads one tape, after which the input is to end.
+///
+/// Answers [`TapeFault::Short`] where the input ends before its tape does, [`TapeFault::Long`] where it goes on after the tape or
+/// the header says more than 4,096 slots, [`TapeFault::ReadFailed`] exactly where the source has failed, now or earlier, and
+/// [`TapeFault::Refused`] for want of memory.
 pub fn read_tape<R: Read>(alloc: Global, source: &mut Source<R>) -> Result<Reading, TapeFault>
     ensures reading { IfOk result (λ reading. IfSome (R.remaining (reader_of source.old)) (λ input.
         IsTape input (reading_of reading))) }
@@ -115,7 +120,8 @@ pub fn read_tape<R: Read>(alloc: Global, source: &mut Source<R>) -> Result<Readi
     }
 }
 
-/// Reads tapes up to the end of the input, at most 64.
+/// Reads tapes up to the end of the input, at most 64; an input of no octets has none. Answers the faults of [`read_tape`]:
+/// short is an input that ends inside one of its tapes, and long one that goes on after the 64th or has a header of too many slots.
 pub fn read_tapes<R: Read>(alloc: Global, source: &mut Source<R>) -> Result<Vec<Reading>, TapeFault>
     ensures readings { IfOk result (λ readings. IfSome (R.remaining (reader_of source.old)) (λ input.
         AreTapes input (readings_of readings.items))) }

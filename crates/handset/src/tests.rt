@@ -76,6 +76,20 @@ fn shows(
     Ok(text)
 }
 
+/// That a page shows this text, or "" for none.
+fn is_shown(
+    rt: &impl Abort,
+    alloc: Global,
+    handset: &mut Handset,
+    page: Letter,
+    text: &str,
+    what: &str,
+) -> Result<(), Fail> {
+    let shown = shows(rt, alloc, handset, page)?;
+    assert_eq!(rt; shown.as_str(), text, "{what}");
+    Ok(())
+}
+
 #[test]
 fn shows_a_page_once(rt: HostRuntime) -> Result<(), Fail> {
     let mut handset = Handset::new(rt.alloc());
@@ -172,8 +186,7 @@ fn shows_what_the_pages_say(rt: HostRuntime) -> Result<(), Fail> {
         ((0x0070, UCS2, 0x13, b'T'), "", "first of three again"),
     ];
     for (page, text, what) in pages {
-        let shown = shows(&rt, rt.alloc(), &mut handset, page)?;
-        assert_eq!(rt; shown.as_str(), text, "{what}");
+        is_shown(&rt, rt.alloc(), &mut handset, page, text, what)?;
     }
     assert_eq!(rt; handset.shown().len(), 8);
     Ok(())
@@ -186,8 +199,7 @@ fn keeps_many(rt: HostRuntime) -> Result<(), Fail> {
     for (parameter, letter, text) in [(0x12, b'a', ""), (0x22, b'b', "ab")] {
         for serial in 0..100 {
             let page = (serial, UCS2, parameter, letter);
-            let shown = shows(&rt, rt.alloc(), &mut handset, page)?;
-            assert_eq!(rt; shown.as_str(), text, "{serial}");
+            is_shown(&rt, rt.alloc(), &mut handset, page, text, "one of many")?;
         }
     }
     assert_eq!(rt; handset.shown().len(), 100);

@@ -5,6 +5,7 @@ ghost use Rattle.std.specs.Io.{ReadsAtMost};
 ghost use Rattle.std.specs.Io.KnownBytes.{ReadConsumes};
 ghost use Rattle.device_ends.specs.Calls.{after_one_call};
 
+use super::calls::count_call;
 use std::io;
 use std::io::Read;
 
@@ -65,11 +66,7 @@ impl Read for MemoryReader<'_> {
         ensures calls { reads_left self.new ≡ after_one_call (reads_left self.old) }
         ensures per_call { octets_per_read self.new ≡ octets_per_read self.old }
     {
-        self.calls = match self.calls {
-            Some(0) => return Err(io::Error::other("no call is left")),
-            Some(left) => Some(left - 1),
-            None => None,
-        };
+        count_call(&mut self.calls)?;
         let count = self.per_call.min(buffer.len()).min(self.octets.len());
         let (given, rest) = self.octets.split_at(count);
         buffer[..count].copy_from_slice(given);

@@ -5,6 +5,7 @@ ghost use Rattle.std.specs.Io.{WritesAtMost};
 ghost use Rattle.std.specs.Io.KnownBytes.{Keeps, WriteAppends};
 ghost use Rattle.device_ends.specs.Calls.{after_one_call};
 
+use super::calls::count_call;
 use std::alloc::Global;
 use std::io;
 use std::io::Write;
@@ -60,11 +61,7 @@ impl Write for MemoryWriter {
         ensures calls { writes_left self.new ≡ after_one_call (writes_left self.old) }
         ensures per_call { octets_per_write self.new ≡ octets_per_write self.old }
     {
-        self.calls = match self.calls {
-            Some(0) => return Err(io::Error::other("no call is left")),
-            Some(left) => Some(left - 1),
-            None => None,
-        };
+        count_call(&mut self.calls)?;
         let count = self.per_call.min(octets.len());
         self.octets.extend_from_slice(&octets[..count])?;
         Ok(count)

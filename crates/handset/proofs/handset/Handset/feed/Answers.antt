@@ -1,7 +1,8 @@
 use Rattle.std.proofs.Common.{◌≡◌, ◌∙◌, [], ◌∷◌, ◌++◌, sym, ap, append-nil}
 use Rattle.std.specs.Option.{option_to_list}
 use Rattle.handset.specs.Reading.{shown_in}
-use Rattle.handset.specs.Keeping.{messages_of, blocks_of, under_way_with, page_ended, pages_with_read, message_ended_read}
+use Rattle.handset.specs.Keeping.{messages_of, blocks_of}
+use Rattle.handset.specs.KeepingSteps.{under_way_with, page_ended, pages_with_read, message_ended_read}
 use Rattle.handset.proofs.ReadingLaws.{reads_none, shows_none, reads_page, shows_page}
 use Rattle.handset.proofs.handset.Handset.feed.Goals as goal
 use Rattle.handset.proofs.handset.Handset.feed.Goals.{in-None, in-Some+in_ok-answer-in-Some}
