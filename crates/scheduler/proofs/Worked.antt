@@ -1,5 +1,5 @@
 -- The definitions on worked values.
-use Rattle.std.proofs.Common.{◌≡◌, ℕ, Bool, true, false, refl, Some, None, List, [], ◌∷◌}
+use Rattle.std.proofs.Common.{◌≡◌, ℕ, Bool, true, false, refl, Some, None, List, [], ◌∷◌, map}
 use Rattle.scheduler.specs.Message.{Message}
 use Rattle.scheduler.specs.Completed.{completed}
 use Rattle.scheduler.specs.Choice.{air_of}
@@ -22,11 +22,8 @@ two = message 0 1 2 0 false ∷ message 1 2 4 0 false ∷ []
 two_aired : air_of two 4 ≡ Some (0, 1) ∷ Some (1, 1) ∷ Some (0, 1) ∷ Some (1, 2) ∷ []
 two_aired = refl
 
-first_completed : completed (message 0 1 2 0 false) (air_of two 4) 4 ≡ 2
-first_completed = refl
-
-second_completed : completed (message 1 2 4 0 false) (air_of two 4) 4 ≡ 1
-second_completed = refl
+two_completed : map (λ m. completed m (air_of two 4) 4) two ≡ 2 ∷ 1 ∷ []
+two_completed = refl
 
 second_not_yet : completed (message 1 2 4 0 false) (air_of two 4) 3 ≡ 0
 second_not_yet = refl
@@ -42,14 +39,8 @@ three = message 0 1 6 0 false ∷ message 1 1 3 0 false ∷ message 2 1 2 0 fals
 three_aired : air_of three 6 ≡ Some (2, 1) ∷ Some (1, 1) ∷ Some (2, 1) ∷ Some (0, 1) ∷ Some (1, 1) ∷ Some (2, 1) ∷ []
 three_aired = refl
 
-sixth_completed : completed (message 0 1 6 0 false) (air_of three 6) 6 ≡ 1
-sixth_completed = refl
-
-third_completed : completed (message 1 1 3 0 false) (air_of three 6) 6 ≡ 2
-third_completed = refl
-
-half_completed : completed (message 2 1 2 0 false) (air_of three 6) 6 ≡ 3
-half_completed = refl
+three_completed : map (λ m. completed m (air_of three 6) 6) three ≡ 1 ∷ 2 ∷ 3 ∷ []
+three_completed = refl
 
 -- two broadcasts in periods of three slots
 runs_out : air_of (message 0 1 3 2 false ∷ []) 9 ≡ Some (0, 1) ∷ None ∷ None ∷ Some (0, 1) ∷ None ∷ None ∷ None ∷ None ∷ None ∷ []

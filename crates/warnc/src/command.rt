@@ -72,37 +72,21 @@ fn read<'a>(alloc: Global) -> Command<'a> {
 
 /// The command line of `page`.
 fn page<'a>(alloc: Global) -> Result<Command<'a>, AllocError> {
-    let language = Arg::new(alloc, "lang")
-        .long("lang")
-        .value_name("LANGUAGE")
-        .help(
-            "The text's language: de, en, it, fr, es, nl, sv, da, pt, fi, no, el, tr, hu, pl, und, cs, he, ar, ru or is",
-        )
-        .required(true);
-    let id = Arg::new(alloc, "id")
-        .long("id")
-        .value_name("ID")
-        .help("The message identifier, 0 to 65535")
-        .value_parser(value_parser!(u16))
-        .required(true);
-    let scope = Arg::new(alloc, "scope")
-        .long("scope")
-        .value_name("SCOPE")
-        .help("The geographical scope, 0 to 3")
-        .value_parser(value_parser!(u8).range(0..=3))
-        .required(true);
-    let code = Arg::new(alloc, "code")
-        .long("code")
-        .value_name("CODE")
-        .help("The message code, 0 to 1023")
-        .value_parser(value_parser!(u16).range(0..=1023))
-        .required(true);
-    let update = Arg::new(alloc, "update")
-        .long("update")
-        .value_name("UPDATE")
-        .help("The update number, 0 to 15")
-        .value_parser(value_parser!(u8).range(0..=15))
-        .required(true);
+    let languages =
+        "The text's language: de, en, it, fr, es, nl, sv, da, pt, fi, no, el, tr, hu, pl, und, cs, he, ar, ru or is";
+    let language = option(alloc, "lang", "LANGUAGE", languages);
+    let id = option(alloc, "id", "ID", "The message identifier, 0 to 65535").value_parser(
+        value_parser!(u16),
+    );
+    let scope = option(alloc, "scope", "SCOPE", "The geographical scope, 0 to 3").value_parser(
+        value_parser!(u8).range(0..=3),
+    );
+    let code = option(alloc, "code", "CODE", "The message code, 0 to 1023").value_parser(
+        value_parser!(u16).range(0..=1023),
+    );
+    let update = option(alloc, "update", "UPDATE", "The update number, 0 to 15").value_parser(
+        value_parser!(u8).range(0..=15),
+    );
     Command::new(alloc, "page")
         .about("Reads a text and writes the blocks of its pages, then what a handset shows of them")
         .arg(language)?
@@ -110,4 +94,13 @@ fn page<'a>(alloc: Global) -> Result<Command<'a>, AllocError> {
         .arg(scope)?
         .arg(code)?
         .arg(update)
+}
+
+/// An option that must be given, by this word behind two dashes.
+fn option<'a>(alloc: Global, name: &'a str, value: &'a str, help: &'a str) -> Arg<'a> {
+    Arg::new(alloc, name)
+        .long(name)
+        .value_name(value)
+        .help(help)
+        .required(true)
 }

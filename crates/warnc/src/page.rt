@@ -1,12 +1,13 @@
 //! The command `page`: one text to the blocks of its pages, and what a handset shows of them.
 
-ghost use Rattle.std.specs.Prelude.{◌≡◌, ◌≢◌, ◌↔◌, ◌≤◌, ◌++◌, ℕ, List, false, length, string_bytes, IfErr, IfOk, IfSome, IsErrOf, IsTrue, OnOk};
-ghost use Rattle.std.specs.Io.KnownBytes.{Appends, Keeps};
+ghost use Rattle.std.specs.Prelude.{◌≡◌, ◌≤◌, ◌++◌, ℕ, List, length, string_bytes, IfErr, IfOk, IfSome, OnOk};
+ghost use Rattle.std.specs.Io.KnownBytes.{Appends};
 ghost use Rattle.std.specs.List.{flat_map};
-ghost use Rattle.device_ends.specs.Sink.{sink_failed, writer_of};
-ghost use Rattle.device_ends.specs.Source.{reader_of, source_failed};
+ghost use Rattle.device_ends.specs.Sink.{writer_of};
+ghost use Rattle.device_ends.specs.Source.{reader_of};
 ghost use Rattle.handset.specs.Keeping.{HasRead, message_shown, messages_of};
 ghost use Rattle.warnc.specs.PageOutput.{without_final_lf, blocks_of_message, block_line, message_line, lines_of, IsPageOutput, IsPageFault, IsStreamFault};
+ghost use Rattle.warnc.specs.Stream.{IsStreamBetween};
 
 use cbch_blocks::cut;
 use cbs_page::{Paged, Serial, TextFault, page_bytes, paginate};
@@ -61,14 +62,8 @@ pub fn page_stream<R: Read, W: Write>(
         IsStreamFault language.now id serial input (W.contents (writer_of sink.old)) (W.contents (writer_of sink.new)) fault)) }
 
     // At any reader and any writer.
-    ensures wrote { OnOk result ((input output : List ℕ) × IsPageOutput language.now id serial input output
-        × Appends (W.contents (writer_of sink.old)) (W.contents (writer_of sink.new)) output) }
-    ensures nothing { IfErr result (λ fault. fault ≢ PageFault.Write
-        → Keeps (W.contents (writer_of sink.old)) (W.contents (writer_of sink.new))) }
-    ensures untouched { IfErr result (λ fault. fault ≢ PageFault.Write → sink.new ≡ sink.old) }
-    ensures read { IsErrOf result PageFault.Read ↔ IsTrue (source_failed source.new) }
-    ensures write { IsErrOf result PageFault.Write → IsTrue (sink_failed sink.new) }
-    ensures sound { OnOk result (sink_failed sink.new ≡ false) }
+    ensures ends { IsStreamBetween (IsPageOutput language.now id serial) PageFault.Read PageFault.Write result
+        source.new sink.old sink.new (W.contents (writer_of sink.old)) (W.contents (writer_of sink.new)) }
 {
     let input = match read_up_to(source, alloc, MOST_OCTETS) {
         Ok(input) => input,

@@ -1,12 +1,13 @@
 //! The command `read`: tapes to a table of what a handset shows of them.
 
-ghost use Rattle.std.specs.Prelude.{◌≡◌, ◌≢◌, ◌↔◌, ◌++◌, ℕ, List, false, IfErr, IfOk, IfSome, IsErrOf, IsTrue, OnOk};
-ghost use Rattle.std.specs.Io.KnownBytes.{Appends, Keeps};
+ghost use Rattle.std.specs.Prelude.{◌≡◌, ◌++◌, ℕ, List, IfErr, IfOk, IfSome, OnOk};
+ghost use Rattle.std.specs.Io.KnownBytes.{Appends};
 ghost use Rattle.std.specs.List.{flat_map};
-ghost use Rattle.device_ends.specs.Sink.{sink_failed, writer_of};
-ghost use Rattle.device_ends.specs.Source.{reader_of, source_failed};
+ghost use Rattle.device_ends.specs.Sink.{writer_of};
+ghost use Rattle.device_ends.specs.Source.{reader_of};
 ghost use Rattle.handset.specs.Tape.{reading_of, readings_of};
 ghost use Rattle.warnc.specs.ReadOutput.{reading_rows, table_fault_of, table_of, IsReadOutput, IsReadFault};
+ghost use Rattle.warnc.specs.Stream.{IsStreamBetween};
 
 use crate::table::{push_header, push_message};
 use device_ends::{Failed, Sink, Source, write_all};
@@ -51,14 +52,8 @@ pub fn read_stream<R: Read, W: Write>(
         IsReadFault input (W.contents (writer_of sink.old)) (W.contents (writer_of sink.new)) fault)) }
 
     // At any reader and any writer.
-    ensures wrote { OnOk result ((input output : List ℕ) × IsReadOutput input output
-        × Appends (W.contents (writer_of sink.old)) (W.contents (writer_of sink.new)) output) }
-    ensures nothing { IfErr result (λ fault. fault ≢ TableFault.Write
-        → Keeps (W.contents (writer_of sink.old)) (W.contents (writer_of sink.new))) }
-    ensures untouched { IfErr result (λ fault. fault ≢ TableFault.Write → sink.new ≡ sink.old) }
-    ensures read { IsErrOf result TableFault.Read ↔ IsTrue (source_failed source.new) }
-    ensures write { IsErrOf result TableFault.Write → IsTrue (sink_failed sink.new) }
-    ensures sound { OnOk result (sink_failed sink.new ≡ false) }
+    ensures ends { IsStreamBetween IsReadOutput TableFault.Read TableFault.Write result
+        source.new sink.old sink.new (W.contents (writer_of sink.old)) (W.contents (writer_of sink.new)) }
 {
     let readings = match read_tapes(alloc, source) {
         Ok(readings) => readings,

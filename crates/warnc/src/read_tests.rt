@@ -1,8 +1,6 @@
 //! Runs of `read` between memory and memory. The blocks are those of a worked page; UCS-2 pages are spelled out.
 
-use crate::run::run;
-use crate::tests::{Outcome, expect_fault, run_on};
-use device_ends::memory::{MemoryReader, MemoryWriter};
+use crate::tests::{Outcome, expect_failed_reader, expect_failed_writer, expect_fault, run_on};
 use std::alloc::{AllocError, Global};
 use std::process::Abort;
 use std::test::Fail;
@@ -120,23 +118,12 @@ fn more_slots_or_tapes_than_there_may_be_are_long(rt: HostRuntime) -> Result<(),
 #[test]
 fn a_reader_that_fails_anywhere_is_status_3(rt: HostRuntime) -> Result<(), Fail> {
     let tape = worked_tape(rt.alloc())?;
-    for calls in 0..193 {
-        let mut reader = MemoryReader::new(&tape, 1, Some(calls));
-        let mut writer = MemoryWriter::new(rt.alloc(), 100, None);
-        let mut faults = MemoryWriter::new(rt.alloc(), 100, None);
-        let status = run(&rt, &READ, &mut reader, &mut writer, &mut faults);
-        assert_eq!(rt; status, 3);
-        assert_eq!(rt; faults.contents(), b"warnc: read failed\n".as_slice());
-        assert_eq!(rt; writer.contents(), b"".as_slice());
+    for call in 0..193 {
+        expect_failed_reader(&rt, &READ, &tape, call);
     }
-    for calls in 0..2 {
-        let mut reader = MemoryReader::new(&tape, 100, None);
-        let mut writer = MemoryWriter::new(rt.alloc(), 20, Some(calls));
-        let mut faults = MemoryWriter::new(rt.alloc(), 100, None);
-        let status = run(&rt, &READ, &mut reader, &mut writer, &mut faults);
-        assert_eq!(rt; status, 3);
-        assert_eq!(rt; faults.contents(), b"warnc: write failed\n".as_slice());
-        assert_eq!(rt; writer.contents().len(), 20 * calls);
+    let table = "lac,ci,id,serial,text\n1,1,4370,0010,@\n";
+    for call in 0..2 {
+        expect_failed_writer(&rt, &READ, &tape, table, 20, call);
     }
     Ok(())
 }

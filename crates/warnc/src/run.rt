@@ -6,7 +6,7 @@ ghost use Rattle.device_ends.specs.Sink.{sink_failed, writer_of};
 ghost use Rattle.device_ends.specs.Source.{reader_of, source_failed};
 ghost use Rattle.warnc.specs.PageOutput.{IsPageOutput};
 ghost use Rattle.warnc.specs.ReadOutput.{IsReadOutput};
-ghost use Rattle.warnc.specs.Status.{status_of_fault, status_of_table_fault, IsNoTapes, IsRefused, IsRefusedBySome, WritesSome};
+ghost use Rattle.warnc.specs.Status.{status_of_fault, status_of_table_fault, IsNoTapes, IsRefused, IsRefusedBySome, IsRunBetween, IsStatusOfSink, OneHasFailed, WritesSome};
 
 use crate::command::{Order, PageOptions, order_of};
 use crate::page::{PageFault, page_stream};
@@ -67,10 +67,10 @@ pub fn run_ends<S: AsStr, R: Read, W: Write, F: Write>(
         → Keeps (W.contents (writer_of sink.old)) (W.contents (writer_of sink.new)) }
     ensures untouched { (result ≢ DONE) → (result ≢ DEVICE) → sink.new ≡ sink.old }
     ensures refused { result ≡ REFUSED_INPUT → IsRefusedBySome (R.remaining (reader_of source.old)) }
-    ensures device { result ≡ DEVICE → (source_failed source.new ≡ true) ⊎ (sink_failed sink.new ≡ true) }
+    ensures device { result ≡ DEVICE → OneHasFailed source.new sink.new }
     ensures unread { result ≡ USAGE → source.new ≡ source.old }
     ensures failed { (source_failed source.old ≡ false) → (sink_failed sink.old ≡ false)
-        → (source_failed source.new ≡ true) ⊎ (sink_failed sink.new ≡ true) → result ≡ DEVICE }
+        → OneHasFailed source.new sink.new → result ≡ DEVICE }
     ensures statuses { result ≤ 4 }
 {
     match order_of(alloc, words) {
@@ -95,16 +95,9 @@ fn run_page<R: Read, W: Write, F: Write>(
     ensures done { result ≡ DONE → IfSome (R.remaining (reader_of source.old)) (λ input.
         (output : List ℕ) × IsPageOutput options.now.language.now options.now.id options.now.serial input output
         × Appends (W.contents (writer_of sink.old)) (W.contents (writer_of sink.new)) output) }
-    ensures wrote { result ≡ DONE → WritesSome (W.contents (writer_of sink.old)) (W.contents (writer_of sink.new)) }
-    ensures nothing { (result ≢ DONE) → (result ≢ DEVICE)
-        → Keeps (W.contents (writer_of sink.old)) (W.contents (writer_of sink.new)) }
-    ensures untouched { (result ≢ DONE) → (result ≢ DEVICE) → sink.new ≡ sink.old }
+    ensures ends { IsRunBetween result source.new sink.old sink.new
+        (W.contents (writer_of sink.old)) (W.contents (writer_of sink.new)) }
     ensures refused { result ≡ REFUSED_INPUT → IfSome (R.remaining (reader_of source.old)) (IsRefused options.now.language.now) }
-    ensures device { result ≡ DEVICE → (source_failed source.new ≡ true) ⊎ (sink_failed sink.new ≡ true) }
-    ensures failed { (sink_failed sink.old ≡ false)
-        → (source_failed source.new ≡ true) ⊎ (sink_failed sink.new ≡ true) → result ≡ DEVICE }
-    ensures not_usage { result ≢ USAGE }
-    ensures statuses { result ≤ 4 }
 {
     match page_stream(
         alloc,
@@ -144,16 +137,9 @@ fn run_read<R: Read, W: Write, F: Write>(
     ensures done { result ≡ DONE → IfSome (R.remaining (reader_of source.old)) (λ input.
         (output : List ℕ) × IsReadOutput input output
         × Appends (W.contents (writer_of sink.old)) (W.contents (writer_of sink.new)) output) }
-    ensures wrote { result ≡ DONE → WritesSome (W.contents (writer_of sink.old)) (W.contents (writer_of sink.new)) }
-    ensures nothing { (result ≢ DONE) → (result ≢ DEVICE)
-        → Keeps (W.contents (writer_of sink.old)) (W.contents (writer_of sink.new)) }
-    ensures untouched { (result ≢ DONE) → (result ≢ DEVICE) → sink.new ≡ sink.old }
+    ensures ends { IsRunBetween result source.new sink.old sink.new
+        (W.contents (writer_of sink.old)) (W.contents (writer_of sink.new)) }
     ensures refused { result ≡ REFUSED_INPUT → IfSome (R.remaining (reader_of source.old)) IsNoTapes }
-    ensures device { result ≡ DEVICE → (source_failed source.new ≡ true) ⊎ (sink_failed sink.new ≡ true) }
-    ensures failed { (sink_failed sink.old ≡ false)
-        → (source_failed source.new ≡ true) ⊎ (sink_failed sink.new ≡ true) → result ≡ DEVICE }
-    ensures not_usage { result ≢ USAGE }
-    ensures statuses { result ≤ 4 }
 {
     match read_stream(alloc, source, sink) {
         Ok(()) => DONE,
@@ -182,14 +168,11 @@ fn run_help<W: Write, F: Write>(
     sink: &mut Sink<W>,
     faults: &mut F,
 ) -> u8
-    ensures done { result ≡ DONE → WritesSome (W.contents (writer_of sink.old)) (W.contents (writer_of sink.new)) }
-    ensures nothing { (result ≢ DONE) → (result ≢ DEVICE)
-        → Keeps (W.contents (writer_of sink.old)) (W.contents (writer_of sink.new)) }
-    ensures untouched { (result ≢ DONE) → (result ≢ DEVICE) → sink.new ≡ sink.old }
+    ensures sink { IsStatusOfSink result sink.old sink.new
+        (W.contents (writer_of sink.old)) (W.contents (writer_of sink.new)) }
     ensures not_refused { result ≢ REFUSED_INPUT }
     ensures device { result ≡ DEVICE → sink_failed sink.new ≡ true }
     ensures failed { (sink_failed sink.old ≡ false) → sink_failed sink.new ≡ true → result ≡ DEVICE }
-    ensures statuses { result ≤ 4 }
 {
     if error.kind() == ErrorKind::OutOfMemory {
         let _ = writeln!(faults, "warnc: out of memory");

@@ -223,38 +223,55 @@ fn help_is_written(rt: HostRuntime) -> Result<(), Fail> {
     Ok(())
 }
 
+/// Expects that a reader which fails at this call, counted from 0, is status 3, and that nothing is written. It gives an octet a call.
+pub fn expect_failed_reader<T: AllocGlobal + Abort>(
+    rt: &T,
+    words: &[&str],
+    input: &[u8],
+    call: usize,
+) {
+    let mut reader = MemoryReader::new(input, 1, Some(call));
+    let mut writer = MemoryWriter::new(rt.alloc(), 100, None);
+    let mut faults = MemoryWriter::new(rt.alloc(), 100, None);
+    let status = run(rt, words, &mut reader, &mut writer, &mut faults);
+    assert_eq!(rt; status, 3);
+    assert_eq!(rt; faults.contents(), b"warnc: read failed\n".as_slice());
+    assert_eq!(rt; writer.contents(), b"".as_slice());
+}
+
+/// Expects that a writer which fails at this call, counted from 0, is status 3, and that what it took before is a front of the output. It
+/// takes `per_call` octets a call.
+pub fn expect_failed_writer<T: AllocGlobal + Abort>(
+    rt: &T,
+    words: &[&str],
+    input: &[u8],
+    output: &str,
+    per_call: usize,
+    call: usize,
+) {
+    let mut reader = MemoryReader::new(input, 100, None);
+    let mut writer = MemoryWriter::new(rt.alloc(), per_call, Some(call));
+    let mut faults = MemoryWriter::new(rt.alloc(), 100, None);
+    let status = run(rt, words, &mut reader, &mut writer, &mut faults);
+    assert_eq!(rt; status, 3);
+    assert_eq!(rt; faults.contents(), b"warnc: write failed\n".as_slice());
+    assert_eq!(rt; writer.contents().len(), per_call.saturating_mul(call));
+    assert!(rt; output.as_bytes().starts_with(writer.contents()));
+}
+
 #[test]
-fn a_device_that_fails_is_status_3(rt: HostRuntime) -> Result<(), Fail> {
+fn a_device_that_fails_is_status_3(rt: HostRuntime) {
     let words = page("en");
-    for calls in 0..2 {
-        let mut reader = MemoryReader::new(b"@\n", 1, Some(calls));
-        let mut writer = MemoryWriter::new(rt.alloc(), 100, None);
-        let mut faults = MemoryWriter::new(rt.alloc(), 100, None);
-        let status = run(&rt, &words, &mut reader, &mut writer, &mut faults);
-        assert_eq!(rt; status, 3);
-        assert_eq!(rt; faults.contents(), b"warnc: read failed\n".as_slice());
-        assert_eq!(rt; writer.contents(), b"".as_slice());
+    for call in 0..2 {
+        expect_failed_reader(&rt, &words, b"@\n", call);
     }
-    for calls in 0..3 {
-        let mut reader = MemoryReader::new(b"@\n", 10, None);
-        let mut writer = MemoryWriter::new(rt.alloc(), 90, Some(calls));
-        let mut faults = MemoryWriter::new(rt.alloc(), 100, None);
-        let status = run(&rt, &words, &mut reader, &mut writer, &mut faults);
-        assert_eq!(rt; status, 3);
-        assert_eq!(rt; faults.contents(), b"warnc: write failed\n".as_slice());
-        assert_eq!(rt; writer.contents().len(), 90 * calls);
-        assert!(rt; AT.as_bytes().starts_with(writer.contents()));
+    for call in 0..3 {
+        expect_failed_writer(&rt, &words, b"@\n", AT, 90, call);
     }
     let mut reader = MemoryReader::new(b"", 10, None);
     let mut writer = MemoryWriter::new(rt.alloc(), 10, Some(0));
     let mut faults = MemoryWriter::new(rt.alloc(), 10, Some(0));
-    let status = run(
-        &rt,
-        &["warnc", "--help"],
-        &mut reader,
-        &mut writer,
-        &mut faults,
-    );
+    let help = ["warnc", "--help"];
+    let status = run(&rt, &help, &mut reader, &mut writer, &mut faults);
     assert_eq!(rt; status, 3);
-    Ok(())
 }

@@ -1,10 +1,14 @@
+use Rattle.std.proofs.Common.{rules}
+use Rattle.warnc.specs.Status.{WritesSome}
 use Rattle.warnc.proofs.OutputLaws.{some_output}
 use Rattle.warnc.proofs.run.run_page.Goals as goal
 
-pub returns-in-Ok-clause-wrote : goal.returns-in-Ok-clause-wrote
-returns-in-Ok-clause-wrote g c = λ done.
-    let wrote = c.in-Ok.ensures.wrote in (
+pub returns-in-Ok-clause-ends : goal.returns-in-Ok-clause-ends
+returns-in-Ok-clause-ends g c =
+    let wrote = c.in-Ok.ensures.ends.wrote in
+    let some : WritesSome _ _ = (
       wrote.1,
       some_output c.args.options.now.language.now c.args.options.now.id c.args.options.now.serial wrote.0 wrote.1 wrote.2,
       wrote.3,
-    )
+    ) in
+    search (rules, some)
