@@ -7,6 +7,8 @@ ghost use Rattle.scheduler.specs.Completed.{IsWhole};
 ghost use Rattle.scheduler.specs.Choice.{choice};
 
 /// States, as its contract, what the air rule promises. It does nothing.
+//
+// Long for its clauses alone.
 pub fn air_laws()
     // What a slot airs is determined, where the numbers of the messages rise.
     ensures one_choice { (messages : List Message) (air : Air) (slot : ℕ) (used other : Option (ℕ × ℕ))
