@@ -4,5 +4,6 @@ pub mod Cutting
 pub mod CuttingLaws
 pub mod TextLaws
 pub mod PaginateLaws
+pub mod LongTexts
 pub mod CodingLaws
 mod Worked

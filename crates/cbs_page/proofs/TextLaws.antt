@@ -88,11 +88,11 @@ shows_piece Ucs2 piece content good within here =
     (by_parts (IsSendable Ucs2) (λ c. c < 65536) (λ c h. h.1) piece good)
     (by_parts (IsSendable Ucs2) (λ c. c ≢ 13) (λ c h. h.2) piece good) here.1
 
-first_part : (P : ℕ → Type 0) (xs ys : List ℕ) → AllByRecursion P (xs ++ ys) → AllByRecursion P xs
+pub first_part : (P : ℕ → Type 0) (xs ys : List ℕ) → AllByRecursion P (xs ++ ys) → AllByRecursion P xs
 first_part P [] ys all = tt
 first_part P (x ∷ xs) ys all = (all.0, first_part P xs ys all.1)
 
-last_part : (P : ℕ → Type 0) (xs ys : List ℕ) → AllByRecursion P (xs ++ ys) → AllByRecursion P ys
+pub last_part : (P : ℕ → Type 0) (xs ys : List ℕ) → AllByRecursion P (xs ++ ys) → AllByRecursion P ys
 last_part P [] ys all = all
 last_part P (x ∷ xs) ys all = last_part P xs ys all.1
 

@@ -1,7 +1,7 @@
 //! The pages of a text: which alphabet it gets, how it is cut, and what each page holds (3GPP TS 23.041, clause 9.4.1.2.5; the
 //! cutting is this project's own: each page takes all that it can, and an escape pair is never split).
 
-ghost use Rattle.std.specs.Prelude.{◌≡◌, ◌≢◌, ◌≤◌, [], ◌∷◌, length, IfOk, IfErr, position, is_some};
+ghost use Rattle.std.specs.Prelude.{◌≡◌, ◌≢◌, ◌≤◌, [], ◌∷◌, length, nat_lt, IfOk, IfErr, position, is_some};
 ghost use Rattle.std.specs.List.{list_all};
 ghost use Rattle.std.specs.Str.{chars};
 ghost use Rattle.gsm_alphabet.specs.Alphabet.{code_of};
@@ -17,6 +17,9 @@ use thiserror::Error;
 
 /// The most pages that a message has (3GPP TS 23.041, clause 9.4.1.2.4).
 pub const MAX_PAGES: usize = 15;
+
+/// The most characters that 15 pages hold, 93 septets each.
+const MAX_CHARACTERS: usize = 1395;
 
 /// A text as it is sent: its data coding, and 1 to 15 pages.
 #[derive(Debug, Drop)]
@@ -69,6 +72,9 @@ pub fn paginate(alloc: Global, text: &str, language: &str) -> Result<Paged, Text
         Some(place) => return Err(TextFault::BadCharacter { place }),
         None => {}
     }
+    if has_too_many_characters(text) {
+        return Err(TextFault::TooManyPages);
+    }
     let alphabet = alphabet_of_text(text);
     if page_count(text, alphabet) > MAX_PAGES {
         return Err(TextFault::TooManyPages);
@@ -100,6 +106,13 @@ fn bad_place(text: &str) -> Option<usize>
     ensures { result ≡ position is_bad (chars text.now) }
 {
     text.chars().position(is_bad_character)
+}
+
+/// Whether a text has more characters than 15 pages of septets hold: then it needs no look at its alphabet.
+fn has_too_many_characters(text: &str) -> bool
+    ensures { result ≡ nat_lt 1395 (length (chars text.now)) }
+{
+    text.chars().nth(MAX_CHARACTERS).is_some()
 }
 
 /// The alphabet of a text.

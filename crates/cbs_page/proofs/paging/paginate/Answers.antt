@@ -1,19 +1,20 @@
-use Rattle.std.proofs.Common.{◌≡◌, ◌≢◌, ℕ, ◌≤◌, List, [], length, refl, sym, ap, ◌∙◌, arith, IsSome, Some, true, false, Option, eqb, subst, map}
+use Rattle.std.proofs.Common.{◌≡◌, ◌≢◌, ℕ, ◌≤◌, List, [], length, refl, sym, ap, ◌∙◌, arith, IsSome, Some, true, false, Option, eqb, subst, map, None, position}
 use Rattle.std.specs.List.{flat_map}
 use Rattle.std.specs.Prelude.{is_some}
 use Rattle.std.specs.Str.{IsUtf8, chars}
 use Rattle.std.proofs.Math.Utf8.{encodes}
-use Rattle.std.proofs.lemmas.Bool.{eqb-true}
+use Rattle.std.proofs.lemmas.Bool.{eqb-true, ltb-true}
 use Rattle.std.proofs.lemmas.List.{nil_from_length}
 use Rattle.std.proofs.lemmas.Str.{encodes-chars, scalars-chars, chars-nil}
 use Rattle.cbs_page.specs.declared.coding.Alphabet.{Alphabet}
 use Rattle.cbs_page.specs.declared.content.Content.{Content}
 use Rattle.cbs_page.specs.Coding.{language_value}
-use Rattle.cbs_page.specs.Text.{capacity, codes_of, cost_of, alphabet_for, coding_for, TakesPages, HoldText}
+use Rattle.cbs_page.specs.Text.{capacity, codes_of, cost_of, alphabet_for, coding_for, is_bad, TakesPages, HoldText}
 use Rattle.std.proofs.lemmas.List.{length-map}
 use Rattle.cbs_page.proofs.CuttingLaws.{AreContentsOf-length}
 use Rattle.cbs_page.proofs.PagingLaws.{one_paging}
-use Rattle.cbs_page.proofs.PaginateLaws.{each_scalar, sendable, pages_show, some_page}
+use Rattle.cbs_page.proofs.PaginateLaws.{each_scalar, has_pages, sendable, pages_show, some_page}
+use Rattle.cbs_page.proofs.LongTexts.{long-pages}
 use Rattle.cbs_page.proofs.paging.paginate.Goals as goal
 
 spoken : (value : Option ℕ) (v : ℕ) → Some v ≡ value → IsSome value
@@ -52,6 +53,17 @@ page_there text contents some hold = some_page text hold.0 some hold.1.whole
 pub returns-then-is_empty-clause-fault : goal.returns-then-is_empty-clause-fault
 returns-then-is_empty-clause-fault c =
     (spoken (language_value c.args.language.now) c.in-Some.value c.in-Some.ensures, no_characters c.args.text.now c.if-is_empty.ensures)
+
+pub returns-then-has_too_many_characters-clause-fault : goal.returns-then-has_too_many_characters-clause-fault
+returns-then-has_too_many_characters-clause-fault c =
+    let text = chars c.args.text.now in
+    let has = has_pages (alphabet_for text) text (some_characters c.args.text.now c.utf8.text c.if-is_empty.ensures) in
+    let none : position is_bad text ≡ None = sym c.in-None.ensures in
+    let good = sendable text (each_scalar text (scalars-chars c.args.text.now c.utf8.text)) none in (
+      spoken (language_value c.args.language.now) c.in-Some.value c.in-Some.ensures,
+      none,
+      (has.pieces, has.paging, long-pages (alphabet_for text) text has.pieces has.paging good (ltb-true 1395 (length text) (sym c.if-has_too_many_characters.ensures))),
+    )
 
 pub returns-then-page_count-gt-MAX_PAGES-clause-fault : goal.returns-then-page_count-gt-MAX_PAGES-clause-fault
 returns-then-page_count-gt-MAX_PAGES-clause-fault c =
