@@ -18,6 +18,3 @@ pub use fault::ReadFault;
 pub use reading::Source;
 pub use transfer::{read_up_to, write_all, write_front};
 pub use writing::Sink;
-
-#[cfg(test)]
-mod tests;

@@ -2,8 +2,8 @@
 
 ghost use Rattle.std.specs.Prelude.{◌≡◌, ◌<◌, IfOk};
 
-use super::*;
-use crate::memory::{MemoryReader, MemoryWriter};
+use device_ends::memory::{MemoryReader, MemoryWriter};
+use device_ends::{Failed, ReadFault, Sink, Source, read_up_to, write_all, write_front};
 use std::alloc::AllocError;
 use std::io;
 use std::io::{Read, Write};
@@ -117,6 +117,33 @@ fn a_failed_end_calls_its_device_no_more(rt: HostRuntime) {
         assert!(rt; sink.failed());
     }
     assert_eq!(rt; write_all(&mut sink, b""), Err(Failed));
+    assert_eq!(rt; device.calls, 1);
+}
+
+/// A device that takes nothing at its first call, and all that it is given after that.
+#[derive(Drop)]
+struct TakesNothingOnce {
+    calls: usize,
+}
+
+impl Write for TakesNothingOnce {
+    fn write(&mut self, octets: &[u8]) -> io::Result<usize> {
+        self.calls = self.calls.saturating_add(1);
+        Ok(if self.calls == 1 { 0 } else { octets.len() })
+    }
+
+    fn flush(&mut self) -> io::Result<()> {
+        Ok(())
+    }
+}
+
+#[test]
+fn what_took_nothing_is_not_tried_again(rt: HostRuntime) {
+    let mut device = TakesNothingOnce { calls: 0 };
+    let mut sink = Sink::new(&mut device);
+    assert_eq!(rt; sink.write(TEXT), Err(Failed));
+    assert!(rt; sink.failed());
+    assert_eq!(rt; sink.write(TEXT), Err(Failed));
     assert_eq!(rt; device.calls, 1);
 }
 

@@ -1,0 +1,5 @@
+//! Tests of `device_ends` by its public calls, so that it isn't proved twice.
+#![tactic(auto)]
+
+#[cfg(test)]
+mod ends;
