@@ -1,5 +1,1 @@
-pub mod PageLaws
-pub mod BlockLaws
-pub mod ComesBack
-pub mod MessageLaws
-pub mod OutputLaws
+pub mod WordLaws

@@ -1,4 +1,2 @@
-pub mod PageOutput
-pub mod ReadOutput
+pub mod CommandLine
 pub mod Status
-pub mod Stream

@@ -1,19 +1,21 @@
 -- The program's statuses. Own.
-use Rattle.std.specs.Prelude.{◌≡◌, ◌≢◌, ℕ, ◌<◌, ◌≤◌, ◌⊎◌, false, true, List, length, Option, IfSome}
+use Rattle.std.specs.Prelude.{◌≡◌, ◌≢◌, ℕ, ◌<◌, ◌≤◌, ◌⊎◌, false, true, List, length, Option, IfSome, IsTrue}
 use Rattle.std.specs.Io.KnownBytes.{Appends, Keeps}
 use Rattle.device_ends.specs.Sink.{sink_failed}
 use Rattle.device_ends.specs.Source.{source_failed}
 use Rattle.device_ends.specs.declared.reading.Source.{Source}
 use Rattle.device_ends.specs.declared.writing.Sink.{Sink}
 use Rattle.handset.specs.Tape.{IsShort, IsLong}
-use Rattle.warnc.specs.PageOutput.{IsPageFault}
+use Rattle.warnc.specs.CommandLine.{asks_for_text, IsPageOrder, IsReadOrder}
+use Rattle.warnc_engine.specs.PageOutput.{IsPageFault, IsPageOutput}
+use Rattle.warnc_engine.specs.ReadOutput.{IsReadOutput}
 use Rattle.cbs_page.specs.declared.paging.TextFault.TheVariants as text
-use Rattle.warnc.specs.declared.page.PageFault.{PageFault}
-use Rattle.warnc.specs.declared.page.PageFault.TheVariants as fault
-use Rattle.warnc.specs.declared.read.TableFault.{TableFault}
-use Rattle.warnc.specs.declared.read.TableFault.TheVariants as table
+use Rattle.warnc_engine.specs.declared.page.PageFault.{PageFault}
+use Rattle.warnc_engine.specs.declared.page.PageFault.TheVariants as fault
+use Rattle.warnc_engine.specs.declared.read.TableFault.{TableFault}
+use Rattle.warnc_engine.specs.declared.read.TableFault.TheVariants as table
 
--- 1 where the input is refused, 3 where a device failed, 4 where there was no memory
+-- 1 if the input is refused, 3 if a device failed, 4 if there was no memory
 abbrev pub status_of_fault : PageFault → ℕ
 status_of_fault fault.Read = 3
 status_of_fault fault.TooLong = 1
@@ -38,13 +40,56 @@ IsRefused language input = (fault : PageFault) × IsPageFault language input fau
 abbrev pub IsNoTapes : (input : List ℕ) → Type 0
 IsNoTapes input = IsShort input ⊎ IsLong input
 
--- the input is refused by a command
-abbrev pub IsRefusedBySome : Option (List ℕ) → Type 0
-IsRefusedBySome left = ((language : List ℕ) × IfSome left (IsRefused language)) ⊎ IfSome left IsNoTapes
-
 -- something was written
 abbrev pub WritesSome : (old new : Option (List ℕ)) → Type 0
 WritesSome old new = (output : List ℕ) × (0 < length output) × Appends old new output
+
+-- What status 0 says: `input` is what the reader had left, if that is known, and `old` and `new` are what the writer held before and
+-- after.
+
+-- what was written is the output for the input, and at any reader the output for some input
+pub record WroteOutput (IsOutput : List ℕ → List ℕ → Type 0) (input old new : Option (List ℕ)) : Type 0 where
+  pub wrote : IfSome input (λ octets. (output : List ℕ) × IsOutput octets output × Appends old new output)
+  pub some : (octets output : List ℕ) × IsOutput octets output × Appends old new output
+
+-- the words ask for help or for the version, and something was written
+pub record WroteText (words : List (List ℕ)) (old new : Option (List ℕ)) : Type 0 where
+  pub asked : asks_for_text words ≡ true
+  pub wrote : WritesSome old new
+
+-- the words ask for `page`, and what was written is what `page` makes of the input with the options that the words give
+pub record WrotePages (words : List (List ℕ)) (input old new : Option (List ℕ)) : Type 0 where
+  pub language : List ℕ
+  pub id : ℕ
+  pub serial : ℕ
+  pub asked : IsPageOrder words language id serial
+  pub wrote : WroteOutput (IsPageOutput language id serial) input old new
+
+-- the words ask for `read`, and what was written is the table of what the tapes show
+pub record WroteTable (words : List (List ℕ)) (input old new : Option (List ℕ)) : Type 0 where
+  pub asked : IsReadOrder words
+  pub wrote : WroteOutput IsReadOutput input old new
+
+abbrev pub WroteWhatIsAsked : (words : List (List ℕ)) (input old new : Option (List ℕ)) → Type 0
+WroteWhatIsAsked words input old new = WroteText words old new ⊎ (WrotePages words input old new ⊎ WroteTable words input old new)
+
+-- What status 1 says: the command that the words ask for refuses the input.
+
+-- the words ask for `page` in a language in which the input is no text that can be sent
+pub record RefusesText (words : List (List ℕ)) (input : Option (List ℕ)) : Type 0 where
+  pub language : List ℕ
+  pub id : ℕ
+  pub serial : ℕ
+  pub asked : IsPageOrder words language id serial
+  pub refused : IfSome input (IsRefused language)
+
+-- the words ask for `read`, and the input is no whole tapes
+pub record RefusesTapes (words : List (List ℕ)) (input : Option (List ℕ)) : Type 0 where
+  pub asked : IsReadOrder words
+  pub refused : IfSome input IsNoTapes
+
+abbrev pub RefusesInput : (words : List (List ℕ)) (input : Option (List ℕ)) → Type 0
+RefusesInput words input = RefusesText words input ⊎ RefusesTapes words input
 
 -- one of the two ends has failed
 abbrev pub OneHasFailed : {R W : Type 0} → Source R → Sink W → Type 0
@@ -66,7 +111,7 @@ pub record IsRunBetween {R W : Type 0} (status : ℕ) (source : Source R) (old n
   pub sink : IsStatusOfSink status old new before after
   -- it is no mistake of the words
   pub understood : status ≢ 2
-  -- 3 is told only where one of the ends has failed
+  -- 3 is answered only if one of the ends has failed
   pub device : status ≡ 3 → OneHasFailed source new
-  -- and wherever one has, if the sink was sound before
+  -- and always if one has, if the sink was sound before
   pub failed : sink_failed old ≡ false → OneHasFailed source new → status ≡ 3

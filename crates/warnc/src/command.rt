@@ -1,7 +1,10 @@
 //! The command line: which words are taken, and what they mean.
 
+ghost use Rattle.std.specs.Prelude.{◌≡◌, IfOk, IfSome, codes, map, slice_get};
+ghost use Rattle.warnc.specs.CommandLine.{asks_for_text, is_text_word, GivesNumber, GivesValue, IsOrdered, IsPageOrder};
+
 use cbs_page::Serial;
-use clap::{Arg, ArgMatches, Command, Error, value_parser};
+use clap::{Arg, Command, Error, value_parser};
 use std::alloc::{AllocError, Global};
 use std::convert::AsStr;
 
@@ -16,6 +19,9 @@ pub struct PageOptions<'a> {
     pub serial: Serial,
 }
 
+/// The version of the program, and on a line of its own what `rt version` says of the toolchain that proved it.
+const VERSION: &str = "0.1.0\nrattle-kit-13b logic dac8208d650f15bf";
+
 /// What the words ask for.
 #[derive(Clone, Copy, Debug, PartialEq, Eq)]
 pub enum Order<'a> {
@@ -25,30 +31,90 @@ pub enum Order<'a> {
     Read,
 }
 
-/// What the words ask for, or the text that clap has for them: help, or what is wrong with them.
-pub fn order_of<'a, S: AsStr>(alloc: Global, words: &'a [S]) -> Result<Option<Order<'a>>, Error> {
+/// What the words ask for, or the text that clap has for them: help, the version, or what is wrong with them. clap judges the words;
+/// what they give is then looked up in the words themselves, since the contracts of clap don't reach into a subcommand.
+///
+/// None never comes of words that clap takes.
+pub fn order_of<'a, S: AsStr>(alloc: Global, words: &'a [S]) -> Result<Option<Order<'a>>, Error>
+    ensures { IfOk result (λ order. IfSome order (IsOrdered (map S.text words.now))) }
+{
     let command: Command<'a> = warnc(alloc)?;
-    let matches = command.try_get_matches_from(words)?;
-    match matches.subcommand() {
-        Some(("page", found)) => match page_options(found) {
-            Some(options) => Ok(Some(Order::Page(options))),
-            None => Ok(None),
+    let _matches = command.try_get_matches_from(words)?;
+    Ok(order_in(words))
+}
+
+/// What words ask for that clap has taken.
+fn order_in<'a, S: AsStr>(words: &'a [S]) -> Option<Order<'a>>
+    ensures { IfSome result (IsOrdered (map S.text words.now)) }
+{
+    let command = words.get(1)?;
+    match command.as_str() {
+        "page" => match page_options(words) {
+            Some(options) => Some(Order::Page(options)),
+            None => None,
         },
-        Some(("read", _)) => Ok(Some(Order::Read)),
-        _ => Ok(None),
+        "read" => Some(Order::Read),
+        _ => None,
     }
 }
 
-/// The options of `page` in what clap found. It found each of them, in its range: so this is never None.
-fn page_options<'a>(matches: &ArgMatches<'a>) -> Option<PageOptions<'a>> {
-    let scope = matches.get_one::<u8>("scope")?;
-    let code = matches.get_one::<u16>("code")?;
-    let update = matches.get_one::<u8>("update")?;
+/// The options that the words give `page`.
+fn page_options<'a, S: AsStr>(words: &'a [S]) -> Option<PageOptions<'a>>
+    requires { slice_get (map S.text words.now) 1 ≡ Some (codes "page") }
+    ensures { IfSome result (λ options.
+        IsPageOrder (map S.text words.now) options.language.now options.id options.serial) }
+{
+    let scope = u8::try_from(number_of(words, "--scope")?).ok()?;
+    let update = u8::try_from(number_of(words, "--update")?).ok()?;
     Some(PageOptions {
-        language: matches.get_str("lang")?,
-        id: matches.get_one::<u16>("id")?,
-        serial: Serial::new(scope, code, update)?,
+        language: value_of(words, "--lang")?,
+        id: number_of(words, "--id")?,
+        serial: Serial::new(scope, number_of(words, "--code")?, update)?,
     })
+}
+
+/// The number that the words give the option of this name.
+fn number_of<S: AsStr>(words: &[S], name: &str) -> Option<u16>
+    ensures { IfSome result (GivesNumber (map S.text words.now) name.now) }
+{
+    value_of(words, name)?.parse().ok()
+}
+
+/// The value that the words give the option of this name: the word after its name, or what follows its name and `=` in one word.
+fn value_of<'a, S: AsStr>(words: &'a [S], name: &str) -> Option<&'a str>
+    ensures { IfSome result (λ value. GivesValue (map S.text words.now) name.now value.now) }
+{
+    for (place, word) in words.iter().enumerate() {
+        let word = word.as_str();
+        if word == name {
+            return Some(words.get(place + 1)?.as_str());
+        }
+        if let Some((front, value)) = word.split_once('=')
+            && front == name
+        {
+            return Some(value);
+        }
+    }
+    None
+}
+
+/// Whether the words ask for help or for the version.
+pub fn asks_for_text<S: AsStr>(words: &[S]) -> bool
+    ensures { result ≡ asks_for_text (map S.text words.now) }
+{
+    for word in words {
+        if is_text_word(word.as_str()) {
+            return true;
+        }
+    }
+    false
+}
+
+/// Whether a word asks for help or for the version.
+fn is_text_word(word: &str) -> bool
+    ensures { result ≡ is_text_word word.now }
+{
+    matches!(word, "help" | "--help" | "-h" | "--version" | "-V")
 }
 
 /// The program's command line.
@@ -57,6 +123,7 @@ fn warnc<'a>(alloc: Global) -> Result<Command<'a>, AllocError> {
         .about(
             "Compiles cell broadcast warnings to the blocks that cells send, and reads them as handsets do",
         )
+        .version(VERSION)
         .subcommand_required(true)
         .arg_required_else_help(true)
         .subcommand(page(alloc)?)?
@@ -96,7 +163,7 @@ fn page<'a>(alloc: Global) -> Result<Command<'a>, AllocError> {
         .arg(update)
 }
 
-/// An option that must be given, by this word behind two dashes.
+/// A required option `--name`.
 fn option<'a>(alloc: Global, name: &'a str, value: &'a str, help: &'a str) -> Arg<'a> {
     Arg::new(alloc, name)
         .long(name)

@@ -4,10 +4,7 @@
 ghost use Rattle.std.specs.Prelude.{◌≡◌, ◌≤◌};
 
 mod command;
-pub mod page;
-pub mod read;
 pub mod run;
-mod table;
 
 use crate::run::{MEMORY, USAGE, run};
 use std::io::Write;
@@ -49,6 +46,8 @@ fn tell(rt: &HostRuntime, fault: &str, status: u8) -> u8
     status
 }
 
+#[cfg(test)]
+mod memory_tests;
 #[cfg(test)]
 mod read_tests;
 #[cfg(test)]

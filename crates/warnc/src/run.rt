@@ -1,16 +1,14 @@
 //! One run of the program: words in, a status out.
 
-ghost use Rattle.std.specs.Prelude.{◌≡◌, ◌≢◌, ◌≤◌, ◌⊎◌, ℕ, List, false, true, IfSome};
+ghost use Rattle.std.specs.Prelude.{◌≡◌, ◌≢◌, ◌≤◌, ◌⊎◌, ℕ, List, false, true, map, IfSome};
 ghost use Rattle.std.specs.Io.KnownBytes.{Appends, Keeps};
 ghost use Rattle.device_ends.specs.Sink.{sink_failed, writer_of};
 ghost use Rattle.device_ends.specs.Source.{reader_of, source_failed};
-ghost use Rattle.warnc.specs.PageOutput.{IsPageOutput};
-ghost use Rattle.warnc.specs.ReadOutput.{IsReadOutput};
-ghost use Rattle.warnc.specs.Status.{status_of_fault, status_of_table_fault, IsNoTapes, IsRefused, IsRefusedBySome, IsRunBetween, IsStatusOfSink, OneHasFailed, WritesSome};
+ghost use Rattle.warnc_engine.specs.PageOutput.{IsPageOutput};
+ghost use Rattle.warnc_engine.specs.ReadOutput.{IsReadOutput};
+ghost use Rattle.warnc.specs.Status.{status_of_fault, status_of_table_fault, IsNoTapes, IsRefused, IsRunBetween, IsStatusOfSink, OneHasFailed, RefusesInput, WritesSome, WroteOutput, WroteWhatIsAsked};
 
-use crate::command::{Order, PageOptions, order_of};
-use crate::page::{PageFault, page_stream};
-use crate::read::{TableFault, read_stream};
+use crate::command::{Order, PageOptions, asks_for_text, order_of};
 use cbs_page::TextFault;
 use clap::Error;
 use clap::error::ErrorKind;
@@ -18,6 +16,8 @@ use device_ends::{Sink, Source, write_all};
 use std::alloc::Global;
 use std::convert::AsStr;
 use std::io::{Read, Write};
+use warnc_engine::page::{PageFault, page_stream};
+use warnc_engine::read::{TableFault, read_stream};
 
 /// All was done, or help was written.
 pub const DONE: u8 = 0;
@@ -46,7 +46,7 @@ pub fn run<T: AllocGlobal, S: AsStr, R: Read, W: Write, F: Write>(
     writer: &mut W,
     faults: &mut F,
 ) -> u8
-    ensures refused { result ≡ REFUSED_INPUT → IsRefusedBySome (R.remaining reader.old) }
+    ensures refused { result ≡ REFUSED_INPUT → RefusesInput (map S.text words.now) (R.remaining reader.old) }
     ensures statuses { result ≤ 4 }
 {
     let mut source = Source::new(reader);
@@ -54,7 +54,7 @@ pub fn run<T: AllocGlobal, S: AsStr, R: Read, W: Write, F: Write>(
     run_ends(rt.alloc(), words, &mut source, &mut sink, faults)
 }
 
-/// The same, between two ends: something is written where the status is 0, and nothing where it is 1, 2 or 4.
+/// The same, between two ends. With status 0 what the words ask for is written, with 1, 2 and 4 nothing is.
 pub fn run_ends<S: AsStr, R: Read, W: Write, F: Write>(
     alloc: Global,
     words: &[S],
@@ -62,11 +62,13 @@ pub fn run_ends<S: AsStr, R: Read, W: Write, F: Write>(
     sink: &mut Sink<W>,
     faults: &mut F,
 ) -> u8
-    ensures done { result ≡ DONE → WritesSome (W.contents (writer_of sink.old)) (W.contents (writer_of sink.new)) }
+    ensures done { result ≡ DONE → WroteWhatIsAsked (map S.text words.now) (R.remaining (reader_of source.old))
+        (W.contents (writer_of sink.old)) (W.contents (writer_of sink.new)) }
+    ensures wrote { result ≡ DONE → WritesSome (W.contents (writer_of sink.old)) (W.contents (writer_of sink.new)) }
     ensures nothing { (result ≢ DONE) → (result ≢ DEVICE)
         → Keeps (W.contents (writer_of sink.old)) (W.contents (writer_of sink.new)) }
     ensures untouched { (result ≢ DONE) → (result ≢ DEVICE) → sink.new ≡ sink.old }
-    ensures refused { result ≡ REFUSED_INPUT → IsRefusedBySome (R.remaining (reader_of source.old)) }
+    ensures refused { result ≡ REFUSED_INPUT → RefusesInput (map S.text words.now) (R.remaining (reader_of source.old)) }
     ensures device { result ≡ DEVICE → OneHasFailed source.new sink.new }
     ensures unread { result ≡ USAGE → source.new ≡ source.old }
     ensures failed { (source_failed source.old ≡ false) → (sink_failed sink.old ≡ false)
@@ -80,7 +82,7 @@ pub fn run_ends<S: AsStr, R: Read, W: Write, F: Write>(
             let _ = writeln!(faults, "warnc: no command");
             USAGE
         }
-        Err(error) => run_help(alloc, &error, sink, faults),
+        Err(error) => run_text(alloc, &error, asks_for_text(words), sink, faults),
     }
 }
 
@@ -92,9 +94,9 @@ fn run_page<R: Read, W: Write, F: Write>(
     sink: &mut Sink<W>,
     faults: &mut F,
 ) -> u8
-    ensures done { result ≡ DONE → IfSome (R.remaining (reader_of source.old)) (λ input.
-        (output : List ℕ) × IsPageOutput options.now.language.now options.now.id options.now.serial input output
-        × Appends (W.contents (writer_of sink.old)) (W.contents (writer_of sink.new)) output) }
+    ensures done { result ≡ DONE →
+        WroteOutput (IsPageOutput options.now.language.now options.now.id options.now.serial)
+        (R.remaining (reader_of source.old)) (W.contents (writer_of sink.old)) (W.contents (writer_of sink.new)) }
     ensures ends { IsRunBetween result source.new sink.old sink.new
         (W.contents (writer_of sink.old)) (W.contents (writer_of sink.new)) }
     ensures refused { result ≡ REFUSED_INPUT → IfSome (R.remaining (reader_of source.old)) (IsRefused options.now.language.now) }
@@ -134,9 +136,8 @@ fn run_read<R: Read, W: Write, F: Write>(
     sink: &mut Sink<W>,
     faults: &mut F,
 ) -> u8
-    ensures done { result ≡ DONE → IfSome (R.remaining (reader_of source.old)) (λ input.
-        (output : List ℕ) × IsReadOutput input output
-        × Appends (W.contents (writer_of sink.old)) (W.contents (writer_of sink.new)) output) }
+    ensures done { result ≡ DONE → WroteOutput IsReadOutput
+        (R.remaining (reader_of source.old)) (W.contents (writer_of sink.old)) (W.contents (writer_of sink.new)) }
     ensures ends { IsRunBetween result source.new sink.old sink.new
         (W.contents (writer_of sink.old)) (W.contents (writer_of sink.new)) }
     ensures refused { result ≡ REFUSED_INPUT → IfSome (R.remaining (reader_of source.old)) IsNoTapes }
@@ -161,15 +162,17 @@ fn status_of_table(fault: TableFault) -> u8
     }
 }
 
-/// Tells what clap has to say of the words: help goes to the sink, a mistake to `faults`.
-fn run_help<W: Write, F: Write>(
+/// Reports what clap has to say of the words: help and the version go to the sink if the words ask for them, a mistake goes to `faults`.
+fn run_text<W: Write, F: Write>(
     alloc: Global,
     error: &Error,
+    is_asked: bool,
     sink: &mut Sink<W>,
     faults: &mut F,
 ) -> u8
     ensures sink { IsStatusOfSink result sink.old sink.new
         (W.contents (writer_of sink.old)) (W.contents (writer_of sink.new)) }
+    ensures asked { result ≡ DONE → is_asked ≡ true }
     ensures not_refused { result ≢ REFUSED_INPUT }
     ensures device { result ≡ DEVICE → sink_failed sink.new ≡ true }
     ensures failed { (sink_failed sink.old ≡ false) → sink_failed sink.new ≡ true → result ≡ DEVICE }
@@ -182,7 +185,7 @@ fn run_help<W: Write, F: Write>(
         let _ = writeln!(faults, "warnc: out of memory");
         return MEMORY;
     };
-    if error.use_stderr() || text.is_empty() {
+    if error.use_stderr() || text.is_empty() || !is_asked {
         let _ = write!(faults, "{text}");
         return USAGE;
     }

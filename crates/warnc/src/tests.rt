@@ -1,7 +1,6 @@
 //! Runs of the program between memory and memory: words and input in, status, output and fault lines out. The pages are those of
 //! worked examples, packed by an independent script.
 
-use crate::page::MOST_OCTETS;
 use crate::run::run;
 use device_ends::memory::{MemoryReader, MemoryWriter};
 use std::alloc::Global;
@@ -9,6 +8,7 @@ use std::io;
 use std::io::Read;
 use std::process::Abort;
 use std::test::Fail;
+use warnc_engine::page::MOST_OCTETS;
 
 /// What a run gives.
 #[derive(Drop)]
@@ -79,7 +79,7 @@ pub fn expect_fault<T: AllocGlobal + Abort>(
 }
 
 /// The output for the text `@`.
-const AT: &str = "200010111201118046a3d168341a8d46a3d168341a8d46\n\
+pub const AT: &str = "200010111201118046a3d168341a8d46a3d168341a8d46\n\
          21a3d168341a8d46a3d168341a8d46a3d168341a8d46a3\n\
          22d168341a8d46a3d168341a8d46a3d168341a8d46a3d1\n\
          3368341a8d46a3d168341a8d46a3d168341a8d46a3d100\n\
@@ -274,4 +274,85 @@ fn a_device_that_fails_is_status_3(rt: HostRuntime) {
     let help = ["warnc", "--help"];
     let status = run(&rt, &help, &mut reader, &mut writer, &mut faults);
     assert_eq!(rt; status, 3);
+}
+
+#[test]
+fn the_version_names_the_toolchain(rt: HostRuntime) -> Result<(), Fail> {
+    for words in [["warnc", "--version"], ["warnc", "-V"]] {
+        let run = run_on(&rt, &words, b"")?;
+        assert_eq!(rt; run.status, 0);
+        assert_eq!(rt; run.faults.as_str(), "");
+        assert!(rt;
+            run.output.starts_with("warnc 0.1.0\nrattle-kit-"),
+            "{}",
+            run.output
+        );
+        assert_eq!(rt; run.output.lines().count(), 2);
+    }
+    Ok(())
+}
+
+#[test]
+fn options_may_be_one_word_with_their_values(rt: HostRuntime) -> Result<(), Fail> {
+    let words = [
+        "warnc",
+        "page",
+        "--update=+0",
+        "--code=01",
+        "--scope=0",
+        "--id=4370",
+        "--lang=en",
+    ];
+    expect_output(&rt, &words, "@", AT)
+}
+
+/// A reader of the letter `a` that fails after this many octets.
+#[derive(Drop)]
+struct FailsAfter {
+    left: usize,
+}
+
+impl Read for FailsAfter {
+    fn read(&mut self, buffer: &mut [u8]) -> io::Result<usize> {
+        if self.left == 0 {
+            return Err(io::Error::other("nothing is left"));
+        }
+        let count = buffer.len().min(self.left);
+        buffer[..count].fill(b'a');
+        self.left -= count;
+        Ok(count)
+    }
+}
+
+// What is read once more would be told as a failed reader.
+#[test]
+fn nothing_is_read_past_what_decides(rt: HostRuntime) {
+    let mut reader = FailsAfter {
+        left: MOST_OCTETS + 1,
+    };
+    let mut writer = MemoryWriter::new(rt.alloc(), 100, None);
+    let mut faults = MemoryWriter::new(rt.alloc(), 100, None);
+    let status = run(&rt, &page("en"), &mut reader, &mut writer, &mut faults);
+    assert_eq!(rt; faults.contents(), b"warnc: text is too long\n".as_slice());
+    assert_eq!(rt; status, 1);
+
+    let mut once = MemoryReader::new(b"@", 7, Some(2));
+    let mut writer = MemoryWriter::new(rt.alloc(), 400, None);
+    let mut faults = MemoryWriter::new(rt.alloc(), 100, None);
+    let status = run(&rt, &page("en"), &mut once, &mut writer, &mut faults);
+    assert_eq!(rt; faults.contents(), b"".as_slice());
+    assert_eq!(rt; status, 0);
+
+    let mut header = MemoryReader::new(&[0, 1, 0, 1, 0, 1, 0, 0], 8, Some(1));
+    let mut writer = MemoryWriter::new(rt.alloc(), 100, None);
+    let mut faults = MemoryWriter::new(rt.alloc(), 100, None);
+    let status = run(
+        &rt,
+        &["warnc", "read"],
+        &mut header,
+        &mut writer,
+        &mut faults,
+    );
+    assert_eq!(rt; faults.contents(), b"warnc: tape is long\n".as_slice());
+    assert_eq!(rt; status, 1);
 }

@@ -1,6 +1,6 @@
 use Rattle.std.proofs.Common.{rules}
 use Rattle.warnc.specs.Status.{WritesSome}
-use Rattle.warnc.proofs.OutputLaws.{some_output}
+use Rattle.warnc_engine.proofs.OutputLaws.{some_output}
 use Rattle.warnc.proofs.run.run_page.Goals as goal
 
 pub returns-in-Ok-clause-ends : goal.returns-in-Ok-clause-ends

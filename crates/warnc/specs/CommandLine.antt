@@ -1,0 +1,54 @@
+-- What the words of a command line ask for: word 0 is the program's name, and word 1 names the command. Own.
+use Rattle.std.specs.Prelude.{◌≡◌, ℕ, ◌+◌, ◌*◌, ◌||◌, ◌⊎◌, Bool, IsTrue, List, ◌∷◌, ◌++◌, Option, Some, codes, slice_get}
+use Rattle.std.specs.List.{list_any}
+use Rattle.std.specs.Str.{bytes_eq}
+use Rattle.std.specs.Str.Parse.{IsNumeral, digits_value, without_leading_plus}
+use Rattle.cbs_page.specs.Serial.{serial_number, AreSerialFields}
+use Rattle.warnc.specs.declared.command.Order.{Order}
+use Rattle.warnc.specs.declared.command.Order.TheVariants.{Page, Read}
+
+-- the words give the option of this name this value: as the word after its name, or in one word with it, after `=`
+abbrev pub GivesValue : (words : List (List ℕ)) (name value : List ℕ) → Type 0
+GivesValue words name value = (place : ℕ)
+    × (((slice_get words place ≡ Some name) × (slice_get words (place + 1) ≡ Some value))
+    ⊎ (slice_get words place ≡ Some (name ++ 61 ∷ value)))
+
+-- the words give the option of this name this number, in decimal digits; a plus may stand before them
+pub record GivesNumber (words : List (List ℕ)) (name : List ℕ) (number : ℕ) : Type 0 where
+  pub digits : List ℕ
+  pub given : GivesValue words name digits
+  pub numeral : IsNumeral 10 (without_leading_plus digits)
+  pub value : digits_value 10 (without_leading_plus digits) ≡ number
+
+-- the words ask for `page` with a language, a message identifier and a serial number
+pub record IsPageOrder (words : List (List ℕ)) (language : List ℕ) (id serial : ℕ) : Type 0 where
+  pub command : slice_get words 1 ≡ Some (codes "page")
+  pub language_given : GivesValue words (codes "--lang") language
+  pub id_given : GivesNumber words (codes "--id") id
+  pub scope : ℕ
+  pub scope_given : GivesNumber words (codes "--scope") scope
+  pub code : ℕ
+  pub code_given : GivesNumber words (codes "--code") code
+  pub update : ℕ
+  pub update_given : GivesNumber words (codes "--update") update
+  pub in_range : AreSerialFields scope code update
+  pub numbered : serial ≡ serial_number scope code update
+
+-- the words ask for `read`
+abbrev pub IsReadOrder : (words : List (List ℕ)) → Type 0
+IsReadOrder words = slice_get words 1 ≡ Some (codes "read")
+
+-- the words ask for what `order` says
+abbrev pub IsOrdered : (words : List (List ℕ)) → Order → Type 0
+IsOrdered words (Page options) = IsPageOrder words options.language.now options.id options.serial
+IsOrdered words Read = IsReadOrder words
+
+-- a word that asks for help or for the version
+abbrev pub is_text_word : List ℕ → Bool
+is_text_word word =
+    bytes_eq word (codes "help") || bytes_eq word (codes "--help") || bytes_eq word (codes "-h")
+    || bytes_eq word (codes "--version") || bytes_eq word (codes "-V")
+
+-- a word asks for help or for the version
+abbrev pub asks_for_text : (words : List (List ℕ)) → Bool
+asks_for_text words = list_any is_text_word words

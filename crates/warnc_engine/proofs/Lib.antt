@@ -1,0 +1,5 @@
+pub mod PageLaws
+pub mod BlockLaws
+pub mod ComesBack
+pub mod MessageLaws
+pub mod OutputLaws

@@ -1,0 +1,3 @@
+pub mod PageOutput
+pub mod ReadOutput
+pub mod Stream

@@ -1,0 +1,58 @@
+-- What `warnc read` makes of the octets that it reads: a table of what the tapes show, as CSV. Own.
+use Rattle.std.specs.Prelude.{◌≡◌, ℕ, ◌/◌, ◌%◌, List, [], ◌∷◌, ◌++◌, Option, codes}
+use Rattle.std.specs.Fmt.{decimal}
+use Rattle.std.specs.Io.KnownBytes.{Keeps}
+use Rattle.std.specs.List.{flat_map}
+use Rattle.csv.specs.Writing.{default_writer, row_text}
+use Rattle.hex.specs.Hex.{encode_lower}
+use Rattle.device_ends.specs.Moves.{AppendsFront}
+use Rattle.handset.specs.Reading.{Message}
+use Rattle.handset.specs.Tape.{TapeReading, AreTapes, IsShort, IsLong}
+use Rattle.handset.specs.declared.tape.TapeFault.{TapeFault}
+use Rattle.handset.specs.declared.tape.TapeFault.TheVariants as tape
+use Rattle.warnc_engine.specs.declared.read.TableFault.{TableFault}
+use Rattle.warnc_engine.specs.declared.read.TableFault.TheVariants as fault
+
+-- a row of the table, as CSV quotes its fields
+abbrev pub row : List (List ℕ) → List ℕ
+row fields = row_text default_writer fields
+
+-- the first row has the names of the columns
+abbrev pub header_row : List ℕ
+header_row = row (codes "lac" ∷ codes "ci" ∷ codes "id" ∷ codes "serial" ∷ codes "text" ∷ [])
+
+-- the row of a message that a cell showed: its identifier is decimal, its serial number has four lower hexadecimal digits
+abbrev pub message_row : (lac ci : ℕ) → Message → List ℕ
+message_row lac ci message =
+    row (decimal lac ∷ decimal ci ∷ decimal message.id ∷ encode_lower ((message.serial / 256) ∷ (message.serial % 256) ∷ [])
+    ∷ message.text ∷ [])
+
+-- the rows of what a tape shows, in the order in which it is shown
+abbrev pub reading_rows : TapeReading → List ℕ
+reading_rows reading = flat_map (message_row reading.cell.lac reading.cell.ci) reading.shown
+
+-- the table of what tapes show, in their order
+abbrev pub table_of : List TapeReading → List ℕ
+table_of readings = header_row ++ flat_map reading_rows readings
+
+-- what is written for the octets that were read: they are whole tapes, and this is the table of what these show
+pub record IsReadOutput (input output : List ℕ) : Type 0 where
+  pub readings : List TapeReading
+  pub tapes : AreTapes input readings
+  pub written : output ≡ table_of readings
+
+-- what a fault of tapes is told as
+abbrev pub table_fault_of : TapeFault → TableFault
+table_fault_of tape.Short = fault.Short
+table_fault_of tape.Long = fault.Long
+table_fault_of tape.ReadFailed = fault.Read
+table_fault_of tape.Refused = fault.Refused
+
+-- why no table is written, want of memory and devices aside; after a fault of the writer a front of the table is out, and after any other
+-- fault nothing is
+abbrev pub IsReadFault : (input : List ℕ) (old new : Option (List ℕ)) → TableFault → Type 0
+IsReadFault input old new fault.Short = IsShort input × Keeps old new
+IsReadFault input old new fault.Long = IsLong input × Keeps old new
+IsReadFault input old new fault.Read = Keeps old new
+IsReadFault input old new fault.Refused = Keeps old new
+IsReadFault input old new fault.Write = (output : List ℕ) × IsReadOutput input output × AppendsFront old new output

@@ -1,0 +1,104 @@
+//! The command `read`: tapes to a table of what a handset shows of them.
+
+ghost use Rattle.std.specs.Prelude.{◌≡◌, ◌++◌, ℕ, List, IfErr, IfOk, IfSome, OnOk};
+ghost use Rattle.std.specs.Io.KnownBytes.{Appends};
+ghost use Rattle.std.specs.List.{flat_map};
+ghost use Rattle.device_ends.specs.Sink.{writer_of};
+ghost use Rattle.device_ends.specs.Source.{reader_of};
+ghost use Rattle.handset.specs.Tape.{reading_of, readings_of};
+ghost use Rattle.warnc_engine.specs.ReadOutput.{reading_rows, table_fault_of, table_of, IsReadOutput, IsReadFault};
+ghost use Rattle.warnc_engine.specs.Stream.{IsStreamBetween};
+
+use crate::table::{push_header, push_message};
+use device_ends::{Failed, Sink, Source, write_all};
+use handset::{Reading, TapeFault, read_tapes};
+use std::alloc::{AllocError, Global};
+use std::io::{Read, Write};
+use thiserror::Error;
+
+/// Why `read` writes no table.
+#[derive(Clone, Copy, Debug, PartialEq, Eq, Error)]
+pub enum TableFault {
+    /// The input ends inside a tape.
+    #[error("tape is short")]
+    Short,
+    /// The input goes on after the 64th tape, or a tape says that it has more than 4,096 slots.
+    #[error("tape is long")]
+    Long,
+    /// The reader failed.
+    #[error("read failed")]
+    Read,
+    /// There was no memory.
+    #[error("out of memory")]
+    Refused,
+    /// The writer failed. Some of the table may be out.
+    #[error("write failed")]
+    Write,
+}
+
+/// Reads 0 to 64 tapes up to the end of the input, and writes a table of the messages that they show, as CSV: a row of the columns'
+/// names, and then a row for each message, tapes in order, messages in the order in which they are shown. Nothing is written before
+/// the last tape is read and the table is made.
+pub fn read_stream<R: Read, W: Write>(
+    alloc: Global,
+    source: &mut Source<R>,
+    sink: &mut Sink<W>,
+) -> Result<(), TableFault>
+    // What was written is the table of what the tapes show, by the octets that were read.
+    ensures ok { OnOk result (IfSome (R.remaining (reader_of source.old)) (λ input.
+        (output : List ℕ) × IsReadOutput input output
+        × Appends (W.contents (writer_of sink.old)) (W.contents (writer_of sink.new)) output)) }
+    ensures fault { IfErr result (λ fault. IfSome (R.remaining (reader_of source.old)) (λ input.
+        IsReadFault input (W.contents (writer_of sink.old)) (W.contents (writer_of sink.new)) fault)) }
+
+    // At any reader and any writer.
+    ensures ends { IsStreamBetween IsReadOutput TableFault.Read TableFault.Write result
+        source.old source.new sink.old sink.new (W.contents (writer_of sink.old)) (W.contents (writer_of sink.new)) }
+{
+    let readings = match read_tapes(alloc, source) {
+        Ok(readings) => readings,
+        Err(fault) => return Err(table_fault(fault)),
+    };
+    let table = match table(alloc, &readings) {
+        Ok(table) => table,
+        Err(_) => return Err(TableFault::Refused),
+    };
+    match write_all(sink, &table) {
+        Ok(()) => Ok(()),
+        Err(Failed) => Err(TableFault::Write),
+    }
+}
+
+/// The fault that a fault of tapes is.
+fn table_fault(fault: TapeFault) -> TableFault
+    ensures { result ≡ table_fault_of fault }
+{
+    match fault {
+        TapeFault::Short => TableFault::Short,
+        TapeFault::Long => TableFault::Long,
+        TapeFault::ReadFailed => TableFault::Read,
+        TapeFault::Refused => TableFault::Refused,
+    }
+}
+
+/// The table of readings.
+fn table(alloc: Global, readings: &[Reading]) -> Result<Vec<u8>, AllocError>
+    ensures { IfOk result (λ table. table.items ≡ table_of (readings_of readings.now)) }
+{
+    let mut table = Vec::new(alloc);
+    push_header(alloc, &mut table)?;
+    for reading in readings {
+        push_reading(alloc, &mut table, reading)?;
+    }
+    Ok(table)
+}
+
+/// Appends the rows of a reading.
+fn push_reading(alloc: Global, table: &mut Vec<u8>, reading: &Reading) -> Result<(), AllocError>
+    ensures { OnOk result (table.new.items ≡ table.old.items ++ reading_rows (reading_of reading.now)) }
+{
+    for message in &reading.shown {
+        push_message(alloc, table, reading.cell.lac, reading.cell.ci, message)?;
+    }
+    Ok(())
+}
