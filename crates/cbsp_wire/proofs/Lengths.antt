@@ -1,10 +1,13 @@
--- How long the octets of a message are: at most 1,547.
+-- How long the octets of a message are: at most 1,547, a write of 15 pages to 64 cells with each optional element. The longest
+-- reply, with 64 failures of 6 octets, 64 completed broadcasts of 7 and 64 cells of 4, has 1,114.
 use Rattle.std.proofs.Common.{◌≡◌, ℕ, suc, ◌+◌, ◌*◌, ◌≤◌, true, List, [], ◌∷◌, ◌++◌, length, map, Option, Some, None, refl, ap, arith, length-append}
 use Rattle.std.specs.Prelude.{IfSome, nat_le, ◌&&◌, ◌==◌}
 use Rattle.std.specs.List.{flat_map, list_all}
 use Rattle.std.proofs.lemmas.Bool.{eqb-true, leb-true}
 use Rattle.std.proofs.lemmas.List.Concat.{flat_map-cons}
 use Rattle.cbs_page.specs.declared.content.Content.{Content}
+use Rattle.cbsp_wire.specs.declared.items.Layout.{Layout}
+use Rattle.cbsp_wire.specs.declared.items.Layout.TheVariants as layouts
 use Rattle.cbsp_wire.specs.declared.message.Cell.{Cell}
 use Rattle.cbsp_wire.specs.declared.message.Count.{Count}
 use Rattle.cbsp_wire.specs.declared.message.Failure.{Failure}
@@ -43,9 +46,17 @@ octet_len : (n : ℕ) (o : Option ℕ) → length (slot n (octet_bodies o)) ≤ 
 octet_len n None = omega arith
 octet_len n (Some k) = omega arith
 
-list_len : {X : Type 0} (octets : X → List ℕ) (size : ℕ) → ((x : X) → length (octets x) ≡ size) → (n : ℕ) (xs : List X) → length (slot n (list_bodies octets xs)) ≤ 4 + length xs * size
-list_len octets size len n [] = omega arith
-list_len octets size len n (x ∷ xs) =
+-- a list's number, its length and its one discriminator, if it has one, are four octets at most
+list_len : {X : Type 0} (layout : Layout) (octets : X → List ℕ) (size : ℕ) → ((x : X) → length (octets x) ≡ size) → (n : ℕ) (xs : List X)
+    → length (slot n (list_bodies layout octets xs)) ≤ 4 + length xs * size
+list_len layout octets size len n [] = omega arith
+list_len layouts.Cells octets size len n (x ∷ xs) =
+    let items = flat_map octets (x ∷ xs) in
+    omega (arith, length-append items [], length-items octets size len (x ∷ xs))
+list_len layouts.Counts octets size len n (x ∷ xs) =
+    let items = flat_map octets (x ∷ xs) in
+    omega (arith, length-append items [], length-items octets size len (x ∷ xs))
+list_len layouts.Failures octets size len n (x ∷ xs) =
     let items = flat_map octets (x ∷ xs) in
     omega (arith, length-append items [], length-items octets size len (x ∷ xs))
 
@@ -101,18 +112,18 @@ contents_none n cs h = rw h (omega arith)
 short_reply : (f : Fields) → AreShort f → HasNoOrder f → length (flat_map (slot_octets f) numbers) ≤ 1543
 unfolding bodies_in
 short_reply f s none =
-    let bounds : AreBounded (slot_octets f) numbers (3 ∷ 3 ∷ 3 ∷ 324 ∷ 452 ∷ 260 ∷ 2 ∷ 0 ∷ 0 ∷ 0 ∷ 0 ∷ 0 ∷ 0 ∷ []) = (
+    let bounds : AreBounded (slot_octets f) numbers (3 ∷ 3 ∷ 3 ∷ 388 ∷ 452 ∷ 260 ∷ 2 ∷ 0 ∷ 0 ∷ 0 ∷ 0 ∷ 0 ∷ 0 ∷ []) = (
       number_len 0x0E f.id,
       (
         number_len 0x03 f.new_serial,
         (
           number_len 0x02 f.old_serial,
           (
-            omega (arith, list_len failure_octets 5 failure_len 0x09 f.failures, s.failures),
+            omega (arith, list_len layouts.Failures failure_octets 6 failure_len 0x09 f.failures, s.failures),
             (
-              omega (arith, list_len count_octets 7 count_len 0x08 f.completed, s.completed),
+              omega (arith, list_len layouts.Counts count_octets 7 count_len 0x08 f.completed, s.completed),
               (
-                omega (arith, list_len cell_octets 4 cell_len 0x04 f.cells, s.cells),
+                omega (arith, list_len layouts.Cells cell_octets 4 cell_len 0x04 f.cells, s.cells),
                 (
                   octet_len 0x12 f.channel,
                   (
@@ -132,7 +143,7 @@ short_reply f s none =
         ),
       ),
     ) in
-    omega (arith, length-bounded (slot_octets f) numbers (3 ∷ 3 ∷ 3 ∷ 324 ∷ 452 ∷ 260 ∷ 2 ∷ 0 ∷ 0 ∷ 0 ∷ 0 ∷ 0 ∷ 0 ∷ []) bounds)
+    omega (arith, length-bounded (slot_octets f) numbers (3 ∷ 3 ∷ 3 ∷ 388 ∷ 452 ∷ 260 ∷ 2 ∷ 0 ∷ 0 ∷ 0 ∷ 0 ∷ 0 ∷ 0 ∷ []) bounds)
 
 -- no more than 1,543 octets of elements
 pub length-written : (m : Message) → IsWritten m → length (flat_map (slot_octets (fields_of m)) numbers) ≤ 1543
@@ -152,7 +163,7 @@ length-written (messages.Write a b c d e f g h i j) w =
             (
               omega arith,
               (
-                omega (arith, list_len cell_octets 4 cell_len 0x04 fs.cells, s.cells),
+                omega (arith, list_len layouts.Cells cell_octets 4 cell_len 0x04 fs.cells, s.cells),
                 (
                   octet_len 0x12 fs.channel,
                   (

@@ -16,8 +16,8 @@ use Rattle.cbsp_wire.specs.declared.message.Failure.{Failure}
 use Rattle.cbsp_wire.specs.declared.message.Message.{Message}
 use Rattle.cbsp_wire.specs.Element.{Element, bodies_of, octet_of}
 use Rattle.cbsp_wire.specs.Table.{table, need_of, size_of}
-use Rattle.cbsp_wire.specs.Value.{Fields, no_fields, fields_in, fields_of, first_number, first_octet, first_items, content_of, cells_in, failures_in, or_0, message_with, message_of, kind_of}
-use Rattle.cbsp_wire.specs.Range.{numbers, is_nothing, is_there_if, has_mandatory, has_none_twice, are_lists, first_passes, is_list, are_items, item_size, cells_by, passes, is_period, is_coding, is_page_count, are_contents, are_numbers, are_cells, cells_of_counts, cells_of_failures, are_all_cells, are_values, is_writable, is_full}
+use Rattle.cbsp_wire.specs.Value.{Fields, no_fields, fields_in, fields_of, first_number, first_octet, items_of, first_items, content_of, cells_in, failures_in, or_0, message_with, message_of, kind_of}
+use Rattle.cbsp_wire.specs.Range.{numbers, is_nothing, is_there_if, has_mandatory, has_none_twice, are_lists, first_passes, is_by_lac_and_ci, is_list, are_items, item_size, cells_by, passes, is_period, is_coding, is_page_count, are_contents, are_numbers, are_cells, cells_of_counts, cells_of_failures, are_all_cells, are_values, is_writable, is_full}
 use Rattle.cbsp_wire.specs.Meaning.{IsOf, AreElementsOf, IsMessage}
 use Rattle.cbsp_wire.proofs.Tests.{and_parts, and_both, not_true, there_from, list_all-parts}
 use Rattle.cbsp_wire.proofs.WrittenLaws.{IsWritten, is_writable-from}
@@ -117,15 +117,13 @@ pages_there (body ∷ bodies) contents h right =
 -- a list that is there and right has items
 items_there : {X : Type 0} (need : Need) (layout : Layout) (items_in : List ℕ → List X) (bodies : List (List ℕ))
     → ((o : List ℕ) → is_nothing (cells_by layout o) ≡ false → is_nothing (items_in o) ≡ false)
-    → is_there_if need bodies ≡ true → first_passes (is_list layout) bodies ≡ true → is_there_if need (first_items items_in bodies) ≡ true
+    → is_there_if need bodies ≡ true → first_passes (is_list layout) bodies ≡ true → is_there_if need (first_items layout items_in bodies) ≡ true
 items_there needs.Mandatory layout items_in [] some there right = absurd cc
 items_there needs.Optional layout items_in [] some there right = refl
 items_there needs.Foreign layout items_in [] some there right = refl
-items_there need layout items_in ([] ∷ bodies) some there right = absurd cc
-items_there need layout items_in ((a ∷ []) ∷ bodies) some there right = absurd cc
-items_there need layout items_in ((a ∷ b ∷ []) ∷ bodies) some there right = absurd cc
-items_there need layout items_in ((a ∷ b ∷ d ∷ items) ∷ bodies) some there right =
-    let one = and_parts (eqb d 1) (are_items layout items) right in
+items_there need layout items_in (body ∷ bodies) some there right =
+    let items = items_of layout body in
+    let one = and_parts (is_by_lac_and_ci layout body) (are_items layout items) right in
     let two = and_parts (eqb (length items % item_size layout) 0) (not (is_nothing (cells_by layout items))) one.1 in
     there_from need (items_in items) (some items (not_true _ two.1))
 

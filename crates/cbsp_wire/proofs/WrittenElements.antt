@@ -5,6 +5,8 @@ use Rattle.std.specs.List.{AllByRecursion, list_all, flat_map}
 use Rattle.std.proofs.lemmas.List.{append-nil}
 use Rattle.std.proofs.lemmas.Bool.{eqb-true}
 use Rattle.cbs_page.specs.declared.content.Content.{Content}
+use Rattle.cbsp_wire.specs.declared.items.Layout.{Layout}
+use Rattle.cbsp_wire.specs.declared.items.Layout.TheVariants as layouts
 use Rattle.cbsp_wire.specs.declared.kind.Kind.{Kind}
 use Rattle.cbsp_wire.specs.declared.kind.Need.{Need}
 use Rattle.cbsp_wire.specs.declared.kind.Need.TheVariants as needs
@@ -109,9 +111,9 @@ fields_in-bodies f es h =
       first_number-bodies f.id,
       first_number-bodies f.new_serial,
       first_number-bodies f.old_serial,
-      first_items-bodies failure_octets failures_in f.failures (failures_in-octets f.failures),
-      first_items-bodies count_octets counts_in f.completed (counts_in-octets f.completed),
-      first_items-bodies cell_octets cells_in f.cells (cells_in-octets f.cells),
+      first_items-bodies layouts.Failures failure_octets failures_in f.failures (failures_in-octets f.failures),
+      first_items-bodies layouts.Counts count_octets counts_in f.completed (counts_in-octets f.completed),
+      first_items-bodies layouts.Cells cell_octets cells_in f.cells (cells_in-octets f.cells),
       first_octet-bodies f.channel,
       first_octet-bodies f.category,
       first_number-bodies f.period,
@@ -141,9 +143,9 @@ octet_once : (o : Option ℕ) → nat_le (length (octet_bodies o)) 1 ≡ true
 octet_once None = refl
 octet_once (Some n) = refl
 
-list_once : {X : Type 0} (octets : X → List ℕ) (xs : List X) → nat_le (length (list_bodies octets xs)) 1 ≡ true
-list_once octets [] = refl
-list_once octets (x ∷ xs) = refl
+list_once : {X : Type 0} (layout : Layout) (octets : X → List ℕ) (xs : List X) → nat_le (length (list_bodies layout octets xs)) 1 ≡ true
+list_once layout octets [] = refl
+list_once layout octets (x ∷ xs) = refl
 
 pub has_none_twice-bodies : (f : Fields) (es : List Element) → HasBodies f es → has_none_twice es ≡ true
 unfolding bodies_in
@@ -156,11 +158,11 @@ has_none_twice-bodies f es h =
         (
           once _ _ h.1.1.0 (number_once f.old_serial),
           (
-            once _ _ h.1.1.1.0 (list_once failure_octets f.failures),
+            once _ _ h.1.1.1.0 (list_once layouts.Failures failure_octets f.failures),
             (
-              once _ _ h.1.1.1.1.0 (list_once count_octets f.completed),
+              once _ _ h.1.1.1.1.0 (list_once layouts.Counts count_octets f.completed),
               (
-                once _ _ h.1.1.1.1.1.0 (list_once cell_octets f.cells),
+                once _ _ h.1.1.1.1.1.0 (list_once layouts.Cells cell_octets f.cells),
                 (
                   once _ _ h.1.1.1.1.1.1.0 (octet_once f.channel),
                   (
@@ -202,12 +204,15 @@ one_sized : (n : ℕ) → ((body : List ℕ) → size_of n body ≡ 1) → (o : 
 one_sized n one None = tt
 one_sized n one (Some k) = (sym (one (k ∷ [])), tt)
 
-listed : (items : List ℕ) → length (list_body items) ≡ 2 + number_of (list_body items)
-listed items = omega arith
+listed : (layout : Layout) (items : List ℕ) → length (list_body layout items) ≡ 2 + number_of (list_body layout items)
+listed layouts.Cells items = omega arith
+listed layouts.Counts items = omega arith
+listed layouts.Failures items = omega arith
 
-list_sized : {X : Type 0} (n : ℕ) → ((body : List ℕ) → size_of n body ≡ 2 + number_of body) → (octets : X → List ℕ) (xs : List X) → AllByRecursion (λ body. length body ≡ size_of n body) (list_bodies octets xs)
-list_sized n size octets [] = tt
-list_sized n size octets (x ∷ xs) = (listed (flat_map octets (x ∷ xs)) ∙ sym (size (list_body (flat_map octets (x ∷ xs)))), tt)
+list_sized : {X : Type 0} (n : ℕ) → ((body : List ℕ) → size_of n body ≡ 2 + number_of body) → (layout : Layout) (octets : X → List ℕ) (xs : List X)
+    → AllByRecursion (λ body. length body ≡ size_of n body) (list_bodies layout octets xs)
+list_sized n size layout octets [] = tt
+list_sized n size layout octets (x ∷ xs) = (listed layout (flat_map octets (x ∷ xs)) ∙ sym (size (list_body layout (flat_map octets (x ∷ xs)))), tt)
 
 contents_sized : (cs : List Content) → list_all is_full cs ≡ true → AllByRecursion (λ body. length body ≡ size_of 1 body) (map content_body cs)
 unfolding size_of table
@@ -226,11 +231,11 @@ are_sized f full = (
     (
       two_sized 0x02 (λ b. refl) f.old_serial,
       (
-        list_sized 0x09 (λ b. refl) failure_octets f.failures,
+        list_sized 0x09 (λ b. refl) layouts.Failures failure_octets f.failures,
         (
-          list_sized 0x08 (λ b. refl) count_octets f.completed,
+          list_sized 0x08 (λ b. refl) layouts.Counts count_octets f.completed,
           (
-            list_sized 0x04 (λ b. refl) cell_octets f.cells,
+            list_sized 0x04 (λ b. refl) layouts.Cells cell_octets f.cells,
             (
               one_sized 0x12 (λ b. refl) f.channel,
               (

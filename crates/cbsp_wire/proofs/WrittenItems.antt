@@ -10,8 +10,8 @@ use Rattle.cbsp_wire.specs.declared.items.Layout.TheVariants as layouts
 use Rattle.cbsp_wire.specs.declared.message.Cell.{Cell}
 use Rattle.cbsp_wire.specs.declared.message.Count.{Count}
 use Rattle.cbsp_wire.specs.declared.message.Failure.{Failure}
-use Rattle.cbsp_wire.specs.Value.{first_number, first_octet, first_items, cell_at, cells_in, counts_in, failures_in, content_of}
-use Rattle.cbsp_wire.specs.Range.{is_nothing, is_list, first_passes, cells_by, cells_of_counts, cells_of_failures, item_size}
+use Rattle.cbsp_wire.specs.Value.{first_number, first_octet, first_items, items_of, cell_at, cells_in, counts_in, failures_in, content_of}
+use Rattle.cbsp_wire.specs.Range.{is_nothing, failures_are_by_lac_and_ci, is_by_lac_and_ci, is_list, are_items, first_passes, cells_by, cells_of_counts, cells_of_failures, item_size}
 use Rattle.cbsp_wire.specs.Written.{cell_octets, count_octets, failure_octets, number_bodies, octet_bodies, list_body, list_bodies, content_body}
 use Rattle.cbsp_wire.proofs.Tests.{and_both}
 
@@ -56,9 +56,12 @@ failures_in-octets (f ∷ fs) =
     ∙ ap (λ (g : Failure). g ∷ failures_in (flat_map failure_octets fs)) (failure_again f)
     ∙ ap (λ (gs : List Failure). f ∷ gs) (failures_in-octets fs)
 
-pub first_items-bodies : {X : Type 0} (octets : X → List ℕ) (items_in : List ℕ → List X) (xs : List X) → items_in (flat_map octets xs) ≡ xs → first_items items_in (list_bodies octets xs) ≡ xs
-first_items-bodies octets items_in [] h = refl
-first_items-bodies octets items_in (x ∷ xs) h = h
+pub first_items-bodies : {X : Type 0} (layout : Layout) (octets : X → List ℕ) (items_in : List ℕ → List X) (xs : List X) → items_in (flat_map octets xs) ≡ xs
+    → first_items layout items_in (list_bodies layout octets xs) ≡ xs
+first_items-bodies layout octets items_in [] h = refl
+first_items-bodies layouts.Cells octets items_in (x ∷ xs) h = h
+first_items-bodies layouts.Counts octets items_in (x ∷ xs) h = h
+first_items-bodies layouts.Failures octets items_in (x ∷ xs) h = h
 
 pub contents-bodies : (cs : List Content) → map content_of (map content_body cs) ≡ cs
 contents-bodies [] = refl
@@ -78,28 +81,41 @@ cell_len c = refl
 pub count_len : (c : Count) → length (count_octets c) ≡ 7
 count_len c = refl
 
-pub failure_len : (f : Failure) → length (failure_octets f) ≡ 5
+pub failure_len : (f : Failure) → length (failure_octets f) ≡ 6
 failure_len f = refl
 
 whole_items : (n size : ℕ) (items : List ℕ) → 0 < size → length items ≡ n * size → eqb (length items % size) 0 ≡ true
 whole_items n size items h e = eq-eqb _ _ (rw e (mul-mod_left n size))
 
+items_of-body : (layout : Layout) (items : List ℕ) → items_of layout (list_body layout items) ≡ items
+items_of-body layouts.Cells items = refl
+items_of-body layouts.Counts items = refl
+items_of-body layouts.Failures items = refl
+
 list_written : {X : Type 0} (layout : Layout) (octets : X → List ℕ) (x : X) (xs : List X) → ((y : X) → length (octets y) ≡ item_size layout) → 0 < item_size layout
-    → is_nothing (cells_by layout (flat_map octets (x ∷ xs))) ≡ false → is_list layout (list_body (flat_map octets (x ∷ xs))) ≡ true
-list_written layout octets x xs len pos some =
+    → is_nothing (cells_by layout (flat_map octets (x ∷ xs))) ≡ false → is_by_lac_and_ci layout (list_body layout (flat_map octets (x ∷ xs))) ≡ true
+    → is_list layout (list_body layout (flat_map octets (x ∷ xs))) ≡ true
+list_written layout octets x xs len pos some by_both =
     let items = flat_map octets (x ∷ xs) in
     let even = whole_items (length (x ∷ xs)) (item_size layout) items pos (length-items octets (item_size layout) len (x ∷ xs)) in
-    and_both (eqb (length items % item_size layout) 0) (not (is_nothing (cells_by layout items))) even (rw some refl)
+    let are : are_items layout items ≡ true = and_both (eqb (length items % item_size layout) 0) (not (is_nothing (cells_by layout items))) even (rw some refl) in
+    and_both (is_by_lac_and_ci layout (list_body layout items)) (are_items layout (items_of layout (list_body layout items))) by_both
+    (ap (λ (o : List ℕ). are_items layout o) (items_of-body layout items) ∙ are)
+
+-- each failure that is written has its discriminator
+failures_by_both : (fs : List Failure) → failures_are_by_lac_and_ci (flat_map failure_octets fs) ≡ true
+failures_by_both [] = refl
+failures_by_both (f ∷ fs) = ap failures_are_by_lac_and_ci (flat_map-cons failure_octets f fs) ∙ failures_by_both fs
 
 -- the lists that are written are right
-pub cells-right : (cs : List Cell) → first_passes (is_list layouts.Cells) (list_bodies cell_octets cs) ≡ true
+pub cells-right : (cs : List Cell) → first_passes (is_list layouts.Cells) (list_bodies layouts.Cells cell_octets cs) ≡ true
 cells-right [] = refl
-cells-right (c ∷ cs) = list_written layouts.Cells cell_octets c cs cell_len (omega arith) (ap (λ (ds : List Cell). is_nothing ds) (cells_in-octets (c ∷ cs)))
+cells-right (c ∷ cs) = list_written layouts.Cells cell_octets c cs cell_len (omega arith) (ap (λ (ds : List Cell). is_nothing ds) (cells_in-octets (c ∷ cs))) refl
 
-pub counts-right : (cs : List Count) → first_passes (is_list layouts.Counts) (list_bodies count_octets cs) ≡ true
+pub counts-right : (cs : List Count) → first_passes (is_list layouts.Counts) (list_bodies layouts.Counts count_octets cs) ≡ true
 counts-right [] = refl
-counts-right (c ∷ cs) = list_written layouts.Counts count_octets c cs count_len (omega arith) (ap (λ (ds : List Count). is_nothing (cells_of_counts ds)) (counts_in-octets (c ∷ cs)))
+counts-right (c ∷ cs) = list_written layouts.Counts count_octets c cs count_len (omega arith) (ap (λ (ds : List Count). is_nothing (cells_of_counts ds)) (counts_in-octets (c ∷ cs))) refl
 
-pub failures-right : (fs : List Failure) → first_passes (is_list layouts.Failures) (list_bodies failure_octets fs) ≡ true
+pub failures-right : (fs : List Failure) → first_passes (is_list layouts.Failures) (list_bodies layouts.Failures failure_octets fs) ≡ true
 failures-right [] = refl
-failures-right (f ∷ fs) = list_written layouts.Failures failure_octets f fs failure_len (omega arith) (ap (λ (ds : List Failure). is_nothing (cells_of_failures ds)) (failures_in-octets (f ∷ fs)))
+failures-right (f ∷ fs) = list_written layouts.Failures failure_octets f fs failure_len (omega arith) (ap (λ (ds : List Failure). is_nothing (cells_of_failures ds)) (failures_in-octets (f ∷ fs))) (failures_by_both (f ∷ fs))

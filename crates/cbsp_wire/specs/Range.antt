@@ -15,7 +15,7 @@ use Rattle.cbsp_wire.specs.declared.message.Message.{Message}
 use Rattle.cbs_page.specs.declared.content.Content.{Content}
 use Rattle.cbsp_wire.specs.Element.{Element, bodies_of}
 use Rattle.cbsp_wire.specs.Table.{need_of}
-use Rattle.cbsp_wire.specs.Value.{cells_in, counts_in, failures_in, Fields, fields_in, fields_of, kind_of}
+use Rattle.cbsp_wire.specs.Value.{cells_in, counts_in, failures_in, items_of, Fields, fields_in, fields_of, kind_of}
 
 -- the elements of messages, in the table's order
 abbrev pub numbers : List ℕ
@@ -75,7 +75,7 @@ cells_of_failures failures = map (λ f. f.cell) failures
 abbrev pub item_size : Layout → ℕ
 item_size layouts.Cells = 4
 item_size layouts.Counts = 7
-item_size layouts.Failures = 5
+item_size layouts.Failures = 6
 
 abbrev pub cells_by : Layout → List ℕ → List Cell
 cells_by layouts.Cells octets = cells_in octets
@@ -86,10 +86,20 @@ cells_by layouts.Failures octets = cells_of_failures (failures_in octets)
 abbrev pub are_items : Layout → List ℕ → Bool
 are_items layout items = (length items % item_size layout == 0) && not (is_nothing (cells_by layout items))
 
--- a list's body: two octets of length, the discriminator 1 (LAC and CI), and items
+-- the discriminators of a list say LAC and CI, 1: the first octet of each failure, or the one after the length of other lists
+abbrev pub failures_are_by_lac_and_ci : List ℕ → Bool
+failures_are_by_lac_and_ci (discriminator ∷ a ∷ b ∷ c ∷ d ∷ e ∷ octets) = (discriminator == 1) && failures_are_by_lac_and_ci octets
+failures_are_by_lac_and_ci octets = true
+
+abbrev pub is_by_lac_and_ci : Layout → List ℕ → Bool
+is_by_lac_and_ci layouts.Cells (high ∷ low ∷ discriminator ∷ items) = discriminator == 1
+is_by_lac_and_ci layouts.Counts (high ∷ low ∷ discriminator ∷ items) = discriminator == 1
+is_by_lac_and_ci layouts.Failures (high ∷ low ∷ items) = failures_are_by_lac_and_ci items
+is_by_lac_and_ci layout body = false
+
+-- a list's body: two octets of length, and whole items whose discriminators are right
 abbrev pub is_list : Layout → List ℕ → Bool
-is_list layout (high ∷ low ∷ discriminator ∷ items) = (discriminator == 1) && are_items layout items
-is_list layout octets = false
+is_list layout body = is_by_lac_and_ci layout body && are_items layout (items_of layout body)
 
 -- a test of the first body, if there is one
 abbrev pub first_passes : (List ℕ → Bool) → List (List ℕ) → Bool

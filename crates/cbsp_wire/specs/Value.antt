@@ -1,8 +1,10 @@
 -- The value of a message, found by looking elements up. 3GPP TS 48.049, clause 8.2, in this project's own layouts.
-use Rattle.std.specs.Prelude.{ℕ, ◌+◌, ◌*◌, List, [], ◌∷◌, length, map, drop, Option, Some, None, unwrap_or}
+use Rattle.std.specs.Prelude.{ℕ, ◌+◌, ◌*◌, List, [], ◌∷◌, length, map, Option, Some, None, unwrap_or}
 use Rattle.cbs_page.specs.declared.content.Content.{Content}
 use Rattle.cbsp_wire.specs.declared.kind.Kind.{Kind}
 use Rattle.cbsp_wire.specs.declared.kind.Kind.TheVariants as kinds
+use Rattle.cbsp_wire.specs.declared.items.Layout.{Layout}
+use Rattle.cbsp_wire.specs.declared.items.Layout.TheVariants as layouts
 use Rattle.cbsp_wire.specs.declared.message.Cell.{Cell}
 use Rattle.cbsp_wire.specs.declared.message.Count.{Count}
 use Rattle.cbsp_wire.specs.declared.message.Failure.{Failure}
@@ -28,7 +30,7 @@ count_at a b c d e f g = record { cell = cell_at a b c d; number = e * 256 + f; 
 abbrev pub failure_at : ℕ → ℕ → ℕ → ℕ → ℕ → Failure
 failure_at a b c d e = record { cell = cell_at a b c d; cause = e }
 
--- the items that octets are: a cell is four of them, a count seven, a failure five
+-- the items that octets are: a cell is four of them, a count seven, a failure six, the first of which is its discriminator
 abbrev pub cells_in : List ℕ → List Cell
 cells_in (a ∷ b ∷ c ∷ d ∷ octets) = cell_at a b c d ∷ cells_in octets
 cells_in octets = []
@@ -38,13 +40,20 @@ counts_in (a ∷ b ∷ c ∷ d ∷ e ∷ f ∷ g ∷ octets) = count_at a b c d 
 counts_in octets = []
 
 abbrev pub failures_in : List ℕ → List Failure
-failures_in (a ∷ b ∷ c ∷ d ∷ e ∷ octets) = failure_at a b c d e ∷ failures_in octets
+failures_in (discriminator ∷ a ∷ b ∷ c ∷ d ∷ e ∷ octets) = failure_at a b c d e ∷ failures_in octets
 failures_in octets = []
 
--- the items of the first body, after its length and its discriminator
-abbrev pub first_items : {X : Type 0} → (List ℕ → List X) → List (List ℕ) → List X
-first_items items_in [] = []
-first_items items_in (body ∷ bodies) = items_in (drop 3 body)
+-- the octets of a list's items: what follows the two octets of its length, and the one discriminator of cells or counts
+abbrev pub items_of : Layout → List ℕ → List ℕ
+items_of layouts.Cells (high ∷ low ∷ discriminator ∷ items) = items
+items_of layouts.Counts (high ∷ low ∷ discriminator ∷ items) = items
+items_of layouts.Failures (high ∷ low ∷ items) = items
+items_of layout body = []
+
+-- the items of the first body
+abbrev pub first_items : {X : Type 0} → Layout → (List ℕ → List X) → List (List ℕ) → List X
+first_items layout items_in [] = []
+first_items layout items_in (body ∷ bodies) = items_in (items_of layout body)
 
 abbrev pub content_of : List ℕ → Content
 content_of [] = record { used = 0; octets = [] }
@@ -57,13 +66,13 @@ abbrev pub octet_in : ℕ → List Element → Option ℕ
 octet_in n es = first_octet (bodies_of n es)
 
 abbrev pub cells_of : List Element → List Cell
-cells_of es = first_items cells_in (bodies_of 0x04 es)
+cells_of es = first_items layouts.Cells cells_in (bodies_of 0x04 es)
 
 abbrev pub counts_of : List Element → List Count
-counts_of es = first_items counts_in (bodies_of 0x08 es)
+counts_of es = first_items layouts.Counts counts_in (bodies_of 0x08 es)
 
 abbrev pub failures_of : List Element → List Failure
-failures_of es = first_items failures_in (bodies_of 0x09 es)
+failures_of es = first_items layouts.Failures failures_in (bodies_of 0x09 es)
 
 abbrev pub contents_of : List Element → List Content
 contents_of es = map content_of (bodies_of 0x01 es)

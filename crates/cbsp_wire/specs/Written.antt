@@ -3,6 +3,8 @@
 use Rattle.std.specs.Prelude.{ℕ, ◌+◌, ◌/◌, ◌%◌, ◌≤◌, IfSome, ◌==◌, if◌then◌else◌, List, [], ◌∷◌, ◌++◌, length, map, Option, Some, None}
 use Rattle.std.specs.List.{flat_map}
 use Rattle.cbs_page.specs.declared.content.Content.{Content}
+use Rattle.cbsp_wire.specs.declared.items.Layout.{Layout}
+use Rattle.cbsp_wire.specs.declared.items.Layout.TheVariants as layouts
 use Rattle.cbsp_wire.specs.declared.message.Cell.{Cell}
 use Rattle.cbsp_wire.specs.declared.message.Count.{Count}
 use Rattle.cbsp_wire.specs.declared.message.Failure.{Failure}
@@ -22,8 +24,9 @@ cell_octets c = c.lac / 256 ∷ c.lac % 256 ∷ c.ci / 256 ∷ c.ci % 256 ∷ []
 abbrev pub count_octets : Count → List ℕ
 count_octets c = cell_octets c.cell ++ number_octets c.number ++ c.info ∷ []
 
+-- a failure has a discriminator of its own, 1 (LAC and CI)
 abbrev pub failure_octets : Failure → List ℕ
-failure_octets f = cell_octets f.cell ++ f.cause ∷ []
+failure_octets f = 1 ∷ (cell_octets f.cell ++ f.cause ∷ [])
 
 -- the bodies of an element: none where it is left out
 abbrev pub number_bodies : Option ℕ → List (List ℕ)
@@ -34,13 +37,19 @@ abbrev pub octet_bodies : Option ℕ → List (List ℕ)
 octet_bodies None = []
 octet_bodies (Some n) = (n ∷ []) ∷ []
 
--- a list's body: the length of what follows it, the discriminator, the items
-abbrev pub list_body : List ℕ → List ℕ
-list_body items = number_octets (1 + length items) ++ 1 ∷ items
+-- the length of a list that has so many octets of items, and what follows it: the one discriminator of cells or counts
+abbrev pub list_head : Layout → ℕ → List ℕ
+list_head layouts.Cells items = number_octets (1 + items) ++ 1 ∷ []
+list_head layouts.Counts items = number_octets (1 + items) ++ 1 ∷ []
+list_head layouts.Failures items = number_octets items
 
-abbrev pub list_bodies : {X : Type 0} → (X → List ℕ) → List X → List (List ℕ)
-list_bodies octets [] = []
-list_bodies octets (x ∷ xs) = list_body (flat_map octets (x ∷ xs)) ∷ []
+-- a list's body: its head and its items
+abbrev pub list_body : Layout → List ℕ → List ℕ
+list_body layout items = list_head layout (length items) ++ items
+
+abbrev pub list_bodies : {X : Type 0} → Layout → (X → List ℕ) → List X → List (List ℕ)
+list_bodies layout octets [] = []
+list_bodies layout octets (x ∷ xs) = list_body layout (flat_map octets (x ∷ xs)) ∷ []
 
 abbrev pub content_body : Content → List ℕ
 content_body c = c.used ∷ c.octets
@@ -51,9 +60,9 @@ bodies_in f n =
     if n == 0x0E then number_bodies f.id
     else if n == 0x03 then number_bodies f.new_serial
     else if n == 0x02 then number_bodies f.old_serial
-    else if n == 0x09 then list_bodies failure_octets f.failures
-    else if n == 0x08 then list_bodies count_octets f.completed
-    else if n == 0x04 then list_bodies cell_octets f.cells
+    else if n == 0x09 then list_bodies layouts.Failures failure_octets f.failures
+    else if n == 0x08 then list_bodies layouts.Counts count_octets f.completed
+    else if n == 0x04 then list_bodies layouts.Cells cell_octets f.cells
     else if n == 0x12 then octet_bodies f.channel
     else if n == 0x05 then octet_bodies f.category
     else if n == 0x06 then number_bodies f.period

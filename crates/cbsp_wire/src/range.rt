@@ -5,13 +5,13 @@ ghost use Rattle.std.specs.List.{list_all};
 ghost use Rattle.cbsp_wire.specs.Element.{bodies_of};
 ghost use Rattle.cbsp_wire.specs.Table.{need_of};
 ghost use Rattle.cbsp_wire.specs.Walk.{walk_of};
-ghost use Rattle.cbsp_wire.specs.Range.{has_mandatory, has_none_twice, comes_once, is_there_if, is_period, is_coding, is_page_count, passes, first_passes, is_list, are_contents, are_numbers, are_lists, are_all_cells, are_in_range};
+ghost use Rattle.cbsp_wire.specs.Range.{has_mandatory, has_none_twice, comes_once, is_there_if, is_period, is_coding, is_page_count, passes, first_passes, is_list, cells_by, are_cells, are_contents, are_numbers, are_lists, are_all_cells, are_in_range};
 ghost use Rattle.cbsp_wire.specs.Value.{octet_in, contents_of, fields_in, first_items};
 
 use crate::elements::{NUMBERS, find, need, octet_of};
-use crate::items::{Items, Layout, are_cells, is_list};
+use crate::items::{Items, Layout, are_cells, is_list, items_of};
 use crate::kind::{Kind, Need};
-use crate::value::{items_of, number, octet};
+use crate::value::{number, octet};
 use cbs_page::Dcs;
 
 /// Whether the element is there, if the message needs it.
@@ -161,13 +161,20 @@ fn are_lists(kind: Kind, octets: &[u8]) -> bool
 }
 
 /// The octets of the items of a list, none where it isn't there.
-fn list_items(kind: Kind, number: u8, octets: &[u8]) -> &[u8]
-    ensures { result.now ≡ first_items (λ items. items) (bodies_of number (walk_of kind octets.now).elements) }
+fn list_items(kind: Kind, number: u8, layout: Layout, octets: &[u8]) -> &[u8]
+    ensures { result.now ≡ first_items layout (λ items. items) (bodies_of number (walk_of kind octets.now).elements) }
 {
     match find(kind, number, octets) {
         None => &[],
-        Some((body, _)) => items_of(body),
+        Some((body, _)) => items_of(layout, body),
     }
+}
+
+/// Whether the list of this number names at most 64 cells, and none twice.
+fn are_listed_cells(kind: Kind, number: u8, layout: Layout, octets: &[u8]) -> bool
+    ensures { result ≡ are_cells (cells_by layout (first_items layout (λ items. items) (bodies_of number (walk_of kind octets.now).elements))) }
+{
+    are_cells(Items::Octets(layout, list_items(kind, number, layout, octets)))
 }
 
 /// Whether the lists name at most 64 cells each, and none twice.
@@ -175,9 +182,9 @@ fn list_items(kind: Kind, number: u8, octets: &[u8]) -> &[u8]
 fn are_all_cells(kind: Kind, octets: &[u8]) -> bool
     ensures { result ≡ are_all_cells (fields_in (walk_of kind octets.now).elements) }
 {
-    are_cells(Items::Octets(Layout::Cells, list_items(kind, 0x04, octets)))
-        && are_cells(Items::Octets(Layout::Counts, list_items(kind, 0x08, octets)))
-        && are_cells(Items::Octets(Layout::Failures, list_items(kind, 0x09, octets)))
+    are_listed_cells(kind, 0x04, Layout::Cells, octets)
+        && are_listed_cells(kind, 0x08, Layout::Counts, octets)
+        && are_listed_cells(kind, 0x09, Layout::Failures, octets)
 }
 
 /// Whether no element comes twice and all values are in their ranges.

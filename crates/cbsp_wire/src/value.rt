@@ -1,12 +1,13 @@
 //! The value of a message, looked up among its elements.
 
-ghost use Rattle.std.specs.Prelude.{◌≡◌, ◌<◌, [], ◌∷◌, length, drop, unwrap_or, IfOk, IfSome, MatchOption};
+ghost use Rattle.std.specs.Prelude.{◌≡◌, ◌<◌, [], ◌∷◌, length, unwrap_or, IfOk, IfSome, MatchOption};
 ghost use Rattle.cbsp_wire.specs.Element.{bodies_of};
 ghost use Rattle.cbsp_wire.specs.Walk.{walk_of};
 ghost use Rattle.cbsp_wire.specs.Value.{first_items, content_of, number_in, octet_in, cells_of, counts_of, failures_of, contents_of, message_of};
 
 use crate::elements::{find, number_of, octet_of};
 use crate::item::{Item, read_items};
+use crate::items::items_of;
 use crate::kind::Kind;
 use crate::message::{Cells, Contents, Counts, Failures, Message};
 use cbs_page::{Content, Dcs, Serial};
@@ -56,13 +57,6 @@ pub(crate) fn octet(kind: Kind, number: u8, octets: &[u8]) -> Option<u8>
     }
 }
 
-/// The items of a list's body: what stands after its length and its discriminator.
-pub(crate) fn items_of(body: &[u8]) -> &[u8]
-    ensures { result.now ≡ drop 3 body.now }
-{
-    if body.len() < 3 { &[] } else { &body[3..] }
-}
-
 /// The items of the list with this number, none where it isn't there.
 fn list<T: Item>(
     alloc: Global,
@@ -70,10 +64,10 @@ fn list<T: Item>(
     element: u8,
     octets: &[u8],
 ) -> Result<Vec<T>, AllocError>
-    ensures { IfOk result (λ items. items.items ≡ first_items T.items_in (bodies_of element (walk_of kind octets.now).elements)) }
+    ensures { IfOk result (λ items. items.items ≡ first_items T.LAYOUT T.items_in (bodies_of element (walk_of kind octets.now).elements)) }
 {
     match find(kind, element, octets) {
-        Some((body, _)) => read_items(alloc, items_of(body)),
+        Some((body, _)) => read_items(alloc, items_of(T::LAYOUT, body)),
         None => Ok(Vec::new(alloc)),
     }
 }

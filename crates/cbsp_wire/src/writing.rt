@@ -5,11 +5,12 @@ ghost use Rattle.std.specs.List.{flat_map};
 ghost use Rattle.cbsp_wire.specs.Meaning.{IsMessage, IsUnwritten};
 ghost use Rattle.cbsp_wire.specs.Parts.{fields_seen, HasRoom};
 ghost use Rattle.cbsp_wire.specs.Range.{is_writable};
-ghost use Rattle.cbsp_wire.specs.Written.{number_octets, number_bodies, octet_bodies, list_bodies, cell_octets, count_octets, failure_octets, content_body, slot, slot_octets, bodies_in, octets_of_message, AreShort};
+ghost use Rattle.cbsp_wire.specs.Written.{number_octets, number_bodies, octet_bodies, list_head, list_bodies, cell_octets, count_octets, failure_octets, content_body, slot, slot_octets, bodies_in, octets_of_message, AreShort};
 
 use crate::elements::{NUMBERS, elements};
 use crate::fault::WireFault;
 use crate::item::{Item, put_items};
+use crate::items::Layout;
 use crate::message::Message;
 use crate::parts::{Parts, is_writable, kind_of, parts_of};
 use cbs_page::Content;
@@ -57,28 +58,33 @@ fn put_octet(out: &mut Vec<u8>, element: u8, octet: Option<u8>)
     }
 }
 
-/// Appends what stands before the items of a list: its number, its length, the discriminator.
-fn put_list_head(out: &mut Vec<u8>, element: u8, items_len: u16)
+/// Appends what comes before the items of a list: its number, its length and, but for failures, the discriminator.
+fn put_list_head(out: &mut Vec<u8>, element: u8, layout: Layout, items_len: u16)
     requires fits { items_len < 65535 }
-    requires room { vec_len out.old + 4 ≤ vec_capacity out.old }
-    ensures appended { out.new.items ≡ out.old.items ++ element ∷ (1 + items_len) / 256 ∷ (1 + items_len) % 256 ∷ 1 ∷ [] }
+    requires room { HasRoom out.old (element ∷ list_head layout items_len) }
+    ensures appended { out.new.items ≡ out.old.items ++ element ∷ list_head layout items_len }
     ensures room { vec_capacity out.new ≡ vec_capacity out.old }
 {
-    let [high, low] = octets_of_number(1 + items_len);
-    put(out, &[element, high, low, 1]);
+    match layout {
+        Layout::Cells | Layout::Counts => {
+            let [high, low] = octets_of_number(1 + items_len);
+            put(out, &[element, high, low, 1]);
+        }
+        Layout::Failures => put_number(out, element, Some(items_len)),
+    }
 }
 
 /// Appends a list, if it has items.
 fn put_list<T: Item>(out: &mut Vec<u8>, element: u8, items: &[T])
     requires short { length items.now ≤ 64 }
-    requires room { HasRoom out.old (slot element (list_bodies T.octets_of items.now)) }
-    ensures appended { out.new.items ≡ out.old.items ++ slot element (list_bodies T.octets_of items.now) }
+    requires room { HasRoom out.old (slot element (list_bodies T.LAYOUT T.octets_of items.now)) }
+    ensures appended { out.new.items ≡ out.old.items ++ slot element (list_bodies T.LAYOUT T.octets_of items.now) }
     ensures room { vec_capacity out.new ≡ vec_capacity out.old }
 {
     if items.is_empty() {
         return;
     }
-    put_list_head(out, element, items.len() as u16 * T::SIZE);
+    put_list_head(out, element, T::LAYOUT, items.len() as u16 * T::SIZE);
     put_items(out, items);
 }
 

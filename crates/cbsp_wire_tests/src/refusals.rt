@@ -147,7 +147,11 @@ fn fault_with(
 fn replies_have_their_own_elements(rt: HostRuntime) -> Result<(), Fail> {
     let alloc = rt.alloc();
     let failures: [u8; 9] = [0x09, 0, 6, 1, 0, 1, 0, 1, 0x06];
-    let twice: [u8; 14] = [0x09, 0, 11, 1, 0, 1, 0, 1, 0x06, 0, 1, 0, 1, 0x06];
+    // Two failures, each with its discriminator; then one discriminator for both; another one at the second; a cell twice.
+    let two: [u8; 15] = [0x09, 0, 12, 1, 0, 1, 0, 1, 0x06, 1, 0, 1, 0, 2, 0x06];
+    let one_for_both: [u8; 14] = [0x09, 0, 11, 1, 0, 1, 0, 1, 0x06, 0, 1, 0, 2, 0x06];
+    let other: [u8; 15] = [0x09, 0, 12, 1, 0, 1, 0, 1, 0x06, 2, 0, 1, 0, 2, 0x06];
+    let twice: [u8; 15] = [0x09, 0, 12, 1, 0, 1, 0, 1, 0x06, 1, 0, 1, 0, 1, 0x06];
     let counts: [u8; 11] = [0x08, 0, 8, 1, 0, 1, 0, 1, 0, 3, 0];
     let cases = [
         (fault_with(alloc, 0x03, &ID, &NEW, &failures, &[])?, None),
@@ -158,6 +162,15 @@ fn replies_have_their_own_elements(rt: HostRuntime) -> Result<(), Fail> {
         (
             fault_with(alloc, 0x03, &ID, &NEW, &[], &[])?,
             Some(WireFault::Cause(0x05)),
+        ),
+        (fault_with(alloc, 0x03, &ID, &NEW, &two, &[])?, None),
+        (
+            fault_with(alloc, 0x03, &ID, &NEW, &one_for_both, &[])?,
+            Some(WireFault::Cause(0x01)),
+        ),
+        (
+            fault_with(alloc, 0x06, &ID, &OLD, &other, &[])?,
+            Some(WireFault::Cause(0x01)),
         ),
         (
             fault_with(alloc, 0x03, &ID, &NEW, &twice, &[])?,
