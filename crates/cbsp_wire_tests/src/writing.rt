@@ -2,7 +2,9 @@
 
 use crate::octets::fault_of;
 use cbs_page::{Content, Dcs, Serial};
-use cbsp_wire::{Cell, Cells, Contents, Counts, Failures, Message, WireFault, write, write_in};
+use cbsp_wire::{
+    Cell, Cells, Contents, Count, Counts, Failure, Failures, Message, WireFault, write, write_in,
+};
 use std::alloc::{AllocError, Global};
 use std::test::Fail;
 
@@ -117,6 +119,36 @@ fn the_longest_message_has_1547_octets(rt: HostRuntime) -> Result<(), Fail> {
     let message = order(alloc, 64, 15, 82)?;
     let octets = write(alloc, &message)?;
     assert_eq!(rt; octets.len(), 1547);
+    assert_eq!(rt; fault_of(alloc, &octets), None);
+    Ok(())
+}
+
+#[test]
+fn the_longest_reply_has_1114_octets(rt: HostRuntime) -> Result<(), Fail> {
+    let alloc = rt.alloc();
+    let mut failures = Vec::new(alloc);
+    let mut counts = Vec::new(alloc);
+    for ci in 0..64 {
+        let cell = Cell { lac: 1, ci };
+        failures.push(Failure { cell, cause: 0x06 })?;
+        counts.push(Count {
+            cell,
+            number: 3,
+            info: 0,
+        })?;
+    }
+    let reply = Message::WriteFailed {
+        id: 4370,
+        new_serial: Serial::of(0x0010),
+        old_serial: Some(Serial::of(0x0020)),
+        failures: Failures { list: failures },
+        completed: Counts { list: counts },
+        cells: cells(alloc, 64)?,
+        channel: Some(0),
+    };
+    let octets = write(alloc, &reply)?;
+    // The head 4, three numbers of 3, lists of 3 + 64 * 6, 4 + 64 * 7 and 4 + 64 * 4, and the channel indicator 2.
+    assert_eq!(rt; octets.len(), 1114);
     assert_eq!(rt; fault_of(alloc, &octets), None);
     Ok(())
 }
