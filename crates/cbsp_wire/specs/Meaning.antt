@@ -12,6 +12,7 @@ use Rattle.cbsp_wire.specs.Table.{octet_of_kind, need_of, size_of}
 use Rattle.cbsp_wire.specs.Value.{message_of, kind_of}
 use Rattle.cbsp_wire.specs.Range.{has_mandatory, are_in_range}
 use Rattle.cbsp_wire.specs.Refusals.{told}
+use Rattle.cbsp_wire.specs.declared.cause.TheConstants.{PARAMETER_VALUE_INVALID}
 
 -- an element of this type of message, whose body has its size
 pub record IsOf (kind : Kind) (e : Element) : Type 0 where
@@ -34,7 +35,7 @@ IsMessage octets m = ⊥
 
 -- why a message isn't written: no octets mean it, or memory ran out and some octets mean it
 abbrev pub IsUnwritten : Message → WireFault → Type 0
-IsUnwritten m (Cause cause) = (cause ≡ 1) × ((octets : List ℕ) → IsMessage octets m → ⊥)
+IsUnwritten m (Cause cause) = (cause ≡ PARAMETER_VALUE_INVALID) × ((octets : List ℕ) → IsMessage octets m → ⊥)
 IsUnwritten m Refused = (octets : List ℕ) × IsMessage octets m
 IsUnwritten m Truncated = ⊥
 IsUnwritten m TrailingBytes = ⊥

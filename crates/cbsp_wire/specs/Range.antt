@@ -16,10 +16,14 @@ use Rattle.cbs_page.specs.declared.content.Content.{Content}
 use Rattle.cbsp_wire.specs.Element.{Element, bodies_of}
 use Rattle.cbsp_wire.specs.Table.{need_of}
 use Rattle.cbsp_wire.specs.Value.{cells_in, counts_in, failures_in, items_of, Fields, fields_in, fields_of, kind_of}
+use Rattle.cbsp_wire.specs.declared.iei.TheConstants.{MESSAGE_CONTENT, OLD_SERIAL_NUMBER, NEW_SERIAL_NUMBER, CELL_LIST, CATEGORY, REPETITION_PERIOD, BROADCASTS_REQUESTED, BROADCASTS_COMPLETED, FAILURE_LIST, DATA_CODING, MESSAGE_IDENTIFIER, CHANNEL_INDICATOR, NUMBER_OF_PAGES}
 
 -- the elements of messages, in the table's order
 abbrev pub numbers : List ℕ
-numbers = 0x0E ∷ 0x03 ∷ 0x02 ∷ 0x09 ∷ 0x08 ∷ 0x04 ∷ 0x12 ∷ 0x05 ∷ 0x06 ∷ 0x07 ∷ 0x13 ∷ 0x0C ∷ 0x01 ∷ []
+numbers =
+    MESSAGE_IDENTIFIER ∷ NEW_SERIAL_NUMBER ∷ OLD_SERIAL_NUMBER ∷ FAILURE_LIST ∷ BROADCASTS_COMPLETED ∷ CELL_LIST
+    ∷ CHANNEL_INDICATOR ∷ CATEGORY ∷ REPETITION_PERIOD ∷ BROADCASTS_REQUESTED ∷ NUMBER_OF_PAGES ∷ DATA_CODING
+    ∷ MESSAGE_CONTENT ∷ []
 
 abbrev pub is_nothing : {X : Type 0} → List X → Bool
 is_nothing [] = true
@@ -37,7 +41,7 @@ has_mandatory kind es = list_all (λ n. is_there_if (need_of kind n) (bodies_of 
 
 -- no element but 01 comes twice
 abbrev pub comes_once : ℕ → List Element → Bool
-comes_once n es = (n == 1) || nat_le (length (bodies_of n es)) 1
+comes_once n es = (n == MESSAGE_CONTENT) || nat_le (length (bodies_of n es)) 1
 
 abbrev pub has_none_twice : List Element → Bool
 has_none_twice es = list_all (λ n. comes_once n es) numbers
@@ -108,9 +112,9 @@ first_passes test (body ∷ bodies) = test body
 
 abbrev pub are_lists : List Element → Bool
 are_lists es =
-    first_passes (is_list layouts.Cells) (bodies_of 0x04 es)
-    && first_passes (is_list layouts.Counts) (bodies_of 0x08 es)
-    && first_passes (is_list layouts.Failures) (bodies_of 0x09 es)
+    first_passes (is_list layouts.Cells) (bodies_of CELL_LIST es)
+    && first_passes (is_list layouts.Counts) (bodies_of BROADCASTS_COMPLETED es)
+    && first_passes (is_list layouts.Failures) (bodies_of FAILURE_LIST es)
 
 -- a test of a number, if it is told
 abbrev pub passes : (ℕ → Bool) → Option ℕ → Bool
@@ -143,4 +147,5 @@ is_full c = length c.octets == 82
 abbrev pub is_writable : Message → Bool
 is_writable m =
     let f = fields_of m in
-    are_values f && is_there_if (need_of (kind_of m) 0x04) f.cells && is_there_if (need_of (kind_of m) 0x09) f.failures && list_all is_full f.contents
+    are_values f && is_there_if (need_of (kind_of m) CELL_LIST) f.cells
+    && is_there_if (need_of (kind_of m) FAILURE_LIST) f.failures && list_all is_full f.contents

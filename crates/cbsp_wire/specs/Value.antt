@@ -11,6 +11,7 @@ use Rattle.cbsp_wire.specs.declared.message.Failure.{Failure}
 use Rattle.cbsp_wire.specs.declared.message.Message.{Message}
 use Rattle.cbsp_wire.specs.declared.message.Message.TheVariants as messages
 use Rattle.cbsp_wire.specs.Element.{Element, bodies_of, number_of, octet_of}
+use Rattle.cbsp_wire.specs.declared.iei.TheConstants.{MESSAGE_CONTENT, OLD_SERIAL_NUMBER, NEW_SERIAL_NUMBER, CELL_LIST, CATEGORY, REPETITION_PERIOD, BROADCASTS_REQUESTED, BROADCASTS_COMPLETED, FAILURE_LIST, DATA_CODING, MESSAGE_IDENTIFIER, CHANNEL_INDICATOR, NUMBER_OF_PAGES}
 
 -- the number, or the octet, of the first body
 abbrev pub first_number : List (List ℕ) → Option ℕ
@@ -66,16 +67,16 @@ abbrev pub octet_in : ℕ → List Element → Option ℕ
 octet_in n es = first_octet (bodies_of n es)
 
 abbrev pub cells_of : List Element → List Cell
-cells_of es = first_items layouts.Cells cells_in (bodies_of 0x04 es)
+cells_of es = first_items layouts.Cells cells_in (bodies_of CELL_LIST es)
 
 abbrev pub counts_of : List Element → List Count
-counts_of es = first_items layouts.Counts counts_in (bodies_of 0x08 es)
+counts_of es = first_items layouts.Counts counts_in (bodies_of BROADCASTS_COMPLETED es)
 
 abbrev pub failures_of : List Element → List Failure
-failures_of es = first_items layouts.Failures failures_in (bodies_of 0x09 es)
+failures_of es = first_items layouts.Failures failures_in (bodies_of FAILURE_LIST es)
 
 abbrev pub contents_of : List Element → List Content
-contents_of es = map content_of (bodies_of 0x01 es)
+contents_of es = map content_of (bodies_of MESSAGE_CONTENT es)
 
 -- the fields of messages: None, or no items, where the element isn't there
 pub record Fields : Type 0 where
@@ -96,18 +97,18 @@ pub record Fields : Type 0 where
 -- the fields that elements say
 abbrev pub fields_in : List Element → Fields
 fields_in es = record {
-  id = number_in 0x0E es;
-  new_serial = number_in 0x03 es;
-  old_serial = number_in 0x02 es;
+  id = number_in MESSAGE_IDENTIFIER es;
+  new_serial = number_in NEW_SERIAL_NUMBER es;
+  old_serial = number_in OLD_SERIAL_NUMBER es;
   failures = failures_of es;
   completed = counts_of es;
   cells = cells_of es;
-  channel = octet_in 0x12 es;
-  category = octet_in 0x05 es;
-  period = number_in 0x06 es;
-  broadcasts = number_in 0x07 es;
-  pages = octet_in 0x13 es;
-  dcs = octet_in 0x0C es;
+  channel = octet_in CHANNEL_INDICATOR es;
+  category = octet_in CATEGORY es;
+  period = number_in REPETITION_PERIOD es;
+  broadcasts = number_in BROADCASTS_REQUESTED es;
+  pages = octet_in NUMBER_OF_PAGES es;
+  dcs = octet_in DATA_CODING es;
   contents = contents_of es;
 }
 

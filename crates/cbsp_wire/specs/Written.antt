@@ -13,6 +13,7 @@ use Rattle.cbsp_wire.specs.Element.{Element, octets_of_elements}
 use Rattle.cbsp_wire.specs.Table.{octet_of_kind}
 use Rattle.cbsp_wire.specs.Value.{Fields, fields_of, kind_of}
 use Rattle.cbsp_wire.specs.Range.{numbers}
+use Rattle.cbsp_wire.specs.declared.iei.TheConstants.{MESSAGE_CONTENT, OLD_SERIAL_NUMBER, NEW_SERIAL_NUMBER, CELL_LIST, CATEGORY, REPETITION_PERIOD, BROADCASTS_REQUESTED, BROADCASTS_COMPLETED, FAILURE_LIST, DATA_CODING, MESSAGE_IDENTIFIER, CHANNEL_INDICATOR, NUMBER_OF_PAGES}
 
 -- a number of two octets, the high one first
 abbrev pub number_octets : ℕ → List ℕ
@@ -57,19 +58,19 @@ content_body c = c.used ∷ c.octets
 -- the bodies of the elements with a number
 unfoldable pub bodies_in : Fields → ℕ → List (List ℕ)
 bodies_in f n =
-    if n == 0x0E then number_bodies f.id
-    else if n == 0x03 then number_bodies f.new_serial
-    else if n == 0x02 then number_bodies f.old_serial
-    else if n == 0x09 then list_bodies layouts.Failures failure_octets f.failures
-    else if n == 0x08 then list_bodies layouts.Counts count_octets f.completed
-    else if n == 0x04 then list_bodies layouts.Cells cell_octets f.cells
-    else if n == 0x12 then octet_bodies f.channel
-    else if n == 0x05 then octet_bodies f.category
-    else if n == 0x06 then number_bodies f.period
-    else if n == 0x07 then number_bodies f.broadcasts
-    else if n == 0x13 then octet_bodies f.pages
-    else if n == 0x0C then octet_bodies f.dcs
-    else if n == 0x01 then map content_body f.contents
+    if n == MESSAGE_IDENTIFIER then number_bodies f.id
+    else if n == NEW_SERIAL_NUMBER then number_bodies f.new_serial
+    else if n == OLD_SERIAL_NUMBER then number_bodies f.old_serial
+    else if n == FAILURE_LIST then list_bodies layouts.Failures failure_octets f.failures
+    else if n == BROADCASTS_COMPLETED then list_bodies layouts.Counts count_octets f.completed
+    else if n == CELL_LIST then list_bodies layouts.Cells cell_octets f.cells
+    else if n == CHANNEL_INDICATOR then octet_bodies f.channel
+    else if n == CATEGORY then octet_bodies f.category
+    else if n == REPETITION_PERIOD then number_bodies f.period
+    else if n == BROADCASTS_REQUESTED then number_bodies f.broadcasts
+    else if n == NUMBER_OF_PAGES then octet_bodies f.pages
+    else if n == DATA_CODING then octet_bodies f.dcs
+    else if n == MESSAGE_CONTENT then map content_body f.contents
     else []
 
 abbrev pub element : ℕ → List ℕ → Element

@@ -6,6 +6,7 @@ ghost use Rattle.cbsp_wire.specs.Element.{bodies_of};
 ghost use Rattle.cbsp_wire.specs.Table.{need_of, size_of};
 ghost use Rattle.cbsp_wire.specs.Walk.{front_of, walk_of};
 
+use crate::iei;
 use crate::kind::{Kind, Need};
 
 /// Why no more elements are taken.
@@ -24,19 +25,19 @@ pub enum Stop {
 macro_rules! elements {
     ($reader:ident, $($argument:expr),*) => {
         $reader!($($argument),*;
-            0x0E, fixed 2, M M M M M M, number id;
-            0x03, fixed 2, M M M F F F, number new_serial;
-            0x02, fixed 2, O O O M M M, number old_serial;
-            0x09, listed 2, F F M F F M, list failures;
-            0x08, listed 2, F O O F O O, list completed;
-            0x04, listed 2, M O O M O O, list cells;
-            0x12, fixed 1, O O O O O O, octet channel;
-            0x05, fixed 1, O F F F F F, octet category;
-            0x06, fixed 2, M F F F F F, number period;
-            0x07, fixed 2, M F F F F F, number broadcasts;
-            0x13, fixed 1, M F F F F F, pages pages;
-            0x0C, fixed 1, M F F F F F, octet dcs;
-            0x01, fixed 83, M F F F F F, contents contents;
+            iei::MESSAGE_IDENTIFIER, fixed 2, M M M M M M, number id;
+            iei::NEW_SERIAL_NUMBER, fixed 2, M M M F F F, number new_serial;
+            iei::OLD_SERIAL_NUMBER, fixed 2, O O O M M M, number old_serial;
+            iei::FAILURE_LIST, listed 2, F F M F F M, list failures;
+            iei::BROADCASTS_COMPLETED, listed 2, F O O F O O, list completed;
+            iei::CELL_LIST, listed 2, M O O M O O, list cells;
+            iei::CHANNEL_INDICATOR, fixed 1, O O O O O O, octet channel;
+            iei::CATEGORY, fixed 1, O F F F F F, octet category;
+            iei::REPETITION_PERIOD, fixed 2, M F F F F F, number period;
+            iei::BROADCASTS_REQUESTED, fixed 2, M F F F F F, number broadcasts;
+            iei::NUMBER_OF_PAGES, fixed 1, M F F F F F, pages pages;
+            iei::DATA_CODING, fixed 1, M F F F F F, octet dcs;
+            iei::MESSAGE_CONTENT, fixed 83, M F F F F F, contents contents;
         )
     };
 }
@@ -50,7 +51,7 @@ macro_rules! need {
 }
 
 macro_rules! need_for {
-    ($kind:expr, $number:expr; $($row:literal, $form:ident $size:literal, $write:ident $write_done:ident $write_failed:ident $kill:ident $kill_done:ident $kill_failed:ident, $writer:ident $field:ident;)*) => {
+    ($kind:expr, $number:expr; $($row:path, $form:ident $size:literal, $write:ident $write_done:ident $write_failed:ident $kill:ident $kill_done:ident $kill_failed:ident, $writer:ident $field:ident;)*) => {
         match $number {
             $($row => match $kind {
                 Kind::Write => need!($write),
@@ -71,7 +72,7 @@ macro_rules! size_by {
 }
 
 macro_rules! size_for {
-    ($octets:expr, $number:expr; $($row:literal, $form:ident $size:literal, $write:ident $write_done:ident $write_failed:ident $kill:ident $kill_done:ident $kill_failed:ident, $writer:ident $field:ident;)*) => {
+    ($octets:expr, $number:expr; $($row:path, $form:ident $size:literal, $write:ident $write_done:ident $write_failed:ident $kill:ident $kill_done:ident $kill_failed:ident, $writer:ident $field:ident;)*) => {
         match $number {
             $($row => size_by!($octets, $form $size),)*
             _ => 0,
@@ -80,7 +81,7 @@ macro_rules! size_for {
 }
 
 macro_rules! numbers_of {
-    (; $($row:literal, $form:ident $size:literal, $write:ident $write_done:ident $write_failed:ident $kill:ident $kill_done:ident $kill_failed:ident, $writer:ident $field:ident;)*) => {
+    (; $($row:path, $form:ident $size:literal, $write:ident $write_done:ident $write_failed:ident $kill:ident $kill_done:ident $kill_failed:ident, $writer:ident $field:ident;)*) => {
         [$($row),*]
     };
 }

@@ -4,8 +4,10 @@
 //! message, with its elements in the table's order, or that no octets mean it. What is written is read as the same message.
 #![tactic(auto)]
 
+pub mod cause;
 mod elements;
 pub mod fault;
+mod iei;
 mod item;
 mod items;
 mod kind;

@@ -8,6 +8,7 @@ ghost use Rattle.cbsp_wire.specs.Range.{is_there_if, are_contents, are_numbers, 
 ghost use Rattle.cbsp_wire.specs.Parts.{fields_seen};
 
 use crate::elements::need;
+use crate::iei;
 use crate::items::{Items, are_cells};
 use crate::kind::{Kind, Need};
 use crate::message::{Cell, Count, Failure, Message};
@@ -276,7 +277,7 @@ pub(crate) fn is_writable(message: &Message) -> bool
     let parts = parts_of(message);
     let kind = kind_of(message);
     are_values(&parts)
-        && is_there_if(need(kind, 0x04), parts.cells)
-        && is_there_if(need(kind, 0x09), parts.failures)
+        && is_there_if(need(kind, iei::CELL_LIST), parts.cells)
+        && is_there_if(need(kind, iei::FAILURE_LIST), parts.failures)
         && are_full(parts.contents)
 }

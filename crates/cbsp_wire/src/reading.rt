@@ -5,6 +5,7 @@ ghost use Rattle.cbsp_wire.specs.Walk.{walk_of};
 ghost use Rattle.cbsp_wire.specs.Refusals.{fault_of_walk, first_fault, fault_told, HasParts};
 ghost use Rattle.cbsp_wire.specs.Meaning.{IsMessage};
 
+use crate::cause;
 use crate::elements::{Stop, walk_end};
 use crate::fault::WireFault;
 use crate::kind::Kind;
@@ -23,15 +24,15 @@ fn fault_of_elements(kind: Kind, elements: &[u8]) -> Option<WireFault>
         return Some(WireFault::Truncated);
     }
     if !has_mandatory(kind, elements) {
-        return Some(WireFault::Cause(0x05));
+        return Some(WireFault::Cause(cause::MISSING_MANDATORY_ELEMENT));
     }
     if stop == Stop::Strange {
-        return Some(WireFault::Cause(0x00));
+        return Some(WireFault::Cause(cause::PARAMETER_NOT_RECOGNISED));
     }
     if are_in_range(kind, elements) {
         None
     } else {
-        Some(WireFault::Cause(0x01))
+        Some(WireFault::Cause(cause::PARAMETER_VALUE_INVALID))
     }
 }
 
@@ -54,7 +55,7 @@ fn parts(octets: &[u8]) -> Result<(Kind, &[u8]), WireFault>
         return Err(WireFault::TrailingBytes);
     }
     let Some(kind) = Kind::of_octet(*octet) else {
-        return Err(WireFault::Cause(0x04));
+        return Err(WireFault::Cause(cause::UNRECOGNISED_MESSAGE));
     };
     match fault_of_elements(kind, elements) {
         Some(fault) => Err(fault),

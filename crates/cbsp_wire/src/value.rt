@@ -6,6 +6,7 @@ ghost use Rattle.cbsp_wire.specs.Walk.{walk_of};
 ghost use Rattle.cbsp_wire.specs.Value.{first_items, content_of, number_in, octet_in, cells_of, counts_of, failures_of, contents_of, message_of};
 
 use crate::elements::{find, number_of, octet_of};
+use crate::iei;
 use crate::item::{Item, read_items};
 use crate::items::items_of;
 use crate::kind::Kind;
@@ -77,7 +78,7 @@ fn cells(alloc: Global, kind: Kind, octets: &[u8]) -> Result<Cells, AllocError>
     ensures { IfOk result (λ cells. cells ≡ cells_of (walk_of kind octets.now).elements) }
 {
     Ok(Cells {
-        list: list(alloc, kind, 0x04, octets)?,
+        list: list(alloc, kind, iei::CELL_LIST, octets)?,
     })
 }
 
@@ -86,7 +87,7 @@ fn counts(alloc: Global, kind: Kind, octets: &[u8]) -> Result<Counts, AllocError
     ensures { IfOk result (λ counts. counts ≡ counts_of (walk_of kind octets.now).elements) }
 {
     Ok(Counts {
-        list: list(alloc, kind, 0x08, octets)?,
+        list: list(alloc, kind, iei::BROADCASTS_COMPLETED, octets)?,
     })
 }
 
@@ -95,7 +96,7 @@ fn failures(alloc: Global, kind: Kind, octets: &[u8]) -> Result<Failures, AllocE
     ensures { IfOk result (λ failures. failures ≡ failures_of (walk_of kind octets.now).elements) }
 {
     Ok(Failures {
-        list: list(alloc, kind, 0x09, octets)?,
+        list: list(alloc, kind, iei::FAILURE_LIST, octets)?,
     })
 }
 
@@ -127,7 +128,7 @@ fn read_contents(alloc: Global, kind: Kind, octets: &[u8]) -> Result<Vec<Content
 {
     let mut contents = Vec::new(alloc);
     let mut left = octets;
-    'walk: while let Some((body, rest)) = find(kind, 0x01, left) {
+    'walk: while let Some((body, rest)) = find(kind, iei::MESSAGE_CONTENT, left) {
         contents.push(content(body))?;
         left = rest;
     }
@@ -140,33 +141,33 @@ fn read_contents(alloc: Global, kind: Kind, octets: &[u8]) -> Result<Vec<Content
 pub(crate) fn message(alloc: Global, kind: Kind, octets: &[u8]) -> Result<Message, AllocError>
     ensures { IfOk result (λ message. message ≡ message_of kind (walk_of kind octets.now).elements) }
 {
-    let id = number_or_0(kind, 0x0E, octets);
-    let channel = octet(kind, 0x12, octets);
+    let id = number_or_0(kind, iei::MESSAGE_IDENTIFIER, octets);
+    let channel = octet(kind, iei::CHANNEL_INDICATOR, octets);
     let message = match kind {
         Kind::Write => Message::Write {
             id,
-            new_serial: serial_or_0(kind, 0x03, octets),
-            old_serial: serial(kind, 0x02, octets),
+            new_serial: serial_or_0(kind, iei::NEW_SERIAL_NUMBER, octets),
+            old_serial: serial(kind, iei::OLD_SERIAL_NUMBER, octets),
             cells: cells(alloc, kind, octets)?,
             channel,
-            category: octet(kind, 0x05, octets),
-            period: number_or_0(kind, 0x06, octets),
-            broadcasts: number_or_0(kind, 0x07, octets),
-            dcs: Dcs(octet(kind, 0x0C, octets).unwrap_or(0)),
+            category: octet(kind, iei::CATEGORY, octets),
+            period: number_or_0(kind, iei::REPETITION_PERIOD, octets),
+            broadcasts: number_or_0(kind, iei::BROADCASTS_REQUESTED, octets),
+            dcs: Dcs(octet(kind, iei::DATA_CODING, octets).unwrap_or(0)),
             contents: contents(alloc, kind, octets)?,
         },
         Kind::WriteDone => Message::WriteDone {
             id,
-            new_serial: serial_or_0(kind, 0x03, octets),
-            old_serial: serial(kind, 0x02, octets),
+            new_serial: serial_or_0(kind, iei::NEW_SERIAL_NUMBER, octets),
+            old_serial: serial(kind, iei::OLD_SERIAL_NUMBER, octets),
             completed: counts(alloc, kind, octets)?,
             cells: cells(alloc, kind, octets)?,
             channel,
         },
         Kind::WriteFailed => Message::WriteFailed {
             id,
-            new_serial: serial_or_0(kind, 0x03, octets),
-            old_serial: serial(kind, 0x02, octets),
+            new_serial: serial_or_0(kind, iei::NEW_SERIAL_NUMBER, octets),
+            old_serial: serial(kind, iei::OLD_SERIAL_NUMBER, octets),
             failures: failures(alloc, kind, octets)?,
             completed: counts(alloc, kind, octets)?,
             cells: cells(alloc, kind, octets)?,
@@ -174,20 +175,20 @@ pub(crate) fn message(alloc: Global, kind: Kind, octets: &[u8]) -> Result<Messag
         },
         Kind::Kill => Message::Kill {
             id,
-            old_serial: serial_or_0(kind, 0x02, octets),
+            old_serial: serial_or_0(kind, iei::OLD_SERIAL_NUMBER, octets),
             cells: cells(alloc, kind, octets)?,
             channel,
         },
         Kind::KillDone => Message::KillDone {
             id,
-            old_serial: serial_or_0(kind, 0x02, octets),
+            old_serial: serial_or_0(kind, iei::OLD_SERIAL_NUMBER, octets),
             completed: counts(alloc, kind, octets)?,
             cells: cells(alloc, kind, octets)?,
             channel,
         },
         Kind::KillFailed => Message::KillFailed {
             id,
-            old_serial: serial_or_0(kind, 0x02, octets),
+            old_serial: serial_or_0(kind, iei::OLD_SERIAL_NUMBER, octets),
             failures: failures(alloc, kind, octets)?,
             completed: counts(alloc, kind, octets)?,
             cells: cells(alloc, kind, octets)?,

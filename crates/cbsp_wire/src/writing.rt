@@ -13,6 +13,7 @@ use crate::item::{Item, put_items};
 use crate::items::Layout;
 use crate::message::Message;
 use crate::parts::{Parts, is_writable, kind_of, parts_of};
+use crate::{cause, iei};
 use cbs_page::Content;
 use std::alloc::Global;
 
@@ -115,15 +116,15 @@ fn put_contents(out: &mut Vec<u8>, element: u8, contents: &[Content])
 }
 
 macro_rules! put_field {
-    ($out:expr, $row:literal, $parts:expr, number $field:ident) => { put_number($out, $row, $parts.$field) };
-    ($out:expr, $row:literal, $parts:expr, octet $field:ident) => { put_octet($out, $row, $parts.$field) };
-    ($out:expr, $row:literal, $parts:expr, pages $field:ident) => { put_pages($out, $row, $parts.$field) };
-    ($out:expr, $row:literal, $parts:expr, list $field:ident) => { put_list($out, $row, $parts.$field) };
-    ($out:expr, $row:literal, $parts:expr, contents $field:ident) => { put_contents($out, $row, $parts.$field) };
+    ($out:expr, $row:path, $parts:expr, number $field:ident) => { put_number($out, $row, $parts.$field) };
+    ($out:expr, $row:path, $parts:expr, octet $field:ident) => { put_octet($out, $row, $parts.$field) };
+    ($out:expr, $row:path, $parts:expr, pages $field:ident) => { put_pages($out, $row, $parts.$field) };
+    ($out:expr, $row:path, $parts:expr, list $field:ident) => { put_list($out, $row, $parts.$field) };
+    ($out:expr, $row:path, $parts:expr, contents $field:ident) => { put_contents($out, $row, $parts.$field) };
 }
 
 macro_rules! put_for {
-    ($out:expr, $parts:expr, $number:expr; $($row:literal, $form:ident $size:literal, $write:ident $write_done:ident $write_failed:ident $kill:ident $kill_done:ident $kill_failed:ident, $writer:ident $field:ident;)*) => {
+    ($out:expr, $parts:expr, $number:expr; $($row:path, $form:ident $size:literal, $write:ident $write_done:ident $write_failed:ident $kill:ident $kill_done:ident $kill_failed:ident, $writer:ident $field:ident;)*) => {
         match $number {
             $($row => put_field!($out, $row, $parts, $writer $field),)*
             _ => {}
@@ -183,7 +184,7 @@ pub fn write(alloc: Global, message: &Message) -> Result<Vec<u8>, WireFault>
     ensures refused { IfErr result (λ fault. IsUnwritten message.now fault) }
 {
     if !is_writable(message) {
-        return Err(WireFault::Cause(0x01));
+        return Err(WireFault::Cause(cause::PARAMETER_VALUE_INVALID));
     }
     match Vec::with_capacity(alloc, 1547) {
         Ok(mut out) => {

@@ -3,7 +3,8 @@
 use crate::octets::fault_of;
 use cbs_page::{Content, Dcs, Serial};
 use cbsp_wire::{
-    Cell, Cells, Contents, Count, Counts, Failure, Failures, Message, WireFault, write, write_in,
+    Cell, Cells, Contents, Count, Counts, Failure, Failures, Message, WireFault, cause, write,
+    write_in,
 };
 use std::alloc::{AllocError, Global};
 use std::test::Fail;
@@ -56,7 +57,7 @@ fn write_fault(alloc: Global, message: &Message) -> Option<WireFault> {
 #[test]
 fn orders_that_no_octets_mean(rt: HostRuntime) -> Result<(), Fail> {
     let alloc = rt.alloc();
-    let meaningless = Some(WireFault::Cause(0x01));
+    let meaningless = Some(WireFault::Cause(cause::PARAMETER_VALUE_INVALID));
     let cases = [
         (1, 1, 82, None),
         (64, 15, 82, None),
@@ -86,7 +87,10 @@ fn replies_that_no_octets_mean(rt: HostRuntime) -> Result<(), Fail> {
         cells: cells(alloc, 0)?,
         channel: None,
     };
-    assert_eq!(rt; write_fault(alloc, &kill), Some(WireFault::Cause(0x01)));
+    assert_eq!(rt;
+        write_fault(alloc, &kill),
+        Some(WireFault::Cause(cause::PARAMETER_VALUE_INVALID))
+    );
     let failed = Message::KillFailed {
         id: 1,
         old_serial: Serial::of(16),
@@ -99,7 +103,10 @@ fn replies_that_no_octets_mean(rt: HostRuntime) -> Result<(), Fail> {
         cells: cells(alloc, 1)?,
         channel: None,
     };
-    assert_eq!(rt; write_fault(alloc, &failed), Some(WireFault::Cause(0x01)));
+    assert_eq!(rt;
+        write_fault(alloc, &failed),
+        Some(WireFault::Cause(cause::PARAMETER_VALUE_INVALID))
+    );
     let done = Message::KillDone {
         id: 1,
         old_serial: Serial::of(16),
@@ -109,7 +116,10 @@ fn replies_that_no_octets_mean(rt: HostRuntime) -> Result<(), Fail> {
         cells: cells(alloc, 0)?,
         channel: Some(2),
     };
-    assert_eq!(rt; write_fault(alloc, &done), Some(WireFault::Cause(0x01)));
+    assert_eq!(rt;
+        write_fault(alloc, &done),
+        Some(WireFault::Cause(cause::PARAMETER_VALUE_INVALID))
+    );
     Ok(())
 }
 
