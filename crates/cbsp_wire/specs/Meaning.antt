@@ -1,5 +1,5 @@
--- What octets mean: a CBSP message as a list of elements, in any order. 3GPP TS 48.049, clauses 8.1 and 8.2, in this project's
--- own layouts.
+-- What octets mean: a CBSP message as a list of elements, in any order. 3GPP TS 48.049, clauses 8.1 and 8.2, in this
+-- project's own layouts.
 use Rattle.std.specs.Prelude.{◌≡◌, ℕ, List, ◌∷◌, length, true}
 use Rattle.std.specs.List.{AllByRecursion}
 use Rattle.cbsp_wire.specs.declared.kind.Kind.{Kind}
@@ -19,8 +19,8 @@ pub record IsOf (kind : Kind) (e : Element) : Type 0 where
   pub known : need_of kind e.number ≡ needs.Foreign → ⊥
   pub sized : length e.body ≡ size_of e.number e.body
 
--- the elements of a message m of a type: in any order, each mandatory one once, each optional one at most once, all values in
--- their ranges, and the fields found by look-up
+-- the elements of a message m of a type: in any order, each mandatory one once, each optional one at most once, all
+-- values in their ranges, and the fields found by look-up
 pub record AreElementsOf (m : Message) (es : List Element) : Type 0 where
   pub of_kind : AllByRecursion (IsOf (kind_of m)) es
   pub mandatory : has_mandatory (kind_of m) es ≡ true
@@ -30,7 +30,8 @@ pub record AreElementsOf (m : Message) (es : List Element) : Type 0 where
 -- octets that mean m: its type, the length of the rest, and some elements one after the other
 unfoldable pub IsMessage : List ℕ → Message → Type 0
 IsMessage (octet ∷ a ∷ b ∷ c ∷ rest) m =
-    (octet ≡ octet_of_kind (kind_of m)) × (told a b c ≡ length rest) × ((es : List Element) × (rest ≡ octets_of_elements es) × AreElementsOf m es)
+    (octet ≡ octet_of_kind (kind_of m)) × (told a b c ≡ length rest) ×
+    ((es : List Element) × (rest ≡ octets_of_elements es) × AreElementsOf m es)
 IsMessage octets m = ⊥
 
 -- why a message isn't written: no octets mean it, or memory ran out and some octets mean it

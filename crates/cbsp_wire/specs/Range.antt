@@ -1,5 +1,5 @@
--- What the elements of a message have to be, once they are taken. 3GPP TS 48.049, clause 8.2; the limits of periods and of
--- lists are own.
+-- What the elements of a message have to be, once they are taken. 3GPP TS 48.049, clause 8.2; the limits of periods and
+-- of lists are own.
 use Rattle.std.specs.Prelude.{ℕ, ◌%◌, Bool, true, false, ◌==◌, ◌&&◌, ◌||◌, not, nat_le, List, [], ◌∷◌, length, map, Option, Some, None, is_some}
 use Rattle.std.specs.List.{list_all, list_any}
 use Rattle.cbs_page.specs.Coding.{alphabet_of}
@@ -90,9 +90,11 @@ cells_by layouts.Failures octets = cells_of_failures (failures_in octets)
 abbrev pub are_items : Layout → List ℕ → Bool
 are_items layout items = (length items % item_size layout == 0) && not (is_nothing (cells_by layout items))
 
--- the discriminators of a list say LAC and CI, 1: the first octet of each failure, or the one after the length of other lists
+-- the discriminators of a list say LAC and CI, 1: the first octet of each failure, or the one after the length of other
+-- lists
 abbrev pub failures_are_by_lac_and_ci : List ℕ → Bool
-failures_are_by_lac_and_ci (discriminator ∷ a ∷ b ∷ c ∷ d ∷ e ∷ octets) = (discriminator == 1) && failures_are_by_lac_and_ci octets
+failures_are_by_lac_and_ci (discriminator ∷ a ∷ b ∷ c ∷ d ∷ e ∷ octets) =
+    (discriminator == 1) && failures_are_by_lac_and_ci octets
 failures_are_by_lac_and_ci octets = true
 
 abbrev pub is_by_lac_and_ci : Layout → List ℕ → Bool
@@ -123,14 +125,17 @@ passes test (Some n) = test n
 
 -- as many contents as pages, from 1 to 15, and at most 82 octets used of each
 abbrev pub are_contents : Option ℕ → List Content → Bool
-are_contents pages contents = passes (λ n. is_page_count n && (n == length contents)) pages && list_all (λ c. nat_le c.used 82) contents
+are_contents pages contents =
+    passes (λ n. is_page_count n && (n == length contents)) pages && list_all (λ c. nat_le c.used 82) contents
 
 abbrev pub are_numbers : Fields → Bool
 are_numbers f =
-    passes is_period f.period && passes is_coding f.dcs && passes (λ n. nat_le n 2) f.category && passes (λ n. nat_le n 1) f.channel
+    passes is_period f.period && passes is_coding f.dcs && passes (λ n. nat_le n 2) f.category
+    && passes (λ n. nat_le n 1) f.channel
 
 abbrev pub are_all_cells : Fields → Bool
-are_all_cells f = are_cells f.cells && are_cells (cells_of_counts f.completed) && are_cells (cells_of_failures f.failures)
+are_all_cells f =
+    are_cells f.cells && are_cells (cells_of_counts f.completed) && are_cells (cells_of_failures f.failures)
 
 -- all values are in their ranges
 abbrev pub are_values : Fields → Bool

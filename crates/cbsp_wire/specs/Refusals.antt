@@ -31,7 +31,9 @@ fault_of_whole kind es =
 
 -- 5 and 6, where the walk ended at an element that isn't of this message
 abbrev pub fault_of_strange : Kind → List Element → Option WireFault
-fault_of_strange kind es = if not (has_mandatory kind es) then Some (Cause MISSING_MANDATORY_ELEMENT) else Some (Cause PARAMETER_NOT_RECOGNISED)
+fault_of_strange kind es =
+    if not (has_mandatory kind es) then Some (Cause MISSING_MANDATORY_ELEMENT) else Some
+    (Cause PARAMETER_NOT_RECOGNISED)
 
 -- 4, and the others by where the walk ended
 abbrev pub fault_of_walk : Kind → List Element → Stop → Option WireFault

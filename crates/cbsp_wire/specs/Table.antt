@@ -43,10 +43,20 @@ pub record Row : Type 0 where
   pub kill_failed : Need
 
 abbrev pub row : ℕ → Size → Need → Need → Need → Need → Need → Need → Row
-row n s a b c d e f = record { number = n; size = s; write = a; write_done = b; write_failed = c; kill = d; kill_done = e; kill_failed = f }
+row n s a b c d e f =
+    record {
+      number = n;
+      size = s;
+      write = a;
+      write_done = b;
+      write_failed = c;
+      kill = d;
+      kill_done = e;
+      kill_failed = f;
+    }
 
--- identifier, new serial number, old serial number, failures, completed, cells, channel, category, period, broadcasts, pages,
--- data coding, content: the order in which they are written
+-- identifier, new serial number, old serial number, failures, completed, cells, channel, category, period, broadcasts,
+-- pages, data coding, content: the order in which they are written
 unfoldable pub table : List Row
 table =
     row MESSAGE_IDENTIFIER (Fixed 2) Mandatory Mandatory Mandatory Mandatory Mandatory Mandatory

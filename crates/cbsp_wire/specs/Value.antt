@@ -31,7 +31,8 @@ count_at a b c d e f g = record { cell = cell_at a b c d; number = e * 256 + f; 
 abbrev pub failure_at : ℕ → ℕ → ℕ → ℕ → ℕ → Failure
 failure_at a b c d e = record { cell = cell_at a b c d; cause = e }
 
--- the items that octets are: a cell is four of them, a count seven, a failure six, the first of which is its discriminator
+-- the items that octets are: a cell is four of them, a count seven, a failure six, the first of which is its
+-- discriminator
 abbrev pub cells_in : List ℕ → List Cell
 cells_in (a ∷ b ∷ c ∷ d ∷ octets) = cell_at a b c d ∷ cells_in octets
 cells_in octets = []
@@ -118,12 +119,16 @@ or_0 o = unwrap_or o 0
 -- the message of a type with these fields
 abbrev pub message_with : Kind → Fields → Message
 message_with kinds.Write f =
-    messages.Write (or_0 f.id) (or_0 f.new_serial) f.old_serial f.cells f.channel f.category (or_0 f.period) (or_0 f.broadcasts) (record { 0 = or_0 f.dcs }) f.contents
-message_with kinds.WriteDone f = messages.WriteDone (or_0 f.id) (or_0 f.new_serial) f.old_serial f.completed f.cells f.channel
-message_with kinds.WriteFailed f = messages.WriteFailed (or_0 f.id) (or_0 f.new_serial) f.old_serial f.failures f.completed f.cells f.channel
+    messages.Write (or_0 f.id) (or_0 f.new_serial) f.old_serial f.cells f.channel f.category (or_0 f.period)
+    (or_0 f.broadcasts) (record { 0 = or_0 f.dcs }) f.contents
+message_with kinds.WriteDone f =
+    messages.WriteDone (or_0 f.id) (or_0 f.new_serial) f.old_serial f.completed f.cells f.channel
+message_with kinds.WriteFailed f =
+    messages.WriteFailed (or_0 f.id) (or_0 f.new_serial) f.old_serial f.failures f.completed f.cells f.channel
 message_with kinds.Kill f = messages.Kill (or_0 f.id) (or_0 f.old_serial) f.cells f.channel
 message_with kinds.KillDone f = messages.KillDone (or_0 f.id) (or_0 f.old_serial) f.completed f.cells f.channel
-message_with kinds.KillFailed f = messages.KillFailed (or_0 f.id) (or_0 f.old_serial) f.failures f.completed f.cells f.channel
+message_with kinds.KillFailed f =
+    messages.KillFailed (or_0 f.id) (or_0 f.old_serial) f.failures f.completed f.cells f.channel
 
 -- the message that elements say
 unfoldable pub message_of : Kind → List Element → Message

@@ -1,5 +1,5 @@
--- The octets of a message, with its elements in the table's order. 3GPP TS 48.049, clauses 8.1 and 8.2, in this project's own
--- layouts.
+-- The octets of a message, with its elements in the table's order. 3GPP TS 48.049, clauses 8.1 and 8.2, in this
+-- project's own layouts.
 use Rattle.std.specs.Prelude.{ℕ, ◌+◌, ◌/◌, ◌%◌, ◌≤◌, IfSome, ◌==◌, if◌then◌else◌, List, [], ◌∷◌, ◌++◌, length, map, Option, Some, None}
 use Rattle.std.specs.List.{flat_map}
 use Rattle.cbs_page.specs.declared.content.Content.{Content}
