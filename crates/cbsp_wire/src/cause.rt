@@ -33,5 +33,6 @@ pub const CELL_BROADCAST_NOT_OPERATIONAL: u8 = 0x0A;
 /// Extended channel not supported (TS 48.049, 8.2, Cause).
 pub const EXTENDED_CHANNEL_NOT_SUPPORTED: u8 = 0x0C;
 
-/// Message reference already used (TS 48.049, 8.2, Cause): the cell accepted a message of this identifier and serial number before.
+/// Message reference already used (TS 48.049, 8.2, Cause): the cell accepted a message of this identifier and serial
+/// number before.
 pub const MESSAGE_REFERENCE_ALREADY_USED: u8 = 0x0D;

@@ -20,8 +20,9 @@ pub enum Stop {
     Cut,
 }
 
-/// Hands the table of elements to another macro, in the order in which they are written: number, size of the body, what each
-/// type of message needs in the order of `Kind` (M mandatory, O optional, F not of this message), and the field's form and name.
+/// Hands the table of elements to another macro, in the order in which they are written: number, size of the body, what
+/// each type of message needs in the order of `Kind` (M mandatory, O optional, F not of this message), and the field's
+/// form and name.
 macro_rules! elements {
     ($reader:ident, $($argument:expr),*) => {
         $reader!($($argument),*;
@@ -51,7 +52,9 @@ macro_rules! need {
 }
 
 macro_rules! need_for {
-    ($kind:expr, $number:expr; $($row:path, $form:ident $size:literal, $write:ident $write_done:ident $write_failed:ident $kill:ident $kill_done:ident $kill_failed:ident, $writer:ident $field:ident;)*) => {
+    ($kind:expr, $number:expr; $($row:path, $form:ident $size:literal,
+        $write:ident $write_done:ident $write_failed:ident $kill:ident $kill_done:ident $kill_failed:ident,
+        $writer:ident $field:ident;)*) => {
         match $number {
             $($row => match $kind {
                 Kind::Write => need!($write),
@@ -72,7 +75,9 @@ macro_rules! size_by {
 }
 
 macro_rules! size_for {
-    ($octets:expr, $number:expr; $($row:path, $form:ident $size:literal, $write:ident $write_done:ident $write_failed:ident $kill:ident $kill_done:ident $kill_failed:ident, $writer:ident $field:ident;)*) => {
+    ($octets:expr, $number:expr; $($row:path, $form:ident $size:literal,
+        $write:ident $write_done:ident $write_failed:ident $kill:ident $kill_done:ident $kill_failed:ident,
+        $writer:ident $field:ident;)*) => {
         match $number {
             $($row => size_by!($octets, $form $size),)*
             _ => 0,
@@ -81,7 +86,9 @@ macro_rules! size_for {
 }
 
 macro_rules! numbers_of {
-    (; $($row:path, $form:ident $size:literal, $write:ident $write_done:ident $write_failed:ident $kill:ident $kill_done:ident $kill_failed:ident, $writer:ident $field:ident;)*) => {
+    (; $($row:path, $form:ident $size:literal,
+        $write:ident $write_done:ident $write_failed:ident $kill:ident $kill_done:ident $kill_failed:ident,
+        $writer:ident $field:ident;)*) => {
         [$($row),*]
     };
 }
@@ -127,7 +134,8 @@ fn size(number: u8, octets: &[u8]) -> usize
 
 /// The element at the front: its number, its body, and the octets after it.
 fn front(kind: Kind, octets: &[u8]) -> Result<(u8, &[u8], &[u8]), Stop>
-    ensures taken { IfOk result (λ x. front_of kind octets.now ≡ Ok (record { number = x.0; body = x.1.now }, x.2.now)) }
+    ensures taken { IfOk result
+        (λ x. front_of kind octets.now ≡ Ok (record { number = x.0; body = x.1.now }, x.2.now)) }
     ensures ended { IfErr result (λ s. front_of kind octets.now ≡ Err s) }
     ensures shorter { IfOk result (λ x. length x.2.now < length octets.now) }
     ensures sized { IfOk result (λ x. length x.1.now ≡ size_of x.0 x.1.now) }
@@ -162,7 +170,8 @@ pub(crate) fn walk_end(kind: Kind, octets: &[u8]) -> Stop
 /// The first element taken with this number: its body, and the octets after it.
 pub(crate) fn find(kind: Kind, number: u8, octets: &[u8]) -> Option<(&[u8], &[u8])>
     ensures bodies { MatchOption result (bodies_of number (walk_of kind octets.now).elements ≡ [])
-        (λ x. bodies_of number (walk_of kind octets.now).elements ≡ x.0.now ∷ bodies_of number (walk_of kind x.1.now).elements) }
+        (λ x. bodies_of number (walk_of kind octets.now).elements
+        ≡ x.0.now ∷ bodies_of number (walk_of kind x.1.now).elements) }
     ensures shorter { IfSome result (λ x. length x.1.now < length octets.now) }
     ensures sized { IfSome result (λ x. length x.0.now ≡ size_of number x.0.now) }
 {

@@ -1,4 +1,5 @@
-//! The elements' identifiers (3GPP TS 48.049, 8.2, Information Element Identifier), each with the element that it names.
+//! The elements' identifiers (3GPP TS 48.049, 8.2, Information Element Identifier), each with the element that it
+//! names.
 
 /// Message Content (TS 48.049, 8.2): one page.
 pub(crate) const MESSAGE_CONTENT: u8 = 0x01;

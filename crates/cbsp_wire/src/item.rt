@@ -1,4 +1,5 @@
-//! The items of lists (3GPP TS 48.049, 8.2, in this project's own layouts): each stands for a cell, with what the list tells of it.
+//! The items of lists (3GPP TS 48.049, 8.2, in this project's own layouts): each stands for a cell, with what the list
+//! tells of it.
 
 ghost use Rattle.std.specs.Prelude.{◌≡◌, ◌+◌, ◌≤◌, ◌<◌, ◌++◌, ◌∷◌, [], ℕ, List, length, refl, IfOk, IfSome, MatchOption, vec_capacity};
 ghost use Rattle.std.specs.List.{flat_map};
@@ -14,8 +15,8 @@ use crate::message::{Cell, Count, Failure};
 use crate::writing::{octets_of_number, put};
 use std::alloc::{AllocError, Global};
 
-/// An item of a list: a cell of 4 octets (LAC and CI, two each), a completed broadcast of 7 (the cell, the number in two, the
-/// information), a failure of 6 (its discriminator, the cell, the cause); the high octets come first.
+/// An item of a list: a cell of 4 octets (LAC and CI, two each), a completed broadcast of 7 (the cell, the number in
+/// two, the information), a failure of 6 (its discriminator, the cell, the cause); the high octets come first.
 pub trait Item: Copy {
     /// The octets of an item.
     ghost octets_of: { Self → List ℕ };
@@ -41,7 +42,8 @@ pub trait Item: Copy {
 
     /// The first item that octets are, and the octets after it.
     fn first_of(octets: &[u8]) -> Option<(Self, &[u8])>
-        ensures first { MatchOption result (items_in octets.now ≡ []) (λ x. items_in octets.now ≡ x.0 ∷ items_in x.1.now) }
+        ensures first { MatchOption result (items_in octets.now ≡ [])
+            (λ x. items_in octets.now ≡ x.0 ∷ items_in x.1.now) }
         ensures shorter { IfSome result (λ x. length x.1.now < length octets.now) };
 
     // Each item has as many octets, and few enough for the length of 64 of them to fit two octets.

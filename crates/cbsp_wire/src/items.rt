@@ -45,7 +45,8 @@ pub(crate) fn cell_of(a: u8, b: u8, c: u8, d: u8) -> Cell
 
 /// The cell of the first item, and the octets after it.
 fn first_in(layout: Layout, octets: &[u8]) -> Option<(Cell, &[u8])>
-    ensures { MatchOption result (cells_by layout octets.now ≡ []) (λ x. cells_by layout octets.now ≡ x.0 ∷ cells_by layout x.1.now) }
+    ensures { MatchOption result (cells_by layout octets.now ≡ [])
+        (λ x. cells_by layout octets.now ≡ x.0 ∷ cells_by layout x.1.now) }
 {
     match layout {
         Layout::Cells => Cell::first_of(octets),

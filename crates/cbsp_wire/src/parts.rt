@@ -237,18 +237,14 @@ fn are_contents(pages: Option<usize>, contents: &[Content]) -> bool
     are_as_told && use_at_most_82(contents)
 }
 
-/// Whether each content has its 82 octets, as its type says.
+/// Whether each content has its 82 octets, as its type says: no fact says so of the items of a slice, so the proof
+/// needs the test.
 fn are_full(contents: &[Content]) -> bool
     ensures { result ≡ list_all is_full contents.now }
 {
-    let mut left = contents;
-    'contents: while let [content, rest @ ..] = left {
-        if content.octets.as_slice().len() != 82 {
-            return false;
-        }
-        left = rest;
-    }
-    true
+    contents
+        .iter()
+        .all(|content| content.octets.as_slice().len() == 82)
 }
 
 /// Whether the period, the data coding, the category and the channel indicator are in their ranges.

@@ -91,7 +91,8 @@ pub(crate) fn is_page_count(pages: usize) -> bool
 
 /// Whether there are as many contents as pages, from 1 to 15, and at most 82 octets used of each.
 fn are_contents(kind: Kind, octets: &[u8]) -> bool
-    ensures { result ≡ are_contents (octet_in NUMBER_OF_PAGES (walk_of kind octets.now).elements) (contents_of (walk_of kind octets.now).elements) }
+    ensures { let es = (walk_of kind octets.now).elements in
+        result ≡ are_contents (octet_in NUMBER_OF_PAGES es) (contents_of es) }
 {
     let are_as_told = match octet(kind, iei::NUMBER_OF_PAGES, octets) {
         None => true,
@@ -174,7 +175,8 @@ fn list_items(kind: Kind, number: u8, layout: Layout, octets: &[u8]) -> &[u8]
 
 /// Whether the list of this number names at most 64 cells, and none twice.
 fn are_listed_cells(kind: Kind, number: u8, layout: Layout, octets: &[u8]) -> bool
-    ensures { result ≡ are_cells (cells_by layout (first_items layout (λ items. items) (bodies_of number (walk_of kind octets.now).elements))) }
+    ensures { let bodies = bodies_of number (walk_of kind octets.now).elements in
+        result ≡ are_cells (cells_by layout (first_items layout (λ items. items) bodies)) }
 {
     are_cells(Items::Octets(layout, list_items(kind, number, layout, octets)))
 }

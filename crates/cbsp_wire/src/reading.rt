@@ -68,7 +68,8 @@ fn parts(octets: &[u8]) -> Result<(Kind, &[u8]), WireFault>
 /// 1. `Truncated`: fewer than 4 octets, or fewer than the length tells after them.
 /// 2. `TrailingBytes`: more than the length tells.
 /// 3. `Cause(0x04)`: the type is not one of the six.
-/// 4. `Truncated`: an element goes past the end. Elements are taken from the front, up to the first that isn't of this message.
+/// 4. `Truncated`: an element goes past the end. Elements are taken from the front, up to the first that isn't of this
+///    message.
 /// 5. `Cause(0x05)`: a mandatory element isn't among those taken.
 /// 6. `Cause(0x00)`: an element isn't of this message.
 /// 7. `Cause(0x01)`: an element other than 01 comes twice, or a value is out of its range.
@@ -77,7 +78,8 @@ pub fn read(alloc: Global, octets: &[u8]) -> Result<Message, WireFault>
     // What is read is what the octets mean.
     ensures found { IfOk result (λ m. IsMessage octets.now m) }
     // What the octets mean is read, unless memory runs out.
-    ensures only { (m : Message) → IsMessage octets.now m → MatchResult result (λ read. read ≡ m) (λ fault. fault ≡ WireFault.Refused) }
+    ensures only { (m : Message) → IsMessage octets.now m
+        → MatchResult result (λ read. read ≡ m) (λ fault. fault ≡ WireFault.Refused) }
     // Which refusal it is.
     ensures refused { IfErr result (λ fault. first_fault octets.now ≡ fault_told fault) }
     // Memory runs out only where the octets mean something.

@@ -65,7 +65,9 @@ fn list<T: Item>(
     element: u8,
     octets: &[u8],
 ) -> Result<Vec<T>, AllocError>
-    ensures { IfOk result (λ items. items.items ≡ first_items T.LAYOUT T.items_in (bodies_of element (walk_of kind octets.now).elements)) }
+    ensures { IfOk result
+        (λ items. items.items
+        ≡ first_items T.LAYOUT T.items_in (bodies_of element (walk_of kind octets.now).elements)) }
 {
     match find(kind, element, octets) {
         Some((body, _)) => read_items(alloc, items_of(T::LAYOUT, body)),

@@ -17,8 +17,8 @@ use crate::{cause, iei};
 use cbs_page::Content;
 use std::alloc::Global;
 
-/// Appends octets to a vector that has room for them, one by one, so that no memory is taken: `extend_from_slice` doesn't promise that
-/// the capacity stays.
+/// Appends octets to a vector that has room for them, one by one, so that no memory is taken: `extend_from_slice`
+/// doesn't promise that the capacity stays.
 pub(crate) fn put(out: &mut Vec<u8>, octets: &[u8])
     requires { HasRoom out.old octets.now }
     ensures appended { out.new.items ≡ out.old.items ++ octets.now }
@@ -124,7 +124,9 @@ macro_rules! put_field {
 }
 
 macro_rules! put_for {
-    ($out:expr, $parts:expr, $number:expr; $($row:path, $form:ident $size:literal, $write:ident $write_done:ident $write_failed:ident $kill:ident $kill_done:ident $kill_failed:ident, $writer:ident $field:ident;)*) => {
+    ($out:expr, $parts:expr, $number:expr; $($row:path, $form:ident $size:literal,
+        $write:ident $write_done:ident $write_failed:ident $kill:ident $kill_done:ident $kill_failed:ident,
+        $writer:ident $field:ident;)*) => {
         match $number {
             $($row => put_field!($out, $row, $parts, $writer $field),)*
             _ => {}
@@ -155,10 +157,11 @@ fn put_elements(out: &mut Vec<u8>, parts: &Parts<'_>, numbers: &[u8])
     }
 }
 
-/// Appends the octets of a message, with its elements in the table's order, and takes no memory: the vector keeps its capacity.
+/// Appends the octets of a message, with its elements in the table's order, and takes no memory: the vector keeps its
+/// capacity.
 ///
-/// It asks for a message that some octets mean, for which `write` answers no cause, and for room of 1,547 octets, the longest
-/// message.
+/// It asks for a message that some octets mean, for which `write` answers no cause, and for room of 1,547 octets, the
+/// longest message.
 #[tactic(auto, unfolding(crate::specs::Written::octets_of_message))]
 pub fn write_in(message: &Message, out: &mut Vec<u8>)
     requires meant { IsTrue (is_writable message.now) }
@@ -176,8 +179,8 @@ pub fn write_in(message: &Message, out: &mut Vec<u8>)
     out[start + 3] = (length % 256) as u8;
 }
 
-/// The octets of a message, with its elements in the table's order; `Cause(0x01)` where no octets mean it, as of a message
-/// without contents; `Refused` where memory runs out.
+/// The octets of a message, with its elements in the table's order; `Cause(0x01)` where no octets mean it, as of a
+/// message without contents; `Refused` where memory runs out.
 pub fn write(alloc: Global, message: &Message) -> Result<Vec<u8>, WireFault>
     ensures written { IfOk result (λ octets. octets.items ≡ octets_of_message message.now) }
     ensures meant { IfOk result (λ octets. IsMessage octets.items message.now) }
