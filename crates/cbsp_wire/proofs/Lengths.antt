@@ -1,10 +1,13 @@
--- How long the octets of a message are: at most 1,547.
+-- How long the octets of a message are: at most 1,547, a write of 15 pages to 64 cells with each optional element. The
+-- longest reply, with 64 failures of 6 octets, 64 completed broadcasts of 7 and 64 cells of 4, has 1,114.
 use Rattle.std.proofs.Common.{◌≡◌, ℕ, suc, ◌+◌, ◌*◌, ◌≤◌, true, List, [], ◌∷◌, ◌++◌, length, map, Option, Some, None, refl, ap, arith, length-append}
 use Rattle.std.specs.Prelude.{IfSome, nat_le, ◌&&◌, ◌==◌}
 use Rattle.std.specs.List.{flat_map, list_all}
 use Rattle.std.proofs.lemmas.Bool.{eqb-true, leb-true}
 use Rattle.std.proofs.lemmas.List.Concat.{flat_map-cons}
 use Rattle.cbs_page.specs.declared.content.Content.{Content}
+use Rattle.cbsp_wire.specs.declared.items.Layout.{Layout}
+use Rattle.cbsp_wire.specs.declared.items.Layout.TheVariants as layouts
 use Rattle.cbsp_wire.specs.declared.message.Cell.{Cell}
 use Rattle.cbsp_wire.specs.declared.message.Count.{Count}
 use Rattle.cbsp_wire.specs.declared.message.Failure.{Failure}
@@ -28,11 +31,13 @@ AreBounded octets [] bs = Unit {0}
 AreBounded octets (n ∷ ns) [] = ⊥
 AreBounded octets (n ∷ ns) (b ∷ bs) = (length (octets n) ≤ b) × AreBounded octets ns bs
 
-length-bounded : (octets : ℕ → List ℕ) (ns bs : List ℕ) → AreBounded octets ns bs → length (flat_map octets ns) ≤ total bs
+length-bounded : (octets : ℕ → List ℕ) (ns bs : List ℕ) → AreBounded octets ns bs
+    → length (flat_map octets ns) ≤ total bs
 length-bounded octets [] bs h = omega arith
 length-bounded octets (n ∷ ns) [] h = absurd h
 length-bounded octets (n ∷ ns) (b ∷ bs) h =
-    let cons : length (flat_map octets (n ∷ ns)) ≡ length (octets n ++ flat_map octets ns) = ap length (flat_map-cons octets n ns) in
+    let cons : length (flat_map octets (n ∷ ns)) ≡ length (octets n ++ flat_map octets ns) =
+    ap length (flat_map-cons octets n ns) in
     omega (arith, cons, length-append (octets n) (flat_map octets ns), h.0, length-bounded octets ns bs h.1)
 
 number_len : (n : ℕ) (o : Option ℕ) → length (slot n (number_bodies o)) ≤ 3
@@ -43,13 +48,23 @@ octet_len : (n : ℕ) (o : Option ℕ) → length (slot n (octet_bodies o)) ≤ 
 octet_len n None = omega arith
 octet_len n (Some k) = omega arith
 
-list_len : {X : Type 0} (octets : X → List ℕ) (size : ℕ) → ((x : X) → length (octets x) ≡ size) → (n : ℕ) (xs : List X) → length (slot n (list_bodies octets xs)) ≤ 4 + length xs * size
-list_len octets size len n [] = omega arith
-list_len octets size len n (x ∷ xs) =
+-- a list's number, its length and its one discriminator, if it has one, are four octets at most
+list_len : {X : Type 0} (layout : Layout) (octets : X → List ℕ) (size : ℕ) → ((x : X) → length (octets x) ≡ size)
+    → (n : ℕ) (xs : List X)
+    → length (slot n (list_bodies layout octets xs)) ≤ 4 + length xs * size
+list_len layout octets size len n [] = omega arith
+list_len layouts.Cells octets size len n (x ∷ xs) =
+    let items = flat_map octets (x ∷ xs) in
+    omega (arith, length-append items [], length-items octets size len (x ∷ xs))
+list_len layouts.Counts octets size len n (x ∷ xs) =
+    let items = flat_map octets (x ∷ xs) in
+    omega (arith, length-append items [], length-items octets size len (x ∷ xs))
+list_len layouts.Failures octets size len n (x ∷ xs) =
     let items = flat_map octets (x ∷ xs) in
     omega (arith, length-append items [], length-items octets size len (x ∷ xs))
 
-contents_len : (n : ℕ) (cs : List Content) → list_all is_full cs ≡ true → length (slot n (map content_body cs)) ≡ length cs * 84
+contents_len : (n : ℕ) (cs : List Content) → list_all is_full cs ≡ true
+    → length (slot n (map content_body cs)) ≡ length cs * 84
 contents_len n [] h = omega arith
 contents_len n (c ∷ cs) h =
     let both = list_all-parts is_full c cs h in
@@ -59,7 +74,8 @@ contents_len n (c ∷ cs) h =
 short_cells : (cs : List Cell) → are_cells cs ≡ true → length cs ≤ 64
 short_cells cs h = leb-true _ _ (and_parts (nat_le (length cs) 64) (are_distinct cs) h).0
 
-few_pages : (pages : Option ℕ) (contents : List Content) → are_contents pages contents ≡ true → IfSome pages (λ n. n ≤ 15)
+few_pages : (pages : Option ℕ) (contents : List Content) → are_contents pages contents ≡ true
+    → IfSome pages (λ n. n ≤ 15)
 few_pages None contents h = tt
 few_pages (Some p) contents h =
     let one = and_parts (is_page_count p && (p == length contents)) (list_all (λ c. nat_le c.used 82) contents) h in
@@ -74,6 +90,7 @@ length-failures : (fs : List Failure) → length (cells_of_failures fs) ≡ leng
 length-failures [] = refl
 length-failures (f ∷ fs) = ap suc (length-failures fs)
 
+-- the lists of a message that is written are short
 pub AreShort-written : (m : Message) → IsWritten m → AreShort (fields_of m)
 AreShort-written m w =
     let f = fields_of m in
@@ -87,7 +104,9 @@ AreShort-written m w =
 
 -- the fields that only an order to write has
 abbrev HasNoOrder : Fields → Type 0
-HasNoOrder f = (f.category ≡ None) × ((f.period ≡ None) × ((f.broadcasts ≡ None) × ((f.pages ≡ None) × ((f.dcs ≡ None) × (f.contents ≡ [])))))
+HasNoOrder f =
+    (f.category ≡ None) ×
+    ((f.period ≡ None) × ((f.broadcasts ≡ None) × ((f.pages ≡ None) × ((f.dcs ≡ None) × (f.contents ≡ [])))))
 
 number_none : (n : ℕ) (o : Option ℕ) → o ≡ None → length (slot n (number_bodies o)) ≤ 0
 number_none n o h = rw h (omega arith)
@@ -101,18 +120,18 @@ contents_none n cs h = rw h (omega arith)
 short_reply : (f : Fields) → AreShort f → HasNoOrder f → length (flat_map (slot_octets f) numbers) ≤ 1543
 unfolding bodies_in
 short_reply f s none =
-    let bounds : AreBounded (slot_octets f) numbers (3 ∷ 3 ∷ 3 ∷ 324 ∷ 452 ∷ 260 ∷ 2 ∷ 0 ∷ 0 ∷ 0 ∷ 0 ∷ 0 ∷ 0 ∷ []) = (
+    let bounds : AreBounded (slot_octets f) numbers (3 ∷ 3 ∷ 3 ∷ 388 ∷ 452 ∷ 260 ∷ 2 ∷ 0 ∷ 0 ∷ 0 ∷ 0 ∷ 0 ∷ 0 ∷ []) = (
       number_len 0x0E f.id,
       (
         number_len 0x03 f.new_serial,
         (
           number_len 0x02 f.old_serial,
           (
-            omega (arith, list_len failure_octets 5 failure_len 0x09 f.failures, s.failures),
+            omega (arith, list_len layouts.Failures failure_octets 6 failure_len 0x09 f.failures, s.failures),
             (
-              omega (arith, list_len count_octets 7 count_len 0x08 f.completed, s.completed),
+              omega (arith, list_len layouts.Counts count_octets 7 count_len 0x08 f.completed, s.completed),
               (
-                omega (arith, list_len cell_octets 4 cell_len 0x04 f.cells, s.cells),
+                omega (arith, list_len layouts.Cells cell_octets 4 cell_len 0x04 f.cells, s.cells),
                 (
                   octet_len 0x12 f.channel,
                   (
@@ -121,7 +140,10 @@ short_reply f s none =
                       number_none 0x06 f.period none.1.0,
                       (
                         number_none 0x07 f.broadcasts none.1.1.0,
-                        (octet_none 0x13 f.pages none.1.1.1.0, (octet_none 0x0C f.dcs none.1.1.1.1.0, (contents_none 0x01 f.contents none.1.1.1.1.1, tt))),
+                        (
+                          octet_none 0x13 f.pages none.1.1.1.0,
+                          (octet_none 0x0C f.dcs none.1.1.1.1.0, (contents_none 0x01 f.contents none.1.1.1.1.1, tt)),
+                        ),
                       ),
                     ),
                   ),
@@ -132,7 +154,8 @@ short_reply f s none =
         ),
       ),
     ) in
-    omega (arith, length-bounded (slot_octets f) numbers (3 ∷ 3 ∷ 3 ∷ 324 ∷ 452 ∷ 260 ∷ 2 ∷ 0 ∷ 0 ∷ 0 ∷ 0 ∷ 0 ∷ 0 ∷ []) bounds)
+    let most : List ℕ = 3 ∷ 3 ∷ 3 ∷ 388 ∷ 452 ∷ 260 ∷ 2 ∷ 0 ∷ 0 ∷ 0 ∷ 0 ∷ 0 ∷ 0 ∷ [] in
+    omega (arith, length-bounded (slot_octets f) numbers most bounds)
 
 -- no more than 1,543 octets of elements
 pub length-written : (m : Message) → IsWritten m → length (flat_map (slot_octets (fields_of m)) numbers) ≤ 1543
@@ -152,7 +175,7 @@ length-written (messages.Write a b c d e f g h i j) w =
             (
               omega arith,
               (
-                omega (arith, list_len cell_octets 4 cell_len 0x04 fs.cells, s.cells),
+                omega (arith, list_len layouts.Cells cell_octets 4 cell_len 0x04 fs.cells, s.cells),
                 (
                   octet_len 0x12 fs.channel,
                   (
@@ -179,8 +202,18 @@ length-written (messages.Write a b c d e f g h i j) w =
       ),
     ) in
     length-bounded (slot_octets fs) numbers (3 ∷ 3 ∷ 3 ∷ 0 ∷ 0 ∷ 260 ∷ 2 ∷ 2 ∷ 3 ∷ 3 ∷ 2 ∷ 2 ∷ 1260 ∷ []) bounds
-length-written (messages.WriteDone a b c d e f) w = short_reply (fields_of (messages.WriteDone a b c d e f)) (AreShort-written (messages.WriteDone a b c d e f) w) (refl, (refl, (refl, (refl, (refl, refl)))))
-length-written (messages.WriteFailed a b c d e f g) w = short_reply (fields_of (messages.WriteFailed a b c d e f g)) (AreShort-written (messages.WriteFailed a b c d e f g) w) (refl, (refl, (refl, (refl, (refl, refl)))))
-length-written (messages.Kill a b c d) w = short_reply (fields_of (messages.Kill a b c d)) (AreShort-written (messages.Kill a b c d) w) (refl, (refl, (refl, (refl, (refl, refl)))))
-length-written (messages.KillDone a b c d e) w = short_reply (fields_of (messages.KillDone a b c d e)) (AreShort-written (messages.KillDone a b c d e) w) (refl, (refl, (refl, (refl, (refl, refl)))))
-length-written (messages.KillFailed a b c d e f) w = short_reply (fields_of (messages.KillFailed a b c d e f)) (AreShort-written (messages.KillFailed a b c d e f) w) (refl, (refl, (refl, (refl, (refl, refl)))))
+length-written (messages.WriteDone a b c d e f) w =
+    short_reply (fields_of (messages.WriteDone a b c d e f)) (AreShort-written (messages.WriteDone a b c d e f) w)
+    (refl, (refl, (refl, (refl, (refl, refl)))))
+length-written (messages.WriteFailed a b c d e f g) w =
+    short_reply (fields_of (messages.WriteFailed a b c d e f g))
+    (AreShort-written (messages.WriteFailed a b c d e f g) w) (refl, (refl, (refl, (refl, (refl, refl)))))
+length-written (messages.Kill a b c d) w =
+    short_reply (fields_of (messages.Kill a b c d)) (AreShort-written (messages.Kill a b c d) w)
+    (refl, (refl, (refl, (refl, (refl, refl)))))
+length-written (messages.KillDone a b c d e) w =
+    short_reply (fields_of (messages.KillDone a b c d e)) (AreShort-written (messages.KillDone a b c d e) w)
+    (refl, (refl, (refl, (refl, (refl, refl)))))
+length-written (messages.KillFailed a b c d e f) w =
+    short_reply (fields_of (messages.KillFailed a b c d e f)) (AreShort-written (messages.KillFailed a b c d e f) w)
+    (refl, (refl, (refl, (refl, (refl, refl)))))

@@ -16,8 +16,8 @@ use Rattle.cbsp_wire.specs.declared.message.Failure.{Failure}
 use Rattle.cbsp_wire.specs.declared.message.Message.{Message}
 use Rattle.cbsp_wire.specs.Element.{Element, bodies_of, octet_of}
 use Rattle.cbsp_wire.specs.Table.{table, need_of, size_of}
-use Rattle.cbsp_wire.specs.Value.{Fields, no_fields, fields_in, fields_of, first_number, first_octet, first_items, content_of, cells_in, failures_in, or_0, message_with, message_of, kind_of}
-use Rattle.cbsp_wire.specs.Range.{numbers, is_nothing, is_there_if, has_mandatory, has_none_twice, are_lists, first_passes, is_list, are_items, item_size, cells_by, passes, is_period, is_coding, is_page_count, are_contents, are_numbers, are_cells, cells_of_counts, cells_of_failures, are_all_cells, are_values, is_writable, is_full}
+use Rattle.cbsp_wire.specs.Value.{Fields, no_fields, fields_in, fields_of, first_number, first_octet, items_of, first_items, content_of, cells_in, failures_in, or_0, message_with, message_of, kind_of}
+use Rattle.cbsp_wire.specs.Range.{numbers, is_nothing, is_there_if, has_mandatory, has_none_twice, are_lists, first_passes, is_by_lac_and_ci, is_list, are_items, item_size, cells_by, passes, is_period, is_coding, is_page_count, are_contents, are_numbers, are_cells, cells_of_counts, cells_of_failures, are_all_cells, are_values, is_writable, is_full}
 use Rattle.cbsp_wire.specs.Meaning.{IsOf, AreElementsOf, IsMessage}
 use Rattle.cbsp_wire.proofs.Tests.{and_parts, and_both, not_true, there_from, list_all-parts}
 use Rattle.cbsp_wire.proofs.WrittenLaws.{IsWritten, is_writable-from}
@@ -33,6 +33,7 @@ pub record HaveRanges (f : Fields) : Type 0 where
   pub completed : are_cells (cells_of_counts f.completed) ≡ true
   pub failures : are_cells (cells_of_failures f.failures) ≡ true
 
+-- values in their ranges pass each test
 pub ranges_from : (f : Fields) → are_values f ≡ true → HaveRanges f
 ranges_from f h =
     let one = and_parts (are_contents f.pages f.contents && are_numbers f) (are_all_cells f) h in
@@ -48,8 +49,18 @@ ranges_from f h =
     let y = are_cells (cells_of_counts f.completed) in
     let six = and_parts (x && y) (are_cells (cells_of_failures f.failures)) one.1 in
     let seven = and_parts x y six.0 in
-    record { contents = two.0; period = five.0; coding = five.1; category = four.1; channel = three.1; cells = seven.0; completed = seven.1; failures = six.1 }
+    record {
+      contents = two.0;
+      period = five.0;
+      coding = five.1;
+      category = four.1;
+      channel = three.1;
+      cells = seven.0;
+      completed = seven.1;
+      failures = six.1;
+    }
 
+-- fields that pass each test have values in their ranges
 pub values_from : (f : Fields) → HaveRanges f → are_values f ≡ true
 values_from f h =
     let a = passes is_period f.period in
@@ -76,56 +87,66 @@ beside id new old failures completed cells channel = record no_fields {
   channel = channel;
 }
 
-pub values_beside : (id new old : Option ℕ) (failures : List Failure) (completed : List Count) (cells : List Cell) (channel : Option ℕ)
-    → passes (λ n. nat_le n 1) channel ≡ true → are_cells cells ≡ true → are_cells (cells_of_counts completed) ≡ true → are_cells (cells_of_failures failures) ≡ true
+-- the values of a message other than a write are in their ranges, by its lists and its channel
+pub values_beside : (id new old : Option ℕ) (failures : List Failure) (completed : List Count) (cells : List Cell)
+    (channel : Option ℕ)
+    → passes (λ n. nat_le n 1) channel ≡ true → are_cells cells ≡ true → are_cells (cells_of_counts completed) ≡ true
+    → are_cells (cells_of_failures failures) ≡ true
     → are_values (beside id new old failures completed cells channel) ≡ true
-values_beside id new old failures completed cells channel told right counted failed = values_from (beside id new old failures completed cells channel) (record {
-  contents = refl;
-  period = refl;
-  coding = refl;
-  category = refl;
-  channel = told;
-  cells = right;
-  completed = counted;
-  failures = failed;
-})
+values_beside id new old failures completed cells channel told right counted failed =
+    values_from (beside id new old failures completed cells channel) (record {
+      contents = refl;
+      period = refl;
+      coding = refl;
+      category = refl;
+      channel = told;
+      cells = right;
+      completed = counted;
+      failures = failed;
+    })
 
 -- a mandatory element is there
-mandatory_at : (kind : Kind) (es : List Element) (ns : List ℕ) (k : ℕ) → k < length ns → list_all (λ n. is_there_if (need_of kind n) (bodies_of n es)) ns ≡ true
+mandatory_at : (kind : Kind) (es : List Element) (ns : List ℕ) (k : ℕ) → k < length ns
+    → list_all (λ n. is_there_if (need_of kind n) (bodies_of n es)) ns ≡ true
     → is_there_if (need_of kind (get_or ns k 0)) (bodies_of (get_or ns k 0) es) ≡ true
 mandatory_at kind es [] k lt h = absurd (omega arith)
 mandatory_at kind es (n ∷ ns) zero lt h = (list_all-parts (λ j. is_there_if (need_of kind j) (bodies_of j es)) n ns h).0
-mandatory_at kind es (n ∷ ns) (suc k) lt h = mandatory_at kind es ns k (omega arith) (list_all-parts (λ j. is_there_if (need_of kind j) (bodies_of j es)) n ns h).1
+mandatory_at kind es (n ∷ ns) (suc k) lt h =
+    mandatory_at kind es ns k (omega arith)
+    (list_all-parts (λ j. is_there_if (need_of kind j) (bodies_of j es)) n ns h).1
 
-number_there : (bodies : List (List ℕ)) → is_there_if needs.Mandatory bodies ≡ true → first_number bodies ≡ Some (or_0 (first_number bodies))
+number_there : (bodies : List (List ℕ)) → is_there_if needs.Mandatory bodies ≡ true
+    → first_number bodies ≡ Some (or_0 (first_number bodies))
 number_there [] h = absurd cc
 number_there (body ∷ bodies) h = refl
 
-octet_there : (bodies : List (List ℕ)) → is_there_if needs.Mandatory bodies ≡ true → first_octet bodies ≡ Some (or_0 (first_octet bodies))
+octet_there : (bodies : List (List ℕ)) → is_there_if needs.Mandatory bodies ≡ true
+    → first_octet bodies ≡ Some (or_0 (first_octet bodies))
 octet_there [] h = absurd cc
 octet_there (body ∷ bodies) h = refl
 
 -- the pages are as many as the contents
-pages_there : (bodies : List (List ℕ)) (contents : List Content) → is_there_if needs.Mandatory bodies ≡ true → are_contents (first_octet bodies) contents ≡ true → first_octet bodies ≡ Some (length contents)
+pages_there : (bodies : List (List ℕ)) (contents : List Content) → is_there_if needs.Mandatory bodies ≡ true
+    → are_contents (first_octet bodies) contents ≡ true → first_octet bodies ≡ Some (length contents)
 pages_there [] contents h right = absurd cc
 pages_there (body ∷ bodies) contents h right =
     let p = octet_of body in
-    let one = and_parts (is_page_count p && eqb p (length contents)) (list_all (λ c. nat_le c.used 82) contents) right in
+    let one =
+    and_parts (is_page_count p && eqb p (length contents)) (list_all (λ c. nat_le c.used 82) contents) right in
     let two = and_parts (is_page_count p) (eqb p (length contents)) one.0 in
     ap (λ (n : ℕ). Some n) (eqb-true _ _ two.1)
 
 -- a list that is there and right has items
 items_there : {X : Type 0} (need : Need) (layout : Layout) (items_in : List ℕ → List X) (bodies : List (List ℕ))
     → ((o : List ℕ) → is_nothing (cells_by layout o) ≡ false → is_nothing (items_in o) ≡ false)
-    → is_there_if need bodies ≡ true → first_passes (is_list layout) bodies ≡ true → is_there_if need (first_items items_in bodies) ≡ true
+    → is_there_if need bodies ≡ true → first_passes (is_list layout) bodies ≡ true
+    → is_there_if need (first_items layout items_in bodies) ≡ true
 items_there needs.Mandatory layout items_in [] some there right = absurd cc
 items_there needs.Optional layout items_in [] some there right = refl
 items_there needs.Foreign layout items_in [] some there right = refl
-items_there need layout items_in ([] ∷ bodies) some there right = absurd cc
-items_there need layout items_in ((a ∷ []) ∷ bodies) some there right = absurd cc
-items_there need layout items_in ((a ∷ b ∷ []) ∷ bodies) some there right = absurd cc
-items_there need layout items_in ((a ∷ b ∷ d ∷ items) ∷ bodies) some there right =
-    let one = and_parts (eqb d 1) (are_items layout items) right in
+items_there need layout items_in (body ∷ bodies) some there right =
+    let items = items_of layout body in
+    let one = and_parts (is_by_lac_and_ci layout body) (are_items layout items) right in
     let two = and_parts (eqb (length items % item_size layout) 0) (not (is_nothing (cells_by layout items))) one.1 in
     there_from need (items_in items) (some items (not_true _ two.1))
 
@@ -138,14 +159,17 @@ full_content : (body : List ℕ) → length body ≡ 83 → is_full (content_of 
 full_content [] h = absurd (omega arith)
 full_content (used ∷ octets) h = eq-eqb _ _ (omega arith)
 
-full_contents : (kind : Kind) (es : List Element) → AllByRecursion (IsOf kind) es → list_all is_full (map content_of (bodies_of 1 es)) ≡ true
+full_contents : (kind : Kind) (es : List Element) → AllByRecursion (IsOf kind) es
+    → list_all is_full (map content_of (bodies_of 1 es)) ≡ true
 unfolding size_of table
 full_contents kind [] h = refl
 full_contents kind (e ∷ es) h = by_test (eqb e.number 1) refl (full_contents kind es h.1) where
-  by_test : (b : Bool) → eqb e.number 1 ≡ b → list_all is_full (map content_of (bodies_of 1 es)) ≡ true → list_all is_full (map content_of (cond b (e.body ∷ bodies_of 1 es) (bodies_of 1 es))) ≡ true
+  by_test : (b : Bool) → eqb e.number 1 ≡ b → list_all is_full (map content_of (bodies_of 1 es)) ≡ true
+      → list_all is_full (map content_of (cond b (e.body ∷ bodies_of 1 es) (bodies_of 1 es))) ≡ true
   by_test true test others =
       let sized : length e.body ≡ size_of 1 e.body = h.0.sized ∙ ap (λ (n : ℕ). size_of n e.body) (eqb-true _ _ test) in
-      and_both (is_full (content_of e.body)) (list_all is_full (map content_of (bodies_of 1 es))) (full_content e.body sized) others
+      and_both (is_full (content_of e.body)) (list_all is_full (map content_of (bodies_of 1 es)))
+      (full_content e.body sized) others
   by_test false test others = others
 
 -- what elements without a fault have
@@ -161,26 +185,39 @@ cells_listed es h =
     let b = first_passes (is_list layouts.Counts) (bodies_of 8 es) in
     (and_parts a b (and_parts (a && b) (first_passes (is_list layouts.Failures) (bodies_of 9 es)) h).0).0
 
-failures_listed : (es : List Element) → are_lists es ≡ true → first_passes (is_list layouts.Failures) (bodies_of 9 es) ≡ true
+failures_listed : (es : List Element) → are_lists es ≡ true
+    → first_passes (is_list layouts.Failures) (bodies_of 9 es) ≡ true
 failures_listed es h =
-    (and_parts (first_passes (is_list layouts.Cells) (bodies_of 4 es) && first_passes (is_list layouts.Counts) (bodies_of 8 es)) (first_passes (is_list layouts.Failures) (bodies_of 9 es)) h).1
+    let a = first_passes (is_list layouts.Cells) (bodies_of 4 es) in
+    let b = first_passes (is_list layouts.Counts) (bodies_of 8 es) in
+    (and_parts (a && b) (first_passes (is_list layouts.Failures) (bodies_of 9 es)) h).1
 
-cells_there : (kind : Kind) (es : List Element) → AreRight kind es → is_there_if (need_of kind 4) (fields_in es).cells ≡ true
+cells_there : (kind : Kind) (es : List Element) → AreRight kind es
+    → is_there_if (need_of kind 4) (fields_in es).cells ≡ true
 cells_there kind es h =
-    items_there (need_of kind 4) layouts.Cells cells_in (bodies_of 4 es) (λ o some. some) (mandatory_at kind es numbers 5 (omega arith) h.mandatory) (cells_listed es h.lists)
+    items_there (need_of kind 4) layouts.Cells cells_in (bodies_of 4 es) (λ o some. some)
+    (mandatory_at kind es numbers 5 (omega arith) h.mandatory) (cells_listed es h.lists)
 
-failures_there : (kind : Kind) (es : List Element) → AreRight kind es → is_there_if (need_of kind 9) (fields_in es).failures ≡ true
+failures_there : (kind : Kind) (es : List Element) → AreRight kind es
+    → is_there_if (need_of kind 9) (fields_in es).failures ≡ true
 failures_there kind es h =
-    items_there (need_of kind 9) layouts.Failures failures_in (bodies_of 9 es) (λ o some. failures_some (failures_in o) some) (mandatory_at kind es numbers 3 (omega arith) h.mandatory) (failures_listed es h.lists)
+    items_there (need_of kind 9) layouts.Failures failures_in (bodies_of 9 es)
+    (λ o some. failures_some (failures_in o) some) (mandatory_at kind es numbers 3 (omega arith) h.mandatory)
+    (failures_listed es h.lists)
 
-write_values : (es : List Element) → AreRight kinds.Write es → are_values (fields_of (message_with kinds.Write (fields_in es))) ≡ true
+write_values : (es : List Element) → AreRight kinds.Write es
+    → are_values (fields_of (message_with kinds.Write (fields_in es))) ≡ true
 unfolding need_of table
 write_values es h =
     let f = fields_in es in
     let r = h.ranges in
-    let period : f.period ≡ Some (or_0 f.period) = number_there (bodies_of 6 es) (mandatory_at kinds.Write es numbers 8 (omega arith) h.mandatory) in
-    let dcs : f.dcs ≡ Some (or_0 f.dcs) = octet_there (bodies_of 12 es) (mandatory_at kinds.Write es numbers 11 (omega arith) h.mandatory) in
-    let pages : f.pages ≡ Some (length f.contents) = pages_there (bodies_of 19 es) f.contents (mandatory_at kinds.Write es numbers 10 (omega arith) h.mandatory) r.contents in
+    let period : f.period ≡ Some (or_0 f.period) =
+    number_there (bodies_of 6 es) (mandatory_at kinds.Write es numbers 8 (omega arith) h.mandatory) in
+    let dcs : f.dcs ≡ Some (or_0 f.dcs) =
+    octet_there (bodies_of 12 es) (mandatory_at kinds.Write es numbers 11 (omega arith) h.mandatory) in
+    let pages : f.pages ≡ Some (length f.contents) =
+    pages_there (bodies_of 19 es) f.contents
+    (mandatory_at kinds.Write es numbers 10 (omega arith) h.mandatory) r.contents in
     values_from (fields_of (message_with kinds.Write f)) (record {
       contents = ap (λ (o : Option ℕ). are_contents o f.contents) (sym pages) ∙ r.contents;
       period = ap (λ (o : Option ℕ). passes is_period o) (sym period) ∙ r.period;
@@ -203,7 +240,9 @@ right_written kinds.Write es h = record {
 right_written kinds.WriteDone es h =
     let f = fields_in es in
     record {
-      values = values_beside (Some (or_0 f.id)) (Some (or_0 f.new_serial)) f.old_serial [] f.completed f.cells f.channel h.ranges.channel h.ranges.cells h.ranges.completed refl;
+      values = values_beside (Some (or_0 f.id))
+          (Some (or_0 f.new_serial)) f.old_serial [] f.completed f.cells f.channel
+          h.ranges.channel h.ranges.cells h.ranges.completed refl;
       cells = refl;
       failures = refl;
       full = refl;
@@ -211,7 +250,9 @@ right_written kinds.WriteDone es h =
 right_written kinds.WriteFailed es h =
     let f = fields_in es in
     record {
-      values = values_beside (Some (or_0 f.id)) (Some (or_0 f.new_serial)) f.old_serial f.failures f.completed f.cells f.channel h.ranges.channel h.ranges.cells h.ranges.completed h.ranges.failures;
+      values = values_beside (Some (or_0 f.id))
+          (Some (or_0 f.new_serial)) f.old_serial f.failures f.completed f.cells f.channel
+          h.ranges.channel h.ranges.cells h.ranges.completed h.ranges.failures;
       cells = refl;
       failures = failures_there kinds.WriteFailed es h;
       full = refl;
@@ -219,7 +260,8 @@ right_written kinds.WriteFailed es h =
 right_written kinds.Kill es h =
     let f = fields_in es in
     record {
-      values = values_beside (Some (or_0 f.id)) None (Some (or_0 f.old_serial)) [] [] f.cells f.channel h.ranges.channel h.ranges.cells refl refl;
+      values = values_beside (Some (or_0 f.id)) None
+          (Some (or_0 f.old_serial)) [] [] f.cells f.channel h.ranges.channel h.ranges.cells refl refl;
       cells = cells_there kinds.Kill es h;
       failures = refl;
       full = refl;
@@ -227,7 +269,9 @@ right_written kinds.Kill es h =
 right_written kinds.KillDone es h =
     let f = fields_in es in
     record {
-      values = values_beside (Some (or_0 f.id)) None (Some (or_0 f.old_serial)) [] f.completed f.cells f.channel h.ranges.channel h.ranges.cells h.ranges.completed refl;
+      values = values_beside (Some (or_0 f.id)) None
+          (Some (or_0 f.old_serial)) [] f.completed f.cells f.channel
+          h.ranges.channel h.ranges.cells h.ranges.completed refl;
       cells = refl;
       failures = refl;
       full = refl;
@@ -235,7 +279,9 @@ right_written kinds.KillDone es h =
 right_written kinds.KillFailed es h =
     let f = fields_in es in
     record {
-      values = values_beside (Some (or_0 f.id)) None (Some (or_0 f.old_serial)) f.failures f.completed f.cells f.channel h.ranges.channel h.ranges.cells h.ranges.completed h.ranges.failures;
+      values = values_beside (Some (or_0 f.id)) None
+          (Some (or_0 f.old_serial)) f.failures f.completed f.cells f.channel
+          h.ranges.channel h.ranges.cells h.ranges.completed h.ranges.failures;
       cells = refl;
       failures = failures_there kinds.KillFailed es h;
       full = refl;

@@ -1,11 +1,12 @@
 -- The octets of elements, one number after the other.
-use Rattle.std.proofs.Common.{◌≡◌, ℕ, ◌+◌, ◌*◌, ◌/◌, ◌%◌, false, eqb, ◌-◌, List, [], ◌∷◌, ◌++◌, length, map, set, refl, sym, ap, ◌∙◌, arith, append_assoc}
+use Rattle.std.proofs.Common.{◌≡◌, ℕ, ◌+◌, ◌*◌, false, eqb, ◌-◌, List, [], ◌∷◌, ◌++◌, length, map, set, refl, sym, ap, ◌∙◌, arith, append_assoc, length-append}
 use Rattle.std.specs.List.{flat_map}
 use Rattle.std.proofs.lemmas.List.{append-nil, set-append_right}
 use Rattle.std.proofs.lemmas.List.Concat.{flat_map-cons}
+use Rattle.cbsp_wire.specs.declared.items.Layout.{Layout}
 use Rattle.cbsp_wire.specs.Element.{Element, octets_of_elements}
 use Rattle.cbsp_wire.specs.Value.{Fields}
-use Rattle.cbsp_wire.specs.Written.{bodies_in, list_bodies, element, elements_among, slot, slot_octets}
+use Rattle.cbsp_wire.specs.Written.{bodies_in, list_head, list_bodies, element, elements_among, slot, slot_octets}
 use Rattle.cbsp_wire.proofs.WrittenItems.{length-items}
 
 octets-append : (xs ys : List Element) → octets_of_elements (xs ++ ys) ≡ octets_of_elements xs ++ octets_of_elements ys
@@ -23,15 +24,27 @@ octets-among f (n ∷ ns) =
     ∙ sym (flat_map-cons (slot_octets f) n ns)
 
 -- a list with its head and its items
-pub list_slot : {X : Type 0} (octets : X → List ℕ) (size : ℕ) → ((x : X) → length (octets x) ≡ size) → (old : List ℕ) (n : ℕ) (xs : List X) → eqb (length xs) 0 ≡ false
-    → (old ++ n ∷ (1 + length xs * size) / 256 ∷ (1 + length xs * size) % 256 ∷ 1 ∷ []) ++ flat_map octets xs ≡ old ++ slot n (list_bodies octets xs)
-list_slot octets size len old n [] some = absurd cc
-list_slot octets size len old n (x ∷ xs) some =
+pub list_slot : {X : Type 0} (layout : Layout) (octets : X → List ℕ) (size : ℕ) → ((x : X) → length (octets x) ≡ size)
+    → (old : List ℕ) (n : ℕ) (xs : List X) → eqb (length xs) 0 ≡ false
+    → (old ++ n ∷ list_head layout (length xs * size)) ++ flat_map octets xs ≡ old ++ slot n
+    (list_bodies layout octets xs)
+list_slot layout octets size len old n [] some = absurd cc
+list_slot layout octets size len old n (x ∷ xs) some =
     let items = flat_map octets (x ∷ xs) in
     let k : length items ≡ length (x ∷ xs) * size = length-items octets size len (x ∷ xs) in
-    append_assoc old (n ∷ (1 + length (x ∷ xs) * size) / 256 ∷ (1 + length (x ∷ xs) * size) % 256 ∷ 1 ∷ []) items
-    ∙ ap (λ (m : ℕ). old ++ (n ∷ (1 + m) / 256 ∷ (1 + m) % 256 ∷ 1 ∷ items)) (sym k)
-    ∙ ap (λ (i : List ℕ). old ++ (n ∷ (1 + length items) / 256 ∷ (1 + length items) % 256 ∷ 1 ∷ i)) (sym (append-nil items))
+    append_assoc old (n ∷ list_head layout (length (x ∷ xs) * size)) items
+    ∙ ap (λ (m : ℕ). old ++ (n ∷ (list_head layout m ++ items))) (sym k)
+    ∙ ap (λ (i : List ℕ). old ++ (n ∷ i)) (sym (append-nil (list_head layout (length items) ++ items)))
+
+-- how long they are
+pub list_slot-len : {X : Type 0} (layout : Layout) (octets : X → List ℕ) (size : ℕ)
+    → ((x : X) → length (octets x) ≡ size)
+    → (n : ℕ) (xs : List X) → eqb (length xs) 0 ≡ false
+    → length (slot n (list_bodies layout octets xs)) ≡ 1 + length (list_head layout (length xs * size)) + length
+    (flat_map octets xs)
+list_slot-len layout octets size len n xs some =
+    let whole = list_slot layout octets size len [] n xs some in
+    omega (arith, ap length whole, length-append (list_head layout (length xs * size)) (flat_map octets xs))
 
 -- a length that is written into its place
 pub patched : (old body : List ℕ) (k a b c : ℕ) (n : ℕ) → length old ≡ n
@@ -41,9 +54,12 @@ patched old body k a b c n len =
     let e2 : n + 2 - n ≡ 2 = omega arith in
     let e3 : n + 3 - n ≡ 3 = omega arith in
     let s1 : set (old ++ (k ∷ 0 ∷ 0 ∷ 0 ∷ body)) (n + 1) a ≡ old ++ (k ∷ a ∷ 0 ∷ 0 ∷ body) =
-    set-append_right old (k ∷ 0 ∷ 0 ∷ 0 ∷ body) n (n + 1) a len (omega arith) ∙ ap (λ (i : ℕ). old ++ set (k ∷ 0 ∷ 0 ∷ 0 ∷ body) i a) e1 in
+    set-append_right old (k ∷ 0 ∷ 0 ∷ 0 ∷ body) n (n + 1) a len (omega arith)
+    ∙ ap (λ (i : ℕ). old ++ set (k ∷ 0 ∷ 0 ∷ 0 ∷ body) i a) e1 in
     let s2 : set (old ++ (k ∷ a ∷ 0 ∷ 0 ∷ body)) (n + 2) b ≡ old ++ (k ∷ a ∷ b ∷ 0 ∷ body) =
-    set-append_right old (k ∷ a ∷ 0 ∷ 0 ∷ body) n (n + 2) b len (omega arith) ∙ ap (λ (i : ℕ). old ++ set (k ∷ a ∷ 0 ∷ 0 ∷ body) i b) e2 in
+    set-append_right old (k ∷ a ∷ 0 ∷ 0 ∷ body) n (n + 2) b len (omega arith)
+    ∙ ap (λ (i : ℕ). old ++ set (k ∷ a ∷ 0 ∷ 0 ∷ body) i b) e2 in
     let s3 : set (old ++ (k ∷ a ∷ b ∷ 0 ∷ body)) (n + 3) c ≡ old ++ (k ∷ a ∷ b ∷ c ∷ body) =
-    set-append_right old (k ∷ a ∷ b ∷ 0 ∷ body) n (n + 3) c len (omega arith) ∙ ap (λ (i : ℕ). old ++ set (k ∷ a ∷ b ∷ 0 ∷ body) i c) e3 in
+    set-append_right old (k ∷ a ∷ b ∷ 0 ∷ body) n (n + 3) c len (omega arith)
+    ∙ ap (λ (i : ℕ). old ++ set (k ∷ a ∷ b ∷ 0 ∷ body) i c) e3 in
     ap (λ (o : List ℕ). set (set o (n + 2) b) (n + 3) c) s1 ∙ ap (λ (o : List ℕ). set o (n + 3) c) s2 ∙ s3

@@ -12,19 +12,24 @@ and_parts true true h = (refl, refl)
 and_parts true false h = absurd cc
 and_parts false b h = absurd cc
 
+-- a test whose parts pass
 pub and_both : (a b : Bool) → a ≡ true → b ≡ true → (a && b) ≡ true
 and_both a b ha hb = rw (ha, hb) refl
 
+-- a negated test that passes
 pub not_true : (a : Bool) → not a ≡ true → a ≡ false
 not_true true h = absurd cc
 not_true false h = refl
 
 -- a test of each element
-pub list_all-every : {X : Type 0} (p : X → Bool) (xs : List X) → AllByRecursion (λ x. p x ≡ true) xs → list_all p xs ≡ true
+pub list_all-every : {X : Type 0} (p : X → Bool) (xs : List X) → AllByRecursion (λ x. p x ≡ true) xs
+    → list_all p xs ≡ true
 list_all-every p [] h = refl
 list_all-every p (x ∷ xs) h = and_both (p x) (list_all p xs) h.0 (list_all-every p xs h.1)
 
-pub list_all-parts : {X : Type 0} (p : X → Bool) (x : X) (xs : List X) → list_all p (x ∷ xs) ≡ true → (p x ≡ true) × (list_all p xs ≡ true)
+-- a test of a list that passes, at its first item and at the others
+pub list_all-parts : {X : Type 0} (p : X → Bool) (x : X) (xs : List X) → list_all p (x ∷ xs) ≡ true
+    → (p x ≡ true) × (list_all p xs ≡ true)
 list_all-parts p x xs h = and_parts (p x) (list_all p xs) h
 
 -- something is there

@@ -13,117 +13,153 @@ use Rattle.cbsp_wire.specs.Walk.{body_at, element_at, front_of, Walk, then_walk,
 
 body_shorter : (n : ℕ) (octets : List ℕ) (x : Element × List ℕ) → body_at n octets ≡ Ok x → length x.1 ≤ length octets
 body_shorter n octets x e = chosen (ltb (length octets) (size_of n octets)) e where
-  chosen : (b : Bool) → cond b (Err Cut) (Ok (record { number = n; body = take (size_of n octets) octets }, drop (size_of n octets) octets)) ≡ Ok x → length x.1 ≤ length octets
+  chosen : (b : Bool)
+      → cond b (Err Cut)
+      (Ok (record { number = n; body = take (size_of n octets) octets }, drop (size_of n octets) octets)) ≡ Ok x
+      → length x.1 ≤ length octets
   chosen true h = absurd cc
   chosen false h =
       let rest : drop (size_of n octets) octets ≡ x.1 = cc in
       rw (← rest) (omega (arith, length-drop (size_of n octets) octets))
 
-element_shorter : (need : Need) (n : ℕ) (octets : List ℕ) (x : Element × List ℕ) → element_at need n octets ≡ Ok x → length x.1 ≤ length octets
+element_shorter : (need : Need) (n : ℕ) (octets : List ℕ) (x : Element × List ℕ) → element_at need n octets ≡ Ok x
+    → length x.1 ≤ length octets
 element_shorter needs.Foreign n octets x e = absurd cc
 element_shorter needs.Mandatory n octets x e = body_shorter n octets x e
 element_shorter needs.Optional n octets x e = body_shorter n octets x e
 
 -- an element takes at least its number
-pub front_shorter : (kind : Kind) (octets : List ℕ) (x : Element × List ℕ) → front_of kind octets ≡ Ok x → length x.1 < length octets
+pub front_shorter : (kind : Kind) (octets : List ℕ) (x : Element × List ℕ) → front_of kind octets ≡ Ok x
+    → length x.1 < length octets
 front_shorter kind [] x e = absurd cc
 front_shorter kind (n ∷ octets) x e = omega (arith, element_shorter (need_of kind n) n octets x e)
 
 -- more room changes no walk
-walk_within-more : (j k : ℕ) (kind : Kind) (octets : List ℕ) → length octets ≤ j → length octets ≤ k → walk_within j kind octets ≡ walk_within k kind octets
+walk_within-more : (j k : ℕ) (kind : Kind) (octets : List ℕ) → length octets ≤ j → length octets ≤ k
+    → walk_within j kind octets ≡ walk_within k kind octets
 unfolding walk_within
 walk_within-more zero zero kind octets hj hk = refl
 walk_within-more zero (suc k) kind [] hj hk = refl
 walk_within-more zero (suc k) kind (n ∷ octets) hj hk = absurd (omega arith)
 walk_within-more (suc j) zero kind [] hj hk = refl
 walk_within-more (suc j) zero kind (n ∷ octets) hj hk = absurd (omega arith)
-walk_within-more (suc j) (suc k) kind octets hj hk = step (λ rest hr hs. walk_within-more j k kind rest hr hs) (front_of kind octets) refl where
-  step : ((rest : List ℕ) → length rest ≤ j → length rest ≤ k → walk_within j kind rest ≡ walk_within k kind rest) → (f : Result (Element × List ℕ) Stop) → front_of kind octets ≡ f
-      → then_walk f (λ rest. walk_within j kind rest) ≡ then_walk f (λ rest. walk_within k kind rest)
-  step same (Err s) e = refl
-  step same (Ok x) e =
-      let lt = front_shorter kind octets x e in
-      ap (λ (w : Walk). let r : Walk = record { elements = x.0 ∷ w.elements; stop = w.stop } in r) (same x.1 (omega arith) (omega arith))
+walk_within-more (suc j) (suc k) kind octets hj hk =
+    step (λ rest hr hs. walk_within-more j k kind rest hr hs) (front_of kind octets) refl where
+      step : ((rest : List ℕ) → length rest ≤ j → length rest ≤ k → walk_within j kind rest ≡ walk_within k kind rest)
+          → (f : Result (Element × List ℕ) Stop) → front_of kind octets ≡ f
+          → then_walk f (λ rest. walk_within j kind rest) ≡ then_walk f (λ rest. walk_within k kind rest)
+      step same (Err s) e = refl
+      step same (Ok x) e =
+          let lt = front_shorter kind octets x e in
+          ap (λ (w : Walk). let r : Walk = record { elements = x.0 ∷ w.elements; stop = w.stop } in r)
+          (same x.1 (omega arith) (omega arith))
 
 -- an element at the front is the first that is taken
 pub walk_of-taken : (kind : Kind) (octets : List ℕ) (e : Element) (rest : List ℕ) → front_of kind octets ≡ Ok (e, rest)
-    → walk_of kind octets ≡ (let w : Walk = record { elements = e ∷ (walk_of kind rest).elements; stop = (walk_of kind rest).stop } in w)
+    → walk_of kind octets ≡
+    (let w : Walk = record { elements = e ∷ (walk_of kind rest).elements; stop = (walk_of kind rest).stop } in w)
 unfolding walk_of walk_within
 walk_of-taken kind [] e rest h = absurd cc
 walk_of-taken kind (n ∷ octets) e rest h =
     let lt = front_shorter kind (n ∷ octets) (e, rest) h in
-    let same : walk_within (length octets) kind rest ≡ walk_within (length rest) kind rest = walk_within-more (length octets) (length rest) kind rest (omega arith) (omega arith) in
+    let same : walk_within (length octets) kind rest ≡ walk_within (length rest) kind rest =
+    walk_within-more (length octets) (length rest) kind rest (omega arith) (omega arith) in
     ap (λ (f : Result (Element × List ℕ) Stop). then_walk f (λ r. walk_within (length octets) kind r)) h
     ∙ ap (λ (w : Walk). let r : Walk = record { elements = e ∷ w.elements; stop = w.stop } in r) same
 
 -- where no element is at the front, none is taken
-pub walk_of-stopped : (kind : Kind) (octets : List ℕ) (s : Stop) → front_of kind octets ≡ Err s → walk_of kind octets ≡ (let w : Walk = record { elements = []; stop = s } in w)
+pub walk_of-stopped : (kind : Kind) (octets : List ℕ) (s : Stop) → front_of kind octets ≡ Err s
+    → walk_of kind octets ≡ (let w : Walk = record { elements = []; stop = s } in w)
 unfolding walk_of walk_within
 walk_of-stopped kind [] s h = let e : End ≡ s = cc in rw (← e) refl
-walk_of-stopped kind (n ∷ octets) s h = ap (λ (f : Result (Element × List ℕ) Stop). then_walk f (λ r. walk_within (length octets) kind r)) h
+walk_of-stopped kind (n ∷ octets) s h =
+    ap (λ (f : Result (Element × List ℕ) Stop). then_walk f (λ r. walk_within (length octets) kind r)) h
 
 -- the size of an element is told by its body alone
-listed-append : (octets rest : List ℕ) → 2 + number_of octets ≤ length octets → 2 + number_of (octets ++ rest) ≡ 2 + number_of octets
+listed-append : (octets rest : List ℕ) → 2 + number_of octets ≤ length octets
+    → 2 + number_of (octets ++ rest) ≡ 2 + number_of octets
 listed-append [] rest le = absurd (omega arith)
 listed-append (a ∷ []) rest le = absurd (omega arith)
 listed-append (a ∷ b ∷ octets) rest le = refl
 
-size_by-append : (r : Option Row) (octets rest : List ℕ) → size_by r octets ≤ length octets → size_by r (octets ++ rest) ≡ size_by r octets
+size_by-append : (r : Option Row) (octets rest : List ℕ) → size_by r octets ≤ length octets
+    → size_by r (octets ++ rest) ≡ size_by r octets
 size_by-append None octets rest h = refl
 size_by-append (Some r) octets rest h = by_size r.size h where
   by_size : (s : Size) → size_in s octets ≤ length octets → size_in s (octets ++ rest) ≡ size_in s octets
   by_size (Fixed k) le = refl
   by_size Listed le = listed-append octets rest le
 
-pub size_of-append : (n : ℕ) (octets rest : List ℕ) → size_of n octets ≤ length octets → size_of n (octets ++ rest) ≡ size_of n octets
+-- octets after a body do not change its size
+pub size_of-append : (n : ℕ) (octets rest : List ℕ) → size_of n octets ≤ length octets
+    → size_of n (octets ++ rest) ≡ size_of n octets
 unfolding size_of
 size_of-append n octets rest h = size_by-append (row_in table n) octets rest h
 
-listed-take : (octets : List ℕ) → 2 + number_of octets ≤ length octets → 2 + number_of (take (2 + number_of octets) octets) ≡ 2 + number_of octets
+listed-take : (octets : List ℕ) → 2 + number_of octets ≤ length octets
+    → 2 + number_of (take (2 + number_of octets) octets) ≡ 2 + number_of octets
 listed-take [] le = absurd (omega arith)
 listed-take (a ∷ []) le = absurd (omega arith)
-listed-take (a ∷ b ∷ octets) le = let e : 2 + (a * 256 + b) ≡ suc (suc (a * 256 + b)) = omega arith in ap (λ (n : ℕ). 2 + number_of (take n (a ∷ b ∷ octets))) e
+listed-take (a ∷ b ∷ octets) le =
+    let e : 2 + (a * 256 + b) ≡ suc (suc (a * 256 + b)) = omega arith in
+    ap (λ (n : ℕ). 2 + number_of (take n (a ∷ b ∷ octets))) e
 
-size_by-take : (r : Option Row) (octets : List ℕ) → size_by r octets ≤ length octets → size_by r (take (size_by r octets) octets) ≡ size_by r octets
+size_by-take : (r : Option Row) (octets : List ℕ) → size_by r octets ≤ length octets
+    → size_by r (take (size_by r octets) octets) ≡ size_by r octets
 size_by-take None octets h = refl
 size_by-take (Some r) octets h = by_size r.size h where
-  by_size : (s : Size) → size_in s octets ≤ length octets → size_in s (take (size_in s octets) octets) ≡ size_in s octets
+  by_size : (s : Size) → size_in s octets ≤ length octets
+      → size_in s (take (size_in s octets) octets) ≡ size_in s octets
   by_size (Fixed k) le = refl
   by_size Listed le = listed-take octets le
 
 -- the body that is taken has the size of its element
-pub size_of-take : (n : ℕ) (octets : List ℕ) → size_of n octets ≤ length octets → size_of n (take (size_of n octets) octets) ≡ size_of n octets
+pub size_of-take : (n : ℕ) (octets : List ℕ) → size_of n octets ≤ length octets
+    → size_of n (take (size_of n octets) octets) ≡ size_of n octets
 unfolding size_of
 size_of-take n octets h = size_by-take (row_in table n) octets h
 
-pub body_sized : (n : ℕ) (octets : List ℕ) → size_of n octets ≤ length octets → length (take (size_of n octets) octets) ≡ size_of n (take (size_of n octets) octets)
+-- a body that is taken is as long as its size says
+pub body_sized : (n : ℕ) (octets : List ℕ) → size_of n octets ≤ length octets
+    → length (take (size_of n octets) octets) ≡ size_of n (take (size_of n octets) octets)
 body_sized n octets h = omega (arith, length-take (size_of n octets) octets, size_of-take n octets h)
 
-pub front_sized : (n size : ℕ) (octets front : List ℕ) → size ≡ size_of n octets → size ≤ length octets → front ≡ take size octets → length front ≡ size_of n front
+-- the same, of a front of octets that is known by its length
+pub front_sized : (n size : ℕ) (octets front : List ℕ) → size ≡ size_of n octets → size ≤ length octets
+    → front ≡ take size octets → length front ≡ size_of n front
 front_sized n size octets front is_size fits is_front =
     let e : front ≡ take (size_of n octets) octets = is_front ∙ ap (λ (k : ℕ). take k octets) is_size in
     rw e (body_sized n octets (omega arith))
 
 -- the bodies of a number, where an element is at the front
-pub bodies_of-found : (kind : Kind) (octets : List ℕ) (n found : ℕ) (body rest : List ℕ) → front_of kind octets ≡ Ok (record { number = found; body = body }, rest) → found ≡ n
+pub bodies_of-found : (kind : Kind) (octets : List ℕ) (n found : ℕ) (body rest : List ℕ)
+    → front_of kind octets ≡ Ok (record { number = found; body = body }, rest) → found ≡ n
     → bodies_of n (walk_of kind octets).elements ≡ body ∷ bodies_of n (walk_of kind rest).elements
 bodies_of-found kind octets n found body rest h same =
     let e : Element = record { number = found; body = body } in
     let test : eqb found n ≡ true = eq-eqb found n same in
     ap (λ (w : Walk). bodies_of n w.elements) (walk_of-taken kind octets e rest h) ∙ rw test refl
 
-pub bodies_of-passed : (kind : Kind) (octets : List ℕ) (n found : ℕ) (body rest : List ℕ) → front_of kind octets ≡ Ok (record { number = found; body = body }, rest) → (found ≡ n → ⊥)
+-- the bodies of a number, where another element is at the front
+pub bodies_of-passed : (kind : Kind) (octets : List ℕ) (n found : ℕ) (body rest : List ℕ)
+    → front_of kind octets ≡ Ok (record { number = found; body = body }, rest) → (found ≡ n → ⊥)
     → bodies_of n (walk_of kind octets).elements ≡ bodies_of n (walk_of kind rest).elements
 bodies_of-passed kind octets n found body rest h other =
     let e : Element = record { number = found; body = body } in
     let test : eqb found n ≡ false = ne_eqb found n other in
     ap (λ (w : Walk). bodies_of n w.elements) (walk_of-taken kind octets e rest h) ∙ rw test refl
 
-pub bodies_of-ended : (kind : Kind) (octets : List ℕ) (n : ℕ) (s : Stop) → front_of kind octets ≡ Err s → bodies_of n (walk_of kind octets).elements ≡ []
+-- no bodies, where the walk ends at once
+pub bodies_of-ended : (kind : Kind) (octets : List ℕ) (n : ℕ) (s : Stop) → front_of kind octets ≡ Err s
+    → bodies_of n (walk_of kind octets).elements ≡ []
 bodies_of-ended kind octets n s h = ap (λ (w : Walk). bodies_of n w.elements) (walk_of-stopped kind octets s h)
 
-pub stop-taken : (kind : Kind) (octets : List ℕ) (e : Element) (rest : List ℕ) → front_of kind octets ≡ Ok (e, rest) → (walk_of kind octets).stop ≡ (walk_of kind rest).stop
+-- why the walk ends, past the element at the front
+pub stop-taken : (kind : Kind) (octets : List ℕ) (e : Element) (rest : List ℕ) → front_of kind octets ≡ Ok (e, rest)
+    → (walk_of kind octets).stop ≡ (walk_of kind rest).stop
 stop-taken kind octets e rest h = ap (λ (w : Walk). w.stop) (walk_of-taken kind octets e rest h)
 
-pub stop-ended : (kind : Kind) (octets : List ℕ) (s : Stop) → front_of kind octets ≡ Err s → (walk_of kind octets).stop ≡ s
+-- why the walk ends, where it ends at once
+pub stop-ended : (kind : Kind) (octets : List ℕ) (s : Stop) → front_of kind octets ≡ Err s
+    → (walk_of kind octets).stop ≡ s
 stop-ended kind octets s h = ap (λ (w : Walk). w.stop) (walk_of-stopped kind octets s h)

@@ -4,6 +4,7 @@ use Rattle.cbsp_wire.specs.declared.fault.WireFault.TheVariants.{Truncated, Trai
 use Rattle.cbsp_wire.specs.declared.kind.Kind.TheVariants as kinds
 use Rattle.cbsp_wire.specs.declared.message.Cell.{Cell}
 use Rattle.cbsp_wire.specs.declared.message.Count.{Count}
+use Rattle.cbsp_wire.specs.declared.message.Failure.{Failure}
 use Rattle.cbsp_wire.specs.declared.message.Message.{Message}
 use Rattle.cbsp_wire.specs.declared.message.Message.TheVariants as messages
 use Rattle.cbsp_wire.specs.Table.{table, need_of, size_of}
@@ -48,9 +49,40 @@ abbrev count : Count
 count = record { cell = cell; number = 0; info = 0 }
 
 reply_is_written : octets_of_message (messages.KillDone 4370 16 (count ∷ []) [] None)
-    ≡ 0x05 ∷ 0x00 ∷ 0x00 ∷ 0x11 ∷ 0x0E ∷ 0x11 ∷ 0x12 ∷ 0x02 ∷ 0x00 ∷ 0x10 ∷ 0x08 ∷ 0x00 ∷ 0x08 ∷ 0x01 ∷ 0x00 ∷ 0x01 ∷ 0x00 ∷ 0x01 ∷ 0x00 ∷ 0x00 ∷ 0x00 ∷ []
+    ≡ 0x05 ∷ 0x00 ∷ 0x00 ∷ 0x11 ∷ 0x0E ∷ 0x11 ∷ 0x12 ∷ 0x02 ∷ 0x00 ∷ 0x10
+    ∷ 0x08 ∷ 0x00 ∷ 0x08 ∷ 0x01 ∷ 0x00 ∷ 0x01 ∷ 0x00 ∷ 0x01 ∷ 0x00 ∷ 0x00 ∷ 0x00 ∷ []
 unfolding octets_of_message bodies_in
 reply_is_written = refl
+
+-- a failure in two cells: each has a discriminator of its own
+abbrev failure : ℕ → Failure
+failure ci = record { cell = record { lac = 1; ci = ci }; cause = 6 }
+
+abbrev failed_octets : ℕ → List ℕ
+failed_octets second =
+    0x06 ∷ 0x00 ∷ 0x00 ∷ 0x15 ∷ 0x0E ∷ 0x11 ∷ 0x12 ∷ 0x02 ∷ 0x00 ∷ 0x10
+    ∷ 0x09 ∷ 0x00 ∷ 0x0C ∷ 0x01 ∷ 0x00 ∷ 0x01 ∷ 0x00 ∷ 0x01 ∷ 0x06 ∷ second ∷ 0x00 ∷ 0x01 ∷ 0x00 ∷ 0x02 ∷ 0x06 ∷ []
+
+failed_is_written : octets_of_message
+    (messages.KillFailed 4370 16 (failure 1 ∷ failure 2 ∷ []) [] [] None) ≡ failed_octets 1
+unfolding octets_of_message bodies_in
+failed_is_written = refl
+
+failed_has_no_fault : first_fault (failed_octets 1) ≡ None
+unfolding first_fault walk_of walk_within need_of size_of table
+failed_has_no_fault = refl
+
+second_by_another_discriminator : first_fault (failed_octets 2) ≡ Some (Cause 0x01)
+unfolding first_fault walk_of walk_within need_of size_of table
+second_by_another_discriminator = refl
+
+-- one discriminator before all failures
+one_discriminator : first_fault
+    (0x06 ∷ 0x00 ∷ 0x00 ∷ 0x14 ∷ 0x0E ∷ 0x11 ∷ 0x12 ∷ 0x02 ∷ 0x00 ∷ 0x10
+    ∷ 0x09 ∷ 0x00 ∷ 0x0B ∷ 0x01 ∷ 0x00 ∷ 0x01 ∷ 0x00 ∷ 0x01 ∷ 0x06 ∷ 0x00 ∷ 0x01 ∷ 0x00 ∷ 0x02 ∷ 0x06 ∷ [])
+    ≡ Some (Cause 0x01)
+unfolding first_fault walk_of walk_within need_of size_of table
+one_discriminator = refl
 
 -- faults of the frame, of a type, of an element past the end, of one that is missing, of one that is strange
 unknown_type : first_fault (0x07 ∷ 0 ∷ 0 ∷ 0 ∷ []) ≡ Some (Cause 0x04)
@@ -69,6 +101,9 @@ missing : first_fault (0x04 ∷ 0 ∷ 0 ∷ 0x06 ∷ 0x0E ∷ 0x11 ∷ 0x12 ∷ 
 unfolding first_fault walk_of walk_within need_of size_of table
 missing = refl
 
-strange : first_fault (0x04 ∷ 0 ∷ 0 ∷ 0x10 ∷ 0x0E ∷ 0x11 ∷ 0x12 ∷ 0x02 ∷ 0x00 ∷ 0x10 ∷ 0x04 ∷ 0x00 ∷ 0x05 ∷ 0x01 ∷ 0x00 ∷ 0x01 ∷ 0x00 ∷ 0x01 ∷ 0x0F ∷ 0x01 ∷ []) ≡ Some (Cause 0x00)
+strange : first_fault
+    (0x04 ∷ 0 ∷ 0 ∷ 0x10 ∷ 0x0E ∷ 0x11 ∷ 0x12 ∷ 0x02 ∷ 0x00 ∷ 0x10
+    ∷ 0x04 ∷ 0x00 ∷ 0x05 ∷ 0x01 ∷ 0x00 ∷ 0x01 ∷ 0x00 ∷ 0x01 ∷ 0x0F ∷ 0x01 ∷ []) ≡ Some
+    (Cause 0x00)
 unfolding first_fault walk_of walk_within need_of size_of table
 strange = refl

@@ -18,22 +18,36 @@ use Rattle.cbsp_wire.proofs.WrittenLaws.{IsWritten-from, is_writable-from}
 use Rattle.cbsp_wire.proofs.MeantLaws.{HaveRanges, ranges_from, values_from, values_beside, IsMessage-writable}
 
 -- an order to write
-pub write-writable : (id new : ℕ) (old : Option ℕ) (cells : List Cell) (channel category : Option ℕ) (period broadcasts : ℕ) (dcs : Dcs) (contents : List Content)
-    → is_nothing cells ≡ false → are_cells cells ≡ true → passes (λ n. nat_le n 1) channel ≡ true → passes (λ n. nat_le n 2) category ≡ true
-    → is_period period ≡ true → is_coding dcs.0 ≡ true → are_contents (Some (length contents)) contents ≡ true → list_all is_full contents ≡ true
+pub write-writable : (id new : ℕ) (old : Option ℕ) (cells : List Cell) (channel category : Option ℕ)
+    (period broadcasts : ℕ) (dcs : Dcs) (contents : List Content)
+    → is_nothing cells ≡ false → are_cells cells ≡ true → passes (λ n. nat_le n 1) channel ≡ true
+    → passes (λ n. nat_le n 2) category ≡ true
+    → is_period period ≡ true → is_coding dcs.0 ≡ true → are_contents (Some (length contents)) contents ≡ true
+    → list_all is_full contents ≡ true
     → is_writable (messages.Write id new old cells channel category period broadcasts dcs contents) ≡ true
 unfolding need_of table
 write-writable id new old cells channel category period broadcasts dcs contents some right ch cat per cod con full =
     let m = messages.Write id new old cells channel category period broadcasts dcs contents in
     is_writable-from m (record {
-      values = values_from (fields_of m) (record { contents = con; period = per; coding = cod; category = cat; channel = ch; cells = right; completed = refl; failures = refl });
+      values = values_from (fields_of m)
+          (record {
+            contents = con;
+            period = per;
+            coding = cod;
+            category = cat;
+            channel = ch;
+            cells = right;
+            completed = refl;
+            failures = refl;
+          });
       cells = there_from (need_of (kind_of m) 4) cells some;
       failures = refl;
       full = full;
     })
 
 -- an order to kill
-pub kill-writable : (id old : ℕ) (cells : List Cell) (channel : Option ℕ) → is_nothing cells ≡ false → are_cells cells ≡ true → passes (λ n. nat_le n 1) channel ≡ true
+pub kill-writable : (id old : ℕ) (cells : List Cell) (channel : Option ℕ) → is_nothing cells ≡ false
+    → are_cells cells ≡ true → passes (λ n. nat_le n 1) channel ≡ true
     → is_writable (messages.Kill id old cells channel) ≡ true
 unfolding need_of table
 kill-writable id old cells channel some right ch =
@@ -46,7 +60,8 @@ kill-writable id old cells channel some right ch =
     })
 
 -- the replies, which have no channel indicator
-pub write_done-writable : (id new : ℕ) (old : Option ℕ) (completed : List Count) (cells : List Cell) → are_cells (cells_of_counts completed) ≡ true → are_cells cells ≡ true
+pub write_done-writable : (id new : ℕ) (old : Option ℕ) (completed : List Count) (cells : List Cell)
+    → are_cells (cells_of_counts completed) ≡ true → are_cells cells ≡ true
     → is_writable (messages.WriteDone id new old completed cells None) ≡ true
 unfolding need_of table
 write_done-writable id new old completed cells counted right =
@@ -58,8 +73,11 @@ write_done-writable id new old completed cells counted right =
       full = refl;
     })
 
-pub write_failed-writable : (id new : ℕ) (old : Option ℕ) (failures : List Failure) (completed : List Count) (cells : List Cell)
-    → is_nothing failures ≡ false → are_cells (cells_of_failures failures) ≡ true → are_cells (cells_of_counts completed) ≡ true → are_cells cells ≡ true
+-- the failure of a write
+pub write_failed-writable : (id new : ℕ) (old : Option ℕ) (failures : List Failure) (completed : List Count)
+    (cells : List Cell)
+    → is_nothing failures ≡ false → are_cells (cells_of_failures failures) ≡ true
+    → are_cells (cells_of_counts completed) ≡ true → are_cells cells ≡ true
     → is_writable (messages.WriteFailed id new old failures completed cells None) ≡ true
 unfolding need_of table
 write_failed-writable id new old failures completed cells some failed counted right =
@@ -71,7 +89,9 @@ write_failed-writable id new old failures completed cells some failed counted ri
       full = refl;
     })
 
-pub kill_done-writable : (id old : ℕ) (completed : List Count) (cells : List Cell) → are_cells (cells_of_counts completed) ≡ true → are_cells cells ≡ true
+-- the completion of a kill
+pub kill_done-writable : (id old : ℕ) (completed : List Count) (cells : List Cell)
+    → are_cells (cells_of_counts completed) ≡ true → are_cells cells ≡ true
     → is_writable (messages.KillDone id old completed cells None) ≡ true
 unfolding need_of table
 kill_done-writable id old completed cells counted right =
@@ -83,8 +103,10 @@ kill_done-writable id old completed cells counted right =
       full = refl;
     })
 
+-- the failure of a kill
 pub kill_failed-writable : (id old : ℕ) (failures : List Failure) (completed : List Count) (cells : List Cell)
-    → is_nothing failures ≡ false → are_cells (cells_of_failures failures) ≡ true → are_cells (cells_of_counts completed) ≡ true → are_cells cells ≡ true
+    → is_nothing failures ≡ false → are_cells (cells_of_failures failures) ≡ true
+    → are_cells (cells_of_counts completed) ≡ true → are_cells cells ≡ true
     → is_writable (messages.KillFailed id old failures completed cells None) ≡ true
 unfolding need_of table
 kill_failed-writable id old failures completed cells some failed counted right =

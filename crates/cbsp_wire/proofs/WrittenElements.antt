@@ -5,6 +5,8 @@ use Rattle.std.specs.List.{AllByRecursion, list_all, flat_map}
 use Rattle.std.proofs.lemmas.List.{append-nil}
 use Rattle.std.proofs.lemmas.Bool.{eqb-true}
 use Rattle.cbs_page.specs.declared.content.Content.{Content}
+use Rattle.cbsp_wire.specs.declared.items.Layout.{Layout}
+use Rattle.cbsp_wire.specs.declared.items.Layout.TheVariants as layouts
 use Rattle.cbsp_wire.specs.declared.kind.Kind.{Kind}
 use Rattle.cbsp_wire.specs.declared.kind.Need.{Need}
 use Rattle.cbsp_wire.specs.declared.kind.Need.TheVariants as needs
@@ -21,13 +23,15 @@ bodies_of-append : (n : ℕ) (xs ys : List Element) → bodies_of n (xs ++ ys) �
 bodies_of-append n [] ys = refl
 bodies_of-append n (x ∷ xs) ys = by_test (eqb x.number n) (bodies_of-append n xs ys) where
   by_test : (b : Bool) → bodies_of n (xs ++ ys) ≡ bodies_of n xs ++ bodies_of n ys
-      → cond b (x.body ∷ bodies_of n (xs ++ ys)) (bodies_of n (xs ++ ys)) ≡ cond b (x.body ∷ bodies_of n xs) (bodies_of n xs) ++ bodies_of n ys
+      → cond b (x.body ∷ bodies_of n (xs ++ ys)) (bodies_of n (xs ++ ys)) ≡ cond b (x.body ∷ bodies_of n xs)
+      (bodies_of n xs) ++ bodies_of n ys
   by_test true h = ap (λ (bs : List (List ℕ)). x.body ∷ bs) h
   by_test false h = h
 
 bodies_of-made : (n k : ℕ) (bodies : List (List ℕ)) → bodies_of n (map (element k) bodies) ≡ cond (eqb k n) bodies []
 bodies_of-made n k bodies = by_test (eqb k n) refl bodies where
-  by_test : (b : Bool) → eqb k n ≡ b → (bodies : List (List ℕ)) → bodies_of n (map (element k) bodies) ≡ cond b bodies []
+  by_test : (b : Bool) → eqb k n ≡ b → (bodies : List (List ℕ))
+      → bodies_of n (map (element k) bodies) ≡ cond b bodies []
   by_test true h [] = refl
   by_test true h (body ∷ bodies) = rw h (ap (λ (bs : List (List ℕ)). body ∷ bs) (by_test true h bodies))
   by_test false h [] = refl
@@ -44,13 +48,15 @@ bodies_of-among f n (k ∷ ks) =
     bodies_of-append n (map (element k) (bodies_in f k)) (elements_among f ks)
     ∙ rw (bodies_of-made n k (bodies_in f k), bodies_of-among f n ks) refl
 
-found : (f : Fields) (n : ℕ) → among f n numbers ≡ bodies_in f n ++ [] → bodies_of n (elements_among f numbers) ≡ bodies_in f n
+found : (f : Fields) (n : ℕ) → among f n numbers ≡ bodies_in f n ++ []
+    → bodies_of n (elements_among f numbers) ≡ bodies_in f n
 found f n h = bodies_of-among f n numbers ∙ h ∙ append-nil (bodies_in f n)
 
 -- elements whose bodies are those of fields
 abbrev pub HasBodies : Fields → List Element → Type 0
 HasBodies f es = AllByRecursion (λ n. bodies_of n es ≡ bodies_in f n) numbers
 
+-- the elements made of fields have the bodies of these fields
 pub HasBodies-among : (f : Fields) → HasBodies f (elements_among f numbers)
 HasBodies-among f = (
   found f 0x0E refl,
@@ -66,7 +72,13 @@ HasBodies-among f = (
             found f 0x04 refl,
             (
               found f 0x12 refl,
-              (found f 0x05 refl, (found f 0x06 refl, (found f 0x07 refl, (found f 0x13 refl, (found f 0x0C refl, (found f 0x01 refl, tt)))))),
+              (
+                found f 0x05 refl,
+                (
+                  found f 0x06 refl,
+                  (found f 0x07 refl, (found f 0x13 refl, (found f 0x0C refl, (found f 0x01 refl, tt)))),
+                ),
+              ),
             ),
           ),
         ),
@@ -109,9 +121,9 @@ fields_in-bodies f es h =
       first_number-bodies f.id,
       first_number-bodies f.new_serial,
       first_number-bodies f.old_serial,
-      first_items-bodies failure_octets failures_in f.failures (failures_in-octets f.failures),
-      first_items-bodies count_octets counts_in f.completed (counts_in-octets f.completed),
-      first_items-bodies cell_octets cells_in f.cells (cells_in-octets f.cells),
+      first_items-bodies layouts.Failures failure_octets failures_in f.failures (failures_in-octets f.failures),
+      first_items-bodies layouts.Counts count_octets counts_in f.completed (counts_in-octets f.completed),
+      first_items-bodies layouts.Cells cell_octets cells_in f.cells (cells_in-octets f.cells),
       first_octet-bodies f.channel,
       first_octet-bodies f.category,
       first_number-bodies f.period,
@@ -122,14 +134,17 @@ fields_in-bodies f es h =
     ) refl
 
 -- each mandatory element is there where each mandatory field is
-pub has_mandatory-bodies : (kind : Kind) (f : Fields) (es : List Element) → HasBodies f es → list_all (λ n. is_there_if (need_of kind n) (bodies_in f n)) numbers ≡ true → has_mandatory kind es ≡ true
+pub has_mandatory-bodies : (kind : Kind) (f : Fields) (es : List Element) → HasBodies f es
+    → list_all (λ n. is_there_if (need_of kind n) (bodies_in f n)) numbers ≡ true → has_mandatory kind es ≡ true
 has_mandatory-bodies kind f es h there = along numbers h there where
-  along : (ns : List ℕ) → AllByRecursion (λ n. bodies_of n es ≡ bodies_in f n) ns → list_all (λ n. is_there_if (need_of kind n) (bodies_in f n)) ns ≡ true
+  along : (ns : List ℕ) → AllByRecursion (λ n. bodies_of n es ≡ bodies_in f n) ns
+      → list_all (λ n. is_there_if (need_of kind n) (bodies_in f n)) ns ≡ true
       → list_all (λ n. is_there_if (need_of kind n) (bodies_of n es)) ns ≡ true
   along [] g t = refl
   along (n ∷ ns) g t =
       let both = list_all-parts (λ k. is_there_if (need_of kind k) (bodies_in f k)) n ns t in
-      and_both (is_there_if (need_of kind n) (bodies_of n es)) (list_all (λ k. is_there_if (need_of kind k) (bodies_of k es)) ns)
+      and_both (is_there_if (need_of kind n) (bodies_of n es))
+      (list_all (λ k. is_there_if (need_of kind k) (bodies_of k es)) ns)
       (ap (λ (bs : List (List ℕ)). is_there_if (need_of kind n) bs) g.0 ∙ both.0) (along ns g.1 both.1)
 
 -- no field is written twice
@@ -141,14 +156,18 @@ octet_once : (o : Option ℕ) → nat_le (length (octet_bodies o)) 1 ≡ true
 octet_once None = refl
 octet_once (Some n) = refl
 
-list_once : {X : Type 0} (octets : X → List ℕ) (xs : List X) → nat_le (length (list_bodies octets xs)) 1 ≡ true
-list_once octets [] = refl
-list_once octets (x ∷ xs) = refl
+list_once : {X : Type 0} (layout : Layout) (octets : X → List ℕ) (xs : List X)
+    → nat_le (length (list_bodies layout octets xs)) 1 ≡ true
+list_once layout octets [] = refl
+list_once layout octets (x ∷ xs) = refl
 
+-- elements with the bodies of fields have none twice but 01
 pub has_none_twice-bodies : (f : Fields) (es : List Element) → HasBodies f es → has_none_twice es ≡ true
 unfolding bodies_in
 has_none_twice-bodies f es h =
-    let once = λ (n : ℕ) (bodies : List (List ℕ)) (e : bodies_of n es ≡ bodies) (le : nat_le (length bodies) 1 ≡ true). (let r : nat_le (length (bodies_of n es)) 1 ≡ true = ap (λ (bs : List (List ℕ)). nat_le (length bs) 1) e ∙ le in r) in
+    let once =
+    λ (n : ℕ) (bodies : List (List ℕ)) (e : bodies_of n es ≡ bodies) (le : nat_le (length bodies) 1 ≡ true).
+    (let r : nat_le (length (bodies_of n es)) 1 ≡ true = ap (λ (b : List (List ℕ)). nat_le (length b) 1) e ∙ le in r) in
     list_all-every (λ n. comes_once n es) numbers (
       once _ _ h.0 (number_once f.id),
       (
@@ -156,11 +175,11 @@ has_none_twice-bodies f es h =
         (
           once _ _ h.1.1.0 (number_once f.old_serial),
           (
-            once _ _ h.1.1.1.0 (list_once failure_octets f.failures),
+            once _ _ h.1.1.1.0 (list_once layouts.Failures failure_octets f.failures),
             (
-              once _ _ h.1.1.1.1.0 (list_once count_octets f.completed),
+              once _ _ h.1.1.1.1.0 (list_once layouts.Counts count_octets f.completed),
               (
-                once _ _ h.1.1.1.1.1.0 (list_once cell_octets f.cells),
+                once _ _ h.1.1.1.1.1.0 (list_once layouts.Cells cell_octets f.cells),
                 (
                   once _ _ h.1.1.1.1.1.1.0 (octet_once f.channel),
                   (
@@ -194,22 +213,30 @@ has_none_twice-bodies f es h =
 abbrev AreSized : Fields → ℕ → Type 0
 AreSized f n = AllByRecursion (λ body. length body ≡ size_of n body) (bodies_in f n)
 
-two_sized : (n : ℕ) → ((body : List ℕ) → size_of n body ≡ 2) → (o : Option ℕ) → AllByRecursion (λ body. length body ≡ size_of n body) (number_bodies o)
+two_sized : (n : ℕ) → ((body : List ℕ) → size_of n body ≡ 2) → (o : Option ℕ)
+    → AllByRecursion (λ body. length body ≡ size_of n body) (number_bodies o)
 two_sized n two None = tt
 two_sized n two (Some k) = (sym (two (number_octets k)), tt)
 
-one_sized : (n : ℕ) → ((body : List ℕ) → size_of n body ≡ 1) → (o : Option ℕ) → AllByRecursion (λ body. length body ≡ size_of n body) (octet_bodies o)
+one_sized : (n : ℕ) → ((body : List ℕ) → size_of n body ≡ 1) → (o : Option ℕ)
+    → AllByRecursion (λ body. length body ≡ size_of n body) (octet_bodies o)
 one_sized n one None = tt
 one_sized n one (Some k) = (sym (one (k ∷ [])), tt)
 
-listed : (items : List ℕ) → length (list_body items) ≡ 2 + number_of (list_body items)
-listed items = omega arith
+listed : (layout : Layout) (items : List ℕ) → length (list_body layout items) ≡ 2 + number_of (list_body layout items)
+listed layouts.Cells items = omega arith
+listed layouts.Counts items = omega arith
+listed layouts.Failures items = omega arith
 
-list_sized : {X : Type 0} (n : ℕ) → ((body : List ℕ) → size_of n body ≡ 2 + number_of body) → (octets : X → List ℕ) (xs : List X) → AllByRecursion (λ body. length body ≡ size_of n body) (list_bodies octets xs)
-list_sized n size octets [] = tt
-list_sized n size octets (x ∷ xs) = (listed (flat_map octets (x ∷ xs)) ∙ sym (size (list_body (flat_map octets (x ∷ xs)))), tt)
+list_sized : {X : Type 0} (n : ℕ) → ((body : List ℕ) → size_of n body ≡ 2 + number_of body)
+    → (layout : Layout) (octets : X → List ℕ) (xs : List X)
+    → AllByRecursion (λ body. length body ≡ size_of n body) (list_bodies layout octets xs)
+list_sized n size layout octets [] = tt
+list_sized n size layout octets (x ∷ xs) =
+    (listed layout (flat_map octets (x ∷ xs)) ∙ sym (size (list_body layout (flat_map octets (x ∷ xs)))), tt)
 
-contents_sized : (cs : List Content) → list_all is_full cs ≡ true → AllByRecursion (λ body. length body ≡ size_of 1 body) (map content_body cs)
+contents_sized : (cs : List Content) → list_all is_full cs ≡ true
+    → AllByRecursion (λ body. length body ≡ size_of 1 body) (map content_body cs)
 unfolding size_of table
 contents_sized [] h = tt
 contents_sized (c ∷ cs) h =
@@ -217,6 +244,7 @@ contents_sized (c ∷ cs) h =
     let len : length c.octets ≡ 82 = eqb-true _ _ both.0 in
     (omega arith, contents_sized cs both.1)
 
+-- each body that is written has the size of its element
 pub are_sized : (f : Fields) → list_all is_full f.contents ≡ true → AllByRecursion (AreSized f) numbers
 unfolding bodies_in size_of table
 are_sized f full = (
@@ -226,11 +254,11 @@ are_sized f full = (
     (
       two_sized 0x02 (λ b. refl) f.old_serial,
       (
-        list_sized 0x09 (λ b. refl) failure_octets f.failures,
+        list_sized 0x09 (λ b. refl) layouts.Failures failure_octets f.failures,
         (
-          list_sized 0x08 (λ b. refl) count_octets f.completed,
+          list_sized 0x08 (λ b. refl) layouts.Counts count_octets f.completed,
           (
-            list_sized 0x04 (λ b. refl) cell_octets f.cells,
+            list_sized 0x04 (λ b. refl) layouts.Cells cell_octets f.cells,
             (
               one_sized 0x12 (λ b. refl) f.channel,
               (
@@ -239,7 +267,10 @@ are_sized f full = (
                   two_sized 0x06 (λ b. refl) f.period,
                   (
                     two_sized 0x07 (λ b. refl) f.broadcasts,
-                    (one_sized 0x13 (λ b. refl) f.pages, (one_sized 0x0C (λ b. refl) f.dcs, (contents_sized f.contents full, tt))),
+                    (
+                      one_sized 0x13 (λ b. refl) f.pages,
+                      (one_sized 0x0C (λ b. refl) f.dcs, (contents_sized f.contents full, tt)),
+                    ),
                   ),
                 ),
               ),
@@ -257,25 +288,35 @@ is_known_if needs.Foreign bodies = is_nothing bodies
 is_known_if needs.Mandatory bodies = true
 is_known_if needs.Optional bodies = true
 
-known_element : (kind : Kind) (n : ℕ) (need : Need) (body : List ℕ) (bodies : List (List ℕ)) → need_of kind n ≡ need → is_known_if need (body ∷ bodies) ≡ true → need_of kind n ≡ needs.Foreign → ⊥
+known_element : (kind : Kind) (n : ℕ) (need : Need) (body : List ℕ) (bodies : List (List ℕ)) → need_of kind n ≡ need
+    → is_known_if need (body ∷ bodies) ≡ true → need_of kind n ≡ needs.Foreign → ⊥
 known_element kind n needs.Foreign body bodies is_need h foreign = cc
 known_element kind n needs.Mandatory body bodies is_need h foreign = cc
 known_element kind n needs.Optional body bodies is_need h foreign = cc
 
-are_of_one : (kind : Kind) (n : ℕ) (bodies : List (List ℕ)) → (need_of kind n ≡ needs.Foreign → ⊥) → AllByRecursion (λ body. length body ≡ size_of n body) bodies → AllByRecursion (IsOf kind) (map (element n) bodies)
+are_of_one : (kind : Kind) (n : ℕ) (bodies : List (List ℕ)) → (need_of kind n ≡ needs.Foreign → ⊥)
+    → AllByRecursion (λ body. length body ≡ size_of n body) bodies → AllByRecursion (IsOf kind) (map (element n) bodies)
 are_of_one kind n [] known sized = tt
-are_of_one kind n (body ∷ bodies) known sized = (record { known = known; sized = sized.0 }, are_of_one kind n bodies known sized.1)
+are_of_one kind n (body ∷ bodies) known sized =
+    (record { known = known; sized = sized.0 }, are_of_one kind n bodies known sized.1)
 
-are_of_number : (kind : Kind) (n : ℕ) (bodies : List (List ℕ)) → is_known_if (need_of kind n) bodies ≡ true → AllByRecursion (λ body. length body ≡ size_of n body) bodies → AllByRecursion (IsOf kind) (map (element n) bodies)
+are_of_number : (kind : Kind) (n : ℕ) (bodies : List (List ℕ)) → is_known_if (need_of kind n) bodies ≡ true
+    → AllByRecursion (λ body. length body ≡ size_of n body) bodies → AllByRecursion (IsOf kind) (map (element n) bodies)
 are_of_number kind n [] h sized = tt
-are_of_number kind n (body ∷ bodies) h sized = are_of_one kind n (body ∷ bodies) (known_element kind n (need_of kind n) body bodies refl h) sized
+are_of_number kind n (body ∷ bodies) h sized =
+    are_of_one kind n (body ∷ bodies) (known_element kind n (need_of kind n) body bodies refl h) sized
 
-of_append : (kind : Kind) (xs ys : List Element) → AllByRecursion (IsOf kind) xs → AllByRecursion (IsOf kind) ys → AllByRecursion (IsOf kind) (xs ++ ys)
+of_append : (kind : Kind) (xs ys : List Element) → AllByRecursion (IsOf kind) xs → AllByRecursion (IsOf kind) ys
+    → AllByRecursion (IsOf kind) (xs ++ ys)
 of_append kind [] ys hx hy = hy
 of_append kind (x ∷ xs) ys hx hy = (hx.0, of_append kind xs ys hx.1 hy)
 
-pub are_of_kind : (kind : Kind) (f : Fields) (ns : List ℕ) → list_all (λ n. is_known_if (need_of kind n) (bodies_in f n)) ns ≡ true → AllByRecursion (AreSized f) ns → AllByRecursion (IsOf kind) (elements_among f ns)
+-- the elements that are written are of the message's type
+pub are_of_kind : (kind : Kind) (f : Fields) (ns : List ℕ)
+    → list_all (λ n. is_known_if (need_of kind n) (bodies_in f n)) ns ≡ true → AllByRecursion (AreSized f) ns
+    → AllByRecursion (IsOf kind) (elements_among f ns)
 are_of_kind kind f [] known sized = tt
 are_of_kind kind f (n ∷ ns) known sized =
     let both = list_all-parts (λ k. is_known_if (need_of kind k) (bodies_in f k)) n ns known in
-    of_append kind (map (element n) (bodies_in f n)) (elements_among f ns) (are_of_number kind n (bodies_in f n) both.0 sized.0) (are_of_kind kind f ns both.1 sized.1)
+    of_append kind (map (element n) (bodies_in f n)) (elements_among f ns)
+    (are_of_number kind n (bodies_in f n) both.0 sized.0) (are_of_kind kind f ns both.1 sized.1)

@@ -10,18 +10,20 @@ use Rattle.cbsp_wire.specs.declared.items.Layout.TheVariants as layouts
 use Rattle.cbsp_wire.specs.declared.message.Cell.{Cell}
 use Rattle.cbsp_wire.specs.declared.message.Count.{Count}
 use Rattle.cbsp_wire.specs.declared.message.Failure.{Failure}
-use Rattle.cbsp_wire.specs.Value.{first_number, first_octet, first_items, cell_at, cells_in, counts_in, failures_in, content_of}
-use Rattle.cbsp_wire.specs.Range.{is_nothing, is_list, first_passes, cells_by, cells_of_counts, cells_of_failures, item_size}
+use Rattle.cbsp_wire.specs.Value.{first_number, first_octet, first_items, items_of, cell_at, count_at, failure_at, cells_in, counts_in, failures_in, content_of}
+use Rattle.cbsp_wire.specs.Range.{is_nothing, failures_are_by_lac_and_ci, is_by_lac_and_ci, is_list, are_items, first_passes, cells_by, cells_of_counts, cells_of_failures, item_size}
 use Rattle.cbsp_wire.specs.Written.{cell_octets, count_octets, failure_octets, number_bodies, octet_bodies, list_body, list_bodies, content_body}
 use Rattle.cbsp_wire.proofs.Tests.{and_both}
 
 whole : (n : ℕ) → n / 256 * 256 + n % 256 ≡ n
 whole n = omega arith
 
+-- a number that is written is read
 pub first_number-bodies : (o : Option ℕ) → first_number (number_bodies o) ≡ o
 first_number-bodies None = refl
 first_number-bodies (Some n) = ap (λ (k : ℕ). Some k) (whole n)
 
+-- an octet that is written is read
 pub first_octet-bodies : (o : Option ℕ) → first_octet (octet_bodies o) ≡ o
 first_octet-bodies None = refl
 first_octet-bodies (Some n) = refl
@@ -29,6 +31,7 @@ first_octet-bodies (Some n) = refl
 cell_again : (c : Cell) → cell_at (c.lac / 256) (c.lac % 256) (c.ci / 256) (c.ci % 256) ≡ c
 cell_again c = rw (whole c.lac, whole c.ci) refl
 
+-- cells that are written are read
 pub cells_in-octets : (cs : List Cell) → cells_in (flat_map cell_octets cs) ≡ cs
 cells_in-octets [] = refl
 cells_in-octets (c ∷ cs) =
@@ -36,9 +39,12 @@ cells_in-octets (c ∷ cs) =
     ∙ ap (λ (d : Cell). d ∷ cells_in (flat_map cell_octets cs)) (cell_again c)
     ∙ ap (λ (ds : List Cell). c ∷ ds) (cells_in-octets cs)
 
-count_again : (c : Count) → (let r : Count = record { cell = cell_at (c.cell.lac / 256) (c.cell.lac % 256) (c.cell.ci / 256) (c.cell.ci % 256); number = c.number / 256 * 256 + c.number % 256; info = c.info } in r) ≡ c
+count_again : (c : Count)
+    → count_at (c.cell.lac / 256) (c.cell.lac % 256) (c.cell.ci / 256) (c.cell.ci % 256)
+    (c.number / 256) (c.number % 256) c.info ≡ c
 count_again c = rw (cell_again c.cell, whole c.number) refl
 
+-- completed broadcasts that are written are read
 pub counts_in-octets : (cs : List Count) → counts_in (flat_map count_octets cs) ≡ cs
 counts_in-octets [] = refl
 counts_in-octets (c ∷ cs) =
@@ -46,9 +52,11 @@ counts_in-octets (c ∷ cs) =
     ∙ ap (λ (d : Count). d ∷ counts_in (flat_map count_octets cs)) (count_again c)
     ∙ ap (λ (ds : List Count). c ∷ ds) (counts_in-octets cs)
 
-failure_again : (f : Failure) → (let r : Failure = record { cell = cell_at (f.cell.lac / 256) (f.cell.lac % 256) (f.cell.ci / 256) (f.cell.ci % 256); cause = f.cause } in r) ≡ f
+failure_again : (f : Failure)
+    → failure_at (f.cell.lac / 256) (f.cell.lac % 256) (f.cell.ci / 256) (f.cell.ci % 256) f.cause ≡ f
 failure_again f = rw (cell_again f.cell) refl
 
+-- failures that are written are read
 pub failures_in-octets : (fs : List Failure) → failures_in (flat_map failure_octets fs) ≡ fs
 failures_in-octets [] = refl
 failures_in-octets (f ∷ fs) =
@@ -56,50 +64,87 @@ failures_in-octets (f ∷ fs) =
     ∙ ap (λ (g : Failure). g ∷ failures_in (flat_map failure_octets fs)) (failure_again f)
     ∙ ap (λ (gs : List Failure). f ∷ gs) (failures_in-octets fs)
 
-pub first_items-bodies : {X : Type 0} (octets : X → List ℕ) (items_in : List ℕ → List X) (xs : List X) → items_in (flat_map octets xs) ≡ xs → first_items items_in (list_bodies octets xs) ≡ xs
-first_items-bodies octets items_in [] h = refl
-first_items-bodies octets items_in (x ∷ xs) h = h
+-- the items of a list that is written are read
+pub first_items-bodies : {X : Type 0} (layout : Layout) (octets : X → List ℕ) (items_in : List ℕ → List X) (xs : List X)
+    → items_in (flat_map octets xs) ≡ xs
+    → first_items layout items_in (list_bodies layout octets xs) ≡ xs
+first_items-bodies layout octets items_in [] h = refl
+first_items-bodies layouts.Cells octets items_in (x ∷ xs) h = h
+first_items-bodies layouts.Counts octets items_in (x ∷ xs) h = h
+first_items-bodies layouts.Failures octets items_in (x ∷ xs) h = h
 
+-- contents that are written are read
 pub contents-bodies : (cs : List Content) → map content_of (map content_body cs) ≡ cs
 contents-bodies [] = refl
 contents-bodies (c ∷ cs) = ap (λ (ds : List Content). c ∷ ds) (contents-bodies cs)
 
 -- items of one size, one after the other
-pub length-items : {X : Type 0} (octets : X → List ℕ) (size : ℕ) → ((x : X) → length (octets x) ≡ size) → (xs : List X) → length (flat_map octets xs) ≡ length xs * size
+pub length-items : {X : Type 0} (octets : X → List ℕ) (size : ℕ) → ((x : X) → length (octets x) ≡ size) → (xs : List X)
+    → length (flat_map octets xs) ≡ length xs * size
 length-items octets size h [] = omega arith
 length-items octets size h (x ∷ xs) =
     let cons : flat_map octets (x ∷ xs) ≡ octets x ++ flat_map octets xs = flat_map-cons octets x xs in
-    let len : length (octets x ++ flat_map octets xs) ≡ length (octets x) + length (flat_map octets xs) = length-append (octets x) (flat_map octets xs) in
+    let len : length (octets x ++ flat_map octets xs) ≡ length (octets x) + length (flat_map octets xs) =
+    length-append (octets x) (flat_map octets xs) in
     ap length cons ∙ len ∙ rw (h x, length-items octets size h xs) (omega arith)
 
+-- the sizes of items
 pub cell_len : (c : Cell) → length (cell_octets c) ≡ 4
 cell_len c = refl
 
 pub count_len : (c : Count) → length (count_octets c) ≡ 7
 count_len c = refl
 
-pub failure_len : (f : Failure) → length (failure_octets f) ≡ 5
+pub failure_len : (f : Failure) → length (failure_octets f) ≡ 6
 failure_len f = refl
 
 whole_items : (n size : ℕ) (items : List ℕ) → 0 < size → length items ≡ n * size → eqb (length items % size) 0 ≡ true
 whole_items n size items h e = eq-eqb _ _ (rw e (mul-mod_left n size))
 
-list_written : {X : Type 0} (layout : Layout) (octets : X → List ℕ) (x : X) (xs : List X) → ((y : X) → length (octets y) ≡ item_size layout) → 0 < item_size layout
-    → is_nothing (cells_by layout (flat_map octets (x ∷ xs))) ≡ false → is_list layout (list_body (flat_map octets (x ∷ xs))) ≡ true
-list_written layout octets x xs len pos some =
+items_of-body : (layout : Layout) (items : List ℕ) → items_of layout (list_body layout items) ≡ items
+items_of-body layouts.Cells items = refl
+items_of-body layouts.Counts items = refl
+items_of-body layouts.Failures items = refl
+
+list_written : {X : Type 0} (layout : Layout) (octets : X → List ℕ) (x : X) (xs : List X)
+    → ((y : X) → length (octets y) ≡ item_size layout) → 0 < item_size layout
+    → is_nothing (cells_by layout (flat_map octets (x ∷ xs))) ≡ false
+    → is_by_lac_and_ci layout (list_body layout (flat_map octets (x ∷ xs))) ≡ true
+    → is_list layout (list_body layout (flat_map octets (x ∷ xs))) ≡ true
+list_written layout octets x xs len pos some by_both =
     let items = flat_map octets (x ∷ xs) in
-    let even = whole_items (length (x ∷ xs)) (item_size layout) items pos (length-items octets (item_size layout) len (x ∷ xs)) in
-    and_both (eqb (length items % item_size layout) 0) (not (is_nothing (cells_by layout items))) even (rw some refl)
+    let even =
+    whole_items (length (x ∷ xs)) (item_size layout) items pos (length-items octets (item_size layout) len (x ∷ xs)) in
+    let are : are_items layout items ≡ true =
+    and_both (eqb (length items % item_size layout) 0) (not (is_nothing (cells_by layout items))) even (rw some refl) in
+    and_both (is_by_lac_and_ci layout (list_body layout items))
+    (are_items layout (items_of layout (list_body layout items))) by_both
+    (ap (λ (o : List ℕ). are_items layout o) (items_of-body layout items) ∙ are)
+
+-- each failure that is written has its discriminator
+failures_by_both : (fs : List Failure) → failures_are_by_lac_and_ci (flat_map failure_octets fs) ≡ true
+failures_by_both [] = refl
+failures_by_both (f ∷ fs) = ap failures_are_by_lac_and_ci (flat_map-cons failure_octets f fs) ∙ failures_by_both fs
 
 -- the lists that are written are right
-pub cells-right : (cs : List Cell) → first_passes (is_list layouts.Cells) (list_bodies cell_octets cs) ≡ true
+pub cells-right : (cs : List Cell)
+    → first_passes (is_list layouts.Cells) (list_bodies layouts.Cells cell_octets cs) ≡ true
 cells-right [] = refl
-cells-right (c ∷ cs) = list_written layouts.Cells cell_octets c cs cell_len (omega arith) (ap (λ (ds : List Cell). is_nothing ds) (cells_in-octets (c ∷ cs)))
+cells-right (c ∷ cs) =
+    list_written layouts.Cells cell_octets c cs cell_len (omega arith)
+    (ap (λ (ds : List Cell). is_nothing ds) (cells_in-octets (c ∷ cs))) refl
 
-pub counts-right : (cs : List Count) → first_passes (is_list layouts.Counts) (list_bodies count_octets cs) ≡ true
+pub counts-right : (cs : List Count)
+    → first_passes (is_list layouts.Counts) (list_bodies layouts.Counts count_octets cs) ≡ true
 counts-right [] = refl
-counts-right (c ∷ cs) = list_written layouts.Counts count_octets c cs count_len (omega arith) (ap (λ (ds : List Count). is_nothing (cells_of_counts ds)) (counts_in-octets (c ∷ cs)))
+counts-right (c ∷ cs) =
+    list_written layouts.Counts count_octets c cs count_len (omega arith)
+    (ap (λ (ds : List Count). is_nothing (cells_of_counts ds)) (counts_in-octets (c ∷ cs))) refl
 
-pub failures-right : (fs : List Failure) → first_passes (is_list layouts.Failures) (list_bodies failure_octets fs) ≡ true
+pub failures-right : (fs : List Failure)
+    → first_passes (is_list layouts.Failures) (list_bodies layouts.Failures failure_octets fs) ≡ true
 failures-right [] = refl
-failures-right (f ∷ fs) = list_written layouts.Failures failure_octets f fs failure_len (omega arith) (ap (λ (ds : List Failure). is_nothing (cells_of_failures ds)) (failures_in-octets (f ∷ fs)))
+failures-right (f ∷ fs) =
+    list_written layouts.Failures failure_octets f fs failure_len (omega arith)
+    (ap (λ (ds : List Failure). is_nothing (cells_of_failures ds)) (failures_in-octets (f ∷ fs)))
+    (failures_by_both (f ∷ fs))

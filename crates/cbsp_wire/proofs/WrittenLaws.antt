@@ -25,7 +25,8 @@ message_with-fields_of (messages.KillDone a b c d e) = refl
 message_with-fields_of (messages.KillFailed a b c d e f) = refl
 
 -- a message has fields of its type alone
-known_fields : (m : Message) → list_all (λ n. is_known_if (need_of (kind_of m) n) (bodies_in (fields_of m) n)) numbers ≡ true
+known_fields : (m : Message)
+    → list_all (λ n. is_known_if (need_of (kind_of m) n) (bodies_in (fields_of m) n)) numbers ≡ true
 unfolding need_of table bodies_in
 known_fields (messages.Write a b c d e f g h i j) = refl
 known_fields (messages.WriteDone a b c d e f) = refl
@@ -41,6 +42,7 @@ pub record IsWritten (m : Message) : Type 0 where
   pub failures : is_there_if (need_of (kind_of m) 0x09) (fields_of m).failures ≡ true
   pub full : list_all is_full (fields_of m).contents ≡ true
 
+-- a writable message passes each test
 pub IsWritten-from : (m : Message) → is_writable m ≡ true → IsWritten m
 IsWritten-from m h =
     let f = fields_of m in
@@ -51,18 +53,21 @@ IsWritten-from m h =
     let three = and_parts (are_values f) a two.0 in
     record { values = three.0; cells = three.1; failures = two.1; full = one.1 }
 
+-- a message that passes each test is writable
 pub is_writable-from : (m : Message) → IsWritten m → is_writable m ≡ true
 is_writable-from m h =
     let f = fields_of m in
     let a = is_there_if (need_of (kind_of m) 0x04) f.cells in
     let b = is_there_if (need_of (kind_of m) 0x09) f.failures in
-    and_both ((are_values f && a) && b) (list_all is_full f.contents) (and_both (are_values f && a) b (and_both (are_values f) a h.values h.cells) h.failures) h.full
+    and_both ((are_values f && a) && b) (list_all is_full f.contents)
+    (and_both (are_values f && a) b (and_both (are_values f) a h.values h.cells) h.failures) h.full
 
 -- its mandatory fields are there
 no_pages : (x y : Bool) → ((false && x) && y) ≡ true → ⊥
 no_pages x y h = cc
 
-mandatory_fields : (m : Message) → IsWritten m → list_all (λ n. is_there_if (need_of (kind_of m) n) (bodies_in (fields_of m) n)) numbers ≡ true
+mandatory_fields : (m : Message) → IsWritten m
+    → list_all (λ n. is_there_if (need_of (kind_of m) n) (bodies_in (fields_of m) n)) numbers ≡ true
 unfolding need_of table bodies_in
 mandatory_fields (messages.Write a b c [] e f g h i j) w = absurd (let no = w.cells in cc)
 mandatory_fields (messages.Write a b c (d ∷ ds) e f g h i []) w = absurd (let no = w.values in cc)
@@ -79,7 +84,14 @@ mandatory_fields (messages.KillFailed a b (c ∷ cs) d e f) w = refl
 are_lists-bodies : (f : Fields) (es : List Element) → HasBodies f es → are_lists es ≡ true
 unfolding bodies_in
 are_lists-bodies f es h =
-    rw (h.1.1.1.0, h.1.1.1.1.0, h.1.1.1.1.1.0, cells-right f.cells, counts-right f.completed, failures-right f.failures) refl
+    rw (
+      h.1.1.1.0,
+      h.1.1.1.1.0,
+      h.1.1.1.1.1.0,
+      cells-right f.cells,
+      counts-right f.completed,
+      failures-right f.failures,
+    ) refl
 
 -- the elements of a message that is written
 elements_right : (m : Message) → IsWritten m → AreElementsOf m (elements_of m)
@@ -94,7 +106,8 @@ elements_right m w =
       of_kind = are_of_kind (kind_of m) f numbers (known_fields m) (are_sized f w.full);
       mandatory = has_mandatory-bodies (kind_of m) f es bodies (mandatory_fields m w);
       in_range = and_both (has_none_twice es && are_lists es) (are_values (fields_in es))
-          (and_both (has_none_twice es) (are_lists es) (has_none_twice-bodies f es bodies) (are_lists-bodies f es bodies)) values;
+          (and_both (has_none_twice es) (are_lists es)
+          (has_none_twice-bodies f es bodies) (are_lists-bodies f es bodies)) values;
       value = sym (ap (message_with (kind_of m)) back ∙ message_with-fields_of m);
     }
 

@@ -1,5 +1,5 @@
--- What octets mean: a CBSP message as a list of elements, in any order. 3GPP TS 48.049, clauses 8.1 and 8.2, in this project's
--- own layouts.
+-- What octets mean: a CBSP message as a list of elements, in any order. 3GPP TS 48.049, clauses 8.1 and 8.2, in this
+-- project's own layouts.
 use Rattle.std.specs.Prelude.{◌≡◌, ℕ, List, ◌∷◌, length, true}
 use Rattle.std.specs.List.{AllByRecursion}
 use Rattle.cbsp_wire.specs.declared.kind.Kind.{Kind}
@@ -12,14 +12,15 @@ use Rattle.cbsp_wire.specs.Table.{octet_of_kind, need_of, size_of}
 use Rattle.cbsp_wire.specs.Value.{message_of, kind_of}
 use Rattle.cbsp_wire.specs.Range.{has_mandatory, are_in_range}
 use Rattle.cbsp_wire.specs.Refusals.{told}
+use Rattle.cbsp_wire.specs.declared.cause.TheConstants.{PARAMETER_VALUE_INVALID}
 
 -- an element of this type of message, whose body has its size
 pub record IsOf (kind : Kind) (e : Element) : Type 0 where
   pub known : need_of kind e.number ≡ needs.Foreign → ⊥
   pub sized : length e.body ≡ size_of e.number e.body
 
--- the elements of a message m of a type: in any order, each mandatory one once, each optional one at most once, all values in
--- their ranges, and the fields found by look-up
+-- the elements of a message m of a type: in any order, each mandatory one once, each optional one at most once, all
+-- values in their ranges, and the fields found by look-up
 pub record AreElementsOf (m : Message) (es : List Element) : Type 0 where
   pub of_kind : AllByRecursion (IsOf (kind_of m)) es
   pub mandatory : has_mandatory (kind_of m) es ≡ true
@@ -29,12 +30,13 @@ pub record AreElementsOf (m : Message) (es : List Element) : Type 0 where
 -- octets that mean m: its type, the length of the rest, and some elements one after the other
 unfoldable pub IsMessage : List ℕ → Message → Type 0
 IsMessage (octet ∷ a ∷ b ∷ c ∷ rest) m =
-    (octet ≡ octet_of_kind (kind_of m)) × (told a b c ≡ length rest) × ((es : List Element) × (rest ≡ octets_of_elements es) × AreElementsOf m es)
+    (octet ≡ octet_of_kind (kind_of m)) × (told a b c ≡ length rest) ×
+    ((es : List Element) × (rest ≡ octets_of_elements es) × AreElementsOf m es)
 IsMessage octets m = ⊥
 
 -- why a message isn't written: no octets mean it, or memory ran out and some octets mean it
 abbrev pub IsUnwritten : Message → WireFault → Type 0
-IsUnwritten m (Cause cause) = (cause ≡ 1) × ((octets : List ℕ) → IsMessage octets m → ⊥)
+IsUnwritten m (Cause cause) = (cause ≡ PARAMETER_VALUE_INVALID) × ((octets : List ℕ) → IsMessage octets m → ⊥)
 IsUnwritten m Refused = (octets : List ℕ) × IsMessage octets m
 IsUnwritten m Truncated = ⊥
 IsUnwritten m TrailingBytes = ⊥

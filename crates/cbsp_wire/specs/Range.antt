@@ -1,5 +1,5 @@
--- What the elements of a message have to be, once they are taken. 3GPP TS 48.049, clause 8.2; the limits of periods and of
--- lists are own.
+-- What the elements of a message have to be, once they are taken. 3GPP TS 48.049, clause 8.2; the limits of periods and
+-- of lists are own.
 use Rattle.std.specs.Prelude.{ℕ, ◌%◌, Bool, true, false, ◌==◌, ◌&&◌, ◌||◌, not, nat_le, List, [], ◌∷◌, length, map, Option, Some, None, is_some}
 use Rattle.std.specs.List.{list_all, list_any}
 use Rattle.cbs_page.specs.Coding.{alphabet_of}
@@ -15,11 +15,15 @@ use Rattle.cbsp_wire.specs.declared.message.Message.{Message}
 use Rattle.cbs_page.specs.declared.content.Content.{Content}
 use Rattle.cbsp_wire.specs.Element.{Element, bodies_of}
 use Rattle.cbsp_wire.specs.Table.{need_of}
-use Rattle.cbsp_wire.specs.Value.{cells_in, counts_in, failures_in, Fields, fields_in, fields_of, kind_of}
+use Rattle.cbsp_wire.specs.Value.{cells_in, counts_in, failures_in, items_of, Fields, fields_in, fields_of, kind_of}
+use Rattle.cbsp_wire.specs.declared.iei.TheConstants.{MESSAGE_CONTENT, OLD_SERIAL_NUMBER, NEW_SERIAL_NUMBER, CELL_LIST, CATEGORY, REPETITION_PERIOD, BROADCASTS_REQUESTED, BROADCASTS_COMPLETED, FAILURE_LIST, DATA_CODING, MESSAGE_IDENTIFIER, CHANNEL_INDICATOR, NUMBER_OF_PAGES}
 
 -- the elements of messages, in the table's order
 abbrev pub numbers : List ℕ
-numbers = 0x0E ∷ 0x03 ∷ 0x02 ∷ 0x09 ∷ 0x08 ∷ 0x04 ∷ 0x12 ∷ 0x05 ∷ 0x06 ∷ 0x07 ∷ 0x13 ∷ 0x0C ∷ 0x01 ∷ []
+numbers =
+    MESSAGE_IDENTIFIER ∷ NEW_SERIAL_NUMBER ∷ OLD_SERIAL_NUMBER ∷ FAILURE_LIST ∷ BROADCASTS_COMPLETED ∷ CELL_LIST
+    ∷ CHANNEL_INDICATOR ∷ CATEGORY ∷ REPETITION_PERIOD ∷ BROADCASTS_REQUESTED ∷ NUMBER_OF_PAGES ∷ DATA_CODING
+    ∷ MESSAGE_CONTENT ∷ []
 
 abbrev pub is_nothing : {X : Type 0} → List X → Bool
 is_nothing [] = true
@@ -37,7 +41,7 @@ has_mandatory kind es = list_all (λ n. is_there_if (need_of kind n) (bodies_of 
 
 -- no element but 01 comes twice
 abbrev pub comes_once : ℕ → List Element → Bool
-comes_once n es = (n == 1) || nat_le (length (bodies_of n es)) 1
+comes_once n es = (n == MESSAGE_CONTENT) || nat_le (length (bodies_of n es)) 1
 
 abbrev pub has_none_twice : List Element → Bool
 has_none_twice es = list_all (λ n. comes_once n es) numbers
@@ -75,7 +79,7 @@ cells_of_failures failures = map (λ f. f.cell) failures
 abbrev pub item_size : Layout → ℕ
 item_size layouts.Cells = 4
 item_size layouts.Counts = 7
-item_size layouts.Failures = 5
+item_size layouts.Failures = 6
 
 abbrev pub cells_by : Layout → List ℕ → List Cell
 cells_by layouts.Cells octets = cells_in octets
@@ -86,10 +90,22 @@ cells_by layouts.Failures octets = cells_of_failures (failures_in octets)
 abbrev pub are_items : Layout → List ℕ → Bool
 are_items layout items = (length items % item_size layout == 0) && not (is_nothing (cells_by layout items))
 
--- a list's body: two octets of length, the discriminator 1 (LAC and CI), and items
+-- the discriminators of a list say LAC and CI, 1: the first octet of each failure, or the one after the length of other
+-- lists
+abbrev pub failures_are_by_lac_and_ci : List ℕ → Bool
+failures_are_by_lac_and_ci (discriminator ∷ a ∷ b ∷ c ∷ d ∷ e ∷ octets) =
+    (discriminator == 1) && failures_are_by_lac_and_ci octets
+failures_are_by_lac_and_ci octets = true
+
+abbrev pub is_by_lac_and_ci : Layout → List ℕ → Bool
+is_by_lac_and_ci layouts.Cells (high ∷ low ∷ discriminator ∷ items) = discriminator == 1
+is_by_lac_and_ci layouts.Counts (high ∷ low ∷ discriminator ∷ items) = discriminator == 1
+is_by_lac_and_ci layouts.Failures (high ∷ low ∷ items) = failures_are_by_lac_and_ci items
+is_by_lac_and_ci layout body = false
+
+-- a list's body: two octets of length, and whole items whose discriminators are right
 abbrev pub is_list : Layout → List ℕ → Bool
-is_list layout (high ∷ low ∷ discriminator ∷ items) = (discriminator == 1) && are_items layout items
-is_list layout octets = false
+is_list layout body = is_by_lac_and_ci layout body && are_items layout (items_of layout body)
 
 -- a test of the first body, if there is one
 abbrev pub first_passes : (List ℕ → Bool) → List (List ℕ) → Bool
@@ -98,9 +114,9 @@ first_passes test (body ∷ bodies) = test body
 
 abbrev pub are_lists : List Element → Bool
 are_lists es =
-    first_passes (is_list layouts.Cells) (bodies_of 0x04 es)
-    && first_passes (is_list layouts.Counts) (bodies_of 0x08 es)
-    && first_passes (is_list layouts.Failures) (bodies_of 0x09 es)
+    first_passes (is_list layouts.Cells) (bodies_of CELL_LIST es)
+    && first_passes (is_list layouts.Counts) (bodies_of BROADCASTS_COMPLETED es)
+    && first_passes (is_list layouts.Failures) (bodies_of FAILURE_LIST es)
 
 -- a test of a number, if it is told
 abbrev pub passes : (ℕ → Bool) → Option ℕ → Bool
@@ -109,14 +125,17 @@ passes test (Some n) = test n
 
 -- as many contents as pages, from 1 to 15, and at most 82 octets used of each
 abbrev pub are_contents : Option ℕ → List Content → Bool
-are_contents pages contents = passes (λ n. is_page_count n && (n == length contents)) pages && list_all (λ c. nat_le c.used 82) contents
+are_contents pages contents =
+    passes (λ n. is_page_count n && (n == length contents)) pages && list_all (λ c. nat_le c.used 82) contents
 
 abbrev pub are_numbers : Fields → Bool
 are_numbers f =
-    passes is_period f.period && passes is_coding f.dcs && passes (λ n. nat_le n 2) f.category && passes (λ n. nat_le n 1) f.channel
+    passes is_period f.period && passes is_coding f.dcs && passes (λ n. nat_le n 2) f.category
+    && passes (λ n. nat_le n 1) f.channel
 
 abbrev pub are_all_cells : Fields → Bool
-are_all_cells f = are_cells f.cells && are_cells (cells_of_counts f.completed) && are_cells (cells_of_failures f.failures)
+are_all_cells f =
+    are_cells f.cells && are_cells (cells_of_counts f.completed) && are_cells (cells_of_failures f.failures)
 
 -- all values are in their ranges
 abbrev pub are_values : Fields → Bool
@@ -133,4 +152,5 @@ is_full c = length c.octets == 82
 abbrev pub is_writable : Message → Bool
 is_writable m =
     let f = fields_of m in
-    are_values f && is_there_if (need_of (kind_of m) 0x04) f.cells && is_there_if (need_of (kind_of m) 0x09) f.failures && list_all is_full f.contents
+    are_values f && is_there_if (need_of (kind_of m) CELL_LIST) f.cells
+    && is_there_if (need_of (kind_of m) FAILURE_LIST) f.failures && list_all is_full f.contents

@@ -20,17 +20,20 @@ use Rattle.cbsp_wire.specs.Element.{Element}
 use Rattle.cbsp_wire.specs.Table.{kind_of_octet}
 use Rattle.cbsp_wire.specs.Walk.{walk_of}
 use Rattle.cbsp_wire.specs.Range.{has_mandatory, are_in_range}
+use Rattle.cbsp_wire.specs.declared.cause.TheConstants.{PARAMETER_NOT_RECOGNISED, PARAMETER_VALUE_INVALID, UNRECOGNISED_MESSAGE, MISSING_MANDATORY_ELEMENT}
 
 -- 5 and 7, where the walk came to the end
 abbrev pub fault_of_whole : Kind → List Element → Option WireFault
 fault_of_whole kind es =
-    if not (has_mandatory kind es) then Some (Cause 0x05)
-    else if not (are_in_range es) then Some (Cause 0x01)
+    if not (has_mandatory kind es) then Some (Cause MISSING_MANDATORY_ELEMENT)
+    else if not (are_in_range es) then Some (Cause PARAMETER_VALUE_INVALID)
     else None
 
 -- 5 and 6, where the walk ended at an element that isn't of this message
 abbrev pub fault_of_strange : Kind → List Element → Option WireFault
-fault_of_strange kind es = if not (has_mandatory kind es) then Some (Cause 0x05) else Some (Cause 0x00)
+fault_of_strange kind es =
+    if not (has_mandatory kind es) then Some (Cause MISSING_MANDATORY_ELEMENT) else Some
+    (Cause PARAMETER_NOT_RECOGNISED)
 
 -- 4, and the others by where the walk ended
 abbrev pub fault_of_walk : Kind → List Element → Stop → Option WireFault
@@ -40,7 +43,7 @@ fault_of_walk kind es End = fault_of_whole kind es
 
 -- 3
 abbrev pub fault_of_kind : Option Kind → List ℕ → Option WireFault
-fault_of_kind None rest = Some (Cause 0x04)
+fault_of_kind None rest = Some (Cause UNRECOGNISED_MESSAGE)
 fault_of_kind (Some kind) rest = fault_of_walk kind (walk_of kind rest).elements (walk_of kind rest).stop
 
 -- the length that three octets tell

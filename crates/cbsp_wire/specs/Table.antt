@@ -5,6 +5,7 @@ use Rattle.cbsp_wire.specs.declared.kind.Kind.{Kind}
 use Rattle.cbsp_wire.specs.declared.kind.Kind.TheVariants as kinds
 use Rattle.cbsp_wire.specs.declared.kind.Need.{Need}
 use Rattle.cbsp_wire.specs.declared.kind.Need.TheVariants.{Mandatory, Optional, Foreign}
+use Rattle.cbsp_wire.specs.declared.iei.TheConstants.{MESSAGE_CONTENT, OLD_SERIAL_NUMBER, NEW_SERIAL_NUMBER, CELL_LIST, CATEGORY, REPETITION_PERIOD, BROADCASTS_REQUESTED, BROADCASTS_COMPLETED, FAILURE_LIST, DATA_CODING, MESSAGE_IDENTIFIER, CHANNEL_INDICATOR, NUMBER_OF_PAGES}
 
 -- the octet that tells the type
 abbrev pub octet_of_kind : Kind → ℕ
@@ -42,25 +43,35 @@ pub record Row : Type 0 where
   pub kill_failed : Need
 
 abbrev pub row : ℕ → Size → Need → Need → Need → Need → Need → Need → Row
-row n s a b c d e f = record { number = n; size = s; write = a; write_done = b; write_failed = c; kill = d; kill_done = e; kill_failed = f }
+row n s a b c d e f =
+    record {
+      number = n;
+      size = s;
+      write = a;
+      write_done = b;
+      write_failed = c;
+      kill = d;
+      kill_done = e;
+      kill_failed = f;
+    }
 
--- identifier, new serial number, old serial number, failures, completed, cells, channel, category, period, broadcasts, pages,
--- data coding, content: the order in which they are written
+-- identifier, new serial number, old serial number, failures, completed, cells, channel, category, period, broadcasts,
+-- pages, data coding, content: the order in which they are written
 unfoldable pub table : List Row
 table =
-    row 0x0E (Fixed 2) Mandatory Mandatory Mandatory Mandatory Mandatory Mandatory
-    ∷ row 0x03 (Fixed 2) Mandatory Mandatory Mandatory Foreign Foreign Foreign
-    ∷ row 0x02 (Fixed 2) Optional Optional Optional Mandatory Mandatory Mandatory
-    ∷ row 0x09 Listed Foreign Foreign Mandatory Foreign Foreign Mandatory
-    ∷ row 0x08 Listed Foreign Optional Optional Foreign Optional Optional
-    ∷ row 0x04 Listed Mandatory Optional Optional Mandatory Optional Optional
-    ∷ row 0x12 (Fixed 1) Optional Optional Optional Optional Optional Optional
-    ∷ row 0x05 (Fixed 1) Optional Foreign Foreign Foreign Foreign Foreign
-    ∷ row 0x06 (Fixed 2) Mandatory Foreign Foreign Foreign Foreign Foreign
-    ∷ row 0x07 (Fixed 2) Mandatory Foreign Foreign Foreign Foreign Foreign
-    ∷ row 0x13 (Fixed 1) Mandatory Foreign Foreign Foreign Foreign Foreign
-    ∷ row 0x0C (Fixed 1) Mandatory Foreign Foreign Foreign Foreign Foreign
-    ∷ row 0x01 (Fixed 83) Mandatory Foreign Foreign Foreign Foreign Foreign
+    row MESSAGE_IDENTIFIER (Fixed 2) Mandatory Mandatory Mandatory Mandatory Mandatory Mandatory
+    ∷ row NEW_SERIAL_NUMBER (Fixed 2) Mandatory Mandatory Mandatory Foreign Foreign Foreign
+    ∷ row OLD_SERIAL_NUMBER (Fixed 2) Optional Optional Optional Mandatory Mandatory Mandatory
+    ∷ row FAILURE_LIST Listed Foreign Foreign Mandatory Foreign Foreign Mandatory
+    ∷ row BROADCASTS_COMPLETED Listed Foreign Optional Optional Foreign Optional Optional
+    ∷ row CELL_LIST Listed Mandatory Optional Optional Mandatory Optional Optional
+    ∷ row CHANNEL_INDICATOR (Fixed 1) Optional Optional Optional Optional Optional Optional
+    ∷ row CATEGORY (Fixed 1) Optional Foreign Foreign Foreign Foreign Foreign
+    ∷ row REPETITION_PERIOD (Fixed 2) Mandatory Foreign Foreign Foreign Foreign Foreign
+    ∷ row BROADCASTS_REQUESTED (Fixed 2) Mandatory Foreign Foreign Foreign Foreign Foreign
+    ∷ row NUMBER_OF_PAGES (Fixed 1) Mandatory Foreign Foreign Foreign Foreign Foreign
+    ∷ row DATA_CODING (Fixed 1) Mandatory Foreign Foreign Foreign Foreign Foreign
+    ∷ row MESSAGE_CONTENT (Fixed 83) Mandatory Foreign Foreign Foreign Foreign Foreign
     ∷ []
 
 -- the row of a number

@@ -1,14 +1,17 @@
 -- The value of a message, found by looking elements up. 3GPP TS 48.049, clause 8.2, in this project's own layouts.
-use Rattle.std.specs.Prelude.{ℕ, ◌+◌, ◌*◌, List, [], ◌∷◌, length, map, drop, Option, Some, None, unwrap_or}
+use Rattle.std.specs.Prelude.{ℕ, ◌+◌, ◌*◌, List, [], ◌∷◌, length, map, Option, Some, None, unwrap_or}
 use Rattle.cbs_page.specs.declared.content.Content.{Content}
 use Rattle.cbsp_wire.specs.declared.kind.Kind.{Kind}
 use Rattle.cbsp_wire.specs.declared.kind.Kind.TheVariants as kinds
+use Rattle.cbsp_wire.specs.declared.items.Layout.{Layout}
+use Rattle.cbsp_wire.specs.declared.items.Layout.TheVariants as layouts
 use Rattle.cbsp_wire.specs.declared.message.Cell.{Cell}
 use Rattle.cbsp_wire.specs.declared.message.Count.{Count}
 use Rattle.cbsp_wire.specs.declared.message.Failure.{Failure}
 use Rattle.cbsp_wire.specs.declared.message.Message.{Message}
 use Rattle.cbsp_wire.specs.declared.message.Message.TheVariants as messages
 use Rattle.cbsp_wire.specs.Element.{Element, bodies_of, number_of, octet_of}
+use Rattle.cbsp_wire.specs.declared.iei.TheConstants.{MESSAGE_CONTENT, OLD_SERIAL_NUMBER, NEW_SERIAL_NUMBER, CELL_LIST, CATEGORY, REPETITION_PERIOD, BROADCASTS_REQUESTED, BROADCASTS_COMPLETED, FAILURE_LIST, DATA_CODING, MESSAGE_IDENTIFIER, CHANNEL_INDICATOR, NUMBER_OF_PAGES}
 
 -- the number, or the octet, of the first body
 abbrev pub first_number : List (List ℕ) → Option ℕ
@@ -28,7 +31,8 @@ count_at a b c d e f g = record { cell = cell_at a b c d; number = e * 256 + f; 
 abbrev pub failure_at : ℕ → ℕ → ℕ → ℕ → ℕ → Failure
 failure_at a b c d e = record { cell = cell_at a b c d; cause = e }
 
--- the items that octets are: a cell is four of them, a count seven, a failure five
+-- the items that octets are: a cell is four of them, a count seven, a failure six, the first of which is its
+-- discriminator
 abbrev pub cells_in : List ℕ → List Cell
 cells_in (a ∷ b ∷ c ∷ d ∷ octets) = cell_at a b c d ∷ cells_in octets
 cells_in octets = []
@@ -38,13 +42,20 @@ counts_in (a ∷ b ∷ c ∷ d ∷ e ∷ f ∷ g ∷ octets) = count_at a b c d 
 counts_in octets = []
 
 abbrev pub failures_in : List ℕ → List Failure
-failures_in (a ∷ b ∷ c ∷ d ∷ e ∷ octets) = failure_at a b c d e ∷ failures_in octets
+failures_in (discriminator ∷ a ∷ b ∷ c ∷ d ∷ e ∷ octets) = failure_at a b c d e ∷ failures_in octets
 failures_in octets = []
 
--- the items of the first body, after its length and its discriminator
-abbrev pub first_items : {X : Type 0} → (List ℕ → List X) → List (List ℕ) → List X
-first_items items_in [] = []
-first_items items_in (body ∷ bodies) = items_in (drop 3 body)
+-- the octets of a list's items: what follows the two octets of its length, and the one discriminator of cells or counts
+abbrev pub items_of : Layout → List ℕ → List ℕ
+items_of layouts.Cells (high ∷ low ∷ discriminator ∷ items) = items
+items_of layouts.Counts (high ∷ low ∷ discriminator ∷ items) = items
+items_of layouts.Failures (high ∷ low ∷ items) = items
+items_of layout body = []
+
+-- the items of the first body
+abbrev pub first_items : {X : Type 0} → Layout → (List ℕ → List X) → List (List ℕ) → List X
+first_items layout items_in [] = []
+first_items layout items_in (body ∷ bodies) = items_in (items_of layout body)
 
 abbrev pub content_of : List ℕ → Content
 content_of [] = record { used = 0; octets = [] }
@@ -57,16 +68,16 @@ abbrev pub octet_in : ℕ → List Element → Option ℕ
 octet_in n es = first_octet (bodies_of n es)
 
 abbrev pub cells_of : List Element → List Cell
-cells_of es = first_items cells_in (bodies_of 0x04 es)
+cells_of es = first_items layouts.Cells cells_in (bodies_of CELL_LIST es)
 
 abbrev pub counts_of : List Element → List Count
-counts_of es = first_items counts_in (bodies_of 0x08 es)
+counts_of es = first_items layouts.Counts counts_in (bodies_of BROADCASTS_COMPLETED es)
 
 abbrev pub failures_of : List Element → List Failure
-failures_of es = first_items failures_in (bodies_of 0x09 es)
+failures_of es = first_items layouts.Failures failures_in (bodies_of FAILURE_LIST es)
 
 abbrev pub contents_of : List Element → List Content
-contents_of es = map content_of (bodies_of 0x01 es)
+contents_of es = map content_of (bodies_of MESSAGE_CONTENT es)
 
 -- the fields of messages: None, or no items, where the element isn't there
 pub record Fields : Type 0 where
@@ -87,18 +98,18 @@ pub record Fields : Type 0 where
 -- the fields that elements say
 abbrev pub fields_in : List Element → Fields
 fields_in es = record {
-  id = number_in 0x0E es;
-  new_serial = number_in 0x03 es;
-  old_serial = number_in 0x02 es;
+  id = number_in MESSAGE_IDENTIFIER es;
+  new_serial = number_in NEW_SERIAL_NUMBER es;
+  old_serial = number_in OLD_SERIAL_NUMBER es;
   failures = failures_of es;
   completed = counts_of es;
   cells = cells_of es;
-  channel = octet_in 0x12 es;
-  category = octet_in 0x05 es;
-  period = number_in 0x06 es;
-  broadcasts = number_in 0x07 es;
-  pages = octet_in 0x13 es;
-  dcs = octet_in 0x0C es;
+  channel = octet_in CHANNEL_INDICATOR es;
+  category = octet_in CATEGORY es;
+  period = number_in REPETITION_PERIOD es;
+  broadcasts = number_in BROADCASTS_REQUESTED es;
+  pages = octet_in NUMBER_OF_PAGES es;
+  dcs = octet_in DATA_CODING es;
   contents = contents_of es;
 }
 
@@ -108,12 +119,16 @@ or_0 o = unwrap_or o 0
 -- the message of a type with these fields
 abbrev pub message_with : Kind → Fields → Message
 message_with kinds.Write f =
-    messages.Write (or_0 f.id) (or_0 f.new_serial) f.old_serial f.cells f.channel f.category (or_0 f.period) (or_0 f.broadcasts) (record { 0 = or_0 f.dcs }) f.contents
-message_with kinds.WriteDone f = messages.WriteDone (or_0 f.id) (or_0 f.new_serial) f.old_serial f.completed f.cells f.channel
-message_with kinds.WriteFailed f = messages.WriteFailed (or_0 f.id) (or_0 f.new_serial) f.old_serial f.failures f.completed f.cells f.channel
+    messages.Write (or_0 f.id) (or_0 f.new_serial) f.old_serial f.cells f.channel f.category (or_0 f.period)
+    (or_0 f.broadcasts) (record { 0 = or_0 f.dcs }) f.contents
+message_with kinds.WriteDone f =
+    messages.WriteDone (or_0 f.id) (or_0 f.new_serial) f.old_serial f.completed f.cells f.channel
+message_with kinds.WriteFailed f =
+    messages.WriteFailed (or_0 f.id) (or_0 f.new_serial) f.old_serial f.failures f.completed f.cells f.channel
 message_with kinds.Kill f = messages.Kill (or_0 f.id) (or_0 f.old_serial) f.cells f.channel
 message_with kinds.KillDone f = messages.KillDone (or_0 f.id) (or_0 f.old_serial) f.completed f.cells f.channel
-message_with kinds.KillFailed f = messages.KillFailed (or_0 f.id) (or_0 f.old_serial) f.failures f.completed f.cells f.channel
+message_with kinds.KillFailed f =
+    messages.KillFailed (or_0 f.id) (or_0 f.old_serial) f.failures f.completed f.cells f.channel
 
 -- the message that elements say
 unfoldable pub message_of : Kind → List Element → Message

@@ -12,7 +12,8 @@ use Rattle.cbsp_wire.specs.Table.{need_of, size_of}
 abbrev pub body_at : ℕ → List ℕ → Result (Element × List ℕ) Stop
 body_at n octets =
     let size = size_of n octets in
-    if nat_lt (length octets) size then Err Cut else Ok (record { number = n; body = take size octets }, drop size octets)
+    if nat_lt (length octets) size then Err Cut else Ok
+    (record { number = n; body = take size octets }, drop size octets)
 
 abbrev pub element_at : Need → ℕ → List ℕ → Result (Element × List ℕ) Stop
 element_at needs.Foreign n octets = Err Strange

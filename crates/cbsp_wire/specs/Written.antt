@@ -1,8 +1,10 @@
--- The octets of a message, with its elements in the table's order. 3GPP TS 48.049, clauses 8.1 and 8.2, in this project's own
--- layouts.
+-- The octets of a message, with its elements in the table's order. 3GPP TS 48.049, clauses 8.1 and 8.2, in this
+-- project's own layouts.
 use Rattle.std.specs.Prelude.{ℕ, ◌+◌, ◌/◌, ◌%◌, ◌≤◌, IfSome, ◌==◌, if◌then◌else◌, List, [], ◌∷◌, ◌++◌, length, map, Option, Some, None}
 use Rattle.std.specs.List.{flat_map}
 use Rattle.cbs_page.specs.declared.content.Content.{Content}
+use Rattle.cbsp_wire.specs.declared.items.Layout.{Layout}
+use Rattle.cbsp_wire.specs.declared.items.Layout.TheVariants as layouts
 use Rattle.cbsp_wire.specs.declared.message.Cell.{Cell}
 use Rattle.cbsp_wire.specs.declared.message.Count.{Count}
 use Rattle.cbsp_wire.specs.declared.message.Failure.{Failure}
@@ -11,6 +13,7 @@ use Rattle.cbsp_wire.specs.Element.{Element, octets_of_elements}
 use Rattle.cbsp_wire.specs.Table.{octet_of_kind}
 use Rattle.cbsp_wire.specs.Value.{Fields, fields_of, kind_of}
 use Rattle.cbsp_wire.specs.Range.{numbers}
+use Rattle.cbsp_wire.specs.declared.iei.TheConstants.{MESSAGE_CONTENT, OLD_SERIAL_NUMBER, NEW_SERIAL_NUMBER, CELL_LIST, CATEGORY, REPETITION_PERIOD, BROADCASTS_REQUESTED, BROADCASTS_COMPLETED, FAILURE_LIST, DATA_CODING, MESSAGE_IDENTIFIER, CHANNEL_INDICATOR, NUMBER_OF_PAGES}
 
 -- a number of two octets, the high one first
 abbrev pub number_octets : ℕ → List ℕ
@@ -22,8 +25,9 @@ cell_octets c = c.lac / 256 ∷ c.lac % 256 ∷ c.ci / 256 ∷ c.ci % 256 ∷ []
 abbrev pub count_octets : Count → List ℕ
 count_octets c = cell_octets c.cell ++ number_octets c.number ++ c.info ∷ []
 
+-- a failure has a discriminator of its own, 1 (LAC and CI)
 abbrev pub failure_octets : Failure → List ℕ
-failure_octets f = cell_octets f.cell ++ f.cause ∷ []
+failure_octets f = 1 ∷ (cell_octets f.cell ++ f.cause ∷ [])
 
 -- the bodies of an element: none where it is left out
 abbrev pub number_bodies : Option ℕ → List (List ℕ)
@@ -34,13 +38,19 @@ abbrev pub octet_bodies : Option ℕ → List (List ℕ)
 octet_bodies None = []
 octet_bodies (Some n) = (n ∷ []) ∷ []
 
--- a list's body: the length of what follows it, the discriminator, the items
-abbrev pub list_body : List ℕ → List ℕ
-list_body items = number_octets (1 + length items) ++ 1 ∷ items
+-- the length of a list that has so many octets of items, and what follows it: the one discriminator of cells or counts
+abbrev pub list_head : Layout → ℕ → List ℕ
+list_head layouts.Cells items = number_octets (1 + items) ++ 1 ∷ []
+list_head layouts.Counts items = number_octets (1 + items) ++ 1 ∷ []
+list_head layouts.Failures items = number_octets items
 
-abbrev pub list_bodies : {X : Type 0} → (X → List ℕ) → List X → List (List ℕ)
-list_bodies octets [] = []
-list_bodies octets (x ∷ xs) = list_body (flat_map octets (x ∷ xs)) ∷ []
+-- a list's body: its head and its items
+abbrev pub list_body : Layout → List ℕ → List ℕ
+list_body layout items = list_head layout (length items) ++ items
+
+abbrev pub list_bodies : {X : Type 0} → Layout → (X → List ℕ) → List X → List (List ℕ)
+list_bodies layout octets [] = []
+list_bodies layout octets (x ∷ xs) = list_body layout (flat_map octets (x ∷ xs)) ∷ []
 
 abbrev pub content_body : Content → List ℕ
 content_body c = c.used ∷ c.octets
@@ -48,19 +58,19 @@ content_body c = c.used ∷ c.octets
 -- the bodies of the elements with a number
 unfoldable pub bodies_in : Fields → ℕ → List (List ℕ)
 bodies_in f n =
-    if n == 0x0E then number_bodies f.id
-    else if n == 0x03 then number_bodies f.new_serial
-    else if n == 0x02 then number_bodies f.old_serial
-    else if n == 0x09 then list_bodies failure_octets f.failures
-    else if n == 0x08 then list_bodies count_octets f.completed
-    else if n == 0x04 then list_bodies cell_octets f.cells
-    else if n == 0x12 then octet_bodies f.channel
-    else if n == 0x05 then octet_bodies f.category
-    else if n == 0x06 then number_bodies f.period
-    else if n == 0x07 then number_bodies f.broadcasts
-    else if n == 0x13 then octet_bodies f.pages
-    else if n == 0x0C then octet_bodies f.dcs
-    else if n == 0x01 then map content_body f.contents
+    if n == MESSAGE_IDENTIFIER then number_bodies f.id
+    else if n == NEW_SERIAL_NUMBER then number_bodies f.new_serial
+    else if n == OLD_SERIAL_NUMBER then number_bodies f.old_serial
+    else if n == FAILURE_LIST then list_bodies layouts.Failures failure_octets f.failures
+    else if n == BROADCASTS_COMPLETED then list_bodies layouts.Counts count_octets f.completed
+    else if n == CELL_LIST then list_bodies layouts.Cells cell_octets f.cells
+    else if n == CHANNEL_INDICATOR then octet_bodies f.channel
+    else if n == CATEGORY then octet_bodies f.category
+    else if n == REPETITION_PERIOD then number_bodies f.period
+    else if n == BROADCASTS_REQUESTED then number_bodies f.broadcasts
+    else if n == NUMBER_OF_PAGES then octet_bodies f.pages
+    else if n == DATA_CODING then octet_bodies f.dcs
+    else if n == MESSAGE_CONTENT then map content_body f.contents
     else []
 
 abbrev pub element : ℕ → List ℕ → Element

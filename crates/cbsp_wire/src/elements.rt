@@ -6,6 +6,7 @@ ghost use Rattle.cbsp_wire.specs.Element.{bodies_of};
 ghost use Rattle.cbsp_wire.specs.Table.{need_of, size_of};
 ghost use Rattle.cbsp_wire.specs.Walk.{front_of, walk_of};
 
+use crate::iei;
 use crate::kind::{Kind, Need};
 
 /// Why no more elements are taken.
@@ -19,24 +20,25 @@ pub enum Stop {
     Cut,
 }
 
-/// Hands the table of elements to another macro, in the order in which they are written: number, size of the body, what each
-/// type of message needs in the order of `Kind` (M mandatory, O optional, F not of this message), and the field's form and name.
+/// Hands the table of elements to another macro, in the order in which they are written: number, size of the body, what
+/// each type of message needs in the order of `Kind` (M mandatory, O optional, F not of this message), and the field's
+/// form and name.
 macro_rules! elements {
     ($reader:ident, $($argument:expr),*) => {
         $reader!($($argument),*;
-            0x0E, fixed 2, M M M M M M, number id;
-            0x03, fixed 2, M M M F F F, number new_serial;
-            0x02, fixed 2, O O O M M M, number old_serial;
-            0x09, listed 2, F F M F F M, list failures;
-            0x08, listed 2, F O O F O O, list completed;
-            0x04, listed 2, M O O M O O, list cells;
-            0x12, fixed 1, O O O O O O, octet channel;
-            0x05, fixed 1, O F F F F F, octet category;
-            0x06, fixed 2, M F F F F F, number period;
-            0x07, fixed 2, M F F F F F, number broadcasts;
-            0x13, fixed 1, M F F F F F, pages pages;
-            0x0C, fixed 1, M F F F F F, octet dcs;
-            0x01, fixed 83, M F F F F F, contents contents;
+            iei::MESSAGE_IDENTIFIER, fixed 2, M M M M M M, number id;
+            iei::NEW_SERIAL_NUMBER, fixed 2, M M M F F F, number new_serial;
+            iei::OLD_SERIAL_NUMBER, fixed 2, O O O M M M, number old_serial;
+            iei::FAILURE_LIST, listed 2, F F M F F M, list failures;
+            iei::BROADCASTS_COMPLETED, listed 2, F O O F O O, list completed;
+            iei::CELL_LIST, listed 2, M O O M O O, list cells;
+            iei::CHANNEL_INDICATOR, fixed 1, O O O O O O, octet channel;
+            iei::CATEGORY, fixed 1, O F F F F F, octet category;
+            iei::REPETITION_PERIOD, fixed 2, M F F F F F, number period;
+            iei::BROADCASTS_REQUESTED, fixed 2, M F F F F F, number broadcasts;
+            iei::NUMBER_OF_PAGES, fixed 1, M F F F F F, pages pages;
+            iei::DATA_CODING, fixed 1, M F F F F F, octet dcs;
+            iei::MESSAGE_CONTENT, fixed 83, M F F F F F, contents contents;
         )
     };
 }
@@ -50,7 +52,9 @@ macro_rules! need {
 }
 
 macro_rules! need_for {
-    ($kind:expr, $number:expr; $($row:literal, $form:ident $size:literal, $write:ident $write_done:ident $write_failed:ident $kill:ident $kill_done:ident $kill_failed:ident, $writer:ident $field:ident;)*) => {
+    ($kind:expr, $number:expr; $($row:path, $form:ident $size:literal,
+        $write:ident $write_done:ident $write_failed:ident $kill:ident $kill_done:ident $kill_failed:ident,
+        $writer:ident $field:ident;)*) => {
         match $number {
             $($row => match $kind {
                 Kind::Write => need!($write),
@@ -71,7 +75,9 @@ macro_rules! size_by {
 }
 
 macro_rules! size_for {
-    ($octets:expr, $number:expr; $($row:literal, $form:ident $size:literal, $write:ident $write_done:ident $write_failed:ident $kill:ident $kill_done:ident $kill_failed:ident, $writer:ident $field:ident;)*) => {
+    ($octets:expr, $number:expr; $($row:path, $form:ident $size:literal,
+        $write:ident $write_done:ident $write_failed:ident $kill:ident $kill_done:ident $kill_failed:ident,
+        $writer:ident $field:ident;)*) => {
         match $number {
             $($row => size_by!($octets, $form $size),)*
             _ => 0,
@@ -80,7 +86,9 @@ macro_rules! size_for {
 }
 
 macro_rules! numbers_of {
-    (; $($row:literal, $form:ident $size:literal, $write:ident $write_done:ident $write_failed:ident $kill:ident $kill_done:ident $kill_failed:ident, $writer:ident $field:ident;)*) => {
+    (; $($row:path, $form:ident $size:literal,
+        $write:ident $write_done:ident $write_failed:ident $kill:ident $kill_done:ident $kill_failed:ident,
+        $writer:ident $field:ident;)*) => {
         [$($row),*]
     };
 }
@@ -126,7 +134,8 @@ fn size(number: u8, octets: &[u8]) -> usize
 
 /// The element at the front: its number, its body, and the octets after it.
 fn front(kind: Kind, octets: &[u8]) -> Result<(u8, &[u8], &[u8]), Stop>
-    ensures taken { IfOk result (λ x. front_of kind octets.now ≡ Ok (record { number = x.0; body = x.1.now }, x.2.now)) }
+    ensures taken { IfOk result
+        (λ x. front_of kind octets.now ≡ Ok (record { number = x.0; body = x.1.now }, x.2.now)) }
     ensures ended { IfErr result (λ s. front_of kind octets.now ≡ Err s) }
     ensures shorter { IfOk result (λ x. length x.2.now < length octets.now) }
     ensures sized { IfOk result (λ x. length x.1.now ≡ size_of x.0 x.1.now) }
@@ -161,7 +170,8 @@ pub(crate) fn walk_end(kind: Kind, octets: &[u8]) -> Stop
 /// The first element taken with this number: its body, and the octets after it.
 pub(crate) fn find(kind: Kind, number: u8, octets: &[u8]) -> Option<(&[u8], &[u8])>
     ensures bodies { MatchOption result (bodies_of number (walk_of kind octets.now).elements ≡ [])
-        (λ x. bodies_of number (walk_of kind octets.now).elements ≡ x.0.now ∷ bodies_of number (walk_of kind x.1.now).elements) }
+        (λ x. bodies_of number (walk_of kind octets.now).elements
+        ≡ x.0.now ∷ bodies_of number (walk_of kind x.1.now).elements) }
     ensures shorter { IfSome result (λ x. length x.1.now < length octets.now) }
     ensures sized { IfSome result (λ x. length x.0.now ≡ size_of number x.0.now) }
 {

@@ -11,8 +11,8 @@ pub enum WireFault {
     /// Octets stand after the message.
     #[error("octets stand after the message")]
     TrailingBytes,
-    /// A cause of 3GPP TS 48.049, 8.2: 00 parameter not recognised, 01 parameter value invalid, 04 unrecognised message,
-    /// 05 missing mandatory element.
+    /// A cause of 3GPP TS 48.049, 8.2: 00 parameter not recognised, 01 parameter value invalid, 04 unrecognised
+    /// message, 05 missing mandatory element.
     #[error("refused with cause {0}")]
     Cause(u8),
     /// Memory ran out.

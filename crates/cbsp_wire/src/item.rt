@@ -1,25 +1,33 @@
-//! The items of lists (3GPP TS 48.049, 8.2, in this project's own layouts): each stands for a cell, with what the list tells of it.
+//! The items of lists (3GPP TS 48.049, 8.2, in this project's own layouts): each stands for a cell, with what the list
+//! tells of it.
 
 ghost use Rattle.std.specs.Prelude.{◌≡◌, ◌+◌, ◌≤◌, ◌<◌, ◌++◌, ◌∷◌, [], ℕ, List, length, refl, IfOk, IfSome, MatchOption, vec_capacity};
 ghost use Rattle.std.specs.List.{flat_map};
 ghost use Rattle.std.proofs.Common.{rules};
+ghost use Rattle.cbsp_wire.specs.declared.items.Layout.{Layout};
+ghost use Rattle.cbsp_wire.specs.declared.items.Layout.TheVariants as layouts;
 ghost use Rattle.cbsp_wire.specs.Parts.{HasRoom};
 ghost use Rattle.cbsp_wire.specs.Value.{cells_in, counts_in, failures_in};
 ghost use Rattle.cbsp_wire.specs.Written.{cell_octets, count_octets, failure_octets};
 
-use crate::items::cell_of;
+use crate::items::{Layout, cell_of};
 use crate::message::{Cell, Count, Failure};
 use crate::writing::{octets_of_number, put};
 use std::alloc::{AllocError, Global};
 
-/// An item of a list: a cell of 4 octets (LAC and CI, two each), a completed broadcast of 7 (the cell, the number in two, the
-/// information), a failure of 5 (the cell, the cause); the high octets come first.
+/// An item of a list: a cell of 4 octets (LAC and CI, two each), a completed broadcast of 7 (the cell, the number in
+/// two, the information), a failure of 6 (its discriminator, the cell, the cause); the high octets come first.
 pub trait Item: Copy {
     /// The octets of an item.
     ghost octets_of: { Self → List ℕ };
 
     /// The items that octets are.
     ghost items_in: { List ℕ → List Self };
+
+    ghost LAYOUT: { Layout };
+
+    /// Which list has such items.
+    const LAYOUT: Layout;
 
     ghost SIZE: { ℕ };
 
@@ -34,7 +42,8 @@ pub trait Item: Copy {
 
     /// The first item that octets are, and the octets after it.
     fn first_of(octets: &[u8]) -> Option<(Self, &[u8])>
-        ensures first { MatchOption result (items_in octets.now ≡ []) (λ x. items_in octets.now ≡ x.0 ∷ items_in x.1.now) }
+        ensures first { MatchOption result (items_in octets.now ≡ [])
+            (λ x. items_in octets.now ≡ x.0 ∷ items_in x.1.now) }
         ensures shorter { IfSome result (λ x. length x.1.now < length octets.now) };
 
     // Each item has as many octets, and few enough for the length of 64 of them to fit two octets.
@@ -47,6 +56,10 @@ impl Item for Cell {
     ghost octets_of = { cell_octets };
 
     ghost items_in = { cells_in };
+
+    ghost LAYOUT = { layouts.Cells };
+
+    const LAYOUT: Layout = Layout::Cells;
 
     ghost SIZE = { 4 };
 
@@ -74,6 +87,10 @@ impl Item for Count {
     ghost octets_of = { count_octets };
 
     ghost items_in = { counts_in };
+
+    ghost LAYOUT = { layouts.Counts };
+
+    const LAYOUT: Layout = Layout::Counts;
 
     ghost SIZE = { 7 };
 
@@ -109,18 +126,23 @@ impl Item for Failure {
 
     ghost items_in = { failures_in };
 
-    ghost SIZE = { 5 };
+    ghost LAYOUT = { layouts.Failures };
 
-    const SIZE: u16 = 5;
+    const LAYOUT: Layout = Layout::Failures;
+
+    ghost SIZE = { 6 };
+
+    const SIZE: u16 = 6;
 
     fn put_in(&self, out: &mut Vec<u8>) {
+        put(out, &[1]);
         self.cell.put_in(out);
         put(out, &[self.cause]);
     }
 
     fn first_of(octets: &[u8]) -> Option<(Failure, &[u8])> {
         match octets {
-            [a, b, c, d, cause, rest @ ..] => {
+            [_, a, b, c, d, cause, rest @ ..] => {
                 let failure = Failure {
                     cell: cell_of(*a, *b, *c, *d),
                     cause: *cause,

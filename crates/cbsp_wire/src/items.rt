@@ -2,21 +2,21 @@
 
 ghost use Rattle.std.specs.Prelude.{◌≡◌, ◌∷◌, [], length, MatchOption, nat_le};
 ghost use Rattle.std.specs.List.{list_any};
-ghost use Rattle.cbsp_wire.specs.Value.{cell_at};
-ghost use Rattle.cbsp_wire.specs.Range.{is_cell, are_distinct, are_cells, cells_by, are_items, item_size, is_list};
+ghost use Rattle.cbsp_wire.specs.Value.{cell_at, items_of};
+ghost use Rattle.cbsp_wire.specs.Range.{is_cell, are_distinct, are_cells, cells_by, are_items, item_size, failures_are_by_lac_and_ci, is_by_lac_and_ci, is_list};
 ghost use Rattle.cbsp_wire.specs.Named.{cells_named};
 
 use crate::item::Item;
 use crate::message::{Cell, Count, Failure};
 
-/// What the items of a list's octets are.
+/// What the octets of a list are, after its length of two octets.
 #[derive(Clone, Copy, Debug, PartialEq, Eq)]
 pub enum Layout {
-    /// Four octets each: the cell.
+    /// The discriminator, then four octets each: the cell.
     Cells,
-    /// Seven octets each: the cell, a number and an information.
+    /// The discriminator, then seven octets each: the cell, a number and an information.
     Counts,
-    /// Five octets each: the cell and a cause.
+    /// Six octets each: a discriminator, the cell and a cause.
     Failures,
 }
 
@@ -29,7 +29,7 @@ pub enum Items<'a> {
     Counts(&'a [Count]),
     /// Failures.
     Failures(&'a [Failure]),
-    /// The items of a list's body.
+    /// The octets of a list's items.
     Octets(Layout, &'a [u8]),
 }
 
@@ -45,7 +45,8 @@ pub(crate) fn cell_of(a: u8, b: u8, c: u8, d: u8) -> Cell
 
 /// The cell of the first item, and the octets after it.
 fn first_in(layout: Layout, octets: &[u8]) -> Option<(Cell, &[u8])>
-    ensures { MatchOption result (cells_by layout octets.now ≡ []) (λ x. cells_by layout octets.now ≡ x.0 ∷ cells_by layout x.1.now) }
+    ensures { MatchOption result (cells_by layout octets.now ≡ [])
+        (λ x. cells_by layout octets.now ≡ x.0 ∷ cells_by layout x.1.now) }
 {
     match layout {
         Layout::Cells => Cell::first_of(octets),
@@ -143,12 +144,55 @@ fn are_items(layout: Layout, items: &[u8]) -> bool
     items.len() % item_size(layout) == 0 && first_in(layout, items).is_some()
 }
 
-/// Whether the body of a list is right: two octets of length, the discriminator 1, and items.
+/// The octets of a list's items, after its length and the one discriminator of cells or counts.
+pub(crate) fn items_of(layout: Layout, body: &[u8]) -> &[u8]
+    ensures { result.now ≡ items_of layout body.now }
+{
+    match layout {
+        Layout::Cells | Layout::Counts => match body {
+            [_, _, _, items @ ..] => items,
+            _ => &[],
+        },
+        Layout::Failures => match body {
+            [_, _, items @ ..] => items,
+            _ => &[],
+        },
+    }
+}
+
+/// Whether each failure begins with the discriminator 1, LAC and CI.
+fn failures_are_by_lac_and_ci(failures: &[u8]) -> bool
+    ensures { result ≡ failures_are_by_lac_and_ci failures.now }
+{
+    let mut left = failures;
+    'failures: while let [discriminator, _, _, _, _, _, rest @ ..] = left {
+        if *discriminator != 1 {
+            return false;
+        }
+        left = rest;
+    }
+    true
+}
+
+/// Whether the discriminators of a list's body are 1, LAC and CI.
+fn is_by_lac_and_ci(layout: Layout, body: &[u8]) -> bool
+    ensures { result ≡ is_by_lac_and_ci layout body.now }
+{
+    match layout {
+        Layout::Cells | Layout::Counts => match body {
+            [_, _, discriminator, ..] => *discriminator == 1,
+            _ => false,
+        },
+        Layout::Failures => match body {
+            [_, _, failures @ ..] => failures_are_by_lac_and_ci(failures),
+            _ => false,
+        },
+    }
+}
+
+/// Whether the body of a list is right: two octets of length, and whole items whose discriminators are 1.
 pub(crate) fn is_list(layout: Layout, body: &[u8]) -> bool
     ensures { result ≡ is_list layout body.now }
 {
-    match body {
-        [_, _, discriminator, items @ ..] => *discriminator == 1 && are_items(layout, items),
-        _ => false,
-    }
+    is_by_lac_and_ci(layout, body) && are_items(layout, items_of(layout, body))
 }

@@ -1,11 +1,14 @@
 //! Messages between a warning centre and a base station controller (3GPP TS 48.049, in this project's own layouts).
 //!
-//! `read` answers the one value that octets have, or the first of the refusals that applies; `write` answers the octets of a
-//! message, with its elements in the table's order, or that no octets mean it. What is written is read as the same message.
+//! `read` answers the one value that octets have, or the first of the refusals that applies; `write` answers the octets
+//! of a message, with its elements in the table's order, or that no octets mean it. What is written is read as the same
+//! message.
 #![tactic(auto)]
 
+pub mod cause;
 mod elements;
 pub mod fault;
+mod iei;
 mod item;
 mod items;
 mod kind;

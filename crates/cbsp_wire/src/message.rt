@@ -32,7 +32,8 @@ pub struct Failure {
     pub cause: u8,
 }
 
-/// A list of cells: `Cells { list }` of a `Vec`. In clauses it is the list itself. A message names 1 to 64 cells, none twice.
+/// A list of cells: `Cells { list }` of a `Vec`. In clauses it is the list itself. A message names 1 to 64 cells, none
+/// twice.
 #[derive(Debug, Drop)]
 pub struct Cells {
     /// The cells, in the list's order.
@@ -48,8 +49,8 @@ impl Model for Cells {
     ghost view = { λ cells. cells.list.items };
 }
 
-/// A list of completed broadcasts: `Counts { list }` of a `Vec`. In clauses it is the list itself. It names at most 64 cells, none
-/// twice.
+/// A list of completed broadcasts: `Counts { list }` of a `Vec`. In clauses it is the list itself. It names at most 64
+/// cells, none twice.
 #[derive(Debug, Drop)]
 pub struct Counts {
     /// The cells with their numbers, in the list's order.
@@ -65,7 +66,8 @@ impl Model for Counts {
     ghost view = { λ counts. counts.list.items };
 }
 
-/// A list of failures: `Failures { list }` of a `Vec`. In clauses it is the list itself. It names at most 64 cells, none twice.
+/// A list of failures: `Failures { list }` of a `Vec`. In clauses it is the list itself. It names at most 64 cells,
+/// none twice.
 #[derive(Debug, Drop)]
 pub struct Failures {
     /// The cells with their causes, in the list's order.
@@ -99,8 +101,8 @@ impl Model for Contents {
 
 /// A message (3GPP TS 48.049, 8.1). Where an element is optional, `None` or an empty list says that it is left out.
 ///
-/// `Message::Kill { id: 4370, old_serial: Serial::of(0x0010), cells, channel: None }`, where `cells` names the cell 1-1, is
-/// written as `04 00 00 0E 0E 11 12 02 00 10 04 00 05 01 00 01 00 01`.
+/// `Message::Kill { id: 4370, old_serial: Serial::of(0x0010), cells, channel: None }`, where `cells` names the cell
+/// 1-1, is written as `04 00 00 0E 0E 11 12 02 00 10 04 00 05 01 00 01 00 01`.
 #[derive(Debug, Drop)]
 pub enum Message {
     /// Broadcast this, in place of an older message where one is told (WRITE-REPLACE).

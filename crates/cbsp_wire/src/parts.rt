@@ -8,6 +8,7 @@ ghost use Rattle.cbsp_wire.specs.Range.{is_there_if, are_contents, are_numbers, 
 ghost use Rattle.cbsp_wire.specs.Parts.{fields_seen};
 
 use crate::elements::need;
+use crate::iei;
 use crate::items::{Items, are_cells};
 use crate::kind::{Kind, Need};
 use crate::message::{Cell, Count, Failure, Message};
@@ -69,19 +70,113 @@ pub(crate) fn kind_of(message: &Message) -> Kind
     }
 }
 
+/// The message identifier, which every message has.
+fn id_of(message: &Message) -> Option<u16>
+    ensures { result ≡ (fields_of message.now).id }
+{
+    match message {
+        Message::Write { id, .. }
+        | Message::WriteDone { id, .. }
+        | Message::WriteFailed { id, .. }
+        | Message::Kill { id, .. }
+        | Message::KillDone { id, .. }
+        | Message::KillFailed { id, .. } => Some(*id),
+    }
+}
+
+/// The new serial number, of an order to write and its replies.
+fn new_serial_of(message: &Message) -> Option<u16>
+    ensures { result ≡ (fields_of message.now).new_serial }
+{
+    match message {
+        Message::Write { new_serial, .. }
+        | Message::WriteDone { new_serial, .. }
+        | Message::WriteFailed { new_serial, .. } => Some(new_serial.number()),
+        Message::Kill { .. } | Message::KillDone { .. } | Message::KillFailed { .. } => None,
+    }
+}
+
+/// The old serial number.
+fn old_serial_of(message: &Message) -> Option<u16>
+    ensures { result ≡ (fields_of message.now).old_serial }
+{
+    match message {
+        Message::Write { old_serial, .. }
+        | Message::WriteDone { old_serial, .. }
+        | Message::WriteFailed { old_serial, .. } => number_of(*old_serial),
+        Message::Kill { old_serial, .. }
+        | Message::KillDone { old_serial, .. }
+        | Message::KillFailed { old_serial, .. } => Some(old_serial.number()),
+    }
+}
+
+/// The failures, of the two failure replies.
+fn failures_of(message: &Message) -> &[Failure]
+    ensures { result.now ≡ (fields_of message.now).failures }
+{
+    match message {
+        Message::WriteFailed { failures, .. } | Message::KillFailed { failures, .. } =>
+            &failures.list,
+        Message::Write { .. }
+        | Message::WriteDone { .. }
+        | Message::Kill { .. }
+        | Message::KillDone { .. } => &[],
+    }
+}
+
+/// The completed broadcasts, of replies.
+fn completed_of(message: &Message) -> &[Count]
+    ensures { result.now ≡ (fields_of message.now).completed }
+{
+    match message {
+        Message::WriteDone { completed, .. }
+        | Message::WriteFailed { completed, .. }
+        | Message::KillDone { completed, .. }
+        | Message::KillFailed { completed, .. } => &completed.list,
+        Message::Write { .. } | Message::Kill { .. } => &[],
+    }
+}
+
+/// The cells.
+fn cells_of(message: &Message) -> &[Cell]
+    ensures { result.now ≡ (fields_of message.now).cells }
+{
+    match message {
+        Message::Write { cells, .. }
+        | Message::WriteDone { cells, .. }
+        | Message::WriteFailed { cells, .. }
+        | Message::Kill { cells, .. }
+        | Message::KillDone { cells, .. }
+        | Message::KillFailed { cells, .. } => &cells.list,
+    }
+}
+
+/// The channel indicator.
+fn channel_of(message: &Message) -> Option<u8>
+    ensures { result ≡ (fields_of message.now).channel }
+{
+    match message {
+        Message::Write { channel, .. }
+        | Message::WriteDone { channel, .. }
+        | Message::WriteFailed { channel, .. }
+        | Message::Kill { channel, .. }
+        | Message::KillDone { channel, .. }
+        | Message::KillFailed { channel, .. } => *channel,
+    }
+}
+
 /// The fields of a message.
-// Long, since each of the six types names its fields once; there is nothing else in it.
 pub(crate) fn parts_of(message: &Message) -> Parts<'_>
     ensures { fields_seen result ≡ fields_of message.now }
 {
-    let none = Parts {
-        id: None,
-        new_serial: None,
-        old_serial: None,
-        failures: &[],
-        completed: &[],
-        cells: &[],
-        channel: None,
+    let parts = Parts {
+        id: id_of(message),
+        new_serial: new_serial_of(message),
+        old_serial: old_serial_of(message),
+        failures: failures_of(message),
+        completed: completed_of(message),
+        cells: cells_of(message),
+        channel: channel_of(message),
         category: None,
         period: None,
         broadcasts: None,
@@ -91,106 +186,26 @@ pub(crate) fn parts_of(message: &Message) -> Parts<'_>
     };
     match message {
         Message::Write {
-            id,
-            new_serial,
-            old_serial,
-            cells,
-            channel,
             category,
             period,
             broadcasts,
             dcs,
             contents,
+            ..
         } => Parts {
-            id: Some(*id),
-            new_serial: Some(new_serial.number()),
-            old_serial: number_of(*old_serial),
-            cells: &cells.list,
-            channel: *channel,
             category: *category,
             period: Some(*period),
             broadcasts: Some(*broadcasts),
             pages: Some(contents.list.len()),
             dcs: Some(dcs.0),
             contents: &contents.list,
-            ..none
+            ..parts
         },
-        Message::WriteDone {
-            id,
-            new_serial,
-            old_serial,
-            completed,
-            cells,
-            channel,
-        } => Parts {
-            id: Some(*id),
-            new_serial: Some(new_serial.number()),
-            old_serial: number_of(*old_serial),
-            completed: &completed.list,
-            cells: &cells.list,
-            channel: *channel,
-            ..none
-        },
-        Message::WriteFailed {
-            id,
-            new_serial,
-            old_serial,
-            failures,
-            completed,
-            cells,
-            channel,
-        } => Parts {
-            id: Some(*id),
-            new_serial: Some(new_serial.number()),
-            old_serial: number_of(*old_serial),
-            failures: &failures.list,
-            completed: &completed.list,
-            cells: &cells.list,
-            channel: *channel,
-            ..none
-        },
-        Message::Kill {
-            id,
-            old_serial,
-            cells,
-            channel,
-        } => Parts {
-            id: Some(*id),
-            old_serial: Some(old_serial.number()),
-            cells: &cells.list,
-            channel: *channel,
-            ..none
-        },
-        Message::KillDone {
-            id,
-            old_serial,
-            completed,
-            cells,
-            channel,
-        } => Parts {
-            id: Some(*id),
-            old_serial: Some(old_serial.number()),
-            completed: &completed.list,
-            cells: &cells.list,
-            channel: *channel,
-            ..none
-        },
-        Message::KillFailed {
-            id,
-            old_serial,
-            failures,
-            completed,
-            cells,
-            channel,
-        } => Parts {
-            id: Some(*id),
-            old_serial: Some(old_serial.number()),
-            failures: &failures.list,
-            completed: &completed.list,
-            cells: &cells.list,
-            channel: *channel,
-            ..none
-        },
+        Message::WriteDone { .. }
+        | Message::WriteFailed { .. }
+        | Message::Kill { .. }
+        | Message::KillDone { .. }
+        | Message::KillFailed { .. } => parts,
     }
 }
 
@@ -208,14 +223,7 @@ fn is_there_if<T>(need: Need, items: &[T]) -> bool
 fn use_at_most_82(contents: &[Content]) -> bool
     ensures { result ≡ list_all (λ c. nat_le c.used 82) contents.now }
 {
-    let mut left = contents;
-    'contents: while let [content, rest @ ..] = left {
-        if content.used > 82 {
-            return false;
-        }
-        left = rest;
-    }
-    true
+    contents.iter().all(|content| content.used <= 82)
 }
 
 /// Whether there are as many contents as pages, from 1 to 15, and at most 82 octets used of each.
@@ -229,18 +237,14 @@ fn are_contents(pages: Option<usize>, contents: &[Content]) -> bool
     are_as_told && use_at_most_82(contents)
 }
 
-/// Whether each content has its 82 octets, as its type says.
+/// Whether each content has its 82 octets, as its type says: no fact says so of the items of a slice, so the proof
+/// needs the test.
 fn are_full(contents: &[Content]) -> bool
     ensures { result ≡ list_all is_full contents.now }
 {
-    let mut left = contents;
-    'contents: while let [content, rest @ ..] = left {
-        if content.octets.as_slice().len() != 82 {
-            return false;
-        }
-        left = rest;
-    }
-    true
+    contents
+        .iter()
+        .all(|content| content.octets.as_slice().len() == 82)
 }
 
 /// Whether the period, the data coding, the category and the channel indicator are in their ranges.
@@ -276,7 +280,7 @@ pub(crate) fn is_writable(message: &Message) -> bool
     let parts = parts_of(message);
     let kind = kind_of(message);
     are_values(&parts)
-        && is_there_if(need(kind, 0x04), parts.cells)
-        && is_there_if(need(kind, 0x09), parts.failures)
+        && is_there_if(need(kind, iei::CELL_LIST), parts.cells)
+        && is_there_if(need(kind, iei::FAILURE_LIST), parts.failures)
         && are_full(parts.contents)
 }

@@ -5,13 +5,15 @@ ghost use Rattle.std.specs.List.{list_all};
 ghost use Rattle.cbsp_wire.specs.Element.{bodies_of};
 ghost use Rattle.cbsp_wire.specs.Table.{need_of};
 ghost use Rattle.cbsp_wire.specs.Walk.{walk_of};
-ghost use Rattle.cbsp_wire.specs.Range.{has_mandatory, has_none_twice, comes_once, is_there_if, is_period, is_coding, is_page_count, passes, first_passes, is_list, are_contents, are_numbers, are_lists, are_all_cells, are_in_range};
+ghost use Rattle.cbsp_wire.specs.Range.{has_mandatory, has_none_twice, comes_once, is_there_if, is_period, is_coding, is_page_count, passes, first_passes, is_list, cells_by, are_cells, are_contents, are_numbers, are_lists, are_all_cells, are_in_range};
 ghost use Rattle.cbsp_wire.specs.Value.{octet_in, contents_of, fields_in, first_items};
+ghost use Rattle.cbsp_wire.specs.declared.iei.TheConstants.{MESSAGE_CONTENT, NUMBER_OF_PAGES};
 
 use crate::elements::{NUMBERS, find, need, octet_of};
-use crate::items::{Items, Layout, are_cells, is_list};
+use crate::iei;
+use crate::items::{Items, Layout, are_cells, is_list, items_of};
 use crate::kind::{Kind, Need};
-use crate::value::{items_of, number, octet};
+use crate::value::{number, octet};
 use cbs_page::Dcs;
 
 /// Whether the element is there, if the message needs it.
@@ -35,7 +37,7 @@ pub(crate) fn has_mandatory(kind: Kind, octets: &[u8]) -> bool
 fn comes_once(kind: Kind, number: u8, octets: &[u8]) -> bool
     ensures { result ≡ comes_once number (walk_of kind octets.now).elements }
 {
-    if number == 1 {
+    if number == iei::MESSAGE_CONTENT {
         return true;
     }
     match find(kind, number, octets) {
@@ -55,11 +57,11 @@ fn has_none_twice(kind: Kind, octets: &[u8]) -> bool
 
 /// The number of contents.
 fn content_count(kind: Kind, octets: &[u8]) -> usize
-    ensures { result ≡ length (bodies_of 0x01 (walk_of kind octets.now).elements) }
+    ensures { result ≡ length (bodies_of MESSAGE_CONTENT (walk_of kind octets.now).elements) }
 {
     let mut count = 0;
     let mut left = octets;
-    'walk: while let Some((_, rest)) = find(kind, 0x01, left) {
+    'walk: while let Some((_, rest)) = find(kind, iei::MESSAGE_CONTENT, left) {
         count += 1;
         left = rest;
     }
@@ -71,7 +73,7 @@ fn use_at_most_82(kind: Kind, octets: &[u8]) -> bool
     ensures { result ≡ list_all (λ c. nat_le c.used 82) (contents_of (walk_of kind octets.now).elements) }
 {
     let mut left = octets;
-    'walk: while let Some((body, rest)) = find(kind, 0x01, left) {
+    'walk: while let Some((body, rest)) = find(kind, iei::MESSAGE_CONTENT, left) {
         if octet_of(body) > 82 {
             return false;
         }
@@ -89,9 +91,10 @@ pub(crate) fn is_page_count(pages: usize) -> bool
 
 /// Whether there are as many contents as pages, from 1 to 15, and at most 82 octets used of each.
 fn are_contents(kind: Kind, octets: &[u8]) -> bool
-    ensures { result ≡ are_contents (octet_in 0x13 (walk_of kind octets.now).elements) (contents_of (walk_of kind octets.now).elements) }
+    ensures { let es = (walk_of kind octets.now).elements in
+        result ≡ are_contents (octet_in NUMBER_OF_PAGES es) (contents_of es) }
 {
-    let are_as_told = match octet(kind, 0x13, octets) {
+    let are_as_told = match octet(kind, iei::NUMBER_OF_PAGES, octets) {
         None => true,
         Some(pages) => {
             let pages = usize::from(pages);
@@ -135,10 +138,10 @@ pub(crate) fn is_up_to(limit: u8, octet: Option<u8>) -> bool
 fn are_numbers(kind: Kind, octets: &[u8]) -> bool
     ensures { result ≡ are_numbers (fields_in (walk_of kind octets.now).elements) }
 {
-    is_period(number(kind, 0x06, octets))
-        && is_coding(octet(kind, 0x0C, octets))
-        && is_up_to(2, octet(kind, 0x05, octets))
-        && is_up_to(1, octet(kind, 0x12, octets))
+    is_period(number(kind, iei::REPETITION_PERIOD, octets))
+        && is_coding(octet(kind, iei::DATA_CODING, octets))
+        && is_up_to(2, octet(kind, iei::CATEGORY, octets))
+        && is_up_to(1, octet(kind, iei::CHANNEL_INDICATOR, octets))
 }
 
 /// Whether the list of this number, if it is there, has the discriminator and whole items.
@@ -155,19 +158,27 @@ fn has_list(kind: Kind, number: u8, layout: Layout, octets: &[u8]) -> bool
 fn are_lists(kind: Kind, octets: &[u8]) -> bool
     ensures { result ≡ are_lists (walk_of kind octets.now).elements }
 {
-    has_list(kind, 0x04, Layout::Cells, octets)
-        && has_list(kind, 0x08, Layout::Counts, octets)
-        && has_list(kind, 0x09, Layout::Failures, octets)
+    has_list(kind, iei::CELL_LIST, Layout::Cells, octets)
+        && has_list(kind, iei::BROADCASTS_COMPLETED, Layout::Counts, octets)
+        && has_list(kind, iei::FAILURE_LIST, Layout::Failures, octets)
 }
 
 /// The octets of the items of a list, none where it isn't there.
-fn list_items(kind: Kind, number: u8, octets: &[u8]) -> &[u8]
-    ensures { result.now ≡ first_items (λ items. items) (bodies_of number (walk_of kind octets.now).elements) }
+fn list_items(kind: Kind, number: u8, layout: Layout, octets: &[u8]) -> &[u8]
+    ensures { result.now ≡ first_items layout (λ items. items) (bodies_of number (walk_of kind octets.now).elements) }
 {
     match find(kind, number, octets) {
         None => &[],
-        Some((body, _)) => items_of(body),
+        Some((body, _)) => items_of(layout, body),
     }
+}
+
+/// Whether the list of this number names at most 64 cells, and none twice.
+fn are_listed_cells(kind: Kind, number: u8, layout: Layout, octets: &[u8]) -> bool
+    ensures { let bodies = bodies_of number (walk_of kind octets.now).elements in
+        result ≡ are_cells (cells_by layout (first_items layout (λ items. items) bodies)) }
+{
+    are_cells(Items::Octets(layout, list_items(kind, number, layout, octets)))
 }
 
 /// Whether the lists name at most 64 cells each, and none twice.
@@ -175,9 +186,9 @@ fn list_items(kind: Kind, number: u8, octets: &[u8]) -> &[u8]
 fn are_all_cells(kind: Kind, octets: &[u8]) -> bool
     ensures { result ≡ are_all_cells (fields_in (walk_of kind octets.now).elements) }
 {
-    are_cells(Items::Octets(Layout::Cells, list_items(kind, 0x04, octets)))
-        && are_cells(Items::Octets(Layout::Counts, list_items(kind, 0x08, octets)))
-        && are_cells(Items::Octets(Layout::Failures, list_items(kind, 0x09, octets)))
+    are_listed_cells(kind, iei::CELL_LIST, Layout::Cells, octets)
+        && are_listed_cells(kind, iei::BROADCASTS_COMPLETED, Layout::Counts, octets)
+        && are_listed_cells(kind, iei::FAILURE_LIST, Layout::Failures, octets)
 }
 
 /// Whether no element comes twice and all values are in their ranges.

@@ -5,6 +5,7 @@ ghost use Rattle.cbsp_wire.specs.Walk.{walk_of};
 ghost use Rattle.cbsp_wire.specs.Refusals.{fault_of_walk, first_fault, fault_told, HasParts};
 ghost use Rattle.cbsp_wire.specs.Meaning.{IsMessage};
 
+use crate::cause;
 use crate::elements::{Stop, walk_end};
 use crate::fault::WireFault;
 use crate::kind::Kind;
@@ -23,15 +24,15 @@ fn fault_of_elements(kind: Kind, elements: &[u8]) -> Option<WireFault>
         return Some(WireFault::Truncated);
     }
     if !has_mandatory(kind, elements) {
-        return Some(WireFault::Cause(0x05));
+        return Some(WireFault::Cause(cause::MISSING_MANDATORY_ELEMENT));
     }
     if stop == Stop::Strange {
-        return Some(WireFault::Cause(0x00));
+        return Some(WireFault::Cause(cause::PARAMETER_NOT_RECOGNISED));
     }
     if are_in_range(kind, elements) {
         None
     } else {
-        Some(WireFault::Cause(0x01))
+        Some(WireFault::Cause(cause::PARAMETER_VALUE_INVALID))
     }
 }
 
@@ -54,7 +55,7 @@ fn parts(octets: &[u8]) -> Result<(Kind, &[u8]), WireFault>
         return Err(WireFault::TrailingBytes);
     }
     let Some(kind) = Kind::of_octet(*octet) else {
-        return Err(WireFault::Cause(0x04));
+        return Err(WireFault::Cause(cause::UNRECOGNISED_MESSAGE));
     };
     match fault_of_elements(kind, elements) {
         Some(fault) => Err(fault),
@@ -67,7 +68,8 @@ fn parts(octets: &[u8]) -> Result<(Kind, &[u8]), WireFault>
 /// 1. `Truncated`: fewer than 4 octets, or fewer than the length tells after them.
 /// 2. `TrailingBytes`: more than the length tells.
 /// 3. `Cause(0x04)`: the type is not one of the six.
-/// 4. `Truncated`: an element goes past the end. Elements are taken from the front, up to the first that isn't of this message.
+/// 4. `Truncated`: an element goes past the end. Elements are taken from the front, up to the first that isn't of this
+///    message.
 /// 5. `Cause(0x05)`: a mandatory element isn't among those taken.
 /// 6. `Cause(0x00)`: an element isn't of this message.
 /// 7. `Cause(0x01)`: an element other than 01 comes twice, or a value is out of its range.
@@ -76,7 +78,8 @@ pub fn read(alloc: Global, octets: &[u8]) -> Result<Message, WireFault>
     // What is read is what the octets mean.
     ensures found { IfOk result (λ m. IsMessage octets.now m) }
     // What the octets mean is read, unless memory runs out.
-    ensures only { (m : Message) → IsMessage octets.now m → MatchResult result (λ read. read ≡ m) (λ fault. fault ≡ WireFault.Refused) }
+    ensures only { (m : Message) → IsMessage octets.now m
+        → MatchResult result (λ read. read ≡ m) (λ fault. fault ≡ WireFault.Refused) }
     // Which refusal it is.
     ensures refused { IfErr result (λ fault. first_fault octets.now ≡ fault_told fault) }
     // Memory runs out only where the octets mean something.

@@ -1,12 +1,14 @@
 //! The value of a message, looked up among its elements.
 
-ghost use Rattle.std.specs.Prelude.{◌≡◌, ◌<◌, [], ◌∷◌, length, drop, unwrap_or, IfOk, IfSome, MatchOption};
+ghost use Rattle.std.specs.Prelude.{◌≡◌, ◌<◌, [], ◌∷◌, length, unwrap_or, IfOk, IfSome, MatchOption};
 ghost use Rattle.cbsp_wire.specs.Element.{bodies_of};
 ghost use Rattle.cbsp_wire.specs.Walk.{walk_of};
 ghost use Rattle.cbsp_wire.specs.Value.{first_items, content_of, number_in, octet_in, cells_of, counts_of, failures_of, contents_of, message_of};
 
 use crate::elements::{find, number_of, octet_of};
+use crate::iei;
 use crate::item::{Item, read_items};
+use crate::items::items_of;
 use crate::kind::Kind;
 use crate::message::{Cells, Contents, Counts, Failures, Message};
 use cbs_page::{Content, Dcs, Serial};
@@ -56,13 +58,6 @@ pub(crate) fn octet(kind: Kind, number: u8, octets: &[u8]) -> Option<u8>
     }
 }
 
-/// The items of a list's body: what stands after its length and its discriminator.
-pub(crate) fn items_of(body: &[u8]) -> &[u8]
-    ensures { result.now ≡ drop 3 body.now }
-{
-    if body.len() < 3 { &[] } else { &body[3..] }
-}
-
 /// The items of the list with this number, none where it isn't there.
 fn list<T: Item>(
     alloc: Global,
@@ -70,10 +65,12 @@ fn list<T: Item>(
     element: u8,
     octets: &[u8],
 ) -> Result<Vec<T>, AllocError>
-    ensures { IfOk result (λ items. items.items ≡ first_items T.items_in (bodies_of element (walk_of kind octets.now).elements)) }
+    ensures { IfOk result
+        (λ items. items.items
+        ≡ first_items T.LAYOUT T.items_in (bodies_of element (walk_of kind octets.now).elements)) }
 {
     match find(kind, element, octets) {
-        Some((body, _)) => read_items(alloc, items_of(body)),
+        Some((body, _)) => read_items(alloc, items_of(T::LAYOUT, body)),
         None => Ok(Vec::new(alloc)),
     }
 }
@@ -83,7 +80,7 @@ fn cells(alloc: Global, kind: Kind, octets: &[u8]) -> Result<Cells, AllocError>
     ensures { IfOk result (λ cells. cells ≡ cells_of (walk_of kind octets.now).elements) }
 {
     Ok(Cells {
-        list: list(alloc, kind, 0x04, octets)?,
+        list: list(alloc, kind, iei::CELL_LIST, octets)?,
     })
 }
 
@@ -92,7 +89,7 @@ fn counts(alloc: Global, kind: Kind, octets: &[u8]) -> Result<Counts, AllocError
     ensures { IfOk result (λ counts. counts ≡ counts_of (walk_of kind octets.now).elements) }
 {
     Ok(Counts {
-        list: list(alloc, kind, 0x08, octets)?,
+        list: list(alloc, kind, iei::BROADCASTS_COMPLETED, octets)?,
     })
 }
 
@@ -101,7 +98,7 @@ fn failures(alloc: Global, kind: Kind, octets: &[u8]) -> Result<Failures, AllocE
     ensures { IfOk result (λ failures. failures ≡ failures_of (walk_of kind octets.now).elements) }
 {
     Ok(Failures {
-        list: list(alloc, kind, 0x09, octets)?,
+        list: list(alloc, kind, iei::FAILURE_LIST, octets)?,
     })
 }
 
@@ -133,7 +130,7 @@ fn read_contents(alloc: Global, kind: Kind, octets: &[u8]) -> Result<Vec<Content
 {
     let mut contents = Vec::new(alloc);
     let mut left = octets;
-    'walk: while let Some((body, rest)) = find(kind, 0x01, left) {
+    'walk: while let Some((body, rest)) = find(kind, iei::MESSAGE_CONTENT, left) {
         contents.push(content(body))?;
         left = rest;
     }
@@ -146,33 +143,33 @@ fn read_contents(alloc: Global, kind: Kind, octets: &[u8]) -> Result<Vec<Content
 pub(crate) fn message(alloc: Global, kind: Kind, octets: &[u8]) -> Result<Message, AllocError>
     ensures { IfOk result (λ message. message ≡ message_of kind (walk_of kind octets.now).elements) }
 {
-    let id = number_or_0(kind, 0x0E, octets);
-    let channel = octet(kind, 0x12, octets);
+    let id = number_or_0(kind, iei::MESSAGE_IDENTIFIER, octets);
+    let channel = octet(kind, iei::CHANNEL_INDICATOR, octets);
     let message = match kind {
         Kind::Write => Message::Write {
             id,
-            new_serial: serial_or_0(kind, 0x03, octets),
-            old_serial: serial(kind, 0x02, octets),
+            new_serial: serial_or_0(kind, iei::NEW_SERIAL_NUMBER, octets),
+            old_serial: serial(kind, iei::OLD_SERIAL_NUMBER, octets),
             cells: cells(alloc, kind, octets)?,
             channel,
-            category: octet(kind, 0x05, octets),
-            period: number_or_0(kind, 0x06, octets),
-            broadcasts: number_or_0(kind, 0x07, octets),
-            dcs: Dcs(octet(kind, 0x0C, octets).unwrap_or(0)),
+            category: octet(kind, iei::CATEGORY, octets),
+            period: number_or_0(kind, iei::REPETITION_PERIOD, octets),
+            broadcasts: number_or_0(kind, iei::BROADCASTS_REQUESTED, octets),
+            dcs: Dcs(octet(kind, iei::DATA_CODING, octets).unwrap_or(0)),
             contents: contents(alloc, kind, octets)?,
         },
         Kind::WriteDone => Message::WriteDone {
             id,
-            new_serial: serial_or_0(kind, 0x03, octets),
-            old_serial: serial(kind, 0x02, octets),
+            new_serial: serial_or_0(kind, iei::NEW_SERIAL_NUMBER, octets),
+            old_serial: serial(kind, iei::OLD_SERIAL_NUMBER, octets),
             completed: counts(alloc, kind, octets)?,
             cells: cells(alloc, kind, octets)?,
             channel,
         },
         Kind::WriteFailed => Message::WriteFailed {
             id,
-            new_serial: serial_or_0(kind, 0x03, octets),
-            old_serial: serial(kind, 0x02, octets),
+            new_serial: serial_or_0(kind, iei::NEW_SERIAL_NUMBER, octets),
+            old_serial: serial(kind, iei::OLD_SERIAL_NUMBER, octets),
             failures: failures(alloc, kind, octets)?,
             completed: counts(alloc, kind, octets)?,
             cells: cells(alloc, kind, octets)?,
@@ -180,20 +177,20 @@ pub(crate) fn message(alloc: Global, kind: Kind, octets: &[u8]) -> Result<Messag
         },
         Kind::Kill => Message::Kill {
             id,
-            old_serial: serial_or_0(kind, 0x02, octets),
+            old_serial: serial_or_0(kind, iei::OLD_SERIAL_NUMBER, octets),
             cells: cells(alloc, kind, octets)?,
             channel,
         },
         Kind::KillDone => Message::KillDone {
             id,
-            old_serial: serial_or_0(kind, 0x02, octets),
+            old_serial: serial_or_0(kind, iei::OLD_SERIAL_NUMBER, octets),
             completed: counts(alloc, kind, octets)?,
             cells: cells(alloc, kind, octets)?,
             channel,
         },
         Kind::KillFailed => Message::KillFailed {
             id,
-            old_serial: serial_or_0(kind, 0x02, octets),
+            old_serial: serial_or_0(kind, iei::OLD_SERIAL_NUMBER, octets),
             failures: failures(alloc, kind, octets)?,
             completed: counts(alloc, kind, octets)?,
             cells: cells(alloc, kind, octets)?,

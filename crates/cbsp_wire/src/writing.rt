@@ -5,18 +5,20 @@ ghost use Rattle.std.specs.List.{flat_map};
 ghost use Rattle.cbsp_wire.specs.Meaning.{IsMessage, IsUnwritten};
 ghost use Rattle.cbsp_wire.specs.Parts.{fields_seen, HasRoom};
 ghost use Rattle.cbsp_wire.specs.Range.{is_writable};
-ghost use Rattle.cbsp_wire.specs.Written.{number_octets, number_bodies, octet_bodies, list_bodies, cell_octets, count_octets, failure_octets, content_body, slot, slot_octets, bodies_in, octets_of_message, AreShort};
+ghost use Rattle.cbsp_wire.specs.Written.{number_octets, number_bodies, octet_bodies, list_head, list_bodies, cell_octets, count_octets, failure_octets, content_body, slot, slot_octets, bodies_in, octets_of_message, AreShort};
 
 use crate::elements::{NUMBERS, elements};
 use crate::fault::WireFault;
 use crate::item::{Item, put_items};
+use crate::items::Layout;
 use crate::message::Message;
 use crate::parts::{Parts, is_writable, kind_of, parts_of};
+use crate::{cause, iei};
 use cbs_page::Content;
 use std::alloc::Global;
 
-/// Appends octets to a vector that has room for them, one by one, so that no memory is taken: `extend_from_slice` doesn't promise that
-/// the capacity stays.
+/// Appends octets to a vector that has room for them, one by one, so that no memory is taken: `extend_from_slice`
+/// doesn't promise that the capacity stays.
 pub(crate) fn put(out: &mut Vec<u8>, octets: &[u8])
     requires { HasRoom out.old octets.now }
     ensures appended { out.new.items ≡ out.old.items ++ octets.now }
@@ -57,28 +59,33 @@ fn put_octet(out: &mut Vec<u8>, element: u8, octet: Option<u8>)
     }
 }
 
-/// Appends what stands before the items of a list: its number, its length, the discriminator.
-fn put_list_head(out: &mut Vec<u8>, element: u8, items_len: u16)
+/// Appends what comes before the items of a list: its number, its length and, but for failures, the discriminator.
+fn put_list_head(out: &mut Vec<u8>, element: u8, layout: Layout, items_len: u16)
     requires fits { items_len < 65535 }
-    requires room { vec_len out.old + 4 ≤ vec_capacity out.old }
-    ensures appended { out.new.items ≡ out.old.items ++ element ∷ (1 + items_len) / 256 ∷ (1 + items_len) % 256 ∷ 1 ∷ [] }
+    requires room { HasRoom out.old (element ∷ list_head layout items_len) }
+    ensures appended { out.new.items ≡ out.old.items ++ element ∷ list_head layout items_len }
     ensures room { vec_capacity out.new ≡ vec_capacity out.old }
 {
-    let [high, low] = octets_of_number(1 + items_len);
-    put(out, &[element, high, low, 1]);
+    match layout {
+        Layout::Cells | Layout::Counts => {
+            let [high, low] = octets_of_number(1 + items_len);
+            put(out, &[element, high, low, 1]);
+        }
+        Layout::Failures => put_number(out, element, Some(items_len)),
+    }
 }
 
 /// Appends a list, if it has items.
 fn put_list<T: Item>(out: &mut Vec<u8>, element: u8, items: &[T])
     requires short { length items.now ≤ 64 }
-    requires room { HasRoom out.old (slot element (list_bodies T.octets_of items.now)) }
-    ensures appended { out.new.items ≡ out.old.items ++ slot element (list_bodies T.octets_of items.now) }
+    requires room { HasRoom out.old (slot element (list_bodies T.LAYOUT T.octets_of items.now)) }
+    ensures appended { out.new.items ≡ out.old.items ++ slot element (list_bodies T.LAYOUT T.octets_of items.now) }
     ensures room { vec_capacity out.new ≡ vec_capacity out.old }
 {
     if items.is_empty() {
         return;
     }
-    put_list_head(out, element, items.len() as u16 * T::SIZE);
+    put_list_head(out, element, T::LAYOUT, items.len() as u16 * T::SIZE);
     put_items(out, items);
 }
 
@@ -109,15 +116,17 @@ fn put_contents(out: &mut Vec<u8>, element: u8, contents: &[Content])
 }
 
 macro_rules! put_field {
-    ($out:expr, $row:literal, $parts:expr, number $field:ident) => { put_number($out, $row, $parts.$field) };
-    ($out:expr, $row:literal, $parts:expr, octet $field:ident) => { put_octet($out, $row, $parts.$field) };
-    ($out:expr, $row:literal, $parts:expr, pages $field:ident) => { put_pages($out, $row, $parts.$field) };
-    ($out:expr, $row:literal, $parts:expr, list $field:ident) => { put_list($out, $row, $parts.$field) };
-    ($out:expr, $row:literal, $parts:expr, contents $field:ident) => { put_contents($out, $row, $parts.$field) };
+    ($out:expr, $row:path, $parts:expr, number $field:ident) => { put_number($out, $row, $parts.$field) };
+    ($out:expr, $row:path, $parts:expr, octet $field:ident) => { put_octet($out, $row, $parts.$field) };
+    ($out:expr, $row:path, $parts:expr, pages $field:ident) => { put_pages($out, $row, $parts.$field) };
+    ($out:expr, $row:path, $parts:expr, list $field:ident) => { put_list($out, $row, $parts.$field) };
+    ($out:expr, $row:path, $parts:expr, contents $field:ident) => { put_contents($out, $row, $parts.$field) };
 }
 
 macro_rules! put_for {
-    ($out:expr, $parts:expr, $number:expr; $($row:literal, $form:ident $size:literal, $write:ident $write_done:ident $write_failed:ident $kill:ident $kill_done:ident $kill_failed:ident, $writer:ident $field:ident;)*) => {
+    ($out:expr, $parts:expr, $number:expr; $($row:path, $form:ident $size:literal,
+        $write:ident $write_done:ident $write_failed:ident $kill:ident $kill_done:ident $kill_failed:ident,
+        $writer:ident $field:ident;)*) => {
         match $number {
             $($row => put_field!($out, $row, $parts, $writer $field),)*
             _ => {}
@@ -148,10 +157,11 @@ fn put_elements(out: &mut Vec<u8>, parts: &Parts<'_>, numbers: &[u8])
     }
 }
 
-/// Appends the octets of a message, with its elements in the table's order, and takes no memory: the vector keeps its capacity.
+/// Appends the octets of a message, with its elements in the table's order, and takes no memory: the vector keeps its
+/// capacity.
 ///
-/// It asks for a message that some octets mean, for which `write` answers no cause, and for room of 1,547 octets, the longest
-/// message.
+/// It asks for a message that some octets mean, for which `write` answers no cause, and for room of 1,547 octets, the
+/// longest message.
 #[tactic(auto, unfolding(crate::specs::Written::octets_of_message))]
 pub fn write_in(message: &Message, out: &mut Vec<u8>)
     requires meant { IsTrue (is_writable message.now) }
@@ -169,15 +179,15 @@ pub fn write_in(message: &Message, out: &mut Vec<u8>)
     out[start + 3] = (length % 256) as u8;
 }
 
-/// The octets of a message, with its elements in the table's order; `Cause(0x01)` where no octets mean it, as of a message
-/// without contents; `Refused` where memory runs out.
+/// The octets of a message, with its elements in the table's order; `Cause(0x01)` where no octets mean it, as of a
+/// message without contents; `Refused` where memory runs out.
 pub fn write(alloc: Global, message: &Message) -> Result<Vec<u8>, WireFault>
     ensures written { IfOk result (λ octets. octets.items ≡ octets_of_message message.now) }
     ensures meant { IfOk result (λ octets. IsMessage octets.items message.now) }
     ensures refused { IfErr result (λ fault. IsUnwritten message.now fault) }
 {
     if !is_writable(message) {
-        return Err(WireFault::Cause(0x01));
+        return Err(WireFault::Cause(cause::PARAMETER_VALUE_INVALID));
     }
     match Vec::with_capacity(alloc, 1547) {
         Ok(mut out) => {

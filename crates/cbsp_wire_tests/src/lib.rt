@@ -10,4 +10,6 @@ mod octets;
 #[cfg(test)]
 mod refusals;
 #[cfg(test)]
+mod vectors;
+#[cfg(test)]
 mod writing;

@@ -2,11 +2,11 @@
 
 use crate::octets::{Order, RIGHT, fault_of, order_octets};
 use cbs_page::Dcs;
-use cbsp_wire::WireFault;
+use cbsp_wire::{WireFault, cause};
 use std::test::Fail;
 
 /// The refusal of a value that is out of its range.
-const OUT: Option<WireFault> = Some(WireFault::Cause(0x01));
+const OUT: Option<WireFault> = Some(WireFault::Cause(cause::PARAMETER_VALUE_INVALID));
 
 #[test]
 fn periods(rt: HostRuntime) -> Result<(), Fail> {
@@ -28,7 +28,11 @@ fn pages(rt: HostRuntime) -> Result<(), Fail> {
         (1, 2, OUT),
         (15, 15, None),
         (16, 16, OUT),
-        (0, 0, Some(WireFault::Cause(0x05))),
+        (
+            0,
+            0,
+            Some(WireFault::Cause(cause::MISSING_MANDATORY_ELEMENT)),
+        ),
     ];
     for (pages, contents, expected) in cases {
         let octets = order_octets(

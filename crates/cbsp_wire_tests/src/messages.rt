@@ -2,7 +2,7 @@
 
 use crate::octets::{fault_of, message};
 use cbs_page::{Dcs, Serial};
-use cbsp_wire::{Cell, Message, WireFault, read, write};
+use cbsp_wire::{Cell, Message, WireFault, cause, read, write};
 use std::test::Fail;
 
 /// An order to write: the head and all elements but the content.
@@ -141,9 +141,9 @@ fn the_first_octet_tells_which_elements_there_are(rt: HostRuntime) -> Result<(),
     let alloc = rt.alloc();
     let mut octets = ORDER.to_vec(alloc)?;
     octets.extend_from_slice(&CONTENT)?;
-    let missing = Some(WireFault::Cause(0x05));
-    let strange = Some(WireFault::Cause(0x00));
-    let unknown = Some(WireFault::Cause(0x04));
+    let missing = Some(WireFault::Cause(cause::MISSING_MANDATORY_ELEMENT));
+    let strange = Some(WireFault::Cause(cause::PARAMETER_NOT_RECOGNISED));
+    let unknown = Some(WireFault::Cause(cause::UNRECOGNISED_MESSAGE));
     for (kind, expected) in [
         (0, unknown),
         (2, strange),

@@ -1,7 +1,7 @@
 //! Each refusal, in its place.
 
 use crate::octets::{fault_of, message};
-use cbsp_wire::WireFault;
+use cbsp_wire::{WireFault, cause};
 use std::alloc::{AllocError, Global};
 use std::test::Fail;
 
@@ -36,15 +36,15 @@ fn the_frame_is_looked_at_first(rt: HostRuntime) {
     );
     assert_eq!(rt;
         fault_of(alloc, &[0x07, 0, 0, 0]),
-        Some(WireFault::Cause(0x04))
+        Some(WireFault::Cause(cause::UNRECOGNISED_MESSAGE))
     );
     assert_eq!(rt;
         fault_of(alloc, &[0x00, 0, 0, 0]),
-        Some(WireFault::Cause(0x04))
+        Some(WireFault::Cause(cause::UNRECOGNISED_MESSAGE))
     );
     assert_eq!(rt;
         fault_of(alloc, &[0x04, 0, 0, 0]),
-        Some(WireFault::Cause(0x05))
+        Some(WireFault::Cause(cause::MISSING_MANDATORY_ELEMENT))
     );
 }
 
@@ -62,18 +62,27 @@ fn elements_are_looked_at_in_order(rt: HostRuntime) {
     );
     // A mandatory element that is missing.
     let missing = [0x04, 0, 0, 0x06, 0x0E, 0x11, 0x12, 0x02, 0x00, 0x10];
-    assert_eq!(rt; fault_of(alloc, &missing), Some(WireFault::Cause(0x05)));
+    assert_eq!(rt;
+        fault_of(alloc, &missing),
+        Some(WireFault::Cause(cause::MISSING_MANDATORY_ELEMENT))
+    );
     // An element that isn't of the message, as the last octet too.
     let strange = [
         0x04, 0, 0, 0x10, 0x0E, 0x11, 0x12, 0x02, 0x00, 0x10, 0x04, 0x00, 0x05, 0x01, 0x00, 0x01,
         0x00, 0x01, 0x0F, 0x01,
     ];
-    assert_eq!(rt; fault_of(alloc, &strange), Some(WireFault::Cause(0x00)));
+    assert_eq!(rt;
+        fault_of(alloc, &strange),
+        Some(WireFault::Cause(cause::PARAMETER_NOT_RECOGNISED))
+    );
     let last = [
         0x04, 0, 0, 0x0F, 0x0E, 0x11, 0x12, 0x02, 0x00, 0x10, 0x04, 0x00, 0x05, 0x01, 0x00, 0x01,
         0x00, 0x01, 0x0F,
     ];
-    assert_eq!(rt; fault_of(alloc, &last), Some(WireFault::Cause(0x00)));
+    assert_eq!(rt;
+        fault_of(alloc, &last),
+        Some(WireFault::Cause(cause::PARAMETER_NOT_RECOGNISED))
+    );
     // The channel indicator in its place.
     let channel = [
         0x04, 0, 0, 0x10, 0x0E, 0x11, 0x12, 0x02, 0x00, 0x10, 0x04, 0x00, 0x05, 0x01, 0x00, 0x01,
@@ -83,7 +92,7 @@ fn elements_are_looked_at_in_order(rt: HostRuntime) {
     // What is missing comes before what is strange.
     assert_eq!(rt;
         fault_of(alloc, &[0x04, 0, 0, 2, 0x0F, 0x01]),
-        Some(WireFault::Cause(0x05))
+        Some(WireFault::Cause(cause::MISSING_MANDATORY_ELEMENT))
     );
 }
 
@@ -96,7 +105,10 @@ fn an_element_that_comes_twice_is_refused(rt: HostRuntime) -> Result<(), Fail> {
             elements.extend_from_slice(element)?;
         }
         let octets = message(alloc, 0x04, &elements)?;
-        assert_eq!(rt; fault_of(alloc, &octets), Some(WireFault::Cause(0x01)));
+        assert_eq!(rt;
+            fault_of(alloc, &octets),
+            Some(WireFault::Cause(cause::PARAMETER_VALUE_INVALID))
+        );
     }
     Ok(())
 }
@@ -120,7 +132,10 @@ fn a_list_is_refused_where_it_is_wrong(rt: HostRuntime) -> Result<(), Fail> {
             elements.extend_from_slice(element)?;
         }
         let octets = message(alloc, 0x04, &elements)?;
-        assert_eq!(rt; fault_of(alloc, &octets), Some(WireFault::Cause(0x01)));
+        assert_eq!(rt;
+            fault_of(alloc, &octets),
+            Some(WireFault::Cause(cause::PARAMETER_VALUE_INVALID))
+        );
     }
     Ok(())
 }
@@ -147,7 +162,11 @@ fn fault_with(
 fn replies_have_their_own_elements(rt: HostRuntime) -> Result<(), Fail> {
     let alloc = rt.alloc();
     let failures: [u8; 9] = [0x09, 0, 6, 1, 0, 1, 0, 1, 0x06];
-    let twice: [u8; 14] = [0x09, 0, 11, 1, 0, 1, 0, 1, 0x06, 0, 1, 0, 1, 0x06];
+    // Two failures, each with its discriminator; then one discriminator for both; another one at the second; a cell twice.
+    let two: [u8; 15] = [0x09, 0, 12, 1, 0, 1, 0, 1, 0x06, 1, 0, 1, 0, 2, 0x06];
+    let one_for_both: [u8; 14] = [0x09, 0, 11, 1, 0, 1, 0, 1, 0x06, 0, 1, 0, 2, 0x06];
+    let other: [u8; 15] = [0x09, 0, 12, 1, 0, 1, 0, 1, 0x06, 2, 0, 1, 0, 2, 0x06];
+    let twice: [u8; 15] = [0x09, 0, 12, 1, 0, 1, 0, 1, 0x06, 1, 0, 1, 0, 1, 0x06];
     let counts: [u8; 11] = [0x08, 0, 8, 1, 0, 1, 0, 1, 0, 3, 0];
     let cases = [
         (fault_with(alloc, 0x03, &ID, &NEW, &failures, &[])?, None),
@@ -157,23 +176,32 @@ fn replies_have_their_own_elements(rt: HostRuntime) -> Result<(), Fail> {
         ),
         (
             fault_with(alloc, 0x03, &ID, &NEW, &[], &[])?,
-            Some(WireFault::Cause(0x05)),
+            Some(WireFault::Cause(cause::MISSING_MANDATORY_ELEMENT)),
+        ),
+        (fault_with(alloc, 0x03, &ID, &NEW, &two, &[])?, None),
+        (
+            fault_with(alloc, 0x03, &ID, &NEW, &one_for_both, &[])?,
+            Some(WireFault::Cause(cause::PARAMETER_VALUE_INVALID)),
+        ),
+        (
+            fault_with(alloc, 0x06, &ID, &OLD, &other, &[])?,
+            Some(WireFault::Cause(cause::PARAMETER_VALUE_INVALID)),
         ),
         (
             fault_with(alloc, 0x03, &ID, &NEW, &twice, &[])?,
-            Some(WireFault::Cause(0x01)),
+            Some(WireFault::Cause(cause::PARAMETER_VALUE_INVALID)),
         ),
         (
             fault_with(alloc, 0x02, &ID, &NEW, &failures, &[])?,
-            Some(WireFault::Cause(0x00)),
+            Some(WireFault::Cause(cause::PARAMETER_NOT_RECOGNISED)),
         ),
         (
             fault_with(alloc, 0x04, &ID, &OLD, &CELLS, &counts)?,
-            Some(WireFault::Cause(0x00)),
+            Some(WireFault::Cause(cause::PARAMETER_NOT_RECOGNISED)),
         ),
         (
             fault_with(alloc, 0x05, &ID, &OLD, &NEW, &[])?,
-            Some(WireFault::Cause(0x00)),
+            Some(WireFault::Cause(cause::PARAMETER_NOT_RECOGNISED)),
         ),
     ];
     for (fault, expected) in cases {
@@ -187,7 +215,10 @@ fn each_refusal_has_its_text(rt: HostRuntime) -> Result<(), Fail> {
     let texts = [
         (WireFault::Truncated, "the message is cut off"),
         (WireFault::TrailingBytes, "octets stand after the message"),
-        (WireFault::Cause(0x04), "refused with cause 4"),
+        (
+            WireFault::Cause(cause::UNRECOGNISED_MESSAGE),
+            "refused with cause 4",
+        ),
         (WireFault::Refused, "out of memory"),
     ];
     for (fault, text) in texts {

@@ -2,7 +2,10 @@
 
 use crate::octets::fault_of;
 use cbs_page::{Content, Dcs, Serial};
-use cbsp_wire::{Cell, Cells, Contents, Counts, Failures, Message, WireFault, write, write_in};
+use cbsp_wire::{
+    Cell, Cells, Contents, Count, Counts, Failure, Failures, Message, WireFault, cause, write,
+    write_in,
+};
 use std::alloc::{AllocError, Global};
 use std::test::Fail;
 
@@ -54,7 +57,7 @@ fn write_fault(alloc: Global, message: &Message) -> Option<WireFault> {
 #[test]
 fn orders_that_no_octets_mean(rt: HostRuntime) -> Result<(), Fail> {
     let alloc = rt.alloc();
-    let meaningless = Some(WireFault::Cause(0x01));
+    let meaningless = Some(WireFault::Cause(cause::PARAMETER_VALUE_INVALID));
     let cases = [
         (1, 1, 82, None),
         (64, 15, 82, None),
@@ -84,7 +87,10 @@ fn replies_that_no_octets_mean(rt: HostRuntime) -> Result<(), Fail> {
         cells: cells(alloc, 0)?,
         channel: None,
     };
-    assert_eq!(rt; write_fault(alloc, &kill), Some(WireFault::Cause(0x01)));
+    assert_eq!(rt;
+        write_fault(alloc, &kill),
+        Some(WireFault::Cause(cause::PARAMETER_VALUE_INVALID))
+    );
     let failed = Message::KillFailed {
         id: 1,
         old_serial: Serial::of(16),
@@ -97,7 +103,10 @@ fn replies_that_no_octets_mean(rt: HostRuntime) -> Result<(), Fail> {
         cells: cells(alloc, 1)?,
         channel: None,
     };
-    assert_eq!(rt; write_fault(alloc, &failed), Some(WireFault::Cause(0x01)));
+    assert_eq!(rt;
+        write_fault(alloc, &failed),
+        Some(WireFault::Cause(cause::PARAMETER_VALUE_INVALID))
+    );
     let done = Message::KillDone {
         id: 1,
         old_serial: Serial::of(16),
@@ -107,7 +116,10 @@ fn replies_that_no_octets_mean(rt: HostRuntime) -> Result<(), Fail> {
         cells: cells(alloc, 0)?,
         channel: Some(2),
     };
-    assert_eq!(rt; write_fault(alloc, &done), Some(WireFault::Cause(0x01)));
+    assert_eq!(rt;
+        write_fault(alloc, &done),
+        Some(WireFault::Cause(cause::PARAMETER_VALUE_INVALID))
+    );
     Ok(())
 }
 
@@ -117,6 +129,36 @@ fn the_longest_message_has_1547_octets(rt: HostRuntime) -> Result<(), Fail> {
     let message = order(alloc, 64, 15, 82)?;
     let octets = write(alloc, &message)?;
     assert_eq!(rt; octets.len(), 1547);
+    assert_eq!(rt; fault_of(alloc, &octets), None);
+    Ok(())
+}
+
+#[test]
+fn the_longest_reply_has_1114_octets(rt: HostRuntime) -> Result<(), Fail> {
+    let alloc = rt.alloc();
+    let mut failures = Vec::new(alloc);
+    let mut counts = Vec::new(alloc);
+    for ci in 0..64 {
+        let cell = Cell { lac: 1, ci };
+        failures.push(Failure { cell, cause: 0x06 })?;
+        counts.push(Count {
+            cell,
+            number: 3,
+            info: 0,
+        })?;
+    }
+    let reply = Message::WriteFailed {
+        id: 4370,
+        new_serial: Serial::of(0x0010),
+        old_serial: Some(Serial::of(0x0020)),
+        failures: Failures { list: failures },
+        completed: Counts { list: counts },
+        cells: cells(alloc, 64)?,
+        channel: Some(0),
+    };
+    let octets = write(alloc, &reply)?;
+    // The head 4, three numbers of 3, lists of 3 + 64 * 6, 4 + 64 * 7 and 4 + 64 * 4, and the channel indicator 2.
+    assert_eq!(rt; octets.len(), 1114);
     assert_eq!(rt; fault_of(alloc, &octets), None);
     Ok(())
 }

@@ -16,5 +16,11 @@ returns-clause-some_value c = first_fault-some
 pub returns-clause-written : goal.returns-clause-written
 returns-clause-written c = λ octets m meant. octets_of_message-meant m (IsMessage-writable octets m meant)
 
+pub returns-clause-writable : goal.returns-clause-writable
+returns-clause-writable c =
+    λ m. (λ h. (octets_of_message m, octets_of_message-meant m h), λ some. IsMessage-writable some.0 m some.1)
+
 pub returns-clause-round_trip : goal.returns-clause-round_trip
-returns-clause-round_trip c = λ octets m n meant again. IsMessage-unique (octets_of_message m) n m again (octets_of_message-meant m (IsMessage-writable octets m meant))
+returns-clause-round_trip c =
+    λ octets m n meant again.
+    IsMessage-unique (octets_of_message m) n m again (octets_of_message-meant m (IsMessage-writable octets m meant))

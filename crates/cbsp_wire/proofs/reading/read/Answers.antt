@@ -24,11 +24,15 @@ returns-in_err-kind-clause-last c =
 
 pub returns-in-Ok-clause-found : goal.returns-in-Ok-clause-found
 returns-in-Ok-clause-found c =
-    subst (λ (m : Message). IsMessage c.args.octets.now m) (sym c.in-Ok.ensures) (first_fault-none _ _ _ c.in_ok-kind.ensures.faultless c.in_ok-kind.ensures.parts)
+    subst (λ (m : Message). IsMessage c.args.octets.now m) (sym c.in-Ok.ensures)
+    (first_fault-none _ _ _ c.in_ok-kind.ensures.faultless c.in_ok-kind.ensures.parts)
 
 pub returns-in-Ok-clause-only : goal.returns-in-Ok-clause-only
-returns-in-Ok-clause-only c = λ m meant. c.in-Ok.ensures ∙ sym ((IsMessage-read _ m meant).value _ _ c.in_ok-kind.ensures.parts)
+returns-in-Ok-clause-only c =
+    λ m meant. c.in-Ok.ensures ∙ sym ((IsMessage-read _ m meant).value _ _ c.in_ok-kind.ensures.parts)
 
 pub returns-in-Err-clause-last : goal.returns-in-Err-clause-last
-returns-in-Err-clause-last c = λ refused.
-    (message_of c.in_ok-kind.kind (walk_of c.in_ok-kind.kind c.in_ok-kind.elements.now).elements, first_fault-none _ _ _ c.in_ok-kind.ensures.faultless c.in_ok-kind.ensures.parts)
+returns-in-Err-clause-last c = λ refused. (
+  message_of c.in_ok-kind.kind (walk_of c.in_ok-kind.kind c.in_ok-kind.elements.now).elements,
+  first_fault-none _ _ _ c.in_ok-kind.ensures.faultless c.in_ok-kind.ensures.parts,
+)

@@ -4,7 +4,8 @@ use Rattle.cbsp_wire.proofs.writing.put_contents.Given as goal
 
 abbrev pub invariant-contents : goal.invariant-contents
 invariant-contents l = record {
-  so_far : l.out.items ++ slot l.element (map content_body l.left) ≡ l.fn.out.items ++ slot l.element (map content_body l.contents);
+  so_far : l.out.items ++ slot l.element (map content_body l.left) ≡ l.fn.out.items ++ slot l.element
+      (map content_body l.contents);
   room : vec_capacity l.out ≡ vec_capacity l.fn.out;
   fits : vec_len l.out + length (slot l.element (map content_body l.left)) ≤ vec_capacity l.out;
 }

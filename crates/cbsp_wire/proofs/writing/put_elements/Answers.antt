@@ -6,5 +6,8 @@ use Rattle.cbsp_wire.proofs.writing.put_elements.Goals as goal
 
 pub put_elements_with-requires-clause-room : goal.put_elements_with-requires-clause-room
 put_elements_with-requires-clause-room c =
-    let fits = length-flat_map-take (slot_octets (fields_seen c.args.parts.now)) c.args.numbers.now c.loop-number.number-index 0 c.loop-number-test.true in
+    let fits =
+    length-flat_map-take
+    (slot_octets (fields_seen c.args.parts.now)) c.args.numbers.now
+    c.loop-number.number-index 0 c.loop-number-test.true in
     omega (arith, fits, simp length-append at (ap length c.loop-number.invariant.so_far))

@@ -1,7 +1,30 @@
-use Rattle.std.proofs.Common.{sym, ◌∙◌}
-use Rattle.cbsp_wire.proofs.Slots.{list_slot}
+use Rattle.std.proofs.Common.{sym, ◌∙◌, arith, ap, length, length-append}
+use Rattle.cbsp_wire.proofs.Slots.{list_slot, list_slot-len}
 use Rattle.cbsp_wire.proofs.writing.put_list.Goals as goal
+
+pub put_list_head-requires-clause-room : goal.put_list_head-requires-clause-room
+put_list_head-requires-clause-room g c =
+    rw (c.LAYOUT.ensures, c.SIZE.ensures) (omega (
+      arith,
+      list_slot-len g.T.Item.LAYOUT g.T.Item.octets_of g.T.Item.SIZE g.met.T.Item.sized c.args.element c.args.items.now
+          (sym c.is_empty.ensures ∙ c.if-is_empty.false),
+      c.requires.room,
+    ))
+
+pub put_items-requires : goal.put_items-requires
+put_items-requires g c =
+    let appended = rw (c.LAYOUT.ensures, c.SIZE.ensures) at c.put_list_head.ensures.appended in
+    omega (
+      arith,
+      list_slot-len g.T.Item.LAYOUT g.T.Item.octets_of g.T.Item.SIZE g.met.T.Item.sized c.args.element c.args.items.now
+          (sym c.is_empty.ensures ∙ c.if-is_empty.false),
+      simp length-append at (ap length appended),
+      c.put_list_head.ensures.room,
+      c.requires.room,
+    )
 
 pub returns-clause-appended : goal.returns-clause-appended
 returns-clause-appended g c =
-    rw (c.put_items.ensures.appended, c.put_list_head.ensures.appended, c.SIZE.ensures) (list_slot g.T.Item.octets_of g.T.Item.SIZE g.met.T.Item.sized c.args.out.now.items c.args.element c.args.items.now (sym c.is_empty.ensures ∙ c.if-is_empty.false))
+    rw (c.put_items.ensures.appended, c.put_list_head.ensures.appended, c.SIZE.ensures, c.LAYOUT.ensures)
+    (list_slot g.T.Item.LAYOUT g.T.Item.octets_of g.T.Item.SIZE g.met.T.Item.sized c.args.out.now.items c.args.element
+    c.args.items.now (sym c.is_empty.ensures ∙ c.if-is_empty.false))

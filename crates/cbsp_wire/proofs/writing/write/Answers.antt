@@ -17,9 +17,14 @@ returns-then-not-is_writable-clause-refused c = (
 
 pub returns-in-Ok-clause-meant : goal.returns-in-Ok-clause-meant
 returns-in-Ok-clause-meant c =
-    let items : c.write_in.new.out.items ≡ octets_of_message c.args.message.now = c.write_in.ensures.appended ∙ ap (λ (old : List ℕ). old ++ octets_of_message c.args.message.now) c.in-Ok.ensures.items in
-    subst (λ (o : List ℕ). IsMessage o c.args.message.now) (sym items) (octets_of_message-meant c.args.message.now (sym c.is_writable.ensures ∙ c.if-not-is_writable.false))
+    let items : c.write_in.new.out.items ≡ octets_of_message c.args.message.now =
+    c.write_in.ensures.appended
+    ∙ ap (λ (old : List ℕ). old ++ octets_of_message c.args.message.now) c.in-Ok.ensures.items in
+    subst (λ (o : List ℕ). IsMessage o c.args.message.now) (sym items)
+    (octets_of_message-meant c.args.message.now (sym c.is_writable.ensures ∙ c.if-not-is_writable.false))
 
 pub returns-in-Err-clause-refused : goal.returns-in-Err-clause-refused
-returns-in-Err-clause-refused c =
-    (octets_of_message c.args.message.now, octets_of_message-meant c.args.message.now (sym c.is_writable.ensures ∙ c.if-not-is_writable.false))
+returns-in-Err-clause-refused c = (
+  octets_of_message c.args.message.now,
+  octets_of_message-meant c.args.message.now (sym c.is_writable.ensures ∙ c.if-not-is_writable.false),
+)

@@ -11,7 +11,8 @@ pub put_elements-requires-clause-room : goal.put_elements-requires-clause-room
 put_elements-requires-clause-room c =
     let f = fields_seen c.parts_of-parts.result in
     let fits = fields_fit c.args.message.now f c.parts_of-parts.ensures c.requires.meant in
-    let room : HasRoom c.put.new.out (elements_octets f) = omega (arith, fits, simp length-append at (ap length c.put.ensures.appended)) in
+    let room : HasRoom c.put.new.out (elements_octets f) =
+    omega (arith, fits, simp length-append at (ap length c.put.ensures.appended)) in
     room
 
 pub overflow_cast-length : goal.overflow_cast-length
@@ -29,6 +30,7 @@ returns-clause-appended c =
     let n : c.len-start.result ≡ length c.args.out.now.items = omega arith in
     let l : c.len.result ≡ length c.put_elements.new.out.items = omega arith in
     let len = elements_len _ _ _ (elements_octets f) _ _ _ n l c.put.ensures.appended c.put_elements.ensures.appended in
-    head_written c.args.message.now f c.args.out.now.items c.put_elements.new.out.items c.octet.result c.len-start.result _
+    head_written c.args.message.now f c.args.out.now.items c.put_elements.new.out.items c.octet.result
+    c.len-start.result _
     c.parts_of-parts.ensures (c.octet.ensures ∙ ap octet_of_kind c.kind_of.ensures) (sym n)
     (c.put_elements.ensures.appended ∙ ap (λ (p : List ℕ). p ++ elements_octets f) c.put.ensures.appended) len
