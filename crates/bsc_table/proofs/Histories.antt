@@ -1,13 +1,13 @@
 -- Legal histories worked by hand: answers, and what is aired.
-use Rattle.std.proofs.Common.{◌≡◌, ℕ, zero, suc, ◌≤◌, ◌<◌, Bool, true, false, ◌&&◌, inl, refl, Option, Some, None, List, [], ◌∷◌, ◌++◌, length, sum_by, take, get_or, arith}
+use Rattle.std.proofs.Common.{◌≡◌, ℕ, zero, suc, ◌≤◌, ◌<◌, Bool, true, false, ◌&&◌, inl, refl, Option, Some, None, List, [], ◌∷◌, replicate, ◌++◌, length, sum_by, take, get_or, arith}
 use Rattle.std.specs.Prelude.{nat_le, nat_lt}
 use Rattle.std.specs.List.{All, AllPairs, Any, list_all}
-use Rattle.std.proofs.lemmas.Bool.{and_parts, leb-true, le-leb, ltb-true}
+use Rattle.std.proofs.lemmas.Bool.{and_parts, leb-true, le-leb, ltb-true, eqb-true}
 use Rattle.std.proofs.lemmas.List.Elements.{All-nil, All-cons, All-weaker}
 use Rattle.std.proofs.lemmas.List.Kept.{AllPairs-cons}
 use Rattle.std.proofs.lemmas.List.Sums.{AllPass-from_list_all}
 use Rattle.cbs_page.specs.declared.content.Content.{Content}
-use Rattle.cbsp_wire.specs.Range.{is_coding}
+use Rattle.cbsp_wire.specs.Range.{is_coding, is_full}
 use Rattle.scheduler.specs.Air.{Air, pages_aired}
 use Rattle.scheduler.specs.Completed.{completed}
 use Rattle.scheduler.specs.Choice.{air_of}
@@ -34,7 +34,7 @@ use Rattle.bsc_table.proofs.Told.{legal_answers_are_true}
 
 abbrev contents : ℕ → List Content
 contents zero = []
-contents (suc n) = record { used = 0; octets = [] } ∷ contents n
+contents (suc n) = record { used = 0; octets = replicate 82 0 } ∷ contents n
 
 -- a write of message 4370 that asks for so many pages in each period
 abbrev write : ℕ → Option ℕ → Category → ℕ → ℕ → ℕ → Command
@@ -215,7 +215,7 @@ slots_rise-upto from (e ∷ log) to rise =
 -- well-formed commands, as a test
 abbrev is_formed : Command → Bool
 is_formed (commands.Write id serial replaces category period broadcasts dcs contents) =
-    (nat_le 1 (length contents) && nat_le (length contents) 15) && (list_all (λ c. nat_le c.used 82) contents && ((nat_le 1 period && nat_le period 1024) && is_coding dcs.0))
+    (nat_le 1 (length contents) && nat_le (length contents) 15) && (list_all (λ c. nat_le c.used 82) contents && ((nat_le 1 period && nat_le period 1024) && (is_coding dcs.0 && list_all is_full contents)))
 is_formed (commands.Kill id serial) = true
 is_formed (commands.Status id serial) = true
 
@@ -232,7 +232,8 @@ is_formed-says (commands.Write id serial replaces category period broadcasts dcs
       used = All-weaker (λ (c : Content). nat_le c.used 82 ≡ true) (λ (c : Content). c.used ≤ 82) (λ c h. leb-true c.used 82 h) contents (AllPass-from_list_all (λ (c : Content). nat_le c.used 82) contents second.0);
       some_period = leb-true 1 period periods.0;
       short_period = leb-true period 1024 periods.1;
-      coded = third.1;
+      coded = (and_parts _ _ third.1).0;
+      full = All-weaker (λ (c : Content). is_full c ≡ true) (λ (c : Content). length c.octets ≡ 82) (λ c h. eqb-true (length c.octets) 82 h) contents (AllPass-from_list_all is_full contents (and_parts _ _ third.1).1);
     }
 is_formed-says (commands.Kill id serial) formed = tt
 is_formed-says (commands.Status id serial) formed = tt

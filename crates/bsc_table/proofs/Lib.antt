@@ -24,3 +24,6 @@ pub mod Accepting
 pub mod Entering
 pub mod Deciding
 pub mod Ordered
+pub mod Refusals
+pub mod Written
+pub mod SameMessages

@@ -9,13 +9,15 @@ use Rattle.std.proofs.lemmas.List.Elements.{All-map, All-weaker}
 use Rattle.admission.specs.declared.measure.TheConstants.{SCALE}
 use Rattle.admission.specs.Load.{load_of}
 use Rattle.admission.specs.Reservation.{Reservation}
-use Rattle.scheduler.specs.Message.{Message}
+use Rattle.scheduler.specs.Message.{Message, release, due}
+use Rattle.scheduler.specs.AirLaws.{PagesComeOnce}
+use Rattle.scheduler.specs.Air.{pages_aired}
 use Rattle.bsc_table.specs.declared.entry.Entry.{Entry}
 use Rattle.bsc_table.specs.Guarantee.{LoadsFit, AreAdmitted}
 use Rattle.bsc_table.specs.Record.{Record, Accepted, accepted_in, messages_in, is_live, reserved_at}
 use Rattle.bsc_table.specs.Legal.{IsLegal}
 use Rattle.bsc_table.specs.Book.{stop_numbered, IsBegun}
-use Rattle.bsc_table.specs.Promised.{LegalLoadsFit, LegalHistoriesAreServed, LegalHistoriesAreBounded}
+use Rattle.bsc_table.specs.Promised.{LegalLoadsFit, LegalHistoriesAreServed, LegalHistoriesAreBounded, LegalPagesAreAiredOnce}
 use Rattle.bsc_table.proofs.Bounds.{completed_is_at_most, completed_is_at_least}
 use Rattle.bsc_table.proofs.Fitting.{LoadsFit-stop, LoadsFit-add}
 use Rattle.bsc_table.proofs.Named.{BelowIt}
@@ -133,3 +135,12 @@ legal_histories_are_bounded r legal = λ k d within. λ slot by.
     let pages = have_pages (accepted_in r.log) (IsSound-legal r legal).loaded in
     let least = completed_is_at_least messages r.air slot admitted legal.aired (omega (arith, legal.played)) in
     (least k d within, completed_is_at_most (get_or messages k d) r.air slot (pages k d within) (admitted.periods k d within))
+
+-- and each page of such a broadcast was aired once
+pub legal_pages_are_aired_once : PagesComeOnce → LegalPagesAreAiredOnce
+legal_pages_are_aired_once law r legal = λ k d within. λ j page uncut some few.
+    let messages = messages_in r.log in
+    let m : Message = get_or messages k d in
+    let served : pages_aired m.number r.air (release m j) (due m j) ≡ m.pages = legal_histories_are_served r legal k d within j uncut in
+    let here = sym (get_or_default messages k d (get_or messages k d) within) in
+    law messages r.air (get_or messages k d) j page (due (get_or messages k d) j) (numbers_of_messages_rise r.log) (k, within, here) legal.aired uncut.aired_by (omega arith) some (omega (arith, served, few))

@@ -7,3 +7,5 @@ pub mod Legal
 pub mod Promised
 pub mod Told
 pub mod Book
+pub mod Refusals
+pub mod Written

@@ -3,7 +3,9 @@
 
 ghost use Rattle.bsc_table.specs.Guarantee.{ReservationsCoverBroadcasts, DemandIsNoMoreThanTheSlots, LackMeansABusyPeriod, AdmittedLoadIsAGuarantee, AdmittedBroadcastsAreWhole};
 ghost use Rattle.bsc_table.specs.Bounds.{CompletedIsAtMost, CompletedIsAtLeast, BoundsAreNear};
-ghost use Rattle.bsc_table.specs.Promised.{LegalPairsComeOnce, LegalLoadsFit, LegalHistoriesAreServed, LegalHistoriesAreBounded};
+ghost use Rattle.bsc_table.specs.Promised.{LegalPairsComeOnce, LegalLoadsFit, LegalHistoriesAreServed, LegalHistoriesAreBounded, LegalPagesAreAiredOnce};
+ghost use Rattle.bsc_table.specs.Refusals.{RefusalsChangeNothing, AcceptedEntriesAreAll};
+ghost use Rattle.bsc_table.specs.Written.{AcceptedAreWrites, UsesAreOfWrites, AcceptedRise, AcceptedHaveLoads};
 ghost use Rattle.bsc_table.specs.Told.{LegalAnswersAreTrue};
 
 /// Admitted load is a guarantee: where the loads that are reserved at each slot sum to at most `SCALE`, and each slot airs
@@ -53,6 +55,19 @@ pub fn completed_bounds()
 ///
 /// Does nothing: its contract is the law.
 pub fn legal_histories()
+    // An entry that was not accepted leaves every accepted message as it was, with its stop and its reservation; and the accepted
+    // entries of a log alone determine its accepted messages, but for their numbers, of which the order is kept.
+    ensures refusals_change_nothing { RefusalsChangeNothing }
+    ensures accepted_entries_are_all { AcceptedEntriesAreAll }
+
+    // An accepted message is the write that stands in the log at its number, has a page and a period, and numbers rise.
+    ensures accepted_are_writes { AcceptedAreWrites }
+    ensures accepted_have_loads { AcceptedHaveLoads }
+    ensures accepted_rise { AcceptedRise }
+
+    // A slot airs nothing but pages of such writes.
+    ensures uses_are_of_writes { UsesAreOfWrites }
+
     // A message is known by its identifier and serial number: no two that were accepted have the same.
     ensures legal_pairs_come_once { LegalPairsComeOnce }
 
@@ -60,8 +75,9 @@ pub fn legal_histories()
     ensures legal_loads_fit { LegalLoadsFit }
 
     // Each broadcast that was requested, that is due by the clock and that no stop cut was aired whole, from its release up to the
-    // slot in which it was due.
+    // slot in which it was due, and each of its pages once.
     ensures legal_histories_are_served { LegalHistoriesAreServed }
+    ensures legal_pages_are_aired_once { LegalPagesAreAiredOnce }
 
     // So before each slot up to the clock, the broadcasts of a message that are whole are at least those requested whose period was
     // over while it stood, and at most those requested whose period had begun while it stood.
@@ -70,4 +86,6 @@ pub fn legal_histories()
     // And each number that was told of a message, in answer to its kill, to its replacement or to a status, is the number of its
     // broadcasts that were whole by then, and lies between these bounds.
     ensures legal_answers_are_true { LegalAnswersAreTrue }
-{}
+{
+    scheduler::air_laws();
+}

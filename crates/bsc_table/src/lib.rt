@@ -10,8 +10,6 @@ mod kept;
 mod laws;
 mod orders;
 pub mod record;
-#[cfg(test)]
-mod tests;
 
 pub use book::CellBook;
 pub use command::{Category, Command, Refused};
