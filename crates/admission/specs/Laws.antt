@@ -32,6 +32,10 @@ StopOnBoundary = (start period periods : ℕ)
     → 0 < period
     → end_of_stopped start period (start + periods * period) ≡ start + periods * period
 
+-- and so does a stop at the start of the message, or before it
+abbrev pub StopBeforeStart : Type 0
+StopBeforeStart = (start period stop : ℕ) → 0 < period → stop ≤ start → end_of_stopped start period stop ≡ stop
+
 -- a stop never makes a reservation last longer than the message would have stood
 abbrev pub StopNoLater : Type 0
 StopNoLater = (start period requested stop : ℕ)

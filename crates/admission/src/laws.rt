@@ -1,7 +1,7 @@
 //! Laws of loads and of reservations, over their definitions alone.
 
 ghost use Rattle.admission.specs.Laws.{PeriodsDivideScale, ScaleIsTheLeast, LoadsAreExact, NoSlotOverAll, NoSlotOverStanding};
-ghost use Rattle.admission.specs.Laws.{StopOnBoundary, StopNoLater, StopCovers};
+ghost use Rattle.admission.specs.Laws.{StopOnBoundary, StopBeforeStart, StopNoLater, StopCovers};
 
 /// States, as its contract, what the parts of a cell's slots are. It does nothing.
 pub fn scale_laws()
@@ -21,8 +21,9 @@ pub fn reservation_laws()
     // From a slot on, the loads at each slot are no more than those of the reservations that have not ended by that slot.
     ensures no_slot_over_standing { NoSlotOverStanding }
 
-    // A stop on the boundary of a period ends the reservation at once.
+    // A stop on the boundary of a period ends the reservation at once, and so does one at the start or before it.
     ensures stop_on_boundary { StopOnBoundary }
+    ensures stop_before_start { StopBeforeStart }
 
     // A stop never makes a reservation last longer than the message would have stood.
     ensures stop_no_later { StopNoLater }
