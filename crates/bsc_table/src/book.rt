@@ -420,7 +420,7 @@ impl CellBook {
         by_room(
             self.budget.fits(load, old.leaving_at(self.clock)),
             Answer::Replaced {
-                slot: self.clock,
+                slot: u32::from(self.clock),
                 completed: self.completed(old),
             },
         )
