@@ -15,7 +15,7 @@ use Rattle.bsc_table.specs.declared.entry.Answer.{Answer}
 use Rattle.bsc_table.specs.declared.entry.Answer.TheVariants as answers
 use Rattle.bsc_table.specs.declared.entry.Entry.{Entry}
 use Rattle.bsc_table.specs.Orders.{IsBroadcastable}
-use Rattle.bsc_table.specs.Record.{Record, Accepted, start_of, is_stop_by, accepted_with, accepted_in, messages_in, is_of_pair, message_named, is_live, reserved_at}
+use Rattle.bsc_table.specs.Record.{Record, Accepted, start_of, is_stop_by, added_by, accepted_in, messages_in, is_of_pair, message_named, is_live, reserved_at}
 use Rattle.bsc_table.specs.Answer.{answer_to_new, answer_to_replacement, unless_accepted, answer_to_write, answer_to_kill, answer_with_room}
 use Rattle.bsc_table.specs.Book.{stop_numbered, IsBegun, is_stopped}
 use Rattle.bsc_table.proofs.Outcome.{entry_with, does_nothing, new_message, before_end_cases, of_live_cases, unless_accepted_cases, beside_cases, messages_stopped}
@@ -50,6 +50,7 @@ write_starts r id serial category period broadcasts dcs contents formed =
       refl,
       record {
         numbered = refl;
+        accepted = refl;
         begins = refl;
         standing = refl;
         some_pages = omega (arith, formed.some_pages);
@@ -81,6 +82,7 @@ write_replaces r id serial old category period broadcasts dcs contents formed =
       told = refl;
       begun = record {
         numbered = refl;
+        accepted = refl;
         begins = refl;
         standing = refl;
         some_pages = omega (arith, formed.some_pages);
@@ -104,7 +106,7 @@ kill_does_nothing log slot id serial answer none =
     never i s (answers.Cause cause) stopped = refl
     never i s answers.Refused stopped = refl
 
-    adds_none : (start : Option ℕ) (n : ℕ) → accepted_with start n [] (commands.Kill id serial) ≡ []
+    adds_none : (start : Option ℕ) (n : ℕ) → added_by n slot start (commands.Kill id serial) ≡ []
     adds_none None n = refl
     adds_none (Some at) n = refl
 
@@ -123,6 +125,6 @@ write_does_nothing log slot id serial replaces category period broadcasts dcs co
     never i s (Some old) (answers.Cause cause) started = refl
     never i s (Some old) answers.Refused started = refl
 
-    adds_none : (start : Option ℕ) (n : ℕ) → is_some start ≡ false → accepted_with start n [] (commands.Write id serial replaces category period broadcasts dcs contents) ≡ []
+    adds_none : (start : Option ℕ) (n : ℕ) → is_some start ≡ false → added_by n slot start (commands.Write id serial replaces category period broadcasts dcs contents) ≡ []
     adds_none None n started = refl
     adds_none (Some at) n started = absurd (true≢false started)

@@ -20,10 +20,10 @@ use Rattle.bsc_table.specs.declared.entry.Answer.{Answer}
 use Rattle.bsc_table.specs.declared.entry.Answer.TheVariants as answers
 use Rattle.bsc_table.specs.declared.entry.Entry.{Entry}
 use Rattle.bsc_table.specs.Orders.{IsBroadcastable, IsWellFormed}
-use Rattle.bsc_table.specs.Record.{Accepted, start_of, is_stop_by, is_stop_of, write_message, accepted_with, accepted_in, messages_in, is_high, is_of_pair, message_told, message_named, is_live, reserved_at}
+use Rattle.bsc_table.specs.Record.{Accepted, start_of, is_stop_by, is_stop_of, stopped_by, write_message, added_by, accepted_in, messages_in, is_high, is_of_pair, message_told, message_named, is_live, reserved_at}
 use Rattle.bsc_table.specs.Answer.{answer_beside, answer_to_new, answer_to_replacement, unless_accepted, of_live, answer_to_write, answer_to_kill, told_of, before_end, answer_with_room, answer_of}
 use Rattle.bsc_table.specs.Book.{stop_numbered, IsBegun}
-use Rattle.bsc_table.proofs.Appended.{accepted_after, accepted_in-push}
+use Rattle.bsc_table.proofs.Appended.{accepted_in-push}
 use Rattle.bsc_table.proofs.Named.{OfAnotherPair, stopped_once-false, map_agree, All-find, stopped_by_pair, live_is_standing}
 use Rattle.bsc_table.proofs.Numbers.{numbers_rise}
 
@@ -49,34 +49,34 @@ pub record Outcome (log : List Entry) (e : Entry) : Type 0 where
   pub begun : IfSome started (λ a. IsBegun (length log) e.slot (without stopped e.slot (accepted_in log)) a)
 
 -- an entry that stops nothing leaves the messages before it as they are
-pub stops_none : (log : List Entry) (e : Entry) → ((id serial : ℕ) → is_stop_of id serial e ≡ false) → map (accepted_after e) (accepted_in log) ≡ accepted_in log
+pub stops_none : (log : List Entry) (e : Entry) → ((id serial : ℕ) → is_stop_of id serial e ≡ false) → map (stopped_by e) (accepted_in log) ≡ accepted_in log
 stops_none log e never =
-    map_agree (accepted_after e) (λ a. a) (accepted_in log) (λ k d h.
+    map_agree (stopped_by e) (λ a. a) (accepted_in log) (λ k d h.
     let a : Accepted = get_or (accepted_in log) k d in
     stopped_once-false (is_stop_of a.id a.serial e) e.slot a (never a.id a.serial)) ∙ map-id (accepted_in log)
 
 -- so an entry that adds none either changes nothing
-pub does_nothing : (log : List Entry) (e : Entry) → ((id serial : ℕ) → is_stop_of id serial e ≡ false) → ((n : ℕ) → accepted_with (start_of e.answer) n [] e.command ≡ []) → accepted_in (log ++ e ∷ []) ≡ accepted_in log
+pub does_nothing : (log : List Entry) (e : Entry) → ((id serial : ℕ) → is_stop_of id serial e ≡ false) → ((n : ℕ) → added_by n e.slot (start_of e.answer) e.command ≡ []) → accepted_in (log ++ e ∷ []) ≡ accepted_in log
 does_nothing log e never adds =
-    let all = map (accepted_after e) (accepted_in log) in
+    let all = map (stopped_by e) (accepted_in log) in
     accepted_in-push log e ∙ ap (λ (l : List Accepted). all ++ l) (adds (length log)) ∙ append-nil all ∙ stops_none log e never
 
 -- the message that a write adds
 abbrev pub new_message : ℕ → ℕ → ℕ → ℕ → Category → ℕ → ℕ → List Content → Accepted
 new_message number slot id serial category period broadcasts contents =
-    write_message number slot None id serial (length contents) period broadcasts (is_high category)
+    write_message number slot slot id serial (length contents) period broadcasts (is_high category)
 
 -- a write in the place of none
-pub starts_one : (log : List Entry) (at slot id serial : ℕ) (category : Category) (period broadcasts : ℕ) (dcs : Dcs) (contents : List Content) → accepted_in (log ++ entry_with (commands.Write id serial None category period broadcasts dcs contents) at (answers.Started slot) ∷ []) ≡ accepted_in log ++ new_message (length log) slot id serial category period broadcasts contents ∷ []
-starts_one log at slot id serial category period broadcasts dcs contents =
-    let e = entry_with (commands.Write id serial None category period broadcasts dcs contents) at (answers.Started slot) in
+pub starts_one : (log : List Entry) (slot id serial : ℕ) (category : Category) (period broadcasts : ℕ) (dcs : Dcs) (contents : List Content) → accepted_in (log ++ entry_with (commands.Write id serial None category period broadcasts dcs contents) slot (answers.Started slot) ∷ []) ≡ accepted_in log ++ new_message (length log) slot id serial category period broadcasts contents ∷ []
+starts_one log slot id serial category period broadcasts dcs contents =
+    let e = entry_with (commands.Write id serial None category period broadcasts dcs contents) slot (answers.Started slot) in
     accepted_in-push log e ∙ ap (λ (l : List Accepted). l ++ new_message (length log) slot id serial category period broadcasts contents ∷ []) (stops_none log e (λ i s. refl))
 
 -- a kill of a message that wasn't stopped
 pub stops_one : (log : List Entry) (slot id serial completed : ℕ) (a : Accepted) → AllPairs OfAnotherPair (accepted_in log) → find (is_of_pair id serial) (accepted_in log) ≡ Some a → a.message.stop ≡ None → accepted_in (log ++ entry_with (commands.Kill id serial) slot (answers.Stopped completed) ∷ []) ≡ map (stop_numbered a.message.number slot) (accepted_in log)
 stops_one log slot id serial completed a once found standing =
     let e = entry_with (commands.Kill id serial) slot (answers.Stopped completed) in
-    accepted_in-push log e ∙ append-nil (map (accepted_after e) (accepted_in log)) ∙ stopped_by_pair id serial slot (accepted_in log) a once (numbers_rise log) found standing
+    accepted_in-push log e ∙ append-nil (map (stopped_by e) (accepted_in log)) ∙ stopped_by_pair id serial slot (accepted_in log) a once (numbers_rise log) found standing
 
 -- a write in the place of one that wasn't stopped
 pub replaces_one : (log : List Entry) (slot id serial old completed : ℕ) (category : Category) (period broadcasts : ℕ) (dcs : Dcs) (contents : List Content) (a : Accepted) → AllPairs OfAnotherPair (accepted_in log) → find (is_of_pair id old) (accepted_in log) ≡ Some a → a.message.stop ≡ None → accepted_in (log ++ entry_with (commands.Write id serial (Some old) category period broadcasts dcs contents) slot (answers.Replaced slot completed) ∷ []) ≡ map (stop_numbered a.message.number slot) (accepted_in log) ++ new_message (length log) slot id serial category period broadcasts contents ∷ []
@@ -103,9 +103,9 @@ pub status_does_nothing : (log : List Entry) (slot id serial : ℕ) (answer : An
 status_does_nothing log slot id serial answer =
     does_nothing log (entry_with (commands.Status id serial) slot answer) (λ i s. refl) (λ n. adds_none (start_of answer) n)
   where
-    adds_none : (start : Option ℕ) (n : ℕ) → accepted_with start n [] (commands.Status id serial) ≡ []
+    adds_none : (start : Option ℕ) (n : ℕ) → added_by n slot start (commands.Status id serial) ≡ []
     adds_none None n = refl
-    adds_none (Some slot) n = refl
+    adds_none (Some at) n = refl
 
 -- the answers by cases: a cause, or what accepts, with what then holds
 pub before_end_cases : (P : Answer → Type 0) (slots slot : ℕ) (answer : Answer) → ((cause : ℕ) → P (answers.Cause cause)) → P answer → P (before_end slots slot answer)
@@ -159,10 +159,10 @@ new_outcome log slot id serial category period broadcasts dcs contents formed =
     unless_accepted_cases P (find (is_of_pair id serial) (accepted_in log)) (answer_to_new log slot load) refuses (λ fresh. beside_cases P (reserved_at slot (messages_in log)) load (answers.Started slot) refuses (λ room fits. record {
       stopped = None;
       started = Some (new_message (length log) slot id serial category period broadcasts contents);
-      after = starts_one log slot slot id serial category period broadcasts dcs contents;
+      after = starts_one log slot id serial category period broadcasts dcs contents;
       live = tt;
       fresh = fresh;
-      begun = record { numbered = refl; begins = refl; standing = refl; some_pages = omega (arith, formed.some_pages); some_period = omega (arith, formed.some_period); room = room; fits = fits };
+      begun = record { numbered = refl; accepted = refl; begins = refl; standing = refl; some_pages = omega (arith, formed.some_pages); some_period = omega (arith, formed.some_period); room = room; fits = fits };
     }))
 
 replacement_outcome : (log : List Entry) (air : Air) (slot id serial old : ℕ) (category : Category) (period broadcasts : ℕ) (dcs : Dcs) (contents : List Content) → AllPairs OfAnotherPair (accepted_in log) → IsBroadcastable period dcs contents → Outcome log (entry_with (commands.Write id serial (Some old) category period broadcasts dcs contents) slot (answer_to_write log air slot id serial (Some old) (load_of (length contents) period)))
@@ -181,7 +181,7 @@ replacement_outcome log air slot id serial old category period broadcasts dcs co
       after = replaces_one log slot id serial old (completed a.message air slot) category period broadcasts dcs contents a once found (live_is_standing slot a.message live);
       live = (Contains-find (is_of_pair id old) (accepted_in log) a found, live);
       fresh = fresh;
-      begun = record { numbered = refl; begins = refl; standing = refl; some_pages = omega (arith, formed.some_pages); some_period = omega (arith, formed.some_period); room = subst Room same room; fits = subst Fits same fits };
+      begun = record { numbered = refl; accepted = refl; begins = refl; standing = refl; some_pages = omega (arith, formed.some_pages); some_period = omega (arith, formed.some_period); room = subst Room same room; fits = subst Fits same fits };
     })))
 
 outcome_with_room : (slots : ℕ) (log : List Entry) (air : Air) (slot : ℕ) (command : Command) → AllPairs OfAnotherPair (accepted_in log) → IsWellFormed command → Outcome log (entry_with command slot (answer_with_room slots log air slot command))

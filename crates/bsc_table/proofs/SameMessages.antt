@@ -1,9 +1,9 @@
 -- The accepted messages of a log are those of its accepted entries alone, but for their numbers.
-use Rattle.std.proofs.Common.{◌≡◌, ℕ, zero, suc, ◌+◌, Bool, true, false, cond, Option, Some, None, is_some, List, [], ◌∷◌, ◌++◌, length, map, find, filter, refl, sym, ap, ◌∙◌, inl, inr, arith}
+use Rattle.std.proofs.Common.{◌≡◌, ℕ, zero, suc, ◌+◌, Bool, true, false, cond, Option, Some, None, is_some, List, [], ◌∷◌, ◌++◌, length, map, get_or, refl, sym, ap, ◌∙◌, inl, inr, arith}
 use Rattle.std.specs.Prelude.{◌||◌}
 use Rattle.std.specs.List.{slice_get}
 use Rattle.std.proofs.lemmas.Bool.{cases_Bool, false≢true}
-use Rattle.std.proofs.lemmas.List.{map-append}
+use Rattle.std.proofs.lemmas.List.{append-nil, map-append, map-id}
 use Rattle.std.proofs.lemmas.Simd.{map-map}
 use Rattle.scheduler.specs.Renumbered.{KeepsOrder}
 use Rattle.bsc_table.specs.declared.command.Command.{Command}
@@ -11,9 +11,10 @@ use Rattle.bsc_table.specs.declared.command.Command.TheVariants as commands
 use Rattle.bsc_table.specs.declared.entry.Answer.{Answer}
 use Rattle.bsc_table.specs.declared.entry.Answer.TheVariants as answers
 use Rattle.bsc_table.specs.declared.entry.Entry.{Entry}
-use Rattle.bsc_table.specs.Record.{Accepted, start_of, is_high, is_stop_by, is_stop_of, slot_told, stop_in, accepted_with, accepted_from, accepted_in}
+use Rattle.bsc_table.specs.Record.{Accepted, start_of, is_high, is_stop_by, is_stop_of, stopped_by, write_message, added_by, accepted_after, accepted_from, accepted_in}
 use Rattle.bsc_table.specs.Book.{is_stopped}
 use Rattle.bsc_table.specs.Refusals.{is_accepted, accepted_entries, accepted_renumbered, AcceptedEntriesAreAll}
+use Rattle.bsc_table.proofs.Named.{map_agree, stopped_once-false}
 use Rattle.bsc_table.proofs.Refusals.{neither}
 
 -- the place in the log of the entry that stands at a place among the accepted ones; past these, past the log
@@ -47,24 +48,6 @@ found : (log : List Entry) (n : ℕ) → slice_get log (place_in log n) ≡ slic
 found [] n = refl
 found (e ∷ log) n = found_by (is_accepted e) e log (accepted_entries log) n (λ m. found log m)
 
--- one place later each has the next number
-up_with : (start : Option ℕ) (place : ℕ) (later : List Entry) (command : Command) → accepted_with start (suc place) later command ≡ map (accepted_renumbered suc) (accepted_with start place later command)
-up_with (Some start) place later (commands.Write id serial replaces category period broadcasts dcs contents) = refl
-up_with None place later (commands.Write id serial replaces category period broadcasts dcs contents) = refl
-up_with (Some start) place later (commands.Kill id serial) = refl
-up_with None place later (commands.Kill id serial) = refl
-up_with (Some start) place later (commands.Status id serial) = refl
-up_with None place later (commands.Status id serial) = refl
-
-up : (place : ℕ) (log : List Entry) → accepted_from (suc place) log ≡ map (accepted_renumbered suc) (accepted_from place log)
-up place [] = refl
-up place (e ∷ later) =
-    let next : suc place + 1 ≡ suc (place + 1) = omega arith in
-    ap (λ xs. xs ++ accepted_from (suc place + 1) later) (up_with (start_of e.answer) place later e.command)
-    ∙ ap (λ p. map (accepted_renumbered suc) (accepted_with (start_of e.answer) place later e.command) ++ accepted_from p later) next
-    ∙ ap (λ xs. map (accepted_renumbered suc) (accepted_with (start_of e.answer) place later e.command) ++ xs) (up (place + 1) later)
-    ∙ sym (map-append (accepted_renumbered suc) (accepted_with (start_of e.answer) place later e.command) (accepted_from (place + 1) later))
-
 -- a stop is an accepted entry
 stops_by : (id serial : ℕ) (command : Command) (answer : Answer) → is_stop_by id serial command answer ≡ true → (is_some (start_of answer) || is_stopped answer) ≡ true
 stops_by id serial (commands.Kill of_id of_serial) (answers.Stopped completed) h = refl
@@ -84,61 +67,73 @@ stops_by id serial (commands.Write of_id new (Some of_serial) category period br
 stops_by id serial (commands.Write of_id new None category period broadcasts dcs contents) answer h = absurd (false≢true h)
 stops_by id serial (commands.Status of_id of_serial) answer h = absurd (false≢true h)
 
--- what is found among those that pass another test too
-find_among : (p q : Entry → Bool) (xs : List Entry) → ((x : Entry) → p x ≡ true → q x ≡ true) → find p (filter q xs) ≡ find p xs
-find_among p q [] both = refl
-find_among p q (x ∷ xs) both =
-    elim (cases_Bool (q x)) [
-      | inl kept ↦
-          let rest = find_among p q xs both in
-          let e : filter q (x ∷ xs) ≡ x ∷ filter q xs = rw kept refl in
-          ap (find p) e ∙ ap (λ o. cond (p x) (Some x) o) rest
-      | inr left_out ↦
-          let rest = find_among p q xs both in
-          let e : filter q (x ∷ xs) ≡ filter q xs = rw left_out refl in
-          ap (find p) e ∙ rest ∙ sym (elim (cases_Bool (p x)) [
-            | inl here ↦ absurd (false≢true (sym left_out ∙ both x here))
-            | inr gone ↦ (let f : find p (x ∷ xs) ≡ find p xs = rw gone refl in f)
-          ])
+stops_none : (id serial : ℕ) (e : Entry) → is_accepted e ≡ false → is_stop_of id serial e ≡ false
+stops_none id serial e refused =
+    elim (cases_Bool (is_stop_of id serial e)) [
+      | inl stops ↦ absurd (false≢true (sym refused ∙ stops_by id serial e.command e.answer stops))
+      | inr none ↦ none
     ]
 
-stop_among : (log : List Entry) (id serial : ℕ) → stop_in (accepted_entries log) id serial ≡ stop_in log id serial
-stop_among log id serial = ap slot_told (find_among (is_stop_of id serial) is_accepted log (λ e h. stops_by id serial e.command e.answer h))
+adds_none : (place slot : ℕ) (start : Option ℕ) (command : Command) → is_some start ≡ false → added_by place slot start command ≡ []
+adds_none place slot None command none = refl
+adds_none place slot (Some start) command none = absurd (false≢true (sym none))
 
--- so the messages are those of the accepted entries alone, numbered by these places
-first_with : (start : Option ℕ) (f : ℕ → ℕ) (log : List Entry) (command : Command) → f 0 ≡ 0 → map (accepted_renumbered f) (accepted_with start 0 (accepted_entries log) command) ≡ accepted_with start 0 log command
-first_with (Some start) f log (commands.Write id serial replaces category period broadcasts dcs contents) zero_is =
-    let Made : ℕ → Option ℕ → List Accepted = λ n stop. (record { id = id; serial = serial; message = record { number = n; start = start; pages = length contents; period = period; requested = broadcasts; stop = stop; high = is_high category } }) ∷ [] in
-    ap (λ n. Made n (stop_in (accepted_entries log) id serial)) zero_is ∙ ap (Made 0) (stop_among log id serial)
-first_with None f log (commands.Write id serial replaces category period broadcasts dcs contents) zero_is = refl
-first_with (Some start) f log (commands.Kill id serial) zero_is = refl
-first_with None f log (commands.Kill id serial) zero_is = refl
-first_with (Some start) f log (commands.Status id serial) zero_is = refl
-first_with None f log (commands.Status id serial) zero_is = refl
+-- so an entry that was not accepted leaves the messages before it as they are
+unmoved : (all : List Accepted) (place : ℕ) (e : Entry) → is_accepted e ≡ false → accepted_after all place e ≡ all
+unmoved all place e refused =
+    let stopped = map_agree (stopped_by e) (λ a. a) all (λ k d h.
+    let a : Accepted = get_or all k d in
+    stopped_once-false (is_stop_of a.id a.serial e) e.slot a (stops_none a.id a.serial e refused)) ∙ map-id all in
+    ap (λ (l : List Accepted). map (stopped_by e) all ++ l) (adds_none place e.slot (start_of e.answer) e.command (neither (is_some (start_of e.answer)) (is_stopped e.answer) refused).0) ∙ append-nil (map (stopped_by e) all) ∙ stopped
 
-none_with : (start : Option ℕ) (place : ℕ) (later : List Entry) (command : Command) → is_some start ≡ false → accepted_with start place later command ≡ []
-none_with None place later command none = refl
-none_with (Some start) place later command none = absurd (false≢true (sym none))
+-- and an entry does the same to messages under other numbers
+added_alike : (f : ℕ → ℕ) (place among slot : ℕ) (start : Option ℕ) (command : Command) → f among ≡ place → added_by place slot start command ≡ map (accepted_renumbered f) (added_by among slot start command)
+added_alike f place among slot (Some start) (commands.Write id serial replaces category period broadcasts dcs contents) same =
+    ap (λ (n : ℕ). write_message n slot start id serial (length contents) period broadcasts (is_high category) ∷ []) (sym same)
+added_alike f place among slot None (commands.Write id serial replaces category period broadcasts dcs contents) same = refl
+added_alike f place among slot (Some start) (commands.Kill id serial) same = refl
+added_alike f place among slot None (commands.Kill id serial) same = refl
+added_alike f place among slot (Some start) (commands.Status id serial) same = refl
+added_alike f place among slot None (commands.Status id serial) same = refl
 
-messages_by : (says : Bool) (e : Entry) (log : List Entry) → is_accepted e ≡ says → accepted_in log ≡ map (accepted_renumbered (place_in log)) (accepted_in (accepted_entries log)) → accepted_in (e ∷ log) ≡ map (accepted_renumbered (λ n. step says n (place_in log))) (accepted_from 0 (cond says (e ∷ accepted_entries log) (accepted_entries log)))
-messages_by true e log says rest =
-    let f : ℕ → ℕ = λ n. step true n (place_in log) in
-    let front = accepted_entries log in
-    ap (λ xs. accepted_with (start_of e.answer) 0 log e.command ++ xs)
-    (up 0 log ∙ ap (map (accepted_renumbered suc)) rest
-    ∙ map-map (accepted_renumbered suc) (accepted_renumbered (place_in log)) (accepted_in (accepted_entries log))
-    ∙ sym (map-map (accepted_renumbered (λ n. step true n (place_in log))) (accepted_renumbered suc) (accepted_in (accepted_entries log)))
-    ∙ sym (ap (map (accepted_renumbered (λ n. step true n (place_in log)))) (up 0 (accepted_entries log))))
-    ∙ ap (λ xs. xs ++ map (accepted_renumbered (λ n. step true n (place_in log))) (accepted_from 1 (accepted_entries log))) (sym (first_with (start_of e.answer) (λ n. step true n (place_in log)) log e.command refl))
-    ∙ sym (map-append (accepted_renumbered (λ n. step true n (place_in log))) (accepted_with (start_of e.answer) 0 (accepted_entries log) e.command) (accepted_from 1 (accepted_entries log)))
-messages_by false e log says rest =
-    ap (λ xs. xs ++ accepted_from 1 log) (none_with (start_of e.answer) 0 log e.command (neither (is_some (start_of e.answer)) (is_stopped e.answer) says).0)
-    ∙ up 0 log ∙ ap (map (accepted_renumbered suc)) rest
-    ∙ map-map (accepted_renumbered suc) (accepted_renumbered (place_in log)) (accepted_in (accepted_entries log))
+after_alike : (f : ℕ → ℕ) (all front : List Accepted) (place among : ℕ) (e : Entry) → all ≡ map (accepted_renumbered f) front → f among ≡ place → accepted_after all place e ≡ map (accepted_renumbered f) (accepted_after front among e)
+after_alike f all front place among e same at =
+    let added = added_by among e.slot (start_of e.answer) e.command in
+    ap (λ (l : List Accepted). map (stopped_by e) l ++ added_by place e.slot (start_of e.answer) e.command) same
+    ∙ ap (λ (l : List Accepted). l ++ added_by place e.slot (start_of e.answer) e.command) (map-map (stopped_by e) (accepted_renumbered f) front ∙ sym (map-map (accepted_renumbered f) (stopped_by e) front))
+    ∙ ap (λ (l : List Accepted). map (accepted_renumbered f) (map (stopped_by e) front) ++ l) (added_alike f place among e.slot (start_of e.answer) e.command at)
+    ∙ sym (map-append (accepted_renumbered f) (map (stopped_by e) front) added)
+
+-- f gives the places of the accepted ones of the later entries, of which the first stands at `place`, and is the `among`th if accepted
+abbrev AreLater : (ℕ → ℕ) → ℕ → ℕ → List Entry → Type 0
+AreLater f place among later = (i : ℕ) → f (among + i) ≡ place + place_in later i
+
+abbrev SameFrom : (ℕ → ℕ) → List Entry → Type 0
+SameFrom f later = (all front : List Accepted) (place among : ℕ) → all ≡ map (accepted_renumbered f) front → AreLater f place among later → accepted_from all place later ≡ map (accepted_renumbered f) (accepted_from front among (accepted_entries later))
+
+same_by : (f : ℕ → ℕ) (e : Entry) (later : List Entry) → SameFrom f later → (all front : List Accepted) (place among : ℕ) → all ≡ map (accepted_renumbered f) front → (says : Bool) → is_accepted e ≡ says → ((i : ℕ) → f (among + i) ≡ place + step says i (place_in later)) → accepted_from (accepted_after all place e) (place + 1) later ≡ map (accepted_renumbered f) (accepted_from front among (cond says (e ∷ accepted_entries later) (accepted_entries later)))
+same_by f e later rest all front place among same true accepted at =
+    let here : among + 0 ≡ among = omega arith in
+    let zeroth = at 0 in
+    let first : f among ≡ place = ap f (sym here) ∙ (let h : f (among + 0) ≡ place = omega (arith, zeroth) in h) in
+    rest (accepted_after all place e) (accepted_after front among e) (place + 1) (among + 1) (after_alike f all front place among e same first) (λ i.
+    let next : among + 1 + i ≡ among + suc i = omega arith in
+    let there = at (suc i) in
+    ap f next ∙ (let h : f (among + suc i) ≡ place + 1 + place_in later i = omega (arith, there) in h))
+same_by f e later rest all front place among same false refused at =
+    ap (λ (l : List Accepted). accepted_from l (place + 1) later) (unmoved all place e refused)
+    ∙ rest all front (place + 1) among same (λ i. let there = at i in omega (arith, there))
+
+same_from : (f : ℕ → ℕ) (later : List Entry) → SameFrom f later
+same_from f [] all front place among same places = same
+same_from f (e ∷ later) all front place among same places =
+    same_by f e later (same_from f later) all front place among same (is_accepted e) refl places
 
 same_messages : (log : List Entry) → accepted_in log ≡ map (accepted_renumbered (place_in log)) (accepted_in (accepted_entries log))
-same_messages [] = refl
-same_messages (e ∷ log) = messages_by (is_accepted e) e log refl (same_messages log)
+same_messages log =
+    same_from (place_in log) log [] [] 0 0 refl (λ i.
+    let same : 0 + i ≡ i = omega arith in
+    ap (place_in log) same ∙ (let h : place_in log i ≡ 0 + place_in log i = omega arith in h))
 
 pub accepted_entries_are_all : AcceptedEntriesAreAll
 accepted_entries_are_all log = (

@@ -7,14 +7,14 @@ use Rattle.std.proofs.lemmas.Option.{none-some}
 use Rattle.std.proofs.Math.Seq.{take-suc}
 use Rattle.std.proofs.lemmas.List.{get_or_default, take_all, length-take-le, get_or-take}
 use Rattle.std.proofs.lemmas.List.Elements.{All-nil, All-cons, All-push, All-map, All-weaker, All-take}
-use Rattle.std.proofs.lemmas.List.Kept.{AllPairs-cons}
 use Rattle.std.proofs.lemmas.List.Quantifiers.{all_pairs_push}
 use Rattle.bsc_table.specs.declared.entry.Answer.{Answer}
 use Rattle.bsc_table.specs.declared.entry.Entry.{Entry}
 use Rattle.bsc_table.specs.Record.{Record, Accepted, accepted_in, is_of_pair}
 use Rattle.bsc_table.specs.Legal.{IsLegal}
 use Rattle.bsc_table.specs.Book.{stop_numbered, IsBegun}
-use Rattle.bsc_table.proofs.Named.{OfAnotherPair, AllPairs-head, AllPairs-tail}
+use Rattle.bsc_table.proofs.Named.{OfAnotherPair}
+use Rattle.bsc_table.proofs.Numbers.{AllPairs-map}
 use Rattle.bsc_table.proofs.Outcome.{Outcome, entry_with, with, without, outcome_of}
 
 -- the message begins at the slot or before it
@@ -30,11 +30,6 @@ pub record IsSound (all : List Accepted) (slot : ℕ) : Type 0 where
   pub once : AllPairs OfAnotherPair all
   pub begun : All (BeginsBy slot) all
   pub loaded : All HasLoad all
-
-AllPairs-map : (R : Accepted → Accepted → Type 0) (f : Accepted → Accepted) → ((a b : Accepted) → R a b → R (f a) (f b)) → (all : List Accepted) → AllPairs R all → AllPairs R (map f all)
-AllPairs-map R f kept [] pairs = λ i j d before within. absurd (omega arith)
-AllPairs-map R f kept (a ∷ all) pairs =
-    AllPairs-cons R (f a) (map f all) (All-map (R (f a)) f all (All-weaker (R a) (λ b. R (f a) (f b)) (λ b. kept a b) all (AllPairs-head R a all pairs))) (AllPairs-map R f kept all (AllPairs-tail R a all pairs))
 
 -- stopping a message changes neither pairs nor starts
 without_sound : (stopped : Option Accepted) (slot at : ℕ) (all : List Accepted) → IsSound all slot → IsSound (without stopped at all) slot

@@ -19,11 +19,11 @@ use Rattle.bsc_table.specs.declared.entry.Answer.{Answer}
 use Rattle.bsc_table.specs.declared.entry.Answer.TheVariants as answers
 use Rattle.bsc_table.specs.declared.entry.Entry.{Entry}
 use Rattle.bsc_table.specs.Bounds.{least_completed, most_completed}
-use Rattle.bsc_table.specs.Record.{Record, Accepted, start_of, is_stop_of, accepted_with, accepted_in, messages_in, is_of_pair, message_told, message_named, reserved_at}
+use Rattle.bsc_table.specs.Record.{Record, Accepted, start_of, is_stop_of, stop_after, stopped_by, added_by, accepted_in, messages_in, is_of_pair, message_told, message_named, reserved_at}
 use Rattle.bsc_table.specs.Answer.{answer_to_new, answer_to_replacement, unless_accepted, answer_to_write, answer_to_kill, told_of, answer_with_room, answer_of}
 use Rattle.bsc_table.specs.Legal.{IsLegal}
 use Rattle.bsc_table.specs.Told.{completed_told, IsAbout, IsTrulyTold, LegalAnswersAreTrue}
-use Rattle.bsc_table.proofs.Appended.{stop_after, accepted_after, accepted_in-push}
+use Rattle.bsc_table.proofs.Appended.{accepted_in-push}
 use Rattle.scheduler.proofs.Lists.{count_below_same}
 use Rattle.bsc_table.proofs.Named.{find_passes}
 use Rattle.bsc_table.proofs.Outcome.{before_end_cases, of_live_cases, unless_accepted_cases, beside_cases, Contains-find}
@@ -133,10 +133,10 @@ continued_after : (log : List Entry) (e : Entry) (slot : ℕ) (a b : Accepted) �
 continued_after log e slot a b after here on =
     let all = accepted_in log in
     let says = is_stop_of b.id b.serial e in
-    let added = accepted_with (start_of e.answer) (length log) [] e.command in
-    let c : Accepted = accepted_after e b in
+    let added = added_by (length log) e.slot (start_of e.answer) e.command in
+    let c : Accepted = stopped_by e b in
     let Has : List Accepted → Type 0 = λ l. Contains l c in
-    let there = subst Has (sym (accepted_in-push log e)) (Contains-append_left (map (accepted_after e) all) added c (Contains-map (accepted_after e) all b here)) in
+    let there = subst Has (sym (accepted_in-push log e)) (Contains-append_left (map (stopped_by e) all) added c (Contains-map (stopped_by e) all b here)) in
     let stop = stop_after b.message.stop says e.slot in
     let same : c ≡ record a { message = record (a.message) { stop = stop } } = ap (λ (x : Accepted). record x { message = record (x.message) { stop = stop } }) on.same in
     (c, there, record { same = same; later = later_stop-after slot e.slot a.message.stop b.message.stop says after on.later })

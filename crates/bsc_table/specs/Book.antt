@@ -44,6 +44,7 @@ abbrev pub accepted_of : Kept → Accepted
 accepted_of k = record {
   id = k.id;
   serial = k.serial;
+  accepted = k.accepted;
   message = record {
     number = k.number;
     start = k.start;
@@ -63,9 +64,11 @@ kept_stopped number slot k = record k { stop = if k.number == number then Some s
 abbrev pub stop_numbered : ℕ → ℕ → Accepted → Accepted
 stop_numbered number slot a = record a { message = stopped_if (a.message.number == number) slot a.message }
 
--- a message that may begin at the slot beside those accepted before: it has a page and a period, and there is room for it
+-- a message that may be accepted at the slot, and begin there, beside those accepted before: it has a page and a period, and there is
+-- room for it
 pub record IsBegun (number slot : ℕ) (before : List Accepted) (a : Accepted) : Type 0 where
   pub numbered : a.message.number ≡ number
+  pub accepted : a.accepted ≡ slot
   pub begins : a.message.start ≡ slot
   pub standing : a.message.stop ≡ None
   pub some_pages : 0 < a.message.pages

@@ -13,10 +13,10 @@ IsWriteBy a (commands.Write id serial replaces category period broadcasts dcs co
 IsWriteBy a (commands.Kill id serial) start = ⊥
 IsWriteBy a (commands.Status id serial) start = ⊥
 
--- each accepted message is the write that stands in the log at its number
+-- each accepted message is the write that stands in the log at its number, and was accepted at that entry's slot
 abbrev pub AcceptedAreWrites : Type 0
 AcceptedAreWrites = (log : List Entry) (d : Entry)
-    → All (λ a. (a.message.number < length log) × IsWriteBy a (slice_index_or log a.message.number d).command (start_of (slice_index_or log a.message.number d).answer)) (accepted_in log)
+    → All (λ a. (a.message.number < length log) × IsWriteBy a (slice_index_or log a.message.number d).command (start_of (slice_index_or log a.message.number d).answer) × (a.accepted ≡ (slice_index_or log a.message.number d).slot)) (accepted_in log)
 
 -- a write, with a page of this number, whose answer starts a message
 abbrev pub HasPage : ℕ → Command → Option ℕ → Type 0

@@ -255,6 +255,7 @@ impl CellBook {
                     id: *id,
                     serial: *serial,
                     number: self.log.len() as u16,
+                    accepted: self.clock,
                     start: self.clock,
                     pages: contents.list.len() as u8,
                     period: *period,

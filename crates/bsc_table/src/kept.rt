@@ -22,6 +22,8 @@ pub struct Kept {
     pub serial: Serial,
     /// Its place in the log.
     pub number: u16,
+    /// The slot at which it was accepted.
+    pub accepted: u16,
     /// The slot from which it stands.
     pub start: u16,
     /// Its pages, from 1 to 15.
