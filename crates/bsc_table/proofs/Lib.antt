@@ -27,3 +27,11 @@ pub mod Ordered
 pub mod Refusals
 pub mod Written
 pub mod SameMessages
+mod Matched
+pub mod Claims
+pub mod Rising
+pub mod Stops
+pub mod Stopped
+pub mod Added
+pub mod Ahead
+pub mod TakenOver

@@ -9,3 +9,6 @@ pub mod Told
 pub mod Book
 pub mod Refusals
 pub mod Written
+pub mod Claim
+pub mod Handover
+pub mod Room

@@ -2,6 +2,7 @@
 //! legal history.
 
 ghost use Rattle.bsc_table.specs.Guarantee.{ReservationsCoverBroadcasts, DemandIsNoMoreThanTheSlots, LackMeansABusyPeriod, AdmittedLoadIsAGuarantee, AdmittedBroadcastsAreWhole};
+ghost use Rattle.bsc_table.specs.Room.{ReservedNeverRises, StopKeepsRoom, StartKeepsRoom, TakeoverKeepsRoom, WaitingPassesItsStart};
 ghost use Rattle.bsc_table.specs.Bounds.{CompletedIsAtMost, CompletedIsAtLeast, BoundsAreNear};
 ghost use Rattle.bsc_table.specs.Promised.{LegalPairsComeOnce, LegalLoadsFit, LegalHistoriesAreServed, LegalHistoriesAreBounded, LegalPagesAreAiredOnce};
 ghost use Rattle.bsc_table.specs.Refusals.{RefusalsChangeNothing, AcceptedEntriesAreAll};
@@ -29,6 +30,25 @@ pub fn guarantee()
 
     // In the words of the completed number: from its due slot on, each counts as whole.
     ensures admitted_broadcasts_are_whole { AdmittedBroadcastsAreWhole }
+{}
+
+/// What keeps room at every slot, also where a message that is accepted has to wait for its start: up to then it reserves what its
+/// load has over that of the stopped message behind which it waits, and from then on its whole load, where that one's reservation
+/// ends. Over what messages claim of a cell alone; no cell lets a message wait yet. Own rules, of no standard.
+///
+/// Does nothing: its contract is the law.
+pub fn room_laws()
+    // Where each that waits does so alone, behind one that hands over to it, the loads reserved never rise from now on.
+    ensures reserved_never_rises { ReservedNeverRises }
+
+    // So it stays, with room at every slot, where a live message is stopped, where one starts whose load has room now, and where one
+    // takes over from a live message, if what it reserves until its start has room now.
+    ensures stop_keeps_room { StopKeepsRoom }
+    ensures start_keeps_room { StartKeepsRoom }
+    ensures takeover_keeps_room { TakeoverKeepsRoom }
+
+    // One that takes over from a message that waits can always do so, and starts where that one would have.
+    ensures waiting_passes_its_start { WaitingPassesItsStart }
 {}
 
 /// What the completed number of a message can be, before any slot that was played: at most as many as its requested broadcasts
