@@ -1,5 +1,5 @@
 -- Legal histories worked by hand: answers, and what is aired.
-use Rattle.std.proofs.Common.{◌≡◌, ℕ, zero, suc, ◌≤◌, ◌<◌, Bool, true, false, ◌&&◌, inl, refl, Option, Some, None, List, [], ◌∷◌, replicate, ◌++◌, length, sum_by, take, get_or, arith}
+use Rattle.std.proofs.Common.{◌≡◌, ℕ, zero, suc, ◌≤◌, ◌<◌, Bool, true, false, ◌&&◌, inl, refl, Option, Some, None, List, [], ◌∷◌, replicate, ◌++◌, length, take, get_or, arith}
 use Rattle.std.specs.Prelude.{nat_le, nat_lt}
 use Rattle.std.specs.List.{All, AllPairs, Any, list_all}
 use Rattle.std.proofs.lemmas.Bool.{and_parts, leb-true, le-leb, ltb-true, eqb-true}
@@ -14,7 +14,6 @@ use Rattle.scheduler.specs.Choice.{air_of}
 use Rattle.scheduler.specs.Message.{Message}
 use Rattle.scheduler.proofs.Choice.{IsAirOf-air_of}
 use Rattle.admission.specs.declared.measure.TheConstants.{SCALE}
-use Rattle.admission.specs.Reservation.{Reservation}
 use Rattle.bsc_table.specs.declared.command.Category.{Category}
 use Rattle.bsc_table.specs.declared.command.Category.TheVariants.{High, Normal}
 use Rattle.bsc_table.specs.declared.command.Command.{Command}
@@ -25,7 +24,8 @@ use Rattle.bsc_table.specs.declared.entry.State.TheVariants as states
 use Rattle.bsc_table.specs.declared.entry.Entry.{Entry}
 use Rattle.bsc_table.specs.Bounds.{least_completed, most_completed}
 use Rattle.bsc_table.specs.Orders.{IsWellFormed}
-use Rattle.bsc_table.specs.Record.{Record, accepted_in, messages_in, reserved_at}
+use Rattle.bsc_table.specs.Record.{Record, accepted_in, messages_in, claims_in}
+use Rattle.bsc_table.specs.Claim.{claimed_at}
 use Rattle.bsc_table.specs.Answer.{answer_of}
 use Rattle.bsc_table.specs.Legal.{IsAnswered, IsLegal}
 use Rattle.bsc_table.specs.Told.{IsTrulyTold}
@@ -330,7 +330,7 @@ three = entry (of_third 1) 0 (answers.Started 0) ∷ entry (of_third 2) 0 (answe
 third_starts : answer (entry (of_third 1) 0 (answers.Started 0) ∷ entry (of_third 2) 0 (answers.Started 0) ∷ []) 0 (of_third 3) ≡ answers.Started 0
 third_starts = refl
 
-thirds_are_the_whole : sum_by (λ (r : Reservation). r.load) (reserved_at 0 (messages_in three)) ≡ SCALE
+thirds_are_the_whole : claimed_at (claims_in three) 0 ≡ SCALE
 thirds_are_the_whole = refl
 
 no_load_fits : answer three 0 (write 4 None Normal 1 1024 0) ≡ answers.Cause 0x06

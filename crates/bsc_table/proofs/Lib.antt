@@ -2,7 +2,6 @@ pub mod Bounds
 pub mod Broadcasts
 pub mod Busy
 pub mod Demand
-pub mod Fitting
 pub mod Inside
 pub mod Promised
 pub mod Reserved

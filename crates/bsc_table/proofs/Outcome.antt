@@ -1,5 +1,5 @@
 -- What an entry with the right answer does to the accepted messages: it stops a live one or none, and adds an admitted one or none.
-use Rattle.std.proofs.Common.{◌≡◌, ℕ, ◌+◌, ◌≤◌, ◌<◌, ◌==◌, Bool, true, false, cond, Option, Some, None, List, [], ◌∷◌, ◌++◌, length, map, sum_by, get_or, refl, ap, sym, subst, ◌∙◌, arith, ltb, leb}
+use Rattle.std.proofs.Common.{◌≡◌, ℕ, ◌+◌, ◌≤◌, ◌<◌, ◌==◌, Bool, true, false, cond, Option, Some, None, List, [], ◌∷◌, ◌++◌, length, map, filter, get_or, refl, ap, sym, subst, ◌∙◌, arith, ltb, leb}
 use Rattle.std.specs.List.{AllPairs, Contains, find}
 use Rattle.std.specs.Option.{IfSome}
 use Rattle.std.proofs.lemmas.Bool.{cond_both, leb-false, ltb-false}
@@ -7,7 +7,6 @@ use Rattle.std.proofs.lemmas.List.{append-nil, map-id}
 use Rattle.std.proofs.lemmas.List.Elements.{All-contains_itself}
 use Rattle.admission.specs.declared.measure.TheConstants.{SCALE}
 use Rattle.admission.specs.Load.{load_of}
-use Rattle.admission.specs.Reservation.{Reservation}
 use Rattle.scheduler.specs.Message.{Message, stopped_at}
 use Rattle.scheduler.specs.Air.{Air}
 use Rattle.scheduler.specs.Completed.{completed}
@@ -20,7 +19,8 @@ use Rattle.bsc_table.specs.declared.entry.Answer.{Answer}
 use Rattle.bsc_table.specs.declared.entry.Answer.TheVariants as answers
 use Rattle.bsc_table.specs.declared.entry.Entry.{Entry}
 use Rattle.bsc_table.specs.Orders.{IsBroadcastable, IsWellFormed}
-use Rattle.bsc_table.specs.Record.{Accepted, start_of, is_stop_by, is_stop_of, stopped_by, write_message, added_by, accepted_in, messages_in, is_high, is_of_pair, message_told, message_named, is_live, reserved_at}
+use Rattle.bsc_table.specs.Record.{Accepted, start_of, is_stop_by, is_stop_of, stopped_by, write_message, added_by, accepted_in, is_high, is_of_pair, message_told, message_named, is_live, claim_of, claims_of, claims_in}
+use Rattle.bsc_table.specs.Claim.{Claim, is_claimed_at, claimed_at, stop_claims}
 use Rattle.bsc_table.specs.Answer.{answer_beside, answer_to_new, answer_to_replacement, unless_accepted, of_live, answer_to_write, answer_to_kill, told_of, before_end, answer_with_room, answer_of}
 use Rattle.bsc_table.specs.Book.{stop_numbered, IsBegun}
 use Rattle.bsc_table.proofs.Appended.{accepted_in-push}
@@ -121,10 +121,11 @@ pub unless_accepted_cases : (P : Answer → Type 0) (found : Option Accepted) (a
 unless_accepted_cases P None answer refuses accepts = accepts refl
 unless_accepted_cases P (Some a) answer refuses accepts = refuses 0x0D
 
-pub beside_cases : (P : Answer → Type 0) (reserved : List Reservation) (load : ℕ) (answer : Answer) → ((cause : ℕ) → P (answers.Cause cause)) → (length reserved < 64 → sum_by (λ r. r.load) reserved + load ≤ SCALE → P answer) → P (answer_beside reserved load answer)
-beside_cases P reserved load answer refuses accepts =
-    let sum : ℕ = sum_by (λ (r : Reservation). r.load) reserved + load in
-    cond_both (leb 64 (length reserved)) (answers.Cause 0x07) (cond (ltb SCALE sum) (answers.Cause 0x06) answer) P (λ _. refuses 0x07) (λ room. cond_both (ltb SCALE sum) (answers.Cause 0x06) answer P (λ _. refuses 0x06) (λ fits. accepts (leb-false 64 (length reserved) room) (ltb-false SCALE sum fits)))
+pub beside_cases : (P : Answer → Type 0) (claims : List Claim) (slot load : ℕ) (answer : Answer) → ((cause : ℕ) → P (answers.Cause cause)) → (length (filter (is_claimed_at slot) claims) < 64 → claimed_at claims slot + load ≤ SCALE → P answer) → P (answer_beside claims slot load answer)
+beside_cases P claims slot load answer refuses accepts =
+    let places : ℕ = length (filter (is_claimed_at slot) claims) in
+    let sum : ℕ = claimed_at claims slot + load in
+    cond_both (leb 64 places) (answers.Cause 0x07) (cond (ltb SCALE sum) (answers.Cause 0x06) answer) P (λ _. refuses 0x07) (λ room. cond_both (ltb SCALE sum) (answers.Cause 0x06) answer P (λ _. refuses 0x06) (λ fits. accepts (leb-false 64 places room) (ltb-false SCALE sum fits)))
 
 -- to find is to have
 pub Contains-find : (p : Accepted → Bool) (all : List Accepted) (a : Accepted) → find p all ≡ Some a → Contains all a
@@ -135,6 +136,12 @@ pub messages_stopped : (number slot : ℕ) (all : List Accepted) → map (λ a. 
 messages_stopped number slot [] = refl
 messages_stopped number slot (a ∷ all) =
     ap (λ (l : List Message). (stop_numbered number slot a).message ∷ l) (messages_stopped number slot all)
+
+-- and as claims
+pub claims_stopped : (number slot : ℕ) (all : List Accepted) → claims_of (map (stop_numbered number slot) all) ≡ stop_claims number slot (claims_of all)
+claims_stopped number slot [] = refl
+claims_stopped number slot (a ∷ all) =
+    ap (λ (l : List Claim). claim_of (stop_numbered number slot a) ∷ l) (claims_stopped number slot all)
 
 kill_outcome : (log : List Entry) (air : Air) (slot id serial : ℕ) → AllPairs OfAnotherPair (accepted_in log) → Outcome log (entry_with (commands.Kill id serial) slot (answer_to_kill log air slot id serial))
 kill_outcome log air slot id serial once =
@@ -156,7 +163,7 @@ new_outcome log slot id serial category period broadcasts dcs contents formed =
     let P : Answer → Type 0 = λ answer. Outcome log (entry_with command slot answer) in
     let refuses : (cause : ℕ) → P (answers.Cause cause) = λ cause. nothing log (entry_with command slot (answers.Cause cause)) (refused_does_nothing log slot cause command) in
     let load = load_of (length contents) period in
-    unless_accepted_cases P (find (is_of_pair id serial) (accepted_in log)) (answer_to_new log slot load) refuses (λ fresh. beside_cases P (reserved_at slot (messages_in log)) load (answers.Started slot) refuses (λ room fits. record {
+    unless_accepted_cases P (find (is_of_pair id serial) (accepted_in log)) (answer_to_new log slot load) refuses (λ fresh. beside_cases P (claims_in log) slot load (answers.Started slot) refuses (λ room fits. record {
       stopped = None;
       started = Some (new_message (length log) slot id serial category period broadcasts contents);
       after = starts_one log slot id serial category period broadcasts dcs contents;
@@ -171,10 +178,10 @@ replacement_outcome log air slot id serial old category period broadcasts dcs co
     let P : Answer → Type 0 = λ answer. Outcome log (entry_with command slot answer) in
     let refuses : (cause : ℕ) → P (answers.Cause cause) = λ cause. nothing log (entry_with command slot (answers.Cause cause)) (refused_does_nothing log slot cause command) in
     let load = load_of (length contents) period in
-    of_live_cases P slot (find (is_of_pair id old) (accepted_in log)) (λ m. unless_accepted (message_named id serial log) (answer_to_replacement log air slot load m)) refuses (λ a found live. unless_accepted_cases P (find (is_of_pair id serial) (accepted_in log)) (answer_to_replacement log air slot load a.message) refuses (λ fresh. beside_cases P (reserved_at slot (stopped_at a.message.number slot (messages_in log))) load (answers.Replaced slot (completed a.message air slot)) refuses (λ room fits.
-    let Room : List Message → Type 0 = λ messages. length (reserved_at slot messages) < 64 in
-    let Fits : List Message → Type 0 = λ messages. sum_by (λ (r : Reservation). r.load) (reserved_at slot messages) + load ≤ SCALE in
-    let same = sym (messages_stopped a.message.number slot (accepted_in log)) in
+    of_live_cases P slot (find (is_of_pair id old) (accepted_in log)) (λ m. unless_accepted (message_named id serial log) (answer_to_replacement log air slot load m)) refuses (λ a found live. unless_accepted_cases P (find (is_of_pair id serial) (accepted_in log)) (answer_to_replacement log air slot load a.message) refuses (λ fresh. beside_cases P (stop_claims a.message.number slot (claims_in log)) slot load (answers.Replaced slot (completed a.message air slot)) refuses (λ room fits.
+    let Room : List Claim → Type 0 = λ claims. length (filter (is_claimed_at slot) claims) < 64 in
+    let Fits : List Claim → Type 0 = λ claims. claimed_at claims slot + load ≤ SCALE in
+    let same = sym (claims_stopped a.message.number slot (accepted_in log)) in
     record {
       stopped = Some a;
       started = Some (new_message (length log) slot id serial category period broadcasts contents);

@@ -19,7 +19,8 @@ use Rattle.bsc_table.specs.declared.entry.Answer.{Answer}
 use Rattle.bsc_table.specs.declared.entry.Answer.TheVariants as answers
 use Rattle.bsc_table.specs.declared.entry.Entry.{Entry}
 use Rattle.bsc_table.specs.Bounds.{least_completed, most_completed}
-use Rattle.bsc_table.specs.Record.{Record, Accepted, start_of, is_stop_of, stop_after, stopped_by, added_by, accepted_in, messages_in, is_of_pair, message_told, message_named, reserved_at}
+use Rattle.bsc_table.specs.Record.{Record, Accepted, start_of, is_stop_of, stop_after, stopped_by, added_by, accepted_in, messages_in, is_of_pair, message_told, message_named, claims_in}
+use Rattle.bsc_table.specs.Claim.{stop_claims}
 use Rattle.bsc_table.specs.Answer.{answer_to_new, answer_to_replacement, unless_accepted, answer_to_write, answer_to_kill, told_of, answer_with_room, answer_of}
 use Rattle.bsc_table.specs.Legal.{IsLegal}
 use Rattle.bsc_table.specs.Told.{completed_told, IsAbout, IsTrulyTold, LegalAnswersAreTrue}
@@ -74,11 +75,11 @@ write_tells : (log : List Entry) (air : Air) (slot load id serial : ℕ) (replac
 write_tells log air slot load id serial None command about =
     let P : Answer → Type 0 = TellsTrue log air slot command in
     let refuses : (cause : ℕ) → P (answers.Cause cause) = λ cause. tells_none log air slot command (answers.Cause cause) refl in
-    unless_accepted_cases P (find (is_of_pair id serial) (accepted_in log)) (answer_to_new log slot load) refuses (λ fresh. beside_cases P (reserved_at slot (messages_in log)) load (answers.Started slot) refuses (λ places fits. tells_none log air slot command (answers.Started slot) refl))
+    unless_accepted_cases P (find (is_of_pair id serial) (accepted_in log)) (answer_to_new log slot load) refuses (λ fresh. beside_cases P (claims_in log) slot load (answers.Started slot) refuses (λ places fits. tells_none log air slot command (answers.Started slot) refl))
 write_tells log air slot load id serial (Some old) command about =
     let P : Answer → Type 0 = TellsTrue log air slot command in
     let refuses : (cause : ℕ) → P (answers.Cause cause) = λ cause. tells_none log air slot command (answers.Cause cause) refl in
-    of_live_cases P slot (find (is_of_pair id old) (accepted_in log)) (λ m. unless_accepted (message_named id serial log) (answer_to_replacement log air slot load m)) refuses (λ a found live. unless_accepted_cases P (find (is_of_pair id serial) (accepted_in log)) (answer_to_replacement log air slot load a.message) refuses (λ fresh. beside_cases P _ load (answers.Replaced slot (completed a.message air slot)) refuses (λ places fits. λ told says.
+    of_live_cases P slot (find (is_of_pair id old) (accepted_in log)) (λ m. unless_accepted (message_named id serial log) (answer_to_replacement log air slot load m)) refuses (λ a found live. unless_accepted_cases P (find (is_of_pair id serial) (accepted_in log)) (answer_to_replacement log air slot load a.message) refuses (λ fresh. beside_cases P (stop_claims a.message.number slot (claims_in log)) slot load (answers.Replaced slot (completed a.message air slot)) refuses (λ places fits. λ told says.
     let pair = found_pair id old (accepted_in log) a found in
     record {
       of_message = a;

@@ -1,7 +1,6 @@
 -- A cell's record, and the messages that its log accepted (own).
-use Rattle.std.specs.Prelude.{ℕ, ◌+◌, ◌*◌, Bool, true, false, ◌==◌, ◌&&◌, ◌||◌, not, nat_lt, Option, Some, None, is_some, List, [], ◌∷◌, ◌++◌, length, map, filter, find}
+use Rattle.std.specs.Prelude.{ℕ, ◌+◌, ◌*◌, Bool, true, false, ◌==◌, ◌&&◌, ◌||◌, not, nat_lt, Option, Some, None, is_some, List, [], ◌∷◌, ◌++◌, length, map, find}
 use Rattle.cbsp_wire.specs.declared.message.Cell.{Cell}
-use Rattle.admission.specs.Reservation.{Reservation, is_reserved_at}
 use Rattle.scheduler.specs.Message.{Message}
 use Rattle.scheduler.specs.Air.{Air}
 use Rattle.bsc_table.specs.declared.command.Category.{Category}
@@ -13,7 +12,7 @@ use Rattle.bsc_table.specs.declared.entry.Answer.TheVariants as answers
 use Rattle.bsc_table.specs.declared.entry.State.{State}
 use Rattle.bsc_table.specs.declared.entry.State.TheVariants as states
 use Rattle.bsc_table.specs.declared.entry.Entry.{Entry}
-use Rattle.bsc_table.specs.Guarantee.{reservation_of}
+use Rattle.bsc_table.specs.Claim.{Claim}
 
 -- a cell's record: how many slots its run has, how many of them were played, the commands that were answered, in order, and
 -- what each played slot aired
@@ -129,6 +128,12 @@ state_by None live = unstopped_state live
 abbrev pub state_at : ℕ → Message → State
 state_at slot m = state_by m.stop (is_live slot m)
 
--- the reservations of messages that count at a slot
-abbrev pub reserved_at : ℕ → List Message → List Reservation
-reserved_at slot messages = filter (is_reserved_at slot) (map reservation_of messages)
+-- what an accepted message claims of the cell's slots: it starts when it is accepted, and so waits behind none
+abbrev pub claim_of : Accepted → Claim
+claim_of a = record { message = a.message; accepted = a.accepted; behind = None; excess = 0 }
+
+abbrev pub claims_of : List Accepted → List Claim
+claims_of all = map claim_of all
+
+abbrev pub claims_in : List Entry → List Claim
+claims_in log = claims_of (accepted_in log)
