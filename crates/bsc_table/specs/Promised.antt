@@ -6,14 +6,19 @@ use Rattle.scheduler.specs.Completed.{completed}
 use Rattle.scheduler.specs.Pages.{times_between}
 use Rattle.bsc_table.specs.Guarantee.{LoadsFit, IsUncut}
 use Rattle.bsc_table.specs.Bounds.{least_completed, most_completed}
-use Rattle.bsc_table.specs.Record.{Record, accepted_in, messages_in, is_of_pair}
+use Rattle.bsc_table.specs.Record.{Record, accepted_in, messages_in, claims_in, is_of_pair}
+use Rattle.bsc_table.specs.Room.{AreInOrder, ClaimsFit}
 use Rattle.bsc_table.specs.Legal.{IsLegal}
 
 -- no two accepted messages have the same identifier and serial number
 abbrev pub LegalPairsComeOnce : Type 0
 LegalPairsComeOnce = (r : Record) → IsLegal r → AllPairs (λ a b. is_of_pair a.id a.serial b ≡ false) (accepted_in r.log)
 
--- the loads that the accepted messages have reserved sum to at most SCALE at each slot
+-- the claims of the accepted messages are in order at the clock, and what they reserve sums to at most SCALE at each slot
+abbrev pub LegalClaimsFit : Type 0
+LegalClaimsFit = (r : Record) → IsLegal r → AreInOrder (claims_in r.log) r.clock × ClaimsFit (claims_in r.log)
+
+-- so the loads that the accepted messages have reserved from their starts on sum to at most SCALE at each slot
 abbrev pub LegalLoadsFit : Type 0
 LegalLoadsFit = (r : Record) → IsLegal r → LoadsFit (messages_in r.log)
 

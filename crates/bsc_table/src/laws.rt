@@ -4,7 +4,7 @@
 ghost use Rattle.bsc_table.specs.Guarantee.{ReservationsCoverBroadcasts, DemandIsNoMoreThanTheSlots, LackMeansABusyPeriod, AdmittedLoadIsAGuarantee, AdmittedBroadcastsAreWhole};
 ghost use Rattle.bsc_table.specs.Room.{ReservedNeverRises, StopKeepsRoom, StartKeepsRoom, TakeoverKeepsRoom, WaitingPassesItsStart};
 ghost use Rattle.bsc_table.specs.Bounds.{CompletedIsAtMost, CompletedIsAtLeast, BoundsAreNear};
-ghost use Rattle.bsc_table.specs.Promised.{LegalPairsComeOnce, LegalLoadsFit, LegalHistoriesAreServed, LegalHistoriesAreBounded, LegalPagesAreAiredOnce};
+ghost use Rattle.bsc_table.specs.Promised.{LegalPairsComeOnce, LegalClaimsFit, LegalLoadsFit, LegalHistoriesAreServed, LegalHistoriesAreBounded, LegalPagesAreAiredOnce};
 ghost use Rattle.bsc_table.specs.Refusals.{RefusalsChangeNothing, AcceptedEntriesAreAll};
 ghost use Rattle.bsc_table.specs.Written.{AcceptedAreWrites, UsesAreOfWrites, AcceptedRise, AcceptedHaveLoads};
 ghost use Rattle.bsc_table.specs.Told.{LegalAnswersAreTrue};
@@ -92,6 +92,7 @@ pub fn legal_histories()
     ensures legal_pairs_come_once { LegalPairsComeOnce }
 
     // However messages were accepted, replaced and killed, the loads that are reserved sum to at most `SCALE` at each slot.
+    ensures legal_claims_fit { LegalClaimsFit }
     ensures legal_loads_fit { LegalLoadsFit }
 
     // Each broadcast that was requested, that is due by the clock and that no stop cut was aired whole, from its release up to the

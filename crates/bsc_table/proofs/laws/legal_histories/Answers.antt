@@ -16,6 +16,7 @@ returns c = record {
   accepted_rise = numbers_rise;
   accepted_have_loads = λ r legal. (IsSound-legal r legal).loaded;
   legal_pairs_come_once = λ r legal. (IsSound-legal r legal).once;
+  legal_claims_fit = λ r legal. ((IsSound-legal r legal).order, (IsSound-legal r legal).fit);
   legal_loads_fit = legal_loads_fit;
   legal_histories_are_served = legal_histories_are_served;
   legal_pages_are_aired_once = legal_pages_are_aired_once c.air_laws.ensures.pages_come_once;
