@@ -1,5 +1,5 @@
 -- Lemmas on reservations and their ends.
-use Rattle.std.proofs.Common.{◌≡◌, ℕ, ◌+◌, ◌-◌, ◌*◌, ◌≤◌, ◌<◌, ◌&&◌, Bool, true, false, Option, Some, None, leb, List, filter, sum_by, arith, refl, ap, ◌∙◌}
+use Rattle.std.proofs.Common.{◌≡◌, ℕ, ◌+◌, ◌-◌, ◌*◌, ◌≤◌, ◌<◌, min, ◌&&◌, Bool, true, false, Option, Some, None, leb, List, filter, sum_by, arith, refl, ap, ◌∙◌}
 use Rattle.std.proofs.lemmas.Bool.{ltb-true, lt-ltb, leb-true, le-leb, false≢true}
 use Rattle.std.specs.Int.{div_ceil}
 use Rattle.std.proofs.Math.Nat.{lt_of_mul-lt-mul_right, mul-le-mul_left}
@@ -49,10 +49,12 @@ loads_at-le_standing reservations clock slot le =
 pub end_of_stopped-boundary : (start period periods : ℕ) → 0 < period → end_of_stopped start period (start + periods * period) ≡ start + periods * period
 end_of_stopped-boundary start period periods h =
     let gone : start + periods * period - start ≡ periods * period = omega arith in
+    let started : min start (start + periods * period) ≡ start = omega arith in
+    let from = ap (λ n. n + period * div_ceil (start + periods * period - start) period) started in
     let whole = ap (λ n. start + period * div_ceil n period) gone in
     let exact = ap (λ n. start + period * n) (div_ceil-whole periods period h) in
     let turned : start + period * periods ≡ start + periods * period = omega arith in
-    whole ∙ (exact ∙ turned)
+    from ∙ (whole ∙ (exact ∙ turned))
 
 -- the reservation does not end before the stop
 pub end_of_stopped-not_before : (start period stop : ℕ) → 0 < period → stop ≤ end_of_stopped start period stop
@@ -73,3 +75,13 @@ end_of_stopped-covers start period periods stop h before =
     let more : periods + 1 ≤ div_ceil (stop - start) period = omega (arith, lt_of_mul-lt-mul_right period above) in
     let times = mul-le-mul_left period more in
     omega arith
+
+-- a stop at the start or before it ends the reservation at once
+pub end_of_stopped-early : (start period stop : ℕ) → 0 < period → stop ≤ start → end_of_stopped start period stop ≡ stop
+end_of_stopped-early start period stop h early =
+    let none : stop - start ≡ 0 = omega arith in
+    let nothing = ap (λ n. period * div_ceil n period) none in
+    let least = div_ceil-least 0 period 0 h (omega arith) in
+    let zero : div_ceil 0 period ≡ 0 = omega (arith, least) in
+    let times = ap (λ n. period * n) zero in
+    omega (arith, nothing, times)

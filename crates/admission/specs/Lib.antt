@@ -1,3 +1,4 @@
+pub mod Laws
 pub mod Load
 pub mod Reservation
 pub mod Table

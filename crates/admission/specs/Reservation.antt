@@ -1,5 +1,5 @@
 -- The reservation of a message (own): the slots at which its load counts.
-use Rattle.std.specs.Prelude.{ℕ, ◌+◌, ◌-◌, ◌*◌, ◌<◌, ◌≤◌, ◌==◌, Bool, true, ◌&&◌, nat_lt, nat_le, if◌then◌else◌, Option, Some, None, List, filter, sum_by, ⊤}
+use Rattle.std.specs.Prelude.{ℕ, ◌+◌, ◌-◌, ◌*◌, ◌<◌, ◌≤◌, ◌==◌, min, Bool, true, ◌&&◌, nat_lt, nat_le, if◌then◌else◌, Option, Some, None, List, filter, sum_by, ⊤}
 use Rattle.std.specs.Int.{div_ceil}
 
 -- a message's number, its load, the slot from which the load counts, and the slot from which it counts no more, if any
@@ -34,10 +34,10 @@ loads_at reservations slot = sum_by (λ r. r.load) (filter (is_reserved_at slot)
 abbrev pub natural_end : ℕ → ℕ → ℕ → Option ℕ
 natural_end start period requested = if requested == 0 then None else Some (start + requested * period)
 
--- the end of the period in which the message is stopped: the least slot, not before the stop, that is a whole number
--- of periods after the start
+-- where the reservation of a stopped message ends. A stop after its start: at the end of the period in which that is, the least slot,
+-- not before the stop, that is a whole number of periods after the start. A stop at its start or before it: at the stop
 abbrev pub end_of_stopped : ℕ → ℕ → ℕ → ℕ
-end_of_stopped start period stop = start + period * div_ceil (stop - start) period
+end_of_stopped start period stop = min start stop + period * div_ceil (stop - start) period
 
 -- the end of a message's reservation, by its start, its period, its requested broadcasts and its stop, if any
 abbrev pub end_of_reservation : ℕ → ℕ → ℕ → Option ℕ → Option ℕ

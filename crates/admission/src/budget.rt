@@ -120,7 +120,7 @@ impl Budget {
         total(self.table.as_slice())
     }
 
-    #[cfg(test)]
+    /// Whether a load is reserved for `entry`, as `reserve` and `release_at` ask.
     pub fn is_reserved(&self, entry: u16) -> bool
         ensures { MatchBool result (Any (λ h. h.entry ≡ entry) self.now)
             (All (λ h. h.entry ≢ entry) self.now) }

@@ -6,8 +6,6 @@
 mod budget;
 mod laws;
 mod measure;
-#[cfg(test)]
-mod tests;
 
 pub use budget::{Budget, Held, NoRoom};
 pub use laws::{reservation_laws, scale_laws};

@@ -1,11 +1,9 @@
 -- What an answer that stops or starts a message says of the record before it.
-use Rattle.std.proofs.Common.{◌≡◌, ℕ, ◌+◌, ◌≤◌, ◌<◌, true, false, Option, Some, None, is_some, List, [], ◌∷◌, ◌++◌, length, map, sum_by, refl, sym, subst, arith}
+use Rattle.std.proofs.Common.{◌≡◌, ℕ, ◌+◌, ◌≤◌, ◌<◌, true, false, Option, Some, None, is_some, List, [], ◌∷◌, ◌++◌, length, map, filter, refl, sym, subst, arith}
 use Rattle.std.specs.List.{find}
 use Rattle.std.proofs.lemmas.Bool.{false≢true, true≢false}
 use Rattle.admission.specs.declared.measure.TheConstants.{SCALE}
 use Rattle.admission.specs.Load.{load_of}
-use Rattle.admission.specs.Reservation.{Reservation}
-use Rattle.scheduler.specs.Message.{Message, stopped_at}
 use Rattle.scheduler.specs.Completed.{completed}
 use Rattle.cbs_page.specs.declared.content.Content.{Content}
 use Rattle.cbs_page.specs.declared.Dcs.{Dcs}
@@ -15,10 +13,11 @@ use Rattle.bsc_table.specs.declared.entry.Answer.{Answer}
 use Rattle.bsc_table.specs.declared.entry.Answer.TheVariants as answers
 use Rattle.bsc_table.specs.declared.entry.Entry.{Entry}
 use Rattle.bsc_table.specs.Orders.{IsBroadcastable}
-use Rattle.bsc_table.specs.Record.{Record, Accepted, start_of, is_stop_by, accepted_with, accepted_in, messages_in, is_of_pair, message_named, is_live, reserved_at}
+use Rattle.bsc_table.specs.Record.{Record, Accepted, start_of, is_stop_by, added_by, accepted_in, is_of_pair, message_named, is_live, claims_in}
+use Rattle.bsc_table.specs.Claim.{Claim, is_claimed_at, claimed_at, stop_claims}
 use Rattle.bsc_table.specs.Answer.{answer_to_new, answer_to_replacement, unless_accepted, answer_to_write, answer_to_kill, answer_with_room}
 use Rattle.bsc_table.specs.Book.{stop_numbered, IsBegun, is_stopped}
-use Rattle.bsc_table.proofs.Outcome.{entry_with, does_nothing, new_message, before_end_cases, of_live_cases, unless_accepted_cases, beside_cases, messages_stopped}
+use Rattle.bsc_table.proofs.Outcome.{entry_with, does_nothing, new_message, before_end_cases, of_live_cases, unless_accepted_cases, beside_cases, claims_stopped}
 
 -- the message that is to be stopped was accepted, and is live
 pub record IsLive (r : Record) (id serial : ℕ) (a : Accepted) : Type 0 where
@@ -46,10 +45,11 @@ write_starts r id serial category period broadcasts dcs contents formed =
     let P : Answer → Type 0 = λ answer. is_some (start_of answer) ≡ true → (answer ≡ answers.Started r.clock) × IsBegun (length r.log) r.clock (accepted_in r.log) new in
     let refuses : (cause : ℕ) → P (answers.Cause cause) = λ cause started. absurd (false≢true started) in
     let load : ℕ = load_of (length contents) period in
-    before_end_cases P r.slots r.clock (answer_to_write r.log r.air r.clock id serial None load) refuses (unless_accepted_cases P (find (is_of_pair id serial) (accepted_in r.log)) (answer_to_new r.log r.clock load) refuses (λ fresh. beside_cases P (reserved_at r.clock (messages_in r.log)) load (answers.Started r.clock) refuses (λ room fits started. (
+    before_end_cases P r.slots r.clock (answer_to_write r.log r.air r.clock id serial None load) refuses (unless_accepted_cases P (find (is_of_pair id serial) (accepted_in r.log)) (answer_to_new r.log r.clock load) refuses (λ fresh. beside_cases P (claims_in r.log) r.clock load (answers.Started r.clock) refuses (λ room fits started. (
       refl,
       record {
         numbered = refl;
+        accepted = refl;
         begins = refl;
         standing = refl;
         some_pages = omega (arith, formed.some_pages);
@@ -71,16 +71,17 @@ write_replaces r id serial old category period broadcasts dcs contents formed =
     let P : Answer → Type 0 = λ answer. is_some (start_of answer) ≡ true → Replaces r id old new answer in
     let refuses : (cause : ℕ) → P (answers.Cause cause) = λ cause started. absurd (false≢true started) in
     let load : ℕ = load_of (length contents) period in
-    before_end_cases P r.slots r.clock (answer_to_write r.log r.air r.clock id serial (Some old) load) refuses (of_live_cases P r.clock (find (is_of_pair id old) (accepted_in r.log)) (λ m. unless_accepted (message_named id serial r.log) (answer_to_replacement r.log r.air r.clock load m)) refuses (λ a found live. unless_accepted_cases P (find (is_of_pair id serial) (accepted_in r.log)) (answer_to_replacement r.log r.air r.clock load a.message) refuses (λ fresh. beside_cases P (reserved_at r.clock (stopped_at a.message.number r.clock (messages_in r.log))) load (answers.Replaced r.clock (completed a.message r.air r.clock)) refuses (λ room fits started.
-    let Room : List Message → Type 0 = λ messages. length (reserved_at r.clock messages) < 64 in
-    let Fits : List Message → Type 0 = λ messages. sum_by (λ (x : Reservation). x.load) (reserved_at r.clock messages) + load ≤ SCALE in
-    let same = sym (messages_stopped a.message.number r.clock (accepted_in r.log)) in
+    before_end_cases P r.slots r.clock (answer_to_write r.log r.air r.clock id serial (Some old) load) refuses (of_live_cases P r.clock (find (is_of_pair id old) (accepted_in r.log)) (λ m. unless_accepted (message_named id serial r.log) (answer_to_replacement r.log r.air r.clock load m)) refuses (λ a found live. unless_accepted_cases P (find (is_of_pair id serial) (accepted_in r.log)) (answer_to_replacement r.log r.air r.clock load a.message) refuses (λ fresh. beside_cases P (stop_claims a.message.number r.clock (claims_in r.log)) r.clock load (answers.Replaced r.clock (completed a.message r.air r.clock)) refuses (λ room fits started.
+    let Room : List Claim → Type 0 = λ claims. length (filter (is_claimed_at r.clock) claims) < 64 in
+    let Fits : List Claim → Type 0 = λ claims. claimed_at claims r.clock + load ≤ SCALE in
+    let same = sym (claims_stopped a.message.number r.clock (accepted_in r.log)) in
     record {
       stopped = a;
       live = record { found = found; live = live };
       told = refl;
       begun = record {
         numbered = refl;
+        accepted = refl;
         begins = refl;
         standing = refl;
         some_pages = omega (arith, formed.some_pages);
@@ -104,7 +105,7 @@ kill_does_nothing log slot id serial answer none =
     never i s (answers.Cause cause) stopped = refl
     never i s answers.Refused stopped = refl
 
-    adds_none : (start : Option ℕ) (n : ℕ) → accepted_with start n [] (commands.Kill id serial) ≡ []
+    adds_none : (start : Option ℕ) (n : ℕ) → added_by n slot start (commands.Kill id serial) ≡ []
     adds_none None n = refl
     adds_none (Some at) n = refl
 
@@ -123,6 +124,6 @@ write_does_nothing log slot id serial replaces category period broadcasts dcs co
     never i s (Some old) (answers.Cause cause) started = refl
     never i s (Some old) answers.Refused started = refl
 
-    adds_none : (start : Option ℕ) (n : ℕ) → is_some start ≡ false → accepted_with start n [] (commands.Write id serial replaces category period broadcasts dcs contents) ≡ []
+    adds_none : (start : Option ℕ) (n : ℕ) → is_some start ≡ false → added_by n slot start (commands.Write id serial replaces category period broadcasts dcs contents) ≡ []
     adds_none None n started = refl
     adds_none (Some at) n started = absurd (true≢false started)

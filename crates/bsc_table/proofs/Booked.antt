@@ -1,5 +1,5 @@
 -- A book's plan and budget, asked of an accepted message.
-use Rattle.std.proofs.Common.{◌≡◌, ℕ, ◌≤◌, ◌==◌, true, cond, filter, Result, Option, Some, None, List, length, map, get_or, refl, ap, sym, subst, ◌∙◌, arith}
+use Rattle.std.proofs.Common.{◌≡◌, ℕ, ◌==◌, true, cond, filter, Result, Option, Some, None, List, length, map, get_or, refl, ap, sym, subst, ◌∙◌, arith}
 use Rattle.std.specs.List.{All, AllPairs, Any, Contains, find}
 use Rattle.std.specs.Option.{option_map}
 use Rattle.std.proofs.lemmas.List.{length-map, get_or-map}
@@ -9,21 +9,23 @@ use Rattle.admission.specs.declared.budget.NoRoom.{NoRoom}
 use Rattle.admission.specs.Reservation.{is_before_end, end_of_stopped}
 use Rattle.admission.specs.Table.{answer_for, remaining_without, ends_at}
 use Rattle.admission.proofs.Reservations.{end_of_stopped-not_before}
-use Rattle.scheduler.specs.Message.{Message, stopped_if, stopped_at}
+use Rattle.scheduler.specs.Message.{Message, stopped_at}
 use Rattle.scheduler.specs.Air.{Air}
 use Rattle.scheduler.specs.Completed.{completed}
 use Rattle.scheduler.specs.Follows.{Kept, messages_of, Follows}
 use Rattle.bsc_table.specs.declared.entry.Entry.{Entry}
 use Rattle.bsc_table.specs.declared.entry.Answer.{Answer}
 use Rattle.bsc_table.specs.declared.entry.Answer.TheVariants as answers
-use Rattle.bsc_table.specs.Record.{Record, Accepted, accepted_in, messages_in, is_of_pair, is_live, reserved_at}
+use Rattle.bsc_table.specs.Record.{Record, Accepted, accepted_in, messages_in, is_of_pair, is_live, claims_of, claims_in}
+use Rattle.bsc_table.specs.Claim.{Claim, stop_claims}
 use Rattle.bsc_table.specs.Answer.{answer_to_new, answer_to_replacement}
 use Rattle.bsc_table.specs.Legal.{IsLegal}
-use Rattle.bsc_table.specs.Book.{line_of, lines_at, by_room}
+use Rattle.bsc_table.specs.Book.{stop_numbered, line_of, lines_at, by_room}
 use Rattle.bsc_table.proofs.Numbers.{numbers_rise}
 use Rattle.bsc_table.proofs.Sound.{BeginsBy, HasLoad, IsSound-legal}
 use Rattle.bsc_table.proofs.Entered.{same_number}
-use Rattle.bsc_table.proofs.Rooms.{same_room, live_is_counted, lines_at-stopped, room_without, answer_by_room}
+use Rattle.bsc_table.proofs.Outcome.{messages_stopped, claims_stopped}
+use Rattle.bsc_table.proofs.Rooms.{SameRoom, same_room, live_is_counted, lines_at-stopped, room_without, answer_by_room}
 use Rattle.bsc_table.proofs.Named.{BelowIt, All-find}
 
 -- an accepted message's message is among the messages
@@ -54,14 +56,10 @@ pub option_is_there : {K : Type 0} (view : K → Accepted) (id serial : ℕ) (lo
 option_is_there view id serial log found kept same is =
     found_is_there id serial log (view kept) (sym same ∙ ap (option_map view) is)
 
--- messages have begun by the clock, as their accepted ones have
-begun_messages : (slot : ℕ) (all : List Accepted) → All (BeginsBy slot) all → All (λ m. m.start ≤ slot) (map (λ a. a.message) all)
-begun_messages slot all begun = All-map (λ (m : Message). m.start ≤ slot) (λ (a : Accepted). a.message) all begun
-
 -- the answer to a new write, by the room of a budget that holds the lines of the accepted messages
 pub new_by_room : (r : Record) (load : ℕ) → IsLegal r → answer_to_new r.log r.clock load ≡ by_room (answer_for (lines_at r.clock (messages_in r.log)) load) (answers.Started r.clock)
 new_by_room r load legal =
-    answer_by_room (reserved_at r.clock (messages_in r.log)) (lines_at r.clock (messages_in r.log)) load (answers.Started r.clock) (same_room r.clock (messages_in r.log) (begun_messages r.clock (accepted_in r.log) ((IsSound-legal r legal).begun)))
+    answer_by_room r.clock (claims_in r.log) (lines_at r.clock (messages_in r.log)) load (answers.Started r.clock) (same_room r.clock (accepted_in r.log) ((IsSound-legal r legal).begun))
 
 -- a live message's line is counted, and ends with its period when it is stopped now
 pub ended_messages : (slot : ℕ) (all : List Accepted) (a : Accepted) → AllPairs BelowIt all → Contains all a → is_live slot a.message ≡ true → All (λ m. m.number ≡ a.message.number → (is_before_end slot (line_of m).until ≡ true) × (end_of_stopped m.start m.period slot ≡ end_of_stopped a.message.start a.message.period slot)) (map (λ x. x.message) all)
@@ -87,8 +85,12 @@ replacement_by_room r load a legal there live =
     let accepts : Answer = answers.Replaced slot (completed a.message r.air slot) in
     let messages : List Message = messages_in r.log in
     let after : List Message = stopped_at number slot messages in
-    let begun : All (λ (m : Message). m.start ≤ slot) after = All-map (λ (m : Message). m.start ≤ slot) (λ (m : Message). stopped_if (m.number == number) slot m) messages (begun_messages slot (accepted_in r.log) sound.begun) in
+    let rest : List Accepted = map (stop_numbered number slot) (accepted_in r.log) in
+    let begun : All (BeginsBy slot) rest = All-map (BeginsBy slot) (stop_numbered number slot) (accepted_in r.log) sound.begun in
+    let Claimed : List Claim → Type 0 = λ claims. SameRoom slot claims (lines_at slot after) in
+    let Lined : List Message → Type 0 = λ left. SameRoom slot (claims_of rest) (lines_at slot left) in
+    let same = subst Claimed (claims_stopped number slot (accepted_in r.log)) (subst Lined (messages_stopped number slot (accepted_in r.log)) (same_room slot rest begun)) in
     let lasts = (All-contains HasLoad (accepted_in r.log) a sound.loaded there).1 in
     let kept = filter_passes (λ (h : Held). is_before_end slot h.until) (map line_of messages) in
     let later = end_of_stopped-not_before a.message.start a.message.period slot lasts in
-    answer_by_room (reserved_at slot after) (lines_at slot after) load accepts (same_room slot after begun) ∙ ap (λ (l : List Held). by_room (answer_for l load) accepts) (sym (lines_without slot r.log a there live)) ∙ sym (ap (λ (x : Result (Unit {0}) NoRoom). by_room x accepts) (room_without slot number end load (lines_at slot messages) later kept))
+    answer_by_room slot (stop_claims number slot (claims_in r.log)) (lines_at slot after) load accepts same ∙ ap (λ (l : List Held). by_room (answer_for l load) accepts) (sym (lines_without slot r.log a there live)) ∙ sym (ap (λ (x : Result (Unit {0}) NoRoom). by_room x accepts) (room_without slot number end load (lines_at slot messages) later kept))

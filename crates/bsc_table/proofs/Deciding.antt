@@ -37,7 +37,7 @@ started r id serial category period broadcasts dcs contents answer formed right 
     let Is : Answer → Type 0 = λ x. is_some (start_of x) ≡ true in
     let facts = write_starts r id serial category period broadcasts dcs contents formed (subst Is right starts) in
     let After : Answer → Type 0 = λ x. accepted_in (r.log ++ entry_with write r.clock x ∷ []) ≡ accepted_in r.log ++ new ∷ [] in
-    record { begun = facts.1; after = subst After (sym (right ∙ facts.0)) (starts_one r.log r.clock r.clock id serial category period broadcasts dcs contents) }
+    record { begun = facts.1; after = subst After (sym (right ∙ facts.0)) (starts_one r.log r.clock id serial category period broadcasts dcs contents) }
 
 -- what is found by one pair is one message
 same_found : (a b : Accepted) (found : Option Accepted) → found ≡ Some a → found ≡ Some b → a ≡ b

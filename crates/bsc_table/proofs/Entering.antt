@@ -18,7 +18,8 @@ use Rattle.bsc_table.specs.declared.kept.Kept.{Kept}
 use Rattle.bsc_table.specs.declared.book.CellBook.TheInside.{Inside}
 use Rattle.bsc_table.specs.declared.entry.Answer.{Answer}
 use Rattle.bsc_table.specs.declared.entry.Entry.{Entry}
-use Rattle.bsc_table.specs.Record.{Record, Accepted, accepted_in, messages_in, is_live, reserved_at}
+use Rattle.bsc_table.specs.Record.{Record, Accepted, accepted_in, messages_in, is_live, claims_of}
+use Rattle.bsc_table.specs.Claim.{is_claimed_at, claimed_at}
 use Rattle.bsc_table.specs.Answer.{answer_with_room, answer_of}
 use Rattle.bsc_table.specs.Legal.{IsLegal}
 use Rattle.bsc_table.specs.Book.{accepted_of, air_told, record_of, kept_stopped, stop_numbered, IsBegun, IsLiveIn, IsNext, IsBook, with_entry, line_of, lines_at}
@@ -96,12 +97,13 @@ number_below log a there =
     All-contains (λ (x : Accepted). x.message.number < length log) (accepted_in log) a (numbers_below log) there
 
 -- a message that may begin has room in a budget that holds the lines of those before it
-pub begun_fits : (slot load : ℕ) (messages : List Message) → All (λ m. m.start ≤ slot) messages → length (reserved_at slot messages) < 64 → sum_by (λ r. r.load) (reserved_at slot messages) + load ≤ SCALE → answer_for (lines_at slot messages) load ≡ Ok tt
-begun_fits slot load messages begun room fits =
-    let same = same_room slot messages begun in
-    let few : length (lines_at slot messages) < 64 = omega (arith, same.places) in
-    let all : sum_by (λ (h : Held). h.load) (lines_at slot messages) + load ≤ SCALE = omega (arith, same.loads) in
-    rw (lt-ltb (length (lines_at slot messages)) 64 few, le-leb (sum_by (λ (h : Held). h.load) (lines_at slot messages) + load) SCALE all) refl
+pub begun_fits : (slot load : ℕ) (before : List Accepted) → All (BeginsBy slot) before → length (filter (is_claimed_at slot) (claims_of before)) < 64 → claimed_at (claims_of before) slot + load ≤ SCALE → answer_for (lines_at slot (map (λ a. a.message) before)) load ≡ Ok tt
+begun_fits slot load before begun room fits =
+    let same = same_room slot before begun in
+    let lines : List Held = lines_at slot (map (λ (a : Accepted). a.message) before) in
+    let few : length lines < 64 = omega (arith, same.places, room) in
+    let all : sum_by (λ (h : Held). h.load) lines + load ≤ SCALE = omega (arith, same.loads, fits) in
+    rw (lt-ltb (length lines) 64 few, le-leb (sum_by (λ (h : Held). h.load) lines + load) SCALE all) refl
 
 -- a live message is told of as standing
 pub standing_in : (plan : Planned) (slot : ℕ) (log : List Entry) (air : Air) (a : Accepted) → Follows plan (messages_in log) air → Contains (accepted_in log) a → is_live slot a.message ≡ true → Any (λ m. (m.number ≡ a.message.number) × (m.stop ≡ None)) (messages_of plan)
@@ -160,7 +162,7 @@ begun_line k load until loads ends standing =
 -- what a message that may begin finds, and leaves, in a budget
 pub begun_room : (number slot : ℕ) (before : List Accepted) (a : Accepted) → All (BeginsBy slot) before → IsBegun number slot before a → answer_for (lines_at slot (map (λ x. x.message) before)) (load_of a.message.pages a.message.period) ≡ Ok tt
 begun_room number slot before a begun may =
-    begun_fits slot (load_of a.message.pages a.message.period) (map (λ (x : Accepted). x.message) before) (All-map (λ (m : Message). m.start ≤ slot) (λ (x : Accepted). x.message) before begun) may.room may.fits
+    begun_fits slot (load_of a.message.pages a.message.period) before begun may.room may.fits
 
 pub begun_lines : (number slot : ℕ) (before : List Accepted) (a : Accepted) → IsBegun number slot before a → lines_at slot (map (λ x. x.message) before ++ a.message ∷ []) ≡ lines_at slot (map (λ x. x.message) before) ++ line_of a.message ∷ []
 begun_lines number slot before a may =

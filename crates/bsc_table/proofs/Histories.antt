@@ -1,20 +1,19 @@
 -- Legal histories worked by hand: answers, and what is aired.
-use Rattle.std.proofs.Common.{◌≡◌, ℕ, zero, suc, ◌≤◌, ◌<◌, Bool, true, false, ◌&&◌, inl, refl, Option, Some, None, List, [], ◌∷◌, ◌++◌, length, sum_by, take, get_or, arith}
+use Rattle.std.proofs.Common.{◌≡◌, ℕ, zero, suc, ◌≤◌, ◌<◌, Bool, true, false, ◌&&◌, inl, refl, Option, Some, None, List, [], ◌∷◌, replicate, ◌++◌, length, take, get_or, arith}
 use Rattle.std.specs.Prelude.{nat_le, nat_lt}
 use Rattle.std.specs.List.{All, AllPairs, Any, list_all}
-use Rattle.std.proofs.lemmas.Bool.{and_parts, leb-true, le-leb, ltb-true}
+use Rattle.std.proofs.lemmas.Bool.{and_parts, leb-true, le-leb, ltb-true, eqb-true}
 use Rattle.std.proofs.lemmas.List.Elements.{All-nil, All-cons, All-weaker}
 use Rattle.std.proofs.lemmas.List.Kept.{AllPairs-cons}
 use Rattle.std.proofs.lemmas.List.Sums.{AllPass-from_list_all}
 use Rattle.cbs_page.specs.declared.content.Content.{Content}
-use Rattle.cbsp_wire.specs.Range.{is_coding}
+use Rattle.cbsp_wire.specs.Range.{is_coding, is_full}
 use Rattle.scheduler.specs.Air.{Air, pages_aired}
 use Rattle.scheduler.specs.Completed.{completed}
 use Rattle.scheduler.specs.Choice.{air_of}
 use Rattle.scheduler.specs.Message.{Message}
 use Rattle.scheduler.proofs.Choice.{IsAirOf-air_of}
 use Rattle.admission.specs.declared.measure.TheConstants.{SCALE}
-use Rattle.admission.specs.Reservation.{Reservation}
 use Rattle.bsc_table.specs.declared.command.Category.{Category}
 use Rattle.bsc_table.specs.declared.command.Category.TheVariants.{High, Normal}
 use Rattle.bsc_table.specs.declared.command.Command.{Command}
@@ -25,7 +24,8 @@ use Rattle.bsc_table.specs.declared.entry.State.TheVariants as states
 use Rattle.bsc_table.specs.declared.entry.Entry.{Entry}
 use Rattle.bsc_table.specs.Bounds.{least_completed, most_completed}
 use Rattle.bsc_table.specs.Orders.{IsWellFormed}
-use Rattle.bsc_table.specs.Record.{Record, accepted_in, messages_in, reserved_at}
+use Rattle.bsc_table.specs.Record.{Record, accepted_in, messages_in, claims_in}
+use Rattle.bsc_table.specs.Claim.{claimed_at}
 use Rattle.bsc_table.specs.Answer.{answer_of}
 use Rattle.bsc_table.specs.Legal.{IsAnswered, IsLegal}
 use Rattle.bsc_table.specs.Told.{IsTrulyTold}
@@ -34,7 +34,7 @@ use Rattle.bsc_table.proofs.Told.{legal_answers_are_true}
 
 abbrev contents : ℕ → List Content
 contents zero = []
-contents (suc n) = record { used = 0; octets = [] } ∷ contents n
+contents (suc n) = record { used = 0; octets = replicate 82 0 } ∷ contents n
 
 -- a write of message 4370 that asks for so many pages in each period
 abbrev write : ℕ → Option ℕ → Category → ℕ → ℕ → ℕ → Command
@@ -215,7 +215,7 @@ slots_rise-upto from (e ∷ log) to rise =
 -- well-formed commands, as a test
 abbrev is_formed : Command → Bool
 is_formed (commands.Write id serial replaces category period broadcasts dcs contents) =
-    (nat_le 1 (length contents) && nat_le (length contents) 15) && (list_all (λ c. nat_le c.used 82) contents && ((nat_le 1 period && nat_le period 1024) && is_coding dcs.0))
+    (nat_le 1 (length contents) && nat_le (length contents) 15) && (list_all (λ c. nat_le c.used 82) contents && ((nat_le 1 period && nat_le period 1024) && (is_coding dcs.0 && list_all is_full contents)))
 is_formed (commands.Kill id serial) = true
 is_formed (commands.Status id serial) = true
 
@@ -232,7 +232,8 @@ is_formed-says (commands.Write id serial replaces category period broadcasts dcs
       used = All-weaker (λ (c : Content). nat_le c.used 82 ≡ true) (λ (c : Content). c.used ≤ 82) (λ c h. leb-true c.used 82 h) contents (AllPass-from_list_all (λ (c : Content). nat_le c.used 82) contents second.0);
       some_period = leb-true 1 period periods.0;
       short_period = leb-true period 1024 periods.1;
-      coded = third.1;
+      coded = (and_parts _ _ third.1).0;
+      full = All-weaker (λ (c : Content). is_full c ≡ true) (λ (c : Content). length c.octets ≡ 82) (λ c h. eqb-true (length c.octets) 82 h) contents (AllPass-from_list_all is_full contents (and_parts _ _ third.1).1);
     }
 is_formed-says (commands.Kill id serial) formed = tt
 is_formed-says (commands.Status id serial) formed = tt
@@ -329,7 +330,7 @@ three = entry (of_third 1) 0 (answers.Started 0) ∷ entry (of_third 2) 0 (answe
 third_starts : answer (entry (of_third 1) 0 (answers.Started 0) ∷ entry (of_third 2) 0 (answers.Started 0) ∷ []) 0 (of_third 3) ≡ answers.Started 0
 third_starts = refl
 
-thirds_are_the_whole : sum_by (λ (r : Reservation). r.load) (reserved_at 0 (messages_in three)) ≡ SCALE
+thirds_are_the_whole : claimed_at (claims_in three) 0 ≡ SCALE
 thirds_are_the_whole = refl
 
 no_load_fits : answer three 0 (write 4 None Normal 1 1024 0) ≡ answers.Cause 0x06

@@ -2,7 +2,6 @@ pub mod Bounds
 pub mod Broadcasts
 pub mod Busy
 pub mod Demand
-pub mod Fitting
 pub mod Inside
 pub mod Promised
 pub mod Reserved
@@ -24,3 +23,14 @@ pub mod Accepting
 pub mod Entering
 pub mod Deciding
 pub mod Ordered
+pub mod Refusals
+pub mod Written
+pub mod SameMessages
+mod Matched
+pub mod Claims
+pub mod Rising
+pub mod Stops
+pub mod Stopped
+pub mod Added
+pub mod Ahead
+pub mod TakenOver

@@ -1,50 +1,68 @@
 -- The numbers of the accepted messages: their places in the log.
-use Rattle.std.proofs.Common.{ℕ, ◌+◌, ◌≤◌, ◌<◌, Option, Some, None, List, [], ◌∷◌, ◌++◌, length, arith}
+use Rattle.std.proofs.Common.{◌≡◌, ℕ, ◌+◌, ◌<◌, Option, Some, None, List, [], ◌∷◌, ◌++◌, length, map, get_or, sym, subst, arith}
 use Rattle.std.specs.List.{All, AllPairs}
-use Rattle.std.proofs.lemmas.List.Elements.{All-nil, All-cons, All-weaker}
-use Rattle.std.proofs.lemmas.List.Kept.{AllPairs-cons}
+use Rattle.std.proofs.lemmas.List.{append-nil, get_or-map, length-map}
+use Rattle.std.proofs.lemmas.List.Elements.{All-map, All-push, All-weaker, All-nil}
+use Rattle.std.proofs.lemmas.List.Quantifiers.{all_pairs_push}
 use Rattle.bsc_table.specs.declared.command.Command.{Command}
 use Rattle.bsc_table.specs.declared.command.Command.TheVariants as commands
 use Rattle.bsc_table.specs.declared.entry.Entry.{Entry}
-use Rattle.bsc_table.specs.Record.{Accepted, start_of, accepted_with, accepted_from, accepted_in}
+use Rattle.bsc_table.specs.Record.{Accepted, start_of, is_high, stopped_by, write_message, added_by, accepted_after, accepted_from, accepted_in}
 use Rattle.bsc_table.proofs.Named.{BelowIt}
 
--- the message lies in these places of the log
-abbrev IsWithin : ℕ → ℕ → Accepted → Type 0
-IsWithin low high a = (low ≤ a.message.number) × (a.message.number < high)
+abbrev IsBelow : ℕ → Accepted → Type 0
+IsBelow place a = a.message.number < place
 
--- the one message of an entry has the number of its place, before those of the later ones
-within_with : (start : Option ℕ) (place high : ℕ) (later : List Entry) (command : Command) (rest : List Accepted) → place < high → All (IsWithin (place + 1) high) rest → All (IsWithin place high) (accepted_with start place later command ++ rest)
-within_with (Some start) place high later (commands.Write id serial replaces category period broadcasts dcs contents) rest before above =
-    All-cons (IsWithin place high) _ rest (omega arith, before) (All-weaker (IsWithin (place + 1) high) (IsWithin place high) (λ a w. (omega arith, w.1)) rest above)
-within_with (Some start) place high later (commands.Kill id serial) rest before above =
-    All-weaker (IsWithin (place + 1) high) (IsWithin place high) (λ a w. (omega arith, w.1)) rest above
-within_with (Some start) place high later (commands.Status id serial) rest before above =
-    All-weaker (IsWithin (place + 1) high) (IsWithin place high) (λ a w. (omega arith, w.1)) rest above
-within_with None place high later command rest before above =
-    All-weaker (IsWithin (place + 1) high) (IsWithin place high) (λ a w. (omega arith, w.1)) rest above
+record AreNumbered (all : List Accepted) (place : ℕ) : Type 0 where
+  pub rising : AllPairs BelowIt all
+  pub below : All (IsBelow place) all
 
-within_from : (place high : ℕ) (log : List Entry) → place + length log ≤ high → All (IsWithin place high) (accepted_from place log)
-within_from place high [] fits = All-nil (IsWithin place high)
-within_from place high (e ∷ log) fits =
-    within_with (start_of e.answer) place high log e.command (accepted_from (place + 1) log) (omega arith) (within_from (place + 1) high log (omega arith))
+pub AllPairs-map : (R : Accepted → Accepted → Type 0) (f : Accepted → Accepted) → ((a b : Accepted) → R a b → R (f a) (f b)) → (all : List Accepted) → AllPairs R all → AllPairs R (map f all)
+AllPairs-map R f kept all pairs = λ i j d before within.
+    let long = length-map all f in
+    let first = get_or-map f all i d d (omega arith) in
+    let second = get_or-map f all j d d (omega arith) in
+    let First : Accepted → Type 0 = λ v. R v (get_or (map f all) j d) in
+    let Second : Accepted → Type 0 = λ w. R (f (get_or all i d)) w in
+    subst First (sym first) (subst Second (sym second) (kept (get_or all i d) (get_or all j d) (pairs i j d before (omega arith))))
 
-rise_with : (start : Option ℕ) (place high : ℕ) (later : List Entry) (command : Command) (rest : List Accepted) → All (IsWithin (place + 1) high) rest → AllPairs BelowIt rest → AllPairs BelowIt (accepted_with start place later command ++ rest)
-rise_with (Some start) place high later (commands.Write id serial replaces category period broadcasts dcs contents) rest above rising =
-    AllPairs-cons BelowIt _ rest (λ k d h. let w = above k d h in omega (arith, w.0)) rising
-rise_with (Some start) place high later (commands.Kill id serial) rest above rising = rising
-rise_with (Some start) place high later (commands.Status id serial) rest above rising = rising
-rise_with None place high later command rest above rising = rising
+numbered_later : (all : List Accepted) (place : ℕ) → AreNumbered all place → AreNumbered (all ++ []) (place + 1)
+numbered_later all place numbered =
+    let P : List Accepted → Type 0 = λ l. AreNumbered l (place + 1) in
+    subst P (sym (append-nil all)) (record { rising = numbered.rising; below = All-weaker (IsBelow place) (IsBelow (place + 1)) (λ a h. omega arith) all numbered.below })
 
-rise_from : (place : ℕ) (log : List Entry) → AllPairs BelowIt (accepted_from place log)
-rise_from place [] = λ i j d before within. absurd (omega arith)
-rise_from place (e ∷ log) =
-    rise_with (start_of e.answer) place (place + 1 + length log) log e.command (accepted_from (place + 1) log) (within_from (place + 1) (place + 1 + length log) log (omega arith)) (rise_from (place + 1) log)
+numbered_with : (before : List Accepted) (place slot : ℕ) (start : Option ℕ) (command : Command) → AreNumbered before place → AreNumbered (before ++ added_by place slot start command) (place + 1)
+numbered_with before place slot None command numbered = numbered_later before place numbered
+numbered_with before place slot (Some start) (commands.Kill id serial) numbered = numbered_later before place numbered
+numbered_with before place slot (Some start) (commands.Status id serial) numbered = numbered_later before place numbered
+numbered_with before place slot (Some start) (commands.Write id serial replaces category period broadcasts dcs contents) numbered =
+    let new : Accepted = write_message place slot start id serial (length contents) period broadcasts (is_high category) in
+    record {
+      rising = all_pairs_push BelowIt before new numbered.rising (λ k d h. numbered.below k d h);
+      below = All-push (IsBelow (place + 1)) before new (All-weaker (IsBelow place) (IsBelow (place + 1)) (λ a h. omega arith) before numbered.below) (omega arith);
+    }
 
--- they rise, and are below the length of the log
+numbered_after : (all : List Accepted) (place : ℕ) (e : Entry) → AreNumbered all place → AreNumbered (accepted_after all place e) (place + 1)
+numbered_after all place e numbered =
+    numbered_with (map (stopped_by e) all) place e.slot (start_of e.answer) e.command (record {
+      rising = AllPairs-map BelowIt (stopped_by e) (λ a b h. h) all numbered.rising;
+      below = All-map (IsBelow place) (stopped_by e) all numbered.below;
+    })
+
+numbered_from : (all : List Accepted) (place : ℕ) (log : List Entry) → AreNumbered all place → AreNumbered (accepted_from all place log) (place + length log)
+numbered_from all place [] numbered =
+    let same : place ≡ place + 0 = omega arith in
+    subst (AreNumbered all) same numbered
+numbered_from all place (e ∷ log) numbered =
+    let same : place + 1 + length log ≡ place + length (e ∷ log) = omega arith in
+    subst (AreNumbered (accepted_from (accepted_after all place e) (place + 1) log)) same (numbered_from (accepted_after all place e) (place + 1) log (numbered_after all place e numbered))
+
+-- numbers rise, and are below the length of the log
 pub numbers_rise : (log : List Entry) → AllPairs BelowIt (accepted_in log)
-numbers_rise log = rise_from 0 log
+numbers_rise log =
+    (numbered_from [] 0 log (record { rising = λ i j d b w. absurd (omega arith); below = All-nil (IsBelow 0) })).rising
 
 pub numbers_below : (log : List Entry) → All (λ a. a.message.number < length log) (accepted_in log)
-numbers_below log =
-    All-weaker (IsWithin 0 (length log)) (λ (a : Accepted). a.message.number < length log) (λ a w. w.1) (accepted_in log) (within_from 0 (length log) log (omega arith))
+numbers_below log = λ k d h.
+    let by = (numbered_from [] 0 log (record { rising = λ i j d b w. absurd (omega arith); below = All-nil (IsBelow 0) })).below k d h in
+    omega arith

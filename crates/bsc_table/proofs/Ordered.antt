@@ -2,7 +2,7 @@
 use Rattle.std.proofs.Common.{◌≡◌, ℕ, ◌==◌, Bool, true, ◌&&◌, Option, Some, List, length, get_or, leb, subst}
 use Rattle.std.specs.List.{list_all}
 use Rattle.std.proofs.lemmas.List.Sums.{AllPass-from_list_all}
-use Rattle.std.proofs.lemmas.Bool.{and_parts, leb-true}
+use Rattle.std.proofs.lemmas.Bool.{and_parts, leb-true, eqb-true}
 use Rattle.cbs_page.specs.declared.content.Content.{Content}
 use Rattle.cbs_page.specs.declared.Dcs.{Dcs}
 use Rattle.cbsp_wire.specs.declared.message.Cell.{Cell}
@@ -51,6 +51,7 @@ broadcastable id new old cells channel category period broadcasts dcs contents w
       some_period = leb-true 1 period times.0;
       short_period = leb-true period 1024 times.1;
       coded = second_of_four (is_period period) coded in_category in_channel numbers;
+      full = λ k d h. eqb-true (length (get_or contents k d).octets) 82 (AllPass-from_list_all is_full contents (and_parts (are_values f && has_cells && has_failures) all_full writable).1 k d h);
     }
 
 -- of a message that octets mean

@@ -10,43 +10,52 @@ use Rattle.admission.specs.declared.budget.Held.{Held}
 use Rattle.admission.specs.declared.budget.NoRoom.TheVariants as no_rooms
 use Rattle.admission.specs.declared.measure.TheConstants.{SCALE}
 use Rattle.admission.specs.Load.{load_of}
-use Rattle.admission.specs.Reservation.{Reservation, is_before_end, is_reserved_at, end_of_reservation, end_of_stopped, natural_end}
+use Rattle.admission.specs.Reservation.{is_before_end, end_of_reservation, end_of_stopped, natural_end}
 use Rattle.admission.specs.Table.{answer_of as answer_by, answer_for, remaining_without, ends_if, ends_at}
 use Rattle.scheduler.specs.Message.{Message, stopped_if, stopped_at}
-use Rattle.bsc_table.specs.Guarantee.{reservation_of}
 use Rattle.bsc_table.specs.declared.entry.Answer.{Answer}
 use Rattle.bsc_table.specs.declared.entry.Answer.TheVariants as answers
 use Rattle.bsc_table.specs.Answer.{answer_beside}
-use Rattle.bsc_table.specs.Record.{is_live, reserved_at}
+use Rattle.bsc_table.specs.Record.{Accepted, claim_of, claims_of, is_live}
+use Rattle.bsc_table.specs.Claim.{Claim, is_claimed_at, share_at, claim_at, claimed_at}
 use Rattle.bsc_table.specs.Book.{line_of, lines_at, by_room}
 use Rattle.bsc_table.proofs.Named.{live_is_standing}
+use Rattle.bsc_table.proofs.Claims.{share_at-started}
+use Rattle.bsc_table.proofs.Sound.{BeginsBy}
 
 -- a line that is still counted at the slot
 abbrev IsCounted : ℕ → Held → Type 0
 IsCounted slot h = is_before_end slot h.until ≡ true
 
--- messages that have begun are reserved as far as their lines are counted
-pub record SameRoom (reserved : List Reservation) (lines : List Held) : Type 0 where
-  pub places : length reserved ≡ length lines
-  pub loads : sum_by (λ r. r.load) reserved ≡ sum_by (λ h. h.load) lines
+-- accepted messages that have started are reserved as far as their lines are counted
+pub record SameRoom (slot : ℕ) (claims : List Claim) (lines : List Held) : Type 0 where
+  pub places : length (filter (is_claimed_at slot) claims) ≡ length lines
+  pub loads : claimed_at claims slot ≡ sum_by (λ h. h.load) lines
 
-same_room_more : (b : Bool) (r : Reservation) (h : Held) (reserved : List Reservation) (lines : List Held) → r.load ≡ h.load → SameRoom reserved lines → SameRoom (cond b (r ∷ reserved) reserved) (cond b (h ∷ lines) lines)
-same_room_more true r h reserved lines load same = record {
-  places = omega (arith, same.places);
-  loads = omega (arith, same.loads, load, sum_by-cons (λ (x : Reservation). x.load) r reserved, sum_by-cons (λ (x : Held). x.load) h lines);
-}
-same_room_more false r h reserved lines load same = same
+same_room_more : (b : Bool) (slot : ℕ) (c : Claim) (h : Held) (claims : List Claim) (lines : List Held) → is_claimed_at slot c ≡ b → share_at slot c ≡ h.load → SameRoom slot claims lines → SameRoom slot (c ∷ claims) (cond b (h ∷ lines) lines)
+same_room_more true slot c h claims lines counted load same =
+    let places = ap (λ (b : Bool). length (cond b (c ∷ filter (is_claimed_at slot) claims) (filter (is_claimed_at slot) claims))) counted in
+    let loads = ap (λ (b : Bool). cond b (share_at slot c) 0) counted in
+    record {
+      places = omega (arith, same.places, places);
+      loads = omega (arith, same.loads, load, loads, sum_by-cons (claim_at slot) c claims, sum_by-cons (λ (x : Held). x.load) h lines);
+    }
+same_room_more false slot c h claims lines counted load same =
+    let places = ap (λ (b : Bool). length (cond b (c ∷ filter (is_claimed_at slot) claims) (filter (is_claimed_at slot) claims))) counted in
+    let loads = ap (λ (b : Bool). cond b (share_at slot c) 0) counted in
+    record {
+      places = omega (arith, same.places, places);
+      loads = omega (arith, same.loads, loads, sum_by-cons (claim_at slot) c claims);
+    }
 
-pub same_room : (slot : ℕ) (messages : List Message) → All (λ m. m.start ≤ slot) messages → SameRoom (reserved_at slot messages) (lines_at slot messages)
+pub same_room : (slot : ℕ) (all : List Accepted) → All (BeginsBy slot) all → SameRoom slot (claims_of all) (lines_at slot (map (λ a. a.message) all))
 same_room slot [] begun = record { places = refl; loads = refl }
-same_room slot (m ∷ messages) begun =
-    let Begun : Message → Type 0 = λ x. x.start ≤ slot in
-    let rest = same_room slot messages (All-tail Begun m messages begun) in
-    let counted : Bool = is_before_end slot (line_of m).until in
-    let kept : is_reserved_at slot (reservation_of m) ≡ counted =
-    ap (λ (b : Bool). b && counted) (le-leb m.start slot (All-head Begun m messages begun)) in
-    let P : Bool → Type 0 = λ b. SameRoom (cond b (reservation_of m ∷ reserved_at slot messages) (reserved_at slot messages)) (cond counted (line_of m ∷ lines_at slot messages) (lines_at slot messages)) in
-    subst P (sym kept) (same_room_more counted (reservation_of m) (line_of m) (reserved_at slot messages) (lines_at slot messages) refl rest)
+same_room slot (a ∷ all) begun =
+    let here = All-head (BeginsBy slot) a all begun in
+    let rest = same_room slot all (All-tail (BeginsBy slot) a all begun) in
+    let counted : Bool = is_before_end slot (line_of a.message).until in
+    let kept : is_claimed_at slot (claim_of a) ≡ counted = ap (λ (b : Bool). b && counted) (le-leb a.accepted slot here.0) in
+    same_room_more counted slot (claim_of a) (line_of a.message) (claims_of all) (lines_at slot (map (λ (x : Accepted). x.message) all)) kept (share_at-started slot (claim_of a) here.1) rest
 
 -- a live message's line is counted
 pub live_is_counted : (slot : ℕ) (m : Message) → is_live slot m ≡ true → IsCounted slot (line_of m)
@@ -168,7 +177,7 @@ room_told places all accepts =
     ]
 
 -- the refusals of a write for want of room are those of the budget
-pub answer_by_room : (reserved : List Reservation) (lines : List Held) (load : ℕ) (accepts : Answer) → SameRoom reserved lines → answer_beside reserved load accepts ≡ by_room (answer_for lines load) accepts
-answer_by_room reserved lines load accepts same =
-    let sum : ℕ = sum_by (λ (r : Reservation). r.load) reserved in
-    room_told (length reserved) (sum + load) accepts ∙ ap (λ (n : ℕ). by_room (answer_by (length reserved) n load) accepts) same.loads ∙ ap (λ (n : ℕ). by_room (answer_by n (sum_by (λ (h : Held). h.load) lines) load) accepts) same.places
+pub answer_by_room : (slot : ℕ) (claims : List Claim) (lines : List Held) (load : ℕ) (accepts : Answer) → SameRoom slot claims lines → answer_beside claims slot load accepts ≡ by_room (answer_for lines load) accepts
+answer_by_room slot claims lines load accepts same =
+    let places : ℕ = length (filter (is_claimed_at slot) claims) in
+    room_told places (claimed_at claims slot + load) accepts ∙ ap (λ (n : ℕ). by_room (answer_by places n load) accepts) same.loads ∙ ap (λ (n : ℕ). by_room (answer_by n (sum_by (λ (h : Held). h.load) lines) load) accepts) same.places

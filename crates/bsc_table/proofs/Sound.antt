@@ -1,25 +1,31 @@
--- Of a legal history: each pair was accepted once, and no message begins after the clock.
-use Rattle.std.proofs.Common.{◌≡◌, ℕ, zero, suc, ◌≤◌, ◌<◌, ◌==◌, Bool, false, ◌&&◌, Option, Some, None, List, [], ◌∷◌, ◌++◌, length, take, map, get_or, refl, ap, sym, subst, ◌∙◌, inl, inr, arith}
-use Rattle.std.specs.List.{All, AllPairs, find}
+-- Of a legal history: each pair was accepted once, no message begins after the clock, and the claims are in order and fit.
+use Rattle.std.proofs.Common.{◌≡◌, ℕ, zero, suc, ◌≤◌, ◌<◌, ◌==◌, Bool, true, false, ◌&&◌, Option, Some, None, List, [], ◌∷◌, ◌++◌, length, take, map, get_or, refl, ap, sym, subst, ◌∙◌, inl, inr, arith}
+use Rattle.std.specs.List.{All, AllPairs, Contains, find}
 use Rattle.std.specs.Option.{IfSome}
 use Rattle.std.proofs.lemmas.Bool.{cases_Bool, cases_eq, eq-eqb, ne_eqb}
 use Rattle.std.proofs.lemmas.Option.{none-some}
 use Rattle.std.proofs.Math.Seq.{take-suc}
-use Rattle.std.proofs.lemmas.List.{get_or_default, take_all, length-take-le, get_or-take}
+use Rattle.std.proofs.lemmas.List.{get_or_default, take_all, length-take-le, get_or-take, get_or-map, length-map, map-append}
 use Rattle.std.proofs.lemmas.List.Elements.{All-nil, All-cons, All-push, All-map, All-weaker, All-take}
-use Rattle.std.proofs.lemmas.List.Kept.{AllPairs-cons}
 use Rattle.std.proofs.lemmas.List.Quantifiers.{all_pairs_push}
 use Rattle.bsc_table.specs.declared.entry.Answer.{Answer}
 use Rattle.bsc_table.specs.declared.entry.Entry.{Entry}
-use Rattle.bsc_table.specs.Record.{Record, Accepted, accepted_in, is_of_pair}
+use Rattle.bsc_table.specs.Record.{Record, Accepted, accepted_in, is_of_pair, is_live, claim_of, claims_of}
+use Rattle.bsc_table.specs.Claim.{Claim}
+use Rattle.bsc_table.specs.Room.{AreInOrder, ClaimsFit, IsNew}
 use Rattle.bsc_table.specs.Legal.{IsLegal}
 use Rattle.bsc_table.specs.Book.{stop_numbered, IsBegun}
-use Rattle.bsc_table.proofs.Named.{OfAnotherPair, AllPairs-head, AllPairs-tail}
-use Rattle.bsc_table.proofs.Outcome.{Outcome, entry_with, with, without, outcome_of}
+use Rattle.bsc_table.proofs.Named.{OfAnotherPair}
+use Rattle.bsc_table.proofs.Numbers.{AllPairs-map, numbers_below}
+use Rattle.bsc_table.proofs.Stops.{in_order-later}
+use Rattle.bsc_table.proofs.Stopped.{stop_keeps_room}
+use Rattle.bsc_table.proofs.Added.{start_keeps_room}
+use Rattle.bsc_table.proofs.TakenOver.{only_live}
+use Rattle.bsc_table.proofs.Outcome.{Outcome, entry_with, with, without, outcome_of, claims_stopped}
 
--- the message begins at the slot or before it
+-- the message was accepted at the slot or before it, and begins by then
 abbrev pub BeginsBy : ℕ → Accepted → Type 0
-BeginsBy slot a = a.message.start ≤ slot
+BeginsBy slot a = (a.accepted ≤ slot) × (a.message.start ≤ slot)
 
 -- the message has a page and a period
 abbrev pub HasLoad : Accepted → Type 0
@@ -30,20 +36,36 @@ pub record IsSound (all : List Accepted) (slot : ℕ) : Type 0 where
   pub once : AllPairs OfAnotherPair all
   pub begun : All (BeginsBy slot) all
   pub loaded : All HasLoad all
+  pub order : AreInOrder (claims_of all) slot
+  pub fit : ClaimsFit (claims_of all)
 
-AllPairs-map : (R : Accepted → Accepted → Type 0) (f : Accepted → Accepted) → ((a b : Accepted) → R a b → R (f a) (f b)) → (all : List Accepted) → AllPairs R all → AllPairs R (map f all)
-AllPairs-map R f kept [] pairs = λ i j d before within. absurd (omega arith)
-AllPairs-map R f kept (a ∷ all) pairs =
-    AllPairs-cons R (f a) (map f all) (All-map (R (f a)) f all (All-weaker (R a) (λ b. R (f a) (f b)) (λ b. kept a b) all (AllPairs-head R a all pairs))) (AllPairs-map R f kept all (AllPairs-tail R a all pairs))
+-- claims in order that fit
+abbrev HasRoom : ℕ → List Claim → Type 0
+HasRoom slot claims = AreInOrder claims slot × ClaimsFit claims
+
+its_claim : (all : List Accepted) (a : Accepted) → Contains all a → Contains (claims_of all) (claim_of a)
+its_claim all a here =
+    (here.0, omega (arith, here.1, length-map all claim_of), get_or-map claim_of all here.0 a (claim_of a) here.1 ∙ ap claim_of here.2)
+
+-- the claims stay so where a live message is stopped
+room_without : (stopped : Option Accepted) (slot : ℕ) (all : List Accepted) → IfSome stopped (λ a. Contains all a × (is_live slot a.message ≡ true)) → HasRoom slot (claims_of all) → HasRoom slot (claims_of (without stopped slot all))
+room_without None slot all live room = room
+room_without (Some a) slot all live room =
+    let lives = only_live (claims_of all) slot (claim_of a) room.0.rising (its_claim all a live.0) live.1 in
+    subst (HasRoom slot) (sym (claims_stopped a.message.number slot all)) (stop_keeps_room (claims_of all) a.message.number slot room.0 lives room.1)
 
 -- stopping a message changes neither pairs nor starts
-without_sound : (stopped : Option Accepted) (slot at : ℕ) (all : List Accepted) → IsSound all slot → IsSound (without stopped at all) slot
-without_sound None slot at all sound = sound
-without_sound (Some a) slot at all sound = record {
-  once = AllPairs-map OfAnotherPair (stop_numbered a.message.number at) (λ x y apart. apart) all sound.once;
-  begun = All-map (BeginsBy slot) (stop_numbered a.message.number at) all sound.begun;
-  loaded = All-map HasLoad (stop_numbered a.message.number at) all sound.loaded;
-}
+without_sound : (stopped : Option Accepted) (slot : ℕ) (all : List Accepted) → IfSome stopped (λ a. Contains all a × (is_live slot a.message ≡ true)) → IsSound all slot → IsSound (without stopped slot all) slot
+without_sound None slot all live sound = sound
+without_sound (Some a) slot all live sound =
+    let room = room_without (Some a) slot all live (sound.order, sound.fit) in
+    record {
+      once = AllPairs-map OfAnotherPair (stop_numbered a.message.number slot) (λ x y apart. apart) all sound.once;
+      begun = All-map (BeginsBy slot) (stop_numbered a.message.number slot) all sound.begun;
+      loaded = All-map HasLoad (stop_numbered a.message.number slot) all sound.loaded;
+      order = room.0;
+      fit = room.1;
+    }
 
 -- where no message has the pair, each has another one
 same_test : (a b : ℕ) → (a == b) ≡ (b == a)
@@ -81,13 +103,29 @@ find_without (Some a) at id serial all none = stays all none
           | inr fails ↦ rw fails (stays xs (rw fails at e))
         ]
 
-with_sound : (started : Option Accepted) (number slot : ℕ) (before : List Accepted) → IfSome started (λ a. find (is_of_pair a.id a.serial) before ≡ None) → IfSome started (λ a. IsBegun number slot before a) → IsSound before slot → IsSound (with started before) slot
-with_sound None number slot before fresh begun sound = sound
-with_sound (Some new) number slot before fresh begun sound = record {
-  once = all_pairs_push OfAnotherPair before new sound.once (others_are_apart new before fresh);
-  begun = All-push (BeginsBy slot) before new sound.begun (omega (arith, begun.begins));
-  loaded = All-push HasLoad before new sound.loaded (begun.some_pages, begun.some_period);
-}
+-- and the claims stay so where one is added that has room
+room_with : (number slot : ℕ) (before : List Accepted) (new : Accepted) → All (λ a. a.message.number < number) before → IsBegun number slot before new → HasRoom slot (claims_of before) → HasRoom slot (claims_of (before ++ new ∷ []))
+room_with number slot before new below begun room =
+    let greatest = All-map (λ (c : Claim). c.message.number < new.message.number) claim_of before (All-weaker (λ (a : Accepted). a.message.number < number) (λ (a : Accepted). a.message.number < new.message.number) (λ a h. omega (arith, h, begun.numbered)) before below) in
+    let new_one : IsNew (claims_of before) slot (claim_of new) = record { accepted = begun.accepted; greatest = greatest; period = begun.some_period; standing = begun.standing } in
+    subst (HasRoom slot) (sym (map-append claim_of before (new ∷ []))) (start_keeps_room (claims_of before) slot (claim_of new) room.0 room.1 new_one begun.begins begun.fits)
+
+with_sound : (started : Option Accepted) (number slot : ℕ) (before : List Accepted) → All (λ a. a.message.number < number) before → IfSome started (λ a. find (is_of_pair a.id a.serial) before ≡ None) → IfSome started (λ a. IsBegun number slot before a) → IsSound before slot → IsSound (with started before) slot
+with_sound None number slot before below fresh begun sound = sound
+with_sound (Some new) number slot before below fresh begun sound =
+    let room = room_with number slot before new below begun (sound.order, sound.fit) in
+    record {
+      once = all_pairs_push OfAnotherPair before new sound.once (others_are_apart new before fresh);
+      begun = All-push (BeginsBy slot) before new sound.begun (omega (arith, begun.accepted), omega (arith, begun.begins));
+      loaded = All-push HasLoad before new sound.loaded (begun.some_pages, begun.some_period);
+      order = room.0;
+      fit = room.1;
+    }
+
+below_without : (stopped : Option Accepted) (number slot : ℕ) (all : List Accepted) → All (λ a. a.message.number < number) all → All (λ a. a.message.number < number) (without stopped slot all)
+below_without None number slot all below = below
+below_without (Some a) number slot all below =
+    All-map (λ (x : Accepted). x.message.number < number) (stop_numbered a.message.number slot) all below
 
 fresh_without : (started stopped : Option Accepted) (at : ℕ) (all : List Accepted) → IfSome started (λ a. find (is_of_pair a.id a.serial) all ≡ None) → IfSome started (λ a. find (is_of_pair a.id a.serial) (without stopped at all) ≡ None)
 fresh_without None stopped at all fresh = tt
@@ -98,13 +136,15 @@ pub IsSound-push : (log : List Entry) (e : Entry) → Outcome log e → IsSound 
 IsSound-push log e outcome sound =
     let before : List Accepted = without outcome.stopped e.slot (accepted_in log) in
     let Sound : List Accepted → Type 0 = λ all. IsSound all e.slot in
-    subst Sound (sym outcome.after) (with_sound outcome.started (length log) e.slot before (fresh_without outcome.started outcome.stopped e.slot (accepted_in log) outcome.fresh) outcome.begun (without_sound outcome.stopped e.slot e.slot (accepted_in log) sound))
+    subst Sound (sym outcome.after) (with_sound outcome.started (length log) e.slot before (below_without outcome.stopped (length log) e.slot (accepted_in log) (numbers_below log)) (fresh_without outcome.started outcome.stopped e.slot (accepted_in log) outcome.fresh) outcome.begun (without_sound outcome.stopped e.slot (accepted_in log) outcome.live sound))
 
 IsSound-later : (all : List Accepted) (slot later : ℕ) → slot ≤ later → IsSound all slot → IsSound all later
 IsSound-later all slot later after sound = record {
   once = sound.once;
-  begun = All-weaker (BeginsBy slot) (BeginsBy later) (λ a begun. omega arith) all sound.begun;
+  begun = All-weaker (BeginsBy slot) (BeginsBy later) (λ a begun. (omega (arith, begun.0), omega (arith, begun.1))) all sound.begun;
   loaded = sound.loaded;
+  order = in_order-later (claims_of all) slot later after sound.order;
+  fit = sound.fit;
 }
 
 -- an entry of a legal history and those before it
@@ -128,8 +168,18 @@ slots_before r legal k d within = λ i x h.
     let here : get_or r.log k x ≡ get_or r.log k d = get_or_default r.log k x d within in
     omega (arith, ap (λ (e : Entry). e.slot) same, ap (λ (e : Entry). e.slot) here, rises)
 
+empty_order : (slot : ℕ) → AreInOrder [] slot
+empty_order slot = record {
+  rising = λ i j d b w. absurd (omega arith);
+  accepted = λ k d h. absurd (omega arith);
+  forward = λ k d h. absurd (omega arith);
+  periods = λ k d h. absurd (omega arith);
+  handed = λ k d h. absurd (omega arith);
+  alone = λ i j d b w. absurd (omega arith);
+}
+
 pub sound_at : (r : Record) → IsLegal r → (k slot : ℕ) → k ≤ length r.log → All (λ e. e.slot ≤ slot) (take k r.log) → IsSound (accepted_in (take k r.log)) slot
-sound_at r legal zero slot within before = record { once = λ i j d b w. absurd (omega arith); begun = All-nil (BeginsBy slot); loaded = All-nil HasLoad }
+sound_at r legal zero slot within before = record { once = λ i j d b w. absurd (omega arith); begun = All-nil (BeginsBy slot); loaded = All-nil HasLoad; order = empty_order slot; fit = λ t. omega arith }
 sound_at r legal (suc k) slot within before =
     let d : Entry = some_entry r.log (omega arith) in
     let e : Entry = get_or r.log k d in

@@ -19,11 +19,12 @@ use Rattle.bsc_table.specs.declared.entry.Answer.{Answer}
 use Rattle.bsc_table.specs.declared.entry.Answer.TheVariants as answers
 use Rattle.bsc_table.specs.declared.entry.Entry.{Entry}
 use Rattle.bsc_table.specs.Bounds.{least_completed, most_completed}
-use Rattle.bsc_table.specs.Record.{Record, Accepted, start_of, is_stop_of, accepted_with, accepted_in, messages_in, is_of_pair, message_told, message_named, reserved_at}
+use Rattle.bsc_table.specs.Record.{Record, Accepted, start_of, is_stop_of, stop_after, stopped_by, added_by, accepted_in, messages_in, is_of_pair, message_told, message_named, claims_in}
+use Rattle.bsc_table.specs.Claim.{stop_claims}
 use Rattle.bsc_table.specs.Answer.{answer_to_new, answer_to_replacement, unless_accepted, answer_to_write, answer_to_kill, told_of, answer_with_room, answer_of}
 use Rattle.bsc_table.specs.Legal.{IsLegal}
 use Rattle.bsc_table.specs.Told.{completed_told, IsAbout, IsTrulyTold, LegalAnswersAreTrue}
-use Rattle.bsc_table.proofs.Appended.{stop_after, accepted_after, accepted_in-push}
+use Rattle.bsc_table.proofs.Appended.{accepted_in-push}
 use Rattle.scheduler.proofs.Lists.{count_below_same}
 use Rattle.bsc_table.proofs.Named.{find_passes}
 use Rattle.bsc_table.proofs.Outcome.{before_end_cases, of_live_cases, unless_accepted_cases, beside_cases, Contains-find}
@@ -74,11 +75,11 @@ write_tells : (log : List Entry) (air : Air) (slot load id serial : ℕ) (replac
 write_tells log air slot load id serial None command about =
     let P : Answer → Type 0 = TellsTrue log air slot command in
     let refuses : (cause : ℕ) → P (answers.Cause cause) = λ cause. tells_none log air slot command (answers.Cause cause) refl in
-    unless_accepted_cases P (find (is_of_pair id serial) (accepted_in log)) (answer_to_new log slot load) refuses (λ fresh. beside_cases P (reserved_at slot (messages_in log)) load (answers.Started slot) refuses (λ places fits. tells_none log air slot command (answers.Started slot) refl))
+    unless_accepted_cases P (find (is_of_pair id serial) (accepted_in log)) (answer_to_new log slot load) refuses (λ fresh. beside_cases P (claims_in log) slot load (answers.Started slot) refuses (λ places fits. tells_none log air slot command (answers.Started slot) refl))
 write_tells log air slot load id serial (Some old) command about =
     let P : Answer → Type 0 = TellsTrue log air slot command in
     let refuses : (cause : ℕ) → P (answers.Cause cause) = λ cause. tells_none log air slot command (answers.Cause cause) refl in
-    of_live_cases P slot (find (is_of_pair id old) (accepted_in log)) (λ m. unless_accepted (message_named id serial log) (answer_to_replacement log air slot load m)) refuses (λ a found live. unless_accepted_cases P (find (is_of_pair id serial) (accepted_in log)) (answer_to_replacement log air slot load a.message) refuses (λ fresh. beside_cases P _ load (answers.Replaced slot (completed a.message air slot)) refuses (λ places fits. λ told says.
+    of_live_cases P slot (find (is_of_pair id old) (accepted_in log)) (λ m. unless_accepted (message_named id serial log) (answer_to_replacement log air slot load m)) refuses (λ a found live. unless_accepted_cases P (find (is_of_pair id serial) (accepted_in log)) (answer_to_replacement log air slot load a.message) refuses (λ fresh. beside_cases P (stop_claims a.message.number slot (claims_in log)) slot load (answers.Replaced slot (completed a.message air slot)) refuses (λ places fits. λ told says.
     let pair = found_pair id old (accepted_in log) a found in
     record {
       of_message = a;
@@ -133,10 +134,10 @@ continued_after : (log : List Entry) (e : Entry) (slot : ℕ) (a b : Accepted) �
 continued_after log e slot a b after here on =
     let all = accepted_in log in
     let says = is_stop_of b.id b.serial e in
-    let added = accepted_with (start_of e.answer) (length log) [] e.command in
-    let c : Accepted = accepted_after e b in
+    let added = added_by (length log) e.slot (start_of e.answer) e.command in
+    let c : Accepted = stopped_by e b in
     let Has : List Accepted → Type 0 = λ l. Contains l c in
-    let there = subst Has (sym (accepted_in-push log e)) (Contains-append_left (map (accepted_after e) all) added c (Contains-map (accepted_after e) all b here)) in
+    let there = subst Has (sym (accepted_in-push log e)) (Contains-append_left (map (stopped_by e) all) added c (Contains-map (stopped_by e) all b here)) in
     let stop = stop_after b.message.stop says e.slot in
     let same : c ≡ record a { message = record (a.message) { stop = stop } } = ap (λ (x : Accepted). record x { message = record (x.message) { stop = stop } }) on.same in
     (c, there, record { same = same; later = later_stop-after slot e.slot a.message.stop b.message.stop says after on.later })

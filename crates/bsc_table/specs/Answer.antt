@@ -5,15 +5,14 @@
 -- 2. Cause 0A: all slots of the run are played. Not for a status.
 -- 3. Cause 02: the message to replace or to stop isn't live.
 -- 4. Cause 0D: a message of the same identifier and serial number was accepted before.
--- 5. Cause 07: 64 messages are reserved.
+-- 5. Cause 07: 64 messages are reserved, each from the slot at which it was accepted up to its end.
 -- 6. Cause 06: the load doesn't fit beside those that are reserved.
 --
 -- The definitions stand in the other direction, each below those that it asks next.
-use Rattle.std.specs.Prelude.{ℕ, ◌+◌, ◌==◌, nat_le, nat_lt, if◌then◌else◌, Option, Some, None, List, length, sum_by}
+use Rattle.std.specs.Prelude.{ℕ, ◌+◌, ◌==◌, nat_le, nat_lt, if◌then◌else◌, Option, Some, None, List, length, filter}
 use Rattle.admission.specs.declared.measure.TheConstants.{SCALE}
 use Rattle.admission.specs.Load.{load_of}
-use Rattle.admission.specs.Reservation.{Reservation}
-use Rattle.scheduler.specs.Message.{Message, stopped_at}
+use Rattle.scheduler.specs.Message.{Message}
 use Rattle.scheduler.specs.Air.{Air}
 use Rattle.scheduler.specs.Completed.{completed}
 use Rattle.bsc_table.specs.declared.command.Command.{Command}
@@ -21,22 +20,23 @@ use Rattle.bsc_table.specs.declared.command.Command.TheVariants as commands
 use Rattle.bsc_table.specs.declared.entry.Answer.{Answer}
 use Rattle.bsc_table.specs.declared.entry.Answer.TheVariants as answers
 use Rattle.bsc_table.specs.declared.entry.Entry.{Entry}
-use Rattle.bsc_table.specs.Record.{message_named, messages_in, is_live, state_at, reserved_at}
+use Rattle.bsc_table.specs.Claim.{Claim, is_claimed_at, claimed_at, stop_claims}
+use Rattle.bsc_table.specs.Record.{message_named, claims_in, is_live, state_at}
 
 -- 5 and 6, else the answer that accepts
-abbrev pub answer_beside : List Reservation → ℕ → Answer → Answer
-answer_beside reserved load accepts =
-    if nat_le 64 (length reserved) then answers.Cause 0x07
-    else if nat_lt SCALE (sum_by (λ r. r.load) reserved + load) then answers.Cause 0x06
+abbrev pub answer_beside : List Claim → ℕ → ℕ → Answer → Answer
+answer_beside claims slot load accepts =
+    if nat_le 64 (length (filter (is_claimed_at slot) claims)) then answers.Cause 0x07
+    else if nat_lt SCALE (claimed_at claims slot + load) then answers.Cause 0x06
     else accepts
 
 -- a write in the place of no message, and in the place of an old one, whose stop counts as applied
 abbrev pub answer_to_new : List Entry → ℕ → ℕ → Answer
-answer_to_new log slot load = answer_beside (reserved_at slot (messages_in log)) load (answers.Started slot)
+answer_to_new log slot load = answer_beside (claims_in log) slot load (answers.Started slot)
 
 abbrev pub answer_to_replacement : List Entry → Air → ℕ → ℕ → Message → Answer
 answer_to_replacement log air slot load old =
-    answer_beside (reserved_at slot (stopped_at old.number slot (messages_in log))) load (answers.Replaced slot (completed old air slot))
+    answer_beside (stop_claims old.number slot (claims_in log)) slot load (answers.Replaced slot (completed old air slot))
 
 -- 4, where the pair of a write was accepted before
 abbrev pub unless_accepted : Option Message → Answer → Answer

@@ -1,5 +1,5 @@
 -- What a cell's book keeps beside its record (own).
-use Rattle.std.specs.Prelude.{◌≡◌, ℕ, ◌+◌, ◌<◌, ⊤, Bool, true, false, not, find, ◌≤◌, ◌==◌, if◌then◌else◌, Option, Some, None, Result, Ok, Err, List, [], ◌∷◌, ◌++◌, length, sum_by, map, filter, Contains, vec_len, vec_capacity}
+use Rattle.std.specs.Prelude.{◌≡◌, ℕ, ◌+◌, ◌<◌, ⊤, Bool, true, false, not, find, ◌≤◌, ◌==◌, if◌then◌else◌, Option, Some, None, Result, Ok, Err, List, [], ◌∷◌, ◌++◌, length, map, filter, Contains, vec_len, vec_capacity}
 use Rattle.admission.specs.declared.budget.Held.{Held}
 use Rattle.admission.specs.declared.budget.NoRoom.{NoRoom}
 use Rattle.admission.specs.declared.budget.NoRoom.TheVariants.{Table, Load}
@@ -17,7 +17,8 @@ use Rattle.bsc_table.specs.declared.entry.Entry.{Entry}
 use Rattle.bsc_table.specs.declared.kept.Kept.{Kept}
 use Rattle.bsc_table.specs.declared.book.CellBook.TheInside.{Inside}
 use Rattle.bsc_table.specs.declared.record.CellRecord.TheInside as kept
-use Rattle.bsc_table.specs.Record.{Record, Accepted, accepted_in, messages_in, is_of_pair, is_live, reserved_at}
+use Rattle.bsc_table.specs.Record.{Record, Accepted, accepted_in, messages_in, claims_of, is_of_pair, is_live}
+use Rattle.bsc_table.specs.Claim.{is_claimed_at, claimed_at}
 use Rattle.bsc_table.specs.Orders.{IsWellFormed}
 use Rattle.bsc_table.specs.Answer.{answer_with_room}
 use Rattle.bsc_table.specs.Legal.{IsLegal}
@@ -44,6 +45,7 @@ abbrev pub accepted_of : Kept → Accepted
 accepted_of k = record {
   id = k.id;
   serial = k.serial;
+  accepted = k.accepted;
   message = record {
     number = k.number;
     start = k.start;
@@ -63,15 +65,17 @@ kept_stopped number slot k = record k { stop = if k.number == number then Some s
 abbrev pub stop_numbered : ℕ → ℕ → Accepted → Accepted
 stop_numbered number slot a = record a { message = stopped_if (a.message.number == number) slot a.message }
 
--- a message that may begin at the slot beside those accepted before: it has a page and a period, and there is room for it
+-- a message that may be accepted at the slot, and begin there, beside those accepted before: it has a page and a period, and there is
+-- room for it
 pub record IsBegun (number slot : ℕ) (before : List Accepted) (a : Accepted) : Type 0 where
   pub numbered : a.message.number ≡ number
+  pub accepted : a.accepted ≡ slot
   pub begins : a.message.start ≡ slot
   pub standing : a.message.stop ≡ None
   pub some_pages : 0 < a.message.pages
   pub some_period : 0 < a.message.period
-  pub room : length (reserved_at slot (map (λ x. x.message) before)) < 64
-  pub fits : sum_by (λ r. r.load) (reserved_at slot (map (λ x. x.message) before)) + load_of a.message.pages a.message.period ≤ SCALE
+  pub room : length (filter (is_claimed_at slot) (claims_of before)) < 64
+  pub fits : claimed_at (claims_of before) slot + load_of a.message.pages a.message.period ≤ SCALE
 
 -- an entry that is to come next: at the clock, with the right answer to a well-formed command, where the log has room
 pub record IsNext (r : Record) (e : Entry) : Type 0 where

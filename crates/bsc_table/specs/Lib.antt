@@ -7,3 +7,8 @@ pub mod Legal
 pub mod Promised
 pub mod Told
 pub mod Book
+pub mod Refusals
+pub mod Written
+pub mod Claim
+pub mod Handover
+pub mod Room

@@ -27,6 +27,7 @@ pub record IsBroadcastable (period : ℕ) (dcs : Dcs) (contents : List Content) 
   pub some_period : 1 ≤ period
   pub short_period : period ≤ 1024
   pub coded : is_coding dcs.0 ≡ true
+  pub full : All (λ c. length c.octets ≡ 82) contents
 
 -- a command that such a message can ask for
 abbrev pub IsWellFormed : Command → Type 0

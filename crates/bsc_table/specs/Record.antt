@@ -1,7 +1,6 @@
 -- A cell's record, and the messages that its log accepted (own).
-use Rattle.std.specs.Prelude.{ℕ, ◌+◌, ◌*◌, Bool, true, false, ◌==◌, ◌&&◌, ◌||◌, not, nat_lt, Option, Some, None, is_some, List, [], ◌∷◌, ◌++◌, length, map, filter, find}
+use Rattle.std.specs.Prelude.{ℕ, ◌+◌, ◌*◌, Bool, true, false, ◌==◌, ◌&&◌, ◌||◌, not, nat_lt, Option, Some, None, is_some, List, [], ◌∷◌, ◌++◌, length, map, find}
 use Rattle.cbsp_wire.specs.declared.message.Cell.{Cell}
-use Rattle.admission.specs.Reservation.{Reservation, is_reserved_at}
 use Rattle.scheduler.specs.Message.{Message}
 use Rattle.scheduler.specs.Air.{Air}
 use Rattle.bsc_table.specs.declared.command.Category.{Category}
@@ -13,7 +12,7 @@ use Rattle.bsc_table.specs.declared.entry.Answer.TheVariants as answers
 use Rattle.bsc_table.specs.declared.entry.State.{State}
 use Rattle.bsc_table.specs.declared.entry.State.TheVariants as states
 use Rattle.bsc_table.specs.declared.entry.Entry.{Entry}
-use Rattle.bsc_table.specs.Guarantee.{reservation_of}
+use Rattle.bsc_table.specs.Claim.{Claim}
 
 -- a cell's record: how many slots its run has, how many of them were played, the commands that were answered, in order, and
 -- what each played slot aired
@@ -24,10 +23,11 @@ pub record Record : Type 0 where
   pub log : List Entry
   pub air : Air
 
--- a message that was accepted: the pair that names it, and the message as the schedule sees it
+-- a message that was accepted: the pair that names it, the slot at which it was accepted, and the message as the schedule sees it
 pub record Accepted : Type 0 where
   pub id : ℕ
   pub serial : ℕ
+  pub accepted : ℕ
   pub message : Message
 
 -- the slot from which a write's message stands, where the answer accepts it
@@ -51,44 +51,52 @@ is_stop_by id serial command answer = false
 abbrev pub is_stop_of : ℕ → ℕ → Entry → Bool
 is_stop_of id serial e = is_stop_by id serial e.command e.answer
 
--- the slot of the first of the entries that stopped the message of this pair, if any did
-abbrev pub slot_told : Option Entry → Option ℕ
-slot_told None = None
-slot_told (Some e) = Some e.slot
+-- the stop of a message after one more entry: at its slot, where it stops the message and nothing did before
+abbrev pub stop_after : Option ℕ → Bool → ℕ → Option ℕ
+stop_after (Some slot) says now = Some slot
+stop_after None true now = Some now
+stop_after None false now = None
 
-abbrev pub stop_in : List Entry → ℕ → ℕ → Option ℕ
-stop_in later id serial = slot_told (find (is_stop_of id serial) later)
+-- an accepted message after one more entry
+abbrev pub stopped_by : Entry → Accepted → Accepted
+stopped_by e a = record a { message = record (a.message) { stop = stop_after a.message.stop (is_stop_of a.id a.serial e) e.slot } }
 
--- a write's message: by its place in the log, the slots of its start and of its stop, its pair, and what is broadcast of it
-abbrev pub write_message : ℕ → ℕ → Option ℕ → ℕ → ℕ → ℕ → ℕ → ℕ → Bool → Accepted
-write_message place start stop id serial pages period broadcasts high = record {
+-- a write's message, which stands: its place in the log, the slots of its acceptance and of its start, its pair, and what is broadcast
+abbrev pub write_message : ℕ → ℕ → ℕ → ℕ → ℕ → ℕ → ℕ → ℕ → Bool → Accepted
+write_message place slot start id serial pages period broadcasts high = record {
   id = id;
   serial = serial;
+  accepted = slot;
   message = record {
     number = place;
     start = start;
     pages = pages;
     period = period;
     requested = broadcasts;
-    stop = stop;
+    stop = None;
     high = high;
   };
 }
 
--- the message of a command that stands at this place of the log, with the entries after it: a write's that was accepted
-abbrev pub accepted_with : Option ℕ → ℕ → List Entry → Command → List Accepted
-accepted_with (Some start) place later (commands.Write id serial replaces category period broadcasts dcs contents) =
-    write_message place start (stop_in later id serial) id serial (length contents) period broadcasts (is_high category) ∷ []
-accepted_with start place later command = []
+-- the message that an entry at this place of the log and at this slot adds, by its start and its command: a write's that was accepted
+abbrev pub added_by : ℕ → ℕ → Option ℕ → Command → List Accepted
+added_by place slot (Some start) (commands.Write id serial replaces category period broadcasts dcs contents) =
+    write_message place slot start id serial (length contents) period broadcasts (is_high category) ∷ []
+added_by place slot start command = []
 
--- the accepted messages of entries of which the first stands at this place of the log, in order
-abbrev pub accepted_from : ℕ → List Entry → List Accepted
-accepted_from place [] = []
-accepted_from place (e ∷ later) = accepted_with (start_of e.answer) place later e.command ++ accepted_from (place + 1) later
+-- the accepted messages after one more entry, at this place of the log: those before it, stopped where it stops them, and the one that
+-- it adds, if it does
+abbrev pub accepted_after : List Accepted → ℕ → Entry → List Accepted
+accepted_after all place e = map (stopped_by e) all ++ added_by place e.slot (start_of e.answer) e.command
+
+-- and after the entries of which the first stands at this place
+abbrev pub accepted_from : List Accepted → ℕ → List Entry → List Accepted
+accepted_from all place [] = all
+accepted_from all place (e ∷ later) = accepted_from (accepted_after all place e) (place + 1) later
 
 -- the accepted messages of a log, each numbered by its place, and stopped by the first later entry that stopped it
 abbrev pub accepted_in : List Entry → List Accepted
-accepted_in log = accepted_from 0 log
+accepted_in log = accepted_from [] 0 log
 
 abbrev pub messages_in : List Entry → List Message
 messages_in log = map (λ a. a.message) (accepted_in log)
@@ -120,6 +128,12 @@ state_by None live = unstopped_state live
 abbrev pub state_at : ℕ → Message → State
 state_at slot m = state_by m.stop (is_live slot m)
 
--- the reservations of messages that count at a slot
-abbrev pub reserved_at : ℕ → List Message → List Reservation
-reserved_at slot messages = filter (is_reserved_at slot) (map reservation_of messages)
+-- what an accepted message claims of the cell's slots: it starts when it is accepted, and so waits behind none
+abbrev pub claim_of : Accepted → Claim
+claim_of a = record { message = a.message; accepted = a.accepted; behind = None; excess = 0 }
+
+abbrev pub claims_of : List Accepted → List Claim
+claims_of all = map claim_of all
+
+abbrev pub claims_in : List Entry → List Claim
+claims_in log = claims_of (accepted_in log)

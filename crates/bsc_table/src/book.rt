@@ -9,6 +9,7 @@ ghost use Rattle.bsc_table.specs.Record.{Record, accepted_in, is_of_pair, is_liv
 ghost use Rattle.bsc_table.specs.Answer.{told_of, answer_to_kill, answer_to_write, answer_to_new, answer_to_replacement, answer_with_room, answer_of};
 ghost use Rattle.bsc_table.specs.Orders.{IsWellFormed};
 ghost use Rattle.bsc_table.specs.Legal.{IsLegal};
+ghost use Rattle.bsc_table.specs.Promised.{IsServed, IsBounded};
 ghost use Rattle.bsc_table.specs.Book.{accepted_of, air_told, IsPlayedUpTo, IsNotLive, IsLiveAs, IsNext, IsStop, IsStart, IsReplacement, with_entry, answered_with, by_room};
 ghost use Rattle.admission.specs.Reservation.{is_before_end, end_of_stopped};
 ghost use Rattle.admission.specs.Table.{ends_at};
@@ -115,6 +116,8 @@ impl CellBook {
         ensures clock { result ≡ self.now.clock }
         ensures within { result ≤ self.now.slots }
         ensures legal { IsLegal self.now }
+        ensures served { IsServed self.now }
+        ensures bounded { IsBounded self.now }
     {
         self.clock
     }
@@ -185,6 +188,8 @@ impl CellBook {
         ensures range { result ≡ record { from = self.old.clock; to = min (self.old.clock + k) self.old.slots } }
         ensures played { IsPlayedUpTo (min (self.old.clock + k) self.old.slots) self.old self.new }
         ensures legal { IsLegal self.new }
+        ensures served { IsServed self.new }
+        ensures bounded { IsBounded self.new }
     {
         let from = self.clock;
         let to = from + k.min(self.slots - from);
@@ -198,7 +203,9 @@ impl CellBook {
     /// The record of the run, all of whose slots were played. No memory is taken.
     pub fn finish(self) -> CellRecord
         requires { self.clock ≡ self.slots }
-        ensures { result ≡ self }
+        ensures same { result ≡ self }
+        ensures served { IsServed result }
+        ensures bounded { IsBounded result }
     {
         let CellBook {
             cell,
@@ -248,6 +255,7 @@ impl CellBook {
                     id: *id,
                     serial: *serial,
                     number: self.log.len() as u16,
+                    accepted: self.clock,
                     start: self.clock,
                     pages: contents.list.len() as u8,
                     period: *period,
@@ -413,7 +421,7 @@ impl CellBook {
         by_room(
             self.budget.fits(load, old.leaving_at(self.clock)),
             Answer::Replaced {
-                slot: self.clock,
+                slot: u32::from(self.clock),
                 completed: self.completed(old),
             },
         )

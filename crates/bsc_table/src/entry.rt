@@ -30,8 +30,8 @@ pub enum Answer {
     },
     /// So it does, and the message that it replaces stands no more.
     Replaced {
-        /// The slot.
-        slot: u16,
+        /// The slot from which it stands.
+        slot: u32,
         /// How many broadcasts of the replaced message were whole.
         completed: u16,
     },

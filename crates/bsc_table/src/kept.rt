@@ -22,6 +22,8 @@ pub struct Kept {
     pub serial: Serial,
     /// Its place in the log.
     pub number: u16,
+    /// The slot at which it was accepted.
+    pub accepted: u16,
     /// The slot from which it stands.
     pub start: u16,
     /// Its pages, from 1 to 15.
@@ -69,13 +71,14 @@ impl Kept {
         Some(u32::from(self.start) + u32::from(self.broadcasts) * u32::from(self.period))
     }
 
-    /// The slot up to which its load stays reserved if it is stopped at `slot`: the end of the period in which that is.
+    /// The slot up to which its load stays reserved if it is stopped at `slot`: the end of the period in which that is, and
+    /// `slot` itself where it hasn't started by then.
     pub fn end_if_stopped(&self, slot: u16) -> u32
         requires { 0 < self.now.period }
         ensures { result ≡ end_of_stopped self.now.start self.now.period slot }
     {
         let periods = slot.saturating_sub(self.start).div_ceil(self.period);
-        u32::from(self.start) + u32::from(self.period) * u32::from(periods)
+        u32::from(self.start.min(slot)) + u32::from(self.period) * u32::from(periods)
     }
 
     /// Its number, where a stop at `slot` would end its reservation there and then: on the boundary of its period.

@@ -2,8 +2,11 @@
 //! legal history.
 
 ghost use Rattle.bsc_table.specs.Guarantee.{ReservationsCoverBroadcasts, DemandIsNoMoreThanTheSlots, LackMeansABusyPeriod, AdmittedLoadIsAGuarantee, AdmittedBroadcastsAreWhole};
+ghost use Rattle.bsc_table.specs.Room.{ReservedNeverRises, StopKeepsRoom, StartKeepsRoom, TakeoverKeepsRoom, WaitingPassesItsStart};
 ghost use Rattle.bsc_table.specs.Bounds.{CompletedIsAtMost, CompletedIsAtLeast, BoundsAreNear};
-ghost use Rattle.bsc_table.specs.Promised.{LegalPairsComeOnce, LegalLoadsFit, LegalHistoriesAreServed, LegalHistoriesAreBounded};
+ghost use Rattle.bsc_table.specs.Promised.{LegalPairsComeOnce, LegalClaimsFit, LegalLoadsFit, LegalHistoriesAreServed, LegalHistoriesAreBounded, LegalPagesAreAiredOnce};
+ghost use Rattle.bsc_table.specs.Refusals.{RefusalsChangeNothing, AcceptedEntriesAreAll};
+ghost use Rattle.bsc_table.specs.Written.{AcceptedAreWrites, UsesAreOfWrites, AcceptedRise, AcceptedHaveLoads};
 ghost use Rattle.bsc_table.specs.Told.{LegalAnswersAreTrue};
 
 /// Admitted load is a guarantee: where the loads that are reserved at each slot sum to at most `SCALE`, and each slot airs
@@ -27,6 +30,25 @@ pub fn guarantee()
 
     // In the words of the completed number: from its due slot on, each counts as whole.
     ensures admitted_broadcasts_are_whole { AdmittedBroadcastsAreWhole }
+{}
+
+/// What keeps room at every slot, also where a message that is accepted has to wait for its start: up to then it reserves what its
+/// load has over that of the stopped message behind which it waits, and from then on its whole load, where that one's reservation
+/// ends. Over what messages claim of a cell alone; no cell lets a message wait yet. Own rules, of no standard.
+///
+/// Does nothing: its contract is the law.
+pub fn room_laws()
+    // Where each that waits does so alone, behind one that hands over to it, the loads reserved never rise from now on.
+    ensures reserved_never_rises { ReservedNeverRises }
+
+    // So it stays, with room at every slot, where a live message is stopped, where one starts whose load has room now, and where one
+    // takes over from a live message, if what it reserves until its start has room now.
+    ensures stop_keeps_room { StopKeepsRoom }
+    ensures start_keeps_room { StartKeepsRoom }
+    ensures takeover_keeps_room { TakeoverKeepsRoom }
+
+    // One that takes over from a message that waits can always do so, and starts where that one would have.
+    ensures waiting_passes_its_start { WaitingPassesItsStart }
 {}
 
 /// What the completed number of a message can be, before any slot that was played: at most as many as its requested broadcasts
@@ -53,15 +75,30 @@ pub fn completed_bounds()
 ///
 /// Does nothing: its contract is the law.
 pub fn legal_histories()
+    // An entry that was not accepted leaves every accepted message as it was, with its stop and its reservation; and the accepted
+    // entries of a log alone determine its accepted messages, but for their numbers, of which the order is kept.
+    ensures refusals_change_nothing { RefusalsChangeNothing }
+    ensures accepted_entries_are_all { AcceptedEntriesAreAll }
+
+    // An accepted message is the write that stands in the log at its number, has a page and a period, and numbers rise.
+    ensures accepted_are_writes { AcceptedAreWrites }
+    ensures accepted_have_loads { AcceptedHaveLoads }
+    ensures accepted_rise { AcceptedRise }
+
+    // A slot airs nothing but pages of such writes.
+    ensures uses_are_of_writes { UsesAreOfWrites }
+
     // A message is known by its identifier and serial number: no two that were accepted have the same.
     ensures legal_pairs_come_once { LegalPairsComeOnce }
 
     // However messages were accepted, replaced and killed, the loads that are reserved sum to at most `SCALE` at each slot.
+    ensures legal_claims_fit { LegalClaimsFit }
     ensures legal_loads_fit { LegalLoadsFit }
 
     // Each broadcast that was requested, that is due by the clock and that no stop cut was aired whole, from its release up to the
-    // slot in which it was due.
+    // slot in which it was due, and each of its pages once.
     ensures legal_histories_are_served { LegalHistoriesAreServed }
+    ensures legal_pages_are_aired_once { LegalPagesAreAiredOnce }
 
     // So before each slot up to the clock, the broadcasts of a message that are whole are at least those requested whose period was
     // over while it stood, and at most those requested whose period had begun while it stood.
@@ -70,4 +107,6 @@ pub fn legal_histories()
     // And each number that was told of a message, in answer to its kill, to its replacement or to a status, is the number of its
     // broadcasts that were whole by then, and lies between these bounds.
     ensures legal_answers_are_true { LegalAnswersAreTrue }
-{}
+{
+    scheduler::air_laws();
+}

@@ -10,12 +10,10 @@ mod kept;
 mod laws;
 mod orders;
 pub mod record;
-#[cfg(test)]
-mod tests;
 
 pub use book::CellBook;
 pub use command::{Category, Command, Refused};
 pub use entry::{Aired, Answer, Entry, SlotRange, State};
-pub use laws::{completed_bounds, guarantee, legal_histories};
+pub use laws::{completed_bounds, guarantee, legal_histories, room_laws};
 pub use orders::orders_of;
 pub use record::CellRecord;

@@ -3,6 +3,7 @@
 ghost use Rattle.std.specs.Prelude.{◌≡◌};
 ghost use Rattle.bsc_table.specs.Legal.{IsLegal};
 ghost use Rattle.bsc_table.specs.Book.{air_told};
+ghost use Rattle.bsc_table.specs.Promised.{IsServed, IsBounded};
 
 use crate::entry::{Aired, Entry};
 use cbsp_wire::Cell;
@@ -34,7 +35,9 @@ impl CellRecord {
     /// The record of a run of which all slots were played.
     pub(crate) fn of(cell: Cell, slots: u16, log: Vec<Entry>, air: Vec<Option<Aired>>) -> CellRecord
         requires { IsLegal (record { cell = cell; slots = slots; clock = slots; log = log.items; air = air_told air.items }) }
-        ensures { result ≡ record { cell = cell; slots = slots; clock = slots; log = log.items; air = air_told air.items } }
+        ensures same { result ≡ record { cell = cell; slots = slots; clock = slots; log = log.items; air = air_told air.items } }
+        ensures served { IsServed result }
+        ensures bounded { IsBounded result }
     {
         CellRecord {
             cell,
@@ -56,6 +59,8 @@ impl CellRecord {
         ensures slots { result ≡ self.now.slots }
         ensures clock { result ≡ self.now.clock }
         ensures legal { IsLegal self.now }
+        ensures served { IsServed self.now }
+        ensures bounded { IsBounded self.now }
     {
         self.slots
     }

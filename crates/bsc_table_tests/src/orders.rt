@@ -53,6 +53,7 @@ fn write(alloc: Global, wish: Wish, pages: &[Content]) -> Result<Command, Fail>
     requires pages { 1 ≤ length pages.now }
     requires few { length pages.now ≤ 15 }
     requires used { All (λ c. c.used ≤ 82) pages.now }
+    requires full { All (λ c. length c.octets ≡ 82) pages.now }
     requires period { 1 ≤ wish.period }
     requires short { wish.period ≤ 1024 }
     ensures { IfOk result (λ command. IsWellFormed command) }

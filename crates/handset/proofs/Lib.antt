@@ -7,3 +7,5 @@ mod Worked
 pub mod TapeKinds
 pub mod TapeCases
 pub mod TapeMade
+pub mod Showing
+pub mod OneMessage

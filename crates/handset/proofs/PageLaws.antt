@@ -30,7 +30,7 @@ agreeing-more [] page = rw (agrees-itself page) refl
 agreeing-more (first ∷ rest) page = filter-append (agrees_with first) (first ∷ rest) (page ∷ [])
 
 -- the pages of a message, with one more page of another one, and with one more of its own
-pages_of-other : (name : Name) (pages : List PageView) (page : PageView) → is_of name page ≡ false → pages_of name (pages ++ page ∷ []) ≡ pages_of name pages
+pub pages_of-other : (name : Name) (pages : List PageView) (page : PageView) → is_of name page ≡ false → pages_of name (pages ++ page ∷ []) ≡ pages_of name pages
 pages_of-other name pages page other =
     let left_out : filter (is_of name) (page ∷ []) ≡ [] = rw other refl in
     ap agreeing
@@ -46,7 +46,7 @@ pages_of-more name pages page own =
     ∙ ap (λ first. pages_of name pages ++ (cond (agrees_with_first first page) (page ∷ []) [])) (first_in-filter (is_of name) pages)
 
 -- the name of a page that is of a message
-name_is : (name : Name) (page : PageView) → is_of name page ≡ true → name ≡ name_of page
+pub name_is : (name : Name) (page : PageView) → is_of name page ≡ true → name ≡ name_of page
 name_is name page own =
     let parts = and_parts (eqb page.id name.id) (eqb page.serial name.serial) own in
     let id : name.id ≡ page.id = sym (eqb-true page.id name.id parts.0) in

@@ -4,3 +4,6 @@ pub mod KeepingSteps
 pub mod Tape
 pub mod TapeSteps
 pub mod TapeLaw
+pub mod Counting
+pub mod Showing
+pub mod OneMessage

@@ -8,6 +8,7 @@
 mod blocks;
 mod handset;
 mod input;
+mod laws;
 mod messages;
 mod tape;
 #[cfg(test)]
@@ -16,5 +17,6 @@ mod tape_tests;
 mod tests;
 
 pub use handset::Handset;
+pub use laws::reading_laws;
 pub use messages::{Refused, Shown};
 pub use tape::{MAX_SLOTS, MAX_TAPES, Reading, TapeFault, read_tape, read_tapes, tapes_law};

@@ -6,6 +6,10 @@ mod Counts
 mod Followed
 pub mod Lists
 pub mod Message
+mod OneAir
+mod PageCounts
+mod PagesOnce
 mod Ready
+mod Renumbering
 pub mod Rule
 mod Worked

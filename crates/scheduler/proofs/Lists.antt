@@ -1,8 +1,7 @@
 -- Lemmas on lists.
-use Rattle.std.proofs.Common.{true, false, ◌≡◌, ◌≢◌, ℕ, zero, suc, ◌+◌, ◌-◌, ◌<◌, Bool, false, cond, List, [], ◌∷◌, ◌++◌, length, get_or, take, drop, map, count_by, inl, inr, refl, sym, ap, ◌∙◌, arith}
+use Rattle.std.proofs.Common.{◌≡◌, ◌≢◌, ℕ, zero, suc, ◌+◌, ◌-◌, ◌<◌, Bool, true, false, cond, List, [], ◌∷◌, ◌++◌, length, get_or, take, drop, map, count_by, inl, inr, refl, sym, ap, ◌∙◌, arith}
 use Rattle.std.proofs.Math.Nat.{add-zero}
 use Rattle.std.specs.Bool.{MatchBool}
-use Rattle.std.specs.Prelude.{⊤}
 use Rattle.std.specs.List.{All, AllPairs, range_with_len, Any}
 use Rattle.std.proofs.lemmas.List.{get_or-append_right, get_or-drop, get_or-map, length-map, length-take-le}
 use Rattle.std.proofs.lemmas.List.Quantifiers.{all_pairs_push}
@@ -97,7 +96,7 @@ Any-map P f xs some =
     let there = get_or-map f xs some.0 some.1 (f some.1) some.2 ∙ ap f some.3 in
     (some.0, f some.1, omega (arith, length-map xs f, some.2), there, some.4)
 
--- what follows where a test passed
-pub MatchBool-then : (b : Bool) (P Q : Type 0) → (P → Q) → MatchBool b P ⊤ → MatchBool b Q ⊤
-MatchBool-then true P Q h m = h m
-MatchBool-then false P Q h m = tt
+-- what follows where a test passed, and where it did not
+pub MatchBool-both : (b : Bool) (P Q R S : Type 0) → (P → Q) → (R → S) → MatchBool b P R → MatchBool b Q S
+MatchBool-both true P Q R S passed failed m = passed m
+MatchBool-both false P Q R S passed failed m = failed m

@@ -1,6 +1,9 @@
 pub mod Air
+pub mod AirLaws
 pub mod Choice
 pub mod Completed
 pub mod Follows
 pub mod Kept
 pub mod Message
+pub mod Pages
+pub mod Renumbered

@@ -1,69 +1,41 @@
 //! Laws of air lists, over their definitions alone.
 
-ghost use Rattle.std.specs.Prelude.{◌≡◌, ℕ, ◌+◌, ◌<◌, ◌≤◌, true, Option, Some, None, slice_index_or, List, [], ◌∷◌, ◌++◌, length, All, AllPairs, Contains};
-ghost use Rattle.scheduler.specs.Message.{Message, release, due, stopped_at};
-ghost use Rattle.scheduler.specs.Air.{Air, airs, pages_aired, next_page, IsPending, IsChosen, IsAirOf};
-ghost use Rattle.scheduler.specs.Completed.{IsWhole};
-ghost use Rattle.scheduler.specs.Choice.{choice};
+ghost use Rattle.scheduler.specs.AirLaws.{OneChoice, SomeChoice, GrowsByTheChoice, FrontsAreByTheRule, OneAirList, NumbersOnlyOrder};
+ghost use Rattle.scheduler.specs.AirLaws.{LaterMessagesChangeNothing, LaterStopsChangeNothing, PagesComeInOrder, AtMostItsPages};
+ghost use Rattle.scheduler.specs.AirLaws.{PagesComeOnce, WholeIsEachPageOnce, LastPagesAreWholeBroadcasts, NoPageLessOften, AllAreCounted};
 
 /// States, as its contract, what the air rule promises. It does nothing.
-//
-// Long for its clauses alone.
 pub fn air_laws()
-    // What a slot airs is determined, where the numbers of the messages rise.
-    ensures one_choice { (messages : List Message) (air : Air) (slot : ℕ) (used other : Option (ℕ × ℕ))
-        → AllPairs (λ a b. a.number < b.number) messages
-        → IsChosen messages air slot used
-        → IsChosen messages air slot other
-        → used ≡ other }
+    // What a slot airs is determined, where the numbers of the messages rise, and each slot has a choice.
+    ensures one_choice { OneChoice }
+    ensures some_choice { SomeChoice }
 
-    // Each slot has a choice.
-    ensures some_choice { (messages : List Message) (air : Air) (slot : ℕ)
-        → All (λ m. 0 < m.period) messages
-        → IsChosen messages air slot (choice messages air slot) }
+    // An air list by the rule grows by what is chosen, each front of it is by the rule, and it is the only one of its length.
+    ensures grows { GrowsByTheChoice }
+    ensures front { FrontsAreByTheRule }
+    ensures one_air { OneAirList }
 
-    // An air list by the rule grows by what is chosen.
-    ensures grows { (messages : List Message) (air : Air) (used : Option (ℕ × ℕ))
-        → IsAirOf messages air
-        → IsChosen messages air (length air) used
-        → IsAirOf messages (air ++ used ∷ []) }
+    // Of the numbers of messages the rule looks at the order alone.
+    ensures renumbered { NumbersOnlyOrder }
 
-    // A message that is added later changes nothing before its start.
-    ensures later_message { (messages : List Message) (message : Message) (air : Air)
-        → length air ≤ message.start
-        → IsAirOf messages air
-        → IsAirOf (messages ++ message ∷ []) air }
+    // A message that is added later changes nothing before its start, and a stop nothing before its slot.
+    ensures later_message { LaterMessagesChangeNothing }
+    ensures later_stop { LaterStopsChangeNothing }
 
-    // A stop changes nothing before its slot.
-    ensures later_stop { (messages : List Message) (number slot : ℕ) (air : Air)
-        → length air ≤ slot
-        → All (λ m. m.number ≡ number → m.stop ≡ None) messages
-        → IsAirOf messages air
-        → IsAirOf (stopped_at number slot messages) air }
-
-    // A slot that airs a page of a message airs the next page of the one broadcast of it that is pending: so the pages
-    // of a broadcast come in order, and none comes at or after the stop.
-    ensures in_order { (messages : List Message) (air : Air) (slot : ℕ) (message : Message)
-        → AllPairs (λ a b. a.number < b.number) messages
-        → Contains messages message
-        → IsAirOf messages air
-        → slot < length air
-        → airs message.number (slice_index_or air slot None) ≡ true
-        → (j : ℕ) × IsPending message j air slot × (slice_index_or air slot None ≡ Some (next_page message j air slot)) }
+    // The pages of a broadcast come in order, and none comes at or after the stop.
+    ensures in_order { PagesComeInOrder }
 
     // No broadcast has more pages aired, by its due slot, than its message has.
-    ensures at_most_its_pages { (messages : List Message) (air : Air) (message : Message) (j slot : ℕ)
-        → AllPairs (λ a b. a.number < b.number) messages
-        → Contains messages message
-        → IsAirOf messages air
-        → slot ≤ length air
-        → slot ≤ due message j
-        → pages_aired message.number air (release message j) slot ≤ message.pages }
+    ensures at_most_its_pages { AtMostItsPages }
+
+    // Each page that is aired of a broadcast is aired once: so a broadcast that is whole has each page of its message once.
+    ensures pages_come_once { PagesComeOnce }
+    ensures whole_is_each_page_once { WholeIsEachPageOnce }
+
+    // The last page of a message is aired as often as a broadcast of it is whole, and none of its pages less often.
+    ensures last_page_counts { LastPagesAreWholeBroadcasts }
+    ensures no_page_less { NoPageLessOften }
 
     // The completed number leaves out no whole broadcast.
-    ensures all_counted { (message : Message) (air : Air) (slot j : ℕ)
-        → 0 < message.pages
-        → 0 < message.period
-        → IsWhole message j air slot
-        → j < slot + 1 }
+    ensures all_counted { AllAreCounted }
 {}

@@ -6,8 +6,6 @@
 
 mod laws;
 mod plan;
-#[cfg(test)]
-mod tests;
 mod tracked;
 
 pub use laws::air_laws;

@@ -1,6 +1,6 @@
 //! The plan of a cell.
 
-ghost use Rattle.std.specs.Prelude.{◌≡◌, ℕ, ◌+◌, ◌<◌, ◌≤◌, ◌==◌, true, List, [], ◌∷◌, ◌++◌, length, map, codes, Some, All, AllPairs, Any, OnOk, OnErr};
+ghost use Rattle.std.specs.Prelude.{◌≡◌, ◌≢◌, ℕ, ◌+◌, ◌<◌, ◌≤◌, ◌==◌, true, MatchBool, List, [], ◌∷◌, ◌++◌, length, map, codes, Some, All, AllPairs, Any, OnOk, OnErr};
 ghost use Rattle.std.specs.Option.{ForSome};
 ghost use Rattle.scheduler.specs.Message.{Message, stopped_at};
 ghost use Rattle.scheduler.specs.Air.{Air, airs, IsChosen};
@@ -31,7 +31,7 @@ pub struct Item {
     pub high: bool,
 }
 
-/// Want of memory: the plan is as it was.
+/// Out of memory: the plan is as it was.
 #[derive(Clone, Copy, Debug, PartialEq, Eq)]
 pub struct Refused;
 
@@ -150,24 +150,65 @@ impl Plan {
     {
         completed_of(self.tracked.as_slice(), entry)
     }
-}
 
-/// What a caller knows of a plan, found by looking.
-#[cfg(test)]
-impl Plan {
-    /// The slot that is asked next.
-    pub fn asked_next(&self) -> u16
+    /// The slot that is asked next, from 0 to 65,535.
+    pub fn next_slot(&self) -> u16
         ensures { result ≡ next_slot self.now }
     {
         self.slot
     }
 
-    /// What is kept of the messages.
-    pub fn tracked(&self) -> &[Tracked]
-        ensures { map message_of result.now ≡ messages_of self.now }
+    /// Whether the number is above those of the messages that were added, as `add` asks.
+    pub fn is_above_all(&self, entry: u16) -> bool
+        ensures { MatchBool result
+            (All (λ m. m.number < entry) (messages_of self.now))
+            (Any (λ m. entry ≤ m.number) (messages_of self.now)) }
     {
-        self.tracked.as_slice()
+        are_below(self.tracked.as_slice(), entry)
     }
+
+    /// Whether the message of `entry` was added, as `done` asks.
+    pub fn is_added(&self, entry: u16) -> bool
+        ensures { MatchBool result
+            (Any (λ m. m.number ≡ entry) (messages_of self.now))
+            (All (λ m. m.number ≢ entry) (messages_of self.now)) }
+    {
+        has_entry(self.tracked.as_slice(), entry)
+    }
+
+    /// Whether the message of `entry` was added, and not stopped, as `stop` asks.
+    pub fn is_standing(&self, entry: u16) -> bool
+        ensures { MatchBool result
+            (Any (λ m. (m.number ≡ entry) × (m.stop ≡ None)) (messages_of self.now))
+            (All (λ m. m.number ≡ entry → m.stop ≢ None) (messages_of self.now)) }
+    {
+        has_standing(self.tracked.as_slice(), entry)
+    }
+}
+
+/// Whether all numbers of what is kept are below `entry`.
+fn are_below(tracked: &[Tracked], entry: u16) -> bool
+    ensures { MatchBool result (All (λ t. t.item.entry < entry) tracked.now) (Any (λ t. entry ≤ t.item.entry) tracked.now) }
+{
+    tracked.iter().all(|one| one.item.entry < entry)
+}
+
+/// Whether a message of `entry` is kept.
+fn has_entry(tracked: &[Tracked], entry: u16) -> bool
+    ensures { MatchBool result (Any (λ t. t.item.entry ≡ entry) tracked.now) (All (λ t. t.item.entry ≢ entry) tracked.now) }
+{
+    tracked.iter().any(|one| one.item.entry == entry)
+}
+
+/// Whether a message of `entry` is kept that was not stopped.
+fn has_standing(tracked: &[Tracked], entry: u16) -> bool
+    ensures { MatchBool result
+        (Any (λ t. (t.item.entry ≡ entry) × (t.stop ≡ None)) tracked.now)
+        (All (λ t. t.item.entry ≡ entry → t.stop ≢ None) tracked.now) }
+{
+    tracked
+        .iter()
+        .any(|one| one.item.entry == entry && one.stop.is_none())
 }
 
 /// What a slot airs by what is kept: the next page of the first message that is ready.

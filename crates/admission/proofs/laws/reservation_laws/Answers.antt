@@ -1,4 +1,4 @@
-use Rattle.admission.proofs.Reservations.{loads_at-le, loads_at-le_standing, end_of_stopped-boundary, end_of_stopped-no_later, end_of_stopped-covers}
+use Rattle.admission.proofs.Reservations.{loads_at-le, loads_at-le_standing, end_of_stopped-boundary, end_of_stopped-early, end_of_stopped-no_later, end_of_stopped-covers}
 use Rattle.admission.proofs.laws.reservation_laws.Goals as goal
 
 pub returns : goal.returns
@@ -6,6 +6,7 @@ returns c = record {
   no_slot_over = loads_at-le;
   no_slot_over_standing = loads_at-le_standing;
   stop_on_boundary = end_of_stopped-boundary;
+  stop_before_start = end_of_stopped-early;
   stop_no_later = end_of_stopped-no_later;
   stop_covers = end_of_stopped-covers;
 }

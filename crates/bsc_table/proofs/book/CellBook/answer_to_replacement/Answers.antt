@@ -1,4 +1,4 @@
-use Rattle.std.proofs.Common.{◌≡◌, ℕ, ◌==◌, true, cond, Option, Some, None, List, subst, sym, ap, ◌∙◌}
+use Rattle.std.proofs.Common.{◌≡◌, ℕ, ◌==◌, true, cond, Option, Some, None, List, subst, sym, ap, ◌∙◌, arith}
 use Rattle.std.specs.List.{Contains}
 use Rattle.std.proofs.lemmas.List.Elements.{All-contains}
 use Rattle.admission.specs.declared.budget.Held.{Held}
@@ -35,5 +35,6 @@ returns c =
     let live = subst Live inside c.requires.live in
     let done = subst Done inside c.completed.ensures in
     let asked = c.fits.ensures ∙ ap (λ (leaving : Option ℕ). answer_for (remaining_without leaving c.self.inside.budget) load) c.leaving_at.ensures ∙ ap (λ (l : List Held). answer_for (remaining_without (cond (end_of_stopped a.message.start a.message.period r.clock == r.clock) (Some a.message.number) None) l) load) book.held in
-    let accepts = ap (λ (n : ℕ). answers.Replaced r.clock n) done in
+    let at : c.from.result ≡ r.clock = omega (arith, c.from.ensures) in
+    let accepts = ap (λ (n : ℕ). answers.Replaced c.from.result n) done ∙ ap (λ (s : ℕ). answers.Replaced s (completed a.message r.air r.clock)) at in
     subst Told c.self.view_is (c.by_room.ensures ∙ ap (λ x. by_room c.fits.result x) accepts ∙ ap (λ x. by_room x (answers.Replaced r.clock (completed a.message r.air r.clock))) asked ∙ sym (replacement_by_room r load a book.legal there live))

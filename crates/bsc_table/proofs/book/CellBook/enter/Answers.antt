@@ -52,9 +52,9 @@ enter_alone-requires-in-Write-clause-same c =
     subst Same (sym (c.in_ok-copy.ensures.copied ∙ w.is)) (write_does_nothing log c.self.inside.clock w.id w.serial w.replaces w.category w.period w.broadcasts w.dcs w.contents c.args.answer none)
 
 -- the message that a write would start, as it is put together
-made_is : (number slot id serial pages period broadcasts : ℕ) (high : Bool) (n : ℕ) (category : Category) (contents : List Content) → number ≡ n → pages ≡ length contents → high ≡ is_high category → write_message number slot None id serial pages period broadcasts high ≡ new_message n slot id serial category period broadcasts contents
+made_is : (number slot id serial pages period broadcasts : ℕ) (high : Bool) (n : ℕ) (category : Category) (contents : List Content) → number ≡ n → pages ≡ length contents → high ≡ is_high category → write_message number slot slot id serial pages period broadcasts high ≡ new_message n slot id serial category period broadcasts contents
 made_is number slot id serial pages period broadcasts high n category contents same_number same_pages same_high =
-    ap (λ (x : ℕ). write_message x slot None id serial pages period broadcasts high) same_number ∙ ap (λ (x : ℕ). write_message n slot None id serial x period broadcasts high) same_pages ∙ ap (λ (x : Bool). write_message n slot None id serial (length contents) period broadcasts x) same_high
+    ap (λ (x : ℕ). write_message x slot slot id serial pages period broadcasts high) same_number ∙ ap (λ (x : ℕ). write_message n slot slot id serial x period broadcasts high) same_pages ∙ ap (λ (x : Bool). write_message n slot slot id serial (length contents) period broadcasts x) same_high
 
 pub enter_new-requires-clause-start : goal.enter_new-requires-clause-start
 enter_new-requires-clause-start c =

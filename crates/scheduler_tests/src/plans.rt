@@ -1,56 +1,8 @@
 //! Worked air lists, and generated histories against the rule said once more, over the whole air list.
 
-ghost use Rattle.std.specs.Prelude.{◌≡◌, ◌<◌, All, Any, MatchBool, ⊤};
-ghost use Rattle.scheduler.specs.Follows.{messages_of};
-
-use crate::laws::air_laws;
-use crate::plan::{Item, Plan, Refused};
-use crate::tracked::Tracked;
-use std::alloc::Global;
+use scheduler::{Item, Plan, Refused, air_laws};
 use std::process::Abort;
 use std::test::Fail;
-
-/// Whether a number is above those of the messages that were added.
-fn is_above(plan: &Plan, entry: u16) -> bool
-    ensures { MatchBool result (All (λ m. m.number < entry) (messages_of plan.now)) ⊤ }
-{
-    all_below(plan.tracked(), entry)
-}
-
-/// Whether the message of `entry` was added.
-fn is_added(plan: &Plan, entry: u16) -> bool
-    ensures { MatchBool result (Any (λ m. m.number ≡ entry) (messages_of plan.now)) ⊤ }
-{
-    any_of(plan.tracked(), entry)
-}
-
-/// Whether the message of `entry` was added, and not stopped.
-fn is_standing(plan: &Plan, entry: u16) -> bool
-    ensures { MatchBool result
-        (Any (λ m. (m.number ≡ entry) × (m.stop ≡ None)) (messages_of plan.now)) ⊤ }
-{
-    any_standing(plan.tracked(), entry)
-}
-
-fn all_below(tracked: &[Tracked], entry: u16) -> bool
-    ensures { MatchBool result (All (λ t. t.item.entry < entry) tracked.now) ⊤ }
-{
-    tracked.iter().all(|one| one.item.entry < entry)
-}
-
-fn any_of(tracked: &[Tracked], entry: u16) -> bool
-    ensures { MatchBool result (Any (λ t. t.item.entry ≡ entry) tracked.now) ⊤ }
-{
-    tracked.iter().any(|one| one.item.entry == entry)
-}
-
-fn any_standing(tracked: &[Tracked], entry: u16) -> bool
-    ensures { MatchBool result (Any (λ t. (t.item.entry ≡ entry) × (t.stop ≡ None)) tracked.now) ⊤ }
-{
-    tracked
-        .iter()
-        .any(|one| one.item.entry == entry && one.stop.is_none())
-}
 
 /// Adds a message at the slot that is asked next. `None` is a message that may not be added there.
 fn add(
@@ -63,13 +15,13 @@ fn add(
 ) -> Option<Item> {
     let item = Item {
         entry,
-        start: u32::from(plan.asked_next()),
+        start: u32::from(plan.next_slot()),
         pages,
         period,
         broadcasts,
         high,
     };
-    if pages == 0 || period == 0 || !is_above(plan, entry) {
+    if pages == 0 || period == 0 || !plan.is_above_all(entry) {
         return None;
     }
     match plan.add(item) {
@@ -80,7 +32,7 @@ fn add(
 
 /// What the slot that is asked next airs.
 fn air(plan: &mut Plan) -> Option<(u16, u8)> {
-    let slot = plan.asked_next();
+    let slot = plan.next_slot();
     if slot == u16::MAX {
         return None;
     }
@@ -89,16 +41,16 @@ fn air(plan: &mut Plan) -> Option<(u16, u8)> {
 
 /// Stops a message at the slot that is asked next. `None` is a message that does not stand.
 fn stop(plan: &mut Plan, entry: u16) -> Option<u16> {
-    if !is_standing(plan, entry) {
+    if !plan.is_standing(entry) {
         return None;
     }
-    let slot = plan.asked_next();
+    let slot = plan.next_slot();
     Some(plan.stop(entry, slot))
 }
 
 /// The completed number of a message that was added.
 fn done(plan: &Plan, entry: u16) -> Option<u16> {
-    if !is_added(plan, entry) {
+    if !plan.is_added(entry) {
         return None;
     }
     Some(plan.done(entry))
@@ -353,7 +305,7 @@ fn stop_some(
     if numbers.below(8) != 0 {
         return;
     }
-    let slot = plan.asked_next();
+    let slot = plan.next_slot();
     let place = usize::from(numbers.below(16));
     if place < told.len() && told[place].stop.is_none() {
         let whole = completed(&told[place], air, slot);

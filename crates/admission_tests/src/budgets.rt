@@ -1,10 +1,6 @@
 //! The worked values of loads and reservations.
 
-ghost use Rattle.std.specs.Prelude.{◌≢◌, All, ◌≡◌, Any, MatchBool};
-
-use crate::budget::{Budget, NoRoom};
-use crate::laws::{reservation_laws, scale_laws};
-use crate::measure::{SCALE, load};
+use admission::{Budget, NoRoom, SCALE, load, reservation_laws, scale_laws};
 
 /// What a budget answers to a reservation, or `None` where the entry is reserved already.
 fn reserved(

@@ -1,6 +1,6 @@
 //! Which messages of the warning centre are orders, and a book without a command.
 
-use super::*;
+use bsc_table::{Category, CellBook, Command, SlotRange, orders_of};
 use cbs_page::{Content, Dcs, Serial};
 use cbsp_wire::{Cell, Cells, Contents, Counts, Message};
 use std::alloc::Global;

@@ -1,0 +1,4 @@
+pub mod Composition
+pub mod Meaning
+pub mod Same
+pub mod Sent

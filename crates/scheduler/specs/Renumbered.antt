@@ -1,0 +1,14 @@
+-- Messages and air lists under other numbers (own).
+use Rattle.std.specs.Prelude.{ℕ, ◌<◌, Option, Some, None}
+use Rattle.scheduler.specs.Message.{Message}
+
+-- a lesser number stays lesser
+abbrev pub KeepsOrder : (ℕ → ℕ) → Type 0
+KeepsOrder f = (a b : ℕ) → a < b → f a < f b
+
+abbrev pub renumbered : (ℕ → ℕ) → Message → Message
+renumbered f m = record m { number = f m.number }
+
+abbrev pub use_renumbered : (ℕ → ℕ) → Option (ℕ × ℕ) → Option (ℕ × ℕ)
+use_renumbered f None = None
+use_renumbered f (Some used) = Some (f used.0, used.1)
