@@ -1,6 +1,7 @@
 pub mod Lists
 pub mod BlockLaws
 pub mod PageLaws
+pub mod NamedPages
 pub mod ReadingLaws
 pub mod TapeLaws
 mod Worked

@@ -1,5 +1,5 @@
 -- Steps over tapes: blocks that are fed, slots that are read, and whole tapes.
-use Rattle.std.proofs.Common.{◌≡◌, ℕ, ◌+◌, ◌*◌, ◌/◌, ◌<◌, ◌≤◌, List, [], ◌∷◌, ◌++◌, Option, None, Some, IfSome, OnOk, Result, Ok, Err, length, take, drop, get_or, zero, suc, refl, sym, ap, ◌∙◌, subst, arith, append_assoc, append-nil}
+use Rattle.std.proofs.Common.{◌≡◌, ℕ, ◌+◌, ◌*◌, ◌/◌, ◌<◌, ◌≤◌, List, [], ◌∷◌, ◌++◌, Option, None, Some, IfSome, length, take, drop, get_or, zero, suc, refl, sym, ap, ◌∙◌, subst, arith, append_assoc, append-nil}
 use Rattle.std.specs.Io.KnownBytes.{Consumes, IsAtEnd}
 use Rattle.std.specs.List.{AllByRecursion}
 use Rattle.std.specs.Simd.{first_chunks}
@@ -7,21 +7,21 @@ use Rattle.std.proofs.KnownBytes.{Consumes-trans, Consumes-nil}
 use borrow.Rule.Slice.PartMut.{put_mid, post_of}
 use Rattle.std.proofs.Math.Seq.{take-append-add}
 use Rattle.std.proofs.lemmas.Grind.{flat_map-append}
-use Rattle.std.proofs.lemmas.List.{length-append, length-drop, length-take-le, take-append-drop, take-append-le, take_all}
+use Rattle.std.proofs.lemmas.List.{length-append, length-drop, length-take-le, take-append-drop, take-append-le}
 use Rattle.std.proofs.Math.ListN.{get_or-append}
 use Rattle.handset.specs.Reading.{Message, shown_in}
-use Rattle.handset.specs.Keeping.{Kept, HasRead}
+use Rattle.handset.specs.Keeping.{HandsetState, HasRead}
 use Rattle.handset.specs.declared.tape.TapeFault.{TapeFault}
 use Rattle.handset.specs.declared.tape.TapeFault.TheVariants as fault
 use Rattle.handset.specs.Tape.{TapeReading, IsNextFault, IsTapeFault, IsTapesFault, IsTape, IsLongTape, IsShortTape, AreSlots, AreJoined, AreTapes, BeginsWith, IsShort, IsLong, IsCut, IsOversized, octets_of_blocks, slots_in, told_by, most_slots, most_tapes}
-use Rattle.handset.specs.TapeSteps.{AreShown, ReadsBlocks, ReadsPiece, ReadsTape}
+use Rattle.handset.specs.TapeSteps.{ReadsBlocks, ReadsPiece, ReadsTape}
 
--- the reader gave the blocks of so many slots, and a handset has read them
-pub record Fed (old new : Option (List ℕ)) (slots : ℕ) (handset : Kept) (shown : List Message) : Type 0 where
+-- the reader gave the blocks of this many slots, and a handset has read them
+pub record Fed (old new : Option (List ℕ)) (slots : ℕ) (handset : HandsetState) : Type 0 where
   pub blocks : List (List ℕ)
   pub consumed : Consumes old new (octets_of_blocks blocks)
   pub slots_are : AreSlots slots blocks
-  pub are : AreShown handset shown blocks
+  pub read : HasRead handset blocks
 
 -- the reader gave tapes with these readings
 pub record ReadsTapes (old new : Option (List ℕ)) (readings : List TapeReading) : Type 0 where
@@ -55,15 +55,6 @@ front-more a b c filled count k buffer new within few first second =
     ∙ ap (λ l. front ++ l) (take-append-le count new back few) in
     subst (Consumes a c) (sym joined) (Consumes-trans a b c front (take count new) first second)
 
--- one block more
-pub AreShown-more : (before after : Kept) (old new answer : List Message) (blocks all : List (List ℕ)) (block : List ℕ) → AreShown before old blocks →
-    HasRead after (blocks ++ block ∷ []) → shown_in (blocks ++ block ∷ []) ≡ shown_in blocks ++ answer → new ≡ old ++ answer →
-    all ≡ blocks ++ block ∷ [] → AreShown after new all
-AreShown-more before after old new answer blocks all block are read shows grown more = record {
-  read = subst (HasRead after) (sym more) read;
-  same = grown ∙ ap (λ l. l ++ answer) are.same ∙ sym shows ∙ ap shown_in (sym more);
-}
-
 -- octets cut into blocks are these blocks, one after another
 pub chunks_joined : (k : ℕ) (xs : List ℕ) → length xs ≡ 23 * k → octets_of_blocks (first_chunks 23 k xs) ≡ xs
 chunks_joined zero [] whole = refl
@@ -94,18 +85,18 @@ octets_long (block ∷ blocks) each =
     omega (arith, length-append block (octets_of_blocks blocks), here, rest)
 
 -- before anything is read
-pub Fed-none : (old : Option (List ℕ)) (handset : Kept) → HasRead handset [] → Fed old old 0 handset []
+pub Fed-none : (old : Option (List ℕ)) (handset : HandsetState) → HasRead handset [] → Fed old old 0 handset
 Fed-none old handset read = record {
   blocks = [];
   consumed = Consumes-nil old;
   slots_are = record { four = refl; each = tt };
-  are = record { read = read; same = refl };
+  read = read;
 }
 
 -- the octets of some slots more
-pub Fed-more : (a b c : Option (List ℕ)) (slots more all : ℕ) (size : ℕ) (before after : Kept) (old new : List Message) →
-    Fed a b slots before old → ReadsPiece b c size before after old new → all ≡ slots + more → size ≡ 92 * more → Fed a c all after new
-Fed-more a b c slots more all size before after old new fed piece sum whole =
+pub Fed-more : (a b c : Option (List ℕ)) (slots more all : ℕ) (size : ℕ) (before after : HandsetState) →
+    Fed a b slots before → ReadsPiece b c size before after → all ≡ slots + more → size ≡ 92 * more → Fed a c all after
+Fed-more a b c slots more all size before after fed piece sum whole =
     let count : size / 23 ≡ 4 * more = omega arith in
     let long : length piece.octets ≡ 23 * (size / 23) = omega (arith, piece.long) in
     let chunks : List (List ℕ) = first_chunks 23 (size / 23) piece.octets in
@@ -120,22 +111,24 @@ Fed-more a b c slots more all size before after old new fed piece sum whole =
         four = omega (arith, length-append fed.blocks chunks, chunks_long (size / 23) piece.octets, four);
         each = each-append fed.blocks chunks fed.slots_are.each (chunks_each (size / 23) piece.octets long);
       };
-      are = piece.shows fed.blocks fed.are;
+      read = piece.read fed.blocks fed.read;
     }
 
-pub Fed-whole : (old new : Option (List ℕ)) (slots all : ℕ) (handset : Kept) (shown : List Message) → Fed old new slots handset shown → slots ≡ all →
-    ReadsBlocks old new all shown
-Fed-whole old new slots all handset shown fed same = record {
+pub Fed-whole : (old new : Option (List ℕ)) (slots all : ℕ) (handset : HandsetState) (shown : List Message) →
+    Fed old new slots handset → slots ≡ all →
+    ((blocks : List (List ℕ)) → HasRead handset blocks → shown ≡ shown_in blocks) → ReadsBlocks old new all shown
+Fed-whole old new slots all handset shown fed same shows = record {
   blocks = fed.blocks;
   consumed = fed.consumed;
   slots_are = record { four = fed.slots_are.four ∙ ap (λ n. 4 * n) same; each = fed.slots_are.each };
-  same = fed.are.same;
+  same = shows fed.blocks fed.read;
 }
 
 -- the end came before all slots
-pub Fed-short : (a b : Option (List ℕ)) (slots more all size : ℕ) (handset : Kept) (shown : List Message) →
-    Fed a b slots handset shown → IfSome b (λ left. length left < size) → slots + more ≤ all → size ≡ 92 * more → IfSome a (λ left. length left < 92 * all)
-Fed-short a b slots more all size handset shown fed short within whole =
+pub Fed-short : (a b : Option (List ℕ)) (slots more all size : ℕ) (handset : HandsetState) → Fed a b slots handset →
+    IfSome b (λ left. length left < size) → slots + more ≤ all → size ≡ 92 * more →
+    IfSome a (λ left. length left < 92 * all)
+Fed-short a b slots more all size handset fed short within whole =
     let front : List ℕ = octets_of_blocks fed.blocks in
     let four : length fed.blocks ≡ 4 * slots = fed.slots_are.four in
     behind (λ left. length left < size) (λ left. length left < 92 * all) a b front fed.consumed short
@@ -145,24 +138,6 @@ Fed-short a b slots more all size handset shown fed short within whole =
 pub piece-short : (a b : Option (List ℕ)) (octets : List ℕ) (count : ℕ) → Consumes a b octets → IsAtEnd b → length octets < count →
     IfSome a (λ left. length left < count)
 piece-short a b octets count consumed end short = at_end (λ left. length left < count) a b octets consumed end short
-
--- a piece that was filled
-pub ReadsPiece-from : (a b : Option (List ℕ)) (count size : ℕ) (octets : List ℕ) (before after : Kept) (was shown : List Message) (blocks : List (List ℕ)) →
-    Consumes a b (take count octets) → size ≤ count → length octets ≡ size → blocks ≡ first_chunks 23 (length octets / 23) octets →
-    ((front : List (List ℕ)) → AreShown before was front → AreShown after shown (front ++ blocks)) →
-    ReadsPiece a b size before after was shown
-ReadsPiece-from a b count size octets before after was shown blocks consumed all long cut shows = record {
-  octets = octets;
-  consumed = subst (Consumes a b) (take_all count octets (omega arith)) consumed;
-  long = long;
-  shows =
-      let same : blocks ≡ first_chunks 23 (size / 23) octets = cut ∙ ap (λ n. first_chunks 23 (n / 23) octets) long in
-      λ front are. subst (λ l. AreShown after shown (front ++ l)) same (shows front are);
-}
-
-pub on_ok : {X E : Type 0} (r : Result X E) (P Q : Type 0) → (P → Q) → OnOk r P → OnOk r Q
-on_ok (Ok x) P Q f p = f p
-on_ok (Err e) P Q f p = p
 
 -- a header says the same with what follows it
 pub slots-header : (header rest : List ℕ) → length header ≡ 8 → slots_in (header ++ rest) ≡ slots_in header

@@ -10,6 +10,7 @@ mod handset;
 mod input;
 mod laws;
 mod messages;
+mod pages;
 mod tape;
 #[cfg(test)]
 mod tape_tests;

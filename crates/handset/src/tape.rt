@@ -11,7 +11,7 @@ ghost use Rattle.handset.specs.Keeping.{HasRead, messages_of};
 ghost use Rattle.handset.specs.Tape.{cell_in, slots_in, most_slots, reading_of, readings_of, AreTapes, IsNextFault, IsTape, IsTapeFault, IsTapesFault, MadeAreTapes};
 ghost use Rattle.handset.specs.declared.tape.TapeFault.TheVariants.{ReadFailed, Refused};
 ghost use Rattle.handset.specs.TapeLaw.{TapeHasKind, TapeIsOneKind, TapesAreOneKind, TapesHaveKind};
-ghost use Rattle.handset.specs.TapeSteps.{AreShown, ReadsBlocks, ReadsPiece, ReadsTape};
+ghost use Rattle.handset.specs.TapeSteps.{ReadsBlocks, ReadsPiece, ReadsTape};
 
 use crate::input::read_front;
 use crate::{Handset, Shown};
@@ -210,14 +210,12 @@ fn next_tape<R: Read>(
     if slots > MAX_SLOTS {
         return Err(TapeFault::Long);
     }
-    match read_slots(alloc, source, piece, slots) {
-        Ok(shown) => Ok(Some(Reading {
-            cell: cell_of(&header),
-            slots,
-            shown,
-        })),
-        Err(fault) => Err(fault),
-    }
+    let shown = read_slots(alloc, source, piece, slots)?;
+    Ok(Some(Reading {
+        cell: cell_of(&header),
+        slots,
+        shown,
+    }))
 }
 
 /// The cell that a header names.
@@ -256,29 +254,25 @@ fn read_slots<R: Read>(
     ensures sound { OnOk result (source_failed source.new ≡ false) }
 {
     let mut handset = Handset::new(alloc);
-    let mut shown = Vec::new(alloc);
     let mut left = slots as usize;
     while left > 0 {
         let wanted = left.min(PIECE_SLOTS);
         let length = SLOT * wanted;
-        match read_piece(source, &mut piece[..length], &mut handset, &mut shown) {
-            Ok(()) => left -= wanted,
-            Err(fault) => return Err(fault),
-        }
+        read_piece(source, &mut piece[..length], &mut handset)?;
+        left -= wanted;
     }
-    Ok(shown)
+    Ok(handset.into_shown())
 }
 
-/// Reads as many octets as the piece has, and feeds the blocks that they are to a handset.
+/// Reads as many octets as the piece has, and has a handset read the blocks that they are.
 fn read_piece<R: Read>(
     source: &mut Source<R>,
     piece: &mut [u8],
     handset: &mut Handset,
-    shown: &mut Vec<Shown>,
 ) -> Result<(), TapeFault>
     requires { source_failed source.old ≡ false }
     ensures piece { OnOk result (ReadsPiece (R.remaining (reader_of source.old)) (R.remaining (reader_of source.new))
-        (length piece.old) handset.old handset.new (messages_of shown.old.items) (messages_of shown.new.items)) }
+        (length piece.old) handset.old handset.new) }
     ensures short { IfErr result (λ fault. fault ≡ TapeFault.Short
         → IfSome (R.remaining (reader_of source.old)) (λ left. length left < length piece.old)) }
     ensures fits { IfErr result (λ fault. fault ≢ TapeFault.Long) }
@@ -290,34 +284,8 @@ fn read_piece<R: Read>(
         return Err(TapeFault::Short);
     }
     let (blocks, _) = piece.as_chunks::<23>();
-    show(handset, shown, blocks)
-}
-
-/// Feeds blocks to a handset, and puts the messages that they make complete behind those that it has shown.
-fn show(handset: &mut Handset, shown: &mut Vec<Shown>, blocks: &[[u8; 23]]) -> Result<(), TapeFault>
-    ensures shown { OnOk result ((before : List (List ℕ)) → AreShown handset.old (messages_of shown.old.items) before →
-        AreShown handset.new (messages_of shown.new.items) (before ++ blocks.now)) }
-    ensures refused { IfErr result (λ fault. fault ≡ TapeFault.Refused) }
-{
-    for block in blocks {
-        let answer = handset.feed(block)?;
-        push_answer(shown, answer)?;
-    }
+    handset.accept_all(blocks)?;
     Ok(())
-}
-
-/// Puts a message behind others, where there is one.
-fn push_answer(shown: &mut Vec<Shown>, answer: Option<Shown>) -> Result<(), TapeFault>
-    ensures shown { OnOk result (messages_of shown.new.items ≡ messages_of shown.old.items ++ messages_of (option_to_list answer)) }
-    ensures refused { IfErr result (λ fault. fault ≡ TapeFault.Refused) }
-{
-    match answer {
-        None => Ok(()),
-        Some(message) => match shown.push(message) {
-            Ok(()) => Ok(()),
-            Err(_) => Err(TapeFault::Refused),
-        },
-    }
 }
 
 /// That each input is of exactly one kind (readable, short or long), for one tape and for tapes up to the end, and that its

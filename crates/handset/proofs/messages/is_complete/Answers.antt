@@ -39,12 +39,12 @@ copied_some (Some x) = refl
 
 pub returns-then-is_none : goal.returns-then-is_none
 returns-then-is_none c =
-    let none : is_some c.page_of_number.result ≡ false = c.is_none.ensures ∙ ap not c.if-is_none.true in
-    sym (missing (name_of c.args.page.now) c.args.pages.now c.loop-before.before (omega arith)
-    (ap is_some (sym c.page_of_number.ensures) ∙ copied_some c.page_of_number.result ∙ none))
+    let none : is_some c.page_with.result ≡ false = c.is_none.ensures ∙ ap not c.if-is_none.true in
+    sym (missing (name_of c.args.last.now) (c.args.pages.now ++ c.args.last.now ∷ []) c.loop-before.before (omega arith)
+    (ap is_some (sym c.page_with.ensures) ∙ copied_some c.page_with.result ∙ none))
 
 pub loop-before-preserved : goal.loop-before-preserved
 loop-before-preserved c =
-    let some : is_some c.page_of_number.result ≡ true = c.is_none.ensures ∙ ap not c.if-is_none.false in
-    one_more (name_of c.args.page.now) c.args.pages.now c.loop-before.before c.loop-before.invariant
-    (ap is_some (sym c.page_of_number.ensures) ∙ copied_some c.page_of_number.result ∙ some)
+    let some : is_some c.page_with.result ≡ true = c.is_none.ensures ∙ ap not c.if-is_none.false in
+    one_more (name_of c.args.last.now) (c.args.pages.now ++ c.args.last.now ∷ []) c.loop-before.before c.loop-before.invariant
+    (ap is_some (sym c.page_with.ensures) ∙ copied_some c.page_with.result ∙ some)

@@ -7,8 +7,8 @@ use Rattle.handset.specs.TapeSteps.{ReadsBlocks}
 use Rattle.handset.proofs.TapeLaws.{ReadsTape-from}
 use Rattle.handset.proofs.tape.next_tape.Goals as goal
 
-pub returns-in-Ok-clause-tape : goal.returns-in-Ok-clause-tape
-returns-in-Ok-clause-tape g c =
+pub returns-clause-tape : goal.returns-clause-tape
+returns-clause-tape g c =
     let remaining = g.R.Read.remaining in
     let old : Option (List ℕ) = remaining (reader_of c.args.source.now) in
     let mid : Option (List ℕ) = remaining (reader_of c.read_front.new.source) in
@@ -17,6 +17,6 @@ returns-in-Ok-clause-tape g c =
     let eight : length header ≡ 8 = omega arith in
     let whole : take c.in_ok-count.count header ≡ header = take_all c.in_ok-count.count header (omega arith) in
     rw (c.cell_of.ensures, c.slots_of-slots.ensures)
-    (ReadsTape-from old mid new header (messages_of c.in-Ok.shown.items) eight (omega arith)
+    (ReadsTape-from old mid new header (messages_of c.in_ok-shown.shown.items) eight (omega arith)
     (subst (Consumes old mid) whole c.in_ok-count.ensures.octets)
-    (subst (λ n. ReadsBlocks mid new n (messages_of c.in-Ok.shown.items)) c.slots_of-slots.ensures c.in-Ok.ensures.shown))
+    (subst (λ n. ReadsBlocks mid new n (messages_of c.in_ok-shown.shown.items)) c.slots_of-slots.ensures c.in_ok-shown.ensures.shown))
