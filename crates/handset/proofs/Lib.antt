@@ -4,6 +4,7 @@ pub mod PageLaws
 pub mod NamedPages
 pub mod ReadingLaws
 pub mod TapeLaws
+pub mod TapeExtents
 mod Worked
 pub mod TapeKinds
 pub mod TapeCases

@@ -77,7 +77,8 @@ each-append : (front rest : List (List ℕ)) → AllByRecursion (λ block. lengt
 each-append [] rest first second = second
 each-append (block ∷ front) rest first second = (first.0, each-append front rest first.1 second)
 
-octets_long : (blocks : List (List ℕ)) → AllByRecursion (λ block. length block ≡ 23) blocks → length (octets_of_blocks blocks) ≡ 23 * length blocks
+-- blocks of 23 octets have 23 times as many octets
+pub octets_long : (blocks : List (List ℕ)) → AllByRecursion (λ block. length block ≡ 23) blocks → length (octets_of_blocks blocks) ≡ 23 * length blocks
 octets_long [] each = refl
 octets_long (block ∷ blocks) each =
     let here : length block ≡ 23 = each.0 in

@@ -2,16 +2,17 @@
 //! its cell (LAC 2 octets, CI 2), the number of its slots (4), and four blocks of 23 octets for each, high octets first; several
 //! tapes follow each other with nothing between. `specs/Tape.antt` says which octets are tapes, and what is told of them.
 
-ghost use Rattle.std.specs.Prelude.{◌≡◌, ◌≢◌, ◌↔◌, ◌+◌, ◌*◌, ◌<◌, ◌≤◌, ◌++◌, ℕ, List, false, length, IfErr, IfOk, IfSome, IfNone, IsErrOf, IsErr, IsTrue, OnOk, vec_len, [], ◌∷◌, MatchBool};
+ghost use Rattle.std.specs.Prelude.{◌≡◌, ◌≢◌, ◌↔◌, ◌+◌, ◌*◌, ◌<◌, ◌≤◌, ◌++◌, ℕ, List, false, true, length, IfErr, IfOk, IfSome, IfNone, IsErrOf, IsErr, IsTrue, OnOk, vec_len, [], ◌∷◌, MatchBool};
 ghost use Rattle.std.specs.Io.KnownBytes.{Consumes, IsAtEnd};
 ghost use Rattle.std.specs.Option.{option_to_list};
 ghost use Rattle.device_ends.specs.Source.{reader_of, source_failed};
 ghost use Rattle.handset.specs.Reading.{shown_in};
 ghost use Rattle.handset.specs.Keeping.{HasRead, messages_of};
-ghost use Rattle.handset.specs.Tape.{cell_in, slots_in, most_slots, reading_of, readings_of, AreTapes, IsNextFault, IsTape, IsTapeFault, IsTapesFault, MadeAreTapes};
+ghost use Rattle.handset.specs.Tape.{cell_in, slots_in, most_slots, most_tapes, reading_of, readings_of, AreTapes, IsNextFault, IsTape, IsTapeFault, IsTapesFault, MadeAreTapes};
 ghost use Rattle.handset.specs.declared.tape.TapeFault.TheVariants.{ReadFailed, Refused};
 ghost use Rattle.handset.specs.TapeLaw.{TapeHasKind, TapeIsOneKind, TapesAreOneKind, TapesHaveKind};
-ghost use Rattle.handset.specs.TapeSteps.{ReadsBlocks, ReadsPiece, ReadsTape};
+ghost use Rattle.handset.specs.TapeExtent.{StopsAt};
+ghost use Rattle.handset.specs.TapeSteps.{NextStopsAt, ReadsBlocks, ReadsCount, ReadsFewer, ReadsPiece, ReadsTape, StopsInOctets};
 
 use crate::input::read_front;
 use crate::{Handset, Shown};
@@ -99,10 +100,16 @@ pub fn read_tape<R: Read>(alloc: Global, source: &mut Source<R>) -> Result<Readi
         IsTape input (reading_of reading))) }
     ensures fault { IfErr result (λ fault. IfSome (R.remaining (reader_of source.old)) (λ input. IsTapeFault input fault)) }
 
+    // How far the source was read: to its end, or as the fault says and no further.
+    ensures whole { OnOk result (IsAtEnd (R.remaining (reader_of source.new))) }
+    ensures extent { IfErr result (λ fault. StopsAt 1 (R.remaining (reader_of source.old))
+        (R.remaining (reader_of source.new)) fault) }
+
     // At any reader.
     ensures tape { IfOk result (λ reading. (octets : List ℕ) × IsTape octets (reading_of reading)) }
     ensures read { IsErrOf result TapeFault.ReadFailed ↔ IsTrue (source_failed source.new) }
     ensures sound { OnOk result (source_failed source.new ≡ false) }
+    ensures stays { source_failed source.old ≡ true → source.new ≡ source.old }
 {
     if source.failed() {
         return Err(TapeFault::ReadFailed);
@@ -127,10 +134,16 @@ pub fn read_tapes<R: Read>(alloc: Global, source: &mut Source<R>) -> Result<Vec<
         AreTapes input (readings_of readings.items))) }
     ensures fault { IfErr result (λ fault. IfSome (R.remaining (reader_of source.old)) (λ input. IsTapesFault input fault)) }
 
+    // How far the source was read: to its end, or as the fault says and no further.
+    ensures whole { OnOk result (IsAtEnd (R.remaining (reader_of source.new))) }
+    ensures extent { IfErr result (λ fault. StopsAt most_tapes (R.remaining (reader_of source.old))
+        (R.remaining (reader_of source.new)) fault) }
+
     // At any reader.
     ensures tapes { IfOk result (λ readings. (octets : List ℕ) × AreTapes octets (readings_of readings.items)) }
     ensures read { IsErrOf result TapeFault.ReadFailed ↔ IsTrue (source_failed source.new) }
     ensures sound { OnOk result (source_failed source.new ≡ false) }
+    ensures stays { source_failed source.old ≡ true → source.new ≡ source.old }
 {
     if source.failed() {
         return Err(TapeFault::ReadFailed);
@@ -175,6 +188,10 @@ fn is_at_end<R: Read>(source: &mut Source<R>) -> Result<bool, Failed>
     requires { source_failed source.old ≡ false }
     ensures end { IfOk result (λ end. MatchBool end (IsAtEnd (R.remaining (reader_of source.old)))
         (IfSome (R.remaining (reader_of source.old)) (λ left. 0 < length left))) }
+    ensures read { IfOk result (λ end. MatchBool end (IsAtEnd (R.remaining (reader_of source.new)))
+        (ReadsCount (R.remaining (reader_of source.old)) (R.remaining (reader_of source.new)) 1)) }
+    ensures stopped { IfErr result (λ _. ReadsFewer (R.remaining (reader_of source.old))
+        (R.remaining (reader_of source.new)) 1) }
     ensures sound { OnOk result (source_failed source.new ≡ false) }
     ensures failed { IsErr result ↔ IsTrue (source_failed source.new) }
 {
@@ -194,6 +211,9 @@ fn next_tape<R: Read>(
     ensures tape { IfOk result (λ next. IfSome next (λ reading. ReadsTape (R.remaining (reader_of source.old))
         (R.remaining (reader_of source.new)) (reading_of reading))) }
     ensures end { IfOk result (λ next. IfNone next (IsAtEnd (R.remaining (reader_of source.old)))) }
+    ensures whole { IfOk result (λ next. IfNone next (IsAtEnd (R.remaining (reader_of source.new)))) }
+    ensures extent { IfErr result (λ fault. NextStopsAt (R.remaining (reader_of source.old))
+        (R.remaining (reader_of source.new)) fault) }
     ensures fault { IfErr result (λ fault. IfSome (R.remaining (reader_of source.old)) (λ left. IsNextFault left fault)) }
     ensures read { IsErrOf result TapeFault.ReadFailed ↔ IsTrue (source_failed source.new) }
     ensures sound { OnOk result (source_failed source.new ≡ false) }
@@ -249,6 +269,8 @@ fn read_slots<R: Read>(
         (R.remaining (reader_of source.new)) slots (messages_of shown.items)) }
     ensures short { IfErr result (λ fault. fault ≡ TapeFault.Short
         → IfSome (R.remaining (reader_of source.old)) (λ left. length left < 92 * slots)) }
+    ensures extent { IfErr result (λ fault. StopsInOctets (R.remaining (reader_of source.old))
+        (R.remaining (reader_of source.new)) (92 * slots) fault) }
     ensures fits { IfErr result (λ fault. fault ≢ TapeFault.Long) }
     ensures read { IsErrOf result TapeFault.ReadFailed ↔ IsTrue (source_failed source.new) }
     ensures sound { OnOk result (source_failed source.new ≡ false) }
@@ -275,6 +297,8 @@ fn read_piece<R: Read>(
         (length piece.old) handset.old handset.new) }
     ensures short { IfErr result (λ fault. fault ≡ TapeFault.Short
         → IfSome (R.remaining (reader_of source.old)) (λ left. length left < length piece.old)) }
+    ensures extent { IfErr result (λ fault. StopsInOctets (R.remaining (reader_of source.old))
+        (R.remaining (reader_of source.new)) (length piece.old) fault) }
     ensures fits { IfErr result (λ fault. fault ≢ TapeFault.Long) }
     ensures read { IsErrOf result TapeFault.ReadFailed ↔ IsTrue (source_failed source.new) }
     ensures sound { OnOk result (source_failed source.new ≡ false) }

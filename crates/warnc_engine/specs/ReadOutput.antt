@@ -1,13 +1,14 @@
 -- What `warnc read` makes of the octets that it reads: a table of what the tapes show, as CSV. Own.
-use Rattle.std.specs.Prelude.{◌≡◌, ℕ, ◌/◌, ◌%◌, List, [], ◌∷◌, ◌++◌, Option, codes}
+use Rattle.std.specs.Prelude.{◌≡◌, ℕ, ◌/◌, ◌%◌, ◌⊎◌, List, [], ◌∷◌, ◌++◌, Option, codes}
 use Rattle.std.specs.Fmt.{decimal}
-use Rattle.std.specs.Io.KnownBytes.{Keeps}
+use Rattle.std.specs.Io.KnownBytes.{IsAtEnd, Keeps}
 use Rattle.std.specs.List.{flat_map}
 use Rattle.csv.specs.Writing.{default_writer, row_text}
 use Rattle.hex.specs.Hex.{encode_lower}
 use Rattle.device_ends.specs.Moves.{AppendsFront}
 use Rattle.handset.specs.Reading.{Message}
-use Rattle.handset.specs.Tape.{TapeReading, AreTapes, IsShort, IsLong}
+use Rattle.handset.specs.Tape.{TapeReading, AreTapes, IsShort, IsLong, most_tapes}
+use Rattle.handset.specs.TapeExtent.{StopsAt}
 use Rattle.handset.specs.declared.tape.TapeFault.{TapeFault}
 use Rattle.handset.specs.declared.tape.TapeFault.TheVariants as tape
 use Rattle.warnc_engine.specs.declared.read.TableFault.{TableFault}
@@ -56,3 +57,11 @@ IsReadFault input old new fault.Long = IsLong input × Keeps old new
 IsReadFault input old new fault.Read = Keeps old new
 IsReadFault input old new fault.Refused = Keeps old new
 IsReadFault input old new fault.Write = (output : List ℕ) × IsReadOutput input output × AppendsFront old new output
+
+-- how far the input was read when no table is written, by the fault: as the reading of tapes says, and nothing after it
+abbrev pub IsReadTo : (old new : Option (List ℕ)) → TableFault → Type 0
+IsReadTo old new fault.Short = StopsAt most_tapes old new tape.Short
+IsReadTo old new fault.Long = StopsAt most_tapes old new tape.Long
+IsReadTo old new fault.Read = StopsAt most_tapes old new tape.ReadFailed
+IsReadTo old new fault.Refused = StopsAt most_tapes old new tape.Refused ⊎ IsAtEnd new
+IsReadTo old new fault.Write = IsAtEnd new

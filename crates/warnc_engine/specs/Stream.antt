@@ -22,5 +22,6 @@ pub record IsStreamBetween {R W F : Type 0} (IsOutput : List ℕ → List ℕ �
   pub read : IsErrOf result unread ↔ IsTrue (source_failed last)
   -- a failed writer is reported only if the sink has failed
   pub write : IsErrOf result unwritten → IsTrue (sink_failed new)
-  -- a sink that had failed before is as it was
+  -- an end that had failed before is as it was
+  pub source_stays : source_failed first ≡ true → last ≡ first
   pub sink_stays : sink_failed old ≡ true → new ≡ old

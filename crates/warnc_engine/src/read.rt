@@ -1,12 +1,12 @@
 //! The command `read`: tapes to a table of what a handset shows of them.
 
 ghost use Rattle.std.specs.Prelude.{◌≡◌, ◌++◌, ℕ, List, IfErr, IfOk, IfSome, OnOk};
-ghost use Rattle.std.specs.Io.KnownBytes.{Appends};
+ghost use Rattle.std.specs.Io.KnownBytes.{Appends, IsAtEnd};
 ghost use Rattle.std.specs.List.{flat_map};
 ghost use Rattle.device_ends.specs.Sink.{writer_of};
 ghost use Rattle.device_ends.specs.Source.{reader_of};
 ghost use Rattle.handset.specs.Tape.{reading_of, readings_of};
-ghost use Rattle.warnc_engine.specs.ReadOutput.{reading_rows, table_fault_of, table_of, IsReadOutput, IsReadFault};
+ghost use Rattle.warnc_engine.specs.ReadOutput.{reading_rows, table_fault_of, table_of, IsReadOutput, IsReadFault, IsReadTo};
 ghost use Rattle.warnc_engine.specs.Stream.{IsStreamBetween};
 
 use crate::table::{push_header, push_message};
@@ -50,6 +50,10 @@ pub fn read_stream<R: Read, W: Write>(
         × Appends (W.contents (writer_of sink.old)) (W.contents (writer_of sink.new)) output)) }
     ensures fault { IfErr result (λ fault. IfSome (R.remaining (reader_of source.old)) (λ input.
         IsReadFault input (W.contents (writer_of sink.old)) (W.contents (writer_of sink.new)) fault)) }
+
+    // How far the source was read: to its end, or as the fault says and no further.
+    ensures whole { OnOk result (IsAtEnd (R.remaining (reader_of source.new))) }
+    ensures extent { IfErr result (IsReadTo (R.remaining (reader_of source.old)) (R.remaining (reader_of source.new))) }
 
     // At any reader and any writer.
     ensures ends { IsStreamBetween IsReadOutput TableFault.Read TableFault.Write result
