@@ -1,0 +1,93 @@
+#!/usr/bin/env python3
+"""Runs the gate, `rt ci`, and prints what processor time each crate took: its proof, its tests, its edits that must be refused.
+
+The times are read from /proc while the gate runs, so nothing else of this repository should be checked beside it. The last column
+is a multiple of what the crate `septets` took in the same run, so that it can be compared between machines; docs/gate.md has the
+budget. With a file as argument, what the gate says goes there; else it goes to standard output.
+"""
+import os
+import subprocess
+import sys
+import time
+
+TICKS = os.sysconf("SC_CLK_TCK")
+UNIT = "septets"
+KINDS = ("proof", "tests", "edits")
+
+
+def kind_of(words, folder):
+    """Returns what a process of the prover is for."""
+    if "rt-edit-" in folder:
+        return "edits"
+    return "tests" if "--test" in words else "proof"
+
+
+def is_below(parents, pid, top):
+    while pid in parents:
+        if pid == top:
+            return True
+        pid = parents[pid]
+    return False
+
+
+def sample(seen, top):
+    """Adds to `seen` what the processes below the gate's have taken so far: (pid, start) to [crate, kind, seconds]."""
+    parents, found = {}, []
+    for entry in os.listdir("/proc"):
+        if not entry.isdigit():
+            continue
+        try:
+            with open(f"/proc/{entry}/stat", encoding="utf-8", errors="replace") as it:
+                text = it.read()
+        except OSError:
+            continue
+        fields = text[text.rfind(")") + 2 :].split()
+        parents[int(entry)] = int(fields[1])
+        found.append((int(entry), text[text.find("(") + 1 : text.rfind(")")], fields))
+    for pid, name, fields in found:
+        if not is_below(parents, pid, top):
+            continue
+        key, seconds = (pid, fields[19]), (int(fields[11]) + int(fields[12])) / TICKS
+        if key not in seen:
+            crate, kind = "(compilers, programs, rt)", "proof"
+            if name == "rattle":
+                try:
+                    with open(f"/proc/{pid}/cmdline", "rb") as it:
+                        words = it.read().decode(errors="replace").split("\0")
+                    kind = kind_of(words, os.readlink(f"/proc/{pid}/cwd"))
+                    crate = words[words.index("--crate-name") + 1]
+                except (OSError, ValueError):
+                    pass
+            seen[key] = [crate, kind, seconds]
+        seen[key][2] = max(seen[key][2], seconds)
+
+
+def table(seen):
+    """Returns the lines of the table, the dearest crate first."""
+    rows = {}
+    for crate, kind, seconds in seen.values():
+        rows.setdefault(crate, dict.fromkeys(KINDS, 0.0))[kind] += seconds
+    unit = sum(rows.get(UNIT, {}).values()) or 1.0
+    lines = [f"{'crate':28}{'proof':>9}{'tests':>9}{'edits':>9}{'total':>9}{'x ' + UNIT:>12}"]
+    for crate, row in sorted(rows.items(), key=lambda it: -sum(it[1].values())):
+        total = sum(row.values())
+        lines.append(f"{crate:28}" + "".join(f"{row[it]:9.0f}" for it in KINDS) + f"{total:9.0f}{total / unit:12.1f}")
+    total = sum(sum(row.values()) for row in rows.values())
+    lines.append(f"{'all':28}" + "".join(f"{sum(row[it] for row in rows.values()):9.0f}" for it in KINDS) + f"{total:9.0f}{total / unit:12.1f}")
+    return lines
+
+
+def main(words):
+    began, seen = time.monotonic(), {}
+    out = open(words[0], "w", encoding="utf-8") if words else None
+    gate = subprocess.Popen(["rt", "ci"], stdin=subprocess.DEVNULL, stdout=out, stderr=subprocess.STDOUT if out else None)
+    while gate.poll() is None:
+        sample(seen, gate.pid)
+        time.sleep(0.1)
+    print(f"processor seconds; the gate took {(time.monotonic() - began) / 60:.1f} minutes")
+    print("\n".join(table(seen)))
+    return gate.returncode
+
+
+if __name__ == "__main__":
+    sys.exit(main(sys.argv[1:]))
