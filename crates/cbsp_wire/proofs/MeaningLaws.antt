@@ -5,8 +5,8 @@ use Rattle.std.specs.List.{AllByRecursion}
 use Rattle.std.proofs.lemmas.Bool.{ltb-false, le-ltb, eqb-true}
 use Rattle.cbsp_wire.specs.declared.kind.Kind.{Kind}
 use Rattle.cbsp_wire.specs.declared.kind.Kind.TheVariants as kinds
-use Rattle.cbsp_wire.specs.declared.elements.Stop.{Stop}
-use Rattle.cbsp_wire.specs.declared.elements.Stop.TheVariants.{End, Strange, Cut}
+use Rattle.cbsp_wire.specs.declared.elements.WalkEnd.{WalkEnd}
+use Rattle.cbsp_wire.specs.declared.elements.WalkEnd.TheVariants.{Complete, UnexpectedElement, CutOff}
 use Rattle.cbsp_wire.specs.declared.fault.WireFault.{WireFault}
 use Rattle.cbsp_wire.specs.declared.fault.WireFault.TheVariants.{Truncated, TrailingBytes, Cause, Refused}
 use Rattle.cbsp_wire.specs.declared.message.Message.{Message}
@@ -57,8 +57,8 @@ kind_of-message_of kinds.KillDone es = refl
 kind_of-message_of kinds.KillFailed es = refl
 
 -- elements without a fault
-record HasNoFault (kind : Kind) (es : List Element) (stop : Stop) : Type 0 where
-  ends : stop ≡ End
+record HasNoFault (kind : Kind) (es : List Element) (stop : WalkEnd) : Type 0 where
+  ends : stop ≡ Complete
   mandatory : has_mandatory kind es ≡ true
   in_range : are_in_range es ≡ true
 
@@ -72,10 +72,10 @@ no_fault_strange : (m : Bool) → cond (not m) (Some (Cause 5)) (Some (Cause 0))
 no_fault_strange true h = cc
 no_fault_strange false h = cc
 
-no_fault : (kind : Kind) (es : List Element) (stop : Stop) → fault_of_walk kind es stop ≡ None → HasNoFault kind es stop
-no_fault kind es Cut h = absurd cc
-no_fault kind es Strange h = absurd (no_fault_strange (has_mandatory kind es) h)
-no_fault kind es End h =
+no_fault : (kind : Kind) (es : List Element) (stop : WalkEnd) → fault_of_walk kind es stop ≡ None → HasNoFault kind es stop
+no_fault kind es CutOff h = absurd cc
+no_fault kind es UnexpectedElement h = absurd (no_fault_strange (has_mandatory kind es) h)
+no_fault kind es Complete h =
     let both = no_fault_whole (has_mandatory kind es) (are_in_range es) h in
     record { ends = refl; mandatory = both.0; in_range = both.1 }
 
@@ -142,7 +142,7 @@ IsMessage-read (o ∷ a ∷ b ∷ c ∷ rest) m h =
     let kind = kind_of m in
     let es = h.2.0 in
     let is_kind : kind_of_octet o ≡ Some kind = ap kind_of_octet h.0 ∙ kind_of_octet-octet_of_kind kind in
-    let walked : walk_of kind rest ≡ (let w : Walk = record { elements = es; stop = End } in w) =
+    let walked : walk_of kind rest ≡ (let w : Walk = record { elements = es; stop = Complete } in w) =
     ap (walk_of kind) h.2.1 ∙ walk_of-elements kind es h.2.2.of_kind in
     let clean : fault_of_kind (Some kind) rest ≡ None =
     ap (λ (w : Walk). fault_of_walk kind w.elements w.stop) walked

@@ -12,8 +12,8 @@
 -- The definitions stand in the other direction, each below those that it asks next.
 use Rattle.std.specs.Prelude.{◌≡◌, ℕ, ◌+◌, ◌*◌, nat_lt, not, if◌then◌else◌, List, ◌∷◌, length, Option, Some, None}
 use Rattle.cbsp_wire.specs.declared.kind.Kind.{Kind}
-use Rattle.cbsp_wire.specs.declared.elements.Stop.{Stop}
-use Rattle.cbsp_wire.specs.declared.elements.Stop.TheVariants.{End, Strange, Cut}
+use Rattle.cbsp_wire.specs.declared.elements.WalkEnd.{WalkEnd}
+use Rattle.cbsp_wire.specs.declared.elements.WalkEnd.TheVariants.{Complete, UnexpectedElement, CutOff}
 use Rattle.cbsp_wire.specs.declared.fault.WireFault.{WireFault}
 use Rattle.cbsp_wire.specs.declared.fault.WireFault.TheVariants.{Truncated, TrailingBytes, Cause, Refused}
 use Rattle.cbsp_wire.specs.Element.{Element}
@@ -36,10 +36,10 @@ fault_of_strange kind es =
     (Cause PARAMETER_NOT_RECOGNISED)
 
 -- 4, and the others by where the walk ended
-abbrev pub fault_of_walk : Kind → List Element → Stop → Option WireFault
-fault_of_walk kind es Cut = Some Truncated
-fault_of_walk kind es Strange = fault_of_strange kind es
-fault_of_walk kind es End = fault_of_whole kind es
+abbrev pub fault_of_walk : Kind → List Element → WalkEnd → Option WireFault
+fault_of_walk kind es CutOff = Some Truncated
+fault_of_walk kind es UnexpectedElement = fault_of_strange kind es
+fault_of_walk kind es Complete = fault_of_whole kind es
 
 -- 3
 abbrev pub fault_of_kind : Option Kind → List ℕ → Option WireFault

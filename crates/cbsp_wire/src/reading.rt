@@ -6,7 +6,7 @@ ghost use Rattle.cbsp_wire.specs.Refusals.{fault_of_walk, first_fault, fault_tol
 ghost use Rattle.cbsp_wire.specs.Meaning.{IsMessage};
 
 use crate::cause;
-use crate::elements::{Stop, walk_end};
+use crate::elements::{WalkEnd, end_of_walk};
 use crate::fault::WireFault;
 use crate::kind::Kind;
 use crate::message::Message;
@@ -19,14 +19,14 @@ fn fault_of_elements(kind: Kind, elements: &[u8]) -> Option<WireFault>
     ensures first { result ≡ fault_of_walk kind (walk_of kind elements.now).elements (walk_of kind elements.now).stop }
     ensures told { IfSome result (λ fault. fault_told fault ≡ Some fault) }
 {
-    let stop = walk_end(kind, elements);
-    if stop == Stop::Cut {
+    let stop = end_of_walk(kind, elements);
+    if stop == WalkEnd::CutOff {
         return Some(WireFault::Truncated);
     }
     if !has_mandatory(kind, elements) {
         return Some(WireFault::Cause(cause::MISSING_MANDATORY_ELEMENT));
     }
-    if stop == Stop::Strange {
+    if stop == WalkEnd::UnexpectedElement {
         return Some(WireFault::Cause(cause::PARAMETER_NOT_RECOGNISED));
     }
     if are_in_range(kind, elements) {
