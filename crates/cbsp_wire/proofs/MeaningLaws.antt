@@ -72,7 +72,8 @@ no_fault_strange : (m : Bool) → cond (not m) (Some (Cause 5)) (Some (Cause 0))
 no_fault_strange true h = cc
 no_fault_strange false h = cc
 
-no_fault : (kind : Kind) (es : List Element) (stop : WalkEnd) → fault_of_walk kind es stop ≡ None → HasNoFault kind es stop
+no_fault : (kind : Kind) (es : List Element) (stop : WalkEnd) → fault_of_walk kind es stop ≡ None
+    → HasNoFault kind es stop
 no_fault kind es CutOff h = absurd cc
 no_fault kind es UnexpectedElement h = absurd (no_fault_strange (has_mandatory kind es) h)
 no_fault kind es Complete h =
@@ -197,7 +198,8 @@ HasParts-faultless (o ∷ []) h = absurd cc
 HasParts-faultless (o ∷ a ∷ []) h = absurd cc
 HasParts-faultless (o ∷ a ∷ b ∷ []) h = absurd cc
 HasParts-faultless (o ∷ a ∷ b ∷ c ∷ rest) h =
-    by_kind (kind_of_octet o) refl (framed (length rest) (length_field a b c) (fault_of_kind (kind_of_octet o) rest) h).1 where
+    by_kind (kind_of_octet o) refl
+    (framed (length rest) (length_field a b c) (fault_of_kind (kind_of_octet o) rest) h).1 where
       by_kind : (k : Option Kind) → kind_of_octet o ≡ k → fault_of_kind k rest ≡ None
           → (kind : Kind) × ((elements : List ℕ) × HasParts (o ∷ a ∷ b ∷ c ∷ rest) kind elements)
       by_kind None is_k g = absurd cc
