@@ -6,14 +6,14 @@ use Rattle.cbsp_wire.specs.Element.{octets_of_elements}
 use Rattle.cbsp_wire.specs.Table.{octet_of_kind}
 use Rattle.cbsp_wire.specs.Value.{Fields, fields_of, kind_of}
 use Rattle.cbsp_wire.specs.Range.{numbers, is_writable}
-use Rattle.cbsp_wire.specs.Written.{slot_octets, elements_of, framed, octets_of_message, AreShort}
+use Rattle.cbsp_wire.specs.Written.{field_octets, elements_of, framed, octets_of_message, AreShort}
 use Rattle.cbsp_wire.proofs.Lengths.{AreShort-written, length-written}
-use Rattle.cbsp_wire.proofs.Slots.{octets-among, patched}
+use Rattle.cbsp_wire.proofs.ElementOctets.{octets-among, patched}
 use Rattle.cbsp_wire.proofs.WrittenLaws.{IsWritten-from}
 
 -- the octets of fields' elements
 abbrev pub elements_octets : Fields → List ℕ
-elements_octets f = flat_map (slot_octets f) numbers
+elements_octets f = flat_map (field_octets f) numbers
 
 -- the lists of a message that is written are short
 pub fields_short : (m : Message) (f : Fields) → f ≡ fields_of m → is_writable m ≡ true → AreShort f

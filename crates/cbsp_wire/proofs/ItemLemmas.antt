@@ -8,8 +8,9 @@ use Rattle.cbsp_wire.specs.Range.{cells_by, cells_of_counts, cells_of_failures, 
 
 -- the completed broadcast at the front of seven octets or more
 pub counts_in-first : (o : List ℕ) → 7 ≤ length o
-    → counts_in o ≡ count_at (get_or o 0 0) (get_or o 1 0) (get_or o 2 0) (get_or o 3 0) (get_or o 4 0) (get_or o 5 0)
-    (get_or o 6 0) ∷ counts_in (take (length o - 7) (drop 7 o))
+    → counts_in o
+    ≡ count_at (get_or o 0 0) (get_or o 1 0) (get_or o 2 0) (get_or o 3 0) (get_or o 4 0) (get_or o 5 0) (get_or o 6 0)
+    ∷ counts_in (take (length o - 7) (drop 7 o))
 counts_in-first [] h = absurd (omega arith)
 counts_in-first (a ∷ []) h = absurd (omega arith)
 counts_in-first (a ∷ b ∷ []) h = absurd (omega arith)
@@ -24,8 +25,8 @@ counts_in-first (a ∷ b ∷ c ∷ d ∷ e ∷ f ∷ g ∷ o) h =
 
 -- the failure at the front of six octets or more
 pub failures_in-first : (o : List ℕ) → 6 ≤ length o
-    → failures_in o ≡ failure_at (get_or o 1 0) (get_or o 2 0) (get_or o 3 0) (get_or o 4 0)
-    (get_or o 5 0) ∷ failures_in (take (length o - 6) (drop 6 o))
+    → failures_in o ≡ failure_at (get_or o 1 0) (get_or o 2 0) (get_or o 3 0) (get_or o 4 0) (get_or o 5 0)
+    ∷ failures_in (take (length o - 6) (drop 6 o))
 failures_in-first [] h = absurd (omega arith)
 failures_in-first (a ∷ []) h = absurd (omega arith)
 failures_in-first (a ∷ b ∷ []) h = absurd (omega arith)

@@ -15,7 +15,7 @@ use Rattle.cbsp_wire.specs.declared.message.Message.{Message}
 use Rattle.cbsp_wire.specs.declared.message.Message.TheVariants as messages
 use Rattle.cbsp_wire.specs.Value.{Fields, fields_of}
 use Rattle.cbsp_wire.specs.Range.{numbers, are_cells, are_distinct, cells_of_counts, cells_of_failures, is_page_count, are_contents, is_full}
-use Rattle.cbsp_wire.specs.Written.{bodies_in, cell_octets, count_octets, failure_octets, number_bodies, octet_bodies, list_bodies, content_body, slot, slot_octets, AreShort}
+use Rattle.cbsp_wire.specs.Written.{bodies_in, cell_octets, count_octets, failure_octets, number_bodies, octet_bodies, list_bodies, content_body, element_octets, field_octets, AreShort}
 use Rattle.cbsp_wire.proofs.Tests.{and_parts, list_all-parts}
 use Rattle.cbsp_wire.proofs.WrittenItems.{length-items, cell_len, count_len, failure_len}
 use Rattle.cbsp_wire.proofs.WrittenLaws.{IsWritten}
@@ -40,18 +40,18 @@ length-bounded octets (n ∷ ns) (b ∷ bs) h =
     ap length (flat_map-cons octets n ns) in
     omega (arith, cons, length-append (octets n) (flat_map octets ns), h.0, length-bounded octets ns bs h.1)
 
-number_len : (n : ℕ) (o : Option ℕ) → length (slot n (number_bodies o)) ≤ 3
+number_len : (n : ℕ) (o : Option ℕ) → length (element_octets n (number_bodies o)) ≤ 3
 number_len n None = omega arith
 number_len n (Some k) = omega arith
 
-octet_len : (n : ℕ) (o : Option ℕ) → length (slot n (octet_bodies o)) ≤ 2
+octet_len : (n : ℕ) (o : Option ℕ) → length (element_octets n (octet_bodies o)) ≤ 2
 octet_len n None = omega arith
 octet_len n (Some k) = omega arith
 
 -- a list's number, its length and its one discriminator, if it has one, are four octets at most
 list_len : {X : Type 0} (layout : Layout) (octets : X → List ℕ) (size : ℕ) → ((x : X) → length (octets x) ≡ size)
     → (n : ℕ) (xs : List X)
-    → length (slot n (list_bodies layout octets xs)) ≤ 4 + length xs * size
+    → length (element_octets n (list_bodies layout octets xs)) ≤ 4 + length xs * size
 list_len layout octets size len n [] = omega arith
 list_len layouts.Cells octets size len n (x ∷ xs) =
     let items = flat_map octets (x ∷ xs) in
@@ -64,12 +64,12 @@ list_len layouts.Failures octets size len n (x ∷ xs) =
     omega (arith, length-append items [], length-items octets size len (x ∷ xs))
 
 contents_len : (n : ℕ) (cs : List Content) → list_all is_full cs ≡ true
-    → length (slot n (map content_body cs)) ≡ length cs * 84
+    → length (element_octets n (map content_body cs)) ≡ length cs * 84
 contents_len n [] h = omega arith
 contents_len n (c ∷ cs) h =
     let both = list_all-parts is_full c cs h in
     let len : length c.octets ≡ 82 = eqb-true _ _ both.0 in
-    omega (arith, len, length-append c.octets (slot n (map content_body cs)), contents_len n cs both.1)
+    omega (arith, len, length-append c.octets (element_octets n (map content_body cs)), contents_len n cs both.1)
 
 short_cells : (cs : List Cell) → are_cells cs ≡ true → length cs ≤ 64
 short_cells cs h = leb-true _ _ (and_parts (nat_le (length cs) 64) (are_distinct cs) h).0
@@ -108,19 +108,19 @@ HasNoOrder f =
     (f.category ≡ None) ×
     ((f.period ≡ None) × ((f.broadcasts ≡ None) × ((f.pages ≡ None) × ((f.dcs ≡ None) × (f.contents ≡ [])))))
 
-number_none : (n : ℕ) (o : Option ℕ) → o ≡ None → length (slot n (number_bodies o)) ≤ 0
+number_none : (n : ℕ) (o : Option ℕ) → o ≡ None → length (element_octets n (number_bodies o)) ≤ 0
 number_none n o h = rw h (omega arith)
 
-octet_none : (n : ℕ) (o : Option ℕ) → o ≡ None → length (slot n (octet_bodies o)) ≤ 0
+octet_none : (n : ℕ) (o : Option ℕ) → o ≡ None → length (element_octets n (octet_bodies o)) ≤ 0
 octet_none n o h = rw h (omega arith)
 
-contents_none : (n : ℕ) (cs : List Content) → cs ≡ [] → length (slot n (map content_body cs)) ≤ 0
+contents_none : (n : ℕ) (cs : List Content) → cs ≡ [] → length (element_octets n (map content_body cs)) ≤ 0
 contents_none n cs h = rw h (omega arith)
 
-short_reply : (f : Fields) → AreShort f → HasNoOrder f → length (flat_map (slot_octets f) numbers) ≤ 1543
+short_reply : (f : Fields) → AreShort f → HasNoOrder f → length (flat_map (field_octets f) numbers) ≤ 1543
 unfolding bodies_in
 short_reply f s none =
-    let bounds : AreBounded (slot_octets f) numbers (3 ∷ 3 ∷ 3 ∷ 388 ∷ 452 ∷ 260 ∷ 2 ∷ 0 ∷ 0 ∷ 0 ∷ 0 ∷ 0 ∷ 0 ∷ []) = (
+    let bounds : AreBounded (field_octets f) numbers (3 ∷ 3 ∷ 3 ∷ 388 ∷ 452 ∷ 260 ∷ 2 ∷ 0 ∷ 0 ∷ 0 ∷ 0 ∷ 0 ∷ 0 ∷ []) = (
       number_len 0x0E f.id,
       (
         number_len 0x03 f.new_serial,
@@ -155,16 +155,16 @@ short_reply f s none =
       ),
     ) in
     let most : List ℕ = 3 ∷ 3 ∷ 3 ∷ 388 ∷ 452 ∷ 260 ∷ 2 ∷ 0 ∷ 0 ∷ 0 ∷ 0 ∷ 0 ∷ 0 ∷ [] in
-    omega (arith, length-bounded (slot_octets f) numbers most bounds)
+    omega (arith, length-bounded (field_octets f) numbers most bounds)
 
 -- no more than 1,543 octets of elements
-pub length-written : (m : Message) → IsWritten m → length (flat_map (slot_octets (fields_of m)) numbers) ≤ 1543
+pub length-written : (m : Message) → IsWritten m → length (flat_map (field_octets (fields_of m)) numbers) ≤ 1543
 unfolding bodies_in
 length-written (messages.Write a b c d e f g h i j) w =
     let s = AreShort-written (messages.Write a b c d e f g h i j) w in
     let fs = fields_of (messages.Write a b c d e f g h i j) in
     let pages : length j ≤ 15 = s.pages in
-    let bounds : AreBounded (slot_octets fs) numbers (3 ∷ 3 ∷ 3 ∷ 0 ∷ 0 ∷ 260 ∷ 2 ∷ 2 ∷ 3 ∷ 3 ∷ 2 ∷ 2 ∷ 1260 ∷ []) = (
+    let bounds : AreBounded (field_octets fs) numbers (3 ∷ 3 ∷ 3 ∷ 0 ∷ 0 ∷ 260 ∷ 2 ∷ 2 ∷ 3 ∷ 3 ∷ 2 ∷ 2 ∷ 1260 ∷ []) = (
       number_len 0x0E fs.id,
       (
         number_len 0x03 fs.new_serial,
@@ -201,7 +201,7 @@ length-written (messages.Write a b c d e f g h i j) w =
         ),
       ),
     ) in
-    length-bounded (slot_octets fs) numbers (3 ∷ 3 ∷ 3 ∷ 0 ∷ 0 ∷ 260 ∷ 2 ∷ 2 ∷ 3 ∷ 3 ∷ 2 ∷ 2 ∷ 1260 ∷ []) bounds
+    length-bounded (field_octets fs) numbers (3 ∷ 3 ∷ 3 ∷ 0 ∷ 0 ∷ 260 ∷ 2 ∷ 2 ∷ 3 ∷ 3 ∷ 2 ∷ 2 ∷ 1260 ∷ []) bounds
 length-written (messages.WriteDone a b c d e f) w =
     short_reply (fields_of (messages.WriteDone a b c d e f)) (AreShort-written (messages.WriteDone a b c d e f) w)
     (refl, (refl, (refl, (refl, (refl, refl)))))

@@ -7,7 +7,7 @@ pub mod WrittenItems
 pub mod WrittenElements
 pub mod WrittenLaws
 pub mod MeantLaws
-pub mod Slots
+pub mod ElementOctets
 pub mod Lengths
 pub mod Framing
 mod Worked

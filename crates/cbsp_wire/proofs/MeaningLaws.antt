@@ -5,8 +5,8 @@ use Rattle.std.specs.List.{AllByRecursion}
 use Rattle.std.proofs.lemmas.Bool.{ltb-false, le-ltb, eqb-true}
 use Rattle.cbsp_wire.specs.declared.kind.Kind.{Kind}
 use Rattle.cbsp_wire.specs.declared.kind.Kind.TheVariants as kinds
-use Rattle.cbsp_wire.specs.declared.elements.Stop.{Stop}
-use Rattle.cbsp_wire.specs.declared.elements.Stop.TheVariants.{End, Strange, Cut}
+use Rattle.cbsp_wire.specs.declared.elements.WalkEnd.{WalkEnd}
+use Rattle.cbsp_wire.specs.declared.elements.WalkEnd.TheVariants.{Complete, UnexpectedElement, CutOff}
 use Rattle.cbsp_wire.specs.declared.fault.WireFault.{WireFault}
 use Rattle.cbsp_wire.specs.declared.fault.WireFault.TheVariants.{Truncated, TrailingBytes, Cause, Refused}
 use Rattle.cbsp_wire.specs.declared.message.Message.{Message}
@@ -15,7 +15,7 @@ use Rattle.cbsp_wire.specs.Table.{octet_of_kind, kind_of_octet}
 use Rattle.cbsp_wire.specs.Walk.{Walk, walk_of}
 use Rattle.cbsp_wire.specs.Value.{message_of, kind_of}
 use Rattle.cbsp_wire.specs.Range.{has_mandatory, are_in_range}
-use Rattle.cbsp_wire.specs.Refusals.{fault_of_walk, fault_of_kind, told, first_fault, fault_told, HasParts}
+use Rattle.cbsp_wire.specs.Refusals.{fault_of_walk, fault_of_kind, length_field, first_fault, reported_fault, HasParts}
 use Rattle.cbsp_wire.specs.Meaning.{IsOf, AreElementsOf, IsMessage}
 use Rattle.cbsp_wire.proofs.WalkLaws.{walk_of-elements, walk_of-whole}
 
@@ -57,8 +57,8 @@ kind_of-message_of kinds.KillDone es = refl
 kind_of-message_of kinds.KillFailed es = refl
 
 -- elements without a fault
-record HasNoFault (kind : Kind) (es : List Element) (stop : Stop) : Type 0 where
-  ends : stop ≡ End
+record HasNoFault (kind : Kind) (es : List Element) (stop : WalkEnd) : Type 0 where
+  ends : stop ≡ Complete
   mandatory : has_mandatory kind es ≡ true
   in_range : are_in_range es ≡ true
 
@@ -72,10 +72,11 @@ no_fault_strange : (m : Bool) → cond (not m) (Some (Cause 5)) (Some (Cause 0))
 no_fault_strange true h = cc
 no_fault_strange false h = cc
 
-no_fault : (kind : Kind) (es : List Element) (stop : Stop) → fault_of_walk kind es stop ≡ None → HasNoFault kind es stop
-no_fault kind es Cut h = absurd cc
-no_fault kind es Strange h = absurd (no_fault_strange (has_mandatory kind es) h)
-no_fault kind es End h =
+no_fault : (kind : Kind) (es : List Element) (stop : WalkEnd) → fault_of_walk kind es stop ≡ None
+    → HasNoFault kind es stop
+no_fault kind es CutOff h = absurd cc
+no_fault kind es UnexpectedElement h = absurd (no_fault_strange (has_mandatory kind es) h)
+no_fault kind es Complete h =
     let both = no_fault_whole (has_mandatory kind es) (are_in_range es) h in
     record { ends = refl; mandatory = both.0; in_range = both.1 }
 
@@ -108,7 +109,7 @@ first_fault-none (o ∷ []) kind elements h parts = absurd parts
 first_fault-none (o ∷ a ∷ []) kind elements h parts = absurd parts
 first_fault-none (o ∷ a ∷ b ∷ []) kind elements h parts = absurd parts
 first_fault-none (o ∷ a ∷ b ∷ c ∷ rest) kind elements h parts =
-    let frame = framed (length rest) (told a b c) (fault_of_kind (kind_of_octet o) rest) h in
+    let frame = framed (length rest) (length_field a b c) (fault_of_kind (kind_of_octet o) rest) h in
     let by_kind : fault_of_kind (Some kind) rest ≡ None =
     ap (λ (k : Option Kind). fault_of_kind k rest) (sym parts.0) ∙ frame.1 in
     let clean = no_fault kind (walk_of kind rest).elements (walk_of kind rest).stop by_kind in
@@ -142,13 +143,13 @@ IsMessage-read (o ∷ a ∷ b ∷ c ∷ rest) m h =
     let kind = kind_of m in
     let es = h.2.0 in
     let is_kind : kind_of_octet o ≡ Some kind = ap kind_of_octet h.0 ∙ kind_of_octet-octet_of_kind kind in
-    let walked : walk_of kind rest ≡ (let w : Walk = record { elements = es; stop = End } in w) =
+    let walked : walk_of kind rest ≡ (let w : Walk = record { elements = es; stop = Complete } in w) =
     ap (walk_of kind) h.2.1 ∙ walk_of-elements kind es h.2.2.of_kind in
     let clean : fault_of_kind (Some kind) rest ≡ None =
     ap (λ (w : Walk). fault_of_walk kind w.elements w.stop) walked
     ∙ meant_whole kind es (has_mandatory kind es) (are_in_range es) h.2.2.mandatory h.2.2.in_range in
-    let long : ltb (length rest) (told a b c) ≡ false = le-ltb _ _ (omega (arith, h.1)) in
-    let short : ltb (told a b c) (length rest) ≡ false = le-ltb _ _ (omega (arith, h.1)) in
+    let long : ltb (length rest) (length_field a b c) ≡ false = le-ltb _ _ (omega (arith, h.1)) in
+    let short : ltb (length_field a b c) (length rest) ≡ false = le-ltb _ _ (omega (arith, h.1)) in
     record {
       faultless = rw (long, short, is_kind) clean;
       value = λ k elements parts.
@@ -183,9 +184,9 @@ IsMessage-faulty octets m fault h meant =
     let none : first_fault octets ≡ None = (IsMessage-read octets m meant).faultless in cc
 
 -- a fault that is told isn't that memory ran out
-pub fault_told-refused : (fault : WireFault) → fault_told fault ≡ Some fault → fault ≡ Refused → ⊥
-fault_told-refused fault h same =
-    let none : fault_told fault ≡ None = ap fault_told same in
+pub reported_fault-refused : (fault : WireFault) → reported_fault fault ≡ Some fault → fault ≡ Refused → ⊥
+reported_fault-refused fault h same =
+    let none : reported_fault fault ≡ None = ap reported_fault same in
     cc
 
 -- octets without a fault have a type
@@ -197,7 +198,8 @@ HasParts-faultless (o ∷ []) h = absurd cc
 HasParts-faultless (o ∷ a ∷ []) h = absurd cc
 HasParts-faultless (o ∷ a ∷ b ∷ []) h = absurd cc
 HasParts-faultless (o ∷ a ∷ b ∷ c ∷ rest) h =
-    by_kind (kind_of_octet o) refl (framed (length rest) (told a b c) (fault_of_kind (kind_of_octet o) rest) h).1 where
+    by_kind (kind_of_octet o) refl
+    (framed (length rest) (length_field a b c) (fault_of_kind (kind_of_octet o) rest) h).1 where
       by_kind : (k : Option Kind) → kind_of_octet o ≡ k → fault_of_kind k rest ≡ None
           → (kind : Kind) × ((elements : List ℕ) × HasParts (o ∷ a ∷ b ∷ c ∷ rest) kind elements)
       by_kind None is_k g = absurd cc

@@ -6,8 +6,8 @@ use Rattle.std.proofs.lemmas.Bool.{ltb-false, le-ltb}
 use Rattle.cbsp_wire.specs.declared.kind.Kind.{Kind}
 use Rattle.cbsp_wire.specs.declared.kind.Need.{Need}
 use Rattle.cbsp_wire.specs.declared.kind.Need.TheVariants as needs
-use Rattle.cbsp_wire.specs.declared.elements.Stop.{Stop}
-use Rattle.cbsp_wire.specs.declared.elements.Stop.TheVariants.{End, Cut}
+use Rattle.cbsp_wire.specs.declared.elements.WalkEnd.{WalkEnd}
+use Rattle.cbsp_wire.specs.declared.elements.WalkEnd.TheVariants.{Complete, CutOff}
 use Rattle.cbsp_wire.specs.Element.{Element, octets_of_elements}
 use Rattle.cbsp_wire.specs.Table.{need_of, size_of}
 use Rattle.cbsp_wire.specs.Walk.{body_at, element_at, front_of, Walk, walk_of}
@@ -35,8 +35,8 @@ front_again kind e rest is_of = element_again (need_of kind e.number) e.number e
 
 -- elements of this message are taken back from their octets
 pub walk_of-elements : (kind : Kind) (es : List Element) → AllByRecursion (IsOf kind) es
-    → walk_of kind (octets_of_elements es) ≡ (let w : Walk = record { elements = es; stop = End } in w)
-walk_of-elements kind [] all = walk_of-stopped kind [] End refl
+    → walk_of kind (octets_of_elements es) ≡ (let w : Walk = record { elements = es; stop = Complete } in w)
+walk_of-elements kind [] all = walk_of-stopped kind [] Complete refl
 walk_of-elements kind (e ∷ es) all =
     walk_of-taken kind (octets_of_elements (e ∷ es)) e (octets_of_elements es)
     (front_again kind e (octets_of_elements es) all.0)
@@ -48,7 +48,7 @@ pub record IsFront (kind : Kind) (octets : List ℕ) (e : Element) (rest : List 
   pub parts : octets ≡ e.number ∷ (e.body ++ rest)
   pub is_of : IsOf kind e
 
-abbrev ok : Element × List ℕ → Result (Element × List ℕ) Stop
+abbrev ok : Element × List ℕ → Result (Element × List ℕ) WalkEnd
 ok x = Ok x
 
 ok_is : (x y : Element × List ℕ) → ok x ≡ ok y → x ≡ y
@@ -58,7 +58,7 @@ body_parts : (kind : Kind) (n : ℕ) (octets : List ℕ) (e : Element) (rest : L
     → (need_of kind n ≡ needs.Foreign → ⊥) → body_at n octets ≡ Ok (e, rest) → IsFront kind (n ∷ octets) e rest
 body_parts kind n octets e rest known h = chosen (ltb (length octets) (size_of n octets)) refl h where
   chosen : (b : Bool) → ltb (length octets) (size_of n octets) ≡ b
-      → cond {A = Result (Element × List ℕ) Stop} b (Err Cut)
+      → cond {A = Result (Element × List ℕ) WalkEnd} b (Err CutOff)
       (Ok (record { number = n; body = take (size_of n octets) octets }, drop (size_of n octets) octets))
       ≡ Ok (e, rest)
       → IsFront kind (n ∷ octets) e rest
@@ -87,22 +87,22 @@ pub front_parts : (kind : Kind) (octets : List ℕ) (e : Element) (rest : List �
 front_parts kind [] e rest h = absurd cc
 front_parts kind (n ∷ octets) e rest h = element_parts kind (need_of kind n) n octets e rest refl h
 
-body_no_end : (n : ℕ) (octets : List ℕ) → body_at n octets ≡ Err End → ⊥
+body_no_end : (n : ℕ) (octets : List ℕ) → body_at n octets ≡ Err Complete → ⊥
 body_no_end n octets h = chosen (ltb (length octets) (size_of n octets)) h where
   chosen : (b : Bool)
-      → cond {A = Result (Element × List ℕ) Stop} b (Err Cut)
+      → cond {A = Result (Element × List ℕ) WalkEnd} b (Err CutOff)
       (Ok (record { number = n; body = take (size_of n octets) octets }, drop (size_of n octets) octets))
-      ≡ Err End
+      ≡ Err Complete
       → ⊥
   chosen true g = cc
   chosen false g = cc
 
-element_no_end : (need : Need) (n : ℕ) (octets : List ℕ) → element_at need n octets ≡ Err End → ⊥
+element_no_end : (need : Need) (n : ℕ) (octets : List ℕ) → element_at need n octets ≡ Err Complete → ⊥
 element_no_end needs.Foreign n octets h = cc
 element_no_end needs.Mandatory n octets h = body_no_end n octets h
 element_no_end needs.Optional n octets h = body_no_end n octets h
 
-front_ends : (kind : Kind) (octets : List ℕ) → front_of kind octets ≡ Err End → octets ≡ []
+front_ends : (kind : Kind) (octets : List ℕ) → front_of kind octets ≡ Err Complete → octets ≡ []
 front_ends kind [] h = refl
 front_ends kind (n ∷ octets) h = absurd (element_no_end (need_of kind n) n octets h)
 
@@ -121,32 +121,32 @@ whole_taken kind octets e rest h others =
     } in
     subst (λ (w : Walk). IsWhole kind octets w.elements) (sym (walk_of-taken kind octets e rest h)) made
 
-whole_ended : (kind : Kind) (octets : List ℕ) (s : Stop) → front_of kind octets ≡ Err s
-    → (walk_of kind octets).stop ≡ End → IsWhole kind octets (walk_of kind octets).elements
+whole_ended : (kind : Kind) (octets : List ℕ) (s : WalkEnd) → front_of kind octets ≡ Err s
+    → (walk_of kind octets).stop ≡ Complete → IsWhole kind octets (walk_of kind octets).elements
 whole_ended kind octets s h ends =
-    let is_end : s ≡ End = sym (ap (λ (w : Walk). w.stop) (walk_of-stopped kind octets s h)) ∙ ends in
-    let nothing : octets ≡ [] = front_ends kind octets (h ∙ ap (λ (t : Stop). Err t) is_end) in
+    let is_end : s ≡ Complete = sym (ap (λ (w : Walk). w.stop) (walk_of-stopped kind octets s h)) ∙ ends in
+    let nothing : octets ≡ [] = front_ends kind octets (h ∙ ap (λ (t : WalkEnd). Err t) is_end) in
     let made : IsWhole kind octets [] = record { parts = nothing; of_kind = tt } in
     subst (λ (w : Walk). IsWhole kind octets w.elements) (sym (walk_of-stopped kind octets s h)) made
 
-whole_within : (k : ℕ) (kind : Kind) (octets : List ℕ) → length octets ≤ k → (walk_of kind octets).stop ≡ End
+whole_within : (k : ℕ) (kind : Kind) (octets : List ℕ) → length octets ≤ k → (walk_of kind octets).stop ≡ Complete
     → IsWhole kind octets (walk_of kind octets).elements
-whole_within zero kind [] le ends = whole_ended kind [] End refl ends
+whole_within zero kind [] le ends = whole_ended kind [] Complete refl ends
 whole_within zero kind (n ∷ octets) le ends = absurd (omega arith)
 whole_within (suc k) kind octets le ends =
     by_front (λ rest fits stops. whole_within k kind rest fits stops) (front_of kind octets) refl where
-      by_front : ((rest : List ℕ) → length rest ≤ k → (walk_of kind rest).stop ≡ End
+      by_front : ((rest : List ℕ) → length rest ≤ k → (walk_of kind rest).stop ≡ Complete
           → IsWhole kind rest (walk_of kind rest).elements)
-          → (f : Result (Element × List ℕ) Stop) → front_of kind octets ≡ f
+          → (f : Result (Element × List ℕ) WalkEnd) → front_of kind octets ≡ f
           → IsWhole kind octets (walk_of kind octets).elements
       by_front others (Err s) h = whole_ended kind octets s h ends
       by_front others (Ok x) h =
           let lt = front_shorter kind octets x h in
-          let stops : (walk_of kind x.1).stop ≡ End =
+          let stops : (walk_of kind x.1).stop ≡ Complete =
           sym (ap (λ (w : Walk). w.stop) (walk_of-taken kind octets x.0 x.1 h)) ∙ ends in
           whole_taken kind octets x.0 x.1 h (others x.1 (omega arith) stops)
 
 -- a walk that comes to the end has taken the elements that the octets are made of
-pub walk_of-whole : (kind : Kind) (octets : List ℕ) → (walk_of kind octets).stop ≡ End
+pub walk_of-whole : (kind : Kind) (octets : List ℕ) → (walk_of kind octets).stop ≡ Complete
     → IsWhole kind octets (walk_of kind octets).elements
 walk_of-whole kind octets ends = whole_within (length octets) kind octets (omega arith) ends

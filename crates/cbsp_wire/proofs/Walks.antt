@@ -5,8 +5,8 @@ use Rattle.std.proofs.lemmas.Bool.{ne_eqb}
 use Rattle.cbsp_wire.specs.declared.kind.Kind.{Kind}
 use Rattle.cbsp_wire.specs.declared.kind.Need.{Need}
 use Rattle.cbsp_wire.specs.declared.kind.Need.TheVariants as needs
-use Rattle.cbsp_wire.specs.declared.elements.Stop.{Stop}
-use Rattle.cbsp_wire.specs.declared.elements.Stop.TheVariants.{End, Cut}
+use Rattle.cbsp_wire.specs.declared.elements.WalkEnd.{WalkEnd}
+use Rattle.cbsp_wire.specs.declared.elements.WalkEnd.TheVariants.{Complete, CutOff}
 use Rattle.cbsp_wire.specs.Element.{Element, bodies_of, number_of}
 use Rattle.cbsp_wire.specs.Table.{need_of, size_of, size_by, size_in, row_in, table, Row, Size, Fixed, Listed}
 use Rattle.cbsp_wire.specs.Walk.{body_at, element_at, front_of, Walk, then_walk, walk_within, walk_of}
@@ -14,7 +14,7 @@ use Rattle.cbsp_wire.specs.Walk.{body_at, element_at, front_of, Walk, then_walk,
 body_shorter : (n : ℕ) (octets : List ℕ) (x : Element × List ℕ) → body_at n octets ≡ Ok x → length x.1 ≤ length octets
 body_shorter n octets x e = chosen (ltb (length octets) (size_of n octets)) e where
   chosen : (b : Bool)
-      → cond b (Err Cut)
+      → cond b (Err CutOff)
       (Ok (record { number = n; body = take (size_of n octets) octets }, drop (size_of n octets) octets)) ≡ Ok x
       → length x.1 ≤ length octets
   chosen true h = absurd cc
@@ -46,7 +46,7 @@ walk_within-more (suc j) zero kind (n ∷ octets) hj hk = absurd (omega arith)
 walk_within-more (suc j) (suc k) kind octets hj hk =
     step (λ rest hr hs. walk_within-more j k kind rest hr hs) (front_of kind octets) refl where
       step : ((rest : List ℕ) → length rest ≤ j → length rest ≤ k → walk_within j kind rest ≡ walk_within k kind rest)
-          → (f : Result (Element × List ℕ) Stop) → front_of kind octets ≡ f
+          → (f : Result (Element × List ℕ) WalkEnd) → front_of kind octets ≡ f
           → then_walk f (λ rest. walk_within j kind rest) ≡ then_walk f (λ rest. walk_within k kind rest)
       step same (Err s) e = refl
       step same (Ok x) e =
@@ -64,16 +64,16 @@ walk_of-taken kind (n ∷ octets) e rest h =
     let lt = front_shorter kind (n ∷ octets) (e, rest) h in
     let same : walk_within (length octets) kind rest ≡ walk_within (length rest) kind rest =
     walk_within-more (length octets) (length rest) kind rest (omega arith) (omega arith) in
-    ap (λ (f : Result (Element × List ℕ) Stop). then_walk f (λ r. walk_within (length octets) kind r)) h
+    ap (λ (f : Result (Element × List ℕ) WalkEnd). then_walk f (λ r. walk_within (length octets) kind r)) h
     ∙ ap (λ (w : Walk). let r : Walk = record { elements = e ∷ w.elements; stop = w.stop } in r) same
 
 -- where no element is at the front, none is taken
-pub walk_of-stopped : (kind : Kind) (octets : List ℕ) (s : Stop) → front_of kind octets ≡ Err s
+pub walk_of-stopped : (kind : Kind) (octets : List ℕ) (s : WalkEnd) → front_of kind octets ≡ Err s
     → walk_of kind octets ≡ (let w : Walk = record { elements = []; stop = s } in w)
 unfolding walk_of walk_within
-walk_of-stopped kind [] s h = let e : End ≡ s = cc in rw (← e) refl
+walk_of-stopped kind [] s h = let e : Complete ≡ s = cc in rw (← e) refl
 walk_of-stopped kind (n ∷ octets) s h =
-    ap (λ (f : Result (Element × List ℕ) Stop). then_walk f (λ r. walk_within (length octets) kind r)) h
+    ap (λ (f : Result (Element × List ℕ) WalkEnd). then_walk f (λ r. walk_within (length octets) kind r)) h
 
 -- the size of an element is told by its body alone
 listed-append : (octets rest : List ℕ) → 2 + number_of octets ≤ length octets
@@ -150,7 +150,7 @@ bodies_of-passed kind octets n found body rest h other =
     ap (λ (w : Walk). bodies_of n w.elements) (walk_of-taken kind octets e rest h) ∙ rw test refl
 
 -- no bodies, where the walk ends at once
-pub bodies_of-ended : (kind : Kind) (octets : List ℕ) (n : ℕ) (s : Stop) → front_of kind octets ≡ Err s
+pub bodies_of-ended : (kind : Kind) (octets : List ℕ) (n : ℕ) (s : WalkEnd) → front_of kind octets ≡ Err s
     → bodies_of n (walk_of kind octets).elements ≡ []
 bodies_of-ended kind octets n s h = ap (λ (w : Walk). bodies_of n w.elements) (walk_of-stopped kind octets s h)
 
@@ -160,6 +160,6 @@ pub stop-taken : (kind : Kind) (octets : List ℕ) (e : Element) (rest : List �
 stop-taken kind octets e rest h = ap (λ (w : Walk). w.stop) (walk_of-taken kind octets e rest h)
 
 -- why the walk ends, where it ends at once
-pub stop-ended : (kind : Kind) (octets : List ℕ) (s : Stop) → front_of kind octets ≡ Err s
+pub stop-ended : (kind : Kind) (octets : List ℕ) (s : WalkEnd) → front_of kind octets ≡ Err s
     → (walk_of kind octets).stop ≡ s
 stop-ended kind octets s h = ap (λ (w : Walk). w.stop) (walk_of-stopped kind octets s h)

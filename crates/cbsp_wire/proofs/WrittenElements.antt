@@ -23,8 +23,8 @@ bodies_of-append : (n : ℕ) (xs ys : List Element) → bodies_of n (xs ++ ys) �
 bodies_of-append n [] ys = refl
 bodies_of-append n (x ∷ xs) ys = by_test (eqb x.number n) (bodies_of-append n xs ys) where
   by_test : (b : Bool) → bodies_of n (xs ++ ys) ≡ bodies_of n xs ++ bodies_of n ys
-      → cond b (x.body ∷ bodies_of n (xs ++ ys)) (bodies_of n (xs ++ ys)) ≡ cond b (x.body ∷ bodies_of n xs)
-      (bodies_of n xs) ++ bodies_of n ys
+      → cond b (x.body ∷ bodies_of n (xs ++ ys)) (bodies_of n (xs ++ ys))
+      ≡ cond b (x.body ∷ bodies_of n xs) (bodies_of n xs) ++ bodies_of n ys
   by_test true h = ap (λ (bs : List (List ℕ)). x.body ∷ bs) h
   by_test false h = h
 

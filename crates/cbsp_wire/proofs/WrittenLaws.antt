@@ -8,7 +8,7 @@ use Rattle.cbsp_wire.specs.Element.{Element, octets_of_elements}
 use Rattle.cbsp_wire.specs.Table.{table, need_of}
 use Rattle.cbsp_wire.specs.Value.{Fields, fields_in, fields_of, message_with, message_of, kind_of}
 use Rattle.cbsp_wire.specs.Range.{numbers, is_there_if, has_none_twice, are_lists, are_values, is_writable, is_full}
-use Rattle.cbsp_wire.specs.Refusals.{told}
+use Rattle.cbsp_wire.specs.Refusals.{length_field}
 use Rattle.cbsp_wire.specs.Meaning.{AreElementsOf, IsMessage}
 use Rattle.cbsp_wire.specs.Written.{bodies_in, elements_of, octets_of_message}
 use Rattle.cbsp_wire.proofs.Tests.{and_parts, and_both}
@@ -111,12 +111,12 @@ elements_right m w =
       value = sym (ap (message_with (kind_of m)) back ∙ message_with-fields_of m);
     }
 
-told-length : (n : ℕ) → told (n / 65536) (n / 256 % 256) (n % 256) ≡ n
-told-length n = omega arith
+length_field-length : (n : ℕ) → length_field (n / 65536) (n / 256 % 256) (n % 256) ≡ n
+length_field-length n = omega arith
 
 -- what is written of a message means it
 pub octets_of_message-meant : (m : Message) → is_writable m ≡ true → IsMessage (octets_of_message m) m
 unfolding octets_of_message IsMessage
 octets_of_message-meant m h =
     let rest = octets_of_elements (elements_of m) in
-    (refl, told-length (length rest), (elements_of m, refl, elements_right m (IsWritten-from m h)))
+    (refl, length_field-length (length rest), (elements_of m, refl, elements_right m (IsWritten-from m h)))

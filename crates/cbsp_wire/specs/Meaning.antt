@@ -11,7 +11,7 @@ use Rattle.cbsp_wire.specs.Element.{Element, octets_of_elements}
 use Rattle.cbsp_wire.specs.Table.{octet_of_kind, need_of, size_of}
 use Rattle.cbsp_wire.specs.Value.{message_of, kind_of}
 use Rattle.cbsp_wire.specs.Range.{has_mandatory, are_in_range}
-use Rattle.cbsp_wire.specs.Refusals.{told}
+use Rattle.cbsp_wire.specs.Refusals.{length_field}
 use Rattle.cbsp_wire.specs.declared.cause.TheConstants.{PARAMETER_VALUE_INVALID}
 
 -- an element of this type of message, whose body has its size
@@ -30,7 +30,7 @@ pub record AreElementsOf (m : Message) (es : List Element) : Type 0 where
 -- octets that mean m: its type, the length of the rest, and some elements one after the other
 unfoldable pub IsMessage : List ℕ → Message → Type 0
 IsMessage (octet ∷ a ∷ b ∷ c ∷ rest) m =
-    (octet ≡ octet_of_kind (kind_of m)) × (told a b c ≡ length rest) ×
+    (octet ≡ octet_of_kind (kind_of m)) × (length_field a b c ≡ length rest) ×
     ((es : List Element) × (rest ≡ octets_of_elements es) × AreElementsOf m es)
 IsMessage octets m = ⊥
 

@@ -12,8 +12,8 @@
 -- The definitions stand in the other direction, each below those that it asks next.
 use Rattle.std.specs.Prelude.{◌≡◌, ℕ, ◌+◌, ◌*◌, nat_lt, not, if◌then◌else◌, List, ◌∷◌, length, Option, Some, None}
 use Rattle.cbsp_wire.specs.declared.kind.Kind.{Kind}
-use Rattle.cbsp_wire.specs.declared.elements.Stop.{Stop}
-use Rattle.cbsp_wire.specs.declared.elements.Stop.TheVariants.{End, Strange, Cut}
+use Rattle.cbsp_wire.specs.declared.elements.WalkEnd.{WalkEnd}
+use Rattle.cbsp_wire.specs.declared.elements.WalkEnd.TheVariants.{Complete, UnexpectedElement, CutOff}
 use Rattle.cbsp_wire.specs.declared.fault.WireFault.{WireFault}
 use Rattle.cbsp_wire.specs.declared.fault.WireFault.TheVariants.{Truncated, TrailingBytes, Cause, Refused}
 use Rattle.cbsp_wire.specs.Element.{Element}
@@ -36,10 +36,10 @@ fault_of_strange kind es =
     (Cause PARAMETER_NOT_RECOGNISED)
 
 -- 4, and the others by where the walk ended
-abbrev pub fault_of_walk : Kind → List Element → Stop → Option WireFault
-fault_of_walk kind es Cut = Some Truncated
-fault_of_walk kind es Strange = fault_of_strange kind es
-fault_of_walk kind es End = fault_of_whole kind es
+abbrev pub fault_of_walk : Kind → List Element → WalkEnd → Option WireFault
+fault_of_walk kind es CutOff = Some Truncated
+fault_of_walk kind es UnexpectedElement = fault_of_strange kind es
+fault_of_walk kind es Complete = fault_of_whole kind es
 
 -- 3
 abbrev pub fault_of_kind : Option Kind → List ℕ → Option WireFault
@@ -47,23 +47,23 @@ fault_of_kind None rest = Some (Cause UNRECOGNISED_MESSAGE)
 fault_of_kind (Some kind) rest = fault_of_walk kind (walk_of kind rest).elements (walk_of kind rest).stop
 
 -- the length that three octets tell
-abbrev pub told : ℕ → ℕ → ℕ → ℕ
-told a b c = a * 65536 + b * 256 + c
+abbrev pub length_field : ℕ → ℕ → ℕ → ℕ
+length_field a b c = a * 65536 + b * 256 + c
 
 -- 1 and 2
 unfoldable pub first_fault : List ℕ → Option WireFault
 first_fault (octet ∷ a ∷ b ∷ c ∷ rest) =
-    if nat_lt (length rest) (told a b c) then Some Truncated
-    else if nat_lt (told a b c) (length rest) then Some TrailingBytes
+    if nat_lt (length rest) (length_field a b c) then Some Truncated
+    else if nat_lt (length_field a b c) (length rest) then Some TrailingBytes
     else fault_of_kind (kind_of_octet octet) rest
 first_fault octets = Some Truncated
 
 -- the fault of the octets that an error tells; Refused tells none, for it comes last
-abbrev pub fault_told : WireFault → Option WireFault
-fault_told Refused = None
-fault_told Truncated = Some Truncated
-fault_told TrailingBytes = Some TrailingBytes
-fault_told (Cause cause) = Some (Cause cause)
+abbrev pub reported_fault : WireFault → Option WireFault
+reported_fault Refused = None
+reported_fault Truncated = Some Truncated
+reported_fault TrailingBytes = Some TrailingBytes
+reported_fault (Cause cause) = Some (Cause cause)
 
 -- the type of octets that begin a message, and the octets of its elements
 abbrev pub HasParts : List ℕ → Kind → List ℕ → Type 0

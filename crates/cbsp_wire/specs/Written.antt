@@ -97,11 +97,11 @@ unfoldable pub octets_of_message : Message → List ℕ
 octets_of_message m = framed (octet_of_kind (kind_of m)) (octets_of_elements (elements_of m))
 
 -- the octets of the elements with a number
-abbrev pub slot : ℕ → List (List ℕ) → List ℕ
-slot n bodies = octets_of_elements (map (element n) bodies)
+abbrev pub element_octets : ℕ → List (List ℕ) → List ℕ
+element_octets n bodies = octets_of_elements (map (element n) bodies)
 
-abbrev pub slot_octets : Fields → ℕ → List ℕ
-slot_octets f n = slot n (bodies_in f n)
+abbrev pub field_octets : Fields → ℕ → List ℕ
+field_octets f n = element_octets n (bodies_in f n)
 
 -- lists as short as a message's may be
 pub record AreShort (f : Fields) : Type 0 where

@@ -11,13 +11,13 @@ use crate::kind::{Kind, Need};
 
 /// Why no more elements are taken.
 #[derive(Clone, Copy, Debug, PartialEq, Eq)]
-pub enum Stop {
+pub enum WalkEnd {
     /// The octets are at their end.
-    End,
+    Complete,
     /// The next element isn't of this message.
-    Strange,
+    UnexpectedElement,
     /// The next element goes past the end.
-    Cut,
+    CutOff,
 }
 
 /// Hands the table of elements to another macro, in the order in which they are written: number, size of the body, what
@@ -133,7 +133,7 @@ fn size(number: u8, octets: &[u8]) -> usize
 }
 
 /// The element at the front: its number, its body, and the octets after it.
-fn front(kind: Kind, octets: &[u8]) -> Result<(u8, &[u8], &[u8]), Stop>
+fn front(kind: Kind, octets: &[u8]) -> Result<(u8, &[u8], &[u8]), WalkEnd>
     ensures taken { IfOk result
         (λ x. front_of kind octets.now ≡ Ok (record { number = x.0; body = x.1.now }, x.2.now)) }
     ensures ended { IfErr result (λ s. front_of kind octets.now ≡ Err s) }
@@ -141,21 +141,21 @@ fn front(kind: Kind, octets: &[u8]) -> Result<(u8, &[u8], &[u8]), Stop>
     ensures sized { IfOk result (λ x. length x.1.now ≡ size_of x.0 x.1.now) }
 {
     let [number, after @ ..] = octets else {
-        return Err(Stop::End);
+        return Err(WalkEnd::Complete);
     };
     if need(kind, *number) == Need::Foreign {
-        return Err(Stop::Strange);
+        return Err(WalkEnd::UnexpectedElement);
     }
     let size = size(*number, after);
     if after.len() < size {
-        return Err(Stop::Cut);
+        return Err(WalkEnd::CutOff);
     }
     let (body, rest) = after.split_at(size);
     Ok((*number, body, rest))
 }
 
 /// Why the walk over the elements ends.
-pub(crate) fn walk_end(kind: Kind, octets: &[u8]) -> Stop
+pub(crate) fn end_of_walk(kind: Kind, octets: &[u8]) -> WalkEnd
     ensures { result ≡ (walk_of kind octets.now).stop }
 {
     let mut left = octets;

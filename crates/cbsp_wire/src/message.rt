@@ -160,7 +160,7 @@ pub enum Message {
         /// 0 basic channel, 1 extended channel.
         channel: Option<u8>,
     },
-    /// Stop a message (KILL).
+    /// WalkEnd a message (KILL).
     Kill {
         /// The message identifier.
         id: u16,

@@ -2,11 +2,11 @@
 
 ghost use Rattle.std.specs.Prelude.{◌≡◌, IfOk, IfErr, IfSome, MatchResult};
 ghost use Rattle.cbsp_wire.specs.Walk.{walk_of};
-ghost use Rattle.cbsp_wire.specs.Refusals.{fault_of_walk, first_fault, fault_told, HasParts};
+ghost use Rattle.cbsp_wire.specs.Refusals.{fault_of_walk, first_fault, reported_fault, HasParts};
 ghost use Rattle.cbsp_wire.specs.Meaning.{IsMessage};
 
 use crate::cause;
-use crate::elements::{Stop, walk_end};
+use crate::elements::{WalkEnd, end_of_walk};
 use crate::fault::WireFault;
 use crate::kind::Kind;
 use crate::message::Message;
@@ -17,16 +17,16 @@ use std::alloc::Global;
 /// The first fault of a message's elements.
 fn fault_of_elements(kind: Kind, elements: &[u8]) -> Option<WireFault>
     ensures first { result ≡ fault_of_walk kind (walk_of kind elements.now).elements (walk_of kind elements.now).stop }
-    ensures told { IfSome result (λ fault. fault_told fault ≡ Some fault) }
+    ensures reported { IfSome result (λ fault. reported_fault fault ≡ Some fault) }
 {
-    let stop = walk_end(kind, elements);
-    if stop == Stop::Cut {
+    let stop = end_of_walk(kind, elements);
+    if stop == WalkEnd::CutOff {
         return Some(WireFault::Truncated);
     }
     if !has_mandatory(kind, elements) {
         return Some(WireFault::Cause(cause::MISSING_MANDATORY_ELEMENT));
     }
-    if stop == Stop::Strange {
+    if stop == WalkEnd::UnexpectedElement {
         return Some(WireFault::Cause(cause::PARAMETER_NOT_RECOGNISED));
     }
     if are_in_range(kind, elements) {
@@ -42,16 +42,16 @@ fn parts(octets: &[u8]) -> Result<(Kind, &[u8]), WireFault>
     ensures faultless { IfOk result (λ _. first_fault octets.now ≡ None) }
     ensures parts { IfOk result (λ x. HasParts octets.now x.0 x.1.now) }
     ensures fault { IfErr result (λ fault. first_fault octets.now ≡ Some fault) }
-    ensures told { IfErr result (λ fault. fault_told fault ≡ Some fault) }
+    ensures reported { IfErr result (λ fault. reported_fault fault ≡ Some fault) }
 {
     let [octet, a, b, c, elements @ ..] = octets else {
         return Err(WireFault::Truncated);
     };
-    let told = usize::from(*a) * 65536 + usize::from(*b) * 256 + usize::from(*c);
-    if elements.len() < told {
+    let length = usize::from(*a) * 65536 + usize::from(*b) * 256 + usize::from(*c);
+    if elements.len() < length {
         return Err(WireFault::Truncated);
     }
-    if told < elements.len() {
+    if length < elements.len() {
         return Err(WireFault::TrailingBytes);
     }
     let Some(kind) = Kind::of_octet(*octet) else {
@@ -81,7 +81,7 @@ pub fn read(alloc: Global, octets: &[u8]) -> Result<Message, WireFault>
     ensures only { (m : Message) → IsMessage octets.now m
         → MatchResult result (λ read. read ≡ m) (λ fault. fault ≡ WireFault.Refused) }
     // Which refusal it is.
-    ensures refused { IfErr result (λ fault. first_fault octets.now ≡ fault_told fault) }
+    ensures refused { IfErr result (λ fault. first_fault octets.now ≡ reported_fault fault) }
     // Memory runs out only where the octets mean something.
     ensures last { IfErr result (λ fault. fault ≡ WireFault.Refused → (m : Message) × IsMessage octets.now m) }
 {

@@ -5,7 +5,7 @@ ghost use Rattle.std.specs.List.{flat_map};
 ghost use Rattle.cbsp_wire.specs.Meaning.{IsMessage, IsUnwritten};
 ghost use Rattle.cbsp_wire.specs.Parts.{fields_seen, HasRoom};
 ghost use Rattle.cbsp_wire.specs.Range.{is_writable};
-ghost use Rattle.cbsp_wire.specs.Written.{number_octets, number_bodies, octet_bodies, list_head, list_bodies, cell_octets, count_octets, failure_octets, content_body, slot, slot_octets, bodies_in, octets_of_message, AreShort};
+ghost use Rattle.cbsp_wire.specs.Written.{number_octets, number_bodies, octet_bodies, list_head, list_bodies, cell_octets, count_octets, failure_octets, content_body, element_octets, field_octets, bodies_in, octets_of_message, AreShort};
 
 use crate::elements::{NUMBERS, elements};
 use crate::fault::WireFault;
@@ -38,8 +38,8 @@ pub(crate) fn octets_of_number(number: u16) -> [u8; 2]
 
 /// Appends an element of two octets, if there is one.
 fn put_number(out: &mut Vec<u8>, element: u8, number: Option<u16>)
-    requires { HasRoom out.old (slot element (number_bodies number)) }
-    ensures appended { out.new.items ≡ out.old.items ++ slot element (number_bodies number) }
+    requires { HasRoom out.old (element_octets element (number_bodies number)) }
+    ensures appended { out.new.items ≡ out.old.items ++ element_octets element (number_bodies number) }
     ensures room { vec_capacity out.new ≡ vec_capacity out.old }
 {
     if let Some(number) = number {
@@ -50,8 +50,8 @@ fn put_number(out: &mut Vec<u8>, element: u8, number: Option<u16>)
 
 /// Appends an element of one octet, if there is one.
 fn put_octet(out: &mut Vec<u8>, element: u8, octet: Option<u8>)
-    requires { HasRoom out.old (slot element (octet_bodies octet)) }
-    ensures appended { out.new.items ≡ out.old.items ++ slot element (octet_bodies octet) }
+    requires { HasRoom out.old (element_octets element (octet_bodies octet)) }
+    ensures appended { out.new.items ≡ out.old.items ++ element_octets element (octet_bodies octet) }
     ensures room { vec_capacity out.new ≡ vec_capacity out.old }
 {
     if let Some(octet) = octet {
@@ -78,8 +78,8 @@ fn put_list_head(out: &mut Vec<u8>, element: u8, layout: Layout, items_len: u16)
 /// Appends a list, if it has items.
 fn put_list<T: Item>(out: &mut Vec<u8>, element: u8, items: &[T])
     requires short { length items.now ≤ 64 }
-    requires room { HasRoom out.old (slot element (list_bodies T.LAYOUT T.octets_of items.now)) }
-    ensures appended { out.new.items ≡ out.old.items ++ slot element (list_bodies T.LAYOUT T.octets_of items.now) }
+    requires room { HasRoom out.old (element_octets element (list_bodies T.LAYOUT T.octets_of items.now)) }
+    ensures appended { out.new.items ≡ out.old.items ++ element_octets element (list_bodies T.LAYOUT T.octets_of items.now) }
     ensures room { vec_capacity out.new ≡ vec_capacity out.old }
 {
     if items.is_empty() {
@@ -92,8 +92,8 @@ fn put_list<T: Item>(out: &mut Vec<u8>, element: u8, items: &[T])
 /// Appends the number of pages, if it is told.
 fn put_pages(out: &mut Vec<u8>, element: u8, pages: Option<usize>)
     requires few { IfSome pages (λ n. n ≤ 15) }
-    requires room { HasRoom out.old (slot element (octet_bodies pages)) }
-    ensures appended { out.new.items ≡ out.old.items ++ slot element (octet_bodies pages) }
+    requires room { HasRoom out.old (element_octets element (octet_bodies pages)) }
+    ensures appended { out.new.items ≡ out.old.items ++ element_octets element (octet_bodies pages) }
     ensures room { vec_capacity out.new ≡ vec_capacity out.old }
 {
     if let Some(pages) = pages {
@@ -103,8 +103,8 @@ fn put_pages(out: &mut Vec<u8>, element: u8, pages: Option<usize>)
 
 /// Appends the contents.
 fn put_contents(out: &mut Vec<u8>, element: u8, contents: &[Content])
-    requires { HasRoom out.old (slot element (map content_body contents.now)) }
-    ensures appended { out.new.items ≡ out.old.items ++ slot element (map content_body contents.now) }
+    requires { HasRoom out.old (element_octets element (map content_body contents.now)) }
+    ensures appended { out.new.items ≡ out.old.items ++ element_octets element (map content_body contents.now) }
     ensures room { vec_capacity out.new ≡ vec_capacity out.old }
 {
     let mut left = contents;
@@ -138,8 +138,8 @@ macro_rules! put_for {
 #[tactic(auto, unfolding(crate::specs::Written::bodies_in))]
 fn put_elements_with(out: &mut Vec<u8>, parts: &Parts<'_>, number: u8)
     requires short { AreShort (fields_seen parts.now) }
-    requires room { HasRoom out.old (slot_octets (fields_seen parts.now) number) }
-    ensures appended { out.new.items ≡ out.old.items ++ slot_octets (fields_seen parts.now) number }
+    requires room { HasRoom out.old (field_octets (fields_seen parts.now) number) }
+    ensures appended { out.new.items ≡ out.old.items ++ field_octets (fields_seen parts.now) number }
     ensures room { vec_capacity out.new ≡ vec_capacity out.old }
 {
     elements!(put_for, out, parts, number)
@@ -148,8 +148,8 @@ fn put_elements_with(out: &mut Vec<u8>, parts: &Parts<'_>, number: u8)
 /// Appends the elements with these numbers, in this order.
 fn put_elements(out: &mut Vec<u8>, parts: &Parts<'_>, numbers: &[u8])
     requires short { AreShort (fields_seen parts.now) }
-    requires room { HasRoom out.old (flat_map (slot_octets (fields_seen parts.now)) numbers.now) }
-    ensures appended { out.new.items ≡ out.old.items ++ flat_map (slot_octets (fields_seen parts.now)) numbers.now }
+    requires room { HasRoom out.old (flat_map (field_octets (fields_seen parts.now)) numbers.now) }
+    ensures appended { out.new.items ≡ out.old.items ++ flat_map (field_octets (fields_seen parts.now)) numbers.now }
     ensures room { vec_capacity out.new ≡ vec_capacity out.old }
 {
     for number in numbers {

@@ -4,7 +4,7 @@ use Rattle.cbsp_wire.specs.declared.message.Message.{Message}
 use Rattle.cbsp_wire.specs.Meaning.{IsMessage}
 use Rattle.cbsp_wire.specs.Walk.{walk_of}
 use Rattle.cbsp_wire.specs.Value.{message_of}
-use Rattle.cbsp_wire.proofs.MeaningLaws.{first_fault-none, IsMessage-read, IsMessage-faulty, fault_told-refused}
+use Rattle.cbsp_wire.proofs.MeaningLaws.{first_fault-none, IsMessage-read, IsMessage-faulty, reported_fault-refused}
 use Rattle.cbsp_wire.proofs.reading.read.Goals as goal
 
 pub returns-in_err-kind-clause-only : goal.returns-in_err-kind-clause-only
@@ -15,12 +15,12 @@ returns-in_err-kind-clause-only c =
 pub returns-in_err-kind-clause-refused : goal.returns-in_err-kind-clause-refused
 returns-in_err-kind-clause-refused c =
     let p = err_from_is_err_and c.from_residual.result c.from_residual.ensures.1 in
-    rw (p.1, p.2) (c.in_err-kind.ensures.fault ∙ sym c.in_err-kind.ensures.told)
+    rw (p.1, p.2) (c.in_err-kind.ensures.fault ∙ sym c.in_err-kind.ensures.reported)
 
 pub returns-in_err-kind-clause-last : goal.returns-in_err-kind-clause-last
 returns-in_err-kind-clause-last c =
     let p = err_from_is_err_and c.from_residual.result c.from_residual.ensures.1 in
-    rw (p.1, p.2) (λ refused. absurd (fault_told-refused _ c.in_err-kind.ensures.told refused))
+    rw (p.1, p.2) (λ refused. absurd (reported_fault-refused _ c.in_err-kind.ensures.reported refused))
 
 pub returns-in-Ok-clause-found : goal.returns-in-Ok-clause-found
 returns-in-Ok-clause-found c =

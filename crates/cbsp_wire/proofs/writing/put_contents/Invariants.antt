@@ -1,13 +1,13 @@
 use Rattle.std.proofs.Common.{◌≡◌, ◌≤◌, ◌++◌, ◌+◌, length, map, vec_capacity, vec_len}
-use Rattle.cbsp_wire.specs.Written.{slot, content_body}
+use Rattle.cbsp_wire.specs.Written.{element_octets, content_body}
 use Rattle.cbsp_wire.proofs.writing.put_contents.Given as goal
 
 abbrev pub invariant-contents : goal.invariant-contents
 invariant-contents l = record {
-  so_far : l.out.items ++ slot l.element (map content_body l.left) ≡ l.fn.out.items ++ slot l.element
-      (map content_body l.contents);
+  so_far : l.out.items ++ element_octets l.element (map content_body l.left)
+      ≡ l.fn.out.items ++ element_octets l.element (map content_body l.contents);
   room : vec_capacity l.out ≡ vec_capacity l.fn.out;
-  fits : vec_len l.out + length (slot l.element (map content_body l.left)) ≤ vec_capacity l.out;
+  fits : vec_len l.out + length (element_octets l.element (map content_body l.left)) ≤ vec_capacity l.out;
 }
 
 abbrev pub decreases-contents : goal.decreases-contents

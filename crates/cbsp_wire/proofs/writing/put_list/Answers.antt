@@ -1,13 +1,13 @@
 use Rattle.std.proofs.Common.{sym, ◌∙◌, arith, ap, length, length-append}
-use Rattle.cbsp_wire.proofs.Slots.{list_slot, list_slot-len}
+use Rattle.cbsp_wire.proofs.ElementOctets.{list_octets, list_octets-len}
 use Rattle.cbsp_wire.proofs.writing.put_list.Goals as goal
 
 pub put_list_head-requires-clause-room : goal.put_list_head-requires-clause-room
 put_list_head-requires-clause-room g c =
     rw (c.LAYOUT.ensures, c.SIZE.ensures) (omega (
       arith,
-      list_slot-len g.T.Item.LAYOUT g.T.Item.octets_of g.T.Item.SIZE g.met.T.Item.sized c.args.element c.args.items.now
-          (sym c.is_empty.ensures ∙ c.if-is_empty.false),
+      list_octets-len g.T.Item.LAYOUT g.T.Item.octets_of g.T.Item.SIZE g.met.T.Item.sized c.args.element
+          c.args.items.now (sym c.is_empty.ensures ∙ c.if-is_empty.false),
       c.requires.room,
     ))
 
@@ -16,8 +16,8 @@ put_items-requires g c =
     let appended = rw (c.LAYOUT.ensures, c.SIZE.ensures) at c.put_list_head.ensures.appended in
     omega (
       arith,
-      list_slot-len g.T.Item.LAYOUT g.T.Item.octets_of g.T.Item.SIZE g.met.T.Item.sized c.args.element c.args.items.now
-          (sym c.is_empty.ensures ∙ c.if-is_empty.false),
+      list_octets-len g.T.Item.LAYOUT g.T.Item.octets_of g.T.Item.SIZE g.met.T.Item.sized c.args.element
+          c.args.items.now (sym c.is_empty.ensures ∙ c.if-is_empty.false),
       simp length-append at (ap length appended),
       c.put_list_head.ensures.room,
       c.requires.room,
@@ -26,5 +26,5 @@ put_items-requires g c =
 pub returns-clause-appended : goal.returns-clause-appended
 returns-clause-appended g c =
     rw (c.put_items.ensures.appended, c.put_list_head.ensures.appended, c.SIZE.ensures, c.LAYOUT.ensures)
-    (list_slot g.T.Item.LAYOUT g.T.Item.octets_of g.T.Item.SIZE g.met.T.Item.sized c.args.out.now.items c.args.element
+    (list_octets g.T.Item.LAYOUT g.T.Item.octets_of g.T.Item.SIZE g.met.T.Item.sized c.args.out.now.items c.args.element
     c.args.items.now (sym c.is_empty.ensures ∙ c.if-is_empty.false))

@@ -1,6 +1,6 @@
 use Rattle.std.proofs.Common.{sym, ◌∙◌}
 use Rattle.cbsp_wire.proofs.Walks.{stop-taken, stop-ended}
-use Rattle.cbsp_wire.proofs.elements.walk_end.Goals as goal
+use Rattle.cbsp_wire.proofs.elements.end_of_walk.Goals as goal
 
 pub walk-preserved : goal.walk-preserved
 walk-preserved c = sym (stop-taken _ _ _ _ c.in-Ok.ensures.taken) ∙ c.walk.invariant

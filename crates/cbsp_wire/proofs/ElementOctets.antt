@@ -6,7 +6,7 @@ use Rattle.std.proofs.lemmas.List.Concat.{flat_map-cons}
 use Rattle.cbsp_wire.specs.declared.items.Layout.{Layout}
 use Rattle.cbsp_wire.specs.Element.{Element, octets_of_elements}
 use Rattle.cbsp_wire.specs.Value.{Fields}
-use Rattle.cbsp_wire.specs.Written.{bodies_in, list_head, list_bodies, element, elements_among, slot, slot_octets}
+use Rattle.cbsp_wire.specs.Written.{bodies_in, list_head, list_bodies, element, elements_among, element_octets, field_octets}
 use Rattle.cbsp_wire.proofs.WrittenItems.{length-items}
 
 octets-append : (xs ys : List Element) → octets_of_elements (xs ++ ys) ≡ octets_of_elements xs ++ octets_of_elements ys
@@ -16,20 +16,20 @@ octets-append (x ∷ xs) ys =
     ∙ ap (λ (o : List ℕ). x.number ∷ o) (sym (append_assoc x.body (octets_of_elements xs) (octets_of_elements ys)))
 
 -- the octets of elements are those of each number in turn
-pub octets-among : (f : Fields) (ns : List ℕ) → octets_of_elements (elements_among f ns) ≡ flat_map (slot_octets f) ns
+pub octets-among : (f : Fields) (ns : List ℕ) → octets_of_elements (elements_among f ns) ≡ flat_map (field_octets f) ns
 octets-among f [] = refl
 octets-among f (n ∷ ns) =
     octets-append (map (element n) (bodies_in f n)) (elements_among f ns)
-    ∙ ap (λ (o : List ℕ). slot_octets f n ++ o) (octets-among f ns)
-    ∙ sym (flat_map-cons (slot_octets f) n ns)
+    ∙ ap (λ (o : List ℕ). field_octets f n ++ o) (octets-among f ns)
+    ∙ sym (flat_map-cons (field_octets f) n ns)
 
 -- a list with its head and its items
-pub list_slot : {X : Type 0} (layout : Layout) (octets : X → List ℕ) (size : ℕ) → ((x : X) → length (octets x) ≡ size)
+pub list_octets : {X : Type 0} (layout : Layout) (octets : X → List ℕ) (size : ℕ) → ((x : X) → length (octets x) ≡ size)
     → (old : List ℕ) (n : ℕ) (xs : List X) → eqb (length xs) 0 ≡ false
-    → (old ++ n ∷ list_head layout (length xs * size)) ++ flat_map octets xs ≡ old ++ slot n
-    (list_bodies layout octets xs)
-list_slot layout octets size len old n [] some = absurd cc
-list_slot layout octets size len old n (x ∷ xs) some =
+    → (old ++ n ∷ list_head layout (length xs * size)) ++ flat_map octets xs
+    ≡ old ++ element_octets n (list_bodies layout octets xs)
+list_octets layout octets size len old n [] some = absurd cc
+list_octets layout octets size len old n (x ∷ xs) some =
     let items = flat_map octets (x ∷ xs) in
     let k : length items ≡ length (x ∷ xs) * size = length-items octets size len (x ∷ xs) in
     append_assoc old (n ∷ list_head layout (length (x ∷ xs) * size)) items
@@ -37,13 +37,13 @@ list_slot layout octets size len old n (x ∷ xs) some =
     ∙ ap (λ (i : List ℕ). old ++ (n ∷ i)) (sym (append-nil (list_head layout (length items) ++ items)))
 
 -- how long they are
-pub list_slot-len : {X : Type 0} (layout : Layout) (octets : X → List ℕ) (size : ℕ)
+pub list_octets-len : {X : Type 0} (layout : Layout) (octets : X → List ℕ) (size : ℕ)
     → ((x : X) → length (octets x) ≡ size)
     → (n : ℕ) (xs : List X) → eqb (length xs) 0 ≡ false
-    → length (slot n (list_bodies layout octets xs)) ≡ 1 + length (list_head layout (length xs * size)) + length
-    (flat_map octets xs)
-list_slot-len layout octets size len n xs some =
-    let whole = list_slot layout octets size len [] n xs some in
+    → length (element_octets n (list_bodies layout octets xs))
+    ≡ 1 + length (list_head layout (length xs * size)) + length (flat_map octets xs)
+list_octets-len layout octets size len n xs some =
+    let whole = list_octets layout octets size len [] n xs some in
     omega (arith, ap length whole, length-append (list_head layout (length xs * size)) (flat_map octets xs))
 
 -- a length that is written into its place

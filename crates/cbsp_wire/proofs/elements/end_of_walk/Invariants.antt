@@ -1,6 +1,6 @@
 use Rattle.std.proofs.Common.{◌≡◌, length}
 use Rattle.cbsp_wire.specs.Walk.{walk_of}
-use Rattle.cbsp_wire.proofs.elements.walk_end.Given as goal
+use Rattle.cbsp_wire.proofs.elements.end_of_walk.Given as goal
 
 abbrev pub invariant-walk : goal.invariant-walk
 invariant-walk l = (walk_of l.kind l.left).stop ≡ (walk_of l.kind l.octets).stop
