@@ -5,5 +5,6 @@ pub mod CuttingLaws
 pub mod TextLaws
 pub mod PaginateLaws
 pub mod LongTexts
+pub mod PlainLaws
 pub mod CodingLaws
 mod Worked

@@ -4,3 +4,4 @@ pub mod Page
 pub mod Paging
 pub mod Text
 pub mod Piece
+pub mod Plain

@@ -1,9 +1,11 @@
 //! The text that a page shows (3GPP TS 23.038, clauses 6.1.2.2, 6.2.1 and 6.2.3).
 
 ghost use Rattle.std.specs.Prelude.{◌≡◌, IsTrue, IfOk, ◌≤◌, take, length, map, encode_utf8_all, string_bytes};
+ghost use Rattle.std.specs.List.{list_all};
 ghost use Rattle.gsm_alphabet.specs.Alphabet.{text_of_septets};
 ghost use Rattle.ucs2_text.specs.Ucs2.{character_of_unit};
 ghost use Rattle.cbs_page.specs.Page.{is_readable};
+ghost use Rattle.cbs_page.specs.Plain.{shows_itself};
 ghost use Rattle.cbs_page.specs.Text.{text_of_page, without_trailing};
 
 use crate::coding::Alphabet;
@@ -11,6 +13,7 @@ use crate::octets::PageView;
 use gsm_alphabet::{decode_ext, decode_one};
 use septets::unpack;
 use std::alloc::{AllocError, Global};
+use std::str;
 use thiserror::Error;
 use ucs2_text::{char_of, units_of};
 
@@ -64,8 +67,34 @@ fn without_filling<T: Copy + PartialEq>(items: &[T], filling: T) -> &[T]
     }
 }
 
-/// The text of septets.
+/// The text of septets. Most texts are plain, and then their septets are the text's octets.
 fn gsm_text(alloc: Global, septets: &[u8]) -> Result<String, AllocError>
+    ensures { IfOk result (λ text. string_bytes text ≡ encode_utf8_all (text_of_septets septets.now)) }
+{
+    if is_plain(septets) {
+        if let Ok(text) = str::from_utf8(septets) {
+            return String::from_str(alloc, text);
+        }
+    }
+    decoded_text(alloc, septets)
+}
+
+/// Whether each septet shows the character of its own number.
+fn is_plain(septets: &[u8]) -> bool
+    ensures { result ≡ list_all shows_itself septets.now }
+{
+    septets.iter().all(|septet| shows_itself(*septet))
+}
+
+/// Whether a septet isn't the escape, and shows the character of its own number.
+fn shows_itself(septet: u8) -> bool
+    ensures { result ≡ shows_itself septet }
+{
+    septet < 128 && septet != ESCAPE && decode_one(septet) == char::from(septet)
+}
+
+/// The text of septets, one character after another.
+fn decoded_text(alloc: Global, septets: &[u8]) -> Result<String, AllocError>
     ensures { IfOk result (λ text. string_bytes text ≡ encode_utf8_all (text_of_septets septets.now)) }
 {
     let mut text = String::new(alloc);

@@ -1,6 +1,6 @@
 use Rattle.std.proofs.Common.{◌≡◌, ◌++◌, drop, string_bytes, encode_utf8_all}
 use Rattle.gsm_alphabet.specs.Alphabet.{text_of_septets, text_after}
-use Rattle.cbs_page.proofs.text.gsm_text.Given as goal
+use Rattle.cbs_page.proofs.text.decoded_text.Given as goal
 
 abbrev pub invariant-loop-septet : goal.invariant-loop-septet
 invariant-loop-septet l =
