@@ -3,3 +3,4 @@ pub mod BlockLaws
 pub mod ComesBack
 pub mod MessageLaws
 pub mod OutputLaws
+pub mod TableLaws

@@ -8,8 +8,9 @@ ghost use Rattle.device_ends.specs.Source.{reader_of};
 ghost use Rattle.handset.specs.Tape.{reading_of, readings_of};
 ghost use Rattle.warnc_engine.specs.ReadOutput.{reading_rows, table_fault_of, table_of, IsReadOutput, IsReadFault, IsReadTo};
 ghost use Rattle.warnc_engine.specs.Stream.{IsStreamBetween};
+ghost use Rattle.warnc_engine.specs.Table.{IsTable};
 
-use crate::table::{push_header, push_message};
+use crate::table::Table;
 use device_ends::{Failed, Sink, Source, write_all};
 use handset::{Reading, TapeFault, read_tapes};
 use std::alloc::{AllocError, Global};
@@ -89,20 +90,22 @@ fn table_fault(fault: TapeFault) -> TableFault
 fn table(alloc: Global, readings: &[Reading]) -> Result<Vec<u8>, AllocError>
     ensures { IfOk result (λ table. table.items ≡ table_of (readings_of readings.now)) }
 {
-    let mut table = Vec::new(alloc);
-    push_header(alloc, &mut table)?;
+    let mut table = Table::new(alloc);
+    table.push_header()?;
     for reading in readings {
         push_reading(alloc, &mut table, reading)?;
     }
-    Ok(table)
+    let octets = table.into_octets()?;
+    Ok(octets)
 }
 
 /// Appends the rows of a reading.
-fn push_reading(alloc: Global, table: &mut Vec<u8>, reading: &Reading) -> Result<(), AllocError>
-    ensures { OnOk result (table.new.items ≡ table.old.items ++ reading_rows (reading_of reading.now)) }
+fn push_reading(alloc: Global, table: &mut Table, reading: &Reading) -> Result<(), AllocError>
+    ensures { OnOk result ((octets : List ℕ) → IsTable table.old octets →
+        IsTable table.new (octets ++ reading_rows (reading_of reading.now))) }
 {
     for message in &reading.shown {
-        push_message(alloc, table, reading.cell.lac, reading.cell.ci, message)?;
+        table.push_message(alloc, reading.cell.lac, reading.cell.ci, message)?;
     }
     Ok(())
 }
