@@ -1,7 +1,11 @@
 #!/usr/bin/env python3
-"""Writes tapes for bench/read.sh: 64 cells of 4,096 slots each, pages of both alphabets, repeats and idle slots.
+"""Writes tapes for bench/read.sh: 64 cells of 4,096 slots each. make_tapes.py SEED [KIND], where KIND is one of
 
-It stands on nothing of warnc: it packs and cuts by itself.
+mixed     8 messages of 1 to 7 pages in each cell, both alphabets, repeats and idle slots (if no KIND is given)
+long      108 messages of 15 pages in each cell, one after another, again and again
+short     2,100 messages of one page in each cell, one after another, again and again
+
+It uses nothing of warnc: it packs and cuts by itself.
 """
 import random
 import struct
@@ -37,20 +41,42 @@ def blocks(page):
     return b"".join(bytes([kind]) + page[22 * at:22 * at + 22] for at, kind in enumerate((0x20, 0x21, 0x22, 0x33)))
 
 
+def mixed(chance, cell):
+    idle = (bytes([0x2F]) + b"\x2b" * 22) * 4
+    messages = []
+    for message in range(8):
+        latin = message % 2 == 0
+        text = (LATIN if latin else CYRILLIC) * chance.randint(1, 4)
+        messages.append([blocks(page) for page in pages(4370 + message, 16 * cell + message, text, latin)])
+    slots = []
+    while len(slots) < SLOTS:
+        slots += chance.choice(messages)
+        slots += [idle] * chance.randint(0, 2)
+    return slots
+
+
+def many(chance, cell, messages, size):
+    slots = []
+    for message in range(messages):
+        first = chance.randint(0, len(LATIN) - 1)
+        text = (LATIN * (size // len(LATIN) + 2))[first:first + size]
+        slots += [blocks(page) for page in pages(4370 + cell, 16 * message, text, True)]
+    return slots * (SLOTS // len(slots) + 1)
+
+
+KINDS = {
+    "mixed": mixed,
+    "long": lambda chance, cell: many(chance, cell, 108, 15 * 93),
+    "short": lambda chance, cell: many(chance, cell, 2100, 93),
+}
+
+
 def main():
     chance = random.Random(int(sys.argv[1]))
-    idle = (bytes([0x2F]) + b"\x2b" * 22) * 4
+    slots_of = KINDS[sys.argv[2] if len(sys.argv) > 2 else "mixed"]
     for cell in range(CELLS):
-        messages = []
-        for message in range(8):
-            latin = message % 2 == 0
-            text = (LATIN if latin else CYRILLIC) * chance.randint(1, 4)
-            messages.append([blocks(page) for page in pages(4370 + message, 16 * cell + message, text, latin)])
-        slots = []
-        while len(slots) < SLOTS:
-            slots += chance.choice(messages)
-            slots += [idle] * chance.randint(0, 2)
-        sys.stdout.buffer.write(struct.pack(">HHI", 1, cell + 1, SLOTS) + b"".join(slots[:SLOTS]))
+        slots = slots_of(chance, cell)[:SLOTS]
+        sys.stdout.buffer.write(struct.pack(">HHI", 1, cell + 1, SLOTS) + b"".join(slots))
 
 
 main()

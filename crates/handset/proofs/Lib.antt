@@ -1,8 +1,10 @@
 pub mod Lists
 pub mod BlockLaws
 pub mod PageLaws
+pub mod NamedPages
 pub mod ReadingLaws
 pub mod TapeLaws
+pub mod TapeExtents
 mod Worked
 pub mod TapeKinds
 pub mod TapeCases

@@ -2,6 +2,7 @@ pub mod Reading
 pub mod Keeping
 pub mod KeepingSteps
 pub mod Tape
+pub mod TapeExtent
 pub mod TapeSteps
 pub mod TapeLaw
 pub mod Counting

@@ -1,24 +1,26 @@
--- Steps over a tape: blocks that are fed, slots that are read, and whole tapes.
-use Rattle.std.specs.Prelude.{◌≡◌, ℕ, ◌/◌, List, ◌++◌, Option, length}
+-- Steps over a tape: blocks that a handset reads, slots, and whole tapes. Contracts of private functions alone speak of
+-- it.
+use Rattle.std.specs.Prelude.{◌≡◌, ℕ, ◌+◌, ◌/◌, ◌<◌, ◌≤◌, List, ◌++◌, Option, length}
 use Rattle.std.specs.Simd.{first_chunks}
-use Rattle.std.specs.Io.KnownBytes.{Consumes}
+use Rattle.std.specs.Io.KnownBytes.{Consumes, IsAtEnd}
 use Rattle.handset.specs.Reading.{Message, shown_in}
-use Rattle.handset.specs.Keeping.{Kept, HasRead}
-use Rattle.handset.specs.Tape.{TapeReading, IsTape, AreSlots, octets_of_blocks}
+use Rattle.handset.specs.Keeping.{HandsetState, HasRead}
+use Rattle.handset.specs.declared.tape.TapeFault.{TapeFault}
+use Rattle.handset.specs.declared.tape.TapeFault.TheVariants as fault
+use Rattle.handset.specs.Tape.{TapeReading, IsTape, AreSlots, IsCut, IsOversized, octets_of_blocks, slots_in}
+use Rattle.handset.specs.Tape.{most_slots}
+use Rattle.handset.specs.Tape.{tape_length}
 
--- a handset has read these blocks, and these are the messages that they show
-pub record AreShown (handset : Kept) (shown : List Message) (blocks : List (List ℕ)) : Type 0 where
-  pub read : HasRead handset blocks
-  pub same : shown ≡ shown_in blocks
-
--- the reader gave so many octets, and a handset and what it has shown went on by the blocks that they are
-pub record ReadsPiece (old new : Option (List ℕ)) (count : ℕ) (before after : Kept) (was shown : List Message) : Type 0 where
+-- the reader gave this many octets, and a handset has read the blocks that they are
+pub record ReadsPiece (old new : Option (List ℕ)) (count : ℕ) (before after : HandsetState) : Type 0 where
   pub octets : List ℕ
   pub consumed : Consumes old new octets
   pub long : length octets ≡ count
-  pub shows : (blocks : List (List ℕ)) → AreShown before was blocks → AreShown after shown (blocks ++ first_chunks 23 (count / 23) octets)
+  pub read :
+      (blocks : List (List ℕ)) →
+      HasRead before blocks → HasRead after (blocks ++ first_chunks 23 (count / 23) octets)
 
--- the reader gave the blocks of so many slots, and these are the messages that they show
+-- the reader gave the blocks of this many slots, and these are the messages that they show
 pub record ReadsBlocks (old new : Option (List ℕ)) (slots : ℕ) (shown : List Message) : Type 0 where
   pub blocks : List (List ℕ)
   pub consumed : Consumes old new (octets_of_blocks blocks)
@@ -30,3 +32,27 @@ pub record ReadsTape (old new : Option (List ℕ)) (reading : TapeReading) : Typ
   pub octets : List ℕ
   pub consumed : Consumes old new octets
   pub tape : IsTape octets reading
+
+-- the reader gave some octets, fewer than this many
+abbrev pub ReadsFewer : Option (List ℕ) → Option (List ℕ) → ℕ → Type 0
+ReadsFewer old new count = (octets : List ℕ) × Consumes old new octets × (length octets < count)
+
+-- the reader gave this many octets
+abbrev pub ReadsCount : Option (List ℕ) → Option (List ℕ) → ℕ → Type 0
+ReadsCount old new count = (octets : List ℕ) × Consumes old new octets × (length octets ≡ count)
+
+-- how far this many octets were read, by the fault
+abbrev pub StopsInOctets : Option (List ℕ) → Option (List ℕ) → ℕ → TapeFault → Type 0
+StopsInOctets old new count fault.Short = IsAtEnd new
+StopsInOctets old new count fault.Long = ⊥
+StopsInOctets old new count fault.ReadFailed = ReadsFewer old new count
+StopsInOctets old new count fault.Refused = ReadsFewer old new (count + 1)
+
+-- how far the next tape was read, by the fault
+abbrev pub NextStopsAt : Option (List ℕ) → Option (List ℕ) → TapeFault → Type 0
+NextStopsAt old new fault.Short = IsAtEnd new
+NextStopsAt old new fault.Long = (part : List ℕ) × Consumes old new part × IsOversized part × (length part ≡ 8)
+NextStopsAt old new fault.ReadFailed = (part : List ℕ) × Consumes old new part × (0 < length part → IsCut part)
+NextStopsAt old new fault.Refused =
+    (part : List ℕ) × Consumes old new part
+    × (8 ≤ length part → slots_in part ≤ most_slots) × (8 ≤ length part → length part ≤ tape_length part)

@@ -1,42 +1,39 @@
-//! The handset: what it keeps of the blocks that it has read. A contract sees no more of that than whether it stands for a list
-//! of blocks (`HasRead`).
+//! The handset: what it keeps of the blocks that it has read. A contract sees no more of that than whether it stands
+//! for a list of blocks (`HasRead`).
 
-ghost use Rattle.std.specs.Prelude.{◌≡◌, [], ◌∷◌, ◌++◌, List, ℕ, IfOk, OnOk, OnErr, All, IsTrue};
+ghost use Rattle.std.specs.Prelude.{◌≡◌, ◌++◌, ◌∷◌, [], ℕ, List, IfOk, OnErr, OnOk};
 ghost use Rattle.std.specs.Option.{option_to_list};
-ghost use Rattle.cbs_page.specs.Page.{is_readable};
-ghost use Rattle.handset.specs.Reading.{shown_in};
-ghost use Rattle.handset.specs.Keeping.{HasRead, messages_of};
-ghost use Rattle.handset.specs.KeepingSteps.{pages_with_read, message_ended_read, message_whole};
+ghost use Rattle.handset.specs.Keeping.{HasRead, kept_of, messages_of};
+ghost use Rattle.handset.specs.KeepingSteps.{TakesPage, message_ended_read};
+ghost use Rattle.handset.specs.Reading.{name_of, shown_in};
 
-use crate::blocks::Begun;
-use crate::messages::{Refused, Shown, is_complete, is_counted, message};
+use crate::blocks::PartialPage;
+use crate::messages::{Refused, Shown, is_counted, message_if_complete};
+use crate::pages::Pages;
 use cbs_page::PageView;
 use std::alloc::Global;
 use std::marker::Model;
 
-/// A handset (3GPP TS 23.041, clause 9.4.1): it reads blocks, and shows each message once, at the block with which its last
-/// missing page comes.
+/// A handset (3GPP TS 23.041, clause 9.4.1): it reads blocks, and shows each message once, at the block with which
+/// its last missing page comes.
 ///
-/// Fed the four blocks of a page 1 of 1 with the text `@`, `feed` answers `None` three times and then the message; fed them
-/// again, it answers `None` four times. `shown` has the one message from then on.
+/// Fed the four blocks of a page 1 of 1 with the text `@`, `feed` returns `None` three times and then the message;
+/// fed them again, it returns `None` four times. `shown` has the one message from then on.
 #[derive(Drop)]
 pub struct Handset {
     alloc: Global,
-    begun: Begun,
-    pages: Vec<PageView>,
+    partial: PartialPage,
+    pages: Pages,
     shown: Vec<Shown>,
 }
 
 impl Model for Handset {
-    ghost use Rattle.std.specs.Prelude.{All, IsTrue};
-    ghost use Rattle.cbs_page.specs.Page.{is_readable};
-    ghost use Rattle.handset.specs.Keeping.{Kept, blocks_of, messages_of};
+    ghost use Rattle.handset.specs.Keeping.{HandsetState, blocks_of, messages_of};
 
-    ghost Value = { Kept };
+    ghost Value = { HandsetState };
 
-    ghost view = { λ h. record { under_way = blocks_of h.begun; pages = h.pages.items; shown = messages_of h.shown.items } };
-
-    ghost invariant = { λ h. All (λ page. IsTrue (is_readable page)) h.pages.items };
+    ghost view = { λ h.
+        record { under_way = blocks_of h.partial; pages = h.pages; shown = messages_of h.shown.items } };
 }
 
 impl Handset {
@@ -46,25 +43,23 @@ impl Handset {
     {
         Handset {
             alloc,
-            begun: Begun::nothing(),
-            pages: Vec::new(alloc),
+            partial: PartialPage::empty(),
+            pages: Pages::new(alloc),
             shown: Vec::new(alloc),
         }
     }
 
-    /// Reads a block of 23 octets, its type and 22 more, and answers a copy of the message that it makes complete, if it does.
-    /// The only error is want of memory, and then the handset is as it was.
+    /// Reads a block of 23 octets, its type and 22 more, and returns a copy of the message that it makes complete, if
+    /// it does. The only error is that memory was refused, and then the handset is as it was.
     pub fn feed(&mut self, block: &[u8; 23]) -> Result<Option<Shown>, Refused>
-        ensures read { OnOk result ((blocks : List (List ℕ)) → HasRead self.old blocks → HasRead self.new (blocks ++ block.now ∷ [])) }
+        ensures read { OnOk result ((blocks : List (List ℕ)) → HasRead self.old blocks →
+            HasRead self.new (blocks ++ block.now ∷ [])) }
         ensures answered { IfOk result (λ answer. (blocks : List (List ℕ)) → HasRead self.old blocks →
             shown_in (blocks ++ block.now ∷ []) ≡ shown_in blocks ++ messages_of (option_to_list answer)) }
         ensures refused { OnErr result (self.new ≡ self.old) }
     {
-        let answer = match self.begun.page_with(block) {
-            None => None,
-            Some(page) => take(self.alloc, &mut self.pages, &mut self.shown, &page)?,
-        };
-        self.begun.add(block);
+        let answer = self.message_with(block)?;
+        self.accept(block)?;
         Ok(answer)
     }
 
@@ -74,55 +69,96 @@ impl Handset {
     {
         &self.shown
     }
+
+    /// The messages that were shown, in order, after which nothing more is read.
+    pub fn into_shown(self) -> Vec<Shown>
+        ensures { (blocks : List (List ℕ)) → HasRead self blocks → messages_of result.items ≡ shown_in blocks }
+    {
+        let Handset {
+            alloc: _,
+            partial: _,
+            pages,
+            shown,
+        } = self;
+        drop(pages);
+        shown
+    }
+
+    /// The message that a block would make complete. The only error is that memory was refused.
+    fn message_with(&self, block: &[u8; 23]) -> Result<Option<Shown>, Refused>
+        ensures { IfOk result (λ message. (blocks : List (List ℕ)) → HasRead self.now blocks →
+            shown_in (blocks ++ block.now ∷ []) ≡ shown_in blocks ++ messages_of (option_to_list message)) }
+    {
+        match self.partial.complete_with(block) {
+            None => Ok(None),
+            Some(page) => message_ended(self.alloc, &self.pages, &page),
+        }
+    }
+
+    /// Reads a block as `feed` does, and returns no copy. The only error is that memory was refused, and then the
+    /// handset is as it was.
+    fn accept(&mut self, block: &[u8; 23]) -> Result<(), Refused>
+        ensures read { OnOk result ((blocks : List (List ℕ)) → HasRead self.old blocks →
+            HasRead self.new (blocks ++ block.now ∷ [])) }
+        ensures refused { OnErr result (self.new ≡ self.old) }
+    {
+        if let Some(page) = self.partial.complete_with(block) {
+            take(self.alloc, &mut self.pages, &mut self.shown, &page)?;
+        }
+        self.partial.push(block);
+        Ok(())
+    }
+
+    /// Reads blocks, one after another. The only error is that memory was refused; some of them may then have been
+    /// read.
+    pub(crate) fn accept_all(&mut self, blocks: &[[u8; 23]]) -> Result<(), Refused>
+        ensures { OnOk result ((before : List (List ℕ)) → HasRead self.old before →
+            HasRead self.new (before ++ blocks.now)) }
+    {
+        for block in blocks {
+            self.accept(block)?;
+        }
+        Ok(())
+    }
 }
 
-/// Takes a page that was read: keeps it where it counts, and shows the message that it makes complete.
+/// The message that a page that was read makes complete.
+fn message_ended(alloc: Global, pages: &Pages, page: &PageView) -> Result<Option<Shown>, Refused>
+    ensures { IfOk result (λ message.
+        messages_of (option_to_list message) ≡ message_ended_read (kept_of pages.now (name_of page.now)) page.now) }
+{
+    let kept = pages.of_message(page);
+    if !is_counted(kept, page) {
+        return Ok(None);
+    }
+    message_if_complete(alloc, kept, page)
+}
+
+/// Takes a page that was read: keeps it if it counts, and shows the message that it makes complete. All room is taken
+/// before anything changes.
 fn take(
     alloc: Global,
-    pages: &mut Vec<PageView>,
+    pages: &mut Pages,
     shown: &mut Vec<Shown>,
     page: &PageView,
-) -> Result<Option<Shown>, Refused>
-    requires { All (λ p. IsTrue (is_readable p)) pages.old.items }
-    ensures readable { All (λ p. IsTrue (is_readable p)) pages.new.items }
-    ensures pages { OnOk result (pages.new.items ≡ pages_with_read pages.old.items page.now) }
-    ensures answer { IfOk result (λ answer. messages_of (option_to_list answer) ≡ message_ended_read pages.old.items page.now) }
-    ensures shown { IfOk result (λ answer. messages_of shown.new.items ≡ messages_of shown.old.items ++ messages_of (option_to_list answer)) }
-    ensures pages_stay { OnErr result (pages.new.items ≡ pages.old.items) }
+) -> Result<(), Refused>
+    ensures pages { OnOk result (TakesPage pages.old pages.new page.now) }
+    ensures shown { OnOk result (messages_of shown.new.items
+        ≡ messages_of shown.old.items ++ message_ended_read (kept_of pages.old (name_of page.now)) page.now) }
+    ensures pages_stay { OnErr result (pages.new ≡ pages.old) }
     ensures shown_stay { OnErr result (shown.new.items ≡ shown.old.items) }
 {
-    if !page.readable() || !is_counted(pages, page) {
-        return Ok(None);
+    let kept = pages.of_message(page);
+    if !is_counted(kept, page) {
+        return Ok(());
     }
-    if pages.push(*page).is_err() {
-        return Err(Refused);
-    }
-    let answer = show(alloc, pages, shown, page);
-    if answer.is_err() {
-        pages.pop();
-    }
-    answer
-}
-
-/// Shows the message that a page is of where it is complete.
-fn show(
-    alloc: Global,
-    pages: &[PageView],
-    shown: &mut Vec<Shown>,
-    page: &PageView,
-) -> Result<Option<Shown>, Refused>
-    requires { All (λ p. IsTrue (is_readable p)) pages.now }
-    ensures answer { IfOk result (λ answer. messages_of (option_to_list answer) ≡ message_whole pages.now page.now) }
-    ensures shown { IfOk result (λ answer. messages_of shown.new.items ≡ messages_of shown.old.items ++ messages_of (option_to_list answer)) }
-    ensures shown_stay { OnErr result (shown.new.items ≡ shown.old.items) }
-{
-    if !is_complete(pages, page) {
-        return Ok(None);
-    }
-    let kept = message(alloc, pages, page)?;
-    let answer = message(alloc, pages, page)?;
-    match shown.push(kept) {
-        Ok(()) => Ok(Some(answer)),
-        Err(_) => Err(Refused),
+    match message_if_complete(alloc, kept, page)? {
+        None => pages.push(page),
+        Some(message) => {
+            shown.reserve(1)?;
+            pages.push(page)?;
+            shown.push_reserved(message);
+            Ok(())
+        }
     }
 }

@@ -1,19 +1,22 @@
 //! Octets of a source: a buffer full, and whether there are more.
 
-ghost use Rattle.std.specs.Prelude.{◌≡◌, ◌↔◌, ◌<◌, ◌≤◌, false, length, take, IfOk, IsErr, OnOk, IsTrue, IfSome};
+ghost use Rattle.std.specs.Prelude.{◌≡◌, ◌↔◌, ◌<◌, ◌≤◌, false, length, take, IfErr, IfOk, IsErr, OnOk, IsTrue, IfSome};
 ghost use Rattle.std.specs.Io.KnownBytes.{Consumes, IsAtEnd};
 ghost use Rattle.device_ends.specs.Source.{reader_of, source_failed};
+ghost use Rattle.handset.specs.TapeSteps.{ReadsFewer};
 
 use device_ends::{Failed, Source};
 use std::io::Read;
 
-/// Reads onto the front of a buffer until it is full or the input ends, and answers how many octets these are.
+/// Reads onto the front of a buffer until it is full or the input ends, and returns how many octets these are.
 pub fn read_front<R: Read>(source: &mut Source<R>, buffer: &mut [u8]) -> Result<usize, Failed>
     requires { source_failed source.old ≡ false }
     ensures bound { IfOk result (λ count. count ≤ length buffer.old) }
     ensures octets { IfOk result (λ count. Consumes (R.remaining (reader_of source.old))
         (R.remaining (reader_of source.new)) (take count buffer.new)) }
     ensures end { IfOk result (λ count. count < length buffer.old → IsAtEnd (R.remaining (reader_of source.new))) }
+    ensures stopped { IfErr result (λ _. ReadsFewer (R.remaining (reader_of source.old))
+        (R.remaining (reader_of source.new)) (length buffer.old)) }
     ensures sound { OnOk result (source_failed source.new ≡ false) }
     ensures failed { IsErr result ↔ IsTrue (source_failed source.new) }
 {

@@ -1,16 +1,14 @@
 //! Messages in their pages (3GPP TS 23.041, clause 9.4.1): which pages count, when a message is complete, and its text.
 
-ghost use Rattle.std.specs.Prelude.{◌≡◌, ℕ, ◌&&◌, not, ◌==◌, is_some, IsTrue, IfOk, OnOk, OnErr, All, IfSome, ◌++◌, ◌∷◌, [], find, encode_utf8_all, string_bytes};
-ghost use Rattle.std.specs.Option.{option_to_list, option_copied, option_map_or};
-ghost use Rattle.std.specs.List.{flat_map, list_all, range_with_len};
+ghost use Rattle.std.specs.Prelude.{◌≡◌, ◌&&◌, ◌++◌, ◌∷◌, [], All, IfOk, IsTrue, find, encode_utf8_all, string_bytes};
+ghost use Rattle.std.specs.Option.{option_copied, option_to_list};
 ghost use Rattle.cbs_page.specs.Page.{is_readable};
-ghost use Rattle.cbs_page.specs.Text.{text_of_page};
 ghost use Rattle.handset.specs.Reading.{name_of, is_of};
-ghost use Rattle.handset.specs.Keeping.{is_numbered, message_shown};
-ghost use Rattle.handset.specs.KeepingSteps.{agrees_with_first, counts, total_kept, is_whole, text_kept, message_kept};
+ghost use Rattle.handset.specs.Keeping.{is_numbered, messages_of};
+ghost use Rattle.handset.specs.KeepingSteps.{agrees_with_first, counts, is_whole, message_whole, text_kept, total_kept};
 
 use cbs_page::{PageView, Serial, page_text};
-use std::alloc::{AllocError, Global};
+use std::alloc::{AllocError, AllocFailed, Global};
 use thiserror::Error;
 
 /// A message that a handset shows.
@@ -31,6 +29,12 @@ pub struct Refused;
 
 impl From<AllocError> for Refused {
     fn from(_error: AllocError) -> Refused {
+        Refused
+    }
+}
+
+impl<T: Drop> From<AllocFailed<T>> for Refused {
+    fn from(_failed: AllocFailed<T>) -> Refused {
         Refused
     }
 }
@@ -64,7 +68,7 @@ fn page_of_number<'a>(pages: &'a [PageView], page: &PageView, number: u8) -> Opt
         .find(|other| is_of_one(page, other) && other.number == number)
 }
 
-/// Whether a page has the total and the data coding of the first page of its message, where there is one.
+/// Whether a page has the total and the data coding of the first page of its message, if there is one.
 fn agrees_with_first(pages: &[PageView], page: &PageView) -> bool
     ensures { result ≡ agrees_with_first (find (is_of (name_of page.now)) pages.now) page.now }
 {
@@ -74,57 +78,82 @@ fn agrees_with_first(pages: &[PageView], page: &PageView) -> bool
     }
 }
 
-/// Whether a page is to be kept: none of its number came before, and it agrees with the first of its message.
+/// Whether a page is to be kept: it is readable, none of its number came before, and it agrees with the first of its
+/// message.
 pub fn is_counted(pages: &[PageView], page: &PageView) -> bool
-    ensures { result ≡ counts pages.now page.now }
+    ensures { result ≡ (is_readable page.now && counts pages.now page.now) }
 {
-    page_of_number(pages, page, page.number).is_none() && agrees_with_first(pages, page)
+    page.readable()
+        && page_of_number(pages, page, page.number).is_none()
+        && agrees_with_first(pages, page)
 }
 
-/// The total of the message that a page is of, or 0 where it has no page.
-fn total(pages: &[PageView], page: &PageView) -> u8
-    ensures { result ≡ total_kept (name_of page.now) pages.now }
+/// The page of this number of the message of the last page, among pages and this last one.
+fn page_with<'a>(pages: &'a [PageView], last: &'a PageView, number: u8) -> Option<&'a PageView>
+    ensures { option_copied result ≡ find (is_numbered (name_of last.now) number) (pages.now ++ last.now ∷ []) }
 {
-    match first_page(pages, page) {
-        None => 0,
-        Some(first) => first.total,
+    match page_of_number(pages, last, number) {
+        Some(page) => Some(page),
+        None if last.number == number => Some(last),
+        None => None,
     }
 }
 
-/// Whether the message that a page is of has all its pages.
-pub fn is_complete(pages: &[PageView], page: &PageView) -> bool
-    ensures { result ≡ is_whole (name_of page.now) pages.now }
+/// The total of the message of the last page: that of its first page.
+fn total_with(pages: &[PageView], last: &PageView) -> u8
+    ensures { result ≡ total_kept (name_of last.now) (pages.now ++ last.now ∷ []) }
 {
-    let total = total(pages, page);
+    match first_page(pages, last) {
+        Some(first) => first.total,
+        None => last.total,
+    }
+}
+
+/// Whether the message of the last page has all its pages, with this last one.
+fn is_complete(pages: &[PageView], last: &PageView) -> bool
+    ensures { result ≡ is_whole (name_of last.now) (pages.now ++ last.now ∷ []) }
+{
+    let total = total_with(pages, last);
     for before in 0..total {
-        if page_of_number(pages, page, before + 1).is_none() {
+        if page_with(pages, last, before + 1).is_none() {
             return false;
         }
     }
     total != 0
 }
 
-/// The message that a page is of. The only error is want of memory.
-pub fn message(alloc: Global, pages: &[PageView], page: &PageView) -> Result<Shown, Refused>
-    requires { All (λ p. IsTrue (is_readable p)) pages.now }
-    ensures { IfOk result (λ shown. message_shown shown ≡ message_kept (name_of page.now) pages.now) }
+/// The message of the last page, if it has all its pages with this one. The only error is that memory was refused.
+pub fn message_if_complete(
+    alloc: Global,
+    pages: &[PageView],
+    last: &PageView,
+) -> Result<Option<Shown>, Refused>
+    requires pages { All (λ p. IsTrue (is_readable p)) pages.now }
+    requires last { IsTrue (is_readable last.now) }
+    ensures { IfOk result (λ message.
+        messages_of (option_to_list message) ≡ message_whole (pages.now ++ last.now ∷ []) last.now) }
 {
-    Ok(Shown {
-        id: page.id,
-        serial: page.serial,
-        text: text(alloc, pages, page)?,
-    })
+    if !is_complete(pages, last) {
+        return Ok(None);
+    }
+    Ok(Some(Shown {
+        id: last.id,
+        serial: last.serial,
+        text: text(alloc, pages, last)?,
+    }))
 }
 
-/// The texts of the pages of the message that a page is of, in the order of their numbers.
-fn text(alloc: Global, pages: &[PageView], page: &PageView) -> Result<String, Refused>
-    requires { All (λ p. IsTrue (is_readable p)) pages.now }
-    ensures { IfOk result (λ text. string_bytes text ≡ encode_utf8_all (text_kept (name_of page.now) pages.now)) }
+/// The texts of the pages of the message of the last page, in the order of their numbers.
+fn text(alloc: Global, pages: &[PageView], last: &PageView) -> Result<String, Refused>
+    requires pages { All (λ p. IsTrue (is_readable p)) pages.now }
+    requires last { IsTrue (is_readable last.now) }
+    ensures { IfOk result (λ text.
+        string_bytes text ≡ encode_utf8_all (text_kept (name_of last.now) (pages.now ++ last.now ∷ []))) }
 {
     let mut text = String::new(alloc);
-    for before in 0..total(pages, page) {
-        if let Some(found) = page_of_number(pages, page, before + 1) {
-            let page_text = page_text(alloc, found)?;
+    for before in 0..total_with(pages, last) {
+        if let Some(page) = page_with(pages, last, before + 1) {
+            let page_text = page_text(alloc, page)?;
             text.push_str(page_text.as_str())?;
         }
     }

@@ -1,17 +1,22 @@
-//! Tapes (this project's own format): what a cell's broadcast channel sent, slot by slot, and what a handset shows of it. A tape is
-//! its cell (LAC 2 octets, CI 2), the number of its slots (4), and four blocks of 23 octets for each, high octets first; several
-//! tapes follow each other with nothing between. `specs/Tape.antt` says which octets are tapes, and what is told of them.
+//! Tapes (this project's own format): what a cell's broadcast channel sent, slot by slot, and what a handset shows of
+//! it. A tape is its cell (LAC 2 octets, CI 2), the number of its slots (4), and four blocks of 23 octets for each,
+//! high octets first; several tapes follow each other with nothing between. `specs/Tape.antt` says which octets are
+//! tapes, and what is told of them.
 
-ghost use Rattle.std.specs.Prelude.{◌≡◌, ◌≢◌, ◌↔◌, ◌+◌, ◌*◌, ◌<◌, ◌≤◌, ◌++◌, ℕ, List, false, length, IfErr, IfOk, IfSome, IfNone, IsErrOf, IsErr, IsTrue, OnOk, vec_len, [], ◌∷◌, MatchBool};
+ghost use Rattle.std.specs.Prelude.{◌≡◌, ◌≢◌, ◌↔◌, ◌+◌, ◌*◌, ◌<◌, ◌≤◌, ◌++◌, ℕ, List, false, true, length, IfErr, IfOk};
+ghost use Rattle.std.specs.Prelude.{IfSome, IfNone, IsErrOf, IsErr, IsTrue, OnOk, vec_len, [], ◌∷◌, MatchBool};
 ghost use Rattle.std.specs.Io.KnownBytes.{Consumes, IsAtEnd};
 ghost use Rattle.std.specs.Option.{option_to_list};
 ghost use Rattle.device_ends.specs.Source.{reader_of, source_failed};
 ghost use Rattle.handset.specs.Reading.{shown_in};
 ghost use Rattle.handset.specs.Keeping.{HasRead, messages_of};
-ghost use Rattle.handset.specs.Tape.{cell_in, slots_in, most_slots, reading_of, readings_of, AreTapes, IsNextFault, IsTape, IsTapeFault, IsTapesFault, MadeAreTapes};
+ghost use Rattle.handset.specs.Tape.{cell_in, slots_in, most_slots, most_tapes, reading_of, readings_of, AreTapes};
+ghost use Rattle.handset.specs.Tape.{IsNextFault, IsTape, IsTapeFault, IsTapesFault, MadeAreTapes};
 ghost use Rattle.handset.specs.declared.tape.TapeFault.TheVariants.{ReadFailed, Refused};
 ghost use Rattle.handset.specs.TapeLaw.{TapeHasKind, TapeIsOneKind, TapesAreOneKind, TapesHaveKind};
-ghost use Rattle.handset.specs.TapeSteps.{AreShown, ReadsBlocks, ReadsPiece, ReadsTape};
+ghost use Rattle.handset.specs.TapeExtent.{StopsAt};
+ghost use Rattle.handset.specs.TapeSteps.{NextStopsAt, ReadsBlocks, ReadsCount, ReadsFewer, ReadsPiece, ReadsTape};
+ghost use Rattle.handset.specs.TapeSteps.{StopsInOctets};
 
 use crate::input::read_front;
 use crate::{Handset, Shown};
@@ -33,10 +38,10 @@ const SLOT: usize = 92;
 /// How many slots are read at a time at most: their octets are just under 64 KiB.
 const PIECE_SLOTS: usize = 712;
 
-/// How many octets these are.
+/// How many octets these slots have.
 const PIECE: usize = PIECE_SLOTS * SLOT;
 
-/// What a tape tells.
+/// What a tape says and shows.
 #[derive(Drop, Debug)]
 pub struct Reading {
     /// The cell whose channel it is.
@@ -91,18 +96,26 @@ impl From<crate::Refused> for TapeFault {
 
 /// Reads one tape, after which the input is to end.
 ///
-/// Answers [`TapeFault::Short`] where the input ends before its tape does, [`TapeFault::Long`] where it goes on after the tape or
-/// the header says more than 4,096 slots, [`TapeFault::ReadFailed`] exactly where the source has failed, now or earlier, and
-/// [`TapeFault::Refused`] for want of memory.
+/// Returns [`TapeFault::Short`] if the input ends before its tape does, [`TapeFault::Long`] if it goes on after the
+/// tape or the header says more than 4,096 slots, [`TapeFault::ReadFailed`] exactly if the source has failed, now or
+/// earlier, and [`TapeFault::Refused`] if out of memory. Of a long input no more is read than the header that says
+/// too many slots, or one octet after the tape.
 pub fn read_tape<R: Read>(alloc: Global, source: &mut Source<R>) -> Result<Reading, TapeFault>
     ensures reading { IfOk result (λ reading. IfSome (R.remaining (reader_of source.old)) (λ input.
         IsTape input (reading_of reading))) }
-    ensures fault { IfErr result (λ fault. IfSome (R.remaining (reader_of source.old)) (λ input. IsTapeFault input fault)) }
+    ensures fault { IfErr result (λ fault. IfSome (R.remaining (reader_of source.old)) (λ input.
+        IsTapeFault input fault)) }
+
+    // How far the source was read: to its end, or as the fault says and no further.
+    ensures whole { OnOk result (IsAtEnd (R.remaining (reader_of source.new))) }
+    ensures extent { IfErr result (λ fault. StopsAt 1 (R.remaining (reader_of source.old))
+        (R.remaining (reader_of source.new)) fault) }
 
     // At any reader.
     ensures tape { IfOk result (λ reading. (octets : List ℕ) × IsTape octets (reading_of reading)) }
     ensures read { IsErrOf result TapeFault.ReadFailed ↔ IsTrue (source_failed source.new) }
     ensures sound { OnOk result (source_failed source.new ≡ false) }
+    ensures stays { source_failed source.old ≡ true → source.new ≡ source.old }
 {
     if source.failed() {
         return Err(TapeFault::ReadFailed);
@@ -120,17 +133,25 @@ pub fn read_tape<R: Read>(alloc: Global, source: &mut Source<R>) -> Result<Readi
     }
 }
 
-/// Reads tapes up to the end of the input, at most 64; an input of no octets has none. Answers the faults of [`read_tape`]:
-/// short is an input that ends inside one of its tapes, and long one that goes on after the 64th or has a header of too many slots.
+/// Reads tapes up to the end of the input, at most 64; an input of no octets has none. Returns the faults of
+/// [`read_tape`]: an input is short if it ends inside one of its tapes, and long if it goes on after the 64th or has
+/// a header of too many slots.
 pub fn read_tapes<R: Read>(alloc: Global, source: &mut Source<R>) -> Result<Vec<Reading>, TapeFault>
     ensures readings { IfOk result (λ readings. IfSome (R.remaining (reader_of source.old)) (λ input.
         AreTapes input (readings_of readings.items))) }
-    ensures fault { IfErr result (λ fault. IfSome (R.remaining (reader_of source.old)) (λ input. IsTapesFault input fault)) }
+    ensures fault { IfErr result (λ fault. IfSome (R.remaining (reader_of source.old)) (λ input.
+        IsTapesFault input fault)) }
+
+    // How far the source was read: to its end, or as the fault says and no further.
+    ensures whole { OnOk result (IsAtEnd (R.remaining (reader_of source.new))) }
+    ensures extent { IfErr result (λ fault. StopsAt most_tapes (R.remaining (reader_of source.old))
+        (R.remaining (reader_of source.new)) fault) }
 
     // At any reader.
     ensures tapes { IfOk result (λ readings. (octets : List ℕ) × AreTapes octets (readings_of readings.items)) }
     ensures read { IsErrOf result TapeFault.ReadFailed ↔ IsTrue (source_failed source.new) }
     ensures sound { OnOk result (source_failed source.new ≡ false) }
+    ensures stays { source_failed source.old ≡ true → source.new ≡ source.old }
 {
     if source.failed() {
         return Err(TapeFault::ReadFailed);
@@ -151,9 +172,10 @@ pub fn read_tapes<R: Read>(alloc: Global, source: &mut Source<R>) -> Result<Vec<
     }
 }
 
-/// Puts a reading behind others.
+/// Appends a reading.
 fn push_reading(readings: &mut Vec<Reading>, reading: Reading) -> Result<(), TapeFault>
-    ensures readings { OnOk result (readings_of readings.new.items ≡ readings_of readings.old.items ++ reading_of reading ∷ []) }
+    ensures readings { OnOk result (readings_of readings.new.items
+        ≡ readings_of readings.old.items ++ reading_of reading ∷ []) }
     ensures count { OnOk result (vec_len readings.new ≡ vec_len readings.old + 1) }
     ensures refused { IfErr result (λ fault. fault ≡ TapeFault.Refused) }
 {
@@ -163,7 +185,7 @@ fn push_reading(readings: &mut Vec<Reading>, reading: Reading) -> Result<(), Tap
     }
 }
 
-/// So many octets of 0.
+/// `length` octets of 0.
 fn zeros(alloc: Global, length: usize) -> Result<Vec<u8>, AllocError>
     ensures { IfOk result (λ octets. vec_len octets ≡ length) }
 {
@@ -175,6 +197,10 @@ fn is_at_end<R: Read>(source: &mut Source<R>) -> Result<bool, Failed>
     requires { source_failed source.old ≡ false }
     ensures end { IfOk result (λ end. MatchBool end (IsAtEnd (R.remaining (reader_of source.old)))
         (IfSome (R.remaining (reader_of source.old)) (λ left. 0 < length left))) }
+    ensures read { IfOk result (λ end. MatchBool end (IsAtEnd (R.remaining (reader_of source.new)))
+        (ReadsCount (R.remaining (reader_of source.old)) (R.remaining (reader_of source.new)) 1)) }
+    ensures stopped { IfErr result (λ _. ReadsFewer (R.remaining (reader_of source.old))
+        (R.remaining (reader_of source.new)) 1) }
     ensures sound { OnOk result (source_failed source.new ≡ false) }
     ensures failed { IsErr result ↔ IsTrue (source_failed source.new) }
 {
@@ -183,7 +209,7 @@ fn is_at_end<R: Read>(source: &mut Source<R>) -> Result<bool, Failed>
     Ok(count == 0)
 }
 
-/// Reads the next tape, or answers that there is none.
+/// Reads the next tape, if there is one.
 fn next_tape<R: Read>(
     alloc: Global,
     source: &mut Source<R>,
@@ -194,7 +220,11 @@ fn next_tape<R: Read>(
     ensures tape { IfOk result (λ next. IfSome next (λ reading. ReadsTape (R.remaining (reader_of source.old))
         (R.remaining (reader_of source.new)) (reading_of reading))) }
     ensures end { IfOk result (λ next. IfNone next (IsAtEnd (R.remaining (reader_of source.old)))) }
-    ensures fault { IfErr result (λ fault. IfSome (R.remaining (reader_of source.old)) (λ left. IsNextFault left fault)) }
+    ensures whole { IfOk result (λ next. IfNone next (IsAtEnd (R.remaining (reader_of source.new)))) }
+    ensures extent { IfErr result (λ fault. NextStopsAt (R.remaining (reader_of source.old))
+        (R.remaining (reader_of source.new)) fault) }
+    ensures fault { IfErr result (λ fault. IfSome (R.remaining (reader_of source.old)) (λ left.
+        IsNextFault left fault)) }
     ensures read { IsErrOf result TapeFault.ReadFailed ↔ IsTrue (source_failed source.new) }
     ensures sound { OnOk result (source_failed source.new ≡ false) }
 {
@@ -210,14 +240,12 @@ fn next_tape<R: Read>(
     if slots > MAX_SLOTS {
         return Err(TapeFault::Long);
     }
-    match read_slots(alloc, source, piece, slots) {
-        Ok(shown) => Ok(Some(Reading {
-            cell: cell_of(&header),
-            slots,
-            shown,
-        })),
-        Err(fault) => Err(fault),
-    }
+    let shown = read_slots(alloc, source, piece, slots)?;
+    Ok(Some(Reading {
+        cell: cell_of(&header),
+        slots,
+        shown,
+    }))
 }
 
 /// The cell that a header names.
@@ -237,7 +265,7 @@ fn slots_of(header: &[u8; 8]) -> u32
     u32::from_be_bytes([header[4], header[5], header[6], header[7]])
 }
 
-/// Reads the blocks of so many slots, and answers what they show.
+/// Reads the blocks of this many slots, and returns what they show.
 fn read_slots<R: Read>(
     alloc: Global,
     source: &mut Source<R>,
@@ -251,36 +279,36 @@ fn read_slots<R: Read>(
         (R.remaining (reader_of source.new)) slots (messages_of shown.items)) }
     ensures short { IfErr result (λ fault. fault ≡ TapeFault.Short
         → IfSome (R.remaining (reader_of source.old)) (λ left. length left < 92 * slots)) }
+    ensures extent { IfErr result (λ fault. StopsInOctets (R.remaining (reader_of source.old))
+        (R.remaining (reader_of source.new)) (92 * slots) fault) }
     ensures fits { IfErr result (λ fault. fault ≢ TapeFault.Long) }
     ensures read { IsErrOf result TapeFault.ReadFailed ↔ IsTrue (source_failed source.new) }
     ensures sound { OnOk result (source_failed source.new ≡ false) }
 {
     let mut handset = Handset::new(alloc);
-    let mut shown = Vec::new(alloc);
     let mut left = slots as usize;
     while left > 0 {
         let wanted = left.min(PIECE_SLOTS);
         let length = SLOT * wanted;
-        match read_piece(source, &mut piece[..length], &mut handset, &mut shown) {
-            Ok(()) => left -= wanted,
-            Err(fault) => return Err(fault),
-        }
+        read_piece(source, &mut piece[..length], &mut handset)?;
+        left -= wanted;
     }
-    Ok(shown)
+    Ok(handset.into_shown())
 }
 
-/// Reads as many octets as the piece has, and feeds the blocks that they are to a handset.
+/// Reads as many octets as the piece has, and has a handset read the blocks that they are.
 fn read_piece<R: Read>(
     source: &mut Source<R>,
     piece: &mut [u8],
     handset: &mut Handset,
-    shown: &mut Vec<Shown>,
 ) -> Result<(), TapeFault>
     requires { source_failed source.old ≡ false }
     ensures piece { OnOk result (ReadsPiece (R.remaining (reader_of source.old)) (R.remaining (reader_of source.new))
-        (length piece.old) handset.old handset.new (messages_of shown.old.items) (messages_of shown.new.items)) }
+        (length piece.old) handset.old handset.new) }
     ensures short { IfErr result (λ fault. fault ≡ TapeFault.Short
         → IfSome (R.remaining (reader_of source.old)) (λ left. length left < length piece.old)) }
+    ensures extent { IfErr result (λ fault. StopsInOctets (R.remaining (reader_of source.old))
+        (R.remaining (reader_of source.new)) (length piece.old) fault) }
     ensures fits { IfErr result (λ fault. fault ≢ TapeFault.Long) }
     ensures read { IsErrOf result TapeFault.ReadFailed ↔ IsTrue (source_failed source.new) }
     ensures sound { OnOk result (source_failed source.new ≡ false) }
@@ -290,38 +318,15 @@ fn read_piece<R: Read>(
         return Err(TapeFault::Short);
     }
     let (blocks, _) = piece.as_chunks::<23>();
-    show(handset, shown, blocks)
-}
-
-/// Feeds blocks to a handset, and puts the messages that they make complete behind those that it has shown.
-fn show(handset: &mut Handset, shown: &mut Vec<Shown>, blocks: &[[u8; 23]]) -> Result<(), TapeFault>
-    ensures shown { OnOk result ((before : List (List ℕ)) → AreShown handset.old (messages_of shown.old.items) before →
-        AreShown handset.new (messages_of shown.new.items) (before ++ blocks.now)) }
-    ensures refused { IfErr result (λ fault. fault ≡ TapeFault.Refused) }
-{
-    for block in blocks {
-        let answer = handset.feed(block)?;
-        push_answer(shown, answer)?;
-    }
+    handset.accept_all(blocks)?;
     Ok(())
 }
 
-/// Puts a message behind others, where there is one.
-fn push_answer(shown: &mut Vec<Shown>, answer: Option<Shown>) -> Result<(), TapeFault>
-    ensures shown { OnOk result (messages_of shown.new.items ≡ messages_of shown.old.items ++ messages_of (option_to_list answer)) }
-    ensures refused { IfErr result (λ fault. fault ≡ TapeFault.Refused) }
-{
-    match answer {
-        None => Ok(()),
-        Some(message) => match shown.push(message) {
-            Ok(()) => Ok(()),
-            Err(_) => Err(TapeFault::Refused),
-        },
-    }
-}
-
-/// That each input is of exactly one kind (readable, short or long), for one tape and for tapes up to the end, and that its
-/// readings are the only ones. And what is made of a cell, slots and blocks is a tape that says and shows these.
+/// Laws of tapes. It does nothing: its contract is the statement.
+///
+/// Each input is of exactly one kind (readable, short or long), read as one tape and as tapes up to the end, and its
+/// readings are unique. The octets that are made of a cell, a number of slots and blocks are a tape that says and
+/// shows these.
 pub fn tapes_law()
     ensures tape { (input : List ℕ) → TapeIsOneKind input }
     ensures tape_kinds { (input : List ℕ) → TapeHasKind input }

@@ -2,11 +2,10 @@
 
 ghost use Rattle.std.specs.Prelude.{◌<◌};
 
-use super::*;
-use crate::tape::read_tape;
-use crate::tests::WORKED;
+use crate::worked::WORKED;
 use device_ends::Source;
 use device_ends::memory::MemoryReader;
+use handset::{Reading, TapeFault, read_tape, read_tapes};
 use std::alloc::Global;
 use std::process::Abort;
 use std::test::Fail;
@@ -225,6 +224,48 @@ fn a_reader_that_fails(rt: HostRuntime) -> Result<(), Fail> {
     // 27 calls of seven octets are fewer than 192.
     fails_until(&rt, rt.alloc(), &octets, 7, 28)?;
     fails_until(&rt, rt.alloc(), &octets, 100, 3)
+}
+
+/// A reader that fails next isn't asked for more after eight octets that say 4,097 slots.
+#[test]
+fn stops_at_a_long_header(rt: HostRuntime) -> Result<(), Fail> {
+    let header = [0x00, 0x01, 0x00, 0x01, 0x00, 0x00, 0x10, 0x01];
+    let mut reader = MemoryReader::new(&header, 8, Some(1));
+    let mut source = Source::new(&mut reader);
+    assert!(rt; is_long(&read_tape(rt.alloc(), &mut source)));
+    assert!(rt; !source.failed());
+
+    let mut octets = worked_tape(rt.alloc())?;
+    octets.extend_from_slice(&header)?;
+    octets.push(0x20)?;
+    // A call for the header of the first tape, one for its blocks, and one for the second header.
+    let mut reader = MemoryReader::new(&octets, 1000, Some(3));
+    let mut source = Source::new(&mut reader);
+    assert!(rt; are_long(&read_tapes(rt.alloc(), &mut source)));
+    assert!(rt; !source.failed());
+    assert_eq!(rt; reader.rest().len(), 1);
+    Ok(())
+}
+
+/// Nor after the octet that follows the last tape that may be there.
+#[test]
+fn stops_at_an_octet_more(rt: HostRuntime) -> Result<(), Fail> {
+    let mut octets = Vec::new(rt.alloc());
+    for _ in 0..64 {
+        octets.extend_from_slice(&[0x00, 0x01, 0x00, 0x01, 0x00, 0x00, 0x00, 0x00])?;
+    }
+    octets.extend_from_slice(&[0x00, 0x01])?;
+    // A call for each of 64 headers, and one for the octet after them.
+    let mut reader = MemoryReader::new(&octets, 1000, Some(65));
+    let mut source = Source::new(&mut reader);
+    assert!(rt; are_long(&read_tapes(rt.alloc(), &mut source)));
+    assert!(rt; !source.failed());
+    assert_eq!(rt; reader.rest().len(), 1);
+    let mut reader = MemoryReader::new(&octets, 1000, Some(2));
+    let mut source = Source::new(&mut reader);
+    assert!(rt; is_long(&read_tape(rt.alloc(), &mut source)));
+    assert!(rt; !source.failed());
+    Ok(())
 }
 
 #[test]
