@@ -34,8 +34,9 @@ loads_at reservations slot = sum_by (λ r. r.load) (filter (is_reserved_at slot)
 abbrev pub natural_end : ℕ → ℕ → ℕ → Option ℕ
 natural_end start period requested = if requested == 0 then None else Some (start + requested * period)
 
--- where the reservation of a stopped message ends. A stop after its start: at the end of the period in which that is, the least slot,
--- not before the stop, that is a whole number of periods after the start. A stop at its start or before it: at the stop
+-- where the reservation of a stopped message ends. A stop after its start: at the end of the period in which that is,
+-- the least slot, not before the stop, that is a whole number of periods after the start. A stop at its start or
+-- before it: at the stop
 abbrev pub end_of_stopped : ℕ → ℕ → ℕ → ℕ
 end_of_stopped start period stop = min start stop + period * div_ceil (stop - start) period
 

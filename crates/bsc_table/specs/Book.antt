@@ -65,8 +65,8 @@ kept_stopped number slot k = record k { stop = if k.number == number then Some s
 abbrev pub stop_numbered : ℕ → ℕ → Accepted → Accepted
 stop_numbered number slot a = record a { message = stopped_if (a.message.number == number) slot a.message }
 
--- a message that may be accepted at the slot, and begin there, beside those accepted before: it has a page and a period, and there is
--- room for it
+-- a message that may be accepted at the slot, and begin there, beside those accepted before: it has a page and a
+-- period, and there is room for it
 pub record IsBegun (number slot : ℕ) (before : List Accepted) (a : Accepted) : Type 0 where
   pub numbered : a.message.number ≡ number
   pub accepted : a.accepted ≡ slot

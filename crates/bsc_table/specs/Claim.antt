@@ -1,11 +1,12 @@
--- What an accepted message claims of a cell's slots, from its acceptance on, where it may have to wait for its start (own).
+-- What an accepted message claims of a cell's slots, from its acceptance on, where it may have to wait for its start
+-- (own).
 use Rattle.std.specs.Prelude.{ℕ, ◌<◌, ◌≤◌, ◌==◌, Bool, ◌&&◌, nat_le, nat_lt, if◌then◌else◌, Option, List, map, sum_by}
 use Rattle.admission.specs.Load.{load_of}
 use Rattle.admission.specs.Reservation.{IsBeforeEnd, is_before_end, end_of_reservation}
 use Rattle.scheduler.specs.Message.{Message, stopped_if}
 
--- a message with the slot in which it was accepted, the number of the message behind which it waits up to its start, if it took
--- over, and the load that it reserves up to its start
+-- a message with the slot in which it was accepted, the number of the message behind which it waits up to its start,
+-- if it took over, and the load that it reserves up to its start
 pub record Claim : Type 0 where
   pub message : Message
   pub accepted : ℕ

@@ -8,8 +8,8 @@ pub record Place : Type 0 where
   pub start : ℕ
   pub excess : ℕ
 
--- the number of the message that stands before one that replaces the old one at the slot: the old one, where it has started;
--- else the one behind which the old one waits
+-- the number of the message that stands before one that replaces the old one at the slot: the old one, where it has
+-- started; else the one behind which the old one waits
 abbrev pub ahead_of : ℕ → Claim → Option ℕ
 ahead_of slot old = if nat_le old.message.start slot then Some old.message.number else old.behind
 

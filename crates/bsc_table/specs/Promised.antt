@@ -14,7 +14,8 @@ use Rattle.bsc_table.specs.Legal.{IsLegal}
 abbrev pub LegalPairsComeOnce : Type 0
 LegalPairsComeOnce = (r : Record) → IsLegal r → AllPairs (λ a b. is_of_pair a.id a.serial b ≡ false) (accepted_in r.log)
 
--- the claims of the accepted messages are in order at the clock, and what they reserve sums to at most SCALE at each slot
+-- the claims of the accepted messages are in order at the clock, and what they reserve sums to at most SCALE at each
+-- slot
 abbrev pub LegalClaimsFit : Type 0
 LegalClaimsFit = (r : Record) → IsLegal r → AreInOrder (claims_in r.log) r.clock × ClaimsFit (claims_in r.log)
 
@@ -22,14 +23,17 @@ LegalClaimsFit = (r : Record) → IsLegal r → AreInOrder (claims_in r.log) r.c
 abbrev pub LegalLoadsFit : Type 0
 LegalLoadsFit = (r : Record) → IsLegal r → LoadsFit (messages_in r.log)
 
--- each broadcast of an accepted message that was requested, that no stop cuts, and that is due by the clock was aired whole: from its
--- release up to its due slot the cell aired as many pages of the message as it has
+-- each broadcast of an accepted message that was requested, that no stop cuts, and that is due by the clock was aired
+-- whole: from its release up to its due slot the cell aired as many pages of the message as it has
 abbrev pub IsServed : Record → Type 0
-IsServed r = All (λ m. (j : ℕ) → IsUncut m j r.air → pages_aired m.number r.air (release m j) (due m j) ≡ m.pages) (messages_in r.log)
+IsServed r =
+    All (λ m. (j : ℕ) → IsUncut m j r.air → pages_aired m.number r.air (release m j) (due m j) ≡ m.pages) (messages_in r.log)
 
 -- before each slot up to the clock, the number of whole broadcasts of an accepted message lies between its bounds
 abbrev pub IsBounded : Record → Type 0
-IsBounded r = All (λ m. (slot : ℕ) → slot ≤ r.clock → (least_completed m slot ≤ completed m r.air slot) × (completed m r.air slot ≤ most_completed m slot)) (messages_in r.log)
+IsBounded r =
+    All (λ m. (slot : ℕ) → slot ≤ r.clock
+    → (least_completed m slot ≤ completed m r.air slot) × (completed m r.air slot ≤ most_completed m slot)) (messages_in r.log)
 
 -- both are true of each legal history
 abbrev pub LegalHistoriesAreServed : Type 0
@@ -42,4 +46,5 @@ LegalHistoriesAreBounded = (r : Record) → IsLegal r → IsBounded r
 abbrev pub LegalPagesAreAiredOnce : Type 0
 LegalPagesAreAiredOnce = (r : Record)
     → IsLegal r
-    → All (λ m. (j page : ℕ) → IsUncut m j r.air → 1 ≤ page → page ≤ m.pages → times_between m.number page r.air (release m j) (due m j) ≡ 1) (messages_in r.log)
+    → All (λ m. (j page : ℕ) → IsUncut m j r.air → 1 ≤ page → page ≤ m.pages
+    → times_between m.number page r.air (release m j) (due m j) ≡ 1) (messages_in r.log)

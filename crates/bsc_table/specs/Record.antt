@@ -23,7 +23,8 @@ pub record Record : Type 0 where
   pub log : List Entry
   pub air : Air
 
--- a message that was accepted: the pair that names it, the slot at which it was accepted, and the message as the schedule sees it
+-- a message that was accepted: the pair that names it, the slot at which it was accepted, and the message as the
+-- schedule sees it
 pub record Accepted : Type 0 where
   pub id : ℕ
   pub serial : ℕ
@@ -61,7 +62,8 @@ stop_after None false now = None
 abbrev pub stopped_by : Entry → Accepted → Accepted
 stopped_by e a = record a { message = record (a.message) { stop = stop_after a.message.stop (is_stop_of a.id a.serial e) e.slot } }
 
--- a write's message, which stands: its place in the log, the slots of its acceptance and of its start, its pair, and what is broadcast
+-- a write's message, which stands: its place in the log, the slots of its acceptance and of its start, its pair, and
+-- what is broadcast
 abbrev pub write_message : ℕ → ℕ → ℕ → ℕ → ℕ → ℕ → ℕ → ℕ → Bool → Accepted
 write_message place slot start id serial pages period broadcasts high = record {
   id = id;
@@ -78,14 +80,15 @@ write_message place slot start id serial pages period broadcasts high = record {
   };
 }
 
--- the message that an entry at this place of the log and at this slot adds, by its start and its command: a write's that was accepted
+-- the message that an entry at this place of the log and at this slot adds, by its start and its command: a write's
+-- that was accepted
 abbrev pub added_by : ℕ → ℕ → Option ℕ → Command → List Accepted
 added_by place slot (Some start) (commands.Write id serial replaces category period broadcasts dcs contents) =
     write_message place slot start id serial (length contents) period broadcasts (is_high category) ∷ []
 added_by place slot start command = []
 
--- the accepted messages after one more entry, at this place of the log: those before it, stopped where it stops them, and the one that
--- it adds, if it does
+-- the accepted messages after one more entry, at this place of the log: those before it, stopped where it stops them,
+-- and the one that it adds, if it does
 abbrev pub accepted_after : List Accepted → ℕ → Entry → List Accepted
 accepted_after all place e = map (stopped_by e) all ++ added_by place e.slot (start_of e.answer) e.command
 

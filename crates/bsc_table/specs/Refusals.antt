@@ -14,7 +14,8 @@ is_accepted e = is_some (start_of e.answer) || is_stopped e.answer
 abbrev pub accepted_entries : List Entry → List Entry
 accepted_entries log = filter is_accepted log
 
--- an entry that was not accepted leaves each accepted message as it was: its number, its start, its stop and so its reservation
+-- an entry that was not accepted leaves each accepted message as it was: its number, its start, its stop and so its
+-- reservation
 abbrev pub RefusalsChangeNothing : Type 0
 RefusalsChangeNothing = (log : List Entry) (e : Entry) → is_accepted e ≡ false → accepted_in (log ++ e ∷ []) ≡ accepted_in log
 
@@ -22,13 +23,14 @@ RefusalsChangeNothing = (log : List Entry) (e : Entry) → is_accepted e ≡ fal
 abbrev pub accepted_renumbered : (ℕ → ℕ) → Accepted → Accepted
 accepted_renumbered f a = record a { message = renumbered f a.message }
 
--- `place` gives each accepted entry's place in the log by its place among the accepted ones, in order; and the accepted messages of
--- the log are those of the accepted entries alone, numbered by these places
+-- `place` gives each accepted entry's place in the log by its place among the accepted ones, in order; and the
+-- accepted messages of the log are those of the accepted entries alone, numbered by these places
 pub record AreThePlaces (log : List Entry) (place : ℕ → ℕ) : Type 0 where
   pub order : KeepsOrder place
   pub there : (n : ℕ) → slice_get log (place n) ≡ slice_get (accepted_entries log) n
   pub same_messages : accepted_in log ≡ map (accepted_renumbered place) (accepted_in (accepted_entries log))
 
--- so the accepted entries of a log alone determine its accepted messages, but for their numbers, of which the order is kept
+-- so the accepted entries of a log alone determine its accepted messages, but for their numbers, of which the order
+-- is kept
 abbrev pub AcceptedEntriesAreAll : Type 0
 AcceptedEntriesAreAll = (log : List Entry) → (place : ℕ → ℕ) × AreThePlaces log place

@@ -5,8 +5,8 @@ use Rattle.bsc_table.specs.Claim.{Claim, end_of, own_load, claimed_at, IsWaiting
 use Rattle.bsc_table.specs.Record.{is_live}
 use Rattle.bsc_table.specs.Handover.{Place, handover, IsPlacedAt}
 
--- p hands its slots over to w: p had started when w was accepted, p is stopped, p's reservation ends where w starts, and
--- until then w reserves what its load has over p's
+-- p hands its slots over to w: p had started when w was accepted, p is stopped, p's reservation ends where w starts,
+-- and until then w reserves what its load has over p's
 pub record HandsOver (p w : Claim) : Type 0 where
   pub named : w.behind ≡ Some p.message.number
   pub there : p.accepted ≤ w.accepted
@@ -15,8 +15,8 @@ pub record HandsOver (p w : Claim) : Type 0 where
   pub ends : end_of p.message ≡ Some w.message.start
   pub covered : own_load w.message ≤ w.excess + own_load p.message
 
--- claims in order at a slot: all were accepted by then and start no sooner than they were accepted, each has a period, each that
--- waits does so behind one that hands over to it, and no two wait behind the same
+-- claims in order at a slot: all were accepted by then and start no sooner than they were accepted, each has a
+-- period, each that waits does so behind one that hands over to it, and no two wait behind the same
 pub record AreInOrder (claims : List Claim) (now : ℕ) : Type 0 where
   pub rising : AllPairs (λ a b. a.message.number < b.message.number) claims
   pub accepted : All (λ c. c.accepted ≤ now) claims

@@ -16,7 +16,9 @@ IsWriteBy a (commands.Status id serial) start = ⊥
 -- each accepted message is the write that stands in the log at its number, and was accepted at that entry's slot
 abbrev pub AcceptedAreWrites : Type 0
 AcceptedAreWrites = (log : List Entry) (d : Entry)
-    → All (λ a. (a.message.number < length log) × IsWriteBy a (slice_index_or log a.message.number d).command (start_of (slice_index_or log a.message.number d).answer) × (a.accepted ≡ (slice_index_or log a.message.number d).slot)) (accepted_in log)
+    → All (λ a. (a.message.number < length log)
+    × IsWriteBy a (slice_index_or log a.message.number d).command (start_of (slice_index_or log a.message.number d).answer)
+    × (a.accepted ≡ (slice_index_or log a.message.number d).slot)) (accepted_in log)
 
 -- a write, with a page of this number, whose answer starts a message
 abbrev pub HasPage : ℕ → Command → Option ℕ → Type 0
@@ -31,7 +33,8 @@ UsesAreOfWrites = (r : Record) (slot number page : ℕ) (d : Entry)
     → IsLegal r
     → slot < r.clock
     → slice_index_or r.air slot None ≡ Some (number, page)
-    → (number < length r.log) × HasPage page (slice_index_or r.log number d).command (start_of (slice_index_or r.log number d).answer)
+    → (number < length r.log)
+    × HasPage page (slice_index_or r.log number d).command (start_of (slice_index_or r.log number d).answer)
 
 -- each later accepted message has a greater number
 abbrev pub AcceptedRise : Type 0

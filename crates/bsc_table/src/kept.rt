@@ -71,8 +71,8 @@ impl Kept {
         Some(u32::from(self.start) + u32::from(self.broadcasts) * u32::from(self.period))
     }
 
-    /// The slot up to which its load stays reserved if it is stopped at `slot`: the end of the period in which that is, and
-    /// `slot` itself where it hasn't started by then.
+    /// The slot up to which its load stays reserved if it is stopped at `slot`: the end of the period in which that
+    /// is, and `slot` itself where it hasn't started by then.
     pub fn end_if_stopped(&self, slot: u16) -> u32
         requires { 0 < self.now.period }
         ensures { result ≡ end_of_stopped self.now.start self.now.period slot }

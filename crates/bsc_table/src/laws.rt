@@ -32,17 +32,18 @@ pub fn guarantee()
     ensures admitted_broadcasts_are_whole { AdmittedBroadcastsAreWhole }
 {}
 
-/// What keeps room at every slot, also where a message that is accepted has to wait for its start: up to then it reserves what its
-/// load has over that of the stopped message behind which it waits, and from then on its whole load, where that one's reservation
-/// ends. Over what messages claim of a cell alone; no cell lets a message wait yet. Own rules, of no standard.
+/// What keeps room at every slot, also where a message that is accepted has to wait for its start: up to then it
+/// reserves what its load has over that of the stopped message behind which it waits, and from then on its whole
+/// load, where that one's reservation ends. Over what messages claim of a cell alone; no cell lets a message wait
+/// yet. Own rules, of no standard.
 ///
 /// Does nothing: its contract is the law.
 pub fn room_laws()
     // Where each that waits does so alone, behind one that hands over to it, the loads reserved never rise from now on.
     ensures reserved_never_rises { ReservedNeverRises }
 
-    // So it stays, with room at every slot, where a live message is stopped, where one starts whose load has room now, and where one
-    // takes over from a live message, if what it reserves until its start has room now.
+    // So it stays, with room at every slot, where a live message is stopped, where one starts whose load has room
+    // now, and where one takes over from a live message, if what it reserves until its start has room now.
     ensures stop_keeps_room { StopKeepsRoom }
     ensures start_keeps_room { StartKeepsRoom }
     ensures takeover_keeps_room { TakeoverKeepsRoom }
@@ -75,8 +76,9 @@ pub fn completed_bounds()
 ///
 /// Does nothing: its contract is the law.
 pub fn legal_histories()
-    // An entry that was not accepted leaves every accepted message as it was, with its stop and its reservation; and the accepted
-    // entries of a log alone determine its accepted messages, but for their numbers, of which the order is kept.
+    // An entry that was not accepted leaves every accepted message as it was, with its stop and its reservation; and
+    // the accepted entries of a log alone determine its accepted messages, but for their numbers, of which the order
+    // is kept.
     ensures refusals_change_nothing { RefusalsChangeNothing }
     ensures accepted_entries_are_all { AcceptedEntriesAreAll }
 

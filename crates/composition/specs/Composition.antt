@@ -1,4 +1,5 @@
--- What the blocks of a cell's legal history show (own): the messages that it accepted, as far as they were broadcast whole.
+-- What the blocks of a cell's legal history show (own): the messages that it accepted, as far as they were broadcast
+-- whole.
 use Rattle.std.specs.Prelude.{◌≡◌, ◌≢◌, ℕ, ◌+◌, ◌*◌, ◌<◌, ◌≤◌, Option, List, ◌++◌, take, All, AllPairs, Any, Contains, encode_utf8_all}
 use Rattle.std.specs.Option.{option_to_list}
 use Rattle.std.specs.List.{flat_map, slice_get}
@@ -28,11 +29,13 @@ message_accepted log a = record {
 abbrev pub blocks_before : ℕ → Record → List (List ℕ)
 blocks_before slot r = take (4 * slot) (blocks_of r)
 
--- the completed number of an accepted message before a slot is the number of its whole broadcasts in the blocks before it
+-- the completed number of an accepted message before a slot is the number of its whole broadcasts in the blocks
+-- before it
 abbrev pub CompletedIsWholeInBlocks : Type 0
 CompletedIsWholeInBlocks = (r : Record)
     → IsLegal r
-    → All (λ a. (slot : ℕ) → slot ≤ r.clock → whole_in (name_accepted a) (blocks_before slot r) ≡ completed a.message r.air slot) (accepted_in r.log)
+    → All (λ a. (slot : ℕ) → slot ≤ r.clock
+    → whole_in (name_accepted a) (blocks_before slot r) ≡ completed a.message r.air slot) (accepted_in r.log)
 
 -- what is shown before a slot: the accepted messages of which a broadcast is whole by then, each once, and nothing else
 pub record AreTheBroadcast (r : Record) (slot : ℕ) (shown : List Message) : Type 0 where

@@ -26,17 +26,21 @@ PagesReadAreThoseAired = (r : Record)
 -- the texts of a write's pages are those of its contents
 abbrev pub TextsAreThoseOfContents : Type 0
 TextsAreThoseOfContents = (id serial dcs total number : ℕ) (contents : List Content)
-    → flat_map text_of_page (pages_from id serial dcs total number contents) ≡ flat_map (λ c. text_in (alphabet_of dcs) c.octets) contents
+    → flat_map text_of_page (pages_from id serial dcs total number contents)
+    ≡ flat_map (λ c. text_in (alphabet_of dcs) c.octets) contents
 
--- each number that a cell tells is the number of whole broadcasts, of the message that was asked about, in the blocks before the
--- slot at which it was told
+-- each number that a cell tells is the number of whole broadcasts, of the message that was asked about, in the blocks
+-- before the slot at which it was told
 abbrev pub ToldIsWholeInBlocks : Type 0
 ToldIsWholeInBlocks = (r : Record)
     → IsLegal r
-    → All (λ e. (told : ℕ) → completed_told e.answer ≡ Some told → Any (λ a. IsAbout a.id a.serial e.command × (told ≡ whole_in (name_accepted a) (blocks_before e.slot r))) (accepted_in r.log)) r.log
+    → All (λ e. (told : ℕ) → completed_told e.answer ≡ Some told
+    → Any (λ a. IsAbout a.id a.serial e.command × (told ≡ whole_in (name_accepted a) (blocks_before e.slot r)))
+    (accepted_in r.log)) r.log
 
--- what an accepted message means: of its broadcasts as many are whole in the blocks before a slot as its bounds say, which speak of
--- its start, its period, its requested broadcasts and its stop alone; and it is shown exactly where that is one or more
+-- what an accepted message means: of its broadcasts as many are whole in the blocks before a slot as its bounds say,
+-- which speak of its start, its period, its requested broadcasts and its stop alone; and it is shown exactly where
+-- that is one or more
 pub record IsMeant (r : Record) (slot : ℕ) (a : Accepted) : Type 0 where
   pub count : ℕ
   pub least : least_completed a.message slot ≤ count

@@ -1,7 +1,9 @@
-//! What the blocks of a cell's record show: a handset that reads them shows each accepted message exactly from its first whole
-//! broadcast on, with its texts, and the numbers that the cell tells are the counts of whole broadcasts in the blocks.
+//! What the blocks of a cell's record show: a handset that reads them shows each accepted message exactly from its
+//! first whole broadcast on, with its texts, and the numbers that the cell tells are the counts of whole broadcasts
+//! in the blocks.
 //!
-//! Nothing here runs: the crate is one law over the definitions of the crates below it, proved from their public laws alone.
+//! Nothing here runs: the crate is one law over the definitions of the crates below it, proved from their public laws
+//! alone.
 #![tactic(auto)]
 
 ghost use Rattle.composition.specs.Composition.{CompletedIsWholeInBlocks, ShownAreTheBroadcast, ShownGrowByOne};
@@ -9,27 +11,29 @@ ghost use Rattle.composition.specs.Meaning.{PagesReadAreThoseAired, ToldIsWholeI
 ghost use Rattle.composition.specs.Meaning.{RecordsAreTapes, TextsAreThoseOfContents};
 ghost use Rattle.composition.specs.Same.{SameAcceptedSameBlocks};
 
-/// States, as its contract, what the blocks of a cell's legal history show. That the history is legal is the only premise: of the
-/// commands, of their order and of the loads nothing else is asked. Own rules, of no standard.
+/// States, as its contract, what the blocks of a cell's legal history show. That the history is legal is the only
+/// premise: of the commands, of their order and of the loads nothing else is asked. Own rules, of no standard.
 ///
 /// Does nothing: its contract is the law, and its body names the laws that carry it.
 pub fn composition_laws()
     // The pages that a handset reads of the blocks are those that the slots air, in order.
     ensures pages_read_are_those_aired { PagesReadAreThoseAired }
 
-    // The completed number of an accepted message before a slot is the number of its whole broadcasts in the blocks before it.
+    // The completed number of an accepted message before a slot is the number of its whole broadcasts in the blocks
+    // before it.
     ensures completed_is_whole_in_blocks { CompletedIsWholeInBlocks }
 
-    // Before each slot a handset shows exactly the accepted messages of which a broadcast is whole by then, each once, with the
-    // texts of its pages. A slot adds at most one, at the end.
+    // Before each slot a handset shows exactly the accepted messages of which a broadcast is whole by then, each
+    // once, with the texts of its pages. A slot adds at most one, at the end.
     ensures shown_are_the_broadcast { ShownAreTheBroadcast }
     ensures shown_grow_by_one { ShownGrowByOne }
 
     // Each number that a cell tells of a message is the number of its whole broadcasts in the blocks before that slot.
     ensures told_is_whole_in_blocks { ToldIsWholeInBlocks }
 
-    // So orders mean what they say, in words of their own: of each accepted message as many broadcasts are whole in the blocks as
-    // its start, its period and its stop say, up to the one that is not over, and it is shown exactly where that is one or more.
+    // So orders mean what they say, in words of their own: of each accepted message as many broadcasts are whole in
+    // the blocks as its start, its period and its stop say, up to the one that is not over, and it is shown exactly
+    // where that is one or more.
     ensures accepted_are_meant { AcceptedAreMeant }
 
     // No page of a message is aired at or after its stop.

@@ -79,7 +79,8 @@ pub readable-more : (old new : List (Name × List PageView)) (page : PageView) �
 readable-more old new page keeps one all name =
     subst (All (λ (p : PageView). IsTrue (is_readable p))) (sym (keeps name)) (by_test (is_of name page))
   where
-    by_test : (own : Bool) → All (λ p. IsTrue (is_readable p)) (cond own (kept_of old name ++ page ∷ []) (kept_of old name))
+    by_test : (own : Bool) → All (λ p. IsTrue (is_readable p))
+        (cond own (kept_of old name ++ page ∷ []) (kept_of old name))
     by_test true = All-push (λ p. IsTrue (is_readable p)) (kept_of old name) page (all name) one
     by_test false = all name
 

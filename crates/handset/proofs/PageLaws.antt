@@ -1,18 +1,23 @@
 -- The pages that a handset keeps stand for all that it read: what one more page does to both.
-use Rattle.std.proofs.Common.{◌≡◌, ℕ, ◌+◌, ◌-◌, ◌<◌, ◌≤◌, Bool, true, false, cond, eqb, Option, Some, None, is_some, List, [], ◌∷◌, ◌++◌, find, filter, get_or, refl, sym, ◌∙◌, ap, subst, arith, inl, inr, append-nil, encode_utf8_all}
+use Rattle.std.proofs.Common.{◌≡◌, ℕ, ◌+◌, ◌-◌, ◌<◌, ◌≤◌, Bool, true, false, cond, eqb, Option, Some, None, is_some}
+use Rattle.std.proofs.Common.{List, [], ◌∷◌, ◌++◌, find, filter, get_or, refl, sym, ◌∙◌, ap, subst, arith, inl, inr}
+use Rattle.std.proofs.Common.{append-nil, encode_utf8_all}
 use Rattle.std.specs.Prelude.{◌&&◌, not}
 use Rattle.std.specs.Option.{option_or, option_map_or}
 use Rattle.std.specs.List.{flat_map, list_all, range_with_len}
 use Rattle.std.proofs.Math.Path.{fun_ext}
-use Rattle.std.proofs.lemmas.Bool.{cases_Bool, cases_eq, eqb-true, eq-eqb, ne_eqb, and_parts, and_cases, and_right, not-true, not-false, false≢true}
+use Rattle.std.proofs.lemmas.Bool.{cases_Bool, cases_eq, eqb-true, eq-eqb, ne_eqb, and_parts, and_cases, and_right}
+use Rattle.std.proofs.lemmas.Bool.{not-true, not-false, false≢true}
 use Rattle.std.proofs.lemmas.List.Elements.{filter-append}
 use Rattle.std.proofs.lemmas.List.Folds.{find-append, list_all_at}
 use Rattle.std.proofs.lemmas.List.FromFn.{length-range_with_len, get_or-range_with_len}
 use Rattle.cbs_page.specs.declared.octets.PageView.{PageView}
 use Rattle.cbs_page.specs.Text.{text_of_page}
-use Rattle.handset.specs.Reading.{Name, name_of, is_of, pages_named, agrees_with, agreeing, pages_of, page_numbered, total_in, total_of, is_complete, text_of, Message, message_of, completed_by}
+use Rattle.handset.specs.Reading.{Name, name_of, is_of, pages_named, agrees_with, agreeing, pages_of, page_numbered}
+use Rattle.handset.specs.Reading.{total_in, total_of, is_complete, text_of, Message, message_of, completed_by}
 use Rattle.handset.specs.Keeping.{is_numbered, AreKept}
-use Rattle.handset.specs.KeepingSteps.{agrees_with_first, counts, pages_with, total_kept, is_whole, text_kept, message_kept, message_whole, message_ended}
+use Rattle.handset.specs.KeepingSteps.{agrees_with_first, counts, pages_with, total_kept, is_whole, text_kept}
+use Rattle.handset.specs.KeepingSteps.{message_kept, message_whole, message_ended}
 use Rattle.handset.proofs.Lists.{first_in, first_in-filter, found_by_first, option_or-some, option_or-none}
 
 -- a page agrees with itself
@@ -25,12 +30,14 @@ first_in-agreeing [] = refl
 first_in-agreeing (first ∷ rest) = rw (agrees-itself first) refl
 
 -- one more page agrees with the first, or is left out
-agreeing-more : (pages : List PageView) (page : PageView) → agreeing (pages ++ page ∷ []) ≡ agreeing pages ++ (cond (agrees_with_first (first_in pages) page) (page ∷ []) [])
+agreeing-more : (pages : List PageView) (page : PageView) →
+    agreeing (pages ++ page ∷ []) ≡ agreeing pages ++ (cond (agrees_with_first (first_in pages) page) (page ∷ []) [])
 agreeing-more [] page = rw (agrees-itself page) refl
 agreeing-more (first ∷ rest) page = filter-append (agrees_with first) (first ∷ rest) (page ∷ [])
 
 -- the pages of a message, with one more page of another one, and with one more of its own
-pub pages_of-other : (name : Name) (pages : List PageView) (page : PageView) → is_of name page ≡ false → pages_of name (pages ++ page ∷ []) ≡ pages_of name pages
+pub pages_of-other : (name : Name) (pages : List PageView) (page : PageView) → is_of name page ≡ false →
+    pages_of name (pages ++ page ∷ []) ≡ pages_of name pages
 pages_of-other name pages page other =
     let left_out : filter (is_of name) (page ∷ []) ≡ [] = rw other refl in
     ap agreeing
@@ -38,12 +45,14 @@ pages_of-other name pages page other =
     ∙ append-nil (filter (is_of name) pages))
 
 pages_of-more : (name : Name) (pages : List PageView) (page : PageView) → is_of name page ≡ true →
-    pages_of name (pages ++ page ∷ []) ≡ pages_of name pages ++ (cond (agrees_with_first (find (is_of name) pages) page) (page ∷ []) [])
+    pages_of name (pages ++ page ∷ []) ≡ pages_of name pages ++ (cond (agrees_with_first (find (is_of name) pages) page)
+    (page ∷ []) [])
 pages_of-more name pages page own =
     let kept : filter (is_of name) (page ∷ []) ≡ page ∷ [] = rw own refl in
     ap agreeing (filter-append (is_of name) pages (page ∷ []) ∙ ap (λ more. filter (is_of name) pages ++ more) kept)
     ∙ agreeing-more (filter (is_of name) pages) page
-    ∙ ap (λ first. pages_of name pages ++ (cond (agrees_with_first first page) (page ∷ []) [])) (first_in-filter (is_of name) pages)
+    ∙ ap (λ first. pages_of name pages ++ (cond (agrees_with_first first page) (page ∷ []) []))
+    (first_in-filter (is_of name) pages)
 
 -- the name of a page that is of a message
 pub name_is : (name : Name) (page : PageView) → is_of name page ≡ true → name ≡ name_of page
@@ -70,11 +79,13 @@ find-other test pages page other = find-more test pages page ∙ rw other (optio
 -- the page of a number, with one more page of the message
 numbered-other : (name : Name) (pages : List PageView) (page : PageView) (number : ℕ) → is_of name page ≡ false →
     page_numbered name (pages ++ page ∷ []) number ≡ page_numbered name pages number
-numbered-other name pages page number other = ap (find (λ p. eqb p.number number)) (pages_of-other name pages page other)
+numbered-other name pages page number other =
+    ap (find (λ p. eqb p.number number)) (pages_of-other name pages page other)
 
 numbered-agrees : (name : Name) (pages : List PageView) (page : PageView) (number : ℕ) → is_of name page ≡ true →
     agrees_with_first (find (is_of name) pages) page ≡ true →
-    page_numbered name (pages ++ page ∷ []) number ≡ option_or (page_numbered name pages number) (cond (eqb page.number number) (Some page) None)
+    page_numbered name (pages ++ page ∷ []) number ≡ option_or (page_numbered name pages number)
+    (cond (eqb page.number number) (Some page) None)
 numbered-agrees name pages page number own agrees =
     let more : cond (agrees_with_first (find (is_of name) pages) page) (page ∷ []) [] ≡ page ∷ [] = rw agrees refl in
     ap (find (λ p. eqb p.number number)) (pages_of-more name pages page own ∙ ap (λ ps. pages_of name pages ++ ps) more)
@@ -123,10 +134,14 @@ kept-grows name kept pages page are own counted =
     }
 
 -- a page that is left out is of a message that has a page
-left_out-known : (kept : List PageView) (page : PageView) → counts kept page ≡ false → is_some (find (is_of (name_of page)) kept) ≡ true
+left_out-known : (kept : List PageView) (page : PageView) → counts kept page ≡ false →
+    is_some (find (is_of (name_of page)) kept) ≡ true
 left_out-known kept page left_out =
-    elim (and_cases (not (is_some (find (is_numbered (name_of page) page.number) kept))) (agrees_with_first (find (is_of (name_of page)) kept) page) left_out) [
-      | inl repeat ↦ found_by_first (is_of (name_of page)) (λ p. eqb p.number page.number) kept (not-false (is_some (find (is_numbered (name_of page) page.number) kept)) repeat)
+    elim (and_cases (not (is_some (find (is_numbered (name_of page) page.number) kept)))
+    (agrees_with_first (find (is_of (name_of page)) kept) page) left_out) [
+      | inl repeat ↦
+          found_by_first (is_of (name_of page)) (λ p. eqb p.number page.number) kept
+          (not-false (is_some (find (is_numbered (name_of page) page.number) kept)) repeat)
       | inr differs ↦ known (find (is_of (name_of page)) kept) differs
     ]
   where
@@ -143,8 +158,10 @@ left_out-numbered name kept pages page are own left_out number =
       | inr differs ↦ numbered-differs name pages page number own differs
       | inl agrees ↦ numbered-agrees name pages page number own agrees ∙ elim (cases_eq page.number number) [
         | inr another ↦
-            let none : cond (eqb page.number number) (Some page) None ≡ None = rw (ne_eqb page.number number another) refl in
-            ap (λ o. option_or (page_numbered name pages number) o) none ∙ option_or-none (page_numbered name pages number)
+            let none : cond (eqb page.number number) (Some page) None ≡ None =
+            rw (ne_eqb page.number number another) refl in
+            ap (λ o. option_or (page_numbered name pages number) o) none
+            ∙ option_or-none (page_numbered name pages number)
         | inl is ↦
             option_or-some (page_numbered name pages number) (cond (eqb page.number number) (Some page) None)
             (came agrees is)
@@ -209,19 +226,23 @@ numbered_is : (name : Name) (kept pages : List PageView) → AreKept name kept p
     page_numbered name pages ≡ (λ number. find (is_numbered name number) kept)
 numbered_is name kept pages are = fun_ext (λ number. sym (are.numbered number))
 
-whole_is : (name : Name) (kept pages : List PageView) → AreKept name kept pages → is_complete name pages ≡ is_whole name kept
+whole_is : (name : Name) (kept pages : List PageView) → AreKept name kept pages →
+    is_complete name pages ≡ is_whole name kept
 whole_is name kept pages are =
     ap (λ total. whole_by total (page_numbered name pages)) (total_is name kept pages are)
     ∙ ap (whole_by (total_kept name kept)) (numbered_is name kept pages are)
 
-text_is : (name : Name) (kept pages : List PageView) → AreKept name kept pages → text_of name pages ≡ text_kept name kept
+text_is : (name : Name) (kept pages : List PageView) → AreKept name kept pages →
+    text_of name pages ≡ text_kept name kept
 text_is name kept pages are =
     ap (λ total. text_by total (page_numbered name pages)) (total_is name kept pages are)
     ∙ ap (text_by (total_kept name kept)) (numbered_is name kept pages are)
 
-message_is : (name : Name) (kept pages : List PageView) → AreKept name kept pages → message_of name pages ≡ message_kept name kept
+message_is : (name : Name) (kept pages : List PageView) → AreKept name kept pages →
+    message_of name pages ≡ message_kept name kept
 message_is name kept pages are =
-    ap (λ text. let m : Message = record { id = name.id; serial = name.serial; text = encode_utf8_all text } in m) (text_is name kept pages are)
+    ap (λ text. let m : Message = record { id = name.id; serial = name.serial; text = encode_utf8_all text } in m)
+    (text_is name kept pages are)
 
 -- a message whose page of some number up to its total is missing isn't whole
 not_whole-missing : (total : ℕ) (numbered : ℕ → Option PageView) (number : ℕ) → 1 ≤ number → number ≤ total →
@@ -230,26 +251,33 @@ not_whole-missing total numbered number low high missing =
     let place : number - 1 < total = omega arith in
     let there : get_or (range_with_len 1 total) (number - 1) 0 ≡ number =
     get_or-range_with_len 1 total (number - 1) 0 place ∙ (let e : 1 + (number - 1) ≡ number = omega arith in e) in
-    let fails : is_some (numbered (get_or (range_with_len 1 total) (number - 1) 0)) ≡ false = ap (λ n. is_some (numbered n)) there ∙ missing in
+    let fails : is_some (numbered (get_or (range_with_len 1 total) (number - 1) 0)) ≡ false =
+    ap (λ n. is_some (numbered n)) there ∙ missing in
     and_right (not (eqb total 0)) (list_all (λ n. is_some (numbered n)) (range_with_len 1 total))
-    (list_all_at (λ n. is_some (numbered n)) (range_with_len 1 total) (number - 1) 0 (omega (arith, length-range_with_len 1 total)) fails)
+    (list_all_at (λ n. is_some (numbered n)) (range_with_len 1 total) (number - 1) 0
+    (omega (arith, length-range_with_len 1 total)) fails)
 
 -- before a page that counts its message isn't whole
-not_whole-before : (kept : List PageView) (page : PageView) → counts kept page ≡ true → 1 ≤ page.number → page.number ≤ page.total →
+not_whole-before : (kept : List PageView) (page : PageView) → counts kept page ≡ true → 1 ≤ page.number →
+    page.number ≤ page.total →
     is_whole (name_of page) kept ≡ false
 not_whole-before kept page counted low high =
     by_first (find (is_of (name_of page)) kept) parts.1
   where
-    parts : (not (is_some (find (is_numbered (name_of page) page.number) kept)) ≡ true) × (agrees_with_first (find (is_of (name_of page)) kept) page ≡ true)
-    parts = and_parts (not (is_some (find (is_numbered (name_of page) page.number) kept))) (agrees_with_first (find (is_of (name_of page)) kept) page) counted
+    parts : (not (is_some (find (is_numbered (name_of page) page.number) kept)) ≡ true)
+        × (agrees_with_first (find (is_of (name_of page)) kept) page ≡ true)
+    parts = and_parts (not (is_some (find (is_numbered (name_of page) page.number) kept)))
+        (agrees_with_first (find (is_of (name_of page)) kept) page) counted
 
     by_first : (first : Option PageView) → agrees_with_first first page ≡ true →
-        whole_by (option_map_or (λ p. p.total) first 0) (λ number. find (is_numbered (name_of page) number) kept) ≡ false
+        whole_by (option_map_or (λ p. p.total) first 0)
+        (λ number. find (is_numbered (name_of page) number) kept) ≡ false
     by_first None agrees = refl
     by_first (Some first) agrees =
         let same = and_parts (eqb page.total first.total) (eqb page.dcs.0 first.dcs.0) agrees in
         let total : page.total ≡ first.total = eqb-true page.total first.total same.0 in
-        not_whole-missing first.total (λ number. find (is_numbered (name_of page) number) kept) page.number low (omega arith)
+        not_whole-missing first.total (λ number. find (is_numbered (name_of page) number) kept) page.number low
+        (omega arith)
         (not-true (is_some (find (is_numbered (name_of page) page.number) kept)) parts.0)
 
 -- what is shown where a message wasn't whole before, and is now
@@ -268,7 +296,8 @@ completed-counted kept pages page are counted low high =
     kept-grows (name_of page) kept pages page are (is_of-own page) counted in
     let before : is_complete (name_of page) pages ≡ false =
     whole_is (name_of page) kept pages are ∙ not_whole-before kept page counted low high in
-    ap (λ b. shown_by b (is_complete (name_of page) (pages ++ page ∷ [])) (message_of (name_of page) (pages ++ page ∷ [])))
+    ap (λ b. shown_by b (is_complete (name_of page) (pages ++ page ∷ []))
+    (message_of (name_of page) (pages ++ page ∷ [])))
     before
     ∙ ap (λ b. shown_by false b (message_of (name_of page) (pages ++ page ∷ [])))
     (whole_is (name_of page) (kept ++ page ∷ []) (pages ++ page ∷ []) after)

@@ -1,25 +1,31 @@
 -- One more block: what a handset keeps stands for the longer list of blocks, and what that shows more.
-use Rattle.std.proofs.Common.{◌≡◌, ℕ, ◌/◌, ◌%◌, ◌≤◌, Bool, true, false, cond, eqb, leb, List, [], ◌∷◌, ◌++◌, filter, length, slice_index, is_some, refl, sym, ◌∙◌, ap, arith, inl, inr, append-nil, append_assoc}
+use Rattle.std.proofs.Common.{◌≡◌, ℕ, ◌/◌, ◌%◌, ◌≤◌, Bool, true, false, cond, eqb, leb, List, [], ◌∷◌, ◌++◌, filter}
+use Rattle.std.proofs.Common.{length, slice_index, is_some, refl, sym, ◌∙◌, ap, arith, inl, inr, append-nil}
+use Rattle.std.proofs.Common.{append_assoc}
 use Rattle.std.specs.Prelude.{◌&&◌, ◌||◌}
 use Rattle.std.proofs.lemmas.Bool.{cases_Bool, eqb-false, leb-true, and_parts, or_parts}
 use Rattle.std.proofs.lemmas.List.Elements.{filter-append}
 use Rattle.cbs_page.specs.declared.octets.PageView.{PageView}
 use Rattle.cbs_page.specs.Page.{view_of, place_of, is_readable}
 use Rattle.cbs_page.specs.Coding.{alphabet_of}
-use Rattle.handset.specs.Reading.{Name, name_of, type_of, page_octets, pages_read, readable_pages, completed_by, completed_after, shown_in}
+use Rattle.handset.specs.Reading.{Name, name_of, type_of, page_octets, pages_read, readable_pages, completed_by}
+use Rattle.handset.specs.Reading.{completed_after, shown_in}
 use Rattle.handset.specs.Keeping.{HandsetState, kept_of, AreKept, IsUnderWay, HasRead}
 use Rattle.handset.specs.KeepingSteps.{under_way_with, page_ended, pages_with_read, TakesPage, message_ended_read}
 use Rattle.handset.proofs.BlockLaws.{under_way-more, pages-more}
 use Rattle.handset.proofs.PageLaws.{kept-more, completed-more}
 
 -- the messages that a list of pages completes are those of its front, and then those of its rest
-pub completed_after-append : (before pages more : List PageView) → completed_after before (pages ++ more) ≡ completed_after before pages ++ completed_after (before ++ pages) more
+pub completed_after-append : (before pages more : List PageView) →
+    completed_after before (pages ++ more) ≡ completed_after before pages ++ completed_after (before ++ pages) more
 completed_after-append before [] more = ap (λ all. completed_after all more) (sym (append-nil before))
 completed_after-append before (page ∷ pages) more =
     ap (λ rest. completed_by before page ++ rest)
     (completed_after-append (before ++ page ∷ []) pages more
-    ∙ ap (λ all. completed_after (before ++ page ∷ []) pages ++ completed_after all more) (append_assoc before (page ∷ []) pages))
-    ∙ sym (append_assoc (completed_by before page) (completed_after (before ++ page ∷ []) pages) (completed_after (before ++ page ∷ pages) more))
+    ∙ ap (λ all. completed_after (before ++ page ∷ []) pages ++ completed_after all more)
+    (append_assoc before (page ∷ []) pages))
+    ∙ sym (append_assoc (completed_by before page) (completed_after (before ++ page ∷ []) pages)
+    (completed_after (before ++ page ∷ pages) more))
 
 -- the number of a page that is read is at least 1
 place-from_one : (parameter : ℕ) → 1 ≤ (place_of parameter).0
@@ -31,11 +37,14 @@ place-from_one parameter =
           rw set (omega (arith, some))
     ]
 
-number-from_one : (kept : List (List ℕ)) (block : List ℕ) (page : PageView) → page ∷ [] ≡ page_ended kept block → 1 ≤ page.number
+number-from_one : (kept : List (List ℕ)) (block : List ℕ) (page : PageView) → page ∷ [] ≡ page_ended kept block →
+    1 ≤ page.number
 number-from_one kept block page ended =
-    by_test ((eqb (type_of block) 0x33) && (eqb (length kept) 3)) (view_of (page_octets (kept ++ block ∷ []))) refl ended
+    by_test ((eqb (type_of block) 0x33) && (eqb (length kept) 3))
+    (view_of (page_octets (kept ++ block ∷ []))) refl ended
   where
-    by_test : (ends : Bool) (view : PageView) → view ≡ view_of (page_octets (kept ++ block ∷ [])) → page ∷ [] ≡ cond ends (view ∷ []) [] → 1 ≤ page.number
+    by_test : (ends : Bool) (view : PageView) → view ≡ view_of (page_octets (kept ++ block ∷ [])) →
+        page ∷ [] ≡ cond ends (view ∷ []) [] → 1 ≤ page.number
     by_test true view is here =
         let same : page ≡ view_of (page_octets (kept ++ block ∷ [])) = cc in
         rw same (place-from_one (slice_index (page_octets (kept ++ block ∷ [])) 5))
@@ -45,10 +54,12 @@ number-from_one kept block page ended =
 readable-more : (kept blocks : List (List ℕ)) (block : List ℕ) → IsUnderWay kept blocks →
     readable_pages (blocks ++ block ∷ []) ≡ readable_pages blocks ++ filter is_readable (page_ended kept block)
 readable-more kept blocks block is =
-    ap (filter is_readable) (pages-more kept blocks block is) ∙ filter-append is_readable (pages_read blocks) (page_ended kept block)
+    ap (filter is_readable) (pages-more kept blocks block is)
+    ∙ filter-append is_readable (pages_read blocks) (page_ended kept block)
 
 shown-more : (kept blocks : List (List ℕ)) (block : List ℕ) → IsUnderWay kept blocks →
-    shown_in (blocks ++ block ∷ []) ≡ shown_in blocks ++ completed_after (readable_pages blocks) (filter is_readable (page_ended kept block))
+    shown_in (blocks ++ block ∷ []) ≡ shown_in blocks ++ completed_after (readable_pages blocks)
+    (filter is_readable (page_ended kept block))
 shown-more kept blocks block is =
     ap (completed_after []) (readable-more kept blocks block is)
     ∙ completed_after-append [] (readable_pages blocks) (filter is_readable (page_ended kept block))
@@ -69,20 +80,25 @@ completed-read kept pages page are low =
     elim (cases_Bool (is_readable page)) [
       | inl readable ↦
           let high : page.number ≤ page.total =
-          leb-true page.number page.total (and_parts (is_some (alphabet_of page.dcs.0)) (leb page.number page.total) readable).1 in
+          leb-true page.number page.total
+          (and_parts (is_some (alphabet_of page.dcs.0)) (leb page.number page.total) readable).1 in
           rw readable (append-nil (completed_by pages page) ∙ completed-more kept pages page are low high)
       | inr passed ↦ rw passed refl
     ]
 
 -- a block that makes no page whole
-pub shows_none : (handset : HandsetState) (blocks : List (List ℕ)) (block : List ℕ) → [] ≡ page_ended handset.under_way block →
+pub shows_none : (handset : HandsetState) (blocks : List (List ℕ)) (block : List ℕ) →
+    [] ≡ page_ended handset.under_way block →
     HasRead handset blocks → shown_in (blocks ++ block ∷ []) ≡ shown_in blocks
 shows_none handset blocks block none read =
     shown-more handset.under_way blocks block read.under_way
-    ∙ ap (λ pages. shown_in blocks ++ completed_after (readable_pages blocks) (filter is_readable pages)) (sym none) ∙ append-nil (shown_in blocks)
+    ∙ ap (λ pages. shown_in blocks ++ completed_after (readable_pages blocks) (filter is_readable pages)) (sym none)
+    ∙ append-nil (shown_in blocks)
 
-pub reads_none : (handset after : HandsetState) (blocks : List (List ℕ)) (block : List ℕ) → [] ≡ page_ended handset.under_way block →
-    after.under_way ≡ under_way_with handset.under_way block → after.pages ≡ handset.pages → after.shown ≡ handset.shown →
+pub reads_none : (handset after : HandsetState) (blocks : List (List ℕ)) (block : List ℕ) →
+    [] ≡ page_ended handset.under_way block →
+    after.under_way ≡ under_way_with handset.under_way block → after.pages ≡ handset.pages →
+    after.shown ≡ handset.shown →
     HasRead handset blocks → HasRead after (blocks ++ block ∷ [])
 reads_none handset after blocks block none under_way pages shown read =
     let same : readable_pages (blocks ++ block ∷ []) ≡ readable_pages blocks =
@@ -95,8 +111,10 @@ reads_none handset after blocks block none under_way pages shown read =
     }
 
 -- a block that makes a page whole
-pub shows_page : (handset : HandsetState) (blocks : List (List ℕ)) (block : List ℕ) (page : PageView) → page ∷ [] ≡ page_ended handset.under_way block →
-    HasRead handset blocks → shown_in (blocks ++ block ∷ []) ≡ shown_in blocks ++ message_ended_read (kept_of handset.pages (name_of page)) page
+pub shows_page : (handset : HandsetState) (blocks : List (List ℕ)) (block : List ℕ) (page : PageView) →
+    page ∷ [] ≡ page_ended handset.under_way block →
+    HasRead handset blocks → shown_in (blocks ++ block ∷ []) ≡ shown_in blocks ++ message_ended_read
+    (kept_of handset.pages (name_of page)) page
 shows_page handset blocks block page ended read =
     shown-more handset.under_way blocks block read.under_way
     ∙ ap (λ pages. shown_in blocks ++ completed_after (readable_pages blocks) (filter is_readable pages)) (sym ended)
@@ -104,7 +122,8 @@ shows_page handset blocks block page ended read =
     (completed-read (kept_of handset.pages (name_of page)) (readable_pages blocks) page (read.pages (name_of page))
     (number-from_one handset.under_way block page ended))
 
-pub reads_page : (handset after : HandsetState) (blocks : List (List ℕ)) (block : List ℕ) (page : PageView) → page ∷ [] ≡ page_ended handset.under_way block →
+pub reads_page : (handset after : HandsetState) (blocks : List (List ℕ)) (block : List ℕ) (page : PageView) →
+    page ∷ [] ≡ page_ended handset.under_way block →
     after.under_way ≡ under_way_with handset.under_way block → TakesPage handset.pages after.pages page →
     after.shown ≡ handset.shown ++ message_ended_read (kept_of handset.pages (name_of page)) page →
     HasRead handset blocks → HasRead after (blocks ++ block ∷ [])
@@ -117,5 +136,6 @@ reads_page handset after blocks block page ended under_way pages shown read =
       pages =
           λ name.
           rw (pages name, more) (kept-read (kept_of handset.pages) (readable_pages blocks) page read.pages name);
-      shown = shown ∙ ap (λ messages. messages ++ message_ended_read (kept_of handset.pages (name_of page)) page) read.shown ∙ sym (shows_page handset blocks block page ended read);
+      shown = shown ∙ ap (λ messages. messages ++ message_ended_read (kept_of handset.pages (name_of page)) page)
+          read.shown ∙ sym (shows_page handset blocks block page ended read);
     }

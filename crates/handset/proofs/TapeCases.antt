@@ -1,10 +1,12 @@
 -- Each input is of one of the kinds: it is readable, short or long.
-use Rattle.std.proofs.Common.{◌≡◌, ◌⊎◌, inl, inr, ℕ, ◌+◌, ◌*◌, ◌<◌, ◌≤◌, List, [], ◌∷◌, ◌++◌, length, take, drop, zero, suc, refl, sym, ap, ◌∙◌, subst, arith, append_assoc, append-nil}
+use Rattle.std.proofs.Common.{◌≡◌, ◌⊎◌, inl, inr, ℕ, ◌+◌, ◌*◌, ◌<◌, ◌≤◌, List, [], ◌∷◌, ◌++◌, length, take, drop, zero}
+use Rattle.std.proofs.Common.{suc, refl, sym, ap, ◌∙◌, subst, arith, append_assoc, append-nil}
 use Rattle.std.proofs.lemmas.Bool.{cases_lt}
 use Rattle.std.proofs.lemmas.List.{length-drop, length-take-le, take-append-drop}
 use Rattle.std.specs.Simd.{first_chunks}
 use Rattle.handset.specs.Reading.{shown_in}
-use Rattle.handset.specs.Tape.{TapeReading, IsTape, AreTapesWithin, BeginsWith, IsCut, IsLongWithin, IsOversized, IsShortWithin, slots_in, told_by, most_slots, most_tapes}
+use Rattle.handset.specs.Tape.{TapeReading, IsTape, AreTapesWithin, BeginsWith, IsCut, IsLongWithin, IsOversized}
+use Rattle.handset.specs.Tape.{IsShortWithin, slots_in, told_by, most_slots, most_tapes}
 use Rattle.handset.specs.TapeLaw.{TapeHasKind, TapesHaveKind}
 use Rattle.handset.proofs.TapeLaws.{slots-header, chunks_joined, chunks_long, chunks_each}
 
@@ -17,7 +19,8 @@ record Front (input : List ℕ) : Type 0 where
   is : IsTape tape reading
   long : length after + (8 + 92 * slots_in input) ≡ length input
 
-front_of : (input : List ℕ) → 8 ≤ length input → slots_in input ≤ most_slots → 8 + 92 * slots_in input ≤ length input → Front input
+front_of : (input : List ℕ) → 8 ≤ length input → slots_in input ≤ most_slots → 8 + 92 * slots_in input ≤ length input →
+    Front input
 front_of input headed few whole =
     let slots : ℕ = slots_in input in
     let header : List ℕ = take 8 input in
@@ -74,7 +77,8 @@ tape_has_kind input =
                             inl (
                               front.reading,
                               subst (λ o. IsTape o front.reading)
-                                  (sym (front.split ∙ ap (λ l. front.tape ++ l) (none_left front.after none) ∙ append-nil front.tape)) front.is,
+                                  (sym (front.split ∙ ap (λ l. front.tape ++ l) (none_left front.after none)
+                                  ∙ append-nil front.tape)) front.is,
                             )
                       ]
                 ]
@@ -84,13 +88,15 @@ tape_has_kind input =
 -- the kinds of an input of at most so many tapes
 abbrev KindWithin : ℕ → List ℕ → Type 0
 KindWithin room input =
-    ((readings : List TapeReading) × AreTapesWithin room input readings) ⊎ (IsShortWithin room input ⊎ IsLongWithin room input)
+    ((readings : List TapeReading) × AreTapesWithin room input readings)
+    ⊎ (IsShortWithin room input ⊎ IsLongWithin room input)
 
 -- no tape stands before an input, or one more
 none_before : (input : List ℕ) → BeginsWith input [] input
 none_before input = record { front = []; split = refl; joined = refl }
 
-one_before : (input : List ℕ) (front : Front input) (readings : List TapeReading) (rest : List ℕ) → BeginsWith front.after readings rest →
+one_before : (input : List ℕ) (front : Front input) (readings : List TapeReading) (rest : List ℕ) →
+    BeginsWith front.after readings rest →
     BeginsWith input (front.reading ∷ readings) rest
 one_before input front readings rest begins = record {
   front = front.tape ++ begins.front;
@@ -112,7 +118,8 @@ oversized_in room input oversized = record {
 }
 
 -- a tape in front of an input of some kind
-short_more : (room : ℕ) (input : List ℕ) (front : Front input) → IsShortWithin room front.after → IsShortWithin (suc room) input
+short_more : (room : ℕ) (input : List ℕ) (front : Front input) → IsShortWithin room front.after →
+    IsShortWithin (suc room) input
 short_more room input front s = record {
   readings = front.reading ∷ s.readings;
   rest = s.rest;
@@ -121,7 +128,8 @@ short_more room input front s = record {
   cut = s.cut;
 }
 
-long_more : (room : ℕ) (input : List ℕ) (front : Front input) → IsLongWithin room front.after → IsLongWithin (suc room) input
+long_more : (room : ℕ) (input : List ℕ) (front : Front input) → IsLongWithin room front.after →
+    IsLongWithin (suc room) input
 long_more room input front s = record {
   readings = front.reading ∷ s.readings;
   rest = s.rest;
@@ -131,12 +139,16 @@ long_more room input front s = record {
   more = λ all. s.more (omega (arith, all));
 }
 
-more_tapes : (room : ℕ) (input : List ℕ) (front : Front input) → KindWithin room front.after → KindWithin (suc room) input
+more_tapes : (room : ℕ) (input : List ℕ) (front : Front input) → KindWithin room front.after →
+    KindWithin (suc room) input
 more_tapes room input front kind =
     elim kind [
       | inl r ↦
           let few : length r.0 ≤ room = r.1.few in
-          inl (front.reading ∷ r.0, record { joined = (front.tape, front.after, front.split, front.is, r.1.joined); few = omega arith })
+          inl (
+            front.reading ∷ r.0,
+            record { joined = (front.tape, front.after, front.split, front.is, r.1.joined); few = omega arith },
+          )
       | inr other ↦
           elim other [
             | inl s ↦ inr (inl (short_more room input front s))
@@ -171,7 +183,8 @@ kind_in (suc room) input =
                   | inl many ↦ inr (inr (oversized_in room input (record { headed = headed; many = many })))
                   | inr few ↦
                       elim (cases_lt (length input) (8 + 92 * slots_in input)) [
-                        | inl short ↦ inr (inl (cut_in room input (record { some = some; few = λ _. few; inside = λ _. short })))
+                        | inl short ↦
+                            inr (inl (cut_in room input (record { some = some; few = λ _. few; inside = λ _. short })))
                         | inr whole ↦
                             let front : Front input = front_of input headed few whole in
                             more_tapes room input front (kind_in room front.after)

@@ -1,5 +1,6 @@
 -- How far an input of tapes was read.
-use Rattle.std.proofs.Common.{◌≡◌, ℕ, ◌+◌, ◌*◌, ◌<◌, ◌≤◌, List, [], ◌∷◌, ◌++◌, Option, None, Some, IfErr, Result, Ok, Err}
+use Rattle.std.proofs.Common.{◌≡◌, ℕ, ◌+◌, ◌*◌, ◌<◌, ◌≤◌, List, [], ◌∷◌, ◌++◌, Option, None, Some, IfErr, Result, Ok}
+use Rattle.std.proofs.Common.{Err}
 use Rattle.std.proofs.Common.{length, take, refl, sym, ap, ◌∙◌, subst, arith, append_assoc, append-nil}
 use Rattle.std.specs.Io.KnownBytes.{Consumes, IsAtEnd, Keeps}
 use Rattle.std.proofs.KnownBytes.{Consumes-trans, Consumes-nil, Consumes-kept}
@@ -53,7 +54,8 @@ fed-stops a b c slots more all size handset why fed stops within whole =
 
 -- a header that may be, and some octets of its blocks
 pub stops-in-blocks : (a b c : Option (List ℕ)) (header : List ℕ) (why : TapeFault) → Consumes a b header →
-    length header ≡ 8 → slots_in header ≤ most_slots → StopsInOctets b c (92 * slots_in header) why → NextStopsAt a c why
+    length header ≡ 8 → slots_in header ≤ most_slots → StopsInOctets b c (92 * slots_in header) why →
+    NextStopsAt a c why
 stops-in-blocks a b c header fault.Short consumed eight few stops = stops
 stops-in-blocks a b c header fault.Long consumed eight few stops = absurd stops
 stops-in-blocks a b c header fault.ReadFailed consumed eight few stops =
@@ -98,7 +100,8 @@ stops-at-oversized a b header consumed eight many =
     (header, consumed, record { headed = omega (arith, eight); many = many }, eight)
 
 -- the tapes before, and then a part of the next
-gone : (a b c : Option (List ℕ)) (readings : List TapeReading) (part : List ℕ) → ReadsTapes a b readings → Consumes b c part →
+gone : (a b c : Option (List ℕ)) (readings : List TapeReading) (part : List ℕ) → ReadsTapes a b readings →
+    Consumes b c part →
     AreGone a c readings part
 gone a b c readings part reads consumed = record {
   front = reads.octets;

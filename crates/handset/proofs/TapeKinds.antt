@@ -1,10 +1,12 @@
 -- Readings are unique, and no input is of two kinds: readable, short and long.
-use Rattle.std.proofs.Common.{◌≡◌, ℕ, ◌+◌, ◌-◌, ◌*◌, ◌<◌, ◌≤◌, List, [], ◌∷◌, ◌++◌, length, take, drop, refl, sym, ap, ◌∙◌, subst, arith, append_assoc, append-nil}
+use Rattle.std.proofs.Common.{◌≡◌, ℕ, ◌+◌, ◌-◌, ◌*◌, ◌<◌, ◌≤◌, List, [], ◌∷◌, ◌++◌, length, take, drop, refl, sym, ap}
+use Rattle.std.proofs.Common.{◌∙◌, subst, arith, append_assoc, append-nil}
 use Rattle.std.specs.List.{AllByRecursion}
 use Rattle.std.proofs.lemmas.List.{length-append}
 use Rattle.std.proofs.Math.Seq.{take-append_seam}
 use Rattle.handset.specs.Reading.{shown_in}
-use Rattle.handset.specs.Tape.{TapeReading, IsTape, AreJoined, AreTapes, IsShort, IsLong, IsCut, IsOversized, octets_of_blocks, slots_in, told_by, most_slots, most_tapes}
+use Rattle.handset.specs.Tape.{TapeReading, IsTape, AreJoined, AreTapes, IsShort, IsLong, IsCut, IsOversized}
+use Rattle.handset.specs.Tape.{octets_of_blocks, slots_in, told_by, most_slots, most_tapes}
 use Rattle.handset.specs.TapeLaw.{TapeIsOneKind, TapesAreOneKind}
 use Rattle.handset.proofs.TapeLaws.{tape_long}
 
@@ -20,7 +22,8 @@ back_same (x ∷ a) b [] d same long = absurd (omega arith)
 back_same (x ∷ a) b (y ∷ c) d same long = back_same a b c d (ap (drop 1) same) (omega arith)
 
 -- octets are those of one list of blocks
-blocks_same : (blocks others : List (List ℕ)) → AllByRecursion (λ block. length block ≡ 23) blocks → AllByRecursion (λ block. length block ≡ 23) others →
+blocks_same : (blocks others : List (List ℕ)) → AllByRecursion (λ block. length block ≡ 23) blocks →
+    AllByRecursion (λ block. length block ≡ 23) others →
     octets_of_blocks blocks ≡ octets_of_blocks others → blocks ≡ others
 blocks_same [] [] each all same = refl
 blocks_same [] (other ∷ others) each all same =
@@ -35,27 +38,33 @@ blocks_same (block ∷ blocks) (other ∷ others) each all same =
     let long : length block ≡ length other = each.0 ∙ sym all.0 in
     let first : block ≡ other = front_same block (octets_of_blocks blocks) other (octets_of_blocks others) same long in
     let rest : blocks ≡ others =
-    blocks_same blocks others each.1 all.1 (back_same block (octets_of_blocks blocks) other (octets_of_blocks others) same long) in
+    blocks_same blocks others each.1 all.1
+    (back_same block (octets_of_blocks blocks) other (octets_of_blocks others) same long) in
     ap (λ b. b ∷ blocks) first ∙ ap (λ l. other ∷ l) rest
 
 -- octets are one tape
-reading_same : (octets : List ℕ) (reading other : TapeReading) → IsTape octets reading → IsTape octets other → reading ≡ other
+reading_same : (octets : List ℕ) (reading other : TapeReading) → IsTape octets reading → IsTape octets other →
+    reading ≡ other
 reading_same octets reading other tape twin =
-    let same : tape.header ++ octets_of_blocks tape.blocks ≡ twin.header ++ octets_of_blocks twin.blocks = sym tape.joined ∙ twin.joined in
+    let same : tape.header ++ octets_of_blocks tape.blocks ≡ twin.header ++ octets_of_blocks twin.blocks =
+    sym tape.joined ∙ twin.joined in
     let long : length tape.header ≡ length twin.header = tape.eight ∙ sym twin.eight in
     let header : tape.header ≡ twin.header =
     front_same tape.header (octets_of_blocks tape.blocks) twin.header (octets_of_blocks twin.blocks) same long in
     let blocks : tape.blocks ≡ twin.blocks =
     blocks_same tape.blocks twin.blocks tape.slots.each twin.slots.each
     (back_same tape.header (octets_of_blocks tape.blocks) twin.header (octets_of_blocks twin.blocks) same long) in
-    tape.told ∙ ap (λ h. told_by h (shown_in tape.blocks)) header ∙ ap (λ b. told_by twin.header (shown_in b)) blocks ∙ sym twin.told
+    tape.told ∙ ap (λ h. told_by h (shown_in tape.blocks)) header ∙ ap (λ b. told_by twin.header (shown_in b)) blocks
+    ∙ sym twin.told
 
 -- a tape that stands in front is told by what it stands in
 tape_in_front : (input tape after : List ℕ) (reading : TapeReading) → input ≡ tape ++ after → IsTape tape reading →
-    (8 ≤ length input) × (slots_in input ≤ most_slots) × (length tape ≡ 8 + 92 * slots_in input) × (length input ≡ length tape + length after)
+    (8 ≤ length input) × (slots_in input ≤ most_slots) × (length tape ≡ 8 + 92 * slots_in input)
+    × (length input ≡ length tape + length after)
 tape_in_front input tape after reading split is =
     let long : length input ≡ length tape + length after = ap length split ∙ length-append tape after in
-    let whole : (8 ≤ length tape) × (slots_in (tape ++ after) ≡ reading.slots) × (length tape ≡ 8 + 92 * reading.slots) = tape_long tape after reading is in
+    let whole : (8 ≤ length tape) × (slots_in (tape ++ after) ≡ reading.slots)
+    × (length tape ≡ 8 + 92 * reading.slots) = tape_long tape after reading is in
     let says : slots_in input ≡ reading.slots = ap slots_in split ∙ whole.1 in
     let told : reading.slots ≡ slots_in is.header = ap (λ r. r.slots) is.told in
     let few : slots_in is.header ≤ most_slots = is.few in (
@@ -69,15 +78,18 @@ tape_in_front input tape after reading split is =
 abbrev Stops : List ℕ → Type 0
 Stops rest = 8 ≤ length rest → slots_in rest ≤ most_slots → length rest < 8 + 92 * slots_in rest
 
-no_tape : (rest tape after : List ℕ) (reading : TapeReading) → Stops rest → rest ≡ tape ++ after → IsTape tape reading → ⊥
+no_tape : (rest tape after : List ℕ) (reading : TapeReading) → Stops rest → rest ≡ tape ++ after → IsTape tape reading →
+    ⊥
 no_tape rest tape after reading stops split is =
-    let front : (8 ≤ length rest) × (slots_in rest ≤ most_slots) × (length tape ≡ 8 + 92 * slots_in rest) × (length rest ≡ length tape + length after) =
+    let front : (8 ≤ length rest) × (slots_in rest ≤ most_slots) × (length tape ≡ 8 + 92 * slots_in rest)
+    × (length rest ≡ length tape + length after) =
     tape_in_front rest tape after reading split is in
     let short : length rest < 8 + 92 * slots_in rest = stops front.0 front.1 in
     omega (arith, short, front.2, front.3)
 
 -- tapes up to where they stop are the same
-same_stop : (room : ℕ) (readings others : List TapeReading) (front rest twin back : List ℕ) → front ++ rest ≡ twin ++ back →
+same_stop : (room : ℕ) (readings others : List TapeReading) (front rest twin back : List ℕ) →
+    front ++ rest ≡ twin ++ back →
     AreJoined front readings → AreJoined twin others → length readings ≤ room → length others ≤ room →
     (length readings < room → Stops rest) → (length others < room → Stops back) → (readings ≡ others) × (rest ≡ back)
 same_stop room [] [] front rest twin back same joined others few least stops ends =
@@ -87,17 +99,22 @@ same_stop room [] (other ∷ others) front rest twin back same joined tapes few 
     (ap (λ l. l ++ rest) (sym joined) ∙ same ∙ ap (λ l. l ++ back) tapes.2 ∙ append_assoc tapes.0 tapes.1 back) tapes.3)
 same_stop room (reading ∷ readings) [] front rest twin back same joined tapes few least stops ends =
     absurd (no_tape back joined.0 (joined.1 ++ rest) reading (ends (omega arith))
-    (ap (λ l. l ++ back) (sym tapes) ∙ sym same ∙ ap (λ l. l ++ rest) joined.2 ∙ append_assoc joined.0 joined.1 rest) joined.3)
+    (ap (λ l. l ++ back) (sym tapes) ∙ sym same ∙ ap (λ l. l ++ rest) joined.2 ∙ append_assoc joined.0 joined.1 rest)
+    joined.3)
 same_stop room (reading ∷ readings) (other ∷ others) front rest twin back same joined tapes few least stops ends =
-    let one : front ++ rest ≡ joined.0 ++ (joined.1 ++ rest) = ap (λ l. l ++ rest) joined.2 ∙ append_assoc joined.0 joined.1 rest in
-    let two : front ++ rest ≡ tapes.0 ++ (tapes.1 ++ back) = same ∙ ap (λ l. l ++ back) tapes.2 ∙ append_assoc tapes.0 tapes.1 back in
+    let one : front ++ rest ≡ joined.0 ++ (joined.1 ++ rest) =
+    ap (λ l. l ++ rest) joined.2 ∙ append_assoc joined.0 joined.1 rest in
+    let two : front ++ rest ≡ tapes.0 ++ (tapes.1 ++ back) =
+    same ∙ ap (λ l. l ++ back) tapes.2 ∙ append_assoc tapes.0 tapes.1 back in
     let long : length joined.0 ≡ length tapes.0 =
     (tape_in_front (front ++ rest) joined.0 (joined.1 ++ rest) reading one joined.3).2
     ∙ sym (tape_in_front (front ++ rest) tapes.0 (tapes.1 ++ back) other two tapes.3).2 in
     let cut : joined.0 ++ (joined.1 ++ rest) ≡ tapes.0 ++ (tapes.1 ++ back) = sym one ∙ two in
     let tape : joined.0 ≡ tapes.0 = front_same joined.0 (joined.1 ++ rest) tapes.0 (tapes.1 ++ back) cut long in
-    let after : joined.1 ++ rest ≡ tapes.1 ++ back = back_same joined.0 (joined.1 ++ rest) tapes.0 (tapes.1 ++ back) cut long in
-    let here : reading ≡ other = reading_same tapes.0 reading other (subst (λ o. IsTape o reading) tape joined.3) tapes.3 in
+    let after : joined.1 ++ rest ≡ tapes.1 ++ back =
+    back_same joined.0 (joined.1 ++ rest) tapes.0 (tapes.1 ++ back) cut long in
+    let here : reading ≡ other =
+    reading_same tapes.0 reading other (subst (λ o. IsTape o reading) tape joined.3) tapes.3 in
     let later : (readings ≡ others) × (rest ≡ back) =
     same_stop (room - 1) readings others joined.1 rest tapes.1 back after joined.4 tapes.4 (omega arith) (omega arith)
     (λ less. stops (omega (arith, less))) (λ less. ends (omega (arith, less))) in
@@ -110,12 +127,14 @@ cut_stops : (rest : List ℕ) → IsCut rest → Stops rest
 cut_stops rest cut headed few = cut.inside headed
 
 oversized_stops : (rest : List ℕ) → IsOversized rest → Stops rest
-oversized_stops rest oversized headed few = let many : most_slots < slots_in rest = oversized.many in absurd (omega (arith, many, few))
+oversized_stops rest oversized headed few = let many : most_slots < slots_in rest = oversized.many in
+    absurd (omega (arith, many, few))
 
 tapes_and_short : (input : List ℕ) (readings : List TapeReading) → AreTapes input readings → ¬ IsShort input
 tapes_and_short input readings are short =
     let same : (readings ≡ short.readings) × ([] ≡ short.rest) =
-    same_stop most_tapes readings short.readings input [] short.begins.front short.rest (append-nil input ∙ short.begins.split) are.joined short.begins.joined
+    same_stop most_tapes readings short.readings input [] short.begins.front short.rest
+    (append-nil input ∙ short.begins.split) are.joined short.begins.joined
     are.few (omega (arith, short.few)) (λ _. nothing_stops) (λ _. cut_stops short.rest short.cut) in
     let some : 0 < length short.rest = short.cut.some in
     let none : 0 ≡ length short.rest = ap length same.1 in
@@ -127,18 +146,22 @@ long_stops input long less = oversized_stops long.rest (long.oversized less)
 tapes_and_long : (input : List ℕ) (readings : List TapeReading) → AreTapes input readings → ¬ IsLong input
 tapes_and_long input readings are long =
     let same : (readings ≡ long.readings) × ([] ≡ long.rest) =
-    same_stop most_tapes readings long.readings input [] long.begins.front long.rest (append-nil input ∙ long.begins.split) are.joined long.begins.joined
+    same_stop most_tapes readings long.readings input [] long.begins.front long.rest
+    (append-nil input ∙ long.begins.split) are.joined long.begins.joined
     are.few long.few (λ _. nothing_stops) (long_stops input long) in
     let none : 0 ≡ length long.rest = ap length same.1 in
-    let full : length long.readings ≡ most_tapes → ⊥ = λ all. let some : 0 < length long.rest = long.more all in omega (arith, some, none) in
-    let open_ : length long.readings < most_tapes → ⊥ = λ less. let some : 8 ≤ length long.rest = (long.oversized less).headed in omega (arith, some, none) in
+    let full : length long.readings ≡ most_tapes → ⊥ = λ all. let some : 0 < length long.rest = long.more all in
+    omega (arith, some, none) in
+    let open_ : length long.readings < most_tapes → ⊥ = λ less. let some : 8 ≤ length long.rest =
+    (long.oversized less).headed in omega (arith, some, none) in
     let few : length long.readings ≤ most_tapes = long.few in
     omega (arith, full, open_, few)
 
 short_and_long : (input : List ℕ) → IsShort input → ¬ IsLong input
 short_and_long input short long =
     let same : (short.readings ≡ long.readings) × (short.rest ≡ long.rest) =
-    same_stop most_tapes short.readings long.readings short.begins.front short.rest long.begins.front long.rest (sym short.begins.split ∙ long.begins.split) short.begins.joined long.begins.joined
+    same_stop most_tapes short.readings long.readings short.begins.front short.rest long.begins.front long.rest
+    (sym short.begins.split ∙ long.begins.split) short.begins.joined long.begins.joined
     (omega (arith, short.few)) long.few (λ _. cut_stops short.rest short.cut) (long_stops input long) in
     let few : length short.readings < most_tapes = short.few in
     let count : length short.readings ≡ length long.readings = ap length same.0 in
@@ -152,7 +175,8 @@ short_and_long input short long =
 pub tapes_are_one_kind : (input : List ℕ) → TapesAreOneKind input
 tapes_are_one_kind input = record {
   unique = λ readings others are twin.
-      (same_stop most_tapes readings others input [] input [] refl are.joined twin.joined are.few twin.few (λ _. nothing_stops) (λ _. nothing_stops)).0;
+      (same_stop most_tapes readings others input [] input [] refl are.joined twin.joined are.few twin.few
+      (λ _. nothing_stops) (λ _. nothing_stops)).0;
   not_short = tapes_and_short input;
   not_long = tapes_and_long input;
   apart = short_and_long input;
@@ -162,12 +186,14 @@ pub tape_is_one_kind : (input : List ℕ) → TapeIsOneKind input
 tape_is_one_kind input = record {
   unique = reading_same input;
   not_short = λ reading is short.
-      let front : (8 ≤ length input) × (slots_in input ≤ most_slots) × (length input ≡ 8 + 92 * slots_in input) × (length input ≡ length input + 0) =
+      let front : (8 ≤ length input) × (slots_in input ≤ most_slots) × (length input ≡ 8 + 92 * slots_in input)
+      × (length input ≡ length input + 0) =
       tape_in_front input input [] reading (sym (append-nil input)) is in
       let less : length input < 8 + 92 * slots_in input = (short front.0).1 in
       omega (arith, less, front.2);
   not_long = λ reading is long.
-      let front : (8 ≤ length input) × (slots_in input ≤ most_slots) × (length input ≡ 8 + 92 * slots_in input) × (length input ≡ length input + 0) =
+      let front : (8 ≤ length input) × (slots_in input ≤ most_slots) × (length input ≡ 8 + 92 * slots_in input)
+      × (length input ≡ length input + 0) =
       tape_in_front input input [] reading (sym (append-nil input)) is in
       let more : 8 + 92 * slots_in input < length input = long.1 front.1 in
       omega (arith, more, front.2);

@@ -1,5 +1,6 @@
 -- Steps over tapes: blocks that are fed, slots that are read, and whole tapes.
-use Rattle.std.proofs.Common.{◌≡◌, ℕ, ◌+◌, ◌*◌, ◌/◌, ◌<◌, ◌≤◌, List, [], ◌∷◌, ◌++◌, Option, None, Some, IfSome, length, take, drop, get_or, zero, suc, refl, sym, ap, ◌∙◌, subst, arith, append_assoc, append-nil}
+use Rattle.std.proofs.Common.{◌≡◌, ℕ, ◌+◌, ◌*◌, ◌/◌, ◌<◌, ◌≤◌, List, [], ◌∷◌, ◌++◌, Option, None, Some, IfSome, length}
+use Rattle.std.proofs.Common.{take, drop, get_or, zero, suc, refl, sym, ap, ◌∙◌, subst, arith, append_assoc, append-nil}
 use Rattle.std.specs.Io.KnownBytes.{Consumes, IsAtEnd}
 use Rattle.std.specs.List.{AllByRecursion}
 use Rattle.std.specs.Simd.{first_chunks}
@@ -13,7 +14,9 @@ use Rattle.handset.specs.Reading.{Message, shown_in}
 use Rattle.handset.specs.Keeping.{HandsetState, HasRead}
 use Rattle.handset.specs.declared.tape.TapeFault.{TapeFault}
 use Rattle.handset.specs.declared.tape.TapeFault.TheVariants as fault
-use Rattle.handset.specs.Tape.{TapeReading, IsNextFault, IsTapeFault, IsTapesFault, IsTape, IsLongTape, IsShortTape, AreSlots, AreJoined, AreTapes, BeginsWith, IsShort, IsLong, IsCut, IsOversized, octets_of_blocks, slots_in, told_by, most_slots, most_tapes}
+use Rattle.handset.specs.Tape.{TapeReading, IsNextFault, IsTapeFault, IsTapesFault, IsTape, IsLongTape, IsShortTape}
+use Rattle.handset.specs.Tape.{AreSlots, AreJoined, AreTapes, BeginsWith, IsShort, IsLong, IsCut, IsOversized}
+use Rattle.handset.specs.Tape.{octets_of_blocks, slots_in, told_by, most_slots, most_tapes}
 use Rattle.handset.specs.TapeSteps.{ReadsBlocks, ReadsPiece, ReadsTape}
 
 -- the reader gave the blocks of this many slots, and a handset has read them
@@ -37,15 +40,18 @@ behind P Q (Some input) None octets consumed left all = absurd consumed
 behind P Q (Some input) (Some rest) octets consumed left all = subst Q (sym consumed) (all rest left)
 
 -- nothing is left of it
-at_end : (Q : List ℕ → Type 0) (a b : Option (List ℕ)) (octets : List ℕ) → Consumes a b octets → IsAtEnd b → Q octets → IfSome a Q
+at_end : (Q : List ℕ → Type 0) (a b : Option (List ℕ)) (octets : List ℕ) → Consumes a b octets → IsAtEnd b → Q octets →
+    IfSome a Q
 at_end Q None b octets consumed end all = tt
 at_end Q (Some input) None octets consumed end all = absurd consumed
 at_end Q (Some input) (Some rest) octets consumed end all =
     subst Q (sym (consumed ∙ ap (λ l. octets ++ l) end ∙ append-nil octets)) all
 
 -- a buffer filled so far, and one read more
-pub front-more : (a b c : Option (List ℕ)) (filled count k : ℕ) (buffer new : List ℕ) → filled ≤ length buffer → count ≤ length new →
-    Consumes a b (take filled buffer) → Consumes b c (take count new) → Consumes a c (take (filled + count) (put_mid filled k buffer new))
+pub front-more : (a b c : Option (List ℕ)) (filled count k : ℕ) (buffer new : List ℕ) → filled ≤ length buffer →
+    count ≤ length new →
+    Consumes a b (take filled buffer) → Consumes b c (take count new) →
+    Consumes a c (take (filled + count) (put_mid filled k buffer new))
 front-more a b c filled count k buffer new within few first second =
     let front : List ℕ = take filled buffer in
     let back : List ℕ = post_of filled k buffer in
@@ -60,25 +66,29 @@ pub chunks_joined : (k : ℕ) (xs : List ℕ) → length xs ≡ 23 * k → octet
 chunks_joined zero [] whole = refl
 chunks_joined zero (x ∷ xs) whole = absurd (omega arith)
 chunks_joined (suc k) xs whole =
-    ap (λ rest. take 23 xs ++ rest) (chunks_joined k (drop 23 xs) (omega (arith, length-drop 23 xs))) ∙ take-append-drop 23 xs
+    ap (λ rest. take 23 xs ++ rest) (chunks_joined k (drop 23 xs) (omega (arith, length-drop 23 xs)))
+    ∙ take-append-drop 23 xs
 
 pub chunks_long : (k : ℕ) (xs : List ℕ) → length (first_chunks 23 k xs) ≡ k
 chunks_long zero xs = refl
 chunks_long (suc k) xs = ap suc (chunks_long k (drop 23 xs))
 
-pub chunks_each : (k : ℕ) (xs : List ℕ) → length xs ≡ 23 * k → AllByRecursion (λ block. length block ≡ 23) (first_chunks 23 k xs)
+pub chunks_each : (k : ℕ) (xs : List ℕ) → length xs ≡ 23 * k →
+    AllByRecursion (λ block. length block ≡ 23) (first_chunks 23 k xs)
 chunks_each zero xs whole = tt
 chunks_each (suc k) xs whole =
     (length-take-le 23 xs (omega arith), chunks_each k (drop 23 xs) (omega (arith, length-drop 23 xs)))
 
 -- blocks of 23 octets have so many
-each-append : (front rest : List (List ℕ)) → AllByRecursion (λ block. length block ≡ 23) front → AllByRecursion (λ block. length block ≡ 23) rest →
+each-append : (front rest : List (List ℕ)) → AllByRecursion (λ block. length block ≡ 23) front →
+    AllByRecursion (λ block. length block ≡ 23) rest →
     AllByRecursion (λ block. length block ≡ 23) (front ++ rest)
 each-append [] rest first second = second
 each-append (block ∷ front) rest first second = (first.0, each-append front rest first.1 second)
 
 -- blocks of 23 octets have 23 times as many octets
-pub octets_long : (blocks : List (List ℕ)) → AllByRecursion (λ block. length block ≡ 23) blocks → length (octets_of_blocks blocks) ≡ 23 * length blocks
+pub octets_long : (blocks : List (List ℕ)) → AllByRecursion (λ block. length block ≡ 23) blocks →
+    length (octets_of_blocks blocks) ≡ 23 * length blocks
 octets_long [] each = refl
 octets_long (block ∷ blocks) each =
     let here : length block ≡ 23 = each.0 in
@@ -107,7 +117,9 @@ Fed-more a b c slots more all size before after fed piece sum whole =
     let four : length fed.blocks ≡ 4 * slots = fed.slots_are.four in
     record {
       blocks = fed.blocks ++ chunks;
-      consumed = subst (Consumes a c) (sym joined) (Consumes-trans a b c (octets_of_blocks fed.blocks) piece.octets fed.consumed piece.consumed);
+      consumed =
+          subst (Consumes a c) (sym joined)
+          (Consumes-trans a b c (octets_of_blocks fed.blocks) piece.octets fed.consumed piece.consumed);
       slots_are = record {
         four = omega (arith, length-append fed.blocks chunks, chunks_long (size / 23) piece.octets, four);
         each = each-append fed.blocks chunks fed.slots_are.each (chunks_each (size / 23) piece.octets long);
@@ -136,7 +148,8 @@ Fed-short a b slots more all size handset fed short within whole =
     (λ rest less. omega (arith, length-append front rest, four, less, octets_long fed.blocks fed.slots_are.each))
 
 -- the end came before all octets of a piece
-pub piece-short : (a b : Option (List ℕ)) (octets : List ℕ) (count : ℕ) → Consumes a b octets → IsAtEnd b → length octets < count →
+pub piece-short : (a b : Option (List ℕ)) (octets : List ℕ) (count : ℕ) → Consumes a b octets → IsAtEnd b →
+    length octets < count →
     IfSome a (λ left. length left < count)
 piece-short a b octets count consumed end short = at_end (λ left. length left < count) a b octets consumed end short
 
@@ -150,7 +163,8 @@ slots-header header rest eight =
     rw (e4, e5, e6, e7) refl
 
 -- a header and its blocks are a tape
-pub ReadsTape-from : (a b c : Option (List ℕ)) (header : List ℕ) (shown : List Message) → length header ≡ 8 → slots_in header ≤ most_slots →
+pub ReadsTape-from : (a b c : Option (List ℕ)) (header : List ℕ) (shown : List Message) → length header ≡ 8 →
+    slots_in header ≤ most_slots →
     Consumes a b header → ReadsBlocks b c (slots_in header) shown → ReadsTape a c (told_by header shown)
 ReadsTape-from a b c header shown eight few consumed blocks = record {
   octets = header ++ octets_of_blocks blocks.blocks;
@@ -167,7 +181,8 @@ ReadsTape-from a b c header shown eight few consumed blocks = record {
 }
 
 -- why there is no next tape
-pub header-cut : (a b : Option (List ℕ)) (octets : List ℕ) → Consumes a b octets → IsAtEnd b → 0 < length octets → length octets < 8 → IfSome a IsCut
+pub header-cut : (a b : Option (List ℕ)) (octets : List ℕ) → Consumes a b octets → IsAtEnd b → 0 < length octets →
+    length octets < 8 → IfSome a IsCut
 header-cut a b octets consumed end some short =
     at_end IsCut a b octets consumed end (record {
       some = some;
@@ -175,13 +190,15 @@ header-cut a b octets consumed end some short =
       inside = λ headed. absurd (omega (arith, short, headed));
     })
 
-pub header-end : (a b : Option (List ℕ)) (octets : List ℕ) → Consumes a b octets → IsAtEnd b → length octets ≡ 0 → IsAtEnd a
+pub header-end : (a b : Option (List ℕ)) (octets : List ℕ) → Consumes a b octets → IsAtEnd b → length octets ≡ 0 →
+    IsAtEnd a
 header-end None b octets consumed end none = tt
 header-end (Some left) None octets consumed end none = absurd consumed
 header-end (Some left) (Some rest) [] consumed end none = consumed ∙ end
 header-end (Some left) (Some rest) (octet ∷ octets) consumed end none = absurd (omega arith)
 
-pub header-oversized : (a b : Option (List ℕ)) (header : List ℕ) → Consumes a b header → length header ≡ 8 → most_slots < slots_in header →
+pub header-oversized : (a b : Option (List ℕ)) (header : List ℕ) → Consumes a b header → length header ≡ 8 →
+    most_slots < slots_in header →
     IfSome a IsOversized
 header-oversized None b header consumed eight many = tt
 header-oversized (Some left) None header consumed eight many = absurd consumed
@@ -193,7 +210,8 @@ header-oversized (Some left) (Some rest) header consumed eight many =
       many = subst (λ n. most_slots < n) (sym says) many;
     }
 
-pub blocks-cut : (a b : Option (List ℕ)) (header : List ℕ) → Consumes a b header → length header ≡ 8 → slots_in header ≤ most_slots →
+pub blocks-cut : (a b : Option (List ℕ)) (header : List ℕ) → Consumes a b header → length header ≡ 8 →
+    slots_in header ≤ most_slots →
     IfSome b (λ left. length left < 92 * slots_in header) → IfSome a IsCut
 blocks-cut a b header consumed eight few short =
     behind (λ left. length left < 92 * slots_in header) IsCut a b header consumed short (λ rest less.
@@ -206,7 +224,8 @@ blocks-cut a b header consumed eight few short =
     })
 
 -- one tape and then the end
-pub tape_whole : (a b : Option (List ℕ)) (reading : TapeReading) → ReadsTape a b reading → IsAtEnd b → IfSome a (λ input. IsTape input reading)
+pub tape_whole : (a b : Option (List ℕ)) (reading : TapeReading) → ReadsTape a b reading → IsAtEnd b →
+    IfSome a (λ input. IsTape input reading)
 tape_whole a b reading reads end = at_end (λ input. IsTape input reading) a b reads.octets reads.consumed end reads.tape
 
 -- a tape is as long as its header says
@@ -215,36 +234,46 @@ pub tape_long : (octets rest : List ℕ) (reading : TapeReading) → IsTape octe
 tape_long octets rest reading tape =
     let eight : length tape.header ≡ 8 = tape.eight in
     let says : slots_in (octets ++ rest) ≡ slots_in tape.header =
-    ap (λ o. slots_in (o ++ rest)) tape.joined ∙ ap slots_in (append_assoc tape.header (octets_of_blocks tape.blocks) rest)
+    ap (λ o. slots_in (o ++ rest)) tape.joined
+    ∙ ap slots_in (append_assoc tape.header (octets_of_blocks tape.blocks) rest)
     ∙ slots-header tape.header (octets_of_blocks tape.blocks ++ rest) eight in
     let told : reading.slots ≡ slots_in tape.header = ap (λ r. r.slots) tape.told in
     let long : length octets ≡ length tape.header + length (octets_of_blocks tape.blocks) =
     ap length tape.joined ∙ length-append tape.header (octets_of_blocks tape.blocks) in
     let four : length tape.blocks ≡ 4 * slots_in tape.header = tape.slots.four in
-    let blocks : length (octets_of_blocks tape.blocks) ≡ 23 * length tape.blocks = octets_long tape.blocks tape.slots.each in
+    let blocks : length (octets_of_blocks tape.blocks) ≡ 23 * length tape.blocks =
+    octets_long tape.blocks tape.slots.each in
     (omega (arith, long, eight), says ∙ sym told, omega (arith, long, eight, four, blocks, told))
 
-pub tape_goes_on : (a b : Option (List ℕ)) (reading : TapeReading) → ReadsTape a b reading → IfSome b (λ left. 0 < length left) → IfSome a IsLongTape
+pub tape_goes_on : (a b : Option (List ℕ)) (reading : TapeReading) → ReadsTape a b reading →
+    IfSome b (λ left. 0 < length left) → IfSome a IsLongTape
 tape_goes_on a b reading reads more =
     behind (λ left. 0 < length left) IsLongTape a b reads.octets reads.consumed more (λ rest some.
     let input : List ℕ = reads.octets ++ rest in
     let long : length input ≡ length reads.octets + length rest = length-append reads.octets rest in
-    let tape : (8 ≤ length reads.octets) × (slots_in input ≡ reading.slots) × (length reads.octets ≡ 8 + 92 * reading.slots) =
-    tape_long reads.octets rest reading reads.tape in
-    (omega (arith, long, tape.0), λ _. subst (λ n. 8 + 92 * n < length input) (sym tape.1) (omega (arith, long, tape.2, some))))
+    let tape : (8 ≤ length reads.octets) × (slots_in input ≡ reading.slots)
+    × (length reads.octets ≡ 8 + 92 * reading.slots) =
+    tape_long reads.octets rest reading reads.tape in (
+      omega (arith, long, tape.0),
+      λ _. subst (λ n. 8 + 92 * n < length input) (sym tape.1)
+          (omega (arith, long, tape.2, some)),
+    ))
 
 pub cut_is_short : (input : List ℕ) → IsCut input → IsShortTape input
 cut_is_short input cut headed = (cut.few headed, cut.inside headed)
 
 pub oversized_is_long : (input : List ℕ) → IsOversized input → IsLongTape input
-oversized_is_long input oversized = (oversized.headed, λ few. let many : most_slots < slots_in input = oversized.many in absurd (omega arith))
+oversized_is_long input oversized =
+    (oversized.headed, λ few. let many : most_slots < slots_in input = oversized.many in absurd (omega arith))
 
 -- why there is no tape: it ends before the first octet, or inside, or says too many slots
 pub end_is_short : (a : Option (List ℕ)) → IsAtEnd a → IfSome a IsShortTape
 end_is_short None end = tt
-end_is_short (Some input) end = λ headed. let none : length input ≡ 0 = ap length end in absurd (omega (arith, headed, none))
+end_is_short (Some input) end = λ headed. let none : length input ≡ 0 = ap length end in
+    absurd (omega (arith, headed, none))
 
-pub next_is_tape : (a : Option (List ℕ)) (why : TapeFault) → IfSome a (λ left. IsNextFault left why) → IfSome a (λ input. IsTapeFault input why)
+pub next_is_tape : (a : Option (List ℕ)) (why : TapeFault) → IfSome a (λ left. IsNextFault left why) →
+    IfSome a (λ input. IsTapeFault input why)
 next_is_tape None why next = tt
 next_is_tape (Some input) fault.Short next = cut_is_short input next
 next_is_tape (Some input) fault.Long next = oversized_is_long input next
@@ -252,7 +281,8 @@ next_is_tape (Some input) fault.ReadFailed next = tt
 next_is_tape (Some input) fault.Refused next = tt
 
 -- tapes and one more
-joined-more : (octets tape : List ℕ) (readings : List TapeReading) (reading : TapeReading) → AreJoined octets readings → IsTape tape reading →
+joined-more : (octets tape : List ℕ) (readings : List TapeReading) (reading : TapeReading) → AreJoined octets readings →
+    IsTape tape reading →
     AreJoined (octets ++ tape) (readings ++ reading ∷ [])
 joined-more octets tape [] reading joined is =
     (tape, [], ap (λ o. o ++ tape) joined ∙ sym (append-nil tape), is, refl)
@@ -267,7 +297,8 @@ joined-more octets tape (first ∷ readings) reading joined is = (
 pub ReadsTapes-none : (old : Option (List ℕ)) → ReadsTapes old old []
 ReadsTapes-none old = record { octets = []; consumed = Consumes-nil old; joined = refl }
 
-pub ReadsTapes-more : (a b c : Option (List ℕ)) (readings : List TapeReading) (reading : TapeReading) → ReadsTapes a b readings → ReadsTape b c reading →
+pub ReadsTapes-more : (a b c : Option (List ℕ)) (readings : List TapeReading) (reading : TapeReading) →
+    ReadsTapes a b readings → ReadsTape b c reading →
     ReadsTapes a c (readings ++ reading ∷ [])
 ReadsTapes-more a b c readings reading reads next = record {
   octets = reads.octets ++ next.octets;
@@ -275,23 +306,27 @@ ReadsTapes-more a b c readings reading reads next = record {
   joined = joined-more reads.octets next.octets readings reading reads.joined next.tape;
 }
 
-pub tapes_whole : (a b : Option (List ℕ)) (readings : List TapeReading) → ReadsTapes a b readings → IsAtEnd b → length readings ≤ most_tapes →
+pub tapes_whole : (a b : Option (List ℕ)) (readings : List TapeReading) → ReadsTapes a b readings → IsAtEnd b →
+    length readings ≤ most_tapes →
     IfSome a (λ input. AreTapes input readings)
 tapes_whole a b readings reads end few =
-    at_end (λ input. AreTapes input readings) a b reads.octets reads.consumed end (record { joined = reads.joined; few = few })
+    at_end (λ input. AreTapes input readings) a b reads.octets reads.consumed end
+    (record { joined = reads.joined; few = few })
 
 -- the input begins with the tapes that were read
 begins : (a b : Option (List ℕ)) (readings : List TapeReading) (reads : ReadsTapes a b readings) (rest : List ℕ) →
     BeginsWith (reads.octets ++ rest) readings rest
 begins a b readings reads rest = record { front = reads.octets; split = refl; joined = reads.joined }
 
-pub tapes_cut : (a b : Option (List ℕ)) (readings : List TapeReading) → ReadsTapes a b readings → IfSome b IsCut → length readings < most_tapes →
+pub tapes_cut : (a b : Option (List ℕ)) (readings : List TapeReading) → ReadsTapes a b readings → IfSome b IsCut →
+    length readings < most_tapes →
     IfSome a IsShort
 tapes_cut a b readings reads cut few =
     behind IsCut IsShort a b reads.octets reads.consumed cut (λ rest inside.
     record { readings = readings; rest = rest; begins = begins a b readings reads rest; few = few; cut = inside })
 
-pub tapes_oversized : (a b : Option (List ℕ)) (readings : List TapeReading) → ReadsTapes a b readings → IfSome b IsOversized → length readings < most_tapes →
+pub tapes_oversized : (a b : Option (List ℕ)) (readings : List TapeReading) → ReadsTapes a b readings →
+    IfSome b IsOversized → length readings < most_tapes →
     IfSome a IsLong
 tapes_oversized a b readings reads oversized few =
     behind IsOversized IsLong a b reads.octets reads.consumed oversized (λ rest many.
@@ -304,7 +339,8 @@ tapes_oversized a b readings reads oversized few =
       more = λ all. absurd (omega (arith, few, all));
     })
 
-pub tapes_go_on : (a b : Option (List ℕ)) (readings : List TapeReading) → ReadsTapes a b readings → IfSome b (λ left. 0 < length left) → length readings ≡ most_tapes →
+pub tapes_go_on : (a b : Option (List ℕ)) (readings : List TapeReading) → ReadsTapes a b readings →
+    IfSome b (λ left. 0 < length left) → length readings ≡ most_tapes →
     IfSome a IsLong
 tapes_go_on a b readings reads more all =
     behind (λ left. 0 < length left) IsLong a b reads.octets reads.consumed more (λ rest some.
@@ -317,7 +353,8 @@ tapes_go_on a b readings reads more all =
       more = λ _. some;
     })
 
-pub next_is_tapes : (a b : Option (List ℕ)) (readings : List TapeReading) (why : TapeFault) → ReadsTapes a b readings → length readings < most_tapes →
+pub next_is_tapes : (a b : Option (List ℕ)) (readings : List TapeReading) (why : TapeFault) → ReadsTapes a b readings →
+    length readings < most_tapes →
     IfSome b (λ left. IsNextFault left why) → IfSome a (λ input. IsTapesFault input why)
 next_is_tapes a b readings fault.Short reads few next = tapes_cut a b readings reads next few
 next_is_tapes a b readings fault.Long reads few next = tapes_oversized a b readings reads next few

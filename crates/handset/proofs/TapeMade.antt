@@ -5,7 +5,8 @@ use Rattle.handset.specs.Tape.{AreSlots, MadeAreTapes, slots_in, most_slots}
 pair_back : (n : ℕ) → 256 * (n / 256) + n % 256 ≡ n
 pair_back n = omega arith
 
-four_back : (n : ℕ) → n < 4294967296 → 16777216 * (n / 16777216) + 65536 * (n / 65536 % 256) + 256 * (n / 256 % 256) + n % 256 ≡ n
+four_back : (n : ℕ) → n < 4294967296 →
+    16777216 * (n / 16777216) + 65536 * (n / 65536 % 256) + 256 * (n / 256 % 256) + n % 256 ≡ n
 four_back n fits = omega arith
 
 pub made_is_tape : MadeAreTapes

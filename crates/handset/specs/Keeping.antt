@@ -3,11 +3,12 @@ use Rattle.std.specs.Prelude.{◌≡◌, ℕ, ◌≤◌, Bool, ◌==◌, ◌&&�
 use Rattle.std.specs.Map.{lookup}
 use Rattle.std.specs.Option.{unwrap_or}
 use Rattle.cbs_page.specs.declared.octets.PageView.{PageView}
-use Rattle.handset.specs.declared.blocks.Begun.{Begun}
+use Rattle.handset.specs.declared.blocks.PartialPage.{PartialPage}
 use Rattle.handset.specs.declared.blocks.Stage.{Stage}
 use Rattle.handset.specs.declared.blocks.Stage.TheVariants as stage
 use Rattle.handset.specs.declared.messages.Shown.{Shown}
-use Rattle.handset.specs.Reading.{type_of, page_types, pages_read, readable_pages, Name, is_of, page_numbered, Message, shown_in}
+use Rattle.handset.specs.Reading.{type_of, page_types, pages_read, readable_pages, Name, is_of, page_numbered, Message}
+use Rattle.handset.specs.Reading.{shown_in}
 
 -- the messages that were shown, as contracts see them
 abbrev pub message_shown : Shown → Message
@@ -24,7 +25,8 @@ same_name a b = (a.id == b.id) && (a.serial == b.serial)
 abbrev pub kept_of : List (Name × List PageView) → Name → List PageView
 kept_of pages name = unwrap_or (lookup (same_name name) pages) []
 
--- what a handset keeps: the blocks of a page that isn't complete, the pages of each message that count, and what it showed
+-- what a handset keeps: the blocks of a page that isn't complete, the pages of each message that count, and what it
+-- showed
 pub record HandsetState : Type 0 where
   pub under_way : List (List ℕ)
   pub pages : List (Name × List PageView)
@@ -37,14 +39,15 @@ blocks_at stage.First first second third = first ∷ []
 blocks_at stage.Second first second third = first ∷ second ∷ []
 blocks_at stage.Third first second third = first ∷ second ∷ third ∷ []
 
-abbrev pub blocks_of : Begun → List (List ℕ)
-blocks_of begun = blocks_at begun.stage begun.first begun.second begun.third
+abbrev pub blocks_of : PartialPage → List (List ℕ)
+blocks_of page = blocks_at page.stage page.first page.second page.third
 
 -- the page has this message's name and this number
 abbrev pub is_numbered : Name → ℕ → PageView → Bool
 is_numbered name number page = is_of name page && (page.number == number)
 
--- the blocks of the page that isn't whole, after these: whatever comes, the pages of the whole list are those of the blocks so
+-- the blocks of the page that isn't whole, after these: whatever comes, the pages of the whole list are those of the
+-- blocks so
 -- far, and then those that what comes makes with the blocks that are kept
 pub record IsUnderWay (kept blocks : List (List ℕ)) : Type 0 where
   pub few : length kept ≤ 3

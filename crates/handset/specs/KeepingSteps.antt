@@ -1,5 +1,6 @@
 -- What one more block or page does to what a handset keeps (own). Contracts of private functions alone speak of it.
-use Rattle.std.specs.Prelude.{◌≡◌, ℕ, Bool, true, not, ◌==◌, ◌&&◌, ◌||◌, Option, Some, None, is_some, List, [], ◌∷◌, ◌++◌, length, find, if◌then◌else◌, encode_utf8_all}
+use Rattle.std.specs.Prelude.{◌≡◌, ℕ, Bool, true, not, ◌==◌, ◌&&◌, ◌||◌, Option, Some, None, is_some, List, [], ◌∷◌}
+use Rattle.std.specs.Prelude.{◌++◌, length, find, if◌then◌else◌, encode_utf8_all}
 use Rattle.std.specs.Option.{option_map_or}
 use Rattle.std.specs.List.{flat_map, list_all, range_with_len}
 use Rattle.cbs_page.specs.declared.octets.PageView.{PageView}
@@ -54,7 +55,8 @@ is_whole name pages =
 
 abbrev pub text_kept : Name → List PageView → List ℕ
 text_kept name pages =
-    flat_map (λ number. option_map_or text_of_page (find (is_numbered name number) pages) []) (range_with_len 1 (total_kept name pages))
+    flat_map (λ number. option_map_or text_of_page (find (is_numbered name number) pages) [])
+    (range_with_len 1 (total_kept name pages))
 
 abbrev pub message_kept : Name → List PageView → Message
 message_kept name pages = record { id = name.id; serial = name.serial; text = encode_utf8_all (text_kept name pages) }

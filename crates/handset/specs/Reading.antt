@@ -1,6 +1,7 @@
 -- What a handset shows of a list of blocks. 3GPP TS 44.012 (blocks), and 3GPP TS 23.041, clause 9.4.1
 -- (pages, repeats). That the first page of a message fixes its total and its data coding is this project's own.
-use Rattle.std.specs.Prelude.{ℕ, Bool, not, ◌==◌, ◌&&◌, Option, is_some, List, [], ◌∷◌, ◌++◌, drop, take, map, filter, find, slice_index, if◌then◌else◌, encode_utf8_all}
+use Rattle.std.specs.Prelude.{ℕ, Bool, not, ◌==◌, ◌&&◌, Option, is_some, List, [], ◌∷◌, ◌++◌, drop, take, map, filter}
+use Rattle.std.specs.Prelude.{find, slice_index, if◌then◌else◌, encode_utf8_all}
 use Rattle.std.specs.Option.{option_map_or}
 use Rattle.std.specs.List.{flat_map, list_all, range_with_len}
 use Rattle.std.specs.Str.{bytes_eq}
@@ -80,7 +81,8 @@ numbers_of name pages = range_with_len 1 (total_of name pages)
 
 abbrev pub is_complete : Name → List PageView → Bool
 is_complete name pages =
-    not (total_of name pages == 0) && list_all (λ number. is_some (page_numbered name pages number)) (numbers_of name pages)
+    not (total_of name pages == 0) && list_all (λ number. is_some (page_numbered name pages number))
+    (numbers_of name pages)
 
 -- the text of a message: those of its pages, in the order of their numbers
 abbrev pub text_of : Name → List PageView → List ℕ

@@ -1,4 +1,5 @@
--- Tapes: the blocks that a cell's broadcast channel sent, slot by slot, and what a handset shows of them. The format is this project's own.
+-- Tapes: the blocks that a cell's broadcast channel sent, slot by slot, and what a handset shows of them. The format is
+-- this project's own.
 use Rattle.std.specs.Prelude.{◌≡◌, ℕ, ◌+◌, ◌*◌, ◌/◌, ◌%◌, ◌<◌, ◌≤◌, List, [], ◌∷◌, ◌++◌, length, map, slice_index}
 use Rattle.std.specs.List.{flat_map, AllByRecursion}
 use Rattle.cbsp_wire.specs.declared.message.Cell.{Cell}
@@ -31,7 +32,8 @@ readings_of readings = map reading_of readings
 abbrev pub octets_of_blocks : List (List ℕ) → List ℕ
 octets_of_blocks blocks = flat_map (λ block. block) blocks
 
--- the octets of a tape: two each of the location area and the cell identity and four of the number of slots, high octets first,
+-- the octets of a tape: two each of the location area and the cell identity and four of the number of slots, high
+-- octets first,
 -- and then the blocks
 abbrev pub tape_octets : Cell → ℕ → List (List ℕ) → List ℕ
 tape_octets cell slots blocks =
@@ -61,7 +63,8 @@ pub record AreSlots (slots : ℕ) (blocks : List (List ℕ)) : Type 0 where
   pub four : length blocks ≡ 4 * slots
   pub each : AllByRecursion (λ block. length block ≡ 23) blocks
 
--- octets are a tape: a header of eight, and the blocks of as many slots as it says; the reading is what these say and show
+-- octets are a tape: a header of eight, and the blocks of as many slots as it says; the reading is what these say and
+-- show
 pub record IsTape (octets : List ℕ) (reading : TapeReading) : Type 0 where
   pub header : List ℕ
   pub blocks : List (List ℕ)
@@ -88,25 +91,26 @@ pub record IsOversized (octets : List ℕ) : Type 0 where
   pub headed : 8 ≤ length octets
   pub many : most_slots < slots_in octets
 
--- one tape and then the end; an input that ends before its tape does; and one that goes on after it, or whose header says too many slots
+-- one tape and then the end; an input that ends before its tape does; and one that goes on after it, or whose header
+-- says too many slots
 abbrev pub IsShortTape : List ℕ → Type 0
 IsShortTape input = (8 ≤ length input) → (slots_in input ≤ most_slots) × (length input < tape_length input)
 
 abbrev pub IsLongTape : List ℕ → Type 0
 IsLongTape input = (8 ≤ length input) × (slots_in input ≤ most_slots → tape_length input < length input)
 
--- an input begins with whole tapes, which have these readings, and behind them stands a rest
+-- an input begins with whole tapes, which have these readings, and a rest follows them
 pub record BeginsWith (input : List ℕ) (readings : List TapeReading) (rest : List ℕ) : Type 0 where
   pub front : List ℕ
   pub split : input ≡ front ++ rest
   pub joined : AreJoined front readings
 
--- tapes up to the end, at most so many, with these readings
+-- tapes up to the end, at most this many, with these readings
 pub record AreTapesWithin (most : ℕ) (input : List ℕ) (readings : List TapeReading) : Type 0 where
   pub joined : AreJoined input readings
   pub few : length readings ≤ most
 
--- an input that ends inside one of its tapes, which are at most so many
+-- an input that ends inside one of its tapes, which are at most this many
 pub record IsShortWithin (most : ℕ) (input : List ℕ) : Type 0 where
   pub readings : List TapeReading
   pub rest : List ℕ
@@ -133,7 +137,7 @@ IsShort input = IsShortWithin most_tapes input
 abbrev pub IsLong : List ℕ → Type 0
 IsLong input = IsLongWithin most_tapes input
 
--- why an input gives no readings, want of memory and the reader's failure aside
+-- why an input gives no readings, but for out of memory and a reader that failed
 abbrev pub IsTapeFault : List ℕ → TapeFault → Type 0
 IsTapeFault input fault.Short = IsShortTape input
 IsTapeFault input fault.Long = IsLongTape input

@@ -11,7 +11,8 @@ pub record AreGone (old new : Option (List ℕ)) (readings : List TapeReading) (
   pub joined : AreJoined front readings
   pub consumed : Consumes old new (front ++ part)
 
--- after a long input: of a header that says too many slots its eight octets are gone, and after the last tape that the input
+-- after a long input: of a header that says too many slots its eight octets are gone, and after the last tape that the
+-- input
 -- may have one octet; nothing more
 pub record StopsAtLong (most : ℕ) (old new : Option (List ℕ)) : Type 0 where
   pub readings : List TapeReading
@@ -38,7 +39,8 @@ pub record StopsWithin (most : ℕ) (old new : Option (List ℕ)) : Type 0 where
   pub slots : 8 ≤ length part → slots_in part ≤ most_slots
   pub inside : 8 ≤ length part → length part ≤ tape_length part
 
--- how far an input of at most so many tapes was read when it gave no readings, by the fault; a short input is read to its end
+-- how far an input of at most this many tapes was read when it gave no readings, by the fault; a short input is read to
+-- its end
 abbrev pub StopsAt : (most : ℕ) (old new : Option (List ℕ)) → TapeFault → Type 0
 StopsAt most old new fault.Short = IsAtEnd new
 StopsAt most old new fault.Long = StopsAtLong most old new

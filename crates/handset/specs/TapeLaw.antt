@@ -11,7 +11,8 @@ pub record TapeIsOneKind (input : List ℕ) : Type 0 where
 
 -- of tapes up to the end
 pub record TapesAreOneKind (input : List ℕ) : Type 0 where
-  pub unique : (readings others : List TapeReading) → AreTapes input readings → AreTapes input others → readings ≡ others
+  pub unique : (readings others : List TapeReading) → AreTapes input readings → AreTapes input others →
+      readings ≡ others
   pub not_short : (readings : List TapeReading) → AreTapes input readings → ¬ IsShort input
   pub not_long : (readings : List TapeReading) → AreTapes input readings → ¬ IsLong input
   pub apart : IsShort input → ¬ IsLong input

@@ -1,4 +1,5 @@
--- Steps over a tape: blocks that a handset reads, slots, and whole tapes. Contracts of private functions alone speak of it.
+-- Steps over a tape: blocks that a handset reads, slots, and whole tapes. Contracts of private functions alone speak of
+-- it.
 use Rattle.std.specs.Prelude.{◌≡◌, ℕ, ◌+◌, ◌/◌, ◌<◌, ◌≤◌, List, ◌++◌, Option, length}
 use Rattle.std.specs.Simd.{first_chunks}
 use Rattle.std.specs.Io.KnownBytes.{Consumes, IsAtEnd}
@@ -6,7 +7,8 @@ use Rattle.handset.specs.Reading.{Message, shown_in}
 use Rattle.handset.specs.Keeping.{HandsetState, HasRead}
 use Rattle.handset.specs.declared.tape.TapeFault.{TapeFault}
 use Rattle.handset.specs.declared.tape.TapeFault.TheVariants as fault
-use Rattle.handset.specs.Tape.{TapeReading, IsTape, AreSlots, IsCut, IsOversized, octets_of_blocks, slots_in, most_slots}
+use Rattle.handset.specs.Tape.{TapeReading, IsTape, AreSlots, IsCut, IsOversized, octets_of_blocks, slots_in}
+use Rattle.handset.specs.Tape.{most_slots}
 use Rattle.handset.specs.Tape.{tape_length}
 
 -- the reader gave this many octets, and a handset has read the blocks that they are

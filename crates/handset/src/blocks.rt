@@ -1,4 +1,5 @@
-//! Pages in the blocks that carry them (3GPP TS 44.012): four blocks in a row, of types 20, 21, 22 and 33 (hex), are a page.
+//! Pages in the blocks that carry them (3GPP TS 44.012): four blocks in a row, of types 20, 21, 22 and 33 (hex), are a
+//! page.
 
 ghost use Rattle.std.specs.Prelude.{◌≡◌, ◌++◌, ◌∷◌, [], drop};
 ghost use Rattle.std.specs.Option.{option_to_list};
@@ -33,22 +34,22 @@ pub enum Stage {
     Third,
 }
 
-/// The blocks of a page that isn't whole yet. Each stands in a place of its own, where it is put once: blocks that were moved on with each
-/// next one would cost most of the time of reading.
+/// The blocks of a page that isn't complete yet. Each has a place of its own, where it is put once: blocks that were
+/// moved on with each next one would cost most of the time of reading.
 #[derive(Clone, Copy)]
-pub struct Begun {
+pub struct PartialPage {
     stage: Stage,
     first: [u8; 23],
     second: [u8; 23],
     third: [u8; 23],
 }
 
-impl Begun {
+impl PartialPage {
     /// No block.
-    pub fn nothing() -> Begun
+    pub fn empty() -> PartialPage
         ensures { blocks_of result ≡ [] }
     {
-        Begun {
+        PartialPage {
             stage: Stage::Nothing,
             first: [0; 23],
             second: [0; 23],
@@ -57,7 +58,7 @@ impl Begun {
     }
 
     /// Goes on with one more block.
-    pub fn add(&mut self, block: &[u8; 23])
+    pub fn push(&mut self, block: &[u8; 23])
         ensures { blocks_of self.new ≡ under_way_with (blocks_of self.old) block.now }
     {
         match (block[0], self.stage) {
@@ -77,8 +78,8 @@ impl Begun {
         }
     }
 
-    /// The page that a block makes whole.
-    pub fn page_with(&self, block: &[u8; 23]) -> Option<PageView>
+    /// The page that a block completes.
+    pub fn complete_with(&self, block: &[u8; 23]) -> Option<PageView>
         ensures { option_to_list result ≡ page_ended (blocks_of self.now) block.now }
     {
         match (block[0], self.stage) {
@@ -96,13 +97,13 @@ fn octets_of(first: &[u8; 23], second: &[u8; 23], third: &[u8; 23], last: &[u8; 
     ensures { result ≡ page_octets (first.now ∷ second.now ∷ third.now ∷ last.now ∷ []) }
 {
     let mut octets = [0; 88];
-    octets[..44].copy_from_slice(&half_of(first, second));
-    octets[44..].copy_from_slice(&half_of(third, last));
+    octets[..44].copy_from_slice(&joined(first, second));
+    octets[44..].copy_from_slice(&joined(third, last));
     octets
 }
 
 /// The octets that two blocks carry.
-fn half_of(block: &[u8; 23], next: &[u8; 23]) -> [u8; 44]
+fn joined(block: &[u8; 23], next: &[u8; 23]) -> [u8; 44]
     ensures { result ≡ drop 1 block.now ++ drop 1 next.now }
 {
     let mut octets = [0; 44];

@@ -1,5 +1,5 @@
-//! The handset: what it keeps of the blocks that it has read. A contract sees no more of that than whether it stands for a
-//! list of blocks (`HasRead`).
+//! The handset: what it keeps of the blocks that it has read. A contract sees no more of that than whether it stands
+//! for a list of blocks (`HasRead`).
 
 ghost use Rattle.std.specs.Prelude.{◌≡◌, ◌++◌, ◌∷◌, [], ℕ, List, IfOk, OnErr, OnOk};
 ghost use Rattle.std.specs.Option.{option_to_list};
@@ -7,22 +7,22 @@ ghost use Rattle.handset.specs.Keeping.{HasRead, kept_of, messages_of};
 ghost use Rattle.handset.specs.KeepingSteps.{TakesPage, message_ended_read};
 ghost use Rattle.handset.specs.Reading.{name_of, shown_in};
 
-use crate::blocks::Begun;
+use crate::blocks::PartialPage;
 use crate::messages::{Refused, Shown, is_counted, message_if_complete};
 use crate::pages::Pages;
 use cbs_page::PageView;
 use std::alloc::Global;
 use std::marker::Model;
 
-/// A handset (3GPP TS 23.041, clause 9.4.1): it reads blocks, and shows each message once, at the block with which its last
-/// missing page comes.
+/// A handset (3GPP TS 23.041, clause 9.4.1): it reads blocks, and shows each message once, at the block with which
+/// its last missing page comes.
 ///
-/// Fed the four blocks of a page 1 of 1 with the text `@`, `feed` answers `None` three times and then the message; fed them
-/// again, it answers `None` four times. `shown` has the one message from then on.
+/// Fed the four blocks of a page 1 of 1 with the text `@`, `feed` returns `None` three times and then the message;
+/// fed them again, it returns `None` four times. `shown` has the one message from then on.
 #[derive(Drop)]
 pub struct Handset {
     alloc: Global,
-    begun: Begun,
+    partial: PartialPage,
     pages: Pages,
     shown: Vec<Shown>,
 }
@@ -32,7 +32,8 @@ impl Model for Handset {
 
     ghost Value = { HandsetState };
 
-    ghost view = { λ h. record { under_way = blocks_of h.begun; pages = h.pages; shown = messages_of h.shown.items } };
+    ghost view = { λ h.
+        record { under_way = blocks_of h.partial; pages = h.pages; shown = messages_of h.shown.items } };
 }
 
 impl Handset {
@@ -42,16 +43,17 @@ impl Handset {
     {
         Handset {
             alloc,
-            begun: Begun::nothing(),
+            partial: PartialPage::empty(),
             pages: Pages::new(alloc),
             shown: Vec::new(alloc),
         }
     }
 
-    /// Reads a block of 23 octets, its type and 22 more, and returns a copy of the message that it makes complete, if it does.
-    /// The only error is that memory was refused, and then the handset is as it was.
+    /// Reads a block of 23 octets, its type and 22 more, and returns a copy of the message that it makes complete, if
+    /// it does. The only error is that memory was refused, and then the handset is as it was.
     pub fn feed(&mut self, block: &[u8; 23]) -> Result<Option<Shown>, Refused>
-        ensures read { OnOk result ((blocks : List (List ℕ)) → HasRead self.old blocks → HasRead self.new (blocks ++ block.now ∷ [])) }
+        ensures read { OnOk result ((blocks : List (List ℕ)) → HasRead self.old blocks →
+            HasRead self.new (blocks ++ block.now ∷ [])) }
         ensures answered { IfOk result (λ answer. (blocks : List (List ℕ)) → HasRead self.old blocks →
             shown_in (blocks ++ block.now ∷ []) ≡ shown_in blocks ++ messages_of (option_to_list answer)) }
         ensures refused { OnErr result (self.new ≡ self.old) }
@@ -74,7 +76,7 @@ impl Handset {
     {
         let Handset {
             alloc: _,
-            begun: _,
+            partial: _,
             pages,
             shown,
         } = self;
@@ -87,27 +89,28 @@ impl Handset {
         ensures { IfOk result (λ message. (blocks : List (List ℕ)) → HasRead self.now blocks →
             shown_in (blocks ++ block.now ∷ []) ≡ shown_in blocks ++ messages_of (option_to_list message)) }
     {
-        match self.begun.page_with(block) {
+        match self.partial.complete_with(block) {
             None => Ok(None),
             Some(page) => message_ended(self.alloc, &self.pages, &page),
         }
     }
 
-    /// Reads a block as `feed` does, and returns no copy. The only error is that memory was refused, and then the handset is as
-    /// it was.
+    /// Reads a block as `feed` does, and returns no copy. The only error is that memory was refused, and then the
+    /// handset is as it was.
     fn accept(&mut self, block: &[u8; 23]) -> Result<(), Refused>
         ensures read { OnOk result ((blocks : List (List ℕ)) → HasRead self.old blocks →
             HasRead self.new (blocks ++ block.now ∷ [])) }
         ensures refused { OnErr result (self.new ≡ self.old) }
     {
-        if let Some(page) = self.begun.page_with(block) {
+        if let Some(page) = self.partial.complete_with(block) {
             take(self.alloc, &mut self.pages, &mut self.shown, &page)?;
         }
-        self.begun.add(block);
+        self.partial.push(block);
         Ok(())
     }
 
-    /// Reads blocks, one after another. The only error is that memory was refused; some of them may then have been read.
+    /// Reads blocks, one after another. The only error is that memory was refused; some of them may then have been
+    /// read.
     pub(crate) fn accept_all(&mut self, blocks: &[[u8; 23]]) -> Result<(), Refused>
         ensures { OnOk result ((before : List (List ℕ)) → HasRead self.old before →
             HasRead self.new (before ++ blocks.now)) }
@@ -131,8 +134,8 @@ fn message_ended(alloc: Global, pages: &Pages, page: &PageView) -> Result<Option
     message_if_complete(alloc, kept, page)
 }
 
-/// Takes a page that was read: keeps it if it counts, and shows the message that it makes complete. All room is taken before
-/// anything changes.
+/// Takes a page that was read: keeps it if it counts, and shows the message that it makes complete. All room is taken
+/// before anything changes.
 fn take(
     alloc: Global,
     pages: &mut Pages,

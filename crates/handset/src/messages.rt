@@ -68,7 +68,7 @@ fn page_of_number<'a>(pages: &'a [PageView], page: &PageView, number: u8) -> Opt
         .find(|other| is_of_one(page, other) && other.number == number)
 }
 
-/// Whether a page has the total and the data coding of the first page of its message, where there is one.
+/// Whether a page has the total and the data coding of the first page of its message, if there is one.
 fn agrees_with_first(pages: &[PageView], page: &PageView) -> bool
     ensures { result ≡ agrees_with_first (find (is_of (name_of page.now)) pages.now) page.now }
 {
@@ -78,7 +78,8 @@ fn agrees_with_first(pages: &[PageView], page: &PageView) -> bool
     }
 }
 
-/// Whether a page is to be kept: it is readable, none of its number came before, and it agrees with the first of its message.
+/// Whether a page is to be kept: it is readable, none of its number came before, and it agrees with the first of its
+/// message.
 pub fn is_counted(pages: &[PageView], page: &PageView) -> bool
     ensures { result ≡ (is_readable page.now && counts pages.now page.now) }
 {

@@ -12,8 +12,8 @@ use std::alloc::Global;
 use std::collections::HashMap;
 use std::marker::Model;
 
-/// The pages of each message that count, in the order in which they came. Those of one message are found by its identifier and
-/// its serial number, however many messages there are.
+/// The pages of each message that count, in the order in which they came. Those of one message are found by its
+/// identifier and its serial number, however many messages there are.
 #[derive(Drop)]
 pub struct Pages {
     alloc: Global,
@@ -58,7 +58,8 @@ impl Pages {
         }
     }
 
-    /// Keeps a page after those of its message. The only error is that memory was refused, and then nothing has changed.
+    /// Keeps a page after those of its message. The only error is that memory was refused, and then nothing has
+    /// changed.
     pub fn push(&mut self, page: &PageView) -> Result<(), Refused>
         requires { IsTrue (is_readable page.now) }
         ensures pages { OnOk result (KeepsPage self.old self.new page.now) }

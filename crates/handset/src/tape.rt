@@ -1,18 +1,22 @@
-//! Tapes (this project's own format): what a cell's broadcast channel sent, slot by slot, and what a handset shows of it. A tape is
-//! its cell (LAC 2 octets, CI 2), the number of its slots (4), and four blocks of 23 octets for each, high octets first; several
-//! tapes follow each other with nothing between. `specs/Tape.antt` says which octets are tapes, and what is told of them.
+//! Tapes (this project's own format): what a cell's broadcast channel sent, slot by slot, and what a handset shows of
+//! it. A tape is its cell (LAC 2 octets, CI 2), the number of its slots (4), and four blocks of 23 octets for each,
+//! high octets first; several tapes follow each other with nothing between. `specs/Tape.antt` says which octets are
+//! tapes, and what is told of them.
 
-ghost use Rattle.std.specs.Prelude.{◌≡◌, ◌≢◌, ◌↔◌, ◌+◌, ◌*◌, ◌<◌, ◌≤◌, ◌++◌, ℕ, List, false, true, length, IfErr, IfOk, IfSome, IfNone, IsErrOf, IsErr, IsTrue, OnOk, vec_len, [], ◌∷◌, MatchBool};
+ghost use Rattle.std.specs.Prelude.{◌≡◌, ◌≢◌, ◌↔◌, ◌+◌, ◌*◌, ◌<◌, ◌≤◌, ◌++◌, ℕ, List, false, true, length, IfErr, IfOk};
+ghost use Rattle.std.specs.Prelude.{IfSome, IfNone, IsErrOf, IsErr, IsTrue, OnOk, vec_len, [], ◌∷◌, MatchBool};
 ghost use Rattle.std.specs.Io.KnownBytes.{Consumes, IsAtEnd};
 ghost use Rattle.std.specs.Option.{option_to_list};
 ghost use Rattle.device_ends.specs.Source.{reader_of, source_failed};
 ghost use Rattle.handset.specs.Reading.{shown_in};
 ghost use Rattle.handset.specs.Keeping.{HasRead, messages_of};
-ghost use Rattle.handset.specs.Tape.{cell_in, slots_in, most_slots, most_tapes, reading_of, readings_of, AreTapes, IsNextFault, IsTape, IsTapeFault, IsTapesFault, MadeAreTapes};
+ghost use Rattle.handset.specs.Tape.{cell_in, slots_in, most_slots, most_tapes, reading_of, readings_of, AreTapes};
+ghost use Rattle.handset.specs.Tape.{IsNextFault, IsTape, IsTapeFault, IsTapesFault, MadeAreTapes};
 ghost use Rattle.handset.specs.declared.tape.TapeFault.TheVariants.{ReadFailed, Refused};
 ghost use Rattle.handset.specs.TapeLaw.{TapeHasKind, TapeIsOneKind, TapesAreOneKind, TapesHaveKind};
 ghost use Rattle.handset.specs.TapeExtent.{StopsAt};
-ghost use Rattle.handset.specs.TapeSteps.{NextStopsAt, ReadsBlocks, ReadsCount, ReadsFewer, ReadsPiece, ReadsTape, StopsInOctets};
+ghost use Rattle.handset.specs.TapeSteps.{NextStopsAt, ReadsBlocks, ReadsCount, ReadsFewer, ReadsPiece, ReadsTape};
+ghost use Rattle.handset.specs.TapeSteps.{StopsInOctets};
 
 use crate::input::read_front;
 use crate::{Handset, Shown};
@@ -34,10 +38,10 @@ const SLOT: usize = 92;
 /// How many slots are read at a time at most: their octets are just under 64 KiB.
 const PIECE_SLOTS: usize = 712;
 
-/// How many octets these are.
+/// How many octets these slots have.
 const PIECE: usize = PIECE_SLOTS * SLOT;
 
-/// What a tape tells.
+/// What a tape says and shows.
 #[derive(Drop, Debug)]
 pub struct Reading {
     /// The cell whose channel it is.
@@ -92,13 +96,15 @@ impl From<crate::Refused> for TapeFault {
 
 /// Reads one tape, after which the input is to end.
 ///
-/// Answers [`TapeFault::Short`] where the input ends before its tape does, [`TapeFault::Long`] where it goes on after the tape or
-/// the header says more than 4,096 slots, [`TapeFault::ReadFailed`] exactly where the source has failed, now or earlier, and
-/// [`TapeFault::Refused`] for want of memory.
+/// Returns [`TapeFault::Short`] if the input ends before its tape does, [`TapeFault::Long`] if it goes on after the
+/// tape or the header says more than 4,096 slots, [`TapeFault::ReadFailed`] exactly if the source has failed, now or
+/// earlier, and [`TapeFault::Refused`] if out of memory. Of a long input no more is read than the header that says
+/// too many slots, or one octet after the tape.
 pub fn read_tape<R: Read>(alloc: Global, source: &mut Source<R>) -> Result<Reading, TapeFault>
     ensures reading { IfOk result (λ reading. IfSome (R.remaining (reader_of source.old)) (λ input.
         IsTape input (reading_of reading))) }
-    ensures fault { IfErr result (λ fault. IfSome (R.remaining (reader_of source.old)) (λ input. IsTapeFault input fault)) }
+    ensures fault { IfErr result (λ fault. IfSome (R.remaining (reader_of source.old)) (λ input.
+        IsTapeFault input fault)) }
 
     // How far the source was read: to its end, or as the fault says and no further.
     ensures whole { OnOk result (IsAtEnd (R.remaining (reader_of source.new))) }
@@ -127,12 +133,14 @@ pub fn read_tape<R: Read>(alloc: Global, source: &mut Source<R>) -> Result<Readi
     }
 }
 
-/// Reads tapes up to the end of the input, at most 64; an input of no octets has none. Answers the faults of [`read_tape`]:
-/// short is an input that ends inside one of its tapes, and long one that goes on after the 64th or has a header of too many slots.
+/// Reads tapes up to the end of the input, at most 64; an input of no octets has none. Returns the faults of
+/// [`read_tape`]: an input is short if it ends inside one of its tapes, and long if it goes on after the 64th or has
+/// a header of too many slots.
 pub fn read_tapes<R: Read>(alloc: Global, source: &mut Source<R>) -> Result<Vec<Reading>, TapeFault>
     ensures readings { IfOk result (λ readings. IfSome (R.remaining (reader_of source.old)) (λ input.
         AreTapes input (readings_of readings.items))) }
-    ensures fault { IfErr result (λ fault. IfSome (R.remaining (reader_of source.old)) (λ input. IsTapesFault input fault)) }
+    ensures fault { IfErr result (λ fault. IfSome (R.remaining (reader_of source.old)) (λ input.
+        IsTapesFault input fault)) }
 
     // How far the source was read: to its end, or as the fault says and no further.
     ensures whole { OnOk result (IsAtEnd (R.remaining (reader_of source.new))) }
@@ -164,9 +172,10 @@ pub fn read_tapes<R: Read>(alloc: Global, source: &mut Source<R>) -> Result<Vec<
     }
 }
 
-/// Puts a reading behind others.
+/// Appends a reading.
 fn push_reading(readings: &mut Vec<Reading>, reading: Reading) -> Result<(), TapeFault>
-    ensures readings { OnOk result (readings_of readings.new.items ≡ readings_of readings.old.items ++ reading_of reading ∷ []) }
+    ensures readings { OnOk result (readings_of readings.new.items
+        ≡ readings_of readings.old.items ++ reading_of reading ∷ []) }
     ensures count { OnOk result (vec_len readings.new ≡ vec_len readings.old + 1) }
     ensures refused { IfErr result (λ fault. fault ≡ TapeFault.Refused) }
 {
@@ -176,7 +185,7 @@ fn push_reading(readings: &mut Vec<Reading>, reading: Reading) -> Result<(), Tap
     }
 }
 
-/// So many octets of 0.
+/// `length` octets of 0.
 fn zeros(alloc: Global, length: usize) -> Result<Vec<u8>, AllocError>
     ensures { IfOk result (λ octets. vec_len octets ≡ length) }
 {
@@ -200,7 +209,7 @@ fn is_at_end<R: Read>(source: &mut Source<R>) -> Result<bool, Failed>
     Ok(count == 0)
 }
 
-/// Reads the next tape, or answers that there is none.
+/// Reads the next tape, if there is one.
 fn next_tape<R: Read>(
     alloc: Global,
     source: &mut Source<R>,
@@ -214,7 +223,8 @@ fn next_tape<R: Read>(
     ensures whole { IfOk result (λ next. IfNone next (IsAtEnd (R.remaining (reader_of source.new)))) }
     ensures extent { IfErr result (λ fault. NextStopsAt (R.remaining (reader_of source.old))
         (R.remaining (reader_of source.new)) fault) }
-    ensures fault { IfErr result (λ fault. IfSome (R.remaining (reader_of source.old)) (λ left. IsNextFault left fault)) }
+    ensures fault { IfErr result (λ fault. IfSome (R.remaining (reader_of source.old)) (λ left.
+        IsNextFault left fault)) }
     ensures read { IsErrOf result TapeFault.ReadFailed ↔ IsTrue (source_failed source.new) }
     ensures sound { OnOk result (source_failed source.new ≡ false) }
 {
@@ -255,7 +265,7 @@ fn slots_of(header: &[u8; 8]) -> u32
     u32::from_be_bytes([header[4], header[5], header[6], header[7]])
 }
 
-/// Reads the blocks of so many slots, and answers what they show.
+/// Reads the blocks of this many slots, and returns what they show.
 fn read_slots<R: Read>(
     alloc: Global,
     source: &mut Source<R>,
@@ -312,8 +322,11 @@ fn read_piece<R: Read>(
     Ok(())
 }
 
-/// That each input is of exactly one kind (readable, short or long), for one tape and for tapes up to the end, and that its
-/// readings are the only ones. And what is made of a cell, slots and blocks is a tape that says and shows these.
+/// Laws of tapes. It does nothing: its contract is the statement.
+///
+/// Each input is of exactly one kind (readable, short or long), read as one tape and as tapes up to the end, and its
+/// readings are unique. The octets that are made of a cell, a number of slots and blocks are a tape that says and
+/// shows these.
 pub fn tapes_law()
     ensures tape { (input : List ℕ) → TapeIsOneKind input }
     ensures tape_kinds { (input : List ℕ) → TapeHasKind input }

@@ -3,7 +3,7 @@ use Rattle.std.proofs.Common.{◌≡◌, ℕ, ◌+◌, ◌<◌, true, List, leng
 use Rattle.std.specs.List.{All, AllPairs}
 use Rattle.std.proofs.lemmas.List.{length-map, get_or-map, get_or_default}
 use Rattle.std.proofs.lemmas.List.Elements.{All-map}
-use Rattle.std.proofs.lemmas.Bool.{and_from, lt-ltb, eqb-true, false≢true}
+use Rattle.std.proofs.lemmas.Bool.{and_from, le-leb, lt-ltb, eqb-true, false≢true}
 use Rattle.scheduler.specs.declared.tracked.Tracked.{Tracked}
 use Rattle.scheduler.specs.Message.{release, has_broadcast}
 use Rattle.scheduler.specs.Air.{Air, airs, pages_aired, IsPending, IsChosen, IsNoLater}
@@ -11,7 +11,7 @@ use Rattle.scheduler.specs.Message.{broadcast_at}
 use Rattle.scheduler.specs.Follows.{message_of, Counts}
 use Rattle.scheduler.specs.Kept.{IsFit, is_ready, IsServedFirst, IsChoice}
 use Rattle.scheduler.proofs.Air.{broadcast_at-released, broadcast_at-not_due, broadcast_at-only}
-use Rattle.scheduler.proofs.Counts.{is_ready-parts}
+use Rattle.scheduler.proofs.Counts.{is_ready-parts, is_ready-started}
 use Rattle.scheduler.proofs.Message.{has_broadcast-says, has_broadcast-from, is_before_stop-says, is_before_stop-from}
 use Rattle.scheduler.proofs.Lists.{rising-same}
 
@@ -20,10 +20,11 @@ pub IsPending-from_ready : (t : Tracked) (air : Air) → IsFit t (length air) �
 IsPending-from_ready t air fit counts ready =
     let m = message_of t in
     let parts = is_ready-parts t (length air) ready in
+    let started = is_ready-started t (length air) ready in
     record {
       requested = has_broadcast-says m (broadcast_at m (length air)) parts.0;
-      released = broadcast_at-released m (length air) fit.some_period fit.started;
-      not_due = broadcast_at-not_due m (length air) fit.some_period fit.started;
+      released = broadcast_at-released m (length air) fit.some_period started;
+      not_due = broadcast_at-not_due m (length air) fit.some_period started;
       standing = is_before_stop-says (length air) t.stop parts.1;
       unfinished = rw (← counts.aired) parts.2;
     }
@@ -31,7 +32,7 @@ IsPending-from_ready t air fit counts ready =
 -- and no other; and with a pending broadcast it is ready
 pub pending_is_now : (t : Tracked) (air : Air) (j : ℕ) → IsFit t (length air) → IsPending (message_of t) j air (length air) → j ≡ broadcast_at (message_of t) (length air)
 pending_is_now t air j fit pending =
-    broadcast_at-only (message_of t) (length air) j fit.some_period fit.started pending.released pending.not_due
+    broadcast_at-only (message_of t) (length air) j fit.some_period (omega (arith, pending.released)) pending.released pending.not_due
 
 pub ready_from_pending : (t : Tracked) (air : Air) (j : ℕ) → IsFit t (length air) → Counts t air → IsPending (message_of t) j air (length air) → is_ready t (length air) ≡ true
 ready_from_pending t air j fit counts pending =
@@ -41,7 +42,7 @@ ready_from_pending t air j fit counts pending =
     let requested : has_broadcast m (broadcast_at m (length air)) ≡ true = subst P now (has_broadcast-from m j pending.requested) in
     let aired = ap (λ i. pages_aired m.number air (release m i) (length air)) now in
     let few : t.aired < t.item.pages = omega (arith, aired, counts.aired, pending.unfinished) in
-    and_from _ _ requested (and_from _ _ (is_before_stop-from (length air) t.stop pending.standing) (lt-ltb t.aired t.item.pages few))
+    and_from _ _ (le-leb t.item.start (length air) (omega (arith, pending.released))) (and_from _ _ requested (and_from _ _ (is_before_stop-from (length air) t.stop pending.standing) (lt-ltb t.aired t.item.pages few)))
 
 -- what is chosen by what is kept is chosen by the rule
 pub IsChosen-from_choice : (tracked : List Tracked) (air : Air) (used : Option (ℕ × ℕ)) → All (λ t. IsFit t (length air)) tracked → All (λ t. Counts t air) tracked → IsChoice tracked (length air) used → IsChosen (map message_of tracked) air (length air) used

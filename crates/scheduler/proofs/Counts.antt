@@ -1,7 +1,7 @@
 -- What is kept of a message stays true to the air list.
-use Rattle.std.proofs.Common.{◌≡◌, ℕ, ◌+◌, ◌-◌, ◌%◌, ◌<◌, Bool, true, false, ◌&&◌, ltb, eqb, [], ◌∷◌, ◌++◌, length, Option, None, inl, inr, refl, sym, ap, subst, ◌∙◌, arith}
+use Rattle.std.proofs.Common.{◌≡◌, ℕ, ◌+◌, ◌-◌, ◌%◌, ◌≤◌, ◌<◌, Bool, true, false, ◌&&◌, leb, ltb, eqb, [], ◌∷◌, ◌++◌, length, Option, None, inl, inr, refl, sym, ap, subst, ◌∙◌, arith}
 use Rattle.std.proofs.lemmas.List.{length_push}
-use Rattle.std.proofs.lemmas.Bool.{cases_eq, ltb-true, eq-eqb, ne_eqb, and_parts}
+use Rattle.std.proofs.lemmas.Bool.{cases_eq, cases_lt, cases_Bool, leb-true, ltb-true, eq-eqb, ne_eqb, and_parts}
 use Rattle.scheduler.specs.declared.plan.Item.{Item}
 use Rattle.scheduler.specs.declared.tracked.Tracked.{Tracked}
 use Rattle.scheduler.specs.Message.{release, has_broadcast, is_before_stop}
@@ -19,32 +19,63 @@ aired_after : (t : Tracked) (air : Air) (used : Option (ℕ × ℕ)) → IsFit t
 aired_after t air used fit counts =
     let m = message_of t in
     let slot = length air in
-    let released = broadcast_at-released m slot fit.some_period fit.started in
-    elim (cases_eq ((slot + 1 - m.start) % m.period) 0) [
-      | inl over ↦
-          let at_end = next_release m slot fit.some_period fit.started over in
+    elim (cases_lt slot m.start) [
+      | inl early ↦
+          let over : (slot + 1 - m.start) % m.period ≡ 0 = nothing_over (slot + 1 - m.start) m.period fit.some_period (omega arith) in
           let none = pages_aired-none m.number (air ++ used ∷ []) (release m (broadcast_at m (slot + 1))) (slot + 1) (omega arith) in
           rw (eq-eqb _ 0 over) (sym none)
-      | inr goes_on ↦
-          let same = same_broadcast m slot fit.some_period fit.started goes_on in
-          let pushed = pages_aired-push m.number air used (release m (broadcast_at m slot)) released in
-          rw (ne_eqb _ 0 goes_on, same) (ap (λ n. n + one_if (airs m.number used)) counts.aired ∙ sym pushed)
+      | inr started ↦ elim (cases_eq ((slot + 1 - m.start) % m.period) 0) [
+        | inl over ↦
+            let at_end = next_release m slot fit.some_period started over in
+            let none = pages_aired-none m.number (air ++ used ∷ []) (release m (broadcast_at m (slot + 1))) (slot + 1) (omega arith) in
+            rw (eq-eqb _ 0 over) (sym none)
+        | inr goes_on ↦
+            let released = broadcast_at-released m slot fit.some_period started in
+            let same = same_broadcast m slot fit.some_period started goes_on in
+            let pushed = pages_aired-push m.number air used (release m (broadcast_at m slot)) released in
+            rw (ne_eqb _ 0 goes_on, same) (ap (λ n. n + one_if (airs m.number used)) counts.aired ∙ sym pushed)
+      ]
     ]
+  where
+    nothing_over : (n period : ℕ) → 0 < period → n ≡ 0 → n % period ≡ 0
+    nothing_over n period some none = omega arith
 
 -- what it means that a message is ready
 pub is_ready-parts : (t : Tracked) (slot : ℕ) → is_ready t slot ≡ true → (has_broadcast (message_of t) (broadcast_at (message_of t) slot) ≡ true) × (is_before_stop slot t.stop ≡ true) × (t.aired < t.item.pages)
 is_ready-parts t slot ready =
-    let first = and_parts (has_broadcast (message_of t) (broadcast_at (message_of t) slot)) (is_before_stop slot t.stop && ltb t.aired t.item.pages) ready in
+    let begun = and_parts (leb t.item.start slot) (has_broadcast (message_of t) (broadcast_at (message_of t) slot) && (is_before_stop slot t.stop && ltb t.aired t.item.pages)) ready in
+    let first = and_parts (has_broadcast (message_of t) (broadcast_at (message_of t) slot)) (is_before_stop slot t.stop && ltb t.aired t.item.pages) begun.1 in
     let second = and_parts (is_before_stop slot t.stop) (ltb t.aired t.item.pages) first.1 in
     (first.0, second.0, ltb-true t.aired t.item.pages second.1)
+
+pub is_ready-started : (t : Tracked) (slot : ℕ) → is_ready t slot ≡ true → t.item.start ≤ slot
+is_ready-started t slot ready =
+    leb-true t.item.start slot (and_parts (leb t.item.start slot) (has_broadcast (message_of t) (broadcast_at (message_of t) slot) && (is_before_stop slot t.stop && ltb t.aired t.item.pages)) ready).0
+
+-- before a message's start none of its broadcasts is whole
+none_whole : (t : Tracked) (air : Air) (slot : ℕ) → 0 < t.item.pages → slot ≤ t.item.start → completed (message_of t) air slot ≡ 0
+none_whole t air slot pages early =
+    count_below_none (is_whole (message_of t) air slot) (slot + 1) (λ j h. is_whole-unreleased (message_of t) air slot j pages (omega arith))
 
 -- the whole broadcasts, after the slot
 completed_after : (t : Tracked) (air : Air) (used : Option (ℕ × ℕ)) → IsFit t (length air) → Counts t air → (airs t.item.entry used ≡ true → is_ready t (length air) ≡ true) → (after_slot (length air) used t).completed ≡ completed (message_of t) (air ++ used ∷ []) (length air + 1)
 completed_after t air used fit counts ready =
     let m = message_of t in
-    let pushed = completed-push m air used fit.some_pages fit.some_period fit.started (λ u. let parts = is_ready-parts t (length air) (ready u) in (parts.0, parts.1, rw (← counts.aired) parts.2)) in
-    let same_pages = ap (λ n. one_if (airs m.number used && eqb (n + one_if (airs m.number used)) m.pages)) counts.aired in
-    omega (arith, pushed, same_pages, counts.completed)
+    elim (cases_lt (length air) m.start) [
+      | inl early ↦
+          let now = none_whole t air (length air) fit.some_pages (omega arith) in
+          let then = none_whole t (air ++ used ∷ []) (length air + 1) fit.some_pages (omega arith) in
+          elim (cases_Bool (airs t.item.entry used)) [
+            | inl named ↦ absurd (let started = is_ready-started t (length air) (ready named) in omega arith)
+            | inr other ↦
+                let none : one_if (airs t.item.entry used && eqb (t.aired + one_if (airs t.item.entry used)) t.item.pages) ≡ 0 = ap (λ (b : Bool). one_if (b && eqb (t.aired + one_if b) t.item.pages)) other in
+                omega (arith, none, now, then, counts.completed)
+          ]
+      | inr started ↦
+          let pushed = completed-push m air used fit.some_pages fit.some_period started (λ u. let parts = is_ready-parts t (length air) (ready u) in (parts.0, parts.1, rw (← counts.aired) parts.2)) in
+          let same_pages = ap (λ n. one_if (airs m.number used && eqb (n + one_if (airs m.number used)) m.pages)) counts.aired in
+          omega (arith, pushed, same_pages, counts.completed)
+    ]
 
 -- what is kept of a message counts the air list with the slot after it
 pub Counts-after : (t : Tracked) (air : Air) (used : Option (ℕ × ℕ)) → IsFit t (length air) → Counts t air → (airs t.item.entry used ≡ true → is_ready t (length air) ≡ true) → Counts (after_slot (length air) used t) (air ++ used ∷ [])
@@ -60,7 +91,7 @@ Counts-after t air used fit counts ready =
     }
 
 -- what a new message keeps counts the air list up to its start
-pub Counts-new : (item : Item) (air : Air) → 0 < item.pages → 0 < item.period → item.start ≡ length air → Counts (record { item = item; stop = None; aired = 0; completed = 0 }) air
+pub Counts-new : (item : Item) (air : Air) → 0 < item.pages → 0 < item.period → length air ≤ item.start → Counts (record { item = item; stop = None; aired = 0; completed = 0 }) air
 Counts-new item air pages period started =
     let m = message_from item in
     record {
@@ -82,7 +113,6 @@ pub IsFit-after : (t : Tracked) (slot : ℕ) (used : Option (ℕ × ℕ)) → Is
 IsFit-after t slot used fit =
     let one = one_if-le (airs t.item.entry used && eqb (t.aired + one_if (airs t.item.entry used)) t.item.pages) in
     record {
-      started = omega (arith, fit.started);
       some_pages = fit.some_pages;
       some_period = fit.some_period;
       few = omega (arith, fit.few, one);

@@ -1,5 +1,5 @@
 -- A plan goes on to follow its messages and their air list.
-use Rattle.std.proofs.Common.{Vec, ◌≡◌, ◌==◌, ℕ, ◌+◌, ◌<◌, Bool, true, false, cond, List, [], ◌∷◌, ◌++◌, length, get_or, map, Option, None, refl, sym, ap, subst, ◌∙◌, arith}
+use Rattle.std.proofs.Common.{Vec, ◌≡◌, ◌==◌, ℕ, ◌+◌, ◌≤◌, ◌<◌, Bool, true, false, cond, List, [], ◌∷◌, ◌++◌, length, get_or, map, Option, None, refl, sym, ap, subst, ◌∙◌, arith}
 use Rattle.std.specs.List.{All, AllPairs, Any}
 use Rattle.std.proofs.lemmas.List.{length_push, length-map, get_or-map, map_push, with_items_is}
 use Rattle.std.proofs.lemmas.List.Elements.{All-map, All-push}
@@ -69,10 +69,10 @@ kept_new item = record { item = item; stop = None; aired = 0; completed = 0 }
 abbrev pub kept_with : Kept → Item → Kept
 kept_with plan item = record { slot = plan.slot; tracked = plan.tracked ++ kept_new item ∷ [] }
 
-pub IsSound-add : (plan : Kept) (item : Item) → All (λ m. m.number < item.entry) (messages_of plan) → item.start ≡ plan.slot → 0 < item.pages → 0 < item.period → IsSound plan → IsSound (kept_with plan item)
+pub IsSound-add : (plan : Kept) (item : Item) → All (λ m. m.number < item.entry) (messages_of plan) → plan.slot ≤ item.start → 0 < item.pages → 0 < item.period → IsSound plan → IsSound (kept_with plan item)
 IsSound-add plan item above start pages period sound = record {
   rising = rising-push (λ (t : Tracked). t.item.entry) plan.tracked (kept_new item) sound.rising (numbers plan.tracked item.entry above);
-  fit = All-push (λ t. IsFit t plan.slot) plan.tracked (kept_new item) sound.fit (record { started = omega arith; some_pages = pages; some_period = period; few = omega arith });
+  fit = All-push (λ t. IsFit t plan.slot) plan.tracked (kept_new item) sound.fit (record { some_pages = pages; some_period = period; few = omega arith });
   within = sound.within;
 }
   where
@@ -81,11 +81,11 @@ IsSound-add plan item above start pages period sound = record {
         let e = ap (λ (m : Message). m.number) (get_or-map message_of tracked k d (message_of d) within) in
         omega (arith, e, h k (message_of d) (omega (arith, length-map tracked message_of, within)))
 
-pub Follows-add : (plan : Kept) (item : Item) (messages : List Message) (air : Air) → item.start ≡ plan.slot → 0 < item.pages → 0 < item.period → Follows plan messages air → Follows (kept_with plan item) (messages ++ message_from item ∷ []) air
+pub Follows-add : (plan : Kept) (item : Item) (messages : List Message) (air : Air) → plan.slot ≤ item.start → 0 < item.pages → 0 < item.period → Follows plan messages air → Follows (kept_with plan item) (messages ++ message_from item ∷ []) air
 Follows-add plan item messages air start pages period follows = record {
   told = map_push message_of plan.tracked (kept_new item) ∙ ap (λ ms. ms ++ message_from item ∷ []) follows.told;
   asked = follows.asked;
-  counted = All-push (λ t. Counts t air) plan.tracked (kept_new item) follows.counted (Counts-new item air pages period (start ∙ follows.asked));
+  counted = All-push (λ t. Counts t air) plan.tracked (kept_new item) follows.counted (Counts-new item air pages period (omega (arith, start, follows.asked)));
 }
 
 -- what is kept where a message is stopped
@@ -98,7 +98,7 @@ kept_stopped plan entry slot = record {
 pub IsSound-stop : (plan : Kept) (entry slot : ℕ) → IsSound plan → IsSound (kept_stopped plan entry slot)
 IsSound-stop plan entry slot sound = record {
   rising = rising-map (λ (t : Tracked). t.item.entry) (λ (t : Tracked). stopped_kept (t.item.entry == entry) slot t) (λ t. refl) plan.tracked sound.rising;
-  fit = All-map (λ t. IsFit t plan.slot) (λ (t : Tracked). stopped_kept (t.item.entry == entry) slot t) plan.tracked (λ k d h. let f = sound.fit k d h in record { started = f.started; some_pages = f.some_pages; some_period = f.some_period; few = f.few });
+  fit = All-map (λ t. IsFit t plan.slot) (λ (t : Tracked). stopped_kept (t.item.entry == entry) slot t) plan.tracked (λ k d h. let f = sound.fit k d h in record { some_pages = f.some_pages; some_period = f.some_period; few = f.few });
   within = sound.within;
 }
 
@@ -136,7 +136,7 @@ completed-told plan entry result messages air found follows =
     subst Told follows.told (All-map (λ m. m.number ≡ entry → result ≡ completed m air (length air)) message_of plan.tracked (λ k d h. λ named. found k d h named ∙ (follows.counted k d h).completed))
 
 -- the same where it is known by a test whether there was room
-pub IsSound-add_if : (plan : Kept) (item : Item) (added : Bool) (tracked : List Tracked) → tracked ≡ cond added (plan.tracked ++ kept_new item ∷ []) plan.tracked → All (λ m. m.number < item.entry) (messages_of plan) → item.start ≡ plan.slot → 0 < item.pages → 0 < item.period → IsSound plan → IsSound (record { slot = plan.slot; tracked = tracked })
+pub IsSound-add_if : (plan : Kept) (item : Item) (added : Bool) (tracked : List Tracked) → tracked ≡ cond added (plan.tracked ++ kept_new item ∷ []) plan.tracked → All (λ m. m.number < item.entry) (messages_of plan) → plan.slot ≤ item.start → 0 < item.pages → 0 < item.period → IsSound plan → IsSound (record { slot = plan.slot; tracked = tracked })
 IsSound-add_if plan item true tracked is above start pages period sound =
     let P : List Tracked → Type 0 = λ ts. IsSound (record { slot = plan.slot; tracked = ts }) in
     subst P (sym is) (IsSound-add plan item above start pages period sound)

@@ -1,14 +1,17 @@
 -- Lemmas on the message that is ready first.
 use Rattle.std.proofs.Common.{◌≡◌, ℕ, ◌+◌, ◌≤◌, ◌<◌, ◌⊎◌, true, false, List, [], ◌∷◌, ◌++◌, length, get_or, take, Option, Some, None, inl, inr, refl, sym, ap, subst, ◌∙◌, arith}
 use Rattle.std.specs.List.{All, AllPairs}
+use Rattle.std.specs.Option.{ForSome}
 use Rattle.std.proofs.lemmas.List.{get_or_default, take_more}
-use Rattle.std.proofs.lemmas.List.Elements.{All-push, Contains-push, Contains-append_left}
+use Rattle.std.proofs.lemmas.List.Elements.{All-push, All-take, All-contains, Contains-push, Contains-append_left}
 use Rattle.std.proofs.lemmas.Bool.{false≢true}
+use Rattle.std.proofs.lemmas.Option.{none-some}
 use Rattle.scheduler.specs.declared.tracked.Tracked.{Tracked}
 use Rattle.scheduler.specs.Message.{Message}
 use Rattle.scheduler.specs.Air.{IsNoLater, class}
 use Rattle.scheduler.specs.Follows.{message_of}
-use Rattle.scheduler.specs.Kept.{IsServedFirst, IsFirstOf, IsEarlier, is_ready}
+use Rattle.scheduler.specs.Kept.{IsFit, HasStarted, IsServedFirst, IsFirstOf, IsEarlier, is_ready}
+use Rattle.scheduler.proofs.Counts.{is_ready-started}
 use Rattle.scheduler.proofs.Lists.{rising-same}
 
 -- the message of a number is at one place, so what is found first is the only one
@@ -90,3 +93,18 @@ IsFirstOf-more_not tracked slot i first d h not seen =
 pub IsFirstOf-more_ready : (tracked : List Tracked) (slot i : ℕ) (first : Option Tracked) (d t : Tracked) → i < length tracked → is_ready (get_or tracked i d) slot ≡ true → IsEarlier slot first (get_or tracked i d) t → IsFirstOf (take i tracked) slot first → IsFirstOf (take (i + 1) tracked) slot (Some t)
 IsFirstOf-more_ready tracked slot i first d t h ready earlier seen =
     rw (take_more tracked i d h) (IsFirstOf-push_ready (take i tracked) slot first (get_or tracked i d) t ready earlier seen)
+
+-- the first so far is fit, and has started
+pub first_started : (tracked : List Tracked) (slot i : ℕ) (first : Option Tracked) → All (λ t. IsFit t slot) tracked → IsFirstOf (take i tracked) slot first → ForSome first (λ t. HasStarted t slot)
+first_started tracked slot i None fit h = λ x is. absurd (none-some x is)
+first_started tracked slot i (Some t) fit h = λ x is.
+    let Fit : Tracked → Type 0 = λ y. IsFit y slot in
+    let Started : Tracked → Type 0 = λ y. HasStarted y slot in
+    let same : t ≡ x = cc in
+    subst Started same (record {
+      fit = All-contains Fit (take i tracked) t (All-take Fit i tracked fit) h.0;
+      started = is_ready-started t slot h.1.ready;
+    })
+
+pub ready_started : (t : Tracked) (slot : ℕ) → IsFit t slot → is_ready t slot ≡ true → HasStarted t slot
+ready_started t slot fit ready = record { fit = fit; started = is_ready-started t slot ready }

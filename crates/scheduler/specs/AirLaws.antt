@@ -67,8 +67,8 @@ LaterStopsChangeNothing = (messages : List Message) (number slot : ℕ) (air : A
     → IsAirOf messages air
     → IsAirOf (stopped_at number slot messages) air
 
--- a slot that airs a page of a message airs the next page of the one broadcast of it that is pending: so the pages of a broadcast
--- come in order, and none comes at or after the stop
+-- a slot that airs a page of a message airs the next page of the one broadcast of it that is pending: so the pages of
+-- a broadcast come in order, and none comes at or after the stop
 abbrev pub PagesComeInOrder : Type 0
 PagesComeInOrder = (messages : List Message) (air : Air) (slot : ℕ) (message : Message)
     → NumbersRise messages
@@ -88,7 +88,8 @@ AtMostItsPages = (messages : List Message) (air : Air) (message : Message) (j sl
     → slot ≤ due message j
     → pages_aired message.number air (release message j) slot ≤ message.pages
 
--- of a broadcast of which some pages are aired before a slot, and by its due slot, each page up to that number is aired once
+-- of a broadcast of which some pages are aired before a slot, and by its due slot, each page up to that number is
+-- aired once
 abbrev pub PagesComeOnce : Type 0
 PagesComeOnce = (messages : List Message) (air : Air) (message : Message) (j page slot : ℕ)
     → NumbersRise messages

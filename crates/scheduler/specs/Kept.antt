@@ -1,5 +1,5 @@
 -- What a plan keeps of its messages. No public contract speaks of it.
-use Rattle.std.specs.Prelude.{◌≡◌, ℕ, ◌+◌, ◌-◌, ◌%◌, ◌<◌, ◌≤◌, ◌==◌, ◌⊎◌, Bool, true, false, ◌&&◌, nat_lt, if◌then◌else◌, Option, Some, None, List, All, Any, AllPairs, Contains}
+use Rattle.std.specs.Prelude.{◌≡◌, ℕ, ◌+◌, ◌-◌, ◌%◌, ◌<◌, ◌≤◌, ◌==◌, ◌⊎◌, Bool, true, false, ◌&&◌, nat_le, nat_lt, if◌then◌else◌, Option, Some, None, List, All, Any, AllPairs, Contains}
 use Rattle.scheduler.specs.declared.tracked.Tracked.{Tracked}
 use Rattle.scheduler.specs.Message.{has_broadcast, is_before_stop, broadcast_at}
 use Rattle.scheduler.specs.Air.{airs, IsNoLater}
@@ -7,10 +7,14 @@ use Rattle.scheduler.specs.Follows.{Kept, message_of}
 
 -- what is true of each kept message at the slot that is asked next
 pub record IsFit (t : Tracked) (slot : ℕ) : Type 0 where
-  pub started : t.item.start ≤ slot
   pub some_pages : 0 < t.item.pages
   pub some_period : 0 < t.item.period
   pub few : t.completed ≤ slot
+
+-- a message that is fit and has started by the slot
+pub record HasStarted (t : Tracked) (slot : ℕ) : Type 0 where
+  pub fit : IsFit t slot
+  pub started : t.item.start ≤ slot
 
 -- and of all that a plan keeps: the numbers rise
 pub record IsSound (plan : Kept) : Type 0 where
@@ -18,10 +22,10 @@ pub record IsSound (plan : Kept) : Type 0 where
   pub fit : All (λ t. IsFit t plan.slot) plan.tracked
   pub within : plan.slot ≤ 65535
 
--- the message has a page to air at the slot
+-- the message has started, and has a page to air at the slot
 abbrev pub is_ready : Tracked → ℕ → Bool
 is_ready t slot =
-    has_broadcast (message_of t) (broadcast_at (message_of t) slot) && (is_before_stop slot t.stop && nat_lt t.aired t.item.pages)
+    nat_le t.item.start slot && (has_broadcast (message_of t) (broadcast_at (message_of t) slot) && (is_before_stop slot t.stop && nat_lt t.aired t.item.pages))
 
 -- of two messages, a is served no later than b at the slot
 abbrev pub IsServedFirst : ℕ → Tracked → Tracked → Type 0

@@ -10,7 +10,8 @@ pub fn air_laws()
     ensures one_choice { OneChoice }
     ensures some_choice { SomeChoice }
 
-    // An air list by the rule grows by what is chosen, each front of it is by the rule, and it is the only one of its length.
+    // An air list by the rule grows by what is chosen, each front of it is by the rule, and it is the only one of its
+    // length.
     ensures grows { GrowsByTheChoice }
     ensures front { FrontsAreByTheRule }
     ensures one_air { OneAirList }
@@ -28,7 +29,8 @@ pub fn air_laws()
     // No broadcast has more pages aired, by its due slot, than its message has.
     ensures at_most_its_pages { AtMostItsPages }
 
-    // Each page that is aired of a broadcast is aired once: so a broadcast that is whole has each page of its message once.
+    // Each page that is aired of a broadcast is aired once: so a broadcast that is whole has each page of its message
+    // once.
     ensures pages_come_once { PagesComeOnce }
     ensures whole_is_each_page_once { WholeIsEachPageOnce }
 

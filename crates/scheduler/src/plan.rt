@@ -6,7 +6,7 @@ ghost use Rattle.scheduler.specs.Message.{Message, stopped_at};
 ghost use Rattle.scheduler.specs.Air.{Air, airs, IsChosen};
 ghost use Rattle.scheduler.specs.Completed.{completed};
 ghost use Rattle.scheduler.specs.Follows.{Follows, next_slot, messages_of, message_of, message_from};
-ghost use Rattle.scheduler.specs.Kept.{IsFit, IsFirstOf, IsEarlier, IsChoice, after_slot, stopped_kept};
+ghost use Rattle.scheduler.specs.Kept.{IsFit, HasStarted, IsFirstOf, IsEarlier, IsChoice, after_slot, stopped_kept};
 
 use crate::tracked::Tracked;
 use std::alloc::Global;
@@ -82,11 +82,12 @@ impl Plan {
         }
     }
 
-    /// Adds a message, that stands from the slot that is asked next. Its number is above those of the messages added
-    /// before, and it has a page or more and a period of 1 slot or more. After `Err` the plan is unchanged.
+    /// Adds a message, that stands from the slot that is asked next, or from a later one. Its number is above those
+    /// of the messages added before, and it has a page or more and a period of 1 slot or more. After `Err` the plan
+    /// is unchanged.
     pub fn add(&mut self, item: Item) -> Result<(), Refused>
         requires rising { All (λ m. m.number < item.entry) (messages_of self.old) }
-        requires at_next { item.start ≡ next_slot self.old }
+        requires from_next { next_slot self.old ≤ item.start }
         requires some_pages { 0 < item.pages }
         requires some_period { 0 < item.period }
         ensures follows { OnOk result ((messages : List Message) (air : Air)
@@ -236,8 +237,8 @@ fn first_ready(tracked: &[Tracked], slot: u16) -> Option<Tracked>
 
 /// The one of two that is served first at `slot`.
 fn earlier(first: Option<Tracked>, candidate: Tracked, slot: u16) -> Tracked
-    requires first_fit { ForSome first (λ t. IsFit t slot) }
-    requires candidate_fit { IsFit candidate slot }
+    requires first_started { ForSome first (λ t. HasStarted t slot) }
+    requires candidate_started { HasStarted candidate slot }
     ensures { IsEarlier slot first candidate result }
 {
     match first {

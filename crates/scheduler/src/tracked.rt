@@ -3,7 +3,7 @@
 ghost use Rattle.std.specs.Prelude.{◌≡◌, ◌==◌, ℕ, ◌+◌, ◌<◌, ◌≤◌, true, MatchBool};
 ghost use Rattle.scheduler.specs.Message.{broadcast_at};
 ghost use Rattle.scheduler.specs.Follows.{message_of};
-ghost use Rattle.scheduler.specs.Kept.{IsFit, is_ready, IsServedFirst, after_slot, stopped_kept};
+ghost use Rattle.scheduler.specs.Kept.{IsFit, HasStarted, is_ready, IsServedFirst, after_slot, stopped_kept};
 ghost use Rattle.scheduler.specs.Air.{airs};
 ghost use Rattle.scheduler.specs.Message.{release, due, has_broadcast, is_before_stop};
 
@@ -37,20 +37,20 @@ impl Tracked {
 
     /// The slot at which the broadcast that is under way at `slot` is due.
     fn due(&self, slot: u16) -> u32
-        requires { IsFit self.now slot }
+        requires { HasStarted self.now slot }
         ensures { result ≡ due (message_of self.now) (broadcast_at (message_of self.now) slot) }
     {
         let Item { start, period, .. } = self.item;
         start + (self.broadcast(slot) + 1) * u32::from(period)
     }
 
-    /// The broadcast that is under way at `slot`.
+    /// The broadcast that is under way at `slot`; the first one before the start.
     fn broadcast(&self, slot: u16) -> u32
         requires { IsFit self.now slot }
         ensures value { result ≡ broadcast_at (message_of self.now) slot }
-        ensures released { release (message_of self.now) result ≤ slot }
+        ensures released { self.now.item.start ≤ slot → release (message_of self.now) result ≤ slot }
     {
-        (u32::from(slot) - self.item.start) / u32::from(self.item.period)
+        u32::from(slot).saturating_sub(self.item.start) / u32::from(self.item.period)
     }
 
     /// Whether the message has a page to air at `slot`.
@@ -58,19 +58,20 @@ impl Tracked {
         requires { IsFit self.now slot }
         ensures { result ≡ is_ready self.now slot }
     {
+        let is_started = self.item.start <= u32::from(slot);
         let is_requested = self.item.broadcasts == 0
             || self.broadcast(slot) < u32::from(self.item.broadcasts);
         let is_standing = match self.stop {
             None => true,
             Some(stop) => slot < stop,
         };
-        is_requested && is_standing && self.aired < self.item.pages
+        is_started && is_requested && is_standing && self.aired < self.item.pages
     }
 
     /// Whether the message is served no later than another at `slot`.
     pub fn is_served_first(&self, other: &Tracked, slot: u16) -> bool
-        requires this_fit { IsFit self.now slot }
-        requires other_fit { IsFit other.now slot }
+        requires this_started { HasStarted self.now slot }
+        requires other_started { HasStarted other.now slot }
         ensures { MatchBool result (IsServedFirst slot self.now other.now)
             (IsServedFirst slot other.now self.now) }
     {
@@ -97,7 +98,7 @@ impl Tracked {
         };
         let pages = self.aired + u8::from(is_used);
         let is_whole = is_used && pages == self.item.pages;
-        let passed = u32::from(slot) + 1 - self.item.start;
+        let passed = (u32::from(slot) + 1).saturating_sub(self.item.start);
         Tracked {
             aired: if passed % u32::from(self.item.period) == 0 {
                 0

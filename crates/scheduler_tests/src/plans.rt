@@ -21,7 +21,15 @@ fn add(
         broadcasts,
         high,
     };
-    if pages == 0 || period == 0 || !plan.is_above_all(entry) {
+    add_item(plan, item)
+}
+
+/// Adds a message. `None` is a message that may not be added now.
+fn add_item(plan: &mut Plan, item: Item) -> Option<Item> {
+    if u32::from(plan.next_slot()) > item.start || item.pages == 0 || item.period == 0 {
+        return None;
+    }
+    if !plan.is_above_all(item.entry) {
         return None;
     }
     match plan.add(item) {
@@ -123,6 +131,31 @@ fn drops_what_is_due(rt: HostRuntime) {
     assert_eq!(rt; stop(&mut plan, 5), Some(1));
     assert_eq!(rt; air(&mut plan), None);
     assert_eq!(rt; done(&plan, 5), Some(1));
+}
+
+/// A message that is added ahead of its start is aired from there on, and one that is behind isn't added.
+#[test]
+fn waits_for_its_start(rt: HostRuntime) {
+    let mut plan = Plan::new(rt.alloc());
+    let item = Item {
+        entry: 0,
+        start: 3,
+        pages: 1,
+        period: 2,
+        broadcasts: 2,
+        high: false,
+    };
+    assert!(rt; add_item(&mut plan, item).is_some());
+    for slot in 0..9 {
+        let used = if slot == 3 || slot == 5 {
+            Some((0, 1))
+        } else {
+            None
+        };
+        assert_eq!(rt; air(&mut plan), used, "slot {slot}");
+    }
+    assert_eq!(rt; done(&plan, 0), Some(2));
+    assert!(rt; add_item(&mut plan, Item { entry: 1, ..item }).is_none());
 }
 
 /// A plan keeps each message that was added, however many: 300 of one broadcast, all stopped but the last.

@@ -6,7 +6,8 @@ use Rattle.handset.proofs.input.read_front.Given as goal
 abbrev pub invariant-loop-filled : goal.invariant-loop-filled
 invariant-loop-filled g l = record {
   bound : l.filled ≤ length l.buffer;
-  consumed : Consumes (g.R.Read.remaining (reader_of l.initial.source)) (g.R.Read.remaining (reader_of l.source)) (take l.filled l.buffer);
+  consumed : Consumes (g.R.Read.remaining (reader_of l.initial.source)) (g.R.Read.remaining (reader_of l.source))
+      (take l.filled l.buffer);
   sound : source_failed l.source ≡ false;
 }
 

@@ -1,4 +1,5 @@
-use Rattle.std.proofs.Common.{◌≡◌, ◌∙◌, ℕ, ◌+◌, ◌<◌, Bool, true, false, Option, Some, None, Bor, is_some, List, [], ◌∷◌, ◌++◌, find, get_or, refl, sym, ap, arith, eqb}
+use Rattle.std.proofs.Common.{◌≡◌, ◌∙◌, ℕ, ◌+◌, ◌<◌, Bool, true, false, Option, Some, None, Bor, is_some, List, [], ◌∷◌}
+use Rattle.std.proofs.Common.{◌++◌, find, get_or, refl, sym, ap, arith, eqb}
 use Rattle.std.specs.Option.{option_copied}
 use Rattle.std.specs.Prelude.{not}
 use Rattle.std.specs.List.{list_all, range_with_len}
@@ -16,16 +17,20 @@ abbrev has : Name → List PageView → ℕ → Bool
 has name pages number = is_some (find (is_numbered name number) pages)
 
 -- a page of some number up to the total is missing
-missing : (name : Name) (pages : List PageView) (before : ℕ) → before < total_kept name pages → has name pages (before + 1) ≡ false → is_whole name pages ≡ false
+missing : (name : Name) (pages : List PageView) (before : ℕ) → before < total_kept name pages →
+    has name pages (before + 1) ≡ false → is_whole name pages ≡ false
 missing name pages before within none =
     let there : get_or (range_with_len 1 (total_kept name pages)) before 0 ≡ before + 1 =
-    get_or-range_with_len 1 (total_kept name pages) before 0 within ∙ (let e : 1 + before ≡ before + 1 = omega arith in e) in
-    and_right (not (eqb (total_kept name pages) 0)) (list_all (has name pages) (range_with_len 1 (total_kept name pages)))
+    get_or-range_with_len 1 (total_kept name pages) before 0 within
+    ∙ (let e : 1 + before ≡ before + 1 = omega arith in e) in
+    and_right (not (eqb (total_kept name pages) 0))
+    (list_all (has name pages) (range_with_len 1 (total_kept name pages)))
     (list_all_at (has name pages) (range_with_len 1 (total_kept name pages)) before 0
     (omega (arith, length-range_with_len 1 (total_kept name pages))) (ap (has name pages) there ∙ none))
 
 -- one more number has its page
-one_more : (name : Name) (pages : List PageView) (before : ℕ) → list_all (has name pages) (range_with_len 1 before) ≡ true →
+one_more : (name : Name) (pages : List PageView) (before : ℕ) →
+    list_all (has name pages) (range_with_len 1 before) ≡ true →
     has name pages (before + 1) ≡ true → list_all (has name pages) (range_with_len 1 (before + 1)) ≡ true
 one_more name pages before all here =
     let next : 1 + before ≡ before + 1 = omega arith in
@@ -46,5 +51,6 @@ returns-then-is_none c =
 pub loop-before-preserved : goal.loop-before-preserved
 loop-before-preserved c =
     let some : is_some c.page_with.result ≡ true = c.is_none.ensures ∙ ap not c.if-is_none.false in
-    one_more (name_of c.args.last.now) (c.args.pages.now ++ c.args.last.now ∷ []) c.loop-before.before c.loop-before.invariant
+    one_more (name_of c.args.last.now)
+    (c.args.pages.now ++ c.args.last.now ∷ []) c.loop-before.before c.loop-before.invariant
     (ap is_some (sym c.page_with.ensures) ∙ copied_some c.page_with.result ∙ some)

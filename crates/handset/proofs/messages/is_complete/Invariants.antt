@@ -6,4 +6,5 @@ use Rattle.handset.proofs.messages.is_complete.Given as goal
 
 abbrev pub invariant-loop-before : goal.invariant-loop-before
 invariant-loop-before l =
-    list_all (λ number. is_some (find (is_numbered (name_of l.last) number) (l.pages ++ l.last ∷ []))) (range_with_len 1 l.before) ≡ true
+    list_all (λ number. is_some (find (is_numbered (name_of l.last) number) (l.pages ++ l.last ∷ [])))
+    (range_with_len 1 l.before) ≡ true

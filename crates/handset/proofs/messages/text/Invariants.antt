@@ -10,4 +10,5 @@ abbrev pub invariant-loop-before : goal.invariant-loop-before
 invariant-loop-before l =
     string_bytes l.text
     ≡ encode_utf8_all
-    (flat_map (λ number. option_map_or text_of_page (find (is_numbered (name_of l.last) number) (l.pages ++ l.last ∷ [])) []) (range_with_len 1 l.before))
+    (flat_map (λ number. option_map_or text_of_page
+    (find (is_numbered (name_of l.last) number) (l.pages ++ l.last ∷ [])) []) (range_with_len 1 l.before))

@@ -21,7 +21,8 @@ returns-clause-tape g c =
     rw (c.cell_of.ensures, c.slots_of-slots.ensures)
     (ReadsTape-from old mid new header (messages_of c.in_ok-shown.shown.items) eight (omega arith)
     (subst (Consumes old mid) whole c.in_ok-count.ensures.octets)
-    (subst (λ n. ReadsBlocks mid new n (messages_of c.in_ok-shown.shown.items)) c.slots_of-slots.ensures c.in_ok-shown.ensures.shown))
+    (subst (λ n. ReadsBlocks mid new n (messages_of c.in_ok-shown.shown.items)) c.slots_of-slots.ensures
+    c.in_ok-shown.ensures.shown))
 
 pub returns-in_err-shown-clause-extent : goal.returns-in_err-shown-clause-extent
 returns-in_err-shown-clause-extent g c =
@@ -35,4 +36,5 @@ returns-in_err-shown-clause-extent g c =
     rw (failed.1, failed.2)
     (stops-in-blocks old mid new header _ (subst (Consumes old mid) whole c.in_ok-count.ensures.octets) (omega arith)
     (omega arith)
-    (subst (λ n. StopsInOctets mid new (92 * n) c.in_err-shown.field-0.0) c.slots_of-slots.ensures c.in_err-shown.ensures.extent))
+    (subst (λ n. StopsInOctets mid new (92 * n) c.in_err-shown.field-0.0) c.slots_of-slots.ensures
+    c.in_err-shown.ensures.extent))

@@ -15,9 +15,11 @@ returns-in-Ok-false-clause-fault g c =
     let old : Option (List ℕ) = remaining (reader_of c.args.source.now) in
     let new : Option (List ℕ) = remaining (reader_of c.next_tape.new.source) in
     let reads : ReadsTape old new (reading_of c.in-Ok-Some.reading) =
-    subst (λ next. IfSome next (λ r. ReadsTape old new (reading_of r))) c.in-Ok-Some.field-0-is c.in-Ok-Some.ensures.tape in
+    subst (λ next. IfSome next (λ r. ReadsTape old new (reading_of r))) c.in-Ok-Some.field-0-is
+    c.in-Ok-Some.ensures.tape in
     let more : IfSome new (λ left. 0 < length left) =
-    subst (λ b. MatchBool b (IsAtEnd new) (IfSome new (λ left. 0 < length left))) c.in-Ok-false.field-0-test c.in-Ok-false.ensures.end in
+    subst (λ b. MatchBool b (IsAtEnd new) (IfSome new (λ left. 0 < length left))) c.in-Ok-false.field-0-test
+    c.in-Ok-false.ensures.end in
     tape_goes_on old new (reading_of c.in-Ok-Some.reading) reads more
 
 pub returns-then-failed-clause-extent : goal.returns-then-failed-clause-extent
@@ -39,11 +41,13 @@ returns-in-Ok-false-clause-extent g c =
     let mid : Option (List ℕ) = remaining (reader_of c.next_tape.new.source) in
     let new : Option (List ℕ) = remaining (reader_of c.is_at_end.new.source) in
     let reads : ReadsTape old mid (reading_of c.in-Ok-Some.reading) =
-    subst (λ next. IfSome next (λ r. ReadsTape old mid (reading_of r))) c.in-Ok-Some.field-0-is c.in-Ok-Some.ensures.tape in
+    subst (λ next. IfSome next (λ r. ReadsTape old mid (reading_of r))) c.in-Ok-Some.field-0-is
+    c.in-Ok-Some.ensures.tape in
     let one : ReadsTapes old mid ([] ++ reading_of c.in-Ok-Some.reading ∷ []) =
     ReadsTapes-more old old mid [] (reading_of c.in-Ok-Some.reading) (ReadsTapes-none old) reads in
     let more : ReadsCount mid new 1 =
-    subst (λ b. MatchBool b (IsAtEnd new) (ReadsCount mid new 1)) c.in-Ok-false.field-0-test c.in-Ok-false.ensures.read in
+    subst (λ b. MatchBool b (IsAtEnd new) (ReadsCount mid new 1)) c.in-Ok-false.field-0-test
+    c.in-Ok-false.ensures.read in
     stops-at-more 1 old mid new ([] ++ reading_of c.in-Ok-Some.reading ∷ []) one refl more
 
 pub returns-clause-extent : goal.returns-clause-extent
@@ -53,7 +57,8 @@ returns-clause-extent g c =
     let mid : Option (List ℕ) = remaining (reader_of c.next_tape.new.source) in
     let new : Option (List ℕ) = remaining (reader_of c.is_at_end.new.source) in
     let reads : ReadsTape old mid (reading_of c.in-Ok-Some.reading) =
-    subst (λ next. IfSome next (λ r. ReadsTape old mid (reading_of r))) c.in-Ok-Some.field-0-is c.in-Ok-Some.ensures.tape in
+    subst (λ next. IfSome next (λ r. ReadsTape old mid (reading_of r))) c.in-Ok-Some.field-0-is
+    c.in-Ok-Some.ensures.tape in
     let one : ReadsTapes old mid ([] ++ reading_of c.in-Ok-Some.reading ∷ []) =
     ReadsTapes-more old old mid [] (reading_of c.in-Ok-Some.reading) (ReadsTapes-none old) reads in
     stops-at-last 1 old mid new ([] ++ reading_of c.in-Ok-Some.reading ∷ []) one refl c.in-Err-is_at_end.ensures.stopped

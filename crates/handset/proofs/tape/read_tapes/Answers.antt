@@ -16,7 +16,8 @@ loop-alloc-preserved g c = record {
       let old : Option (List ℕ) = remaining (reader_of c.loop-alloc.source) in
       let new : Option (List ℕ) = remaining (reader_of c.next_tape.new.source) in
       let reads : ReadsTape old new (reading_of c.in-Ok-Some.reading) =
-      subst (λ next. IfSome next (λ r. ReadsTape old new (reading_of r))) c.in-Ok-Some.field-0-is c.in-Ok-Some.ensures.tape in
+      subst (λ next. IfSome next (λ r. ReadsTape old new (reading_of r))) c.in-Ok-Some.field-0-is
+      c.in-Ok-Some.ensures.tape in
       rw c.in_ok-push_reading-in-Ok-Some.ensures.readings
       (ReadsTapes-more (remaining (reader_of c.args.source.now)) old new
       (readings_of c.loop-alloc.readings.items) (reading_of c.in-Ok-Some.reading) c.loop-alloc.invariant.tapes reads);
@@ -35,7 +36,13 @@ returns-in_err-piece-clause-extent g c =
 pub returns-in-Err-clause-extent : goal.returns-in-Err-clause-extent
 returns-in-Err-clause-extent g c =
     stops-at-next 64 _ _ _ (readings_of c.loop-alloc.readings.items) c.in-Err.fault c.loop-alloc.invariant.tapes
-    (omega (arith, length-map c.loop-alloc.readings.items reading_of, c.loop-alloc.readings.ok, c.len.ensures, c.loop-alloc-test.true))
+    (omega (
+      arith,
+      length-map c.loop-alloc.readings.items reading_of,
+      c.loop-alloc.readings.ok,
+      c.len.ensures,
+      c.loop-alloc-test.true,
+    ))
     c.in-Err.ensures.extent
 
 pub returns-in_err-push_reading-in-Ok-Some-clause-extent : goal.returns-in_err-push_reading-in-Ok-Some-clause-extent
@@ -44,12 +51,19 @@ returns-in_err-push_reading-in-Ok-Some-clause-extent g c =
     let old : Option (List ℕ) = remaining (reader_of c.loop-alloc.source) in
     let new : Option (List ℕ) = remaining (reader_of c.next_tape.new.source) in
     let reads : ReadsTape old new (reading_of c.in-Ok-Some.reading) =
-    subst (λ next. IfSome next (λ r. ReadsTape old new (reading_of r))) c.in-Ok-Some.field-0-is c.in-Ok-Some.ensures.tape in
+    subst (λ next. IfSome next (λ r. ReadsTape old new (reading_of r))) c.in-Ok-Some.field-0-is
+    c.in-Ok-Some.ensures.tape in
     let failed =
     err_from_is_err_and c.from_residual-in_err-push_reading-in-Ok-Some.result
     c.from_residual-in_err-push_reading-in-Ok-Some.ensures.1 in
     rw (failed.1, failed.2, c.in_err-push_reading-in-Ok-Some.ensures.refused)
     (stops-at-reading 64 _ old new (readings_of c.loop-alloc.readings.items) (reading_of c.in-Ok-Some.reading)
     c.loop-alloc.invariant.tapes
-    (omega (arith, length-map c.loop-alloc.readings.items reading_of, c.loop-alloc.readings.ok, c.len.ensures, c.loop-alloc-test.true))
+    (omega (
+      arith,
+      length-map c.loop-alloc.readings.items reading_of,
+      c.loop-alloc.readings.ok,
+      c.len.ensures,
+      c.loop-alloc-test.true,
+    ))
     reads)

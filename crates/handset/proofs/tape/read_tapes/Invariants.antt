@@ -7,7 +7,8 @@ use Rattle.handset.proofs.tape.read_tapes.Given as goal
 abbrev pub invariant-loop-alloc : goal.invariant-loop-alloc
 invariant-loop-alloc g l = record {
   few : vec_len l.readings ≤ 64;
-  tapes : ReadsTapes (g.R.Read.remaining (reader_of l.initial.source)) (g.R.Read.remaining (reader_of l.source)) (readings_of l.readings.items);
+  tapes : ReadsTapes (g.R.Read.remaining (reader_of l.initial.source)) (g.R.Read.remaining (reader_of l.source))
+      (readings_of l.readings.items);
   sound : source_failed l.source ≡ false;
   piece : vec_len l.piece ≡ 65504;
 }

@@ -8,10 +8,12 @@ use Rattle.handset.proofs.NamedPages.{seen, same_key, found_items, keeps_page, s
 use Rattle.handset.proofs.pages.Pages.push.Goals as goal
 
 -- the pages were not changed where there was no room for one more
-kept : (c : goal.After-from_residual) → seen (c.get_mut.follows.lender c.push.new.self).entries ≡ seen c.self.inside.by_name.entries
+kept : (c : goal.After-from_residual) →
+    seen (c.get_mut.follows.lender c.push.new.self).entries ≡ seen c.self.inside.by_name.entries
 kept c =
     ap seen (c.get_mut.follows.holds c.push.new.self).0
-    ∙ seen-same (same_key (c.args.page.now.id, c.number.result)) c.self.inside.by_name.entries c.push.new.self c.in-Some.pages.now
+    ∙ seen-same (same_key (c.args.page.now.id, c.number.result)) c.self.inside.by_name.entries c.push.new.self
+    c.in-Some.pages.now
     (sym c.in-Some.ensures.value) c.in_err-push.ensures.items
 
 pub returns-in_err-push-clause-refused : goal.returns-in_err-push-clause-refused
@@ -19,7 +21,8 @@ returns-in_err-push-clause-refused c = on_err c.from_residual.result _ (kept c �
 
 pub invariant_of-self : goal.invariant_of-self
 invariant_of-self c name =
-    subst (λ pages. All (λ (p : PageView). IsTrue (is_readable p)) (kept_of pages name)) (sym (kept c)) (c.self.invariant name)
+    subst (λ pages. All (λ (p : PageView). IsTrue (is_readable p)) (kept_of pages name)) (sym (kept c))
+    (c.self.invariant name)
 
 -- a page was kept after those of its message
 more : (c : goal.In_ok-push) → KeepsPage (seen c.self.inside.by_name.entries)

@@ -1,7 +1,7 @@
 use Rattle.std.proofs.Common.{◌≡◌, ◌∙◌, ℕ, List, take, drop, arith, length, replicate, refl}
 use Rattle.std.proofs.lemmas.List.{take_rest}
 use Rattle.handset.proofs.Lists.{joined}
-use Rattle.handset.proofs.blocks.half_of.Goals as goal
+use Rattle.handset.proofs.blocks.joined.Goals as goal
 
 -- the 22 octets behind the first of 23 are all that stands there
 rest_of : (block : List ℕ) → length block ≡ 23 → take 22 (drop 1 block) ≡ drop 1 block
