@@ -2,7 +2,7 @@
 //! these tests are in UCS-2, so that their octets are the text's own.
 
 use crate::worked::WORKED;
-use handset::{Handset, Refused};
+use handset::Handset;
 use std::alloc::Global;
 use std::process::Abort;
 use std::test::Fail;
@@ -184,12 +184,5 @@ fn keeps_many(rt: HostRuntime) -> Result<(), Fail> {
         }
     }
     assert_eq!(rt; handset.shown().len(), 100);
-    Ok(())
-}
-
-#[test]
-fn says_what_was_refused(rt: HostRuntime) -> Result<(), Fail> {
-    let text = format!(in rt.alloc(); "{}", Refused)?;
-    assert_eq!(rt; text.as_str(), "out of memory");
     Ok(())
 }

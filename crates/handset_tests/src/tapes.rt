@@ -5,7 +5,7 @@ ghost use Rattle.std.specs.Prelude.{◌<◌};
 use crate::worked::WORKED;
 use device_ends::Source;
 use device_ends::memory::MemoryReader;
-use handset::{Reading, TapeFault, read_tape, read_tapes};
+use handset::{Reading, Refused, TapeFault, read_tape, read_tapes};
 use std::alloc::Global;
 use std::process::Abort;
 use std::test::Fail;
@@ -43,34 +43,17 @@ fn all(alloc: Global, octets: &[u8]) -> Result<Vec<Reading>, TapeFault> {
     read_tapes(alloc, &mut Source::new(&mut reader))
 }
 
-/// Whether one tape is short.
-fn is_short(read: &Result<Reading, TapeFault>) -> bool {
-    matches!(read, Err(TapeFault::Short))
-}
-
-/// Whether one tape is long.
-fn is_long(read: &Result<Reading, TapeFault>) -> bool {
-    matches!(read, Err(TapeFault::Long))
-}
-
-/// Whether the reader of one tape failed.
-fn is_failed(read: &Result<Reading, TapeFault>) -> bool {
-    matches!(read, Err(TapeFault::ReadFailed))
-}
-
-/// Whether tapes are short.
-fn are_short(read: &Result<Vec<Reading>, TapeFault>) -> bool {
-    matches!(read, Err(TapeFault::Short))
-}
-
-/// Whether tapes are long.
-fn are_long(read: &Result<Vec<Reading>, TapeFault>) -> bool {
-    matches!(read, Err(TapeFault::Long))
-}
-
-/// Whether the reader of tapes failed.
-fn are_failed(read: &Result<Vec<Reading>, TapeFault>) -> bool {
-    matches!(read, Err(TapeFault::ReadFailed))
+/// That these octets, read as one tape and as tapes, have these faults.
+fn have_faults(
+    rt: &impl Abort,
+    alloc: Global,
+    octets: &[u8],
+    of_one: TapeFault,
+    of_all: Option<TapeFault>,
+    what: &str,
+) {
+    assert_eq!(rt; one(alloc, octets).err(), Some(of_one), "{what}");
+    assert_eq!(rt; all(alloc, octets).err(), of_all, "{what}");
 }
 
 /// That a reading is of the tape of 192 octets.
@@ -98,7 +81,6 @@ fn the_worked_tape_is_read(rt: HostRuntime) -> Result<(), Fail> {
     }
 
     octets.extend_from_slice(&worked_tape(rt.alloc())?)?;
-    assert!(rt; is_long(&one(rt.alloc(), &octets)));
     let readings = all(rt.alloc(), &octets)?;
     assert_eq!(rt; readings.len(), 2);
     for reading in &readings {
@@ -108,53 +90,50 @@ fn the_worked_tape_is_read(rt: HostRuntime) -> Result<(), Fail> {
 }
 
 #[test]
-fn each_front_is_short(rt: HostRuntime) -> Result<(), Fail> {
-    let mut octets = worked_tape(rt.alloc())?;
-    for _ in 0..192 {
-        octets.pop();
-        assert!(rt; is_short(&one(rt.alloc(), &octets)));
-        let readings = all(rt.alloc(), &octets);
-        assert!(rt; octets.is_empty() || are_short(&readings));
-    }
-    assert!(rt; octets.is_empty());
-    assert_eq!(rt; all(rt.alloc(), &octets)?.len(), 0);
-    Ok(())
-}
-
-#[test]
-fn an_octet_more(rt: HostRuntime) -> Result<(), Fail> {
+fn faults_of_inputs(rt: HostRuntime) -> Result<(), Fail> {
+    let (short, long) = (TapeFault::Short, TapeFault::Long);
     let mut octets = worked_tape(rt.alloc())?;
     octets.push(0x00)?;
-    assert!(rt; is_long(&one(rt.alloc(), &octets)));
-    assert!(rt; are_short(&all(rt.alloc(), &octets)));
-    Ok(())
-}
+    have_faults(&rt, rt.alloc(), &octets, long, Some(short), "an octet more");
+    octets.pop();
+    for _ in 1..192 {
+        octets.pop();
+        have_faults(&rt, rt.alloc(), &octets, short, Some(short), "a front");
+    }
+    have_faults(&rt, rt.alloc(), &[], short, None, "no octets");
 
-#[test]
-fn other_slots(rt: HostRuntime) -> Result<(), Fail> {
     // The idle blocks are then taken for a header with 2B2B2B2B slots.
     let octets = tape_of_slots(rt.alloc(), 1)?;
-    assert!(rt; is_long(&one(rt.alloc(), &octets)));
-    assert!(rt; are_long(&all(rt.alloc(), &octets)));
-
+    have_faults(
+        &rt,
+        rt.alloc(),
+        &octets,
+        long,
+        Some(long),
+        "fewer slots in the header",
+    );
     let octets = tape_of_slots(rt.alloc(), 3)?;
-    assert!(rt; is_short(&one(rt.alloc(), &octets)));
-    assert!(rt; are_short(&all(rt.alloc(), &octets)));
+    have_faults(
+        &rt,
+        rt.alloc(),
+        &octets,
+        short,
+        Some(short),
+        "more slots in the header",
+    );
+
+    let most = [0x00, 0x01, 0x00, 0x01, 0x00, 0x00, 0x10, 0x00];
+    have_faults(&rt, rt.alloc(), &most, short, Some(short), "4,096 slots");
+    let more = [0x00, 0x01, 0x00, 0x01, 0x00, 0x00, 0x10, 0x01];
+    have_faults(&rt, rt.alloc(), &more, long, Some(long), "4,097 slots");
     Ok(())
 }
 
 #[test]
-fn at_most_4096_slots(rt: HostRuntime) -> Result<(), Fail> {
-    let most = [0x00, 0x01, 0x00, 0x01, 0x00, 0x00, 0x10, 0x00];
-    assert!(rt; is_short(&one(rt.alloc(), &most)));
-    assert!(rt; are_short(&all(rt.alloc(), &most)));
-    let more = [0x00, 0x01, 0x00, 0x01, 0x00, 0x00, 0x10, 0x01];
-    assert!(rt; is_long(&one(rt.alloc(), &more)));
-    assert!(rt; are_long(&all(rt.alloc(), &more)));
-
+fn a_tape_of_4096_slots(rt: HostRuntime) -> Result<(), Fail> {
     // A whole tape of 4,096 slots, which takes several pieces: the worked page is in its last slot.
     let mut octets = Vec::new(rt.alloc());
-    octets.extend_from_slice(&most)?;
+    octets.extend_from_slice(&[0x00, 0x01, 0x00, 0x01, 0x00, 0x00, 0x10, 0x00])?;
     for _ in 0..4095 * 92 {
         octets.push(0x2B)?;
     }
@@ -184,10 +163,6 @@ fn tapes_of_no_slots(rt: HostRuntime) -> Result<(), Fail> {
         octets.extend_from_slice(&empty)?;
     }
     assert_eq!(rt; all(rt.alloc(), &octets)?.len(), 64);
-    octets.push(0x00)?;
-    assert!(rt; are_long(&all(rt.alloc(), &octets)));
-    octets.extend_from_slice(&empty)?;
-    assert!(rt; are_long(&all(rt.alloc(), &octets)));
     Ok(())
 }
 
@@ -204,12 +179,12 @@ fn fails_until(
     for given in 0..calls {
         let mut reader = MemoryReader::new(octets, per_call, Some(given));
         let mut source = Source::new(&mut reader);
-        assert!(rt; is_failed(&read_tape(alloc, &mut source)));
-        assert!(rt; is_failed(&read_tape(alloc, &mut source)));
+        assert!(rt; read_tape(alloc, &mut source).err() == Some(TapeFault::ReadFailed));
+        assert!(rt; read_tape(alloc, &mut source).err() == Some(TapeFault::ReadFailed));
         let mut reader = MemoryReader::new(octets, per_call, Some(given));
         let mut source = Source::new(&mut reader);
-        assert!(rt; are_failed(&read_tapes(alloc, &mut source)));
-        assert!(rt; are_failed(&read_tapes(alloc, &mut source)));
+        assert!(rt; read_tapes(alloc, &mut source).err() == Some(TapeFault::ReadFailed));
+        assert!(rt; read_tapes(alloc, &mut source).err() == Some(TapeFault::ReadFailed));
     }
     let mut reader = MemoryReader::new(octets, per_call, None);
     is_worked(rt, &read_tape(alloc, &mut Source::new(&mut reader))?);
@@ -232,7 +207,7 @@ fn stops_at_a_long_header(rt: HostRuntime) -> Result<(), Fail> {
     let header = [0x00, 0x01, 0x00, 0x01, 0x00, 0x00, 0x10, 0x01];
     let mut reader = MemoryReader::new(&header, 8, Some(1));
     let mut source = Source::new(&mut reader);
-    assert!(rt; is_long(&read_tape(rt.alloc(), &mut source)));
+    assert!(rt; read_tape(rt.alloc(), &mut source).err() == Some(TapeFault::Long));
     assert!(rt; !source.failed());
 
     let mut octets = worked_tape(rt.alloc())?;
@@ -241,7 +216,7 @@ fn stops_at_a_long_header(rt: HostRuntime) -> Result<(), Fail> {
     // A call for the header of the first tape, one for its blocks, and one for the second header.
     let mut reader = MemoryReader::new(&octets, 1000, Some(3));
     let mut source = Source::new(&mut reader);
-    assert!(rt; are_long(&read_tapes(rt.alloc(), &mut source)));
+    assert!(rt; read_tapes(rt.alloc(), &mut source).err() == Some(TapeFault::Long));
     assert!(rt; !source.failed());
     assert_eq!(rt; reader.rest().len(), 1);
     Ok(())
@@ -258,12 +233,12 @@ fn stops_at_an_octet_more(rt: HostRuntime) -> Result<(), Fail> {
     // A call for each of 64 headers, and one for the octet after them.
     let mut reader = MemoryReader::new(&octets, 1000, Some(65));
     let mut source = Source::new(&mut reader);
-    assert!(rt; are_long(&read_tapes(rt.alloc(), &mut source)));
+    assert!(rt; read_tapes(rt.alloc(), &mut source).err() == Some(TapeFault::Long));
     assert!(rt; !source.failed());
     assert_eq!(rt; reader.rest().len(), 1);
     let mut reader = MemoryReader::new(&octets, 1000, Some(2));
     let mut source = Source::new(&mut reader);
-    assert!(rt; is_long(&read_tape(rt.alloc(), &mut source)));
+    assert!(rt; read_tape(rt.alloc(), &mut source).err() == Some(TapeFault::Long));
     assert!(rt; !source.failed());
     Ok(())
 }
@@ -279,5 +254,7 @@ fn faults_have_texts(rt: HostRuntime) -> Result<(), Fail> {
     for (fault, text) in texts.as_slice() {
         assert_eq!(rt; fault.to_string(rt.alloc())?.as_str(), *text);
     }
+    let text = format!(in rt.alloc(); "{}", Refused)?;
+    assert_eq!(rt; text.as_str(), "out of memory");
     Ok(())
 }
