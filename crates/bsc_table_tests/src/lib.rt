@@ -6,4 +6,6 @@ mod airs;
 #[cfg(test)]
 mod orders;
 #[cfg(test)]
+mod orders_vectors;
+#[cfg(test)]
 mod refusals;
