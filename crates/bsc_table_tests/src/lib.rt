@@ -8,4 +8,6 @@ mod messages;
 #[cfg(test)]
 mod orders;
 #[cfg(test)]
+mod orders_vectors;
+#[cfg(test)]
 mod refusals;

@@ -79,7 +79,8 @@ fn put_list_head(out: &mut Vec<u8>, element: u8, layout: Layout, items_len: u16)
 fn put_list<T: Item>(out: &mut Vec<u8>, element: u8, items: &[T])
     requires short { length items.now ≤ 64 }
     requires room { HasRoom out.old (element_octets element (list_bodies T.LAYOUT T.octets_of items.now)) }
-    ensures appended { out.new.items ≡ out.old.items ++ element_octets element (list_bodies T.LAYOUT T.octets_of items.now) }
+    ensures appended { out.new.items
+        ≡ out.old.items ++ element_octets element (list_bodies T.LAYOUT T.octets_of items.now) }
     ensures room { vec_capacity out.new ≡ vec_capacity out.old }
 {
     if items.is_empty() {

@@ -162,7 +162,7 @@ fn fault_with(
 fn replies_have_their_own_elements(rt: HostRuntime) -> Result<(), Fail> {
     let alloc = rt.alloc();
     let failures: [u8; 9] = [0x09, 0, 6, 1, 0, 1, 0, 1, 0x06];
-    // Two failures, each with its discriminator; then one discriminator for both; another one at the second; a cell twice.
+    // Two failures, each with its discriminator; one discriminator for both; another one at the second; a cell twice.
     let two: [u8; 15] = [0x09, 0, 12, 1, 0, 1, 0, 1, 0x06, 1, 0, 1, 0, 2, 0x06];
     let one_for_both: [u8; 14] = [0x09, 0, 11, 1, 0, 1, 0, 1, 0x06, 0, 1, 0, 2, 0x06];
     let other: [u8; 15] = [0x09, 0, 12, 1, 0, 1, 0, 1, 0x06, 2, 0, 1, 0, 2, 0x06];
@@ -208,6 +208,28 @@ fn replies_have_their_own_elements(rt: HostRuntime) -> Result<(), Fail> {
         assert_eq!(rt; fault, expected);
     }
     Ok(())
+}
+
+/// The octets of causes, by 3GPP TS 48.049, 8.2, Cause.
+#[test]
+fn each_cause_has_its_octet(rt: HostRuntime) {
+    let causes = [
+        (cause::PARAMETER_NOT_RECOGNISED, 0x00),
+        (cause::PARAMETER_VALUE_INVALID, 0x01),
+        (cause::MESSAGE_REFERENCE_NOT_IDENTIFIED, 0x02),
+        (cause::CELL_IDENTITY_NOT_VALID, 0x03),
+        (cause::UNRECOGNISED_MESSAGE, 0x04),
+        (cause::MISSING_MANDATORY_ELEMENT, 0x05),
+        (cause::BSC_CAPACITY_EXCEEDED, 0x06),
+        (cause::CELL_MEMORY_EXCEEDED, 0x07),
+        (cause::BSC_MEMORY_EXCEEDED, 0x08),
+        (cause::CELL_BROADCAST_NOT_OPERATIONAL, 0x0A),
+        (cause::EXTENDED_CHANNEL_NOT_SUPPORTED, 0x0C),
+        (cause::MESSAGE_REFERENCE_ALREADY_USED, 0x0D),
+    ];
+    for (cause, octet) in causes {
+        assert_eq!(rt; cause, octet);
+    }
 }
 
 #[test]

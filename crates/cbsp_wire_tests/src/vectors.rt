@@ -1,8 +1,8 @@
-//! Messages from outside: independent readers of the format agree on what each of them says, or why it is refused. Those that are
-//! read were shown to a network analyser too, which sees the same elements with the same values.
+//! Messages from outside: independent readers of the format agree on what each of them says, or why it is refused. Those
+//! that are read were shown to a network analyser too, which sees the same elements with the same values.
 //!
-//! Of each list there are messages with two items and more: cells, completed broadcasts, failures, and the contents of two pages.
-//! So no value of these layouts had to be computed by hand.
+//! Of each list there are messages with two items and more: cells, completed broadcasts, failures, and the contents of two
+//! pages. So no value of these layouts had to be computed by hand.
 
 use crate::octets::fault_of;
 use cbs_page::{Content, Serial};
@@ -983,38 +983,56 @@ fn row_of(alloc: Global, message: &Message) -> Result<String, AllocError> {
     Ok(row)
 }
 
-/// Reads a row's octets, which say what the row says, writes what they mean, and reads that again: it says the same. The octets written.
+/// Reads a row's octets, which say what the row says, writes what they mean, and reads that again: it says the same.
+/// Gives the row's octets and the octets that were written.
 fn read_and_written(
     rt: &impl Abort,
     alloc: Global,
-    octets: &[u8],
+    digits: &str,
     said: &str,
-) -> Result<Vec<u8>, Fail> {
-    let message = read(alloc, octets)?;
+) -> Result<(Vec<u8>, Vec<u8>), Fail> {
+    let octets: Vec<u8> = hex::decode(alloc, digits)?;
+    let message = read(alloc, &octets)?;
     assert_eq!(rt; row_of(alloc, &message)?.as_str(), said);
     let written = write(alloc, &message)?;
     let again = read(alloc, &written)?;
     assert_eq!(rt; row_of(alloc, &again)?.as_str(), said);
-    Ok(written)
+    Ok((octets, written))
+}
+
+/// Expects that a row's octets say what the row says, and are written as they are.
+fn expect_said(rt: &impl Abort, alloc: Global, digits: &str, said: &str) -> Result<(), Fail> {
+    let (octets, written) = read_and_written(rt, alloc, digits, said)?;
+    assert_eq!(rt; written.as_slice(), octets.as_slice());
+    Ok(())
+}
+
+/// Expects that a row's octets are refused for this fault.
+fn expect_refused(
+    rt: &impl Abort,
+    alloc: Global,
+    digits: &str,
+    fault: WireFault,
+) -> Result<(), Fail> {
+    let octets: Vec<u8> = hex::decode(alloc, digits)?;
+    assert_eq!(rt; fault_of(alloc, &octets), Some(fault), "{digits}");
+    Ok(())
 }
 
 #[test]
 fn messages_say_what_other_readers_see(rt: HostRuntime) -> Result<(), Fail> {
     let alloc = rt.alloc();
-    for table in [
-        IN_ORDER_1.as_slice(),
-        IN_ORDER_2.as_slice(),
-        IN_ORDER_3.as_slice(),
-    ] {
-        for (digits, said) in table {
-            let octets: Vec<u8> = hex::decode(alloc, *digits)?;
-            let written = read_and_written(&rt, alloc, &octets, said)?;
-            assert_eq!(rt; written.as_slice(), octets.as_slice());
-        }
+    for (digits, said) in IN_ORDER_1 {
+        expect_said(&rt, alloc, digits, said)?;
+    }
+    for (digits, said) in IN_ORDER_2 {
+        expect_said(&rt, alloc, digits, said)?;
+    }
+    for (digits, said) in IN_ORDER_3 {
+        expect_said(&rt, alloc, digits, said)?;
     }
     for (digits, said) in IN_ANY_ORDER {
-        let octets: Vec<u8> = hex::decode(alloc, digits)?;
-        let written = read_and_written(&rt, alloc, &octets, said)?;
+        let (octets, written) = read_and_written(&rt, alloc, digits, said)?;
         assert_eq!(rt; written.len(), octets.len());
     }
     Ok(())
@@ -1023,16 +1041,17 @@ fn messages_say_what_other_readers_see(rt: HostRuntime) -> Result<(), Fail> {
 #[test]
 fn messages_are_refused_as_by_other_readers(rt: HostRuntime) -> Result<(), Fail> {
     let alloc = rt.alloc();
-    for table in [
-        REFUSED_1.as_slice(),
-        REFUSED_2.as_slice(),
-        REFUSED_3.as_slice(),
-        REFUSED_4.as_slice(),
-    ] {
-        for (digits, fault) in table {
-            let octets: Vec<u8> = hex::decode(alloc, *digits)?;
-            assert_eq!(rt; fault_of(alloc, &octets), Some(*fault), "{digits}");
-        }
+    for (digits, fault) in REFUSED_1 {
+        expect_refused(&rt, alloc, digits, fault)?;
+    }
+    for (digits, fault) in REFUSED_2 {
+        expect_refused(&rt, alloc, digits, fault)?;
+    }
+    for (digits, fault) in REFUSED_3 {
+        expect_refused(&rt, alloc, digits, fault)?;
+    }
+    for (digits, fault) in REFUSED_4 {
+        expect_refused(&rt, alloc, digits, fault)?;
     }
     Ok(())
 }
