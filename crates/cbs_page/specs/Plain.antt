@@ -1,7 +1,8 @@
 -- Septets that show the characters of their own numbers, as most of ASCII does in the GSM 7-bit alphabet (3GPP TS 23.038, clause 6.2.1).
-use Rattle.std.specs.Prelude.{ℕ, ◌==◌, ◌&&◌, not, nat_lt, Bool}
-use Rattle.gsm_alphabet.specs.Alphabet.{main_character}
+use Rattle.std.specs.Prelude.{ℕ, ◌==◌, ◌&&◌, ◌||◌, nat_le, nat_lt, Bool}
 
--- the septet isn't the escape, and shows the character of its number
-abbrev pub shows_itself : ℕ → Bool
-shows_itself septet = nat_lt septet 128 && (not (septet == 27) && main_character septet == septet)
+-- LF, CR, the space to `#`, `%` to `?`, and the letters without marks: not `$`, `@` and what ASCII has between and after the letters
+abbrev pub is_plain : ℕ → Bool
+is_plain septet = nat_lt septet 128
+    && (septet == 10 || septet == 13 || (nat_le 32 septet && nat_le septet 35) || (nat_le 37 septet && nat_le septet 63)
+    || (nat_le 65 septet && nat_le septet 90) || (nat_le 97 septet && nat_le septet 122))

@@ -5,7 +5,7 @@ ghost use Rattle.std.specs.List.{list_all};
 ghost use Rattle.gsm_alphabet.specs.Alphabet.{text_of_septets};
 ghost use Rattle.ucs2_text.specs.Ucs2.{character_of_unit};
 ghost use Rattle.cbs_page.specs.Page.{is_readable};
-ghost use Rattle.cbs_page.specs.Plain.{shows_itself};
+ghost use Rattle.cbs_page.specs.Plain.{is_plain};
 ghost use Rattle.cbs_page.specs.Text.{text_of_page, without_trailing};
 
 use crate::coding::Alphabet;
@@ -71,7 +71,7 @@ fn without_filling<T: Copy + PartialEq>(items: &[T], filling: T) -> &[T]
 fn gsm_text(alloc: Global, septets: &[u8]) -> Result<String, AllocError>
     ensures { IfOk result (λ text. string_bytes text ≡ encode_utf8_all (text_of_septets septets.now)) }
 {
-    if is_plain(septets) {
+    if are_plain(septets) {
         if let Ok(text) = str::from_utf8(septets) {
             return String::from_str(alloc, text);
         }
@@ -80,17 +80,23 @@ fn gsm_text(alloc: Global, septets: &[u8]) -> Result<String, AllocError>
 }
 
 /// Whether each septet shows the character of its own number.
-fn is_plain(septets: &[u8]) -> bool
-    ensures { result ≡ list_all shows_itself septets.now }
+fn are_plain(septets: &[u8]) -> bool
+    ensures { result ≡ list_all is_plain septets.now }
 {
-    septets.iter().all(|septet| shows_itself(*septet))
+    septets.iter().all(|septet| is_plain(*septet))
 }
 
-/// Whether a septet isn't the escape, and shows the character of its own number.
-fn shows_itself(septet: u8) -> bool
-    ensures { result ≡ shows_itself septet }
+/// Whether a septet is one of those that show the characters of their own numbers.
+fn is_plain(septet: u8) -> bool
+    ensures { result ≡ is_plain septet }
 {
-    septet < 128 && septet != ESCAPE && decode_one(septet) == char::from(septet)
+    septet < 128
+        && (septet == b'\n'
+            || septet == CR
+            || (0x20 <= septet && septet <= 0x23)
+            || (0x25 <= septet && septet <= 0x3F)
+            || (0x41 <= septet && septet <= 0x5A)
+            || (0x61 <= septet && septet <= 0x7A))
 }
 
 /// The text of septets, one character after another.
