@@ -4,5 +4,5 @@ use Rattle.std.specs.Prelude.{ℕ, ◌==◌, ◌&&◌, ◌||◌, nat_le, nat_lt,
 -- LF, CR, the space to `#`, `%` to `?`, and the letters without marks: not `$`, `@` and what ASCII has between and after the letters
 abbrev pub is_plain : ℕ → Bool
 is_plain septet = nat_lt septet 128
-    && (septet == 10 || septet == 13 || (nat_le 32 septet && nat_le septet 35) || (nat_le 37 septet && nat_le septet 63)
-    || (nat_le 65 septet && nat_le septet 90) || (nat_le 97 septet && nat_le septet 122))
+    && ((nat_le 97 septet && nat_le septet 122) || (nat_le 32 septet && nat_le septet 35) || (nat_le 65 septet && nat_le septet 90)
+    || (nat_le 37 septet && nat_le septet 63) || septet == 10 || septet == 13)

@@ -86,17 +86,17 @@ fn are_plain(septets: &[u8]) -> bool
     septets.iter().all(|septet| is_plain(*septet))
 }
 
-/// Whether a septet is one of those that show the characters of their own numbers.
+/// Whether a septet is one of those that show the characters of their own numbers, the most frequent ones first.
 fn is_plain(septet: u8) -> bool
     ensures { result ≡ is_plain septet }
 {
     septet < 128
-        && (septet == b'\n'
-            || septet == CR
+        && ((0x61 <= septet && septet <= 0x7A)
             || (0x20 <= septet && septet <= 0x23)
-            || (0x25 <= septet && septet <= 0x3F)
             || (0x41 <= septet && septet <= 0x5A)
-            || (0x61 <= septet && septet <= 0x7A))
+            || (0x25 <= septet && septet <= 0x3F)
+            || septet == b'\n'
+            || septet == CR)
 }
 
 /// The text of septets, one character after another.
