@@ -1,6 +1,6 @@
 //! The text that a page shows (3GPP TS 23.038, clauses 6.1.2.2, 6.2.1 and 6.2.3).
 
-ghost use Rattle.std.specs.Prelude.{◌≡◌, IsTrue, IfOk, ◌≤◌, take, length, map, encode_utf8_all, string_bytes};
+ghost use Rattle.std.specs.Prelude.{◌≡◌, ◌&&◌, nat_le, IsTrue, IfOk, ◌≤◌, take, length, map, encode_utf8_all, string_bytes};
 ghost use Rattle.std.specs.List.{list_all};
 ghost use Rattle.gsm_alphabet.specs.Alphabet.{text_of_septets};
 ghost use Rattle.ucs2_text.specs.Ucs2.{character_of_unit};
@@ -79,24 +79,35 @@ fn gsm_text(alloc: Global, septets: &[u8]) -> Result<String, AllocError>
     decoded_text(alloc, septets)
 }
 
-/// Whether each septet shows the character of its own number.
+/// Whether each septet shows the character of its own number. All are looked at, with no branch: that is a few vector steps.
 fn are_plain(septets: &[u8]) -> bool
     ensures { result ≡ list_all is_plain septets.now }
 {
-    septets.iter().all(|septet| is_plain(*septet))
+    let mut are_plain = true;
+    for septet in septets {
+        are_plain &= is_plain(*septet);
+    }
+    are_plain
 }
 
-/// Whether a septet is one of those that show the characters of their own numbers, the most frequent ones first.
+/// Whether a septet is one of those that show the characters of their own numbers.
 fn is_plain(septet: u8) -> bool
     ensures { result ≡ is_plain septet }
 {
-    septet < 128
-        && ((0x61 <= septet && septet <= 0x7A)
-            || (0x20 <= septet && septet <= 0x23)
-            || (0x41 <= septet && septet <= 0x5A)
-            || (0x25 <= septet && septet <= 0x3F)
-            || septet == b'\n'
-            || septet == CR)
+    (septet < 128)
+        & (is_within(septet, 0x61, 0x7A)
+            | is_within(septet, 0x20, 0x23)
+            | is_within(septet, 0x41, 0x5A)
+            | is_within(septet, 0x25, 0x3F)
+            | (septet == b'\n')
+            | (septet == CR))
+}
+
+/// Whether a septet is in a range.
+fn is_within(septet: u8, least: u8, most: u8) -> bool
+    ensures { result ≡ (nat_le least septet && nat_le septet most) }
+{
+    (least <= septet) & (septet <= most)
 }
 
 /// The text of septets, one character after another.
