@@ -1,8 +1,11 @@
 //! What runs answer and air.
 
 use crate::orders::*;
-use bsc_table::{Aired, Answer, SlotRange, State};
+use bsc_table::{Aired, Answer, State};
 use std::test::Fail;
+
+/// A slot that airs nothing.
+const NOTHING: Option<Aired> = None;
 
 /// A page of the message of an entry.
 fn page(entry: u16, page: u8) -> Option<Aired> {
@@ -11,74 +14,42 @@ fn page(entry: u16, page: u8) -> Option<Aired> {
 
 #[test]
 fn the_message_that_is_due_first_is_aired_first(rt: HostRuntime) -> Result<(), Fail> {
-    let alloc = rt.alloc();
-    let mut book = open(alloc, 8)?;
-    assert_eq!(rt;
-        write_one(alloc, &mut book, standing(1, 2))?,
-        Answer::Started { slot: 0 }
-    );
-    assert_eq!(rt;
-        write_two(alloc, &mut book, standing(2, 4))?,
-        Answer::Started { slot: 0 }
-    );
-    assert_eq!(rt; book.play(4), SlotRange { from: 0, to: 4 });
-    assert_eq!(rt;
-        book.air(),
-        [page(0, 1), page(1, 1), page(0, 1), page(1, 2)].as_slice()
-    );
-    assert_eq!(rt; status(&book, 1), Some((2, State::Standing)));
-    assert_eq!(rt; status(&book, 2), Some((1, State::Standing)));
-    assert_eq!(rt; status(&book, 3), None);
+    let steps = [
+        Step::One(standing(1, 2), started(0)),
+        Step::Two(standing(2, 4), started(0)),
+        Step::Play(4),
+        Step::Status(1, Some((2, State::Standing))),
+        Step::Status(2, Some((1, State::Standing))),
+        Step::Status(3, None),
+    ];
+    let book = run(&rt, rt.alloc(), 8, steps.as_slice())?;
+    let air = [page(0, 1), page(1, 1), page(0, 1), page(1, 2)];
+    expect_air(&rt, &book, air.as_slice());
     assert_eq!(rt; book.log().len(), 2);
     Ok(())
 }
 
-// Longer than others, since it follows one run from its beginning to its end.
 #[test]
 fn a_load_stays_until_the_period_of_the_stop_is_over(rt: HostRuntime) -> Result<(), Fail> {
-    let alloc = rt.alloc();
-    let mut book = open(alloc, 8)?;
-    assert_eq!(rt;
-        write_one(alloc, &mut book, standing(1, 2))?,
-        Answer::Started { slot: 0 }
-    );
-    assert_eq!(rt;
-        write_two(alloc, &mut book, standing(2, 4))?,
-        Answer::Started { slot: 0 }
-    );
-    book.play(3);
-    assert_eq!(rt; kill(&mut book, 2), Answer::Stopped { completed: 0 });
-    assert_eq!(rt;
-        write_two(alloc, &mut book, standing(3, 4))?,
-        Answer::Cause(0x06)
-    );
-    book.play(1);
-    assert_eq!(rt;
-        write_two(alloc, &mut book, standing(3, 4))?,
-        Answer::Started { slot: 4 }
-    );
-    assert_eq!(rt;
-        ask(&mut book, 2),
-        Answer::Told {
-            completed: 0,
-            state: State::Stopped { slot: 3 }
-        }
-    );
-    book.play(9);
-    assert_eq!(rt;
-        book.air(),
-        [
-            page(0, 1),
-            page(1, 1),
-            page(0, 1),
-            None,
-            page(0, 1),
-            page(4, 1),
-            page(0, 1),
-            page(4, 2)
-        ]
-        .as_slice()
-    );
+    let told = Answer::Told {
+        completed: 0,
+        state: State::Stopped { slot: 3 },
+    };
+    let steps = [
+        Step::One(standing(1, 2), started(0)),
+        Step::Two(standing(2, 4), started(0)),
+        Step::Play(3),
+        Step::Kill(2, Answer::Stopped { completed: 0 }),
+        Step::Two(standing(3, 4), Answer::Cause(0x06)),
+        Step::Play(1),
+        Step::Two(standing(3, 4), started(4)),
+        Step::Ask(2, told),
+        Step::Play(9),
+    ];
+    let book = run(&rt, rt.alloc(), 8, steps.as_slice())?;
+    let (p, q) = (page(0, 1), page(1, 1));
+    let air = [p, q, p, NOTHING, p, page(4, 1), p, page(4, 2)];
+    expect_air(&rt, &book, air.as_slice());
     assert_eq!(rt; book.log().len(), 6);
     assert_eq!(rt;
         (book.log()[3].slot, book.log()[3].answer),
@@ -89,123 +60,74 @@ fn a_load_stays_until_the_period_of_the_stop_is_over(rt: HostRuntime) -> Result<
 
 #[test]
 fn a_stop_on_the_boundary_frees_the_load_at_once(rt: HostRuntime) -> Result<(), Fail> {
-    let alloc = rt.alloc();
-    let mut book = open(alloc, 4)?;
-    assert_eq!(rt;
-        write_two(alloc, &mut book, standing(7, 2))?,
-        Answer::Started { slot: 0 }
-    );
-    assert_eq!(rt; kill(&mut book, 7), Answer::Stopped { completed: 0 });
-    assert_eq!(rt; kill(&mut book, 7), Answer::Cause(0x02));
-    assert_eq!(rt;
-        write_two(alloc, &mut book, standing(7, 2))?,
-        Answer::Cause(0x0D)
-    );
-    assert_eq!(rt;
-        write_two(alloc, &mut book, standing(8, 2))?,
-        Answer::Started { slot: 0 }
-    );
-    assert_eq!(rt;
-        write_one(alloc, &mut book, standing(9, 1024))?,
-        Answer::Cause(0x06)
-    );
+    let steps = [
+        Step::Two(standing(7, 2), started(0)),
+        Step::Kill(7, Answer::Stopped { completed: 0 }),
+        Step::Kill(7, Answer::Cause(0x02)),
+        Step::Two(standing(7, 2), Answer::Cause(0x0D)),
+        Step::Two(standing(8, 2), started(0)),
+        Step::One(standing(9, 1024), Answer::Cause(0x06)),
+    ];
+    run(&rt, rt.alloc(), 4, steps.as_slice())?;
     Ok(())
 }
 
-// Longer than others, since it follows one run from its beginning to its end.
 #[test]
 fn requested_broadcasts_run_out(rt: HostRuntime) -> Result<(), Fail> {
-    let alloc = rt.alloc();
     let twice = Wish {
         broadcasts: 2,
         ..standing(9, 3)
     };
-    let mut stopped = open(alloc, 10)?;
-    assert_eq!(rt;
-        write_one(alloc, &mut stopped, twice)?,
-        Answer::Started { slot: 0 }
-    );
-    stopped.play(5);
-    assert_eq!(rt; kill(&mut stopped, 9), Answer::Stopped { completed: 2 });
+    let stopped = [
+        Step::One(twice, started(0)),
+        Step::Play(5),
+        Step::Kill(9, Answer::Stopped { completed: 2 }),
+    ];
+    run(&rt, rt.alloc(), 10, stopped.as_slice())?;
 
-    let mut book = open(alloc, 10)?;
-    assert_eq!(rt;
-        write_one(alloc, &mut book, twice)?,
-        Answer::Started { slot: 0 }
-    );
-    book.play(5);
-    assert_eq!(rt;
-        write_one(alloc, &mut book, standing(1, 1))?,
-        Answer::Cause(0x06)
-    );
-    book.play(1);
-    assert_eq!(rt; status(&book, 9), Some((2, State::RanOut)));
-    assert_eq!(rt; kill(&mut book, 9), Answer::Cause(0x02));
-    assert_eq!(rt;
-        write_one(alloc, &mut book, standing(1, 1))?,
-        Answer::Started { slot: 6 }
-    );
-    book.play(4);
-    assert_eq!(rt;
-        book.air(),
-        [
-            page(0, 1),
-            None,
-            None,
-            page(0, 1),
-            None,
-            None,
-            page(3, 1),
-            page(3, 1),
-            page(3, 1),
-            page(3, 1)
-        ]
-        .as_slice()
-    );
+    let steps = [
+        Step::One(twice, started(0)),
+        Step::Play(5),
+        Step::One(standing(1, 1), Answer::Cause(0x06)),
+        Step::Play(1),
+        Step::Status(9, Some((2, State::RanOut))),
+        Step::Kill(9, Answer::Cause(0x02)),
+        Step::One(standing(1, 1), started(6)),
+        Step::Play(4),
+    ];
+    let book = run(&rt, rt.alloc(), 10, steps.as_slice())?;
+    let (p, q) = (page(0, 1), page(3, 1));
+    let air = [p, NOTHING, NOTHING, p, NOTHING, NOTHING, q, q, q, q];
+    expect_air(&rt, &book, air.as_slice());
     Ok(())
 }
 
 #[test]
 fn high_comes_before_normal(rt: HostRuntime) -> Result<(), Fail> {
-    let alloc = rt.alloc();
-    let mut book = open(alloc, 2)?;
-    assert_eq!(rt;
-        write_one(alloc, &mut book, standing(1, 2))?,
-        Answer::Started { slot: 0 }
-    );
-    assert_eq!(rt;
-        write_one(alloc, &mut book, standing_high(2, 2))?,
-        Answer::Started { slot: 0 }
-    );
-    book.play(2);
-    assert_eq!(rt; book.air(), [page(1, 1), page(0, 1)].as_slice());
+    let steps = [
+        Step::One(standing(1, 2), started(0)),
+        Step::One(standing_high(2, 2), started(0)),
+        Step::Play(2),
+    ];
+    let book = run(&rt, rt.alloc(), 2, steps.as_slice())?;
+    expect_air(&rt, &book, [page(1, 1), page(0, 1)].as_slice());
     Ok(())
 }
 
 #[test]
 fn a_load_that_is_not_free_yet_guards_the_others(rt: HostRuntime) -> Result<(), Fail> {
-    let alloc = rt.alloc();
-    let mut book = open(alloc, 4)?;
-    assert_eq!(rt;
-        write_two(alloc, &mut book, standing(1, 4))?,
-        Answer::Started { slot: 0 }
-    );
-    assert_eq!(rt;
-        write_one(alloc, &mut book, standing_high(2, 2))?,
-        Answer::Started { slot: 0 }
-    );
-    book.play(1);
-    assert_eq!(rt; kill(&mut book, 2), Answer::Stopped { completed: 1 });
-    assert_eq!(rt;
-        write_one(alloc, &mut book, standing_high(3, 2))?,
-        Answer::Cause(0x06)
-    );
-    book.play(3);
-    assert_eq!(rt;
-        book.air(),
-        [page(1, 1), page(0, 1), page(0, 2), None].as_slice()
-    );
-    assert_eq!(rt; status(&book, 1), Some((1, State::Standing)));
+    let steps = [
+        Step::Two(standing(1, 4), started(0)),
+        Step::One(standing_high(2, 2), started(0)),
+        Step::Play(1),
+        Step::Kill(2, Answer::Stopped { completed: 1 }),
+        Step::One(standing_high(3, 2), Answer::Cause(0x06)),
+        Step::Play(3),
+        Step::Status(1, Some((1, State::Standing))),
+    ];
+    let book = run(&rt, rt.alloc(), 4, steps.as_slice())?;
+    let air = [page(1, 1), page(0, 1), page(0, 2), NOTHING];
+    expect_air(&rt, &book, air.as_slice());
     Ok(())
 }
 
@@ -213,62 +135,48 @@ fn a_load_that_is_not_free_yet_guards_the_others(rt: HostRuntime) -> Result<(), 
 fn a_replacement_on_the_boundary_takes_the_room_of_the_old_message(
     rt: HostRuntime,
 ) -> Result<(), Fail> {
-    let alloc = rt.alloc();
-    for (slot, answer) in [
-        (
-            3,
-            Answer::Replaced {
-                slot: 3,
-                completed: 1,
-            },
-        ),
-        (4, Answer::Cause(0x06)),
+    let replaced = Answer::Replaced {
+        slot: 3,
+        completed: 1,
+    };
+    let (of_r, of_q, of_p) = (page(0, 1), page(1, 1), page(2, 1));
+    for (slot, answer, slot_4, slot_5, slot_6) in [
+        (3, replaced, of_r, of_p, page(3, 1)),
+        (4, Answer::Cause(0x06), of_r, of_q, of_p),
     ] {
-        let mut book = open(alloc, 6)?;
-        write_one(alloc, &mut book, standing(1, 6))?;
-        write_one(alloc, &mut book, standing(2, 3))?;
-        write_one(alloc, &mut book, standing(3, 2))?;
-        book.play(slot);
-        let new = Wish {
-            replaces: Some(2),
-            ..standing(4, 3)
-        };
-        assert_eq!(rt; write_one(alloc, &mut book, new)?, answer);
-        book.play(6);
-        let (of_r, of_q, of_p) = (page(0, 1), page(1, 1), page(2, 1));
-        let wanted = if slot == 3 {
-            [of_p, of_q, of_p, of_r, of_p, page(3, 1)]
-        } else {
-            [of_p, of_q, of_p, of_r, of_q, of_p]
-        };
-        assert_eq!(rt; book.air(), wanted.as_slice());
+        let steps = [
+            Step::One(standing(1, 6), started(0)),
+            Step::One(standing(2, 3), started(0)),
+            Step::One(standing(3, 2), started(0)),
+            Step::Play(slot),
+            Step::One(standing_for(2, 4, 3), answer),
+            Step::Play(6),
+        ];
+        let book = run(&rt, rt.alloc(), 6, steps.as_slice())?;
+        let air = [of_p, of_q, of_p, slot_4, slot_5, slot_6];
+        expect_air(&rt, &book, air.as_slice());
     }
     Ok(())
 }
 
 #[test]
 fn a_refused_replacement_leaves_the_old_message(rt: HostRuntime) -> Result<(), Fail> {
-    let alloc = rt.alloc();
-    let mut book = open(alloc, 8)?;
-    write_one(alloc, &mut book, standing(1, 2))?;
-    write_two(alloc, &mut book, standing(2, 4))?;
-    book.play(3);
-    let new = Wish {
-        replaces: Some(2),
-        ..standing(3, 4)
+    let replaced = Answer::Replaced {
+        slot: 4,
+        completed: 1,
     };
-    assert_eq!(rt; write_two(alloc, &mut book, new)?, Answer::Cause(0x06));
-    assert_eq!(rt; status(&book, 2), Some((0, State::Standing)));
-    assert_eq!(rt; status(&book, 3), None);
-    book.play(1);
-    assert_eq!(rt;
-        write_two(alloc, &mut book, new)?,
-        Answer::Replaced {
-            slot: 4,
-            completed: 1
-        }
-    );
-    assert_eq!(rt; status(&book, 2), Some((1, State::Stopped { slot: 4 })));
-    assert_eq!(rt; kill(&mut book, 2), Answer::Cause(0x02));
+    let steps = [
+        Step::One(standing(1, 2), started(0)),
+        Step::Two(standing(2, 4), started(0)),
+        Step::Play(3),
+        Step::Two(standing_for(2, 3, 4), Answer::Cause(0x06)),
+        Step::Status(2, Some((0, State::Standing))),
+        Step::Status(3, None),
+        Step::Play(1),
+        Step::Two(standing_for(2, 3, 4), replaced),
+        Step::Status(2, Some((1, State::Stopped { slot: 4 }))),
+        Step::Kill(2, Answer::Cause(0x02)),
+    ];
+    run(&rt, rt.alloc(), 8, steps.as_slice())?;
     Ok(())
 }

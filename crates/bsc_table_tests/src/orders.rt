@@ -1,12 +1,13 @@
-//! The commands of the tests. All messages have identifier 4370.
+//! Runs of a book, step by step. All messages have identifier 4370.
 
 ghost use Rattle.std.specs.Prelude.{◌≡◌, ℕ, ◌≤◌, IfOk, length, All};
 ghost use Rattle.bsc_table.specs.Orders.{IsWellFormed};
 
-use bsc_table::{Answer, Category, CellBook, Command, State};
+use bsc_table::{Aired, Answer, Category, CellBook, Command, State};
 use cbs_page::{Content, Dcs, Serial};
 use cbsp_wire::{Cell, Contents};
 use std::alloc::Global;
+use std::process::Abort;
 use std::test::Fail;
 
 /// A page.
@@ -25,10 +26,25 @@ pub struct Wish {
     pub broadcasts: u16,
 }
 
+/// What is done to a book, or asked of it, and what it answers.
+#[derive(Clone, Copy)]
+pub enum Step {
+    /// A write of one page.
+    One(Wish, Answer),
+    /// A write of two pages.
+    Two(Wish, Answer),
+    /// A kill of the message of this serial number.
+    Kill(u16, Answer),
+    /// A status of it, as a command.
+    Ask(u16, Answer),
+    /// How often the message of this serial number was broadcast, and how it stands.
+    Status(u16, Option<(u16, State)>),
+    /// As many slots are aired.
+    Play(u16),
+}
+
 /// A message that stands until it is stopped.
-pub fn standing(serial: u16, period: u16) -> Wish
-    ensures { result.period ≡ period }
-{
+pub fn standing(serial: u16, period: u16) -> Wish {
     Wish {
         serial,
         replaces: None,
@@ -39,13 +55,24 @@ pub fn standing(serial: u16, period: u16) -> Wish
 }
 
 /// One of high category.
-pub fn standing_high(serial: u16, period: u16) -> Wish
-    ensures { result.period ≡ period }
-{
+pub fn standing_high(serial: u16, period: u16) -> Wish {
     Wish {
         category: Category::High,
         ..standing(serial, period)
     }
+}
+
+/// One in place of another.
+pub fn standing_for(old: u16, serial: u16, period: u16) -> Wish {
+    Wish {
+        replaces: Some(old),
+        ..standing(serial, period)
+    }
+}
+
+/// The answer that a message stands from this slot on.
+pub fn started(slot: u16) -> Answer {
+    Answer::Started { slot }
 }
 
 /// A write with these pages.
@@ -71,16 +98,8 @@ fn write(alloc: Global, wish: Wish, pages: &[Content]) -> Result<Command, Fail>
     })
 }
 
-/// A book of a run of so many slots.
-pub fn open(alloc: Global, slots: u16) -> Result<CellBook, Fail>
-    requires { slots ≤ 4096 }
-{
-    let book = CellBook::open(alloc, Cell { lac: 1, ci: 1 }, slots)?;
-    Ok(book)
-}
-
 /// The answer to a write of one page.
-pub fn write_one(alloc: Global, book: &mut CellBook, wish: Wish) -> Result<Answer, Fail>
+fn write_one(alloc: Global, book: &mut CellBook, wish: Wish) -> Result<Answer, Fail>
     requires period { 1 ≤ wish.period }
     requires short { wish.period ≤ 1024 }
 {
@@ -89,7 +108,7 @@ pub fn write_one(alloc: Global, book: &mut CellBook, wish: Wish) -> Result<Answe
 }
 
 /// The answer to a write of two pages.
-pub fn write_two(alloc: Global, book: &mut CellBook, wish: Wish) -> Result<Answer, Fail>
+fn write_two(alloc: Global, book: &mut CellBook, wish: Wish) -> Result<Answer, Fail>
     requires period { 1 ≤ wish.period }
     requires short { wish.period ≤ 1024 }
 {
@@ -97,8 +116,25 @@ pub fn write_two(alloc: Global, book: &mut CellBook, wish: Wish) -> Result<Answe
     Ok(book.apply(&command))
 }
 
+/// The answer to a write of one page or of two.
+fn write_pages(
+    rt: &impl Abort,
+    alloc: Global,
+    book: &mut CellBook,
+    wish: Wish,
+    two: bool,
+) -> Result<Answer, Fail> {
+    assert!(rt; 1 <= wish.period);
+    assert!(rt; wish.period <= 1024);
+    if two {
+        write_two(alloc, book, wish)
+    } else {
+        write_one(alloc, book, wish)
+    }
+}
+
 /// The answer to a kill.
-pub fn kill(book: &mut CellBook, serial: u16) -> Answer {
+fn kill(book: &mut CellBook, serial: u16) -> Answer {
     book.apply(&Command::Kill {
         id: 4370,
         serial: Serial::of(serial),
@@ -106,14 +142,82 @@ pub fn kill(book: &mut CellBook, serial: u16) -> Answer {
 }
 
 /// The answer to a status.
-pub fn ask(book: &mut CellBook, serial: u16) -> Answer {
+fn ask(book: &mut CellBook, serial: u16) -> Answer {
     book.apply(&Command::Status {
         id: 4370,
         serial: Serial::of(serial),
     })
 }
 
-/// How often a message was broadcast, and how it stands.
-pub fn status(book: &CellBook, serial: u16) -> Option<(u16, State)> {
-    book.status(4370, Serial::of(serial))
+/// Expects this answer at a step.
+fn expect_answer(rt: &impl Abort, place: usize, answer: Answer, wanted: Answer) {
+    assert_eq!(rt; answer, wanted, "at step {place}");
+}
+
+/// Expects this status at a step.
+fn expect_status(
+    rt: &impl Abort,
+    place: usize,
+    status: Option<(u16, State)>,
+    wanted: Option<(u16, State)>,
+) {
+    assert_eq!(rt; status, wanted, "at step {place}");
+}
+
+/// Expects of a book what a step says.
+fn expect_step(
+    rt: &impl Abort,
+    alloc: Global,
+    book: &mut CellBook,
+    place: usize,
+    step: Step,
+) -> Result<(), Fail> {
+    match step {
+        Step::One(wish, wanted) => {
+            expect_answer(
+                rt,
+                place,
+                write_pages(rt, alloc, book, wish, false)?,
+                wanted,
+            );
+        }
+        Step::Two(wish, wanted) => {
+            expect_answer(rt, place, write_pages(rt, alloc, book, wish, true)?, wanted);
+        }
+        Step::Kill(serial, wanted) => expect_answer(rt, place, kill(book, serial), wanted),
+        Step::Ask(serial, wanted) => expect_answer(rt, place, ask(book, serial), wanted),
+        Step::Status(serial, wanted) => {
+            expect_status(rt, place, book.status(4370, Serial::of(serial)), wanted);
+        }
+        Step::Play(slots) => {
+            book.play(slots);
+        }
+    }
+    Ok(())
+}
+
+/// The book of a run of as many slots, after these steps.
+pub fn run(rt: &impl Abort, alloc: Global, slots: u16, steps: &[Step]) -> Result<CellBook, Fail> {
+    assert!(rt; slots <= 4096);
+    let mut book = CellBook::open(alloc, Cell { lac: 1, ci: 1 }, slots)?;
+    go_on(rt, alloc, &mut book, steps)?;
+    Ok(book)
+}
+
+/// Expects of a book what these steps say.
+pub fn go_on(
+    rt: &impl Abort,
+    alloc: Global,
+    book: &mut CellBook,
+    steps: &[Step],
+) -> Result<(), Fail> {
+    for (place, step) in steps.iter().enumerate() {
+        expect_step(rt, alloc, book, place, *step)?;
+    }
+    Ok(())
+}
+
+/// Expects that a book has aired these pages, each of the message of an entry, or nothing.
+pub fn expect_air(rt: &impl Abort, book: &CellBook, wanted: &[Option<Aired>]) {
+    assert_eq!(rt; book.air(), wanted);
 }

@@ -337,17 +337,22 @@ fn expect_order(
     Ok(())
 }
 
+/// Expects the orders of these rows.
+fn expect_orders(
+    rt: &impl Abort,
+    alloc: Global,
+    rows: &[(&str, Result<&[Cell], u8>)],
+) -> Result<(), Fail> {
+    for (digits, expected) in rows {
+        expect_order(rt, alloc, digits, *expected)?;
+    }
+    Ok(())
+}
+
 #[test]
 fn orders_name_these_cells_or_have_this_cause(rt: HostRuntime) -> Result<(), Fail> {
     let alloc = rt.alloc();
-    for (digits, expected) in ORDERS_1 {
-        expect_order(&rt, alloc, digits, expected)?;
-    }
-    for (digits, expected) in ORDERS_2 {
-        expect_order(&rt, alloc, digits, expected)?;
-    }
-    for (digits, expected) in ORDERS_3 {
-        expect_order(&rt, alloc, digits, expected)?;
-    }
-    Ok(())
+    expect_orders(&rt, alloc, ORDERS_1.as_slice())?;
+    expect_orders(&rt, alloc, ORDERS_2.as_slice())?;
+    expect_orders(&rt, alloc, ORDERS_3.as_slice())
 }

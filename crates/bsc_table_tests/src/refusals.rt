@@ -6,123 +6,87 @@ use std::test::Fail;
 
 #[test]
 fn three_thirds_fill_a_cell(rt: HostRuntime) -> Result<(), Fail> {
-    let alloc = rt.alloc();
-    let mut book = open(alloc, 3)?;
-    for serial in [1, 2, 3] {
-        assert_eq!(rt;
-            write_one(alloc, &mut book, standing(serial, 3))?,
-            Answer::Started { slot: 0 }
-        );
-    }
-    assert_eq!(rt;
-        write_one(alloc, &mut book, standing(4, 1024))?,
-        Answer::Cause(0x06)
-    );
-    assert_eq!(rt; kill(&mut book, 1), Answer::Stopped { completed: 0 });
-    assert_eq!(rt;
-        write_one(alloc, &mut book, standing(4, 1024))?,
-        Answer::Started { slot: 0 }
-    );
+    let steps = [
+        Step::One(standing(1, 3), started(0)),
+        Step::One(standing(2, 3), started(0)),
+        Step::One(standing(3, 3), started(0)),
+        Step::One(standing(4, 1024), Answer::Cause(0x06)),
+        Step::Kill(1, Answer::Stopped { completed: 0 }),
+        Step::One(standing(4, 1024), started(0)),
+    ];
+    run(&rt, rt.alloc(), 3, steps.as_slice())?;
     Ok(())
 }
 
 #[test]
 fn a_cell_reserves_64_messages(rt: HostRuntime) -> Result<(), Fail> {
     let alloc = rt.alloc();
-    let mut book = open(alloc, 3)?;
+    let mut book = run(&rt, alloc, 3, &[])?;
     for serial in 0..64 {
-        assert_eq!(rt;
-            write_one(alloc, &mut book, standing(serial, 1024))?,
-            Answer::Started { slot: 0 }
-        );
+        let step = Step::One(standing(serial, 1024), started(0));
+        go_on(&rt, alloc, &mut book, [step].as_slice())?;
     }
-    assert_eq!(rt;
-        write_one(alloc, &mut book, standing(64, 1024))?,
-        Answer::Cause(0x07)
-    );
-    assert_eq!(rt;
-        write_one(alloc, &mut book, standing(64, 1))?,
-        Answer::Cause(0x07)
-    );
-    let new = Wish {
-        replaces: Some(63),
-        ..standing(64, 1024)
+    let replaced = Answer::Replaced {
+        slot: 0,
+        completed: 0,
     };
-    assert_eq!(rt;
-        write_one(alloc, &mut book, new)?,
-        Answer::Replaced {
-            slot: 0,
-            completed: 0
-        }
-    );
-    Ok(())
+    let steps = [
+        Step::One(standing(64, 1024), Answer::Cause(0x07)),
+        Step::One(standing(64, 1), Answer::Cause(0x07)),
+        Step::One(standing_for(63, 64, 1024), replaced),
+    ];
+    go_on(&rt, alloc, &mut book, steps.as_slice())
 }
 
 #[test]
 fn a_log_has_room_for_4096_entries(rt: HostRuntime) -> Result<(), Fail> {
     let alloc = rt.alloc();
-    let mut book = open(alloc, 0)?;
+    let mut book = run(&rt, alloc, 0, &[])?;
+    let unknown = [Step::Ask(1, Answer::Unknown)];
     for _ in 0..4096 {
-        assert_eq!(rt; ask(&mut book, 1), Answer::Unknown);
+        go_on(&rt, alloc, &mut book, unknown.as_slice())?;
     }
-    assert_eq!(rt; kill(&mut book, 1), Answer::Cause(0x08));
-    assert_eq!(rt; ask(&mut book, 1), Answer::Cause(0x08));
-    assert_eq!(rt;
-        write_one(alloc, &mut book, standing(1, 1))?,
-        Answer::Cause(0x08)
-    );
-    assert_eq!(rt; status(&book, 1), None);
+    let steps = [
+        Step::Kill(1, Answer::Cause(0x08)),
+        Step::Ask(1, Answer::Cause(0x08)),
+        Step::One(standing(1, 1), Answer::Cause(0x08)),
+        Step::Status(1, None),
+    ];
+    go_on(&rt, alloc, &mut book, steps.as_slice())?;
     assert_eq!(rt; book.log().len(), 4096);
     Ok(())
 }
 
 #[test]
 fn after_the_run_only_a_status_is_answered(rt: HostRuntime) -> Result<(), Fail> {
-    let alloc = rt.alloc();
-    let mut book = open(alloc, 2)?;
-    write_one(alloc, &mut book, standing(1, 2))?;
-    book.play(2);
-    assert_eq!(rt;
-        write_one(alloc, &mut book, standing(1, 2))?,
-        Answer::Cause(0x0A)
-    );
-    assert_eq!(rt; kill(&mut book, 9), Answer::Cause(0x0A));
-    assert_eq!(rt;
-        ask(&mut book, 1),
-        Answer::Told {
-            completed: 1,
-            state: State::Standing
-        }
-    );
-    assert_eq!(rt; ask(&mut book, 9), Answer::Unknown);
+    let told = Answer::Told {
+        completed: 1,
+        state: State::Standing,
+    };
+    let steps = [
+        Step::One(standing(1, 2), started(0)),
+        Step::Play(2),
+        Step::One(standing(1, 2), Answer::Cause(0x0A)),
+        Step::Kill(9, Answer::Cause(0x0A)),
+        Step::Ask(1, told),
+        Step::Ask(9, Answer::Unknown),
+    ];
+    let book = run(&rt, rt.alloc(), 2, steps.as_slice())?;
     assert_eq!(rt; book.log().len(), 5);
     Ok(())
 }
 
 #[test]
 fn the_first_cause_that_applies_is_told(rt: HostRuntime) -> Result<(), Fail> {
-    let alloc = rt.alloc();
-    let mut book = open(alloc, 2)?;
-    write_one(alloc, &mut book, standing(1, 1))?;
-    let of_none = Wish {
-        replaces: Some(9),
-        ..standing(1, 1)
-    };
-    assert_eq!(rt; write_one(alloc, &mut book, of_none)?, Answer::Cause(0x02));
-    assert_eq!(rt;
-        write_one(alloc, &mut book, standing(1, 1))?,
-        Answer::Cause(0x0D)
-    );
-    let itself = Wish {
-        replaces: Some(1),
-        ..standing(1, 1)
-    };
-    assert_eq!(rt; write_one(alloc, &mut book, itself)?, Answer::Cause(0x0D));
-    assert_eq!(rt;
-        write_one(alloc, &mut book, standing(2, 1024))?,
-        Answer::Cause(0x06)
-    );
-    assert_eq!(rt; kill(&mut book, 2), Answer::Cause(0x02));
-    assert_eq!(rt; status(&book, 1), Some((0, State::Standing)));
+    let steps = [
+        Step::One(standing(1, 1), started(0)),
+        Step::One(standing_for(9, 1, 1), Answer::Cause(0x02)),
+        Step::One(standing(1, 1), Answer::Cause(0x0D)),
+        Step::One(standing_for(1, 1, 1), Answer::Cause(0x0D)),
+        Step::One(standing(2, 1024), Answer::Cause(0x06)),
+        Step::Kill(2, Answer::Cause(0x02)),
+        Step::Status(1, Some((0, State::Standing))),
+    ];
+    run(&rt, rt.alloc(), 2, steps.as_slice())?;
     Ok(())
 }
