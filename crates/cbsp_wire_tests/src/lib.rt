@@ -10,6 +10,8 @@ mod octets;
 #[cfg(test)]
 mod refusals;
 #[cfg(test)]
+mod rows;
+#[cfg(test)]
 mod vectors;
 #[cfg(test)]
 mod writing;

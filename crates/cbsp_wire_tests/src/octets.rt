@@ -1,7 +1,9 @@
-//! Octets of messages, made apart from the writer.
+//! Octets of messages, made apart from the writer, and what is expected of them.
 
-use cbsp_wire::{WireFault, read};
+use cbsp_wire::{Message, WireFault, read, write};
 use std::alloc::{AllocError, Global};
+use std::process::Abort;
+use std::test::Fail;
 
 /// A message: its type, the length of its elements, and these.
 pub fn message(alloc: Global, kind: u8, elements: &[u8]) -> Result<Vec<u8>, AllocError> {
@@ -65,10 +67,66 @@ pub fn order_octets(alloc: Global, order: Order) -> Result<Vec<u8>, AllocError> 
     message(alloc, 0x01, &elements)
 }
 
+// The functions below have no clauses: a test needs nothing of what `read` and `write` promise, and the proof of each
+// test would search all of it.
+
+/// The octets that hexadecimal digits name.
+pub fn octets_of(alloc: Global, digits: &str) -> Result<Vec<u8>, Fail> {
+    Ok(hex::decode(alloc, digits)?)
+}
+
+/// What octets mean.
+pub fn meaning_of(alloc: Global, octets: &[u8]) -> Result<Message, WireFault> {
+    read(alloc, octets)
+}
+
+/// The octets of a message.
+pub fn written_octets(alloc: Global, message: &Message) -> Result<Vec<u8>, WireFault> {
+    write(alloc, message)
+}
+
 /// Why octets are refused, or None where they are read.
 pub fn fault_of(alloc: Global, octets: &[u8]) -> Option<WireFault> {
-    match read(alloc, octets) {
-        Ok(_) => None,
-        Err(fault) => Some(fault),
+    read(alloc, octets).err()
+}
+
+/// Expects that octets are refused for this fault, or are read where it is None.
+pub fn expect_fault(rt: &impl Abort, alloc: Global, octets: &[u8], expected: Option<WireFault>) {
+    assert_eq!(rt; fault_of(alloc, octets), expected, "{octets:?}");
+}
+
+/// Expects the same of the octets that hexadecimal digits name.
+fn expect_fault_of_digits(
+    rt: &impl Abort,
+    alloc: Global,
+    digits: &str,
+    expected: Option<WireFault>,
+) -> Result<(), Fail> {
+    let octets = octets_of(alloc, digits)?;
+    expect_fault(rt, alloc, &octets, expected);
+    Ok(())
+}
+
+/// Expects the same of each row of digits.
+pub fn expect_faults(
+    rt: &impl Abort,
+    alloc: Global,
+    rows: &[(&str, Option<WireFault>)],
+) -> Result<(), Fail> {
+    for (digits, expected) in rows {
+        expect_fault_of_digits(rt, alloc, digits, *expected)?;
     }
+    Ok(())
+}
+
+/// Expects that each row of digits is refused.
+pub fn expect_refused(
+    rt: &impl Abort,
+    alloc: Global,
+    rows: &[(&str, WireFault)],
+) -> Result<(), Fail> {
+    for (digits, fault) in rows {
+        expect_fault_of_digits(rt, alloc, digits, Some(*fault))?;
+    }
+    Ok(())
 }

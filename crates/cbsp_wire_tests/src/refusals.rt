@@ -1,213 +1,98 @@
 //! Each refusal, in its place.
 
-use crate::octets::{fault_of, message};
+use crate::octets::expect_faults;
 use cbsp_wire::{WireFault, cause};
-use std::alloc::{AllocError, Global};
+use std::alloc::Global;
+use std::process::Abort;
 use std::test::Fail;
 
-const ID: [u8; 3] = [0x0E, 0x11, 0x12];
+const TRUNCATED: Option<WireFault> = Some(WireFault::Truncated);
 
-const NEW: [u8; 3] = [0x03, 0x00, 0x10];
+const TRAILING: Option<WireFault> = Some(WireFault::TrailingBytes);
 
-const OLD: [u8; 3] = [0x02, 0x00, 0x10];
+const UNKNOWN: Option<WireFault> = Some(WireFault::Cause(cause::UNRECOGNISED_MESSAGE));
 
-const CELLS: [u8; 8] = [0x04, 0x00, 0x05, 0x01, 0x00, 0x01, 0x00, 0x01];
+const MISSING: Option<WireFault> = Some(WireFault::Cause(cause::MISSING_MANDATORY_ELEMENT));
 
-#[test]
-fn the_frame_is_looked_at_first(rt: HostRuntime) {
-    let alloc = rt.alloc();
-    assert_eq!(rt; fault_of(alloc, &[]), Some(WireFault::Truncated));
-    assert_eq!(rt; fault_of(alloc, &[0x04, 0, 0]), Some(WireFault::Truncated));
-    assert_eq!(rt;
-        fault_of(alloc, &[0x07, 0, 0, 1]),
-        Some(WireFault::Truncated)
-    );
-    assert_eq!(rt;
-        fault_of(alloc, &[0x04, 0, 1, 0, 0]),
-        Some(WireFault::Truncated)
-    );
-    assert_eq!(rt;
-        fault_of(alloc, &[0x04, 1, 0, 0, 0]),
-        Some(WireFault::Truncated)
-    );
-    assert_eq!(rt;
-        fault_of(alloc, &[0x07, 0, 0, 0, 0]),
-        Some(WireFault::TrailingBytes)
-    );
-    assert_eq!(rt;
-        fault_of(alloc, &[0x07, 0, 0, 0]),
-        Some(WireFault::Cause(cause::UNRECOGNISED_MESSAGE))
-    );
-    assert_eq!(rt;
-        fault_of(alloc, &[0x00, 0, 0, 0]),
-        Some(WireFault::Cause(cause::UNRECOGNISED_MESSAGE))
-    );
-    assert_eq!(rt;
-        fault_of(alloc, &[0x04, 0, 0, 0]),
-        Some(WireFault::Cause(cause::MISSING_MANDATORY_ELEMENT))
-    );
-}
+const STRANGE: Option<WireFault> = Some(WireFault::Cause(cause::PARAMETER_NOT_RECOGNISED));
 
-#[test]
-fn elements_are_looked_at_in_order(rt: HostRuntime) {
-    let alloc = rt.alloc();
+const INVALID: Option<WireFault> = Some(WireFault::Cause(cause::PARAMETER_VALUE_INVALID));
+
+/// Octets, and why they are refused.
+const FRAMES_AND_ELEMENTS: [(&str, Option<WireFault>); 19] = [
+    // The frame is looked at first: four octets, and as many more as the length says.
+    ("", TRUNCATED),
+    ("040000", TRUNCATED),
+    ("07000001", TRUNCATED),
+    ("0400010000", TRUNCATED),
+    ("0401000000", TRUNCATED),
+    ("0700000000", TRAILING),
+    // Then the type.
+    ("07000000", UNKNOWN),
+    ("00000000", UNKNOWN),
     // An element past the end.
-    assert_eq!(rt;
-        fault_of(alloc, &[0x04, 0, 0, 0x0E, 0x0E]),
-        Some(WireFault::Truncated)
-    );
-    assert_eq!(rt;
-        fault_of(alloc, &[0x04, 0, 0, 1, 0x0E]),
-        Some(WireFault::Truncated)
-    );
-    // A mandatory element that is missing.
-    let missing = [0x04, 0, 0, 0x06, 0x0E, 0x11, 0x12, 0x02, 0x00, 0x10];
-    assert_eq!(rt;
-        fault_of(alloc, &missing),
-        Some(WireFault::Cause(cause::MISSING_MANDATORY_ELEMENT))
-    );
+    ("0400000e0e", TRUNCATED),
+    ("040000010e", TRUNCATED),
+    // A mandatory element that is missing, which comes before what is strange.
+    ("04000000", MISSING),
+    ("040000060e1112020010", MISSING),
+    ("040000020f01", MISSING),
     // An element that isn't of the message, as the last octet too.
-    let strange = [
-        0x04, 0, 0, 0x10, 0x0E, 0x11, 0x12, 0x02, 0x00, 0x10, 0x04, 0x00, 0x05, 0x01, 0x00, 0x01,
-        0x00, 0x01, 0x0F, 0x01,
-    ];
-    assert_eq!(rt;
-        fault_of(alloc, &strange),
-        Some(WireFault::Cause(cause::PARAMETER_NOT_RECOGNISED))
-    );
-    let last = [
-        0x04, 0, 0, 0x0F, 0x0E, 0x11, 0x12, 0x02, 0x00, 0x10, 0x04, 0x00, 0x05, 0x01, 0x00, 0x01,
-        0x00, 0x01, 0x0F,
-    ];
-    assert_eq!(rt;
-        fault_of(alloc, &last),
-        Some(WireFault::Cause(cause::PARAMETER_NOT_RECOGNISED))
-    );
+    ("040000100e111202001004000501000100010f01", STRANGE),
+    ("0400000f0e111202001004000501000100010f", STRANGE),
     // The channel indicator in its place.
-    let channel = [
-        0x04, 0, 0, 0x10, 0x0E, 0x11, 0x12, 0x02, 0x00, 0x10, 0x04, 0x00, 0x05, 0x01, 0x00, 0x01,
-        0x00, 0x01, 0x12, 0x01,
-    ];
-    assert_eq!(rt; fault_of(alloc, &channel), None);
-    // What is missing comes before what is strange.
-    assert_eq!(rt;
-        fault_of(alloc, &[0x04, 0, 0, 2, 0x0F, 0x01]),
-        Some(WireFault::Cause(cause::MISSING_MANDATORY_ELEMENT))
-    );
-}
+    ("040000100e111202001004000501000100011201", None),
+    // An element that comes twice.
+    ("040000110e111202001004000501000100010e1112", INVALID),
+    ("040000110e11120200100400050100010001020010", INVALID),
+    (
+        "040000160e111202001004000501000100010400050100010001",
+        INVALID,
+    ),
+];
+
+/// Octets of lists and of replies, and why they are refused.
+const LISTS_AND_REPLIES: [(&str, Option<WireFault>); 17] = [
+    // A list with no discriminator, no items, a part of an item, another discriminator, a cell twice.
+    ("040000090e1112020010040000", INVALID),
+    ("0400000a0e111202001004000101", INVALID),
+    ("0400000d0e111202001004000401000100", INVALID),
+    ("0400000f0e1112020010040006010001000100", INVALID),
+    ("0400000e0e11120200100400050000010001", INVALID),
+    ("0400000e0e11120200100400050200010001", INVALID),
+    ("040000120e1112020010040009010001000100010001", INVALID),
+    // Replies with failures and completed broadcasts, in any order.
+    ("0300000f0e1112030010090006010001000106", None),
+    (
+        "0600001a08000801000100010003000900060100010001060200100e1112",
+        None,
+    ),
+    ("030000060e1112030010", MISSING),
+    // Two failures: each with its discriminator, one discriminator for both, another one at the second, a cell twice.
+    ("030000150e111203001009000c010001000106010001000206", None),
+    ("030000140e111203001009000b0100010001060001000206", INVALID),
+    (
+        "060000150e111202001009000c010001000106020001000206",
+        INVALID,
+    ),
+    (
+        "030000150e111203001009000c010001000106010001000106",
+        INVALID,
+    ),
+    // Elements of other replies.
+    ("0200000f0e1112030010090006010001000106", STRANGE),
+    (
+        "040000190e111202001004000501000100010800080100010001000300",
+        STRANGE,
+    ),
+    ("050000090e1112020010030010", STRANGE),
+];
 
 #[test]
-fn an_element_that_comes_twice_is_refused(rt: HostRuntime) -> Result<(), Fail> {
+fn octets_are_refused_at_their_first_fault(rt: HostRuntime) -> Result<(), Fail> {
     let alloc = rt.alloc();
-    for twice in [ID.as_slice(), OLD.as_slice(), CELLS.as_slice()] {
-        let mut elements = Vec::new(alloc);
-        for element in [ID.as_slice(), OLD.as_slice(), CELLS.as_slice(), twice] {
-            elements.extend_from_slice(element)?;
-        }
-        let octets = message(alloc, 0x04, &elements)?;
-        assert_eq!(rt;
-            fault_of(alloc, &octets),
-            Some(WireFault::Cause(cause::PARAMETER_VALUE_INVALID))
-        );
-    }
-    Ok(())
-}
-
-#[test]
-fn a_list_is_refused_where_it_is_wrong(rt: HostRuntime) -> Result<(), Fail> {
-    let alloc = rt.alloc();
-    let lists: [&[u8]; 7] = [
-        // No discriminator, no items, a part of an item, another discriminator, a cell twice.
-        &[0x04, 0, 0],
-        &[0x04, 0, 1, 1],
-        &[0x04, 0, 4, 1, 0, 1, 0],
-        &[0x04, 0, 6, 1, 0, 1, 0, 1, 0],
-        &[0x04, 0, 5, 0, 0, 1, 0, 1],
-        &[0x04, 0, 5, 2, 0, 1, 0, 1],
-        &[0x04, 0, 9, 1, 0, 1, 0, 1, 0, 1, 0, 1],
-    ];
-    for list in lists {
-        let mut elements = Vec::new(alloc);
-        for element in [ID.as_slice(), OLD.as_slice(), list] {
-            elements.extend_from_slice(element)?;
-        }
-        let octets = message(alloc, 0x04, &elements)?;
-        assert_eq!(rt;
-            fault_of(alloc, &octets),
-            Some(WireFault::Cause(cause::PARAMETER_VALUE_INVALID))
-        );
-    }
-    Ok(())
-}
-
-/// Why a message of four elements is refused, or None where it is read.
-fn fault_with(
-    alloc: Global,
-    kind: u8,
-    a: &[u8],
-    b: &[u8],
-    c: &[u8],
-    d: &[u8],
-) -> Result<Option<WireFault>, AllocError> {
-    let mut elements = Vec::new(alloc);
-    elements.extend_from_slice(a)?;
-    elements.extend_from_slice(b)?;
-    elements.extend_from_slice(c)?;
-    elements.extend_from_slice(d)?;
-    let octets = message(alloc, kind, &elements)?;
-    Ok(fault_of(alloc, &octets))
-}
-
-#[test]
-fn replies_have_their_own_elements(rt: HostRuntime) -> Result<(), Fail> {
-    let alloc = rt.alloc();
-    let failures: [u8; 9] = [0x09, 0, 6, 1, 0, 1, 0, 1, 0x06];
-    // Two failures, each with its discriminator; one discriminator for both; another one at the second; a cell twice.
-    let two: [u8; 15] = [0x09, 0, 12, 1, 0, 1, 0, 1, 0x06, 1, 0, 1, 0, 2, 0x06];
-    let one_for_both: [u8; 14] = [0x09, 0, 11, 1, 0, 1, 0, 1, 0x06, 0, 1, 0, 2, 0x06];
-    let other: [u8; 15] = [0x09, 0, 12, 1, 0, 1, 0, 1, 0x06, 2, 0, 1, 0, 2, 0x06];
-    let twice: [u8; 15] = [0x09, 0, 12, 1, 0, 1, 0, 1, 0x06, 1, 0, 1, 0, 1, 0x06];
-    let counts: [u8; 11] = [0x08, 0, 8, 1, 0, 1, 0, 1, 0, 3, 0];
-    let cases = [
-        (fault_with(alloc, 0x03, &ID, &NEW, &failures, &[])?, None),
-        (
-            fault_with(alloc, 0x06, &counts, &failures, &OLD, &ID)?,
-            None,
-        ),
-        (
-            fault_with(alloc, 0x03, &ID, &NEW, &[], &[])?,
-            Some(WireFault::Cause(cause::MISSING_MANDATORY_ELEMENT)),
-        ),
-        (fault_with(alloc, 0x03, &ID, &NEW, &two, &[])?, None),
-        (
-            fault_with(alloc, 0x03, &ID, &NEW, &one_for_both, &[])?,
-            Some(WireFault::Cause(cause::PARAMETER_VALUE_INVALID)),
-        ),
-        (
-            fault_with(alloc, 0x06, &ID, &OLD, &other, &[])?,
-            Some(WireFault::Cause(cause::PARAMETER_VALUE_INVALID)),
-        ),
-        (
-            fault_with(alloc, 0x03, &ID, &NEW, &twice, &[])?,
-            Some(WireFault::Cause(cause::PARAMETER_VALUE_INVALID)),
-        ),
-        (
-            fault_with(alloc, 0x02, &ID, &NEW, &failures, &[])?,
-            Some(WireFault::Cause(cause::PARAMETER_NOT_RECOGNISED)),
-        ),
-        (
-            fault_with(alloc, 0x04, &ID, &OLD, &CELLS, &counts)?,
-            Some(WireFault::Cause(cause::PARAMETER_NOT_RECOGNISED)),
-        ),
-        (
-            fault_with(alloc, 0x05, &ID, &OLD, &NEW, &[])?,
-            Some(WireFault::Cause(cause::PARAMETER_NOT_RECOGNISED)),
-        ),
-    ];
-    for (fault, expected) in cases {
-        assert_eq!(rt; fault, expected);
-    }
-    Ok(())
+    expect_faults(&rt, alloc, &FRAMES_AND_ELEMENTS)?;
+    expect_faults(&rt, alloc, &LISTS_AND_REPLIES)
 }
 
 /// The octets of causes, by 3GPP TS 48.049, 8.2, Cause.
@@ -232,19 +117,24 @@ fn each_cause_has_its_octet(rt: HostRuntime) {
     }
 }
 
+/// Expects that a fault has this text.
+fn expect_text(rt: &impl Abort, alloc: Global, fault: WireFault, text: &str) -> Result<(), Fail> {
+    let shown = fault.to_string(alloc)?;
+    assert_eq!(rt; shown.as_str(), text);
+    Ok(())
+}
+
 #[test]
 fn each_refusal_has_its_text(rt: HostRuntime) -> Result<(), Fail> {
-    let texts = [
-        (WireFault::Truncated, "the message is cut off"),
-        (WireFault::TrailingBytes, "octets stand after the message"),
-        (
-            WireFault::Cause(cause::UNRECOGNISED_MESSAGE),
-            "refused with cause 4",
-        ),
-        (WireFault::Refused, "out of memory"),
-    ];
-    for (fault, text) in texts {
-        assert_eq!(rt; fault.to_string(rt.alloc())?.as_str(), text);
-    }
-    Ok(())
+    let alloc = rt.alloc();
+    let unknown = WireFault::Cause(cause::UNRECOGNISED_MESSAGE);
+    expect_text(&rt, alloc, WireFault::Truncated, "the message is cut off")?;
+    expect_text(
+        &rt,
+        alloc,
+        WireFault::TrailingBytes,
+        "octets stand after the message",
+    )?;
+    expect_text(&rt, alloc, unknown, "refused with cause 4")?;
+    expect_text(&rt, alloc, WireFault::Refused, "out of memory")
 }
