@@ -333,11 +333,12 @@ impl Numbers {
 fn add_some(plan: &mut Plan, numbers: &mut Numbers, told: &mut Vec<Told>) -> Result<(), Fail> {
     if numbers.below(5) == 0 && told.len() < 16 {
         let entry = (told.len() as u16).saturating_mul(3);
-        let pages = [1, 1, 1, 2, 3, 5];
-        let pages = pages
-            .get(usize::from(numbers.below(6)))
-            .copied()
-            .unwrap_or(1);
+        let pages = match numbers.below(6) {
+            3 => 2,
+            4 => 3,
+            5 => 5,
+            _ => 1,
+        };
         let period = numbers.below(12).saturating_add(1);
         let broadcasts = numbers.below(5);
         let high = numbers.below(3) == 0;
@@ -368,8 +369,9 @@ fn stop_some(
 fn stop_one(rt: &impl Abort, plan: &mut Plan, one: &mut Told, air: &[Option<(u16, u8)>]) {
     if one.stop.is_none() {
         let slot = plan.next_slot();
-        expect_stopped(rt, plan, one.item.entry, Some(completed(one, air, slot)));
+        let completed = completed(one, air, slot);
         one.stop = Some(slot);
+        expect_stopped(rt, plan, one.item.entry, Some(completed));
     }
 }
 
