@@ -1,6 +1,7 @@
 //! Worked air lists, and generated histories against the rule said once more, over the whole air list.
 
 use scheduler::{Item, Plan, Refused, air_laws};
+use std::alloc::Global;
 use std::process::Abort;
 use std::test::Fail;
 
@@ -64,127 +65,146 @@ fn done(plan: &Plan, entry: u16) -> Option<u16> {
     Some(plan.done(entry))
 }
 
+/// That a message that stands from the slot asked next is added.
+fn expect_added(
+    rt: &impl Abort,
+    plan: &mut Plan,
+    entry: u16,
+    pages: u8,
+    period: u16,
+    broadcasts: u16,
+    high: bool,
+) {
+    assert!(rt; add(plan, entry, pages, period, broadcasts, high).is_some());
+}
+
+/// That the slot that is asked next airs this.
+fn expect_aired(rt: &impl Abort, plan: &mut Plan, used: Option<(u16, u8)>) {
+    assert_eq!(rt; air(plan), used);
+}
+
+/// That of nine slots two air page 1 of message 0, and the others nothing.
+fn expect_two_of_nine(rt: &impl Abort, plan: &mut Plan, first: u16, second: u16) {
+    for slot in 0..9 {
+        let is_used = slot == first || slot == second;
+        expect_aired(rt, plan, if is_used { Some((0, 1)) } else { None });
+    }
+}
+
+/// That a message was stopped with this completed number. `None` is a message that does not stand.
+fn expect_stopped(rt: &impl Abort, plan: &mut Plan, entry: u16, completed: Option<u16>) {
+    assert_eq!(rt; stop(plan, entry), completed);
+}
+
+/// That a message that was added has this completed number.
+fn expect_done(rt: &impl Abort, plan: &Plan, entry: u16, completed: u16) {
+    assert_eq!(rt; done(plan, entry), Some(completed));
+}
+
 #[test]
 fn airs_by_due_slot(rt: HostRuntime) {
     let mut plan = Plan::new(rt.alloc());
-    assert!(rt; add(&mut plan, 0, 1, 2, 0, false).is_some());
-    assert!(rt; add(&mut plan, 1, 2, 4, 0, false).is_some());
-    for used in [Some((0, 1)), Some((1, 1)), Some((0, 1)), Some((1, 2))] {
-        assert_eq!(rt; done(&plan, 1), Some(0));
-        assert_eq!(rt; air(&mut plan), used);
+    expect_added(&rt, &mut plan, 0, 1, 2, 0, false);
+    expect_added(&rt, &mut plan, 1, 2, 4, 0, false);
+    for used in [(0, 1), (1, 1), (0, 1), (1, 2)] {
+        expect_done(&rt, &plan, 1, 0);
+        expect_aired(&rt, &mut plan, Some(used));
     }
-    assert_eq!(rt; done(&plan, 0), Some(2));
-    assert_eq!(rt; done(&plan, 1), Some(1));
+    expect_done(&rt, &plan, 0, 2);
+    expect_done(&rt, &plan, 1, 1);
 }
 
 #[test]
 fn airs_high_first(rt: HostRuntime) {
     let mut plan = Plan::new(rt.alloc());
-    assert!(rt; add(&mut plan, 0, 1, 2, 0, false).is_some());
-    assert!(rt; add(&mut plan, 1, 1, 2, 0, true).is_some());
-    assert_eq!(rt; air(&mut plan), Some((1, 1)));
-    assert_eq!(rt; air(&mut plan), Some((0, 1)));
+    expect_added(&rt, &mut plan, 0, 1, 2, 0, false);
+    expect_added(&rt, &mut plan, 1, 1, 2, 0, true);
+    expect_aired(&rt, &mut plan, Some((1, 1)));
+    expect_aired(&rt, &mut plan, Some((0, 1)));
 }
 
 #[test]
 fn fills_every_slot(rt: HostRuntime) {
     let mut plan = Plan::new(rt.alloc());
-    assert!(rt; add(&mut plan, 0, 1, 6, 0, false).is_some());
-    assert!(rt; add(&mut plan, 1, 1, 3, 0, false).is_some());
-    assert!(rt; add(&mut plan, 2, 1, 2, 0, false).is_some());
+    expect_added(&rt, &mut plan, 0, 1, 6, 0, false);
+    expect_added(&rt, &mut plan, 1, 1, 3, 0, false);
+    expect_added(&rt, &mut plan, 2, 1, 2, 0, false);
     for entry in [2, 1, 2, 0, 1, 2] {
-        assert_eq!(rt; air(&mut plan), Some((entry, 1)));
+        expect_aired(&rt, &mut plan, Some((entry, 1)));
     }
-    for (entry, completed) in [(0, 1), (1, 2), (2, 3)] {
-        assert_eq!(rt; done(&plan, entry), Some(completed));
-    }
+    expect_done(&rt, &plan, 0, 1);
+    expect_done(&rt, &plan, 1, 2);
+    expect_done(&rt, &plan, 2, 3);
 }
 
 #[test]
 fn runs_out(rt: HostRuntime) {
     let mut plan = Plan::new(rt.alloc());
-    assert!(rt; add(&mut plan, 0, 1, 3, 2, false).is_some());
-    for slot in 0..9 {
-        let used = if slot == 0 || slot == 3 {
-            Some((0, 1))
-        } else {
-            None
-        };
-        assert_eq!(rt; air(&mut plan), used, "slot {slot}");
-    }
-    assert_eq!(rt; done(&plan, 0), Some(2));
+    expect_added(&rt, &mut plan, 0, 1, 3, 2, false);
+    expect_two_of_nine(&rt, &mut plan, 0, 3);
+    expect_done(&rt, &plan, 0, 2);
 }
 
 /// A broadcast that is not whole at its due slot is dropped, and the next one begins with page 1. A stop is a stop.
 #[test]
 fn drops_what_is_due(rt: HostRuntime) {
     let mut plan = Plan::new(rt.alloc());
-    assert!(rt; add(&mut plan, 4, 3, 2, 0, false).is_some());
+    expect_added(&rt, &mut plan, 4, 3, 2, 0, false);
     for page in [1, 2, 1, 2, 1] {
-        assert_eq!(rt; air(&mut plan), Some((4, page)));
+        expect_aired(&rt, &mut plan, Some((4, page)));
     }
-    assert_eq!(rt; stop(&mut plan, 4), Some(0));
-    assert_eq!(rt; stop(&mut plan, 4), None);
+    expect_stopped(&rt, &mut plan, 4, Some(0));
+    expect_stopped(&rt, &mut plan, 4, None);
     assert!(rt; add(&mut plan, 4, 1, 1, 0, false).is_none());
-    assert!(rt; add(&mut plan, 5, 1, 1, 0, true).is_some());
-    assert_eq!(rt; air(&mut plan), Some((5, 1)));
-    assert_eq!(rt; stop(&mut plan, 5), Some(1));
-    assert_eq!(rt; air(&mut plan), None);
-    assert_eq!(rt; done(&plan, 5), Some(1));
+    expect_added(&rt, &mut plan, 5, 1, 1, 0, true);
+    expect_aired(&rt, &mut plan, Some((5, 1)));
+    expect_stopped(&rt, &mut plan, 5, Some(1));
+    expect_aired(&rt, &mut plan, None);
+    expect_done(&rt, &plan, 5, 1);
 }
 
 /// A message that is added ahead of its start is aired from there on, and one that is behind isn't added.
 #[test]
 fn waits_for_its_start(rt: HostRuntime) {
     let mut plan = Plan::new(rt.alloc());
-    let item = Item {
-        entry: 0,
+    assert!(rt; add_item(&mut plan, from_slot_3(0)).is_some());
+    expect_two_of_nine(&rt, &mut plan, 3, 5);
+    expect_done(&rt, &plan, 0, 2);
+    assert!(rt; add_item(&mut plan, from_slot_3(1)).is_none());
+}
+
+/// A message that stands from slot 3.
+fn from_slot_3(entry: u16) -> Item {
+    Item {
+        entry,
         start: 3,
         pages: 1,
         period: 2,
         broadcasts: 2,
         high: false,
-    };
-    assert!(rt; add_item(&mut plan, item).is_some());
-    for slot in 0..9 {
-        let used = if slot == 3 || slot == 5 {
-            Some((0, 1))
-        } else {
-            None
-        };
-        assert_eq!(rt; air(&mut plan), used, "slot {slot}");
     }
-    assert_eq!(rt; done(&plan, 0), Some(2));
-    assert!(rt; add_item(&mut plan, Item { entry: 1, ..item }).is_none());
 }
 
 /// A plan keeps each message that was added, however many: 300 of one broadcast, all stopped but the last.
 #[test]
 fn keeps_many(rt: HostRuntime) {
     let mut plan = Plan::new(rt.alloc());
-    for entry in 0..300 {
-        assert!(rt;
-            add(&mut plan, entry, 2, 1024, 1, false).is_some(),
-            "{entry}"
-        );
-        if entry < 299 {
-            assert_eq!(rt; stop(&mut plan, entry), Some(0), "{entry}");
-        }
+    for entry in 0..299 {
+        expect_added(&rt, &mut plan, entry, 2, 1024, 1, false);
+        expect_stopped(&rt, &mut plan, entry, Some(0));
     }
-    for used in [Some((299, 1)), Some((299, 2)), None] {
-        assert_eq!(rt; air(&mut plan), used);
-    }
-    assert_eq!(rt; done(&plan, 299), Some(1));
-    assert_eq!(rt; done(&plan, 298), Some(0));
+    expect_added(&rt, &mut plan, 299, 2, 1024, 1, false);
+    expect_aired(&rt, &mut plan, Some((299, 1)));
+    expect_aired(&rt, &mut plan, Some((299, 2)));
+    expect_aired(&rt, &mut plan, None);
+    expect_done(&rt, &plan, 299, 1);
+    expect_done(&rt, &plan, 298, 0);
 }
 
 #[test]
 fn tells_the_fault(rt: HostRuntime) -> Result<(), Fail> {
     air_laws();
-    assert_eq!(rt;
-        format!(in rt.alloc(); "{Refused}")?.as_str(),
-        "out of memory"
-    );
+    assert_eq!(rt; Refused.to_string(rt.alloc())?.as_str(), "out of memory");
     Ok(())
 }
 
@@ -196,8 +216,8 @@ struct Told {
 }
 
 /// How many of the slots from `from` up to, and without, `to` air the entry.
-fn pages_aired(air: &[Option<(u16, u8)>], entry: u16, from: u32, to: u32) -> u32 {
-    let mut count: u32 = 0;
+fn pages_aired(air: &[Option<(u16, u8)>], entry: u16, from: u32, to: u32) -> u8 {
+    let mut count: u8 = 0;
     let mut slot: u32 = 0;
     for used in air {
         let is_used = match used {
@@ -233,16 +253,19 @@ fn is_before_stop(told: &Told, slot: u32) -> bool {
     }
 }
 
+/// Due slot, whether it is normal, entry, and how many pages were aired.
+type Rank = (u32, bool, u16, u8);
+
 /// What a slot airs by the rule: each broadcast of each message is looked at.
-fn chosen(told: &[Told], air: &[Option<(u16, u8)>], slot: u16) -> Option<(u16, u32)> {
+fn chosen(told: &[Told], air: &[Option<(u16, u8)>], slot: u16) -> Option<(u16, u8)> {
     let now = u32::from(slot);
-    let mut first: Option<(u32, bool, u16, u32)> = None;
+    let mut first: Option<Rank> = None;
     for one in told {
         for broadcast in 0..slot.saturating_add(1) {
             if let Some(released) = release(one, broadcast) {
                 let due = released.saturating_add(u32::from(one.item.period));
                 let pages = pages_aired(air, one.item.entry, released, now);
-                let is_unfinished = pages < u32::from(one.item.pages);
+                let is_unfinished = pages < one.item.pages;
                 if released <= now && now < due && is_before_stop(one, now) && is_unfinished {
                     let rank = (due, !one.item.high, one.item.entry, pages);
                     first = Some(lesser(first, rank));
@@ -257,10 +280,7 @@ fn chosen(told: &[Told], air: &[Option<(u16, u8)>], slot: u16) -> Option<(u16, u
 }
 
 /// The lesser of two ranks: by due slot, high before normal, entry.
-fn lesser(
-    first: Option<(u32, bool, u16, u32)>,
-    rank: (u32, bool, u16, u32),
-) -> (u32, bool, u16, u32) {
+fn lesser(first: Option<Rank>, rank: Rank) -> Rank {
     let Some(before) = first else {
         return rank;
     };
@@ -275,13 +295,13 @@ fn lesser(
 }
 
 /// How many broadcasts of a message are whole before a slot.
-fn completed(told: &Told, air: &[Option<(u16, u8)>], slot: u16) -> u32 {
-    let mut count: u32 = 0;
+fn completed(told: &Told, air: &[Option<(u16, u8)>], slot: u16) -> u16 {
+    let mut count: u16 = 0;
     for broadcast in 0..slot.saturating_add(1) {
         if let Some(released) = release(told, broadcast) {
             let due = released.saturating_add(u32::from(told.item.period));
             let pages = pages_aired(air, told.item.entry, released, due.min(u32::from(slot)));
-            if is_before_stop(told, released) && pages >= u32::from(told.item.pages) {
+            if is_before_stop(told, released) && pages >= told.item.pages {
                 count = count.saturating_add(1);
             }
         }
@@ -313,11 +333,12 @@ impl Numbers {
 fn add_some(plan: &mut Plan, numbers: &mut Numbers, told: &mut Vec<Told>) -> Result<(), Fail> {
     if numbers.below(5) == 0 && told.len() < 16 {
         let entry = (told.len() as u16).saturating_mul(3);
-        let pages = [1, 1, 1, 2, 3, 5];
-        let pages = pages
-            .get(usize::from(numbers.below(6)))
-            .copied()
-            .unwrap_or(1);
+        let pages = match numbers.below(6) {
+            3 => 2,
+            4 => 3,
+            5 => 5,
+            _ => 1,
+        };
         let period = numbers.below(12).saturating_add(1);
         let broadcasts = numbers.below(5);
         let high = numbers.below(3) == 0;
@@ -327,7 +348,7 @@ fn add_some(plan: &mut Plan, numbers: &mut Numbers, told: &mut Vec<Told>) -> Res
     Ok(())
 }
 
-/// Stops a message now and then, and compares its completed number.
+/// Stops a message now and then.
 fn stop_some(
     rt: &impl Abort,
     plan: &mut Plan,
@@ -338,42 +359,45 @@ fn stop_some(
     if numbers.below(8) != 0 {
         return;
     }
-    let slot = plan.next_slot();
     let place = usize::from(numbers.below(16));
-    if place < told.len() && told[place].stop.is_none() {
-        let whole = completed(&told[place], air, slot);
-        let entry = told[place].item.entry;
-        assert_eq!(rt; stop(plan, entry).map(u32::from), Some(whole));
-        told[place].stop = Some(slot);
+    if place < told.len() {
+        stop_one(rt, plan, &mut told[place], air);
     }
+}
+
+/// Stops a message that stands, and compares its completed number.
+fn stop_one(rt: &impl Abort, plan: &mut Plan, one: &mut Told, air: &[Option<(u16, u8)>]) {
+    if one.stop.is_none() {
+        let slot = plan.next_slot();
+        let completed = completed(one, air, slot);
+        one.stop = Some(slot);
+        expect_stopped(rt, plan, one.item.entry, Some(completed));
+    }
+}
+
+/// That a history of 100 slots follows the rule.
+fn expect_rule(rt: &impl Abort, alloc: Global, seed: u64) -> Result<(), Fail> {
+    let mut numbers = Numbers { state: seed };
+    let mut plan = Plan::new(alloc);
+    let mut told: Vec<Told> = Vec::new(alloc);
+    let mut aired: Vec<Option<(u16, u8)>> = Vec::new(alloc);
+    for slot in 0..100 {
+        add_some(&mut plan, &mut numbers, &mut told)?;
+        stop_some(rt, &mut plan, &mut numbers, &mut told, &aired);
+        let used = chosen(&told, &aired, slot);
+        expect_aired(rt, &mut plan, used);
+        aired.push(used)?;
+    }
+    for one in &told {
+        expect_done(rt, &plan, one.item.entry, completed(one, &aired, 100));
+    }
+    Ok(())
 }
 
 #[test]
 fn follows_the_rule(rt: HostRuntime) -> Result<(), Fail> {
     for seed in 0..60 {
-        let alloc = rt.alloc();
-        let mut numbers = Numbers { state: seed };
-        let mut plan = Plan::new(alloc);
-        let mut told: Vec<Told> = Vec::new(alloc);
-        let mut aired: Vec<Option<(u16, u8)>> = Vec::new(alloc);
-        for slot in 0..100 {
-            add_some(&mut plan, &mut numbers, &mut told)?;
-            stop_some(&rt, &mut plan, &mut numbers, &mut told, &aired);
-            let used = air(&mut plan);
-            assert_eq!(rt;
-                used.map(|u| (u.0, u32::from(u.1))),
-                chosen(&told, &aired, slot),
-                "seed {seed}, slot {slot}"
-            );
-            aired.push(used)?;
-        }
-        for one in &told {
-            assert_eq!(rt;
-                done(&plan, one.item.entry).map(u32::from),
-                Some(completed(one, &aired, 100)),
-                "seed {seed}"
-            );
-        }
+        expect_rule(&rt, rt.alloc(), seed)?;
     }
     Ok(())
 }
