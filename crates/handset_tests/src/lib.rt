@@ -1,4 +1,5 @@
-//! Tests of `handset` by its public calls: blocks in many orders, tapes that are built octet by octet, and readers that fail.
+//! Tests of `handset` by its public calls: blocks in many orders, tapes that are built octet by octet, and readers that
+//! fail.
 #![tactic(auto)]
 
 #[cfg(test)]

@@ -150,14 +150,20 @@ fn shows_a_page_once(rt: HostRuntime) -> Result<(), Fail> {
     Ok(())
 }
 
+/// That a page shows nothing whose third block is missing, nor its first block alone.
+fn expect_unfinished(rt: &impl Abort, handset: &mut Handset) -> Result<(), Fail> {
+    let left = first_block((0x0020, UCS2, 0x11, b'b', ""));
+    expect_nothing(rt, handset, &left)?;
+    expect_nothing(rt, handset, &next_block(0x21))?;
+    expect_nothing(rt, handset, &next_block(0x33))?;
+    expect_nothing(rt, handset, &left)
+}
+
 /// The third block of a page is missing, then all but the first of it, and then comes another page.
 #[test]
 fn reads_four_blocks_in_a_row(rt: HostRuntime) -> Result<(), Fail> {
-    let left = first_block((0x0020, UCS2, 0x11, b'b', ""));
     let mut handset = Handset::new(rt.alloc());
-    for block in [left, next_block(0x21), next_block(0x33), left] {
-        expect_nothing(&rt, &mut handset, &block)?;
-    }
+    expect_unfinished(&rt, &mut handset)?;
     expect_page(&rt, &mut handset, (0x0010, UCS2, 0x11, b'a', "a"))?;
     assert_eq!(rt; handset.shown().len(), 1);
     Ok(())
@@ -173,7 +179,8 @@ fn shows_what_the_pages_say(rt: HostRuntime) -> Result<(), Fail> {
     Ok(())
 }
 
-/// Neither pages nor messages are forgotten, however many: the first pages of 100 messages, and then their second pages.
+/// Neither pages nor messages are forgotten, however many: the first pages of 100 messages, and then their second
+/// pages.
 #[test]
 fn keeps_many(rt: HostRuntime) -> Result<(), Fail> {
     let mut handset = Handset::new(rt.alloc());
