@@ -13,6 +13,7 @@ import time
 TICKS = os.sysconf("SC_CLK_TCK")
 UNIT = "septets"
 KINDS = ("proof", "tests", "edits")
+OTHERS = "(compilers, programs, rt)"
 
 
 def kind_of(words, folder):
@@ -20,6 +21,16 @@ def kind_of(words, folder):
     if "rt-edit-" in folder:
         return "edits"
     return "tests" if "--test" in words else "proof"
+
+
+def crate_of(pid):
+    """Returns the crate that a process of the prover checks, and what for."""
+    try:
+        with open(f"/proc/{pid}/cmdline", "rb") as it:
+            words = it.read().decode(errors="replace").split("\0")
+        return words[words.index("--crate-name") + 1], kind_of(words, os.readlink(f"/proc/{pid}/cwd"))
+    except (OSError, ValueError):
+        return OTHERS, "proof"
 
 
 def is_below(parents, pid, top):
@@ -48,16 +59,9 @@ def sample(seen, top):
         if not is_below(parents, pid, top):
             continue
         key, seconds = (pid, fields[19]), (int(fields[11]) + int(fields[12])) / TICKS
-        if key not in seen:
-            crate, kind = "(compilers, programs, rt)", "proof"
-            if name == "rattle":
-                try:
-                    with open(f"/proc/{pid}/cmdline", "rb") as it:
-                        words = it.read().decode(errors="replace").split("\0")
-                    kind = kind_of(words, os.readlink(f"/proc/{pid}/cwd"))
-                    crate = words[words.index("--crate-name") + 1]
-                except (OSError, ValueError):
-                    pass
+        # (a process may be met before it has become the prover, so its words are read until they name a crate)
+        if key not in seen or seen[key][0] == OTHERS:
+            crate, kind = crate_of(pid) if name == "rattle" else (OTHERS, "proof")
             seen[key] = [crate, kind, seconds]
         seen[key][2] = max(seen[key][2], seconds)
 
