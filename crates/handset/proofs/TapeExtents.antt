@@ -1,13 +1,13 @@
 -- How far an input of tapes was read.
-use Rattle.std.proofs.Common.{◌≡◌, ℕ, ◌+◌, ◌*◌, ◌<◌, ◌≤◌, List, [], ◌∷◌, ◌++◌, Option, None, Some, IfErr, Result, Ok}
+use Rattle.std.proofs.Common.{◌≡◌, ℕ, ◌+◌, ◌*◌, ◌<◌, ◌≤◌, List, [], ◌++◌, Option, IfErr, Result, Ok}
 use Rattle.std.proofs.Common.{Err}
-use Rattle.std.proofs.Common.{length, take, refl, sym, ap, ◌∙◌, subst, arith, append_assoc, append-nil}
-use Rattle.std.specs.Io.KnownBytes.{Consumes, IsAtEnd, Keeps}
+use Rattle.std.proofs.Common.{length, take, refl, sym, ap, ◌∙◌, subst, arith, append-nil}
+use Rattle.std.specs.Io.KnownBytes.{Consumes, Keeps}
 use Rattle.std.proofs.KnownBytes.{Consumes-trans, Consumes-nil, Consumes-kept}
 use Rattle.std.proofs.lemmas.List.{length-append, length-take-le}
 use Rattle.handset.specs.declared.tape.TapeFault.{TapeFault}
 use Rattle.handset.specs.declared.tape.TapeFault.TheVariants as fault
-use Rattle.handset.specs.Tape.{TapeReading, IsTape, AreJoined, IsCut, IsOversized, slots_in, most_slots, tape_length}
+use Rattle.handset.specs.Tape.{TapeReading, slots_in, most_slots}
 use Rattle.handset.specs.Tape.{octets_of_blocks}
 use Rattle.handset.specs.Keeping.{HandsetState}
 use Rattle.handset.specs.TapeExtent.{AreGone, StopsAt}

@@ -17,4 +17,7 @@ mod tape;
 pub use handset::Handset;
 pub use laws::reading_laws;
 pub use messages::{Refused, Shown};
-pub use tape::{MAX_SLOTS, MAX_TAPES, Reading, TapeFault, read_tape, read_tapes, tapes_law};
+pub use tape::{
+    MAX_SLOTS, MAX_TAPES, Reading, TakesReadings, TapeFault, read_each, read_tape, read_tapes,
+    tapes_law,
+};

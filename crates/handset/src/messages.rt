@@ -114,10 +114,13 @@ fn is_complete(pages: &[PageView], last: &PageView) -> bool
     ensures { result ≡ is_whole (name_of last.now) (pages.now ++ last.now ∷ []) }
 {
     let total = total_with(pages, last);
-    for before in 0..total {
-        if page_with(pages, last, before + 1).is_none() {
+    // From the last number on: where pages come in order, that is the one that is missing.
+    let mut number = total;
+    while number > 0 {
+        if page_with(pages, last, number).is_none() {
             return false;
         }
+        number -= 1;
     }
     total != 0
 }

@@ -10,7 +10,7 @@ ghost use Rattle.std.specs.Option.{option_to_list};
 ghost use Rattle.device_ends.specs.Source.{reader_of, source_failed};
 ghost use Rattle.handset.specs.Reading.{shown_in};
 ghost use Rattle.handset.specs.Keeping.{HasRead, messages_of};
-ghost use Rattle.handset.specs.Tape.{cell_in, slots_in, most_slots, most_tapes, reading_of, readings_of, AreTapes};
+ghost use Rattle.handset.specs.Tape.{TapeReading, cell_in, slots_in, most_slots, most_tapes, reading_of, readings_of, AreTapes, AreTaken};
 ghost use Rattle.handset.specs.Tape.{IsNextFault, IsTape, IsTapeFault, IsTapesFault, MadeAreTapes};
 ghost use Rattle.handset.specs.declared.tape.TapeFault.TheVariants.{ReadFailed, Refused};
 ghost use Rattle.handset.specs.TapeLaw.{TapeHasKind, TapeIsOneKind, TapesAreOneKind, TapesHaveKind};
@@ -153,35 +153,71 @@ pub fn read_tapes<R: Read>(alloc: Global, source: &mut Source<R>) -> Result<Vec<
     ensures sound { OnOk result (source_failed source.new ≡ false) }
     ensures stays { source_failed source.old ≡ true → source.new ≡ source.old }
 {
+    let mut readings = Vec::new(alloc);
+    read_each(alloc, source, &mut readings)?;
+    Ok(readings)
+}
+
+/// What becomes of the readings of an input's tapes, which come one after another: a list of them, or rows of a table.
+pub trait TakesReadings {
+    /// It has taken these readings, in order.
+    ghost HasTaken: { Self → List TapeReading → Type 0 };
+
+    /// Takes the next reading. The only error is that memory was refused.
+    fn take(&mut self, reading: Reading) -> Result<(), AllocError>
+        ensures { OnOk result ((before : List TapeReading) → HasTaken self.old before →
+            HasTaken self.new (before ++ reading_of reading ∷ [])) };
+}
+
+impl TakesReadings for Vec<Reading> {
+    ghost HasTaken = { λ taken readings. readings_of taken.items ≡ readings };
+
+    fn take(&mut self, reading: Reading) -> Result<(), AllocError> {
+        match self.push(reading) {
+            Ok(()) => Ok(()),
+            Err(_) => Err(AllocError),
+        }
+    }
+}
+
+/// Reads tapes up to the end of the input as [`read_tapes`] does, with the same faults, and hands on the reading of each
+/// before it reads the next one. After a fault some readings may have been handed on.
+pub fn read_each<R: Read, T: TakesReadings>(
+    alloc: Global,
+    source: &mut Source<R>,
+    taker: &mut T,
+) -> Result<(), TapeFault>
+    ensures taken { OnOk result (AreTaken T.HasTaken (R.remaining (reader_of source.old)) taker.old taker.new) }
+    ensures fault { IfErr result (λ fault. IfSome (R.remaining (reader_of source.old)) (λ input.
+        IsTapesFault input fault)) }
+
+    // How far the source was read: to its end, or as the fault says and no further.
+    ensures whole { OnOk result (IsAtEnd (R.remaining (reader_of source.new))) }
+    ensures extent { IfErr result (λ fault. StopsAt most_tapes (R.remaining (reader_of source.old))
+        (R.remaining (reader_of source.new)) fault) }
+
+    // At any reader.
+    ensures read { IsErrOf result TapeFault.ReadFailed ↔ IsTrue (source_failed source.new) }
+    ensures sound { OnOk result (source_failed source.new ≡ false) }
+    ensures stays { source_failed source.old ≡ true → source.new ≡ source.old }
+{
     if source.failed() {
         return Err(TapeFault::ReadFailed);
     }
     let mut piece = zeros(alloc, PIECE)?;
-    let mut readings = Vec::new(alloc);
-    while readings.len() < MAX_TAPES {
+    let mut count = 0;
+    while count < MAX_TAPES {
         match next_tape(alloc, source, &mut piece) {
-            Ok(Some(reading)) => push_reading(&mut readings, reading)?,
-            Ok(None) => return Ok(readings),
+            Ok(Some(reading)) => taker.take(reading)?,
+            Ok(None) => return Ok(()),
             Err(fault) => return Err(fault),
         }
+        count += 1;
     }
     match is_at_end(source) {
-        Ok(true) => Ok(readings),
+        Ok(true) => Ok(()),
         Ok(false) => Err(TapeFault::Long),
         Err(Failed) => Err(TapeFault::ReadFailed),
-    }
-}
-
-/// Appends a reading.
-fn push_reading(readings: &mut Vec<Reading>, reading: Reading) -> Result<(), TapeFault>
-    ensures readings { OnOk result (readings_of readings.new.items
-        ≡ readings_of readings.old.items ++ reading_of reading ∷ []) }
-    ensures count { OnOk result (vec_len readings.new ≡ vec_len readings.old + 1) }
-    ensures refused { IfErr result (λ fault. fault ≡ TapeFault.Refused) }
-{
-    match readings.push(reading) {
-        Ok(()) => Ok(()),
-        Err(_) => Err(TapeFault::Refused),
     }
 }
 

@@ -39,8 +39,13 @@ pub fn unpack(octets: &[u8; 82]) -> [u8; 93]
     ensures value { result ≡ unpacked octets.now }
 {
     let mut septets = [0; SEPTETS];
-    for (place, septet) in septets.iter_mut().enumerate() {
-        *septet = unpacked_septet(octets, place);
+    for group in 0..GROUPS {
+        for place in 0..8 {
+            septets[8 * group + place] = unpacked_septet(octets, 8 * group + place);
+        }
+    }
+    for place in 8 * GROUPS..SEPTETS {
+        septets[place] = unpacked_septet(octets, place);
     }
     septets
 }
@@ -52,6 +57,9 @@ pub fn packing_law()
     ensures bitwise { UnpackingIsBitwise }
     ensures spare { SpareBitsAreIgnored }
 {}
+
+/// How many groups of eight septets a page has, each in seven octets; five septets follow.
+const GROUPS: usize = 11;
 
 /// The septet at a place of the filled page, and 0 past its end, as the spare bits want it.
 fn filled_septet(septets: &[u8], place: usize) -> u8

@@ -22,11 +22,15 @@ row fields = row_text default_writer fields
 abbrev pub header_row : List ℕ
 header_row = row (codes "lac" ∷ codes "ci" ∷ codes "id" ∷ codes "serial" ∷ codes "text" ∷ [])
 
--- the row of a message that a cell showed: its identifier is decimal, its serial number has four lower hexadecimal digits
+-- the row of a message that a cell showed, after the digits of the cell's numbers: its identifier is decimal, its serial number has four
+-- lower hexadecimal digits
+abbrev pub row_of_message : (lac ci : List ℕ) → Message → List ℕ
+row_of_message lac ci message =
+    row (lac ∷ ci ∷ decimal message.id ∷ encode_lower ((message.serial / 256) ∷ (message.serial % 256) ∷ []) ∷ message.text ∷ [])
+
+-- the numbers of the cell are decimal
 abbrev pub message_row : (lac ci : ℕ) → Message → List ℕ
-message_row lac ci message =
-    row (decimal lac ∷ decimal ci ∷ decimal message.id ∷ encode_lower ((message.serial / 256) ∷ (message.serial % 256) ∷ [])
-    ∷ message.text ∷ [])
+message_row lac ci message = row_of_message (decimal lac) (decimal ci) message
 
 -- the rows of what a tape shows, in the order in which it is shown
 abbrev pub reading_rows : TapeReading → List ℕ

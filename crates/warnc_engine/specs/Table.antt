@@ -1,5 +1,5 @@
 -- What a table being written holds. Own.
-use Rattle.std.specs.Prelude.{◌≡◌, ℕ, List, Option, Some, false}
+use Rattle.std.specs.Prelude.{◌≡◌, ℕ, List, Some, false}
 use Rattle.csv.specs.Writing.{default_writer, fields_written, has_written, text_written, writer_setup}
 use Rattle.warnc_engine.specs.declared.table.Table.{Table}
 

@@ -1,19 +1,16 @@
 //! The command `read`: tapes to a table of what a handset shows of them.
 
-ghost use Rattle.std.specs.Prelude.{◌≡◌, ◌++◌, ℕ, List, IfErr, IfOk, IfSome, OnOk};
+ghost use Rattle.std.specs.Prelude.{◌≡◌, ℕ, List, IfErr, IfSome, OnOk};
 ghost use Rattle.std.specs.Io.KnownBytes.{Appends, IsAtEnd};
-ghost use Rattle.std.specs.List.{flat_map};
 ghost use Rattle.device_ends.specs.Sink.{writer_of};
 ghost use Rattle.device_ends.specs.Source.{reader_of};
-ghost use Rattle.handset.specs.Tape.{reading_of, readings_of};
-ghost use Rattle.warnc_engine.specs.ReadOutput.{reading_rows, table_fault_of, table_of, IsReadOutput, IsReadFault, IsReadTo};
+ghost use Rattle.warnc_engine.specs.ReadOutput.{table_fault_of, IsReadOutput, IsReadFault, IsReadTo};
 ghost use Rattle.warnc_engine.specs.Stream.{IsStreamBetween};
-ghost use Rattle.warnc_engine.specs.Table.{IsTable};
 
 use crate::table::Table;
 use device_ends::{Failed, Sink, Source, write_all};
-use handset::{Reading, TapeFault, read_tapes};
-use std::alloc::{AllocError, Global};
+use handset::{TapeFault, read_each};
+use std::alloc::Global;
 use std::io::{Read, Write};
 use thiserror::Error;
 
@@ -39,7 +36,7 @@ pub enum TableFault {
 
 /// Reads 0 to 64 tapes up to the end of the input, and writes a table of the messages that they show, as CSV: a row of the columns'
 /// names, and then a row for each message, tapes in order, messages in the order in which they are shown. Nothing is written before
-/// the last tape is read and the table is made.
+/// the last tape is read and the table is made; of the tapes no more is kept than their rows.
 pub fn read_stream<R: Read, W: Write>(
     alloc: Global,
     source: &mut Source<R>,
@@ -60,15 +57,20 @@ pub fn read_stream<R: Read, W: Write>(
     ensures ends { IsStreamBetween IsReadOutput TableFault.Read TableFault.Write result
         source.old source.new sink.old sink.new (W.contents (writer_of sink.old)) (W.contents (writer_of sink.new)) }
 {
-    let readings = match read_tapes(alloc, source) {
-        Ok(readings) => readings,
+    if source.failed() {
+        return Err(TableFault::Read);
+    }
+    let Ok(mut table) = Table::new(alloc) else {
+        return Err(TableFault::Refused);
+    };
+    match read_each(alloc, source, &mut table) {
+        Ok(()) => {}
         Err(fault) => return Err(table_fault(fault)),
+    }
+    let Ok(octets) = table.into_octets() else {
+        return Err(TableFault::Refused);
     };
-    let table = match table(alloc, &readings) {
-        Ok(table) => table,
-        Err(_) => return Err(TableFault::Refused),
-    };
-    match write_all(sink, &table) {
+    match write_all(sink, &octets) {
         Ok(()) => Ok(()),
         Err(Failed) => Err(TableFault::Write),
     }
@@ -84,28 +86,4 @@ fn table_fault(fault: TapeFault) -> TableFault
         TapeFault::ReadFailed => TableFault::Read,
         TapeFault::Refused => TableFault::Refused,
     }
-}
-
-/// The table of readings.
-fn table(alloc: Global, readings: &[Reading]) -> Result<Vec<u8>, AllocError>
-    ensures { IfOk result (λ table. table.items ≡ table_of (readings_of readings.now)) }
-{
-    let mut table = Table::new(alloc);
-    table.push_header()?;
-    for reading in readings {
-        push_reading(alloc, &mut table, reading)?;
-    }
-    let octets = table.into_octets()?;
-    Ok(octets)
-}
-
-/// Appends the rows of a reading.
-fn push_reading(alloc: Global, table: &mut Table, reading: &Reading) -> Result<(), AllocError>
-    ensures { OnOk result ((octets : List ℕ) → IsTable table.old octets →
-        IsTable table.new (octets ++ reading_rows (reading_of reading.now))) }
-{
-    for message in &reading.shown {
-        table.push_message(alloc, reading.cell.lac, reading.cell.ci, message)?;
-    }
-    Ok(())
 }

@@ -2,52 +2,69 @@
 
 ghost use Rattle.std.specs.Prelude.{◌≡◌, ℕ, List, [], ◌∷◌, ◌++◌, length, map, IfOk, OnOk};
 ghost use Rattle.handset.specs.Keeping.{message_shown};
-ghost use Rattle.warnc_engine.specs.ReadOutput.{header_row, message_row, row};
+ghost use Rattle.handset.specs.Tape.{reading_of};
+ghost use Rattle.warnc_engine.specs.ReadOutput.{row, row_of_message};
 
 use csv::{Writer, WriterBuilder};
-use handset::Shown;
+use handset::{Reading, Shown, TakesReadings};
 use std::alloc::{AllocError, Global};
 
-/// The rows of a table, each of five fields.
+/// A table of the messages that cells showed: the row of the columns' names, and a row for each message.
 #[derive(Drop)]
 pub struct Table {
+    alloc: Global,
     writer: Writer<Vec<u8>>,
 }
 
 impl Table {
+    ghost use Rattle.std.specs.Prelude.{string_bytes};
+    ghost use Rattle.warnc_engine.specs.ReadOutput.{reading_rows, table_of};
     ghost use Rattle.warnc_engine.specs.Table.{IsTable};
 
-    /// A table of no rows.
-    pub fn new(alloc: Global) -> Table
+    /// A table of no messages. The only error is that memory was refused.
+    pub fn new(alloc: Global) -> Result<Table, AllocError>
+        ensures { IfOk result (λ table. IsTable table (table_of [])) }
+    {
+        let mut table = Table::empty(alloc);
+        table.push_row(&[b"lac", b"ci", b"id", b"serial", b"text"])?;
+        Ok(table)
+    }
+
+    /// A table with no row.
+    fn empty(alloc: Global) -> Table
         ensures { IsTable result [] }
     {
         Table {
+            alloc,
             writer: WriterBuilder::new().from_writer(Vec::new(alloc)),
         }
     }
 
-    /// Appends the row of the columns' names.
-    pub fn push_header(&mut self) -> Result<(), AllocError>
-        ensures { OnOk result ((octets : List ℕ) → IsTable self.old octets → IsTable self.new (octets ++ header_row)) }
+    /// Appends the rows of a reading.
+    fn push_reading(&mut self, reading: &Reading) -> Result<(), AllocError>
+        ensures { OnOk result ((octets : List ℕ) → IsTable self.old octets →
+            IsTable self.new (octets ++ reading_rows (reading_of reading.now))) }
     {
-        self.push_row(&[b"lac", b"ci", b"id", b"serial", b"text"])
+        let lac = reading.cell.lac.to_string(self.alloc)?;
+        let ci = reading.cell.ci.to_string(self.alloc)?;
+        for message in &reading.shown {
+            self.push_message(&lac, &ci, message)?;
+        }
+        Ok(())
     }
 
     /// Appends the row of a message that a cell showed.
-    pub fn push_message(
+    fn push_message<'a>(
         &mut self,
-        alloc: Global,
-        lac: u16,
-        ci: u16,
-        message: &Shown,
+        lac: &'a str,
+        ci: &'a str,
+        message: &'a Shown,
     ) -> Result<(), AllocError>
         ensures { OnOk result ((octets : List ℕ) → IsTable self.old octets →
-            IsTable self.new (octets ++ message_row lac ci (message_shown message.now))) }
+            IsTable self.new (octets ++ row_of_message lac.now ci.now (message_shown message.now))) }
     {
-        let lac = lac.to_string(alloc)?;
-        let ci = ci.to_string(alloc)?;
-        let id = message.id.to_string(alloc)?;
-        let serial = hex::encode(alloc, message.serial.number().to_be_bytes().as_slice())?;
+        let id = message.id.to_string(self.alloc)?;
+        let serial = hex::encode(self.alloc, message.serial.number().to_be_bytes().as_slice())?;
         self.push_row(&[
             lac.as_bytes(),
             ci.as_bytes(),
@@ -76,5 +93,16 @@ impl Table {
             Ok(octets) => Ok(octets),
             Err(_) => Err(AllocError),
         }
+    }
+}
+
+impl TakesReadings for Table {
+    ghost use Rattle.warnc_engine.specs.ReadOutput.{table_of};
+    ghost use Rattle.warnc_engine.specs.Table.{IsTable};
+
+    ghost HasTaken = { λ table readings. IsTable table (table_of readings) };
+
+    fn take(&mut self, reading: Reading) -> Result<(), AllocError> {
+        self.push_reading(&reading)
     }
 }

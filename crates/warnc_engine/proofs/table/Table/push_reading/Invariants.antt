@@ -3,9 +3,9 @@ use Rattle.std.specs.List.{flat_map}
 use Rattle.handset.specs.Keeping.{messages_of}
 use Rattle.warnc_engine.specs.ReadOutput.{message_row}
 use Rattle.warnc_engine.specs.Table.{IsTable}
-use Rattle.warnc_engine.proofs.read.push_reading.Given as goal
+use Rattle.warnc_engine.proofs.table.Table.push_reading.Given as goal
 
 abbrev pub invariant-loop-message : goal.invariant-loop-message
 invariant-loop-message l =
-    (octets : List ℕ) → IsTable l.fn.table octets → IsTable l.table (octets
+    (octets : List ℕ) → IsTable l.fn.self octets → IsTable l.self (octets
     ++ flat_map (message_row l.reading.cell.lac l.reading.cell.ci) (messages_of (take l.message-index l.reading.shown.items)))
