@@ -5,7 +5,7 @@ ghost use Rattle.std.specs.Prelude.{◌<◌};
 use crate::worked::WORKED;
 use device_ends::Source;
 use device_ends::memory::MemoryReader;
-use handset::{Reading, Refused, TapeFault, read_tape, read_tapes};
+use handset::{Reading, Refused, TapeFault, read_each, read_tape, read_tapes};
 use std::alloc::Global;
 use std::process::Abort;
 use std::test::Fail;
@@ -229,6 +229,25 @@ fn tapes_of_no_slots(rt: HostRuntime) -> Result<(), Fail> {
     // A call for each of 64 headers, and one for the octet after them.
     expect_all_stops(&rt, rt.alloc(), &octets, 65, 1);
     expect_one_stops(&rt, rt.alloc(), &octets, 2, 505);
+    Ok(())
+}
+
+/// Readings are handed on in order, after those that were there.
+#[test]
+fn readings_are_handed_on(rt: HostRuntime) -> Result<(), Fail> {
+    let mut octets = worked_tape(rt.alloc())?;
+    octets.extend_from_slice(&EMPTY)?;
+    let mut readings = all(rt.alloc(), &EMPTY)?;
+    let mut reader = MemoryReader::new(&octets, 1000, None);
+    read_each(rt.alloc(), &mut Source::new(&mut reader), &mut readings)?;
+    assert_eq!(rt; readings.len(), 3);
+    for (place, reading) in readings.iter().enumerate() {
+        if place == 1 {
+            expect_worked(&rt, reading);
+        } else {
+            expect_empty(&rt, reading);
+        }
+    }
     Ok(())
 }
 
