@@ -2,7 +2,7 @@
 use Rattle.std.proofs.Common.{◌≡◌, ℕ, ◌+◌, ◌*◌, ◌≤◌, ◌<◌, ◌==◌, Bool, true, false, cond, not, ◌&&◌, ◌||◌, Option, Some, None, is_some, Ok, Err, List, [], ◌∷◌, ◌++◌, length, map, filter, sum_by, refl, ap, sym, subst, ◌∙◌, inl, inr, arith, ltb, leb}
 use Rattle.std.specs.List.{All}
 use Rattle.std.proofs.lemmas.Bool.{cases_eq, true≢false, le-ltb, and_parts, eq-eqb, ne_eqb, le-leb, lt-ltb, lt-leb, cases_lt, cond-false, eqb-true}
-use Rattle.std.proofs.lemmas.List.Elements.{All-head, All-tail, filter-append}
+use Rattle.std.proofs.lemmas.List.Elements.{All-head, All-tail, All-map, All-filter, filter-append}
 use Rattle.std.proofs.Math.Nat.{mul-pos}
 use Rattle.std.proofs.lemmas.List.{map-append}
 use Rattle.std.proofs.lemmas.List.Sums.{sum_by-cons}
@@ -11,6 +11,7 @@ use Rattle.admission.specs.declared.budget.NoRoom.TheVariants as no_rooms
 use Rattle.admission.specs.declared.measure.TheConstants.{SCALE}
 use Rattle.admission.specs.Load.{load_of}
 use Rattle.admission.specs.Reservation.{is_before_end, end_of_reservation, end_of_stopped, natural_end}
+use Rattle.admission.specs.Waiting.{held_now}
 use Rattle.admission.specs.Table.{answer_of as answer_by, answer_for, remaining_without, ends_if, ends_at}
 use Rattle.scheduler.specs.Message.{Message, stopped_if, stopped_at}
 use Rattle.bsc_table.specs.declared.entry.Answer.{Answer}
@@ -30,15 +31,15 @@ IsCounted slot h = is_before_end slot h.until ≡ true
 -- accepted messages that have started are reserved as far as their lines are counted
 pub record SameRoom (slot : ℕ) (claims : List Claim) (lines : List Held) : Type 0 where
   pub places : length (filter (is_claimed_at slot) claims) ≡ length lines
-  pub loads : claimed_at claims slot ≡ sum_by (λ h. h.load) lines
+  pub loads : claimed_at claims slot ≡ sum_by held_now lines
 
-same_room_more : (b : Bool) (slot : ℕ) (c : Claim) (h : Held) (claims : List Claim) (lines : List Held) → is_claimed_at slot c ≡ b → share_at slot c ≡ h.load → SameRoom slot claims lines → SameRoom slot (c ∷ claims) (cond b (h ∷ lines) lines)
+same_room_more : (b : Bool) (slot : ℕ) (c : Claim) (h : Held) (claims : List Claim) (lines : List Held) → is_claimed_at slot c ≡ b → share_at slot c ≡ held_now h → SameRoom slot claims lines → SameRoom slot (c ∷ claims) (cond b (h ∷ lines) lines)
 same_room_more true slot c h claims lines counted load same =
     let places = ap (λ (b : Bool). length (cond b (c ∷ filter (is_claimed_at slot) claims) (filter (is_claimed_at slot) claims))) counted in
     let loads = ap (λ (b : Bool). cond b (share_at slot c) 0) counted in
     record {
       places = omega (arith, same.places, places);
-      loads = omega (arith, same.loads, load, loads, sum_by-cons (claim_at slot) c claims, sum_by-cons (λ (x : Held). x.load) h lines);
+      loads = omega (arith, same.loads, load, loads, sum_by-cons (claim_at slot) c claims, sum_by-cons held_now h lines);
     }
 same_room_more false slot c h claims lines counted load same =
     let places = ap (λ (b : Bool). length (cond b (c ∷ filter (is_claimed_at slot) claims) (filter (is_claimed_at slot) claims))) counted in
@@ -56,6 +57,11 @@ same_room slot (a ∷ all) begun =
     let counted : Bool = is_before_end slot (line_of a.message).until in
     let kept : is_claimed_at slot (claim_of a) ≡ counted = ap (λ (b : Bool). b && counted) (le-leb a.accepted slot here.0) in
     same_room_more counted slot (claim_of a) (line_of a.message) (claims_of all) (lines_at slot (map (λ (x : Accepted). x.message) all)) kept (share_at-started slot (claim_of a) here.1) rest
+
+-- no line waits
+pub lines_started : (slot : ℕ) (messages : List Message) → All (λ h. h.waits ≡ None) (lines_at slot messages)
+lines_started slot messages =
+    All-filter (λ (h : Held). is_before_end slot h.until) (λ (h : Held). h.waits ≡ None) (map line_of messages) (All-map (λ (h : Held). h.waits ≡ None) line_of messages (λ k d within. refl))
 
 -- a live message's line is counted
 pub live_is_counted : (slot : ℕ) (m : Message) → is_live slot m ≡ true → IsCounted slot (line_of m)
@@ -97,7 +103,7 @@ ended_more false p number end h after lines rest gone same more =
 
 ended_line : (b : Bool) (slot end : ℕ) (m : Message) → (b ≡ true → end_of_stopped m.start m.period slot ≡ end) → ends_if b end (line_of m) ≡ line_of (stopped_if b slot m)
 ended_line true slot end m same =
-    ap (λ (n : ℕ). record { entry = m.number; load = load_of m.pages m.period; until = Some n }) (sym (same refl))
+    ap (λ (n : ℕ). record { entry = m.number; load = load_of m.pages m.period; until = Some n; waits = None }) (sym (same refl))
 ended_line false slot end m same = refl
 
 -- the lines with one message stopped now
@@ -133,7 +139,7 @@ ends_now slot number (h ∷ lines) counted =
 -- where it ends later, as many lines are left, with the same loads
 pub record SameLines (some others : List Held) : Type 0 where
   pub places : length some ≡ length others
-  pub loads : sum_by (λ h. h.load) some ≡ sum_by (λ h. h.load) others
+  pub loads : sum_by held_now some ≡ sum_by held_now others
 
 ends_later : (slot number end : ℕ) (lines : List Held) → slot < end → All (IsCounted slot) lines → SameLines (filter (λ h. is_before_end slot h.until) (ends_at number end lines)) lines
 ends_later slot number end [] later counted = record { places = refl; loads = refl }
@@ -145,7 +151,7 @@ ends_later slot number end (h ∷ lines) later counted =
     let P : Bool → Type 0 = λ b. SameLines (cond b (ended ∷ left) left) (h ∷ lines) in
     let same : SameLines (ended ∷ left) (h ∷ lines) = record {
       places = omega (arith, rest.places);
-      loads = omega (arith, rest.loads, sum_by-cons (λ (x : Held). x.load) ended left, sum_by-cons (λ (x : Held). x.load) h lines);
+      loads = omega (arith, rest.loads, sum_by-cons held_now ended left, sum_by-cons held_now h lines);
     } in
     subst P (sym (kept (h.entry == number) (All-head (IsCounted slot) h lines counted))) same
   where
@@ -163,7 +169,7 @@ room_without slot number end load lines after counted =
           rw (eq-eqb end slot now) (subst P (sym now) (ap (λ (l : List Held). answer_for l load) (sym (ends_now slot number lines counted))))
       | inr later ↦
           let same = ends_later slot number end lines (omega (arith, later)) counted in
-          rw (ne_eqb end slot later) (sym (ap (λ (n : ℕ). answer_by n (sum_by (λ (h : Held). h.load) (filter p (ends_at number end lines))) load) same.places ∙ ap (λ (n : ℕ). answer_by (length lines) n load) same.loads))
+          rw (ne_eqb end slot later) (sym (ap (λ (n : ℕ). answer_by n (sum_by held_now (filter p (ends_at number end lines))) load) same.places ∙ ap (λ (n : ℕ). answer_by (length lines) n load) same.loads))
     ]
 
 room_told : (places all : ℕ) (accepts : Answer) → cond (leb 64 places) (answers.Cause 0x07) (cond (ltb SCALE all) (answers.Cause 0x06) accepts) ≡ by_room (cond (ltb places 64) (cond (leb all SCALE) (Ok tt) (Err no_rooms.Load)) (Err no_rooms.Table)) accepts
@@ -180,4 +186,4 @@ room_told places all accepts =
 pub answer_by_room : (slot : ℕ) (claims : List Claim) (lines : List Held) (load : ℕ) (accepts : Answer) → SameRoom slot claims lines → answer_beside claims slot load accepts ≡ by_room (answer_for lines load) accepts
 answer_by_room slot claims lines load accepts same =
     let places : ℕ = length (filter (is_claimed_at slot) claims) in
-    room_told places (claimed_at claims slot + load) accepts ∙ ap (λ (n : ℕ). by_room (answer_by places n load) accepts) same.loads ∙ ap (λ (n : ℕ). by_room (answer_by n (sum_by (λ (h : Held). h.load) lines) load) accepts) same.places
+    room_told places (claimed_at claims slot + load) accepts ∙ ap (λ (n : ℕ). by_room (answer_by places n load) accepts) same.loads ∙ ap (λ (n : ℕ). by_room (answer_by n (sum_by held_now lines) load) accepts) same.places

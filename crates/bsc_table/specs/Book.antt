@@ -131,6 +131,7 @@ line_of m = record {
   entry = m.number;
   load = load_of m.pages m.period;
   until = end_of_reservation m.start m.period m.requested m.stop;
+  waits = None;
 }
 
 -- the lines that a budget holds at a slot: of the messages whose reservations don't end by then
