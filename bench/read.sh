@@ -1,6 +1,6 @@
 #!/bin/sh
 # Times `warnc read` and `wc -l` on tapes, in one run, and reports the peak memory of `warnc read`: on about 100 MB of mixed
-# tapes (an input has at most 64 tapes of 4,096 slots, which is 24 MB, so four inputs are read one after another), on tapes
+# tapes (64 tapes of 4,096 slots are 24 MB, so four inputs are read one after another), on tapes
 # with many messages of 15 pages, and on tapes with many messages of one page.
 set -eu
 top=$(cd "$(dirname "$0")/.." && pwd)

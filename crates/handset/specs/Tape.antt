@@ -11,7 +11,7 @@ use Rattle.handset.specs.Keeping.{messages_of}
 
 -- the most slots of a tape, and the most tapes of an input
 abbrev pub most_slots : ℕ
-most_slots = 4096
+most_slots = 65535
 
 abbrev pub most_tapes : ℕ
 most_tapes = 64

@@ -27,7 +27,7 @@ use std::io::Read;
 use thiserror::Error;
 
 /// The most slots of a tape.
-pub const MAX_SLOTS: u32 = 4096;
+pub const MAX_SLOTS: u32 = 65_535;
 
 /// The most tapes of an input.
 pub const MAX_TAPES: usize = 64;
@@ -46,7 +46,7 @@ const PIECE: usize = PIECE_SLOTS * SLOT;
 pub struct Reading {
     /// The cell whose channel it is.
     pub cell: Cell,
-    /// How many slots it has, at most 4,096.
+    /// How many slots it has, at most 65,535.
     pub slots: u32,
     /// The messages that a handset shows of its blocks, in order.
     pub shown: Vec<Shown>,
@@ -58,7 +58,7 @@ pub enum TapeFault {
     /// The input ends inside a tape.
     #[error("tape is short")]
     Short,
-    /// The input goes on after its last tape, or a tape has more than 4,096 slots.
+    /// The input goes on after its last tape, or a tape has more than 65,535 slots.
     #[error("tape is long")]
     Long,
     /// The reader failed.
@@ -97,7 +97,7 @@ impl From<crate::Refused> for TapeFault {
 /// Reads one tape, after which the input is to end.
 ///
 /// Returns [`TapeFault::Short`] if the input ends before its tape does, [`TapeFault::Long`] if it goes on after the
-/// tape or the header says more than 4,096 slots, [`TapeFault::ReadFailed`] exactly if the source has failed, now or
+/// tape or the header says more than 65,535 slots, [`TapeFault::ReadFailed`] exactly if the source has failed, now or
 /// earlier, and [`TapeFault::Refused`] if out of memory. Of a long input no more is read than the header that says
 /// too many slots, or one octet after the tape.
 pub fn read_tape<R: Read>(alloc: Global, source: &mut Source<R>) -> Result<Reading, TapeFault>

@@ -19,11 +19,11 @@ const IDLE: [u8; 23] = [
 /// The header of a tape of no slots, of cell 1234 5678 (hex).
 const EMPTY: [u8; 8] = [0x12, 0x34, 0x56, 0x78, 0x00, 0x00, 0x00, 0x00];
 
-/// The header of a tape of 4,096 slots.
-const MOST: [u8; 8] = [0x00, 0x01, 0x00, 0x01, 0x00, 0x00, 0x10, 0x00];
+/// The header of a tape of 65,535 slots.
+const MOST: [u8; 8] = [0x00, 0x01, 0x00, 0x01, 0x00, 0x00, 0xFF, 0xFF];
 
-/// The header of a tape of 4,097 slots.
-const OVER: [u8; 8] = [0x00, 0x01, 0x00, 0x01, 0x00, 0x00, 0x10, 0x01];
+/// The header of a tape of 65,536 slots.
+const OVER: [u8; 8] = [0x00, 0x01, 0x00, 0x01, 0x00, 0x01, 0x00, 0x00];
 
 /// The tape of 192 octets: its header, the worked blocks, and those of an idle slot.
 fn worked_tape(alloc: Global) -> Result<Vec<u8>, Fail> {
@@ -185,17 +185,18 @@ fn faults_of_inputs(rt: HostRuntime) -> Result<(), Fail> {
     expect_fault_at(&rt, rt.alloc(), 3, short)
 }
 
-/// A whole tape of 4,096 slots, which takes several pieces: the worked page is in its last slot.
+/// A whole tape of 65,535 slots, which takes many pieces: the worked page is in its last slot.
 #[test]
-fn a_tape_of_4096_slots(rt: HostRuntime) -> Result<(), Fail> {
+fn a_tape_of_65535_slots(rt: HostRuntime) -> Result<(), Fail> {
     let mut octets = Vec::new(rt.alloc());
     octets.extend_from_slice(&MOST)?;
-    for _ in 0..4095 {
+    for _ in 0..65534 {
         push_blocks(&mut octets, &[IDLE; 4])?;
     }
     push_blocks(&mut octets, &WORKED)?;
+    assert_eq!(rt; octets.len(), 6029228);
     let reading = one(rt.alloc(), &octets)?;
-    assert_eq!(rt; reading.slots, 4096);
+    assert_eq!(rt; reading.slots, 65535);
     assert_eq!(rt; reading.shown.len(), 1);
     for shown in &reading.shown {
         assert_eq!(rt; shown.text.as_str(), "@");
@@ -294,7 +295,7 @@ fn a_reader_that_fails(rt: HostRuntime) -> Result<(), Fail> {
     fails_until(&rt, rt.alloc(), &octets, 100, 3)
 }
 
-/// A reader that fails next isn't asked for more after eight octets that say 4,097 slots.
+/// A reader that fails next isn't asked for more after eight octets that say 65,536 slots.
 #[test]
 fn stops_at_a_long_header(rt: HostRuntime) -> Result<(), Fail> {
     expect_one_stops(&rt, rt.alloc(), &OVER, 1, 0);

@@ -98,11 +98,11 @@ fn tapes_that_end_early_are_short(rt: HostRuntime) -> Result<(), Fail> {
 
 #[test]
 fn more_slots_or_tapes_than_there_may_be_are_long(rt: HostRuntime) -> Result<(), Fail> {
-    let slots = [0, 1, 0, 1, 0x00, 0x00, 0x10, 0x01];
+    let slots = [0, 1, 0, 1, 0x00, 0x01, 0x00, 0x00];
     expect_fault(&rt, &READ, &slots, 1, "warnc: tape is long\n")?;
     let slots = [0, 1, 0, 1, 0x80, 0x00, 0x00, 0x00];
     expect_fault(&rt, &READ, &slots, 1, "warnc: tape is long\n")?;
-    let slots = [0, 1, 0, 1, 0x00, 0x00, 0x10, 0x00];
+    let slots = [0, 1, 0, 1, 0x00, 0x00, 0xFF, 0xFF];
     expect_fault(&rt, &READ, &slots, 1, "warnc: tape is short\n")?;
     let mut tapes = Vec::new(rt.alloc());
     let mut rows = String::new(rt.alloc());

@@ -20,7 +20,7 @@ pub enum TableFault {
     /// The input ends inside a tape.
     #[error("tape is short")]
     Short,
-    /// The input goes on after the 64th tape, or a tape says that it has more than 4,096 slots.
+    /// The input goes on after the 64th tape, or a tape says that it has more than 65,535 slots.
     #[error("tape is long")]
     Long,
     /// The reader failed.
