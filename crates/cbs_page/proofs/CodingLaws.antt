@@ -8,10 +8,37 @@ use Rattle.cbs_page.specs.Coding.{Language, languages, value_among, language_val
 use Rattle.cbs_page.specs.Text.{coding_for}
 
 each_is_gsm : AllByRecursion (λ l. alphabet_of l.value ≡ Some Gsm) languages
-each_is_gsm =
-    (refl, (refl, (refl, (refl, (refl, (refl, (refl, (refl, (refl, (refl, (refl, (refl, (refl, (refl, (refl, (refl, (refl, (refl, (refl, (refl, (refl, tt)))))))))))))))))))))
+each_is_gsm = (
+  refl,
+  (
+    refl,
+    (
+      refl,
+      (
+        refl,
+        (
+          refl,
+          (
+            refl,
+            (
+              refl,
+              (
+                refl,
+                (
+                  refl,
+                  (refl, (refl, (refl, (refl, (refl, (refl, (refl, (refl, (refl, (refl, (refl, (refl, tt)))))))))))),
+                ),
+              ),
+            ),
+          ),
+        ),
+      ),
+    ),
+  ),
+)
 
-found_is_gsm : (ls : List Language) (word : List ℕ) (value : ℕ) → AllByRecursion (λ l. alphabet_of l.value ≡ Some Gsm) ls →
+found_is_gsm : (ls : List Language) (word : List ℕ) (value : ℕ)
+    → AllByRecursion (λ l. alphabet_of l.value ≡ Some Gsm) ls →
     value_among ls word ≡ Some value → alphabet_of value ≡ Some Gsm
 found_is_gsm [] word value each found = cc
 found_is_gsm (l ∷ ls) word value each found = by_test (bytes_eq word l.word) found (found_is_gsm ls word value each.1)

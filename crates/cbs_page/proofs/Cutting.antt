@@ -1,5 +1,5 @@
--- Cutting in one pass, from the front: what the loops of `paginate` make. PagingLaws shows that it is the one list of pieces that
--- the definition of the pages of a text allows.
+-- Cutting in one pass, from the front: what the loops of `paginate` make. PagingLaws shows that it is the one list of
+-- pieces that the definition of the pages of a text allows.
 use Rattle.std.specs.Prelude.{ℕ, ◌+◌, List, [], ◌∷◌, ◌++◌, length, nat_le, sum_by, if◌then◌else◌}
 
 -- the pieces of `piece ++ rest`, where `piece` is the piece at hand

@@ -1,5 +1,6 @@
 -- A text of more than 1,395 characters takes more than 15 pages in any alphabet.
-use Rattle.std.proofs.Common.{◌≡◌, ℕ, ◌*◌, ◌<◌, ◌≤◌, Option, None, Some, List, [], ◌∷◌, length, length-append, IsSome, arith, refl, lt-ltb}
+use Rattle.std.proofs.Common.{◌≡◌, ℕ, ◌*◌, ◌<◌, ◌≤◌, Option, None, Some, List, [], ◌∷◌, length, length-append, IsSome}
+use Rattle.std.proofs.Common.{arith, refl, lt-ltb}
 use Rattle.std.specs.Option.{option_map_or}
 use Rattle.std.specs.List.{concat, AllByRecursion}
 use Rattle.std.specs.Prelude.{sum_by}
@@ -53,7 +54,8 @@ pages-length alphabet (piece ∷ pieces) good within =
     capacity-most Ucs2 = omega arith
 
 -- a text of more than 1,395 characters that can be sent takes more than 15 pages
-pub long-pages : (alphabet : Alphabet) (text : List ℕ) (pieces : List (List ℕ)) → IsPaging (cost_of alphabet) (capacity alphabet) text pieces →
+pub long-pages : (alphabet : Alphabet) (text : List ℕ) (pieces : List (List ℕ))
+    → IsPaging (cost_of alphabet) (capacity alphabet) text pieces →
     AllByRecursion (IsSendable alphabet) text → 1395 < length text → 15 < length pieces
 long-pages alphabet text pieces paging good long =
     let most : length (concat pieces) ≤ 93 * length pieces =

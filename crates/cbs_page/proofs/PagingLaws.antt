@@ -1,5 +1,6 @@
 -- Cutting in one pass gives the pages of a text, and no other list of pieces is that.
-use Rattle.std.proofs.Common.{◌≡◌, ◌≢◌, ℕ, ◌+◌, ◌<◌, ◌≤◌, false, List, [], ◌∷◌, ◌++◌, length, sum_by, map, refl, sym, ◌∙◌, ap, append_assoc, append-nil, subst, zero-add, arith, ◌⊎◌, inl, inr}
+use Rattle.std.proofs.Common.{◌≡◌, ◌≢◌, ℕ, ◌+◌, ◌<◌, ◌≤◌, false, List, [], ◌∷◌, ◌++◌, length, sum_by, map, refl, sym}
+use Rattle.std.proofs.Common.{◌∙◌, ap, append_assoc, append-nil, subst, zero-add, arith, ◌⊎◌, inl, inr}
 use Rattle.std.specs.Prelude.{nat_le}
 use Rattle.std.specs.List.{concat, flat_map, AllByRecursion}
 use Rattle.std.proofs.lemmas.Bool.{le-leb}
@@ -40,7 +41,8 @@ BeginsWith c [] = Unit {0}
 BeginsWith c ([] ∷ rest) = ⊥
 BeginsWith c ((d ∷ piece) ∷ rest) = d ≡ c
 
-first_stays : (cost : ℕ → ℕ) (limit : ℕ) (c : ℕ) (piece rest : List ℕ) → BeginsWith c (pieces_from cost limit (c ∷ piece) rest)
+first_stays : (cost : ℕ → ℕ) (limit : ℕ) (c : ℕ) (piece rest : List ℕ)
+    → BeginsWith c (pieces_from cost limit (c ∷ piece) rest)
 first_stays cost limit c piece [] = refl
 first_stays cost limit c piece (d ∷ rest) =
     elim (fits_or_not (sum_by cost (c ∷ piece) + cost d) limit) [
@@ -48,7 +50,8 @@ first_stays cost limit c piece (d ∷ rest) =
       | inr full ↦ rw (begins cost limit (c ∷ piece) d rest full) refl
     ]
 
-filled_before : (cost : ℕ → ℕ) (limit : ℕ) (piece : List ℕ) (c : ℕ) (pieces : List (List ℕ)) → limit < sum_by cost piece + cost c →
+filled_before : (cost : ℕ → ℕ) (limit : ℕ) (piece : List ℕ) (c : ℕ) (pieces : List (List ℕ))
+    → limit < sum_by cost piece + cost c →
     BeginsWith c pieces → IsFilled cost limit piece pieces
 filled_before cost limit piece c [] full begin = tt
 filled_before cost limit piece c ([] ∷ rest) full begin = tt
@@ -67,11 +70,14 @@ paging_of_pieces cost limit c piece (d ∷ rest) within each =
     elim (fits_or_not (sum_by cost (c ∷ piece) + cost d) limit) [
       | inl fits ↦
           let taken : sum_by cost ((c ∷ piece) ++ d ∷ []) ≤ limit = rw (cost_of_push cost (c ∷ piece) d) fits in
-          let tail : IsPaging cost limit ((c ∷ (piece ++ d ∷ [])) ++ rest) (pieces_from cost limit (c ∷ (piece ++ d ∷ [])) rest) =
+          let tail : IsPaging cost limit ((c ∷ (piece ++ d ∷ [])) ++ rest)
+          (pieces_from cost limit (c ∷ (piece ++ d ∷ [])) rest) =
           paging_of_pieces cost limit c (piece ++ d ∷ []) rest taken each.1 in
-          let moved : (c ∷ (piece ++ d ∷ [])) ++ rest ≡ (c ∷ piece) ++ (d ∷ rest) = ap (λ xs. c ∷ xs) (append_assoc piece (d ∷ []) rest) in
+          let moved : (c ∷ (piece ++ d ∷ [])) ++ rest ≡ (c ∷ piece) ++ (d ∷ rest) = ap (λ xs. c ∷ xs)
+          (append_assoc piece (d ∷ []) rest) in
           rw (takes cost limit (c ∷ piece) d rest fits)
-          (subst (λ (text : List ℕ). IsPaging cost limit text (pieces_from cost limit (c ∷ (piece ++ d ∷ [])) rest)) moved tail)
+          (subst (λ (text : List ℕ). IsPaging cost limit text (pieces_from cost limit (c ∷ (piece ++ d ∷ [])) rest))
+          moved tail)
       | inr full ↦
           let tail : IsPaging cost limit (d ∷ rest) (pieces_from cost limit (d ∷ []) rest) =
           paging_of_pieces cost limit d [] rest (rw (cost_of_one cost d) each.0) each.1 in
@@ -79,7 +85,11 @@ paging_of_pieces cost limit c piece (d ∷ rest) within each =
             whole = ap (λ xs. (c ∷ piece) ++ xs) tail.whole;
             nonempty = (λ e. cc, tail.nonempty);
             within = (within, tail.within);
-            filled = (filled_before cost limit (c ∷ piece) d (pieces_from cost limit (d ∷ []) rest) full (first_stays cost limit d [] rest), tail.filled);
+            filled = (
+              filled_before cost limit (c ∷ piece) d (pieces_from cost limit (d ∷ []) rest) full
+                  (first_stays cost limit d [] rest),
+              tail.filled,
+            );
           }
     ]
 
@@ -94,8 +104,10 @@ through_piece cost limit front (c ∷ back) rest within =
     takes cost limit front c (back ++ rest) fits ∙ through_piece cost limit (front ++ c ∷ []) back rest all
     ∙ ap (λ xs. pieces_from cost limit xs rest) joined
 
-through_pieces : (cost : ℕ → ℕ) (limit : ℕ) (piece : List ℕ) (pieces : List (List ℕ)) → IsFilled cost limit piece pieces →
-    AllByRecursion (λ p. p ≢ []) pieces → AllByRecursion (λ p. sum_by cost p ≤ limit) pieces → AreFilled cost limit pieces →
+through_pieces : (cost : ℕ → ℕ) (limit : ℕ) (piece : List ℕ) (pieces : List (List ℕ))
+    → IsFilled cost limit piece pieces →
+    AllByRecursion (λ p. p ≢ []) pieces → AllByRecursion (λ p. sum_by cost p ≤ limit) pieces
+    → AreFilled cost limit pieces →
     pieces_from cost limit piece (concat pieces) ≡ piece ∷ pieces
 through_pieces cost limit piece [] full nonempty within filled = refl
 through_pieces cost limit piece ([] ∷ pieces) full nonempty within filled = absurd (nonempty.0 refl)
@@ -121,18 +133,21 @@ pieces_of_paging cost limit c rest ((d ∷ piece) ∷ pieces) paging =
 pieces_of_nothing : (cost : ℕ → ℕ) (limit : ℕ) (pieces : List (List ℕ)) → IsPaging cost limit [] pieces → pieces ≡ []
 pieces_of_nothing cost limit [] paging = refl
 pieces_of_nothing cost limit ([] ∷ pieces) paging = absurd (paging.nonempty.0 refl)
-pieces_of_nothing cost limit ((d ∷ piece) ∷ pieces) paging = let e : d ∷ (piece ++ concat pieces) ≡ [] = paging.whole in cc
+pieces_of_nothing cost limit ((d ∷ piece) ∷ pieces) paging = let e : d ∷ (piece ++ concat pieces) ≡ [] = paging.whole
+    in cc
 
 -- A text has one list of pages at most.
 pub one_paging : (cost : ℕ → ℕ) (limit : ℕ) (text : List ℕ) (pieces others : List (List ℕ)) →
     IsPaging cost limit text pieces → IsPaging cost limit text others → pieces ≡ others
-one_paging cost limit [] pieces others one two = pieces_of_nothing cost limit pieces one ∙ sym (pieces_of_nothing cost limit others two)
+one_paging cost limit [] pieces others one two = pieces_of_nothing cost limit pieces one
+    ∙ sym (pieces_of_nothing cost limit others two)
 one_paging cost limit (c ∷ rest) pieces others one two =
     sym (pieces_of_paging cost limit c rest pieces one) ∙ pieces_of_paging cost limit c rest others two
 
 -- The codes of the pieces are cut as the pieces are.
 pub cuts_of_pieces : (codes : ℕ → List ℕ) (limit : ℕ) (piece rest : List ℕ) →
-    map (flat_map codes) (pieces_from (λ c. length (codes c)) limit piece rest) ≡ cuts_from codes limit (flat_map codes piece) rest
+    map (flat_map codes) (pieces_from (λ c. length (codes c)) limit piece rest) ≡ cuts_from codes limit
+    (flat_map codes piece) rest
 cuts_of_pieces codes limit piece [] = refl
 cuts_of_pieces codes limit piece (c ∷ rest) =
     let cost : ℕ → ℕ = λ c. length (codes c) in

@@ -1,5 +1,6 @@
 -- Plain septets are the octets of their text.
-use Rattle.std.proofs.Common.{◌≡◌, ℕ, ◌<◌, zero, suc, List, [], ◌∷◌, ◌++◌, Bool, true, false, cond, not, eqb, refl, arith, below_more}
+use Rattle.std.proofs.Common.{◌≡◌, ℕ, ◌<◌, zero, suc, List, [], ◌∷◌, ◌++◌, Bool, true, false, cond, not, eqb, refl}
+use Rattle.std.proofs.Common.{arith, below_more}
 use Rattle.std.specs.List.{list_all}
 use Rattle.std.specs.Prelude.{◌&&◌, ◌||◌, encode_utf8_all}
 use Rattle.std.proofs.lemmas.Bool.{and_parts, eqb-true, ltb-true}
@@ -35,16 +36,19 @@ not-true true is = cc
 not-true false is = refl
 
 -- one more septet that shows its own character
-plain-cons : (septet : ℕ) (rest : List ℕ) (escape : Bool) → eqb septet 27 ≡ escape → escape ≡ false → main_character septet ≡ septet →
+plain-cons : (septet : ℕ) (rest : List ℕ) (escape : Bool) → eqb septet 27 ≡ escape → escape ≡ false
+    → main_character septet ≡ septet →
     septet < 128 → encode_utf8_all (text_after false rest) ≡ rest →
     encode_utf8_all (cond escape [] (main_character septet ∷ []) ++ text_after escape rest) ≡ septet ∷ rest
 plain-cons septet rest true is plain own small others = cc
 plain-cons septet rest false is plain own small others = rw (own, encode_ascii septet small, others) refl
 
-pub plain_text : (septets : List ℕ) → list_all is_plain septets ≡ true → encode_utf8_all (text_of_septets septets) ≡ septets
+pub plain_text : (septets : List ℕ) → list_all is_plain septets ≡ true
+    → encode_utf8_all (text_of_septets septets) ≡ septets
 plain_text [] all = refl
 plain_text (septet ∷ rest) all =
     let parts = and_parts (is_plain septet) (list_all is_plain rest) all in
     let small : septet < 128 = ltb-true septet 128 (and_parts _ _ parts.0).0 in
     let shown = and_parts _ _ (implied (is_plain septet) _ parts.0 (below 128 shows each_shows septet small)) in
-    plain-cons septet rest (eqb septet 27) refl (not-true _ shown.0) (eqb-true _ _ shown.1) small (plain_text rest parts.1)
+    plain-cons septet rest (eqb septet 27) refl (not-true _ shown.0) (eqb-true _ _ shown.1) small
+    (plain_text rest parts.1)

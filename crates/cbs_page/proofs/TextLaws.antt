@@ -1,5 +1,6 @@
 -- A page shows the piece of text that it holds, and the pages of a text, joined, show the text.
-use Rattle.std.proofs.Common.{◌≡◌, ◌≢◌, ℕ, ◌+◌, ◌-◌, ◌<◌, ◌≤◌, Bool, true, false, Option, Some, None, List, [], ◌∷◌, ◌++◌, length, map, sum_by, All, replicate, refl, ◌∙◌, ap, arith, cond}
+use Rattle.std.proofs.Common.{◌≡◌, ◌≢◌, ℕ, ◌+◌, ◌-◌, ◌<◌, ◌≤◌, Bool, true, false, Option, Some, None, List, [], ◌∷◌}
+use Rattle.std.proofs.Common.{◌++◌, length, map, sum_by, All, replicate, refl, ◌∙◌, ap, arith, cond}
 use Rattle.std.specs.Prelude.{nat_lt, ◌==◌, ◌&&◌, ◌||◌, not}
 use Rattle.std.specs.Char.{IsScalar}
 use Rattle.std.specs.Option.{option_map_or, option_to_list}
@@ -19,7 +20,8 @@ use Rattle.ucs2_text.proofs.Ucs2Laws.{units_come_back, map-character_of_unit}
 use Rattle.cbs_page.specs.declared.coding.Alphabet.{Alphabet}
 use Rattle.cbs_page.specs.declared.coding.Alphabet.TheVariants.{Gsm, Ucs2}
 use Rattle.cbs_page.specs.declared.content.Content.{Content}
-use Rattle.cbs_page.specs.Text.{capacity, codes_of, cost_of, is_bad, without_trailing, is_filling, text_of_content, IsContentOf, AreContentsOf}
+use Rattle.cbs_page.specs.Text.{capacity, codes_of, cost_of, is_bad, without_trailing, is_filling, text_of_content}
+use Rattle.cbs_page.specs.Text.{IsContentOf, AreContentsOf}
 use Rattle.cbs_page.proofs.TrailingLaws.{without_trailing-fill}
 
 -- a character costs at most two codes
@@ -45,7 +47,8 @@ abbrev pub IsSendable : Alphabet → ℕ → Type 0
 IsSendable Gsm c = IsInAlphabet c × (c ≢ 13)
 IsSendable Ucs2 c = IsScalar c × (c < 65536) × (c ≢ 13)
 
-gsm_shows : (piece octets : List ℕ) → All IsInAlphabet piece → All (λ c. c ≢ 13) piece → length (flat_map septets_of piece) ≤ 93 →
+gsm_shows : (piece octets : List ℕ) → All IsInAlphabet piece → All (λ c. c ≢ 13) piece
+    → length (flat_map septets_of piece) ≤ 93 →
     IsPacked (flat_map septets_of piece) octets → text_of_content Gsm octets ≡ piece
 gsm_shows piece octets known no_return within packed =
     let septets = flat_map septets_of piece in
@@ -55,19 +58,23 @@ gsm_shows piece octets known no_return within packed =
     ∙ ap text_of_septets (without_trailing-fill septets (93 - length septets) (flat_map-no_return piece no_return))
     ∙ text_comes_back piece known
 
-units_are : (piece : List ℕ) → AllByRecursion (λ c. c < 65536) piece → flat_map (λ c. option_to_list (unit_of_character c)) piece ≡ piece
+units_are : (piece : List ℕ) → AllByRecursion (λ c. c < 65536) piece
+    → flat_map (λ c. option_to_list (unit_of_character c)) piece ≡ piece
 units_are [] fit = refl
 units_are (c ∷ piece) fit =
     let unit : unit_of_character c ≡ Some c = rw (lt-ltb c 65536 fit.0) refl in
-    ap (λ u. option_to_list u ++ flat_map (λ x. option_to_list (unit_of_character x)) piece) unit ∙ ap (λ xs. c ∷ xs) (units_are piece fit.1)
+    ap (λ u. option_to_list u ++ flat_map (λ x. option_to_list (unit_of_character x)) piece) unit
+    ∙ ap (λ xs. c ∷ xs) (units_are piece fit.1)
 
-ucs2_shows : (piece octets : List ℕ) → All IsScalar piece → AllByRecursion (λ c. c < 65536) piece → AllByRecursion (λ c. c ≢ 13) piece →
+ucs2_shows : (piece octets : List ℕ) → All IsScalar piece → AllByRecursion (λ c. c < 65536) piece
+    → AllByRecursion (λ c. c ≢ 13) piece →
     octets ≡ octets_of_units (flat_map (codes_of Ucs2) piece) → text_of_content Ucs2 octets ≡ piece
 ucs2_shows piece octets known fit no_return is =
     let read : units_of_octets octets ≡ piece ++ replicate (41 - length piece) 13 =
     ap units_of_octets (is ∙ ap octets_of_units (units_are piece fit)) ∙ units_come_back piece in
     ap (λ xs. map character_of_unit (without_trailing is_filling xs)) read
-    ∙ ap (map character_of_unit) (without_trailing-fill piece (41 - length piece) (All-from_recursion (λ c. c ≢ 13) piece no_return))
+    ∙ ap (map character_of_unit) (without_trailing-fill piece (41 - length piece)
+    (All-from_recursion (λ c. c ≢ 13) piece no_return))
     ∙ map-character_of_unit piece known
 
 pub by_parts : (P Q : ℕ → Type 0) → ((c : ℕ) → P c → Q c) → (xs : List ℕ) → AllByRecursion P xs → AllByRecursion Q xs
@@ -81,7 +88,8 @@ shows_piece : (alphabet : Alphabet) (piece : List ℕ) (content : Content) → A
 shows_piece Gsm piece content good within here =
     gsm_shows piece content.octets
     (All-from_recursion IsInAlphabet piece (by_parts (IsSendable Gsm) IsInAlphabet (λ c h. h.0) piece good))
-    (All-from_recursion (λ c. c ≢ 13) piece (by_parts (IsSendable Gsm) (λ c. c ≢ 13) (λ c h. h.1) piece good)) within here.1
+    (All-from_recursion (λ c. c ≢ 13) piece (by_parts (IsSendable Gsm) (λ c. c ≢ 13) (λ c h. h.1) piece good)) within
+    here.1
 shows_piece Ucs2 piece content good within here =
     ucs2_shows piece content.octets
     (All-from_recursion IsScalar piece (by_parts (IsSendable Ucs2) IsScalar (λ c h. h.0) piece good))
@@ -98,7 +106,8 @@ last_part P (x ∷ xs) ys all = last_part P xs ys all.1
 
 -- The pages, joined, show the pieces, joined.
 pub shows_pieces : (alphabet : Alphabet) (pieces : List (List ℕ)) (contents : List Content) →
-    AllByRecursion (IsSendable alphabet) (concat pieces) → AllByRecursion (λ piece. sum_by (cost_of alphabet) piece ≤ capacity alphabet) pieces →
+    AllByRecursion (IsSendable alphabet) (concat pieces) → AllByRecursion
+    (λ piece. sum_by (cost_of alphabet) piece ≤ capacity alphabet) pieces →
     AreContentsOf alphabet (map (flat_map (codes_of alphabet)) pieces) contents →
     flat_map (λ content. text_of_content alphabet content.octets) contents ≡ concat pieces
 shows_pieces alphabet [] [] good within held = refl
@@ -108,7 +117,8 @@ shows_pieces alphabet (piece ∷ pieces) (content ∷ contents) good within held
     let here : text_of_content alphabet content.octets ≡ piece =
     shows_piece alphabet piece content (first_part (IsSendable alphabet) piece (concat pieces) good)
     (rw (length-flat_map (codes_of alphabet) piece) within.0) held.0 in
-    let rest = shows_pieces alphabet pieces contents (last_part (IsSendable alphabet) piece (concat pieces) good) within.1 held.1 in
+    let rest = shows_pieces alphabet pieces contents (last_part (IsSendable alphabet) piece (concat pieces) good)
+    within.1 held.1 in
     ap (λ xs. xs ++ flat_map (λ c. text_of_content alphabet c.octets) contents) here ∙ ap (λ xs. piece ++ xs) rest
 
 -- what a search that found nothing says of the first element, and of the rest
@@ -118,10 +128,12 @@ passed_over true place rest none then = cc
 passed_over false place rest none then = then refl none
 
 -- no character of a text is a bad one
-pub none_bad : (place : ℕ) (text : List ℕ) → position_from is_bad place text ≡ None → AllByRecursion (λ c. is_bad c ≡ false) text
+pub none_bad : (place : ℕ) (text : List ℕ) → position_from is_bad place text ≡ None
+    → AllByRecursion (λ c. is_bad c ≡ false) text
 none_bad place [] none = tt
 none_bad place (c ∷ text) none =
-    passed_over (is_bad c) place (position_from is_bad (place + 1) text) none (λ good rest. (good, none_bad (place + 1) text rest))
+    passed_over (is_bad c) place (position_from is_bad (place + 1) text) none
+    (λ good rest. (good, none_bad (place + 1) text rest))
 
 or-false : (a b : Bool) → (a || b) ≡ false → (a ≡ false) × (b ≡ false)
 or-false true b e = cc
@@ -133,7 +145,8 @@ good-no_return c good is = let bad : true ≡ false = rw is at good in cc
 pub good-fits : (c : ℕ) → is_bad c ≡ false → c < 65536
 good-fits c good = omega (arith, ltb-false 65535 c (or-false (nat_lt c 32 && not (c == 10)) (nat_lt 65535 c) good).1)
 
-pub both : (P Q : ℕ → Type 0) (xs : List ℕ) → AllByRecursion P xs → AllByRecursion Q xs → AllByRecursion (λ x. P x × Q x) xs
+pub both : (P Q : ℕ → Type 0) (xs : List ℕ) → AllByRecursion P xs → AllByRecursion Q xs
+    → AllByRecursion (λ x. P x × Q x) xs
 both P Q [] ps qs = tt
 both P Q (x ∷ xs) ps qs = ((ps.0, qs.0), both P Q xs ps.1 qs.1)
 
@@ -148,5 +161,8 @@ contents-length alphabet (piece ∷ pieces) [] within held = absurd held
 contents-length Gsm (piece ∷ pieces) (content ∷ contents) within held =
     (held.0.1.size, contents-length Gsm pieces contents within.1 held.1)
 contents-length Ucs2 (piece ∷ pieces) (content ∷ contents) within held =
-    let short : length (flat_map (codes_of Ucs2) piece) ≤ 41 = rw (length-flat_map (codes_of Ucs2) piece) within.0 in
-    (ap length held.0.1 ∙ length-octets_of_units (flat_map (codes_of Ucs2) piece) short, contents-length Ucs2 pieces contents within.1 held.1)
+    let short : length (flat_map (codes_of Ucs2) piece) ≤ 41 = rw (length-flat_map (codes_of Ucs2) piece) within.0 in (
+      ap length held.0.1 ∙ length-octets_of_units (flat_map (codes_of Ucs2) piece) short,
+      contents-length Ucs2 pieces
+          contents within.1 held.1,
+    )

@@ -1,8 +1,10 @@
 -- A list without the elements at its end that pass a test.
-use Rattle.std.proofs.Common.{◌≡◌, ◌≢◌, ℕ, ◌-◌, ◌<◌, ◌≤◌, Bool, true, false, All, List, ◌++◌, length, take, get_or, replicate, refl, ◌∙◌, arith, length-append}
+use Rattle.std.proofs.Common.{◌≡◌, ◌≢◌, ℕ, ◌-◌, ◌<◌, ◌≤◌, Bool, true, false, All, List, ◌++◌, length, take, get_or}
+use Rattle.std.proofs.Common.{replicate, refl, ◌∙◌, arith, length-append}
 use Rattle.std.specs.List.{suffix_len}
 use Rattle.std.proofs.lemmas.Bool.{eq-eqb, ne_eqb}
-use Rattle.std.proofs.lemmas.List.{get_or_append_left, get_or-append_right, get_or-replicate, length-replicate, take-append-le, take_all}
+use Rattle.std.proofs.lemmas.List.{get_or_append_left, get_or-append_right, get_or-replicate, length-replicate}
+use Rattle.std.proofs.lemmas.List.{take-append-le, take_all}
 use Rattle.std.proofs.lemmas.List.Sums.{suffix_len_is}
 use Rattle.cbs_page.specs.Text.{without_trailing, is_filling}
 
@@ -15,13 +17,20 @@ without_trailing-is test xs n d within passes stops =
     rw left refl
 
 -- what fills a page goes, and no more
-pub without_trailing-fill : (xs : List ℕ) (n : ℕ) → All (λ x. x ≢ 13) xs → without_trailing is_filling (xs ++ replicate n 13) ≡ xs
+pub without_trailing-fill : (xs : List ℕ) (n : ℕ) → All (λ x. x ≢ 13) xs
+    → without_trailing is_filling (xs ++ replicate n 13) ≡ xs
 without_trailing-fill xs n others =
-    without_trailing-is is_filling (xs ++ replicate n 13) (length xs) 0 (omega (arith, length-append xs (replicate n 13)))
+    without_trailing-is is_filling (xs ++ replicate n 13) (length xs) 0
+    (omega (arith, length-append xs (replicate n 13)))
     (λ k past within.
     let at : get_or (xs ++ replicate n 13) k 0 ≡ 13 =
     get_or-append_right xs (replicate n 13) (length xs) k 0 refl past
-    ∙ get_or-replicate n (k - length xs) 13 0 (omega (arith, length-append xs (replicate n 13), length-replicate {A = ℕ} n 13)) in
+    ∙ get_or-replicate n (k - length xs) 13 0 (omega (
+      arith,
+      length-append xs (replicate n 13),
+      length-replicate
+          {A = ℕ} n 13,
+    )) in
     eq-eqb (get_or (xs ++ replicate n 13) k 0) 13 at)
     (λ some.
     let at : get_or (xs ++ replicate n 13) (length xs - 1) 0 ≡ get_or xs (length xs - 1) 0 =

@@ -13,13 +13,16 @@ serials : (serial_number 3 1023 15 ≡ 0xFFFF) × (serial_number 0 1 0 ≡ 0x001
 serials = (refl, refl, refl)
 
 -- the first and last value of each range, and those beside them
-alphabets : (alphabet_of 0x0F ≡ Some Gsm) × (alphabet_of 0x10 ≡ None) × (alphabet_of 0x24 ≡ Some Gsm) × (alphabet_of 0x25 ≡ None)
-    × (alphabet_of 0x43 ≡ Some Gsm) × (alphabet_of 0x44 ≡ None) × (alphabet_of 0x48 ≡ Some Ucs2) × (alphabet_of 0x4C ≡ None)
+alphabets : (alphabet_of 0x0F ≡ Some Gsm) × (alphabet_of 0x10 ≡ None) × (alphabet_of 0x24 ≡ Some Gsm)
+    × (alphabet_of 0x25 ≡ None)
+    × (alphabet_of 0x43 ≡ Some Gsm) × (alphabet_of 0x44 ≡ None) × (alphabet_of 0x48 ≡ Some Ucs2)
+    × (alphabet_of 0x4C ≡ None)
     × (alphabet_of 0x5B ≡ Some Ucs2) × (alphabet_of 0x60 ≡ None) × (alphabet_of 0xF0 ≡ None)
 alphabets = (refl, refl, refl, refl, refl, refl, refl, refl, refl, refl, refl)
 
 -- Russian, no language told, and a word that names none
-values : (language_value (codes "ru") ≡ Some 0x23) × (language_value (codes "und") ≡ Some 0x0F) × (language_value (codes "eng") ≡ None)
+values : (language_value (codes "ru") ≡ Some 0x23) × (language_value (codes "und") ≡ Some 0x0F)
+    × (language_value (codes "eng") ≡ None)
 unfolding language_value
 values = (refl, refl, refl)
 

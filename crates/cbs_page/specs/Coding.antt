@@ -36,8 +36,8 @@ general_alphabet value =
     let bits = value / 4 % 4 in
     if bits == 0 then Some Gsm else if bits == 2 then Some Ucs2 else None
 
--- bits 7 to 4 are the coding group: 0000 has sixteen languages and 0010 has five; 0100 and 0101 are the general group without
--- compression; no other group has an alphabet here
+-- bits 7 to 4 are the coding group: 0000 has sixteen languages and 0010 has five; 0100 and 0101 are the general group
+-- without compression; no other group has an alphabet here
 abbrev pub alphabet_of : ℕ → Option Alphabet
 alphabet_of value =
     let group = value / 16 in

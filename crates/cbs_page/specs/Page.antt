@@ -1,15 +1,17 @@
 -- A page of 88 octets. 3GPP TS 23.041, clause 9.4.1.
-use Rattle.std.specs.Prelude.{ℕ, ◌+◌, ◌*◌, ◌/◌, ◌%◌, ◌==◌, ◌||◌, ◌&&◌, nat_le, Bool, List, ◌∷◌, drop, slice_index, if◌then◌else◌, is_some}
+use Rattle.std.specs.Prelude.{ℕ, ◌+◌, ◌*◌, ◌/◌, ◌%◌, ◌==◌, ◌||◌, ◌&&◌, nat_le, Bool, List, ◌∷◌, drop, slice_index}
+use Rattle.std.specs.Prelude.{if◌then◌else◌, is_some}
 use Rattle.cbs_page.specs.declared.octets.PageView.{PageView}
 use Rattle.cbs_page.specs.Coding.{alphabet_of}
 
--- the serial number and the message identifier, high octets first, the data coding, the page's number and the total in the
--- halves of the page parameter, and the content
+-- the serial number and the message identifier, high octets first, the data coding, the page's number and the total in
+-- the halves of the page parameter, and the content
 abbrev pub octets_of_page : (id serial dcs number total : ℕ) → (content : List ℕ) → List ℕ
 octets_of_page id serial dcs number total content =
     (serial / 256) ∷ (serial % 256) ∷ (id / 256) ∷ (id % 256) ∷ dcs ∷ (16 * number + total) ∷ content
 
--- the page's number and the total of its message stand in the halves of the page parameter; with 0 in either it is page 1 of 1
+-- the page's number and the total of its message stand in the halves of the page parameter; with 0 in either it is page
+-- 1 of 1
 abbrev pub place_of : ℕ → ℕ × ℕ
 place_of parameter =
     if (parameter / 16 == 0) || (parameter % 16 == 0) then (1, 1) else (parameter / 16, parameter % 16)

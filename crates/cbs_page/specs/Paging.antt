@@ -12,8 +12,8 @@ abbrev pub AreFilled : (cost : ℕ → ℕ) (limit : ℕ) → List (List ℕ) �
 AreFilled cost limit [] = Unit {0}
 AreFilled cost limit (piece ∷ rest) = IsFilled cost limit piece rest × AreFilled cost limit rest
 
--- the pieces of a text, one a page: in order they are the text, none is empty, the characters of each cost at most what a page
--- holds, and none could have taken the first character of the next
+-- the pieces of a text, one a page: in order they are the text, none is empty, the characters of each cost at most what
+-- a page holds, and none could have taken the first character of the next
 pub record IsPaging (cost : ℕ → ℕ) (limit : ℕ) (text : List ℕ) (pieces : List (List ℕ)) : Type 0 where
   pub whole : concat pieces ≡ text
   pub nonempty : AllByRecursion (λ piece. piece ≢ []) pieces

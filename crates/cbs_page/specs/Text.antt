@@ -1,6 +1,7 @@
 -- What the pages of a text hold, and what text a page shows. 3GPP TS 23.038, clauses 6.1.2.2, 6.2.1 and 6.2.3, and
 -- 3GPP TS 23.041, clause 9.4.1.2.5. Which alphabet a text gets, and that CR ends no text, are this project's own.
-use Rattle.std.specs.Prelude.{◌≡◌, ℕ, ◌+◌, ◌-◌, ◌*◌, ◌/◌, ◌<◌, ◌≤◌, ◌==◌, ◌&&◌, ◌||◌, not, nat_lt, Bool, if◌then◌else◌, Option, Some, None, IsSome, is_some, List, [], ◌∷◌, length, map, position, take}
+use Rattle.std.specs.Prelude.{◌≡◌, ℕ, ◌+◌, ◌-◌, ◌*◌, ◌/◌, ◌<◌, ◌≤◌, ◌==◌, ◌&&◌, ◌||◌, not, nat_lt, Bool, if◌then◌else◌}
+use Rattle.std.specs.Prelude.{Option, Some, None, IsSome, is_some, List, [], ◌∷◌, length, map, position, take}
 use Rattle.std.specs.Option.{option_to_list}
 use Rattle.std.specs.List.{list_all, flat_map, suffix_len}
 use Rattle.gsm_alphabet.specs.Alphabet.{code_of, septets_of, text_of_septets}
@@ -105,7 +106,8 @@ pub record IsPagedText (language text : List ℕ) (paged : Paged) : Type 0 where
   pub paging : IsPagingOf text pieces
   pub some : 1 ≤ length pieces
   pub few : length pieces ≤ 15
-  pub contents : AreContentsOf (alphabet_for text) (map (flat_map (codes_of (alphabet_for text))) pieces) paged.pages.items
+  pub contents : AreContentsOf (alphabet_for text) (map (flat_map (codes_of (alphabet_for text))) pieces)
+      paged.pages.items
 
 -- the texts of the pages, joined, are the text
 abbrev pub ShowsText : List ℕ → Paged → Type 0

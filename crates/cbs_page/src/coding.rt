@@ -33,8 +33,8 @@ impl Dcs {
     }
 }
 
-/// The data coding value of a GSM 7-bit text in the language that the word names (ISO 639 codes, and `und` for a language that
-/// isn't told), or None for any other word.
+/// The data coding value of a GSM 7-bit text in the language that the word names (ISO 639 codes, and `und` for a
+/// language that isn't told), or None for any other word.
 #[tactic(auto, unfolding(crate::specs::Coding::language_value))]
 pub fn language_dcs(language: &str) -> Option<u8>
     ensures { result ≡ language_value language.now }

@@ -1,8 +1,8 @@
 //! Pages of cell broadcast messages (3GPP TS 23.041, clause 9.4.1).
 //!
-//! `paginate` cuts a text into the pages that carry it, in the first alphabet that has all its characters; `page_bytes` and
-//! `read_page` are the 88 octets of a page, both ways; `page_text` is the text that a page shows. The texts of a text's pages,
-//! joined, are the text.
+//! `paginate` cuts a text into the pages that carry it, in the first alphabet that has all its characters; `page_bytes`
+//! and `read_page` are the 88 octets of a page, both ways; `page_text` is the text that a page shows. The texts of a
+//! text's pages, joined, are the text.
 #![tactic(auto)]
 
 pub mod coding;

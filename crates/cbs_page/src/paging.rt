@@ -1,12 +1,13 @@
-//! The pages of a text: which alphabet it gets, how it is cut, and what each page holds (3GPP TS 23.041, clause 9.4.1.2.5; the
-//! cutting is this project's own: each page takes all that it can, and an escape pair is never split).
+//! The pages of a text: which alphabet it gets, how it is cut, and what each page holds (3GPP TS 23.041, clause
+//! 9.4.1.2.5; the cutting is this project's own: each page takes all that it can, and an escape pair is never split).
 
 ghost use Rattle.std.specs.Prelude.{◌≡◌, ◌≢◌, ◌≤◌, [], ◌∷◌, length, nat_lt, IfOk, IfErr, position, is_some};
 ghost use Rattle.std.specs.List.{list_all};
 ghost use Rattle.std.specs.Str.{chars};
 ghost use Rattle.gsm_alphabet.specs.Alphabet.{code_of};
 ghost use Rattle.cbs_page.specs.Paging.{PagingIsUnique};
-ghost use Rattle.cbs_page.specs.Text.{is_bad, alphabet_for, coding_for, TakesPages, AreContentsOf, HoldText, IsTextFault, IsPagedText, ShowsText};
+ghost use Rattle.cbs_page.specs.Text.{is_bad, alphabet_for, coding_for, TakesPages, AreContentsOf, HoldText};
+ghost use Rattle.cbs_page.specs.Text.{IsTextFault, IsPagedText, ShowsText};
 
 use crate::coding::{Alphabet, Dcs, language_dcs};
 use crate::content::Content;
@@ -39,8 +40,8 @@ pub enum TextFault {
     /// There is no text.
     #[error("text is empty")]
     Empty,
-    /// The character at this place, counted from 0, can't be sent: a control character other than LF, or one above U+FFFF. It is
-    /// the first of them.
+    /// The character at this place, counted from 0, can't be sent: a control character other than LF, or one above
+    /// U+FFFF. It is the first of them.
     #[error("bad character at {place}")]
     BadCharacter {
         /// How many characters stand before it.
@@ -54,8 +55,9 @@ pub enum TextFault {
     Refused,
 }
 
-/// The pages of a text in a language. The text is GSM 7-bit where that alphabet has each of its characters, with the language's
-/// data coding value, and UCS-2 otherwise. The error is the first of `TextFault` that applies, with want of memory last.
+/// The pages of a text in a language. The text is GSM 7-bit where that alphabet has each of its characters, with the
+/// language's data coding value, and UCS-2 otherwise. The error is the first of `TextFault` that applies, with want of
+/// memory last.
 pub fn paginate(alloc: Global, text: &str, language: &str) -> Result<Paged, TextFault>
     ensures sent { IfOk result (IsPagedText language.now (chars text.now)) }
     ensures shown { IfOk result (λ paged. ShowsText (chars text.now) paged) }
@@ -88,8 +90,8 @@ pub fn paginate(alloc: Global, text: &str, language: &str) -> Result<Paged, Text
     }
 }
 
-/// A text has one list of pages at most: what `paginate` answers, and whether that is too many, is determined. Does nothing: its
-/// contract is the law.
+/// A text has one list of pages at most: what `paginate` answers, and whether that is too many, is determined. Does
+/// nothing: its contract is the law.
 pub fn paging_law()
     ensures { PagingIsUnique }
 {}

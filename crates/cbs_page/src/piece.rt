@@ -90,7 +90,8 @@ impl Piece {
 
     /// Takes a character that has room.
     pub fn take(&mut self, character: char)
-        requires room { length (codes_in self.old) + cost_of (alphabet_in self.old) character ≤ capacity (alphabet_in self.old) }
+        requires room { length (codes_in self.old) + cost_of (alphabet_in self.old) character ≤ capacity
+            (alphabet_in self.old) }
         requires were_sound { AreCodes self.old }
         ensures taken { codes_in self.new ≡ codes_in self.old ++ codes_of (alphabet_in self.old) character }
         ensures same { alphabet_in self.new ≡ alphabet_in self.old }

@@ -1,6 +1,7 @@
 //! The text that a page shows (3GPP TS 23.038, clauses 6.1.2.2, 6.2.1 and 6.2.3).
 
-ghost use Rattle.std.specs.Prelude.{◌≡◌, ◌&&◌, nat_le, IsTrue, IfOk, ◌≤◌, take, length, map, encode_utf8_all, string_bytes};
+ghost use Rattle.std.specs.Prelude.{◌≡◌, ◌&&◌, nat_le, IsTrue, IfOk, ◌≤◌, take, length, map, encode_utf8_all};
+ghost use Rattle.std.specs.Prelude.{string_bytes};
 ghost use Rattle.std.specs.List.{list_all};
 ghost use Rattle.gsm_alphabet.specs.Alphabet.{text_of_septets};
 ghost use Rattle.ucs2_text.specs.Ucs2.{character_of_unit};
@@ -37,8 +38,8 @@ impl From<AllocError> for Refused {
     }
 }
 
-/// The text that a readable page shows: the carriage returns at its end are dropped first, then the rest is decoded. A surrogate
-/// unit shows U+FFFD, and an escape alone at the end shows a space. The only error is want of memory.
+/// The text that a readable page shows: the carriage returns at its end are dropped first, then the rest is decoded. A
+/// surrogate unit shows U+FFFD, and an escape alone at the end shows a space. The only error is want of memory.
 pub fn page_text(alloc: Global, view: &PageView) -> Result<String, Refused>
     requires { IsTrue (is_readable view.now) }
     ensures { IfOk result (λ text. string_bytes text ≡ encode_utf8_all (text_of_page view.now)) }
@@ -79,7 +80,8 @@ fn gsm_text(alloc: Global, septets: &[u8]) -> Result<String, AllocError>
     decoded_text(alloc, septets)
 }
 
-/// Whether each septet shows the character of its own number. All are looked at, with no branch: that is a few vector steps.
+/// Whether each septet shows the character of its own number. All are looked at, with no branch: that is a few vector
+/// steps.
 fn are_plain(septets: &[u8]) -> bool
     ensures { result ≡ list_all is_plain septets.now }
 {

@@ -1,12 +1,14 @@
 -- The octets of elements, one number after the other.
-use Rattle.std.proofs.Common.{◌≡◌, ℕ, ◌+◌, ◌*◌, false, eqb, ◌-◌, List, [], ◌∷◌, ◌++◌, length, map, set, refl, sym, ap, ◌∙◌, arith, append_assoc, length-append}
+use Rattle.std.proofs.Common.{◌≡◌, ℕ, ◌+◌, ◌*◌, false, eqb, ◌-◌, List, [], ◌∷◌, ◌++◌, length, map, set, refl, sym, ap}
+use Rattle.std.proofs.Common.{◌∙◌, arith, append_assoc, length-append}
 use Rattle.std.specs.List.{flat_map}
 use Rattle.std.proofs.lemmas.List.{append-nil, set-append_right}
 use Rattle.std.proofs.lemmas.List.Concat.{flat_map-cons}
 use Rattle.cbsp_wire.specs.declared.items.Layout.{Layout}
 use Rattle.cbsp_wire.specs.Element.{Element, octets_of_elements}
 use Rattle.cbsp_wire.specs.Value.{Fields}
-use Rattle.cbsp_wire.specs.Written.{bodies_in, list_head, list_bodies, element, elements_among, element_octets, field_octets}
+use Rattle.cbsp_wire.specs.Written.{bodies_in, list_head, list_bodies, element, elements_among, element_octets}
+use Rattle.cbsp_wire.specs.Written.{field_octets}
 use Rattle.cbsp_wire.proofs.WrittenItems.{length-items}
 
 octets-append : (xs ys : List Element) → octets_of_elements (xs ++ ys) ≡ octets_of_elements xs ++ octets_of_elements ys

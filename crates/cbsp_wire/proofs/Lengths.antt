@@ -1,6 +1,7 @@
 -- How long the octets of a message are: at most 1,547, a write of 15 pages to 64 cells with each optional element. The
 -- longest reply, with 64 failures of 6 octets, 64 completed broadcasts of 7 and 64 cells of 4, has 1,114.
-use Rattle.std.proofs.Common.{◌≡◌, ℕ, suc, ◌+◌, ◌*◌, ◌≤◌, true, List, [], ◌∷◌, ◌++◌, length, map, Option, Some, None, refl, ap, arith, length-append}
+use Rattle.std.proofs.Common.{◌≡◌, ℕ, suc, ◌+◌, ◌*◌, ◌≤◌, true, List, [], ◌∷◌, ◌++◌, length, map, Option, Some, None}
+use Rattle.std.proofs.Common.{refl, ap, arith, length-append}
 use Rattle.std.specs.Prelude.{IfSome, nat_le, ◌&&◌, ◌==◌}
 use Rattle.std.specs.List.{flat_map, list_all}
 use Rattle.std.proofs.lemmas.Bool.{eqb-true, leb-true}
@@ -14,8 +15,10 @@ use Rattle.cbsp_wire.specs.declared.message.Failure.{Failure}
 use Rattle.cbsp_wire.specs.declared.message.Message.{Message}
 use Rattle.cbsp_wire.specs.declared.message.Message.TheVariants as messages
 use Rattle.cbsp_wire.specs.Value.{Fields, fields_of}
-use Rattle.cbsp_wire.specs.Range.{numbers, are_cells, are_distinct, cells_of_counts, cells_of_failures, is_page_count, are_contents, is_full}
-use Rattle.cbsp_wire.specs.Written.{bodies_in, cell_octets, count_octets, failure_octets, number_bodies, octet_bodies, list_bodies, content_body, element_octets, field_octets, AreShort}
+use Rattle.cbsp_wire.specs.Range.{numbers, are_cells, are_distinct, cells_of_counts, cells_of_failures, is_page_count}
+use Rattle.cbsp_wire.specs.Range.{are_contents, is_full}
+use Rattle.cbsp_wire.specs.Written.{bodies_in, cell_octets, count_octets, failure_octets, number_bodies, octet_bodies}
+use Rattle.cbsp_wire.specs.Written.{list_bodies, content_body, element_octets, field_octets, AreShort}
 use Rattle.cbsp_wire.proofs.Tests.{and_parts, list_all-parts}
 use Rattle.cbsp_wire.proofs.WrittenItems.{length-items, cell_len, count_len, failure_len}
 use Rattle.cbsp_wire.proofs.WrittenLaws.{IsWritten}

@@ -1,5 +1,6 @@
 -- A message that some octets mean is written.
-use Rattle.std.proofs.Common.{◌≡◌, ℕ, zero, suc, ◌<◌, Bool, true, false, cond, eqb, eq-eqb, List, [], ◌∷◌, length, map, get_or, Option, Some, None, refl, sym, ap, subst, ◌∙◌, arith}
+use Rattle.std.proofs.Common.{◌≡◌, ℕ, zero, suc, ◌<◌, Bool, true, false, cond, eqb, eq-eqb, List, [], ◌∷◌, length, map}
+use Rattle.std.proofs.Common.{get_or, Option, Some, None, refl, sym, ap, subst, ◌∙◌, arith}
 use Rattle.std.specs.Prelude.{◌&&◌, ◌%◌, not, nat_le}
 use Rattle.std.specs.List.{AllByRecursion, list_all}
 use Rattle.std.proofs.lemmas.Bool.{eqb-true}
@@ -16,8 +17,13 @@ use Rattle.cbsp_wire.specs.declared.message.Failure.{Failure}
 use Rattle.cbsp_wire.specs.declared.message.Message.{Message}
 use Rattle.cbsp_wire.specs.Element.{Element, bodies_of, octet_of}
 use Rattle.cbsp_wire.specs.Table.{table, need_of, size_of}
-use Rattle.cbsp_wire.specs.Value.{Fields, no_fields, fields_in, fields_of, first_number, first_octet, items_of, first_items, content_of, cells_in, failures_in, or_0, message_with, message_of, kind_of}
-use Rattle.cbsp_wire.specs.Range.{numbers, is_nothing, is_there_if, has_mandatory, has_none_twice, are_lists, first_passes, is_by_lac_and_ci, is_list, are_items, item_size, cells_by, passes, is_period, is_coding, is_page_count, are_contents, are_numbers, are_cells, cells_of_counts, cells_of_failures, are_all_cells, are_values, is_writable, is_full}
+use Rattle.cbsp_wire.specs.Value.{Fields, no_fields, fields_in, fields_of, first_number, first_octet, items_of}
+use Rattle.cbsp_wire.specs.Value.{first_items, content_of, cells_in, failures_in, or_0, message_with, message_of}
+use Rattle.cbsp_wire.specs.Value.{kind_of}
+use Rattle.cbsp_wire.specs.Range.{numbers, is_nothing, is_there_if, has_mandatory, has_none_twice, are_lists}
+use Rattle.cbsp_wire.specs.Range.{first_passes, is_by_lac_and_ci, is_list, are_items, item_size, cells_by, passes}
+use Rattle.cbsp_wire.specs.Range.{is_period, is_coding, is_page_count, are_contents, are_numbers, are_cells}
+use Rattle.cbsp_wire.specs.Range.{cells_of_counts, cells_of_failures, are_all_cells, are_values, is_writable, is_full}
 use Rattle.cbsp_wire.specs.Meaning.{IsOf, AreElementsOf, IsMessage}
 use Rattle.cbsp_wire.proofs.Tests.{and_parts, and_both, not_true, there_from, list_all-parts}
 use Rattle.cbsp_wire.proofs.WrittenLaws.{IsWritten, is_writable-from}

@@ -11,7 +11,8 @@ use Rattle.cbsp_wire.specs.declared.message.Message.{Message}
 use Rattle.cbsp_wire.specs.declared.message.Message.TheVariants as messages
 use Rattle.cbsp_wire.specs.Table.{need_of, table}
 use Rattle.cbsp_wire.specs.Value.{fields_of, kind_of}
-use Rattle.cbsp_wire.specs.Range.{passes, is_period, is_coding, are_cells, are_contents, cells_of_counts, cells_of_failures, is_nothing, is_full, is_writable}
+use Rattle.cbsp_wire.specs.Range.{passes, is_period, is_coding, are_cells, are_contents, cells_of_counts}
+use Rattle.cbsp_wire.specs.Range.{cells_of_failures, is_nothing, is_full, is_writable}
 use Rattle.cbsp_wire.specs.Meaning.{IsMessage}
 use Rattle.cbsp_wire.proofs.Tests.{there_from}
 use Rattle.cbsp_wire.proofs.WrittenLaws.{IsWritten-from, is_writable-from}

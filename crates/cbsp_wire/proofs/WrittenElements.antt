@@ -1,5 +1,6 @@
 -- The elements of a message are what its fields say.
-use Rattle.std.proofs.Common.{◌≡◌, ℕ, ◌+◌, Bool, true, false, cond, eqb, List, [], ◌∷◌, ◌++◌, length, map, Option, Some, None, refl, sym, ap, ◌∙◌, arith}
+use Rattle.std.proofs.Common.{◌≡◌, ℕ, ◌+◌, Bool, true, false, cond, eqb, List, [], ◌∷◌, ◌++◌, length, map, Option, Some}
+use Rattle.std.proofs.Common.{None, refl, sym, ap, ◌∙◌, arith}
 use Rattle.std.specs.Prelude.{nat_le}
 use Rattle.std.specs.List.{AllByRecursion, list_all, flat_map}
 use Rattle.std.proofs.lemmas.List.{append-nil}
@@ -15,9 +16,11 @@ use Rattle.cbsp_wire.specs.Table.{table, need_of, size_of}
 use Rattle.cbsp_wire.specs.Value.{Fields, fields_in, cells_in, counts_in, failures_in}
 use Rattle.cbsp_wire.specs.Range.{numbers, is_nothing, is_there_if, has_mandatory, comes_once, has_none_twice, is_full}
 use Rattle.cbsp_wire.specs.Meaning.{IsOf}
-use Rattle.cbsp_wire.specs.Written.{bodies_in, number_octets, cell_octets, count_octets, failure_octets, number_bodies, octet_bodies, list_body, list_bodies, content_body, element, elements_among}
+use Rattle.cbsp_wire.specs.Written.{bodies_in, number_octets, cell_octets, count_octets, failure_octets, number_bodies}
+use Rattle.cbsp_wire.specs.Written.{octet_bodies, list_body, list_bodies, content_body, element, elements_among}
 use Rattle.cbsp_wire.proofs.Tests.{and_both, list_all-every, list_all-parts}
-use Rattle.cbsp_wire.proofs.WrittenItems.{first_number-bodies, first_octet-bodies, cells_in-octets, counts_in-octets, failures_in-octets, first_items-bodies, contents-bodies}
+use Rattle.cbsp_wire.proofs.WrittenItems.{first_number-bodies, first_octet-bodies, cells_in-octets, counts_in-octets}
+use Rattle.cbsp_wire.proofs.WrittenItems.{failures_in-octets, first_items-bodies, contents-bodies}
 
 bodies_of-append : (n : ℕ) (xs ys : List Element) → bodies_of n (xs ++ ys) ≡ bodies_of n xs ++ bodies_of n ys
 bodies_of-append n [] ys = refl

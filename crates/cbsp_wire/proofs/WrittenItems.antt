@@ -1,5 +1,6 @@
 -- What is written of a field is read as that field.
-use Rattle.std.proofs.Common.{◌≡◌, ℕ, ◌+◌, ◌*◌, ◌/◌, ◌%◌, ◌<◌, true, false, eqb, eq-eqb, List, [], ◌∷◌, ◌++◌, length, map, Option, Some, None, refl, ap, ◌∙◌, arith, length-append}
+use Rattle.std.proofs.Common.{◌≡◌, ℕ, ◌+◌, ◌*◌, ◌/◌, ◌%◌, ◌<◌, true, false, eqb, eq-eqb, List, [], ◌∷◌, ◌++◌, length}
+use Rattle.std.proofs.Common.{map, Option, Some, None, refl, ap, ◌∙◌, arith, length-append}
 use Rattle.std.specs.Prelude.{not}
 use Rattle.std.specs.List.{flat_map}
 use Rattle.std.proofs.Math.Nat.{mul-mod_left}
@@ -10,9 +11,12 @@ use Rattle.cbsp_wire.specs.declared.items.Layout.TheVariants as layouts
 use Rattle.cbsp_wire.specs.declared.message.Cell.{Cell}
 use Rattle.cbsp_wire.specs.declared.message.Count.{Count}
 use Rattle.cbsp_wire.specs.declared.message.Failure.{Failure}
-use Rattle.cbsp_wire.specs.Value.{first_number, first_octet, first_items, items_of, cell_at, count_at, failure_at, cells_in, counts_in, failures_in, content_of}
-use Rattle.cbsp_wire.specs.Range.{is_nothing, failures_are_by_lac_and_ci, is_by_lac_and_ci, is_list, are_items, first_passes, cells_by, cells_of_counts, cells_of_failures, item_size}
-use Rattle.cbsp_wire.specs.Written.{cell_octets, count_octets, failure_octets, number_bodies, octet_bodies, list_body, list_bodies, content_body}
+use Rattle.cbsp_wire.specs.Value.{first_number, first_octet, first_items, items_of, cell_at, count_at, failure_at}
+use Rattle.cbsp_wire.specs.Value.{cells_in, counts_in, failures_in, content_of}
+use Rattle.cbsp_wire.specs.Range.{is_nothing, failures_are_by_lac_and_ci, is_by_lac_and_ci, is_list, are_items}
+use Rattle.cbsp_wire.specs.Range.{first_passes, cells_by, cells_of_counts, cells_of_failures, item_size}
+use Rattle.cbsp_wire.specs.Written.{cell_octets, count_octets, failure_octets, number_bodies, octet_bodies, list_body}
+use Rattle.cbsp_wire.specs.Written.{list_bodies, content_body}
 use Rattle.cbsp_wire.proofs.Tests.{and_both}
 
 whole : (n : ℕ) → n / 256 * 256 + n % 256 ≡ n

@@ -13,7 +13,8 @@ use Rattle.cbsp_wire.specs.Meaning.{AreElementsOf, IsMessage}
 use Rattle.cbsp_wire.specs.Written.{bodies_in, elements_of, octets_of_message}
 use Rattle.cbsp_wire.proofs.Tests.{and_parts, and_both}
 use Rattle.cbsp_wire.proofs.WrittenItems.{cells-right, counts-right, failures-right}
-use Rattle.cbsp_wire.proofs.WrittenElements.{HasBodies, HasBodies-among, fields_in-bodies, has_mandatory-bodies, has_none_twice-bodies, are_sized, is_known_if, are_of_kind}
+use Rattle.cbsp_wire.proofs.WrittenElements.{HasBodies, HasBodies-among, fields_in-bodies, has_mandatory-bodies}
+use Rattle.cbsp_wire.proofs.WrittenElements.{has_none_twice-bodies, are_sized, is_known_if, are_of_kind}
 
 -- a message is what its fields say
 message_with-fields_of : (m : Message) → message_with (kind_of m) (fields_of m) ≡ m

@@ -1,6 +1,7 @@
 -- What the elements of a message have to be, once they are taken. 3GPP TS 48.049, clause 8.2; the limits of periods and
 -- of lists are own.
-use Rattle.std.specs.Prelude.{ℕ, ◌%◌, Bool, true, false, ◌==◌, ◌&&◌, ◌||◌, not, nat_le, List, [], ◌∷◌, length, map, Option, Some, None, is_some}
+use Rattle.std.specs.Prelude.{ℕ, ◌%◌, Bool, true, false, ◌==◌, ◌&&◌, ◌||◌, not, nat_le, List, [], ◌∷◌, length, map}
+use Rattle.std.specs.Prelude.{Option, Some, None, is_some}
 use Rattle.std.specs.List.{list_all, list_any}
 use Rattle.cbs_page.specs.Coding.{alphabet_of}
 use Rattle.cbsp_wire.specs.declared.kind.Kind.{Kind}
@@ -16,7 +17,10 @@ use Rattle.cbs_page.specs.declared.content.Content.{Content}
 use Rattle.cbsp_wire.specs.Element.{Element, bodies_of}
 use Rattle.cbsp_wire.specs.Table.{need_of}
 use Rattle.cbsp_wire.specs.Value.{cells_in, counts_in, failures_in, items_of, Fields, fields_in, fields_of, kind_of}
-use Rattle.cbsp_wire.specs.declared.iei.TheConstants.{MESSAGE_CONTENT, OLD_SERIAL_NUMBER, NEW_SERIAL_NUMBER, CELL_LIST, CATEGORY, REPETITION_PERIOD, BROADCASTS_REQUESTED, BROADCASTS_COMPLETED, FAILURE_LIST, DATA_CODING, MESSAGE_IDENTIFIER, CHANNEL_INDICATOR, NUMBER_OF_PAGES}
+use Rattle.cbsp_wire.specs.declared.iei.TheConstants.{MESSAGE_CONTENT, OLD_SERIAL_NUMBER, NEW_SERIAL_NUMBER, CELL_LIST}
+use Rattle.cbsp_wire.specs.declared.iei.TheConstants.{CATEGORY, REPETITION_PERIOD, BROADCASTS_REQUESTED}
+use Rattle.cbsp_wire.specs.declared.iei.TheConstants.{BROADCASTS_COMPLETED, FAILURE_LIST, DATA_CODING}
+use Rattle.cbsp_wire.specs.declared.iei.TheConstants.{MESSAGE_IDENTIFIER, CHANNEL_INDICATOR, NUMBER_OF_PAGES}
 
 -- the elements of messages, in the table's order
 abbrev pub numbers : List ℕ

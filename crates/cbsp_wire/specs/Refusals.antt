@@ -20,7 +20,8 @@ use Rattle.cbsp_wire.specs.Element.{Element}
 use Rattle.cbsp_wire.specs.Table.{kind_of_octet}
 use Rattle.cbsp_wire.specs.Walk.{walk_of}
 use Rattle.cbsp_wire.specs.Range.{has_mandatory, are_in_range}
-use Rattle.cbsp_wire.specs.declared.cause.TheConstants.{PARAMETER_NOT_RECOGNISED, PARAMETER_VALUE_INVALID, UNRECOGNISED_MESSAGE, MISSING_MANDATORY_ELEMENT}
+use Rattle.cbsp_wire.specs.declared.cause.TheConstants.{PARAMETER_NOT_RECOGNISED, PARAMETER_VALUE_INVALID}
+use Rattle.cbsp_wire.specs.declared.cause.TheConstants.{UNRECOGNISED_MESSAGE, MISSING_MANDATORY_ELEMENT}
 
 -- 5 and 7, where the walk came to the end
 abbrev pub fault_of_whole : Kind → List Element → Option WireFault

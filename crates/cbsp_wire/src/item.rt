@@ -1,7 +1,8 @@
 //! The items of lists (3GPP TS 48.049, 8.2, in this project's own layouts): each stands for a cell, with what the list
 //! tells of it.
 
-ghost use Rattle.std.specs.Prelude.{◌≡◌, ◌+◌, ◌≤◌, ◌<◌, ◌++◌, ◌∷◌, [], ℕ, List, length, refl, IfOk, IfSome, MatchOption, vec_capacity};
+ghost use Rattle.std.specs.Prelude.{◌≡◌, ◌+◌, ◌≤◌, ◌<◌, ◌++◌, ◌∷◌, [], ℕ, List, length, refl, IfOk, IfSome};
+ghost use Rattle.std.specs.Prelude.{MatchOption, vec_capacity};
 ghost use Rattle.std.specs.List.{flat_map};
 ghost use Rattle.std.proofs.Common.{rules};
 ghost use Rattle.cbsp_wire.specs.declared.items.Layout.{Layout};

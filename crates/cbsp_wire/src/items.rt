@@ -3,7 +3,8 @@
 ghost use Rattle.std.specs.Prelude.{◌≡◌, ◌∷◌, [], length, MatchOption, nat_le};
 ghost use Rattle.std.specs.List.{list_any};
 ghost use Rattle.cbsp_wire.specs.Value.{cell_at, items_of};
-ghost use Rattle.cbsp_wire.specs.Range.{is_cell, are_distinct, are_cells, cells_by, are_items, item_size, failures_are_by_lac_and_ci, is_by_lac_and_ci, is_list};
+ghost use Rattle.cbsp_wire.specs.Range.{is_cell, are_distinct, are_cells, cells_by, are_items, item_size};
+ghost use Rattle.cbsp_wire.specs.Range.{failures_are_by_lac_and_ci, is_by_lac_and_ci, is_list};
 ghost use Rattle.cbsp_wire.specs.Named.{cells_named};
 
 use crate::item::Item;

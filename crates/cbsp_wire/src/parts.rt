@@ -4,7 +4,8 @@ ghost use Rattle.std.specs.Prelude.{◌≡◌, length, nat_le};
 ghost use Rattle.std.specs.List.{list_all};
 ghost use Rattle.cbsp_wire.specs.Table.{need_of};
 ghost use Rattle.cbsp_wire.specs.Value.{fields_of, kind_of};
-ghost use Rattle.cbsp_wire.specs.Range.{is_there_if, are_contents, are_numbers, are_all_cells, are_values, is_full, is_writable};
+ghost use Rattle.cbsp_wire.specs.Range.{is_there_if, are_contents, are_numbers, are_all_cells, are_values, is_full};
+ghost use Rattle.cbsp_wire.specs.Range.{is_writable};
 ghost use Rattle.cbsp_wire.specs.Parts.{fields_seen};
 
 use crate::elements::need;

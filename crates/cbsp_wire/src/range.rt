@@ -5,7 +5,9 @@ ghost use Rattle.std.specs.List.{list_all};
 ghost use Rattle.cbsp_wire.specs.Element.{bodies_of};
 ghost use Rattle.cbsp_wire.specs.Table.{need_of};
 ghost use Rattle.cbsp_wire.specs.Walk.{walk_of};
-ghost use Rattle.cbsp_wire.specs.Range.{has_mandatory, has_none_twice, comes_once, is_there_if, is_period, is_coding, is_page_count, passes, first_passes, is_list, cells_by, are_cells, are_contents, are_numbers, are_lists, are_all_cells, are_in_range};
+ghost use Rattle.cbsp_wire.specs.Range.{has_mandatory, has_none_twice, comes_once, is_there_if, is_period, is_coding};
+ghost use Rattle.cbsp_wire.specs.Range.{is_page_count, passes, first_passes, is_list, cells_by, are_cells};
+ghost use Rattle.cbsp_wire.specs.Range.{are_contents, are_numbers, are_lists, are_all_cells, are_in_range};
 ghost use Rattle.cbsp_wire.specs.Value.{octet_in, contents_of, fields_in, first_items};
 ghost use Rattle.cbsp_wire.specs.declared.iei.TheConstants.{MESSAGE_CONTENT, NUMBER_OF_PAGES};
 

@@ -1,11 +1,14 @@
 //! Writing a message.
 
-ghost use Rattle.std.specs.Prelude.{◌≡◌, ◌+◌, ◌*◌, ◌/◌, ◌%◌, ◌≤◌, ◌<◌, ◌^◌, ◌++◌, ◌∷◌, [], length, map, IsTrue, IfOk, IfErr, IfSome, vec_len, vec_capacity};
+ghost use Rattle.std.specs.Prelude.{◌≡◌, ◌+◌, ◌*◌, ◌/◌, ◌%◌, ◌≤◌, ◌<◌, ◌^◌, ◌++◌, ◌∷◌, [], length, map, IsTrue, IfOk};
+ghost use Rattle.std.specs.Prelude.{IfErr, IfSome, vec_len, vec_capacity};
 ghost use Rattle.std.specs.List.{flat_map};
 ghost use Rattle.cbsp_wire.specs.Meaning.{IsMessage, IsUnwritten};
 ghost use Rattle.cbsp_wire.specs.Parts.{fields_seen, HasRoom};
 ghost use Rattle.cbsp_wire.specs.Range.{is_writable};
-ghost use Rattle.cbsp_wire.specs.Written.{number_octets, number_bodies, octet_bodies, list_head, list_bodies, cell_octets, count_octets, failure_octets, content_body, element_octets, field_octets, bodies_in, octets_of_message, AreShort};
+ghost use Rattle.cbsp_wire.specs.Written.{number_octets, number_bodies, octet_bodies, list_head, list_bodies};
+ghost use Rattle.cbsp_wire.specs.Written.{cell_octets, count_octets, failure_octets, content_body, element_octets};
+ghost use Rattle.cbsp_wire.specs.Written.{field_octets, bodies_in, octets_of_message, AreShort};
 
 use crate::elements::{NUMBERS, elements};
 use crate::fault::WireFault;

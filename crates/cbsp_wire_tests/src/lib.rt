@@ -1,4 +1,5 @@
-//! Tests of `cbsp_wire` on values from outside it: worked messages, each refusal in its place, and both sides of each limit.
+//! Tests of `cbsp_wire` on values from outside it: worked messages, each refusal in its place, and both sides of each
+//! limit.
 #![tactic(auto)]
 
 #[cfg(test)]

@@ -1,8 +1,8 @@
-//! Messages from outside: independent readers of the format agree on what each of them says, or why it is refused. Those
-//! that are read were shown to a network analyser too, which sees the same elements with the same values.
+//! Messages from outside: independent readers of the format agree on what each of them says, or why it is refused.
+//! Those that are read were shown to a network analyser too, which sees the same elements with the same values.
 //!
-//! Of each list there are messages with two items and more: cells, completed broadcasts, failures, and the contents of two
-//! pages. So no value of these layouts had to be computed by hand.
+//! Of each list there are messages with two items and more: cells, completed broadcasts, failures, and the contents of
+//! two pages. So no value of these layouts had to be computed by hand.
 
 use crate::octets::expect_refused;
 use crate::rows::{expect_all_said, expect_all_written};

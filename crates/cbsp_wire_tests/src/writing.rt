@@ -169,8 +169,8 @@ fn messages_that_no_octets_mean(rt: HostRuntime) -> Result<(), AllocError> {
 #[test]
 fn messages_have_their_lengths(rt: HostRuntime) -> Result<(), Fail> {
     let alloc = rt.alloc();
-    // The head 4, five numbers of 3, a list of 4 + 4, four elements of 2, and a content of 84, then 63 cells of 4 and 14
-    // contents of 84 more.
+    // The head 4, five numbers of 3, a list of 4 + 4, four elements of 2, and a content of 84, then 63 cells of 4 and
+    // 14 contents of 84 more.
     expect_octets(&rt, alloc, order(alloc, 1, 1, 82), 119)?;
     expect_octets(&rt, alloc, order(alloc, 64, 15, 82), 1547)?;
     // The head 4, three numbers of 3, lists of 3 + 64 * 6, 4 + 64 * 7 and 4 + 64 * 4, and the channel indicator 2.

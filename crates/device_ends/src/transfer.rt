@@ -1,6 +1,7 @@
 //! Whole transfers: all octets of a slice to a sink, all octets of a source up to a limit.
 
-ghost use Rattle.std.specs.Prelude.{◌≡◌, ◌↔◌, ◌+◌, ◌<◌, ◌≤◌, ℕ, List, ◌++◌, false, true, length, take, vec_len, Some, IfOk, IfSome, IsErr, IsErrOf, OnErr, OnOk, IsTrue};
+ghost use Rattle.std.specs.Prelude.{◌≡◌, ◌↔◌, ◌+◌, ◌<◌, ◌≤◌, ℕ, List, ◌++◌, false, true, length, take, vec_len, Some};
+ghost use Rattle.std.specs.Prelude.{IfOk, IfSome, IsErr, IsErrOf, OnErr, OnOk, IsTrue};
 ghost use Rattle.std.specs.Io.KnownBytes.{Appends, Consumes, IsAtEnd, Keeps};
 ghost use Rattle.device_ends.specs.Moves.{AppendsFront, ConsumesSome, Moved, ReadsUpTo};
 ghost use Rattle.device_ends.specs.Sink.{sink_failed, writer_of};

@@ -11,7 +11,8 @@ Lacks key (entry ∷ table) wanted = (wanted ≢ key entry) × Lacks key table w
 eqb_other : (a b : ℕ) → b ≢ a → eqb a b ≡ false
 eqb_other a b h = grind (arith, nat_tests)
 
-pub look_up-lacks : (key value : ℕ × ℕ → ℕ) (table : List (ℕ × ℕ)) (wanted : ℕ) → Lacks key table wanted → look_up key value table wanted ≡ None
+pub look_up-lacks : (key value : ℕ × ℕ → ℕ) (table : List (ℕ × ℕ)) (wanted : ℕ) → Lacks key table wanted
+    → look_up key value table wanted ≡ None
 look_up-lacks key value [] wanted lacks = refl
 look_up-lacks key value (entry ∷ table) wanted lacks =
     rw (eqb_other (key entry) wanted lacks.0) (look_up-lacks key value table wanted lacks.1)

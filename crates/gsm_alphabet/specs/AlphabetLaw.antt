@@ -3,7 +3,8 @@ use Rattle.std.specs.Prelude.{◌≡◌, ◌≢◌, ◌↔◌, ℕ, ◌<◌, ◌
 use Rattle.std.specs.Char.{IsScalar}
 use Rattle.std.specs.List.{flat_map}
 use Rattle.gsm_alphabet.specs.declared.Code.TheVariants.{One, Ext}
-use Rattle.gsm_alphabet.specs.Alphabet.{main_table, extension_table, code_of, IsInAlphabet, IsExtension, septets_of, main_character, extension_character, text_of_septets}
+use Rattle.gsm_alphabet.specs.Alphabet.{main_table, extension_table, code_of, IsInAlphabet, IsExtension, septets_of}
+use Rattle.gsm_alphabet.specs.Alphabet.{main_character, extension_character, text_of_septets}
 
 -- a Unicode scalar value of one UCS-2 unit
 abbrev pub IsBasicScalar : ℕ → Type 0

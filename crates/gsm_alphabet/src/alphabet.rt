@@ -1,7 +1,8 @@
 //! The two tables, written once, and the three functions that read them.
 
 ghost use Rattle.std.specs.Prelude.{◌≡◌, IfSome};
-ghost use Rattle.gsm_alphabet.specs.Alphabet.{code_of, character_of_code, IsSeptetCode, main_character, extension_character};
+ghost use Rattle.gsm_alphabet.specs.Alphabet.{code_of, character_of_code, IsSeptetCode, main_character};
+ghost use Rattle.gsm_alphabet.specs.Alphabet.{extension_character};
 
 use crate::Code;
 
@@ -70,8 +71,8 @@ pub fn encode_char(character: char) -> Option<Code>
     alphabet!(code_for, character)
 }
 
-/// The character that the septet `code` shows by itself. The escape 1B, which has none, shows a space, and so does a number from 128
-/// on, which is no septet.
+/// The character that the septet `code` shows by itself. The escape 1B, which has none, shows a space, and so does a
+/// number from 128 on, which is no septet.
 #[tactic(auto, unfolding(crate::specs::Alphabet::main_table))]
 pub fn decode_one(code: u8) -> char
     ensures { result ≡ main_character code }

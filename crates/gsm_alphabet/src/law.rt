@@ -1,6 +1,8 @@
 //! What the definitions promise together, as the contract of a function that does nothing.
 
-ghost use Rattle.gsm_alphabet.specs.AlphabetLaw.{TextBeginsWithCharacter, TextBeginsWithCharacters, TextComesBack, TakesOneOrTwo, SeptetsAreSmall, OnlyReturnTakesReturn, ShowsBasicScalars, HasBasicScalars, EntriesAreCodes};
+ghost use Rattle.gsm_alphabet.specs.AlphabetLaw.{TextBeginsWithCharacter, TextBeginsWithCharacters, TextComesBack};
+ghost use Rattle.gsm_alphabet.specs.AlphabetLaw.{TakesOneOrTwo, SeptetsAreSmall, OnlyReturnTakesReturn};
+ghost use Rattle.gsm_alphabet.specs.AlphabetLaw.{ShowsBasicScalars, HasBasicScalars, EntriesAreCodes};
 
 /// The laws of the alphabet, for proofs alone: it does nothing. Callers cite the lemmas of `proofs/AlphabetLaws.antt`.
 pub fn alphabet_law()

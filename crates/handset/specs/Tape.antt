@@ -1,6 +1,7 @@
 -- Tapes: the blocks that a cell's broadcast channel sent, slot by slot, and what a handset shows of them. The format is
 -- this project's own.
-use Rattle.std.specs.Prelude.{◌≡◌, ℕ, ◌+◌, ◌*◌, ◌/◌, ◌%◌, ◌<◌, ◌≤◌, List, [], ◌∷◌, ◌++◌, length, map, slice_index, Option, IfSome}
+use Rattle.std.specs.Prelude.{◌≡◌, ℕ, ◌+◌, ◌*◌, ◌/◌, ◌%◌, ◌<◌, ◌≤◌, List, [], ◌∷◌, ◌++◌, length, map, slice_index}
+use Rattle.std.specs.Prelude.{Option, IfSome}
 use Rattle.std.specs.List.{flat_map, AllByRecursion}
 use Rattle.cbsp_wire.specs.declared.message.Cell.{Cell}
 use Rattle.handset.specs.declared.tape.Reading.{Reading}
@@ -139,7 +140,8 @@ IsLong input = IsLongWithin most_tapes input
 
 -- what takes readings took those of the input's tapes, in order, and of some octets' tapes where the input isn't known;
 -- `HasTaken` says which readings it has
-pub record AreTaken {T : Type 0} (HasTaken : T → List TapeReading → Type 0) (input : Option (List ℕ)) (old new : T) : Type 0 where
+pub record AreTaken {T : Type 0} (HasTaken : T → List TapeReading → Type 0) (input : Option (List ℕ)) (old new : T) :
+    Type 0 where
   pub readings : List TapeReading
   pub of_input : IfSome input (λ octets. AreTapes octets readings)
   pub of_some : (octets : List ℕ) × AreTapes octets readings

@@ -10,7 +10,8 @@ ghost use Rattle.std.specs.Option.{option_to_list};
 ghost use Rattle.device_ends.specs.Source.{reader_of, source_failed};
 ghost use Rattle.handset.specs.Reading.{shown_in};
 ghost use Rattle.handset.specs.Keeping.{HasRead, messages_of};
-ghost use Rattle.handset.specs.Tape.{TapeReading, cell_in, slots_in, most_slots, most_tapes, reading_of, readings_of, AreTapes, AreTaken};
+ghost use Rattle.handset.specs.Tape.{TapeReading, cell_in, slots_in, most_slots, most_tapes, reading_of, readings_of};
+ghost use Rattle.handset.specs.Tape.{AreTapes, AreTaken};
 ghost use Rattle.handset.specs.Tape.{IsNextFault, IsTape, IsTapeFault, IsTapesFault, MadeAreTapes};
 ghost use Rattle.handset.specs.declared.tape.TapeFault.TheVariants.{ReadFailed, Refused};
 ghost use Rattle.handset.specs.TapeLaw.{TapeHasKind, TapeIsOneKind, TapesAreOneKind, TapesHaveKind};
@@ -180,8 +181,8 @@ impl TakesReadings for Vec<Reading> {
     }
 }
 
-/// Reads tapes up to the end of the input as [`read_tapes`] does, with the same faults, and hands on the reading of each
-/// before it reads the next one. After a fault some readings may have been handed on.
+/// Reads tapes up to the end of the input as [`read_tapes`] does, with the same faults, and hands on the reading of
+/// each before it reads the next one. After a fault some readings may have been handed on.
 pub fn read_each<R: Read, T: TakesReadings>(
     alloc: Global,
     source: &mut Source<R>,

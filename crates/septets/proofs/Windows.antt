@@ -1,12 +1,14 @@
 -- Bits of a window that is cut out of two numbers side by side, as the code cuts octets and septets.
-use Rattle.std.proofs.Common.{◌≡◌, ℕ, ◌+◌, ◌-◌, ◌*◌, ◌/◌, ◌%◌, ◌^◌, ◌<◌, ◌≤◌, List, length, get_or, bit_and, bit_or, All, sym, ap, ◌∙◌, subst, inl, inr, arith}
+use Rattle.std.proofs.Common.{◌≡◌, ℕ, ◌+◌, ◌-◌, ◌*◌, ◌/◌, ◌%◌, ◌^◌, ◌<◌, ◌≤◌, List, length, get_or, bit_and, bit_or}
+use Rattle.std.proofs.Common.{All, sym, ap, ◌∙◌, subst, inl, inr, arith}
 use Rattle.std.specs.Int.{bit_at}
 use Rattle.std.specs.Int.Bits.{or_shifted_r}
 use Rattle.std.proofs.lemmas.Nat.{and_mask, shl_whole, shr-shr, shr_split, mod_below}
 use Rattle.std.proofs.lemmas.Nat.Bits.{bit_at_cat_low, bit_at_cat_high}
 use Rattle.std.proofs.lemmas.Bool.{cases_lt}
 use Rattle.septets.specs.Packing.{IsPacked, filled, octet_bit, septet_bit, septet_at}
-use Rattle.septets.proofs.PackingLaws.{septet_bit-past, septet_bit-at, octet_bit-at, of_seven_bits-bit_at, of_seven_bits-same}
+use Rattle.septets.proofs.PackingLaws.{septet_bit-past, septet_bit-at, octet_bit-at, of_seven_bits-bit_at}
+use Rattle.septets.proofs.PackingLaws.{of_seven_bits-same}
 
 -- the low m bits of a number
 bit_at-mod : (n m j : ℕ) → j < m → bit_at (n % 2 ^ m) j ≡ bit_at n j
@@ -27,61 +29,82 @@ window_low low high w s m j below within =
     ∙ bit_at-shr (high * 2 ^ w + low) s j
     ∙ bit_at_cat_low high w low (s + j) within
 
-window_high : (low high w s m j : ℕ) → j < m → low < 2 ^ w → w ≤ s + j → bit_at (window low high w s m) j ≡ bit_at high (s + j - w)
+window_high : (low high w s m j : ℕ) → j < m → low < 2 ^ w → w ≤ s + j
+    → bit_at (window low high w s m) j ≡ bit_at high (s + j - w)
 window_high low high w s m j below fits above =
     bit_at-mod ((high * 2 ^ w + low) / 2 ^ s) m j below
     ∙ bit_at-shr (high * 2 ^ w + low) s j
     ∙ bit_at_cat_high high w low (s + j) fits above
 
 -- what the code computes for an octet is such a window
-octet_window : (low high s : ℕ) → low < 128 → high < 128 → bit_and (bit_or low (high * 128 % 65536) / 2 ^ s) 255 ≡ window low high 7 s 8
+octet_window : (low high s : ℕ) → low < 128 → high < 128 → bit_and (bit_or low (high * 128 % 65536) / 2 ^ s) 255 ≡
+    window low high 7 s 8
 octet_window low high s l h =
     ap (λ x. bit_and (bit_or low x / 2 ^ s) 255) (shl_whole high 7 7 16 h (omega arith))
     ∙ ap (λ x. bit_and (x / 2 ^ s) 255) (or_shifted_r high 7 low l)
     ∙ and_mask ((high * 2 ^ 7 + low) / 2 ^ s) 8
 
 -- what the code computes for a septet too
-septet_window : (low high s : ℕ) → low < 256 → high < 256 → bit_and (bit_or low (high * 256 % 65536) / 2 ^ s) 127 ≡ window low high 8 s 7
+septet_window : (low high s : ℕ) → low < 256 → high < 256 → bit_and (bit_or low (high * 256 % 65536) / 2 ^ s) 127 ≡
+    window low high 8 s 7
 septet_window low high s l h =
     ap (λ x. bit_and (bit_or low x / 2 ^ s) 127) (shl_whole high 8 8 16 h (omega arith))
     ∙ ap (λ x. bit_and (x / 2 ^ s) 127) (or_shifted_r high 8 low l)
     ∙ and_mask ((high * 2 ^ 8 + low) / 2 ^ s) 7
 
 -- bit j of the octet at a place
-pub packed_bit : (xs : List ℕ) (place j low high : ℕ) → low ≡ get_or xs (8 * place / 7) 0 → high ≡ get_or xs (8 * place / 7 + 1) 0 → low < 128 → high < 128 → j < 8 → bit_at (bit_and (bit_or low (high * 128 % 65536) / 2 ^ (place % 7)) 255) j ≡ septet_bit xs (8 * place + j)
+pub packed_bit : (xs : List ℕ) (place j low high : ℕ) → low ≡ get_or xs (8 * place / 7) 0
+    → high ≡ get_or xs (8 * place / 7 + 1) 0 → low < 128 → high < 128 → j < 8
+    → bit_at (bit_and (bit_or low (high * 128 % 65536) / 2 ^ (place % 7)) 255) j ≡ septet_bit xs (8 * place + j)
 packed_bit xs place j low high is_low is_high l h below =
     ap (λ x. bit_at x j) (octet_window low high (place % 7) l h)
     ∙ elim (cases_lt (place % 7 + j) 7) [
-      | inl within ↦ window_low low high 7 (place % 7) 8 j below within ∙ ap (λ x. bit_at x (place % 7 + j)) is_low ∙ sym (septet_bit-at xs (8 * place + j) (8 * place / 7) (place % 7 + j) (omega arith) (omega arith))
-      | inr above ↦ window_high low high 7 (place % 7) 8 j below l above ∙ ap (λ x. bit_at x (place % 7 + j - 7)) is_high ∙ sym (septet_bit-at xs (8 * place + j) (8 * place / 7 + 1) (place % 7 + j - 7) (omega arith) (omega arith))
+      | inl within ↦ window_low low high 7 (place % 7) 8 j below within ∙ ap (λ x. bit_at x (place % 7 + j)) is_low
+          ∙ sym (septet_bit-at xs (8 * place + j) (8 * place / 7) (place % 7 + j) (omega arith) (omega arith))
+      | inr above ↦ window_high low high 7 (place % 7) 8 j below l above
+          ∙ ap (λ x. bit_at x (place % 7 + j - 7)) is_high ∙ sym
+          (septet_bit-at xs (8 * place + j) (8 * place / 7 + 1) (place % 7 + j - 7) (omega arith) (omega arith))
     ]
 
 -- bit j of the septet at a place
-unpacked_bit : (xs : List ℕ) (place j low high : ℕ) → low ≡ get_or xs (7 * place / 8) 0 → high ≡ get_or xs (7 * place / 8 + 1) 0 → low < 256 → high < 256 → j < 7 → bit_at (bit_and (bit_or low (high * 256 % 65536) / 2 ^ (7 * place % 8)) 127) j ≡ octet_bit xs (7 * place + j)
+unpacked_bit : (xs : List ℕ) (place j low high : ℕ) → low ≡ get_or xs (7 * place / 8) 0
+    → high ≡ get_or xs (7 * place / 8 + 1) 0 → low < 256 → high < 256 → j < 7
+    → bit_at (bit_and (bit_or low (high * 256 % 65536) / 2 ^ (7 * place % 8)) 127) j ≡ octet_bit xs (7 * place + j)
 unpacked_bit xs place j low high is_low is_high l h below =
     ap (λ x. bit_at x j) (septet_window low high (7 * place % 8) l h)
     ∙ elim (cases_lt (7 * place % 8 + j) 8) [
-      | inl within ↦ window_low low high 8 (7 * place % 8) 7 j below within ∙ ap (λ x. bit_at x (7 * place % 8 + j)) is_low ∙ sym (octet_bit-at xs (7 * place + j) (7 * place / 8) (7 * place % 8 + j) (omega arith) (omega arith))
-      | inr above ↦ window_high low high 8 (7 * place % 8) 7 j below l above ∙ ap (λ x. bit_at x (7 * place % 8 + j - 8)) is_high ∙ sym (octet_bit-at xs (7 * place + j) (7 * place / 8 + 1) (7 * place % 8 + j - 8) (omega arith) (omega arith))
+      | inl within ↦ window_low low high 8 (7 * place % 8) 7 j below within
+          ∙ ap (λ x. bit_at x (7 * place % 8 + j)) is_low ∙ sym
+          (octet_bit-at xs (7 * place + j) (7 * place / 8) (7 * place % 8 + j) (omega arith) (omega arith))
+      | inr above ↦ window_high low high 8 (7 * place % 8) 7 j below l above
+          ∙ ap (λ x. bit_at x (7 * place % 8 + j - 8)) is_high
+          ∙ sym (octet_bit-at xs (7 * place + j) (7 * place / 8 + 1) (7 * place % 8 + j - 8) (omega arith)
+          (omega arith))
     ]
 
 -- what the code computes for a septet is the septet of its bits
-pub unpacked_value : (xs : List ℕ) (place low high : ℕ) → low ≡ get_or xs (7 * place / 8) 0 → high ≡ get_or xs (7 * place / 8 + 1) 0 → low < 256 → high < 256 → bit_and (bit_or low (high * 256 % 65536) / 2 ^ (7 * place % 8)) 127 ≡ septet_at xs place
+pub unpacked_value : (xs : List ℕ) (place low high : ℕ) → low ≡ get_or xs (7 * place / 8) 0
+    → high ≡ get_or xs (7 * place / 8 + 1) 0 → low < 256 → high < 256
+    → bit_and (bit_or low (high * 256 % 65536) / 2 ^ (7 * place % 8)) 127 ≡ septet_at xs place
 unfolding septet_at
 unpacked_value xs place low high is_low is_high l h =
     let word : ℕ = bit_and (bit_or low (high * 256 % 65536) / 2 ^ (7 * place % 8)) 127 in
     let whole : word ≡ window low high 8 (7 * place % 8) 7 = septet_window low high (7 * place % 8) l h in
-    let below : window low high 8 (7 * place % 8) 7 < 2 ^ 7 = mod_below ((high * 2 ^ 8 + low) / 2 ^ (7 * place % 8)) (2 ^ 7) (omega arith) in
+    let below : window low high 8 (7 * place % 8) 7 < 2 ^ 7 = mod_below ((high * 2 ^ 8 + low) / 2 ^ (7 * place % 8))
+    (2 ^ 7) (omega arith) in
     let small : word < 128 = subst (λ x. x < 128) (sym whole) below in
     sym (of_seven_bits-bit_at word small)
-    ∙ of_seven_bits-same (bit_at word) (λ j. octet_bit xs (7 * place + j)) (λ j under. unpacked_bit xs place j low high is_low is_high l h under)
+    ∙ of_seven_bits-same (bit_at word) (λ j. octet_bit xs (7 * place + j))
+    (λ j under. unpacked_bit xs place j low high is_low is_high l h under)
 
 -- the eight bits of the octet at a place of a packed page
 abbrev pub HasBitsOf : List ℕ → ℕ → ℕ → Type 0
 HasBitsOf septets place octet = (j : ℕ) → j < 8 → bit_at octet j ≡ septet_bit (filled septets) (8 * place + j)
 
 -- 82 octets of such bits are the packing
-pub IsPacked-from_octets : (septets octets : List ℕ) → length septets ≤ 93 → length octets ≡ 82 → All (λ octet. octet < 256) octets → ((place : ℕ) → place < 82 → HasBitsOf septets place (get_or octets place 0)) → IsPacked septets octets
+pub IsPacked-from_octets : (septets octets : List ℕ) → length septets ≤ 93 → length octets ≡ 82
+    → All (λ octet. octet < 256) octets → ((place : ℕ) → place < 82 → HasBitsOf septets place (get_or octets place 0))
+    → IsPacked septets octets
 IsPacked-from_octets septets octets short size fits has_bits =
     let same : (i : ℕ) → i < 656 → octet_bit octets i ≡ septet_bit (filled septets) i =
     λ i within.

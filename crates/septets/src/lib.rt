@@ -7,7 +7,8 @@
 
 ghost use Rattle.std.specs.Prelude.{◌≡◌, ◌+◌, ◌*◌, ◌<◌, ℕ, All, slice_index};
 ghost use Rattle.std.specs.Int.{bit_at};
-ghost use Rattle.septets.specs.Packing.{IsPacked, IsUnpacked, PackingIsUnique, SpareBitsAreIgnored, UnpackingGivesBack, UnpackingIsBitwise, filled, septet_at, septet_bit, unpacked};
+ghost use Rattle.septets.specs.Packing.{IsPacked, IsUnpacked, PackingIsUnique, SpareBitsAreIgnored, UnpackingGivesBack};
+ghost use Rattle.septets.specs.Packing.{UnpackingIsBitwise, filled, septet_at, septet_bit, unpacked};
 
 use arrayvec::ArrayVec;
 

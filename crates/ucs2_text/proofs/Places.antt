@@ -1,13 +1,16 @@
 -- The octets of a page and the units of its octets, place by place.
-use Rattle.std.proofs.Common.{◌≡◌, ◌==◌, if◌then◌else◌, ℕ, ◌+◌, ◌-◌, ◌*◌, ◌/◌, ◌%◌, ◌<◌, ◌≤◌, zero, suc, List, [], ◌∷◌, ◌++◌, length, get_or, replicate, refl, sym, ap, ◌∙◌, arith, length-append}
+use Rattle.std.proofs.Common.{◌≡◌, ◌==◌, if◌then◌else◌, ℕ, ◌+◌, ◌-◌, ◌*◌, ◌/◌, ◌%◌, ◌<◌, ◌≤◌, zero, suc, List, [], ◌∷◌}
+use Rattle.std.proofs.Common.{◌++◌, length, get_or, replicate, refl, sym, ap, ◌∙◌, arith, length-append}
 use Rattle.std.proofs.lemmas.List.FromFn.{fill_by_all}
 use Rattle.std.specs.List.{flat_map}
 use Rattle.ucs2_text.specs.Ucs2.{octets_of_unit, page_units, octets_of_units, units_of_octets}
 
 -- two lists of one length that agree at each place are one
-same_from_places : (xs ys : List ℕ) (n : ℕ) → length xs ≡ n → length ys ≡ n → ((k : ℕ) → k < n → get_or xs k 0 ≡ get_or ys k 0) → xs ≡ ys
+same_from_places : (xs ys : List ℕ) (n : ℕ) → length xs ≡ n → length ys ≡ n
+    → ((k : ℕ) → k < n → get_or xs k 0 ≡ get_or ys k 0) → xs ≡ ys
 same_from_places xs ys n xs_length ys_length agree =
-    fill_by_all (λ k. get_or ys k 0) xs n 0 xs_length agree ∙ sym (fill_by_all (λ k. get_or ys k 0) ys n 0 ys_length (λ k _. refl))
+    fill_by_all (λ k. get_or ys k 0) xs n 0 xs_length agree ∙ sym
+    (fill_by_all (λ k. get_or ys k 0) ys n 0 ys_length (λ k _. refl))
 
 length-octets : (units : List ℕ) → length (flat_map octets_of_unit units) ≡ 2 * length units
 length-octets [] = refl
@@ -20,7 +23,8 @@ octet_at_place units place =
     if place % 2 == 0 then unit / 256 else unit % 256
 
 -- each unit has two places
-octet-at_unit : (units : List ℕ) (k : ℕ) → k < 2 * length units → get_or (flat_map octets_of_unit units) k 0 ≡ octet_at_place units k
+octet-at_unit : (units : List ℕ) (k : ℕ) → k < 2 * length units
+    → get_or (flat_map octets_of_unit units) k 0 ≡ octet_at_place units k
 octet-at_unit [] k below = absurd (omega arith)
 octet-at_unit (unit ∷ units) zero below = refl
 octet-at_unit (unit ∷ units) (suc zero) below = refl
@@ -55,14 +59,16 @@ pub length-octets_of_units : (units : List ℕ) → length units ≤ 41 → leng
 length-octets_of_units units short = omega (arith, length-octets (page_units units), length-page_units units short)
 
 -- an octet of the page: past the units of the text it is one of what fills the page
-pub octet-at : (units : List ℕ) (k : ℕ) → length units ≤ 41 → k < 82 → get_or (octets_of_units units) k 0 ≡ octet_at_place units k
+pub octet-at : (units : List ℕ) (k : ℕ) → length units ≤ 41 → k < 82
+    → get_or (octets_of_units units) k 0 ≡ octet_at_place units k
 octet-at units k short below =
     let filled = get_or-filled units (41 - length units) (k / 2) in
     let at = octet-at_unit (page_units units) k (omega (arith, length-page_units units short)) in
     rw filled at at
 
 -- the octets that the loop wrote, each at its place, are those of the page
-pub octets-by_place : (units octets : List ℕ) → length units ≤ 41 → length octets ≡ 82 → ((k : ℕ) → k < 82 → get_or octets k 0 ≡ get_or (octets_of_units units) k 0) → octets ≡ octets_of_units units
+pub octets-by_place : (units octets : List ℕ) → length units ≤ 41 → length octets ≡ 82
+    → ((k : ℕ) → k < 82 → get_or octets k 0 ≡ get_or (octets_of_units units) k 0) → octets ≡ octets_of_units units
 octets-by_place units octets short whole each =
     same_from_places octets (octets_of_units units) 82 whole (length-octets_of_units units short) each
 
@@ -79,7 +85,8 @@ abbrev pub unit_at_place : List ℕ → ℕ → ℕ
 unit_at_place octets place = 256 * get_or octets (2 * place) 0 + get_or octets (2 * place + 1) 0
 
 -- a unit has two octets
-pub unit-at : (octets : List ℕ) (k : ℕ) → 2 * k + 1 < length octets → get_or (units_of_octets octets) k 0 ≡ unit_at_place octets k
+pub unit-at : (octets : List ℕ) (k : ℕ) → 2 * k + 1 < length octets
+    → get_or (units_of_octets octets) k 0 ≡ unit_at_place octets k
 unit-at [] k below = absurd (omega arith)
 unit-at (high ∷ []) k below = absurd (omega arith)
 unit-at (high ∷ low ∷ octets) zero below = refl
@@ -89,6 +96,7 @@ unit-at (high ∷ low ∷ octets) (suc k) below =
     rw (odd, even) (unit-at octets k (omega arith))
 
 -- the units that the loop read, each at its place, are those of the octets
-pub units-by_place : (octets units : List ℕ) → length octets ≡ 82 → length units ≡ 41 → ((k : ℕ) → k < 41 → get_or units k 0 ≡ get_or (units_of_octets octets) k 0) → units ≡ units_of_octets octets
+pub units-by_place : (octets units : List ℕ) → length octets ≡ 82 → length units ≡ 41
+    → ((k : ℕ) → k < 41 → get_or units k 0 ≡ get_or (units_of_octets octets) k 0) → units ≡ units_of_octets octets
 units-by_place octets units whole all each =
     same_from_places units (units_of_octets octets) 41 all (length-units_of_octets 41 octets whole) each

@@ -3,7 +3,8 @@ use Rattle.std.proofs.Common.{◌≡◌, Some, None, [], ◌∷◌, take, drop, 
 use Rattle.ucs2_text.specs.Ucs2.{unit_of_character, character_of_unit, octets_of_unit, octets_of_units, units_of_octets}
 
 -- U+0412 is the octets 04 12, and U+1F600 has no unit
-units : (unit_of_character 0x412 ≡ Some 0x412) × (unit_of_character 0xFFFF ≡ Some 0xFFFF) × (unit_of_character 0x1F600 ≡ None)
+units : (unit_of_character 0x412 ≡ Some 0x412) × (unit_of_character 0xFFFF ≡ Some 0xFFFF)
+    × (unit_of_character 0x1F600 ≡ None)
     × (octets_of_unit 0x412 ≡ 0x04 ∷ 0x12 ∷ [])
 units = (refl, refl, refl, refl)
 

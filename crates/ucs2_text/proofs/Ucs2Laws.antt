@@ -1,5 +1,6 @@
 -- The laws of UCS-2 text.
-use Rattle.std.proofs.Common.{◌≡◌, ℕ, ◌+◌, ◌-◌, ◌*◌, ◌/◌, ◌%◌, ◌<◌, zero, suc, All, List, [], ◌∷◌, map, length, replicate, refl, ap, ◌∙◌, arith}
+use Rattle.std.proofs.Common.{◌≡◌, ℕ, ◌+◌, ◌-◌, ◌*◌, ◌/◌, ◌%◌, ◌<◌, zero, suc, All, List, [], ◌∷◌, map, length}
+use Rattle.std.proofs.Common.{replicate, refl, ap, ◌∙◌, arith}
 use Rattle.std.proofs.lemmas.Bool.{lt-ltb}
 use Rattle.std.proofs.lemmas.Bool.Decides.{nat_tests}
 use Rattle.std.proofs.lemmas.List.{append-nil}
@@ -8,7 +9,8 @@ use Rattle.std.proofs.Math.Utf8.{scalar_cases}
 use Rattle.std.specs.Char.{IsScalar}
 use Rattle.std.specs.List.{flat_map}
 use Rattle.ucs2_text.specs.Ucs2.{character_of_unit, octets_of_unit, page_units, units_of_octets}
-use Rattle.ucs2_text.specs.Ucs2Law.{UnitsComeBack, OctetsComeBack, PutsWholePages, ReadsWholePages, CharactersComeBack, UnitsShowScalars}
+use Rattle.ucs2_text.specs.Ucs2Law.{UnitsComeBack, OctetsComeBack, PutsWholePages, ReadsWholePages, CharactersComeBack}
+use Rattle.ucs2_text.specs.Ucs2Law.{UnitsShowScalars}
 use Rattle.ucs2_text.proofs.Places.{length-octets_of_units, length-units_of_octets}
 
 -- the octets of some units make those units
@@ -22,7 +24,8 @@ pub units_come_back : UnitsComeBack
 units_come_back units = units_of_octets-octets (page_units units)
 
 -- pairs of octets make units of those octets
-octets-units_of_octets : (n : ℕ) (octets : List ℕ) → length octets ≡ 2 * n → All (λ octet. octet < 256) octets → flat_map octets_of_unit (units_of_octets octets) ≡ octets
+octets-units_of_octets : (n : ℕ) (octets : List ℕ) → length octets ≡ 2 * n → All (λ octet. octet < 256) octets
+    → flat_map octets_of_unit (units_of_octets octets) ≡ octets
 octets-units_of_octets zero [] whole small = refl
 octets-units_of_octets zero (high ∷ octets) whole small = absurd (omega arith)
 octets-units_of_octets (suc n) [] whole small = absurd (omega arith)
@@ -41,7 +44,8 @@ octets_come_back octets whole small =
     rw none
     (ap (flat_map octets_of_unit) (append-nil (units_of_octets octets)) ∙ octets-units_of_octets 41 octets whole small)
 
-small-octets : (units : List ℕ) → All (λ unit. unit < 65536) units → All (λ octet. octet < 256) (flat_map octets_of_unit units)
+small-octets : (units : List ℕ) → All (λ unit. unit < 65536) units
+    → All (λ octet. octet < 256) (flat_map octets_of_unit units)
 small-octets [] small = All-nil (λ octet. octet < 256)
 small-octets (unit ∷ units) small =
     let small_unit : unit < 65536 = All-head (λ x. x < 65536) unit units small in
@@ -57,7 +61,8 @@ puts_whole_pages units short small = (
       (All-replicate (λ x. x < 65536) (41 - length units) 13 (omega arith))),
 )
 
-small-units : (n : ℕ) (octets : List ℕ) → length octets ≡ 2 * n → All (λ octet. octet < 256) octets → All (λ unit. unit < 65536) (units_of_octets octets)
+small-units : (n : ℕ) (octets : List ℕ) → length octets ≡ 2 * n → All (λ octet. octet < 256) octets
+    → All (λ unit. unit < 65536) (units_of_octets octets)
 small-units zero [] whole small = All-nil (λ unit. unit < 65536)
 small-units zero (high ∷ octets) whole small = absurd (omega arith)
 small-units (suc n) [] whole small = absurd (omega arith)
@@ -86,7 +91,12 @@ pub units_show_scalars : UnitsShowScalars
 units_show_scalars unit below = (grind (arith, nat_tests), grind (arith, nat_tests))
 
 -- the characters of units that are scalar values are those values
-pub map-character_of_unit : (characters : List ℕ) → All IsScalar characters → map character_of_unit characters ≡ characters
+pub map-character_of_unit : (characters : List ℕ) → All IsScalar characters
+    → map character_of_unit characters ≡ characters
 map-character_of_unit [] all = refl
 map-character_of_unit (character ∷ characters) all =
-    rw (character_of_unit-scalar character (All-head IsScalar character characters all), map-character_of_unit characters (All-tail IsScalar character characters all))
+    rw (
+      character_of_unit-scalar character (All-head IsScalar character characters all),
+      map-character_of_unit
+          characters (All-tail IsScalar character characters all),
+    )

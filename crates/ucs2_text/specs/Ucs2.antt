@@ -1,5 +1,7 @@
--- UCS-2 of a page (3GPP TS 23.038, clause 6.2.3): a character is a unit of 16 bits, sent as two octets, the high one first.
-use Rattle.std.specs.Prelude.{ℕ, ◌+◌, ◌-◌, ◌*◌, ◌/◌, ◌%◌, Option, Some, None, if◌then◌else◌, nat_lt, List, [], ◌∷◌, ◌++◌, length, replicate}
+-- UCS-2 of a page (3GPP TS 23.038, clause 6.2.3): a character is a unit of 16 bits, sent as two octets, the high one
+-- first.
+use Rattle.std.specs.Prelude.{ℕ, ◌+◌, ◌-◌, ◌*◌, ◌/◌, ◌%◌, Option, Some, None, if◌then◌else◌, nat_lt, List, [], ◌∷◌}
+use Rattle.std.specs.Prelude.{◌++◌, length, replicate}
 use Rattle.std.specs.Int.{is_in_range}
 use Rattle.std.specs.List.{flat_map}
 

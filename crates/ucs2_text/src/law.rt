@@ -1,6 +1,7 @@
 //! What the definitions promise together, as the contract of a function that does nothing.
 
-ghost use Rattle.ucs2_text.specs.Ucs2Law.{UnitsComeBack, OctetsComeBack, PutsWholePages, ReadsWholePages, CharactersComeBack, UnitsShowScalars};
+ghost use Rattle.ucs2_text.specs.Ucs2Law.{UnitsComeBack, OctetsComeBack, PutsWholePages, ReadsWholePages};
+ghost use Rattle.ucs2_text.specs.Ucs2Law.{CharactersComeBack, UnitsShowScalars};
 
 /// The laws of UCS-2 text, for proofs alone: it does nothing. Callers cite the lemmas of `proofs/Ucs2Laws.antt`.
 pub fn ucs2_law()

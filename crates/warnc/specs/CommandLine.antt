@@ -1,5 +1,6 @@
 -- What the words of a command line ask for: word 0 is the program's name, and word 1 names the command. Own.
-use Rattle.std.specs.Prelude.{◌≡◌, ℕ, ◌+◌, ◌*◌, ◌||◌, ◌⊎◌, Bool, IsTrue, List, ◌∷◌, ◌++◌, Option, Some, codes, slice_get}
+use Rattle.std.specs.Prelude.{◌≡◌, ℕ, ◌+◌, ◌*◌, ◌||◌, ◌⊎◌, Bool, IsTrue, List, ◌∷◌, ◌++◌, Option, Some, codes}
+use Rattle.std.specs.Prelude.{slice_get}
 use Rattle.std.specs.List.{list_any}
 use Rattle.std.specs.Str.{bytes_eq}
 use Rattle.std.specs.Str.Parse.{IsNumeral, digits_value, without_leading_plus}

@@ -44,8 +44,8 @@ IsNoTapes input = IsShort input ⊎ IsLong input
 abbrev pub WritesSome : (old new : Option (List ℕ)) → Type 0
 WritesSome old new = (output : List ℕ) × (0 < length output) × Appends old new output
 
--- What status 0 says: `input` is what the reader had left, if that is known, and `old` and `new` are what the writer held before and
--- after.
+-- What status 0 says: `input` is what the reader had left, if that is known, and `old` and `new` are what the writer
+-- held before and after.
 
 -- what was written is the output for the input, and at any reader the output for some input
 pub record WroteOutput (IsOutput : List ℕ → List ℕ → Type 0) (input old new : Option (List ℕ)) : Type 0 where
@@ -71,7 +71,8 @@ pub record WroteTable (words : List (List ℕ)) (input old new : Option (List �
   pub wrote : WroteOutput IsReadOutput input old new
 
 abbrev pub WroteWhatIsAsked : (words : List (List ℕ)) (input old new : Option (List ℕ)) → Type 0
-WroteWhatIsAsked words input old new = WroteText words old new ⊎ (WrotePages words input old new ⊎ WroteTable words input old new)
+WroteWhatIsAsked words input old new = WroteText words old new ⊎
+    (WrotePages words input old new ⊎ WroteTable words input old new)
 
 -- What status 1 says: the command that the words ask for refuses the input.
 
@@ -95,7 +96,8 @@ RefusesInput words input = RefusesText words input ⊎ RefusesTapes words input
 abbrev pub OneHasFailed : {R W : Type 0} → Source R → Sink W → Type 0
 OneHasFailed source sink = (source_failed source ≡ true) ⊎ (sink_failed sink ≡ true)
 
--- what a status says of a sink: `old` and `new` are the sink before and after, and `before` and `after` what its writer holds
+-- what a status says of a sink: `old` and `new` are the sink before and after, and `before` and `after` what its writer
+-- holds
 pub record IsStatusOfSink {W : Type 0} (status : ℕ) (old new : Sink W) (before after : Option (List ℕ)) : Type 0 where
   -- there are five statuses
   pub statuses : status ≤ 4
@@ -107,7 +109,8 @@ pub record IsStatusOfSink {W : Type 0} (status : ℕ) (old new : Sink W) (before
   pub untouched : status ≢ 0 → status ≢ 3 → new ≡ old
 
 -- what the status of a command that was understood says of both ends. The source is that after the run
-pub record IsRunBetween {R W : Type 0} (status : ℕ) (source : Source R) (old new : Sink W) (before after : Option (List ℕ)) : Type 0 where
+pub record IsRunBetween {R W : Type 0} (status : ℕ) (source : Source R) (old new : Sink W)
+    (before after : Option (List ℕ)) : Type 0 where
   pub sink : IsStatusOfSink status old new before after
   -- it is no mistake of the words
   pub understood : status ≢ 2

@@ -31,8 +31,9 @@ pub enum Order<'a> {
     Read,
 }
 
-/// What the words ask for, or the text that clap has for them: help, the version, or what is wrong with them. clap judges the words;
-/// what they give is then looked up in the words themselves, since the contracts of clap don't reach into a subcommand.
+/// What the words ask for, or the text that clap has for them: help, the version, or what is wrong with them. clap
+/// judges the words; what they give is then looked up in the words themselves, since the contracts of clap don't reach
+/// into a subcommand.
 ///
 /// None never comes of words that clap takes.
 pub fn order_of<'a, S: AsStr>(alloc: Global, words: &'a [S]) -> Result<Option<Order<'a>>, Error>
@@ -80,7 +81,8 @@ fn number_of<S: AsStr>(words: &[S], name: &str) -> Option<u16>
     value_of(words, name)?.parse().ok()
 }
 
-/// The value that the words give the option of this name: the word after its name, or what follows its name and `=` in one word.
+/// The value that the words give the option of this name: the word after its name, or what follows its name and `=` in
+/// one word.
 fn value_of<'a, S: AsStr>(words: &'a [S], name: &str) -> Option<&'a str>
     ensures { IfSome result (λ value. GivesValue (map S.text words.now) name.now value.now) }
 {

@@ -56,8 +56,8 @@ fn take_all(alloc: Global, taken: &mut Vec<Vec<u8>>) {
     }
 }
 
-/// Runs these words on this input again and again, with one block of memory more each time, until the run is done. Each run before
-/// that is out of memory, and writes nothing.
+/// Runs these words on this input again and again, with one block of memory more each time, until the run is done. Each
+/// run before that is out of memory, and writes nothing.
 fn expect_out_of_memory<T: AllocGlobal + Abort>(
     rt: &T,
     words: &[&str],

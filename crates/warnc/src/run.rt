@@ -6,7 +6,9 @@ ghost use Rattle.device_ends.specs.Sink.{sink_failed, writer_of};
 ghost use Rattle.device_ends.specs.Source.{reader_of, source_failed};
 ghost use Rattle.warnc_engine.specs.PageOutput.{IsPageOutput};
 ghost use Rattle.warnc_engine.specs.ReadOutput.{IsReadOutput};
-ghost use Rattle.warnc.specs.Status.{status_of_fault, status_of_table_fault, IsNoTapes, IsRefused, IsRunBetween, IsStatusOfSink, OneHasFailed, RefusesInput, WritesSome, WroteOutput, WroteWhatIsAsked};
+ghost use Rattle.warnc.specs.Status.{status_of_fault, status_of_table_fault, IsNoTapes, IsRefused, IsRunBetween};
+ghost use Rattle.warnc.specs.Status.{IsStatusOfSink, OneHasFailed, RefusesInput, WritesSome, WroteOutput};
+ghost use Rattle.warnc.specs.Status.{WroteWhatIsAsked};
 
 use crate::command::{Order, PageOptions, asks_for_text, order_of};
 use cbs_page::TextFault;
@@ -34,9 +36,9 @@ pub const DEVICE: u8 = 3;
 /// There was no memory.
 pub const MEMORY: u8 = 4;
 
-/// Runs the command that the words ask for (the first is the program's name), from a reader to a writer, and answers the status: 0
-/// done, 1 refused input, 2 command line, 3 device, 4 memory. A fault is one line for `faults`, `warnc: ` and the text, or the text
-/// that clap has; what `faults` doesn't take changes no status. Help goes to the writer.
+/// Runs the command that the words ask for (the first is the program's name), from a reader to a writer, and answers
+/// the status: 0 done, 1 refused input, 2 command line, 3 device, 4 memory. A fault is one line for `faults`, `warnc: `
+/// and the text, or the text that clap has; what `faults` doesn't take changes no status. Help goes to the writer.
 ///
 /// This wraps both ends, and is `run_ends` on them: whose contract says what is written.
 pub fn run<T: AllocGlobal, S: AsStr, R: Read, W: Write, F: Write>(
@@ -68,7 +70,8 @@ pub fn run_ends<S: AsStr, R: Read, W: Write, F: Write>(
     ensures nothing { (result ≢ DONE) → (result ≢ DEVICE)
         → Keeps (W.contents (writer_of sink.old)) (W.contents (writer_of sink.new)) }
     ensures untouched { (result ≢ DONE) → (result ≢ DEVICE) → sink.new ≡ sink.old }
-    ensures refused { result ≡ REFUSED_INPUT → RefusesInput (map S.text words.now) (R.remaining (reader_of source.old)) }
+    ensures refused { result ≡ REFUSED_INPUT
+        → RefusesInput (map S.text words.now) (R.remaining (reader_of source.old)) }
     ensures device { result ≡ DEVICE → OneHasFailed source.new sink.new }
     ensures unread { result ≡ USAGE → source.new ≡ source.old }
     ensures failed { (source_failed source.old ≡ false) → (sink_failed sink.old ≡ false)
@@ -99,7 +102,8 @@ fn run_page<R: Read, W: Write, F: Write>(
         (R.remaining (reader_of source.old)) (W.contents (writer_of sink.old)) (W.contents (writer_of sink.new)) }
     ensures ends { IsRunBetween result source.new sink.old sink.new
         (W.contents (writer_of sink.old)) (W.contents (writer_of sink.new)) }
-    ensures refused { result ≡ REFUSED_INPUT → IfSome (R.remaining (reader_of source.old)) (IsRefused options.now.language.now) }
+    ensures refused { result ≡ REFUSED_INPUT → IfSome (R.remaining (reader_of source.old))
+        (IsRefused options.now.language.now) }
 {
     match page_stream(
         alloc,
@@ -162,7 +166,8 @@ fn status_of_table(fault: TableFault) -> u8
     }
 }
 
-/// Reports what clap has to say of the words: help and the version go to the sink if the words ask for them, a mistake goes to `faults`.
+/// Reports what clap has to say of the words: help and the version go to the sink if the words ask for them, a mistake
+/// goes to `faults`.
 fn run_text<W: Write, F: Write>(
     alloc: Global,
     error: &Error,

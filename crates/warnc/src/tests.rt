@@ -1,5 +1,5 @@
-//! Runs of the program between memory and memory: words and input in, status, output and fault lines out. The pages are those of
-//! worked examples, packed by an independent script.
+//! Runs of the program between memory and memory: words and input in, status, output and fault lines out. The pages are
+//! those of worked examples, packed by an independent script.
 
 use crate::run::run;
 use device_ends::memory::{MemoryReader, MemoryWriter};
@@ -223,7 +223,8 @@ fn help_is_written(rt: HostRuntime) -> Result<(), Fail> {
     Ok(())
 }
 
-/// Expects that a reader which fails at this call, counted from 0, is status 3, and that nothing is written. It gives an octet a call.
+/// Expects that a reader which fails at this call, counted from 0, is status 3, and that nothing is written. It gives
+/// an octet a call.
 pub fn expect_failed_reader<T: AllocGlobal + Abort>(
     rt: &T,
     words: &[&str],
@@ -239,8 +240,8 @@ pub fn expect_failed_reader<T: AllocGlobal + Abort>(
     assert_eq!(rt; writer.contents(), b"".as_slice());
 }
 
-/// Expects that a writer which fails at this call, counted from 0, is status 3, and that what it took before is a front of the output. It
-/// takes `per_call` octets a call.
+/// Expects that a writer which fails at this call, counted from 0, is status 3, and that what it took before is a front
+/// of the output. It takes `per_call` octets a call.
 pub fn expect_failed_writer<T: AllocGlobal + Abort>(
     rt: &T,
     words: &[&str],

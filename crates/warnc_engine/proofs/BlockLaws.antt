@@ -1,5 +1,6 @@
 -- The pages in the blocks of some pages are these pages, and each says what it was made of.
-use Rattle.std.proofs.Common.{◌≡◌, ℕ, ◌+◌, ◌*◌, ◌/◌, ◌%◌, ◌≤◌, List, [], ◌∷◌, ◌++◌, length, take, drop, map, refl, sym, ap, ◌∙◌, append-nil, arith, suc}
+use Rattle.std.proofs.Common.{◌≡◌, ℕ, ◌+◌, ◌*◌, ◌/◌, ◌%◌, ◌≤◌, List, [], ◌∷◌, ◌++◌, length, take, drop, map, refl, sym}
+use Rattle.std.proofs.Common.{ap, ◌∙◌, append-nil, arith, suc}
 use Rattle.std.proofs.lemmas.Bool.{ne_eqb}
 use Rattle.std.proofs.lemmas.List.{take-append-drop, take_all, length-drop, drop-drop}
 use Rattle.std.specs.List.{flat_map, AllByRecursion}
@@ -66,12 +67,17 @@ pub views_back : (id serial dcs total number : ℕ) (contents : List Content) �
     map view_of (pages_from id serial dcs total number contents) ≡ views_from id serial dcs total number contents
 views_back id serial dcs total number [] first some few = refl
 views_back id serial dcs total number (content ∷ rest) first some few =
-    ap (λ v. v ∷ map view_of (pages_from id serial dcs total (number + 1) rest)) (view_back id serial dcs total number content.octets first some few)
+    ap (λ v. v ∷ map view_of (pages_from id serial dcs total (number + 1) rest))
+    (view_back id serial dcs total number content.octets first some few)
     ∙ ap (λ vs. view id serial dcs total number content.octets ∷ vs)
     (views_back id serial dcs total (number + 1) rest (omega arith) some few)
 
-pub pages_are_whole : (id serial dcs total number : ℕ) (contents : List Content) → AllByRecursion (λ content. length content.octets ≡ 82) contents →
+pub pages_are_whole : (id serial dcs total number : ℕ) (contents : List Content)
+    → AllByRecursion (λ content. length content.octets ≡ 82) contents →
     AllByRecursion (λ page. length page ≡ 88) (pages_from id serial dcs total number contents)
 pages_are_whole id serial dcs total number [] whole = tt
-pages_are_whole id serial dcs total number (content ∷ rest) whole =
-    (ap (λ n. suc (suc (suc (suc (suc (suc n)))))) whole.0, pages_are_whole id serial dcs total (number + 1) rest whole.1)
+pages_are_whole id serial dcs total number (content ∷ rest) whole = (
+  ap (λ n. suc (suc (suc (suc (suc (suc n)))))) whole.0,
+  pages_are_whole id serial dcs total (number + 1) rest
+      whole.1,
+)

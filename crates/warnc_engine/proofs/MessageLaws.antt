@@ -18,24 +18,35 @@ use Rattle.warnc_engine.specs.PageOutput.{pages_from, blocks_of_message}
 use Rattle.warnc_engine.proofs.BlockLaws.{views_from, pages_in_blocks, views_back, pages_are_whole}
 use Rattle.warnc_engine.proofs.ComesBack.{message_in_order}
 
-all_readable : (id serial dcs total number : ℕ) (alphabet : Alphabet) (contents : List Content) → alphabet_of dcs ≡ Some alphabet →
+all_readable : (id serial dcs total number : ℕ) (alphabet : Alphabet) (contents : List Content)
+    → alphabet_of dcs ≡ Some alphabet →
     number + length contents ≤ total + 1 →
     filter is_readable (views_from id serial dcs total number contents) ≡ views_from id serial dcs total number contents
 all_readable id serial dcs total number alphabet [] known within = refl
 all_readable id serial dcs total number alphabet (content ∷ rest) known within =
     rw (known, le-leb number total (omega (arith, within)))
-    (ap (λ vs. record { serial = serial; id = id; dcs = record { 0 = dcs }; number = number; total = total; content = content.octets } ∷ vs)
+    (ap (λ vs. record {
+      serial = serial;
+      id = id;
+      dcs = record { 0 = dcs };
+      number = number;
+      total = total;
+      content =
+          content.octets;
+    } ∷ vs)
     (all_readable id serial dcs total (number + 1) alphabet rest known (omega (arith, within))))
 
 -- The blocks of a text show it, under its identifier and serial number, once.
-pub shows_text : (language text : List ℕ) (id serial : ℕ) (paged : Paged) → IsPagedText language text paged → ShowsText text paged →
+pub shows_text : (language text : List ℕ) (id serial : ℕ) (paged : Paged) → IsPagedText language text paged
+    → ShowsText text paged →
     shown_in (blocks_of_message id serial paged) ≡ record { id = id; serial = serial; text = encode_utf8_all text } ∷ []
 shows_text language text id serial paged sent shown =
     let contents : List Content = paged.pages.items in
     let total : ℕ = length contents in
     let dcs : ℕ = paged.dcs.0 in
     let alphabet : Alphabet = alphabet_for text in
-    let known : alphabet_of dcs ≡ Some alphabet = ap alphabet_of sent.dcs ∙ alphabet_of_coding alphabet language sent.value sent.spoken in
+    let known : alphabet_of dcs ≡ Some alphabet = ap alphabet_of sent.dcs
+    ∙ alphabet_of_coding alphabet language sent.value sent.spoken in
     let same : total ≡ length sent.pieces =
     AreContentsOf-length alphabet (map (flat_map (codes_of alphabet)) sent.pieces) contents sent.contents
     ∙ length-map sent.pieces (flat_map (codes_of alphabet)) in

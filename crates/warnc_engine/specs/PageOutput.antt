@@ -1,6 +1,7 @@
--- What `warnc page` makes of the octets that it reads: the blocks of the text's pages as hexadecimal digits, a line each, and then
--- what a handset shows of these blocks. The forms of the lines are this project's own.
-use Rattle.std.specs.Prelude.{◌≡◌, ◌≢◌, ℕ, ◌+◌, ◌-◌, ◌/◌, ◌%◌, ◌<◌, ◌≤◌, ◌==◌, if◌then◌else◌, Option, List, [], ◌∷◌, ◌++◌, length, take, slice_index}
+-- What `warnc page` makes of the octets that it reads: the blocks of the text's pages as hexadecimal digits, a line
+-- each, and then what a handset shows of these blocks. The forms of the lines are this project's own.
+use Rattle.std.specs.Prelude.{◌≡◌, ◌≢◌, ℕ, ◌+◌, ◌-◌, ◌/◌, ◌%◌, ◌<◌, ◌≤◌, ◌==◌, if◌then◌else◌, Option, List, [], ◌∷◌}
+use Rattle.std.specs.Prelude.{◌++◌, length, take, slice_index}
 use Rattle.std.specs.Fmt.{decimal}
 use Rattle.std.specs.Io.KnownBytes.{Keeps}
 use Rattle.std.specs.List.{flat_map}
@@ -43,12 +44,14 @@ block_line block = encode_lower block ++ 10 ∷ []
 -- a shown message's line: its identifier, its serial number in four lower hexadecimal digits, and its text
 abbrev pub message_line : Message → List ℕ
 message_line message =
-    decimal message.id ++ 32 ∷ encode_lower ((message.serial / 256) ∷ (message.serial % 256) ∷ []) ++ 32 ∷ message.text ++ 10 ∷ []
+    decimal message.id ++ 32 ∷ encode_lower ((message.serial / 256) ∷ (message.serial % 256) ∷ []) ++ 32 ∷ message.text
+    ++ 10 ∷ []
 
 abbrev pub lines_of : List (List ℕ) → List ℕ
 lines_of blocks = flat_map block_line blocks ++ flat_map message_line (shown_in blocks)
 
--- what is written for the octets that were read: the lines of the blocks that carry the text, and these blocks show the text, once
+-- what is written for the octets that were read: the lines of the blocks that carry the text, and these blocks show the
+-- text, once
 pub record IsPageOutput (language : List ℕ) (id serial : ℕ) (input output : List ℕ) : Type 0 where
   pub bounded : length input ≤ most_octets
   pub utf8 : IsUtf8 (without_final_lf input)
@@ -58,7 +61,8 @@ pub record IsPageOutput (language : List ℕ) (id serial : ℕ) (input output : 
   pub shown : shown_in (blocks_of_message id serial paged)
       ≡ record { id = id; serial = serial; text = without_final_lf input } ∷ []
 
--- why nothing is: the first of these that applies, want of memory and devices aside. Want of memory is told as `Refused` alone
+-- why nothing is: the first of these that applies, want of memory and devices aside. Want of memory is told as
+-- `Refused` alone
 abbrev pub IsPageFault : (language input : List ℕ) → PageFault → Type 0
 IsPageFault language input fault.TooLong = most_octets < length input
 IsPageFault language input fault.NotUtf8 = (length input ≤ most_octets) × ¬ IsUtf8 (without_final_lf input)
@@ -69,9 +73,10 @@ IsPageFault language input fault.Refused = Unit {0}
 IsPageFault language input fault.Read = ⊥
 IsPageFault language input fault.Write = ⊥
 
--- the same of a run from a reader to a writer, of which these are the octets before and after: after a fault of the writer some of the
--- output is out, and after any other fault nothing is
-abbrev pub IsStreamFault : (language : List ℕ) (id serial : ℕ) (input : List ℕ) (old new : Option (List ℕ)) → PageFault → Type 0
+-- the same of a run from a reader to a writer, of which these are the octets before and after: after a fault of the
+-- writer some of the output is out, and after any other fault nothing is
+abbrev pub IsStreamFault : (language : List ℕ) (id serial : ℕ) (input : List ℕ) (old new : Option (List ℕ)) → PageFault
+    → Type 0
 IsStreamFault language id serial input old new fault.Read = Keeps old new
 IsStreamFault language id serial input old new fault.TooLong = IsPageFault language input fault.TooLong × Keeps old new
 IsStreamFault language id serial input old new fault.NotUtf8 = IsPageFault language input fault.NotUtf8 × Keeps old new

@@ -22,11 +22,12 @@ row fields = row_text default_writer fields
 abbrev pub header_row : List ℕ
 header_row = row (codes "lac" ∷ codes "ci" ∷ codes "id" ∷ codes "serial" ∷ codes "text" ∷ [])
 
--- the row of a message that a cell showed, after the digits of the cell's numbers: its identifier is decimal, its serial number has four
--- lower hexadecimal digits
+-- the row of a message that a cell showed, after the digits of the cell's numbers: its identifier is decimal, its
+-- serial number has four lower hexadecimal digits
 abbrev pub row_of_message : (lac ci : List ℕ) → Message → List ℕ
 row_of_message lac ci message =
-    row (lac ∷ ci ∷ decimal message.id ∷ encode_lower ((message.serial / 256) ∷ (message.serial % 256) ∷ []) ∷ message.text ∷ [])
+    row (lac ∷ ci ∷ decimal message.id ∷ encode_lower ((message.serial / 256) ∷ (message.serial % 256) ∷ []) ∷
+    message.text ∷ [])
 
 -- the numbers of the cell are decimal
 abbrev pub message_row : (lac ci : ℕ) → Message → List ℕ
@@ -53,8 +54,8 @@ table_fault_of tape.Long = fault.Long
 table_fault_of tape.ReadFailed = fault.Read
 table_fault_of tape.Refused = fault.Refused
 
--- why no table is written, want of memory and devices aside; after a fault of the writer a front of the table is out, and after any other
--- fault nothing is
+-- why no table is written, want of memory and devices aside; after a fault of the writer a front of the table is out,
+-- and after any other fault nothing is
 abbrev pub IsReadFault : (input : List ℕ) (old new : Option (List ℕ)) → TableFault → Type 0
 IsReadFault input old new fault.Short = IsShort input × Keeps old new
 IsReadFault input old new fault.Long = IsLong input × Keeps old new

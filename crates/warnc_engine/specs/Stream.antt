@@ -6,9 +6,11 @@ use Rattle.device_ends.specs.Source.{source_failed}
 use Rattle.device_ends.specs.declared.reading.Source.{Source}
 use Rattle.device_ends.specs.declared.writing.Sink.{Sink}
 
--- `IsOutput` says what is written for an input, `unread` and `unwritten` are the faults that report a device. `first` and `last` are
--- the source before and after the answer, `old` and `new` the sink, and `before` and `after` what its writer holds
-pub record IsStreamBetween {R W F : Type 0} (IsOutput : List ℕ → List ℕ → Type 0) (unread unwritten : F) (result : Result (Unit {0}) F)
+-- `IsOutput` says what is written for an input, `unread` and `unwritten` are the faults that report a device. `first`
+-- and `last` are the source before and after the answer, `old` and `new` the sink, and `before` and `after` what its
+-- writer holds
+pub record IsStreamBetween {R W F : Type 0} (IsOutput : List ℕ → List ℕ → Type 0) (unread unwritten : F)
+    (result : Result (Unit {0}) F)
     (first last : Source R) (old new : Sink W) (before after : Option (List ℕ)) : Type 0 where
   -- what is done wrote the output of some input
   pub wrote : OnOk result ((input output : List ℕ) × IsOutput input output × Appends before after output)

@@ -1,7 +1,8 @@
-//! The engines of `warnc`'s commands, from a reader to a writer: each reads all of its input, and writes nothing before all of its
-//! output is made.
+//! The engines of `warnc`'s commands, from a reader to a writer: each reads all of its input, and writes nothing before
+//! all of its output is made.
 //!
-//! [`page::page_stream`] makes the blocks of a text's pages, [`read::read_stream`] the table of what tapes show. What is written for
+//! [`page::page_stream`] makes the blocks of a text's pages, [`read::read_stream`] the table of what tapes show. What
+//! is written for
 //! which input, and which fault comes of which, is said by definitions of octets alone.
 #![tactic(auto)]
 

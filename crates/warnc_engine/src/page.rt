@@ -7,7 +7,8 @@ ghost use Rattle.device_ends.specs.Moves.{ConsumesSome};
 ghost use Rattle.device_ends.specs.Sink.{writer_of};
 ghost use Rattle.device_ends.specs.Source.{reader_of};
 ghost use Rattle.handset.specs.Keeping.{HasRead, message_shown, messages_of};
-ghost use Rattle.warnc_engine.specs.PageOutput.{without_final_lf, blocks_of_message, block_line, message_line, lines_of, IsPageOutput, IsPageFault, IsStreamFault};
+ghost use Rattle.warnc_engine.specs.PageOutput.{without_final_lf, blocks_of_message, block_line, message_line};
+ghost use Rattle.warnc_engine.specs.PageOutput.{lines_of, IsPageOutput, IsPageFault, IsStreamFault};
 ghost use Rattle.warnc_engine.specs.Stream.{IsStreamBetween};
 
 use cbch_blocks::cut;
@@ -45,8 +46,8 @@ pub enum PageFault {
     Write,
 }
 
-/// Reads one text, and writes the blocks of its pages, a line each, and then what a handset shows of these blocks. One LF at the end of
-/// the input isn't part of the text. Nothing is written before all of the output is made.
+/// Reads one text, and writes the blocks of its pages, a line each, and then what a handset shows of these blocks. One
+/// LF at the end of the input isn't part of the text. Nothing is written before all of the output is made.
 pub fn page_stream<R: Read, W: Write>(
     alloc: Global,
     source: &mut Source<R>,
@@ -60,10 +61,12 @@ pub fn page_stream<R: Read, W: Write>(
         (output : List ℕ) × IsPageOutput language.now id serial input output
         × Appends (W.contents (writer_of sink.old)) (W.contents (writer_of sink.new)) output)) }
     ensures fault { IfErr result (λ fault. IfSome (R.remaining (reader_of source.old)) (λ input.
-        IsStreamFault language.now id serial input (W.contents (writer_of sink.old)) (W.contents (writer_of sink.new)) fault)) }
+        IsStreamFault language.now id serial input (W.contents (writer_of sink.old)) (W.contents (writer_of sink.new))
+        fault)) }
 
     // One octet past the bound is read at most.
-    ensures reads { ConsumesSome (R.remaining (reader_of source.old)) (R.remaining (reader_of source.new)) (MOST_OCTETS + 1) }
+    ensures reads { ConsumesSome (R.remaining (reader_of source.old)) (R.remaining (reader_of source.new))
+        (MOST_OCTETS + 1) }
 
     // At any reader and any writer.
     ensures ends { IsStreamBetween (IsPageOutput language.now id serial) PageFault.Read PageFault.Write result
@@ -187,7 +190,8 @@ fn push_block_lines(
 
 /// Appends a line for each shown message.
 fn push_message_lines(alloc: Global, output: &mut String, shown: &[Shown]) -> Result<(), AllocError>
-    ensures { OnOk result (string_bytes output.new ≡ string_bytes output.old ++ flat_map message_line (messages_of shown.now)) }
+    ensures { OnOk result (string_bytes output.new ≡ string_bytes output.old ++ flat_map message_line
+        (messages_of shown.now)) }
 {
     for message in shown {
         push_message_line(alloc, output, message)?;
@@ -197,7 +201,8 @@ fn push_message_lines(alloc: Global, output: &mut String, shown: &[Shown]) -> Re
 
 /// Appends the line of a shown message.
 fn push_message_line(alloc: Global, output: &mut String, message: &Shown) -> Result<(), AllocError>
-    ensures { OnOk result (string_bytes output.new ≡ string_bytes output.old ++ message_line (message_shown message.now)) }
+    ensures { OnOk result (string_bytes output.new ≡ string_bytes output.old ++ message_line
+        (message_shown message.now)) }
 {
     let id = message.id.to_string(alloc)?;
     let serial = hex::encode(alloc, message.serial.number().to_be_bytes().as_slice())?;

@@ -34,9 +34,9 @@ pub enum TableFault {
     Write,
 }
 
-/// Reads 0 to 64 tapes up to the end of the input, and writes a table of the messages that they show, as CSV: a row of the columns'
-/// names, and then a row for each message, tapes in order, messages in the order in which they are shown. Nothing is written before
-/// the last tape is read and the table is made; of the tapes no more is kept than their rows.
+/// Reads 0 to 64 tapes up to the end of the input, and writes a table of the messages that they show, as CSV: a row of
+/// the columns' names, and then a row for each message, tapes in order, messages in the order in which they are shown.
+/// Nothing is written before the last tape is read and the table is made; of the tapes no more is kept than their rows.
 pub fn read_stream<R: Read, W: Write>(
     alloc: Global,
     source: &mut Source<R>,

@@ -5,7 +5,8 @@ ghost use Rattle.device_ends.specs.Calls.{after_one_call};
 
 use std::io;
 
-/// Counts one call of those that are left, and answers an error where none is. At `None` calls aren't counted, and none fails.
+/// Counts one call of those that are left, and answers an error where none is. At `None` calls aren't counted, and none
+/// fails.
 pub fn count_call(calls: &mut Option<usize>) -> io::Result<()>
     ensures fails { IsErr result ↔ (calls.old ≡ Some 0) }
     ensures left { calls.new ≡ after_one_call calls.old }

@@ -1,5 +1,6 @@
 -- Each law is a lemma of PackingLaws.
-use Rattle.septets.proofs.PackingLaws.{packing_is_unique, spare_bits_are_ignored, unpacking_gives_back, unpacking_is_bitwise}
+use Rattle.septets.proofs.PackingLaws.{packing_is_unique, spare_bits_are_ignored, unpacking_gives_back}
+use Rattle.septets.proofs.PackingLaws.{unpacking_is_bitwise}
 use Rattle.septets.proofs.packing_law.Goals as goal
 
 pub returns : goal.returns

@@ -7,10 +7,12 @@ use Rattle.septets.proofs.unpack.Goals.{After-loop-place-2}
 septets_read : (c : After-loop-place-2) → c.loop-place-2.septets ≡ unpacked c.args.octets.now
 septets_read c =
     let loop = c.loop-place-2 in
-    unpacked-from_septets c.args.octets.now loop.septets loop.invariant.size (λ place within. loop.invariant.read place (omega arith))
+    unpacked-from_septets c.args.octets.now loop.septets loop.invariant.size
+    (λ place within. loop.invariant.read place (omega arith))
 
 pub returns-clause-value : goal.returns-clause-value
 returns-clause-value c = septets_read (goal.at.returns-clause-value c).After-loop-place-2
 
 pub returns-clause-bits : goal.returns-clause-bits
-returns-clause-bits c = rw (septets_read (goal.at.returns-clause-bits c).After-loop-place-2) (unpacking_is_bitwise c.args.octets.now)
+returns-clause-bits c = rw (septets_read (goal.at.returns-clause-bits c).After-loop-place-2)
+    (unpacking_is_bitwise c.args.octets.now)

@@ -8,4 +8,5 @@ returns c =
     let place = c.args.place in
     let low : c.from.result ≡ get_or octets (7 * place / 8) 0 = cc in
     let high : c.from-2.result ≡ get_or octets (7 * place / 8 + 1) 0 = cc in
-    unpacked_value octets place c.from.result c.from-2.result low high (rw low (c.fits-octets (7 * place / 8))) (rw high (c.fits-octets (7 * place / 8 + 1)))
+    unpacked_value octets place c.from.result c.from-2.result low high (rw low (c.fits-octets (7 * place / 8)))
+    (rw high (c.fits-octets (7 * place / 8 + 1)))

@@ -13,12 +13,15 @@ use Rattle.cbs_page.proofs.paging.contents_of_text.Goals as goal
 pub loop-character-preserved-then-len-cost : goal.loop-character-preserved-then-len-cost
 loop-character-preserved-then-len-cost c =
     let alphabet = c.args.alphabet in
-    let turn = YieldsList-turn (YieldsList-from_chars c.args.text.now c.utf8.text cc) c.loop-character.yielded _ c.loop-character.yielded_by _ _ c.in-Some.character c.in-Some.is c.next.ensures.steps in
+    let turn = YieldsList-turn (YieldsList-from_chars c.args.text.now c.utf8.text cc) c.loop-character.yielded _
+    c.loop-character.yielded_by _ _ c.in-Some.character c.in-Some.is c.next.ensures.steps in
     let next = length_push c.loop-character.yielded c.in-Some.character in
-    let fits : length (codes_in c.loop-character.piece) + length (codes_of alphabet c.in-Some.character) ≤ capacity alphabet =
+    let fits : length (codes_in c.loop-character.piece) + length (codes_of alphabet c.in-Some.character) ≤ capacity
+    alphabet =
     omega (arith, c.capacity-capacity.ensures.value, c.cost.ensures.value, c.len.ensures) in
     let taken : codes_in c.take.new.self ≡ codes_in c.loop-character.piece ++ codes_of alphabet c.in-Some.character =
-    c.take.ensures.taken ∙ ap (λ a. codes_in c.loop-character.piece ++ codes_of a c.in-Some.character) c.loop-character.invariant.same in
+    c.take.ensures.taken ∙ ap (λ a. codes_in c.loop-character.piece ++ codes_of a c.in-Some.character)
+    c.loop-character.invariant.same in
     let cut : HasCut alphabet (chars c.args.text.now) (length c.loop-character.yielded + 1)
     (codes_in c.loop-character.piece ++ codes_of alphabet c.in-Some.character) c.loop-character.pages.items =
     HasCut-takes alphabet (chars c.args.text.now) (length c.loop-character.yielded) (codes_in c.loop-character.piece)
@@ -34,16 +37,21 @@ loop-character-preserved-then-len-cost c =
 pub loop-character-preserved : goal.loop-character-preserved
 loop-character-preserved c =
     let alphabet = c.args.alphabet in
-    let turn = YieldsList-turn (YieldsList-from_chars c.args.text.now c.utf8.text cc) c.loop-character.yielded _ c.loop-character.yielded_by _ _ c.in-Some.character c.in-Some.is c.next.ensures.steps in
+    let turn = YieldsList-turn (YieldsList-from_chars c.args.text.now c.utf8.text cc) c.loop-character.yielded _
+    c.loop-character.yielded_by _ _ c.in-Some.character c.in-Some.is c.next.ensures.steps in
     let next = length_push c.loop-character.yielded c.in-Some.character in
-    let full : capacity alphabet < length (codes_in c.loop-character.piece) + length (codes_of alphabet c.in-Some.character) =
+    let full : capacity alphabet < length (codes_in c.loop-character.piece) + length
+    (codes_of alphabet c.in-Some.character) =
     omega (arith, c.capacity-capacity.ensures.value, c.cost.ensures.value, c.len.ensures) in
     let small : length (codes_of alphabet c.in-Some.character) ≤ capacity alphabet =
     omega (arith, c.capacity-capacity.ensures.value, c.cost.ensures.value) in
     let here : IsContentOf alphabet (codes_in c.loop-character.piece) c.content.result =
-    subst (λ (a : _). IsContentOf a (codes_in c.loop-character.piece) c.content.result) c.loop-character.invariant.same c.content.ensures in
-    let cut = HasCut-begins alphabet (chars c.args.text.now) (length c.loop-character.yielded) (codes_in c.loop-character.piece)
-    c.loop-character.pages.items c.in-Some.character c.content.result c.loop-character.invariant.made turn.0 turn.1 full here in
+    subst (λ (a : _). IsContentOf a (codes_in c.loop-character.piece) c.content.result) c.loop-character.invariant.same
+    c.content.ensures in
+    let cut = HasCut-begins alphabet (chars c.args.text.now) (length c.loop-character.yielded)
+    (codes_in c.loop-character.piece)
+    c.loop-character.pages.items c.in-Some.character c.content.result c.loop-character.invariant.made turn.0 turn.1
+    full here in
     record {
       finite = (tt, tt);
       same = c.of-piece.ensures.same;
@@ -55,10 +63,13 @@ loop-character-preserved c =
 pub returns : goal.returns
 returns c =
     let alphabet = c.args.alphabet in
-    let ended = YieldsList-end (YieldsList-from_chars c.args.text.now c.utf8.text cc) c.loop-character.yielded _ c.loop-character.yielded_by _ _ c.in-None.is c.next.ensures.steps in
+    let ended = YieldsList-end (YieldsList-from_chars c.args.text.now c.utf8.text cc) c.loop-character.yielded _
+    c.loop-character.yielded_by _ _ c.in-None.is c.next.ensures.steps in
     let here : IsContentOf alphabet (codes_in c.loop-character.piece) c.content-2.result =
-    subst (λ (a : _). IsContentOf a (codes_in c.loop-character.piece) c.content-2.result) c.loop-character.invariant.same c.content-2.ensures in
-    let made = HasCut-end alphabet (chars c.args.text.now) (length c.loop-character.yielded) (codes_in c.loop-character.piece)
+    subst (λ (a : _). IsContentOf a (codes_in c.loop-character.piece) c.content-2.result)
+    c.loop-character.invariant.same c.content-2.ensures in
+    let made = HasCut-end alphabet (chars c.args.text.now) (length c.loop-character.yielded)
+    (codes_in c.loop-character.piece)
     c.loop-character.pages.items c.content-2.result c.loop-character.invariant.made ended.1 here
     in
     record {

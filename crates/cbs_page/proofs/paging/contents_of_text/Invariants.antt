@@ -7,7 +7,8 @@ use Rattle.cbs_page.proofs.paging.contents_of_text.Given as goal
 
 abbrev pub invariant-loop-character : goal.invariant-loop-character
 invariant-loop-character l = record {
-  finite : (goal.iterator-loop-character).can_next l.character-iterator × (goal.iterator-loop-character).is_finite l.character-iterator;
+  finite : (goal.iterator-loop-character).can_next l.character-iterator
+      × (goal.iterator-loop-character).is_finite l.character-iterator;
   same : alphabet_in l.piece ≡ l.alphabet;
   sound : AreCodes l.piece;
   within : length (codes_in l.piece) ≤ capacity l.alphabet;

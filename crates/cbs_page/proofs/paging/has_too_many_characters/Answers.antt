@@ -22,5 +22,7 @@ is_some-option_map f (Some x) = refl
 pub returns : goal.returns
 returns c =
     let found =
-    nth_from_yields_List c.nth.result c.nth.new.self 1395 c.nth.ensures.ran (YieldsList-from_chars c.args.text.now c.utf8.text cc) in
-    c.is_some.ensures ∙ is_some-option_map _ c.nth.result ∙ ap is_some found ∙ is_some-slice_get (chars c.args.text.now) 1395
+    nth_from_yields_List c.nth.result c.nth.new.self 1395 c.nth.ensures.ran
+    (YieldsList-from_chars c.args.text.now c.utf8.text cc) in
+    c.is_some.ensures ∙ is_some-option_map _ c.nth.result ∙ ap is_some found
+    ∙ is_some-slice_get (chars c.args.text.now) 1395

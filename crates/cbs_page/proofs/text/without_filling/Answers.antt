@@ -5,7 +5,8 @@ use Rattle.cbs_page.proofs.text.without_filling.Goals as goal
 
 pub returns-in-Some : goal.returns-in-Some
 returns-in-Some g c =
-    sym (without_trailing-is (λ item. g.T.PartialEq.eq item c.args.filling) c.args.items.now (c.in-Some.last + 1) c.args.filling
+    sym (without_trailing-is (λ item. g.T.PartialEq.eq item c.args.filling) c.args.items.now (c.in-Some.last + 1)
+    c.args.filling
     (search rules) (search rules) (search rules))
 
 pub returns-in-None : goal.returns-in-None

@@ -6,7 +6,8 @@ use Rattle.device_ends.proofs.transfer.read_up_to.Given as goal
 abbrev pub invariant-loop-source : goal.invariant-loop-source
 invariant-loop-source g l = record {
   bound : vec_len l.octets ≤ l.most;
-  consumed : Consumes (g.R.Read.remaining (reader_of l.initial.source)) (g.R.Read.remaining (reader_of l.source)) l.octets.items;
+  consumed : Consumes (g.R.Read.remaining (reader_of l.initial.source)) (g.R.Read.remaining (reader_of l.source))
+      l.octets.items;
   sound : 0 < vec_len l.octets → source_failed l.source ≡ false;
   stays : source_failed l.initial.source ≡ true → l.source ≡ l.initial.source;
 }

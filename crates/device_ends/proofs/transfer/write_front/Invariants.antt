@@ -6,7 +6,8 @@ use Rattle.device_ends.proofs.transfer.write_front.Given as goal
 abbrev pub invariant-loop-out : goal.invariant-loop-out
 invariant-loop-out g l = record {
   bound : l.out ≤ length l.octets;
-  appended : Appends (g.W.Write.contents (writer_of l.initial.sink)) (g.W.Write.contents (writer_of l.sink)) (take l.out l.octets);
+  appended : Appends (g.W.Write.contents (writer_of l.initial.sink)) (g.W.Write.contents (writer_of l.sink))
+      (take l.out l.octets);
   sound : 0 < l.out → sink_failed l.sink ≡ false;
   stays : sink_failed l.initial.sink ≡ true → l.sink ≡ l.initial.sink;
 }

@@ -11,4 +11,8 @@ returns-in_default-clause-by_table c =
     let septet : ℕ × ℕ → ℕ = λ entry. entry.0 in
     let in_main : Lacks character main_table c.args.character = assumption c in
     let in_extension : Lacks character extension_table c.args.character = assumption c in
-    rw (look_up-lacks character septet main_table c.args.character in_main, look_up-lacks character septet extension_table c.args.character in_extension)
+    rw (
+      look_up-lacks character septet main_table c.args.character in_main,
+      look_up-lacks character septet
+          extension_table c.args.character in_extension,
+    )

@@ -31,11 +31,13 @@ missing name pages number some within none =
 -- one number before those that have their pages has its page, too
 one_more : (name : Name) (pages : List PageView) (number total : ℕ) → 0 < number → number ≤ total →
     list_all (has name pages) (range_with_len (number + 1) (total - number)) ≡ true →
-    has name pages number ≡ true → list_all (has name pages) (range_with_len (number - 1 + 1) (total - (number - 1))) ≡ true
+    has name pages number ≡ true → list_all (has name pages) (range_with_len (number - 1 + 1) (total - (number - 1))) ≡
+    true
 one_more name pages number total some within all here =
     let first : number - 1 + 1 ≡ number = omega arith in
     let count : total - (number - 1) ≡ suc (total - number) = omega arith in
-    ap (list_all (has name pages)) (ap (λ n. range_with_len n (total - (number - 1))) first ∙ ap (range_with_len number) count)
+    ap (list_all (has name pages)) (ap (λ n. range_with_len n (total - (number - 1))) first
+    ∙ ap (range_with_len number) count)
     ∙ rw (here, all) refl
 
 copied_some : (o : Option (Bor PageView)) → is_some (option_copied o) ≡ is_some o
@@ -46,7 +48,8 @@ pub returns-then-is_none : goal.returns-then-is_none
 returns-then-is_none c =
     let none : is_some c.page_with.result ≡ false = c.is_none.ensures ∙ ap not c.if-is_none.true in
     sym (missing (name_of c.args.last.now) (c.args.pages.now ++ c.args.last.now ∷ []) c.loop-number.number
-    (omega (arith, c.loop-number-test.true)) (subst (λ n. c.loop-number.number ≤ n) c.total_with-total.ensures c.loop-number.invariant.within)
+    (omega (arith, c.loop-number-test.true)) (subst (λ n. c.loop-number.number ≤ n) c.total_with-total.ensures
+    c.loop-number.invariant.within)
     (ap is_some (sym c.page_with.ensures) ∙ copied_some c.page_with.result ∙ none))
 
 pub loop-number-preserved : goal.loop-number-preserved

@@ -10,7 +10,8 @@ use Rattle.handset.proofs.tape.read_each.Invariants.{AreTakenSoFar}
 use Rattle.handset.proofs.tape.read_each.Goals as goal
 
 -- one more reading
-taken_more : {T : Type 0} (HasTaken : T → List TapeReading → Type 0) (first mid last : Option (List ℕ)) (old now new : T) (count : ℕ)
+taken_more : {T : Type 0} (HasTaken : T → List TapeReading → Type 0) (first mid last : Option (List ℕ))
+    (old now new : T) (count : ℕ)
     (reading : TapeReading) → AreTakenSoFar HasTaken first mid old now count → ReadsTape mid last reading
     → ((before : List TapeReading) → HasTaken now before → HasTaken new (before ++ reading ∷ []))
     → AreTakenSoFar HasTaken first last old new (count + 1)
@@ -65,7 +66,8 @@ loop-count-preserved g c =
     record {
       few = omega (arith, c.loop-count-test.true);
       tapes =
-          taken_more g.T.TakesReadings.HasTaken _ mid new c.args.taker.now c.loop-count.taker c.take.new.self c.loop-count.count
+          taken_more g.T.TakesReadings.HasTaken _ mid new c.args.taker.now c.loop-count.taker c.take.new.self
+          c.loop-count.count
           (reading_of c.in-Ok-Some.reading) c.loop-count.invariant.tapes reads c.in_ok-take-in-Ok-Some.ensures;
       sound = search rules;
       piece = search rules;

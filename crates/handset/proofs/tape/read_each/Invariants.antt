@@ -5,7 +5,8 @@ use Rattle.handset.proofs.TapeLaws.{ReadsTapes}
 use Rattle.handset.proofs.tape.read_each.Given as goal
 
 -- so many tapes were read, and their readings taken
-pub record AreTakenSoFar {T : Type 0} (HasTaken : T → List TapeReading → Type 0) (first now : Option (List ℕ)) (old new : T)
+pub record AreTakenSoFar {T : Type 0} (HasTaken : T → List TapeReading → Type 0) (first now : Option (List ℕ))
+    (old new : T)
     (count : ℕ) : Type 0 where
   pub readings : List TapeReading
   pub read : ReadsTapes first now readings

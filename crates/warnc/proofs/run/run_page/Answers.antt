@@ -8,7 +8,8 @@ returns-in-Ok-clause-ends g c =
     let wrote = c.in-Ok.ensures.ends.wrote in
     let some : WritesSome _ _ = (
       wrote.1,
-      some_output c.args.options.now.language.now c.args.options.now.id c.args.options.now.serial wrote.0 wrote.1 wrote.2,
+      some_output c.args.options.now.language.now c.args.options.now.id c.args.options.now.serial wrote.0 wrote.1
+          wrote.2,
       wrote.3,
     ) in
     search (rules, some)

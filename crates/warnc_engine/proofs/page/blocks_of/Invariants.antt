@@ -6,5 +6,6 @@ use Rattle.warnc_engine.proofs.page.blocks_of.Given as goal
 
 abbrev pub invariant-loop-place : goal.invariant-loop-place
 invariant-loop-place l =
-    l.blocks.items ++ flat_map blocks_of_page (pages_from l.id l.serial l.paged.dcs.0 l.total (l.place + 1) (drop l.place l.paged.pages.items))
+    l.blocks.items ++ flat_map blocks_of_page (pages_from l.id l.serial l.paged.dcs.0 l.total (l.place + 1)
+    (drop l.place l.paged.pages.items))
     ≡ blocks_of_message l.id l.serial l.paged

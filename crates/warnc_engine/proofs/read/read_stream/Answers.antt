@@ -49,5 +49,6 @@ returns-clause-fault g c =
     let written : c.deref.result.now ≡ table_of taken.readings =
     c.deref.ensures.value ∙ written_of _ _ _ _ taken c.in-Ok.ensures c.in-Ok-into_octets.ensures in
     output_then
-    (AppendsFront (g.W.Write.contents (writer_of c.args.sink.now)) (g.W.Write.contents (writer_of c.write_all.new.sink)))
+    (AppendsFront (g.W.Write.contents (writer_of c.args.sink.now))
+    (g.W.Write.contents (writer_of c.write_all.new.sink)))
     taken _ written c.in-Err-write_all.ensures.err

@@ -15,11 +15,13 @@ loop-message-preserved c = λ octets is.
     (messages_of (take c.loop-message.message-index c.args.reading.now.shown.items)) in
     let same : row_of_message c.deref.result.now c.deref-in-loop-message.result.now message
     ≡ message_row c.args.reading.now.cell.lac c.args.reading.now.cell.ci message = search rules in
-    let more : IsTable c.push_message.new.self (front ++ message_row c.args.reading.now.cell.lac c.args.reading.now.cell.ci message) =
+    let more : IsTable c.push_message.new.self (front ++ message_row c.args.reading.now.cell.lac
+    c.args.reading.now.cell.ci message) =
     subst (λ (xs : List ℕ). IsTable c.push_message.new.self (front ++ xs)) same
     (c.in_ok-push_message.ensures _ (c.loop-message.invariant octets is)) in
     subst (λ (xs : List ℕ). IsTable c.push_message.new.self xs)
-    (flat_map-next message_shown (message_row c.args.reading.now.cell.lac c.args.reading.now.cell.ci) c.args.reading.now.shown.items
+    (flat_map-next message_shown (message_row c.args.reading.now.cell.lac c.args.reading.now.cell.ci)
+    c.args.reading.now.shown.items
     c.loop-message.message-index c.message-item.result octets (omega arith)
     (rw (← c.deref-message-items.ensures.value) c.message-item.is))
     more
@@ -27,6 +29,7 @@ loop-message-preserved c = λ octets is.
 pub returns : goal.returns
 returns c = λ octets is.
     subst (λ (xs : List ℕ). IsTable c.loop-message.self xs)
-    (ap (λ items. octets ++ flat_map (message_row c.args.reading.now.cell.lac c.args.reading.now.cell.ci) (messages_of items))
+    (ap (λ items. octets ++ flat_map (message_row c.args.reading.now.cell.lac c.args.reading.now.cell.ci)
+    (messages_of items))
     (take_all c.loop-message.message-index c.args.reading.now.shown.items (omega arith)))
     (c.loop-message.invariant octets is)

@@ -8,4 +8,5 @@ use Rattle.warnc_engine.proofs.table.Table.push_reading.Given as goal
 abbrev pub invariant-loop-message : goal.invariant-loop-message
 invariant-loop-message l =
     (octets : List ℕ) → IsTable l.fn.self octets → IsTable l.self (octets
-    ++ flat_map (message_row l.reading.cell.lac l.reading.cell.ci) (messages_of (take l.message-index l.reading.shown.items)))
+    ++ flat_map (message_row l.reading.cell.lac l.reading.cell.ci)
+    (messages_of (take l.message-index l.reading.shown.items)))
