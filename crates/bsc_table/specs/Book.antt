@@ -3,7 +3,6 @@ use Rattle.std.specs.Prelude.{◌≡◌, ℕ, ◌+◌, ◌<◌, ⊤, Bool, true,
 use Rattle.admission.specs.declared.budget.Held.{Held}
 use Rattle.admission.specs.declared.budget.NoRoom.{NoRoom}
 use Rattle.admission.specs.declared.budget.NoRoom.TheVariants.{Table, Load}
-use Rattle.admission.specs.declared.measure.TheConstants.{SCALE}
 use Rattle.admission.specs.Load.{load_of}
 use Rattle.admission.specs.Reservation.{is_before_end, end_of_reservation}
 use Rattle.scheduler.specs.Message.{Message, stopped_if}
@@ -18,7 +17,7 @@ use Rattle.bsc_table.specs.declared.kept.Kept.{Kept}
 use Rattle.bsc_table.specs.declared.book.CellBook.TheInside.{Inside}
 use Rattle.bsc_table.specs.declared.record.CellRecord.TheInside as kept
 use Rattle.bsc_table.specs.Record.{Record, Accepted, accepted_in, messages_in, claims_of, is_of_pair, is_live}
-use Rattle.bsc_table.specs.Claim.{is_claimed_at, claimed_at}
+use Rattle.bsc_table.specs.Begun.{IsBegun}
 use Rattle.bsc_table.specs.Orders.{IsWellFormed}
 use Rattle.bsc_table.specs.Answer.{answer_with_room}
 use Rattle.bsc_table.specs.Legal.{IsLegal}
@@ -46,6 +45,8 @@ accepted_of k = record {
   id = k.id;
   serial = k.serial;
   accepted = k.accepted;
+  behind = None;
+  excess = 0;
   message = record {
     number = k.number;
     start = k.start;
@@ -64,18 +65,6 @@ kept_stopped number slot k = record k { stop = if k.number == number then Some s
 -- the message of that number stopped at the slot
 abbrev pub stop_numbered : ℕ → ℕ → Accepted → Accepted
 stop_numbered number slot a = record a { message = stopped_if (a.message.number == number) slot a.message }
-
--- a message that may be accepted at the slot, and begin there, beside those accepted before: it has a page and a
--- period, and there is room for it
-pub record IsBegun (number slot : ℕ) (before : List Accepted) (a : Accepted) : Type 0 where
-  pub numbered : a.message.number ≡ number
-  pub accepted : a.accepted ≡ slot
-  pub begins : a.message.start ≡ slot
-  pub standing : a.message.stop ≡ None
-  pub some_pages : 0 < a.message.pages
-  pub some_period : 0 < a.message.period
-  pub room : length (filter (is_claimed_at slot) (claims_of before)) < 64
-  pub fits : claimed_at (claims_of before) slot + load_of a.message.pages a.message.period ≤ SCALE
 
 -- an entry that is to come next: at the clock, with the right answer to a well-formed command, where the log has room
 pub record IsNext (r : Record) (e : Entry) : Type 0 where
@@ -96,13 +85,13 @@ pub record IsStop (r : Record) (e : Entry) (old : Accepted) : Type 0 where
 
 -- an entry starts a message
 pub record IsStart (r : Record) (e : Entry) (new : Accepted) : Type 0 where
-  pub begun : IsBegun (length r.log) r.clock (accepted_in r.log) new
+  pub begun : IsBegun (length r.log) r.clock None (accepted_in r.log) new
   pub after : accepted_in (r.log ++ e ∷ []) ≡ accepted_in r.log ++ new ∷ []
 
 -- an entry stops a message and starts one in its place
 pub record IsReplacement (r : Record) (e : Entry) (old new : Accepted) : Type 0 where
   pub stops : IsLiveIn r old
-  pub begun : IsBegun (length r.log) r.clock (map (stop_numbered old.message.number r.clock) (accepted_in r.log)) new
+  pub begun : IsBegun (length r.log) r.clock (Some old) (map (stop_numbered old.message.number r.clock) (accepted_in r.log)) new
   pub after : accepted_in (r.log ++ e ∷ []) ≡ map (stop_numbered old.message.number r.clock) (accepted_in r.log) ++ new ∷ []
 
 -- a record with one more entry

@@ -1,6 +1,7 @@
 -- The entries of a log that were accepted, and what the others do (own): nothing.
 use Rattle.std.specs.Prelude.{◌≡◌, ℕ, Bool, false, ◌||◌, is_some, List, [], ◌∷◌, ◌++◌, map, filter}
 use Rattle.std.specs.List.{slice_get}
+use Rattle.std.specs.Option.{option_map}
 use Rattle.scheduler.specs.Renumbered.{KeepsOrder, renumbered}
 use Rattle.bsc_table.specs.declared.entry.Entry.{Entry}
 use Rattle.bsc_table.specs.Record.{Accepted, start_of, accepted_in}
@@ -19,9 +20,9 @@ accepted_entries log = filter is_accepted log
 abbrev pub RefusalsChangeNothing : Type 0
 RefusalsChangeNothing = (log : List Entry) (e : Entry) → is_accepted e ≡ false → accepted_in (log ++ e ∷ []) ≡ accepted_in log
 
--- an accepted message under another number
+-- an accepted message under another number, where the one behind which it waits has another, too
 abbrev pub accepted_renumbered : (ℕ → ℕ) → Accepted → Accepted
-accepted_renumbered f a = record a { message = renumbered f a.message }
+accepted_renumbered f a = record a { message = renumbered f a.message; behind = option_map f a.behind }
 
 -- `place` gives each accepted entry's place in the log by its place among the accepted ones, in order; and the
 -- accepted messages of the log are those of the accepted entries alone, numbered by these places
