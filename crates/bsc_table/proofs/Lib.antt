@@ -11,6 +11,7 @@ pub mod Told
 mod Worked
 pub mod BookLaws
 mod Histories
+mod Takeovers
 pub mod Appended
 pub mod Named
 pub mod Numbers
