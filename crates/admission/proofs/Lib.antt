@@ -1,5 +1,7 @@
 pub mod Loads
+pub mod Matched
 pub mod Reservations
+mod Rising
 mod Scale
-mod Tables
+pub mod Tables
 mod Worked

@@ -36,7 +36,7 @@ is_reserved_at-from slot r h =
     rw (started, stands) refl
 
 -- before the end stays before it at earlier slots
-IsBeforeEnd-earlier : (clock slot : ℕ) (end : Option ℕ) → clock ≤ slot → IsBeforeEnd slot end → IsBeforeEnd clock end
+pub IsBeforeEnd-earlier : (clock slot : ℕ) (end : Option ℕ) → clock ≤ slot → IsBeforeEnd slot end → IsBeforeEnd clock end
 IsBeforeEnd-earlier clock slot None le h = tt
 IsBeforeEnd-earlier clock slot (Some end) le h = omega arith
 

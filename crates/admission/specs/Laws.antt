@@ -2,7 +2,10 @@
 use Rattle.std.specs.Prelude.{◌≡◌, ℕ, ◌+◌, ◌*◌, ◌%◌, ◌<◌, ◌≤◌, List, filter, sum_by}
 use Rattle.admission.specs.declared.measure.TheConstants.{SCALE}
 use Rattle.admission.specs.Load.{load_of}
+use Rattle.admission.specs.declared.budget.Held.{Held}
 use Rattle.admission.specs.Reservation.{Reservation, is_before_end, loads_at, end_of_stopped}
+use Rattle.admission.specs.Waiting.{held_now, held_at}
+use Rattle.admission.specs.Table.{IsAdmitted, passed}
 
 -- each period of up to 20 slots divides SCALE
 abbrev pub PeriodsDivideScale : Type 0
@@ -49,3 +52,22 @@ StopCovers = (start period periods stop : ℕ)
     → 0 < period
     → start + periods * period < stop
     → start + (periods + 1) * period ≤ end_of_stopped start period stop
+
+-- at no slot do the lines of a budget hold more than now
+abbrev pub NoSlotOverNow : Type 0
+NoSlotOverNow = (table : List Held) (slot : ℕ) → IsAdmitted table → sum_by (held_at slot) table ≤ sum_by held_now table
+
+-- nor more than SCALE
+abbrev pub NoSlotOverScale : Type 0
+NoSlotOverScale = (table : List Held) (slot : ℕ) → IsAdmitted table → sum_by (held_at slot) table ≤ SCALE
+
+-- from slot to slot what they hold never rises
+abbrev pub HeldNeverRises : Type 0
+HeldNeverRises = (table : List Held) (t u : ℕ)
+    → IsAdmitted table
+    → t ≤ u
+    → sum_by (held_at u) table ≤ sum_by (held_at t) table
+
+-- what a table holds once a slot has come is what it was to hold there
+abbrev pub PassedIsHeld : Type 0
+PassedIsHeld = (table : List Held) (slot : ℕ) → sum_by held_now (passed slot table) ≡ sum_by (held_at slot) table

@@ -2,3 +2,4 @@ pub mod Laws
 pub mod Load
 pub mod Reservation
 pub mod Table
+pub mod Waiting

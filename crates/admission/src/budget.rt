@@ -1,7 +1,9 @@
 //! The table of the loads that are reserved in a cell.
 
-ghost use Rattle.std.specs.Prelude.{◌≡◌, ◌≢◌, ℕ, ◌==◌, ◌≤◌, List, [], length, ◌∷◌, ◌++◌, filter, map, sum_by, All, Any, AllPairs, OnOk, OnErr, MatchBool};
-ghost use Rattle.admission.specs.Table.{answer_for, answer_of, remaining_without, ends_at, ends_if, IsAdmitted};
+ghost use Rattle.std.specs.Prelude.{◌≡◌, ◌≢◌, ℕ, ◌==◌, ◌≤◌, Some, None, List, [], length, ◌∷◌, ◌++◌, sum_by, All, Any, OnOk, OnErr, MatchBool};
+ghost use Rattle.std.specs.Option.{option_map};
+ghost use Rattle.admission.specs.Table.{answer_for, answer_of, remaining_without, load_for, excess_over, ends_at, ends_if, passed, IsAdmitted, HasPlace};
+ghost use Rattle.admission.specs.Waiting.{behind_of, held_now, held_at, waits_at, started_at};
 ghost use Rattle.admission.specs.Reservation.{is_before_end};
 
 use crate::measure::SCALE;
@@ -11,16 +13,42 @@ use std::marker::Model;
 /// How many messages may be reserved in a cell at once (own).
 const PLACES: usize = 64;
 
-/// One line of a budget: the load that is reserved for a log entry, up to, and without, the slot at which it ends. `None`
-/// is a reservation with no end yet.
+/// One line of a budget: the load that is reserved for a log entry, up to, and without, the slot at which it ends.
+///
+/// A line may wait behind another: up to its start it holds its excess alone, from there on its whole load.
 #[derive(Clone, Copy, Debug, Default, PartialEq, Eq)]
 pub struct Held {
     /// The number of the log entry.
     pub entry: u16,
     /// The load, in parts of `SCALE`.
     pub load: u64,
-    /// The slot at which the reservation ends.
+    /// The slot at which the reservation ends. `None` is a reservation with no end yet.
     pub until: Option<u32>,
+    /// What the line waits for. `None` is a line that has started.
+    pub waits: Option<Waits>,
+}
+
+/// What a line waits for, and what it holds until then.
+#[derive(Clone, Copy, Debug, Default, PartialEq, Eq)]
+pub struct Waits {
+    /// The number of the log entry behind which it waits.
+    pub behind: u16,
+    /// The slot at which it starts, where the one before it ends.
+    pub start: u32,
+    /// The load that it holds up to, and without, that slot, in parts of `SCALE`.
+    pub excess: u64,
+}
+
+impl Held {
+    /// What the line holds now, in parts of `SCALE`: its excess while it waits, else its whole load.
+    pub fn now(&self) -> u64
+        ensures { result ≡ held_now self.now }
+    {
+        match self.waits {
+            None => self.load,
+            Some(waits) => waits.excess,
+        }
+    }
 }
 
 /// Why a load was not admitted.
@@ -35,10 +63,12 @@ pub enum NoRoom {
 /// The loads that are reserved in a cell, in the order in which they were reserved.
 ///
 /// A contract sees a budget as the list of its lines. Each entry stands in it once, there are at most 64 lines, and
-/// their loads sum to at most `SCALE`. The slots of `pass_slot` may come in any order.
+/// what they hold sums to at most `SCALE`, now and at each slot. Each line that waits does so behind one that has started
+/// and ends where it starts, and no two wait behind the same. The slots of `pass_slot` may come in any order.
 ///
 /// A third of a cell's slots fits three times: after `reserve(entry, load(1, 3), None)` for three entries, `fits(1, None)`
-/// answers `Err(NoRoom::Load)`.
+/// answers `Err(NoRoom::Load)`. Where entry 2 then ends at slot 6, `reserve_behind(3, load(1, 3), 2, 6, None)` has room
+/// all the same: entry 3 holds nothing up to slot 6, and a third from there on.
 #[derive(Drop)]
 pub struct Budget {
     table: ArrayVec<Held, 64>,
@@ -79,43 +109,98 @@ impl Budget {
         }
     }
 
+    /// Whether `load` could wait now behind the entry `behind`, as if the entry `leaving` were gone: whether there is room
+    /// for what it has over the load of `behind`. It changes nothing. The entry `behind` is reserved and has started.
+    pub fn fits_behind(&self, load: u64, behind: u16, leaving: Option<u16>) -> Result<(), NoRoom>
+        requires { Any (λ h. (h.entry ≡ behind) × (h.waits ≡ None)) self.now }
+        ensures { result ≡ answer_for (remaining_without leaving self.now) (excess_over behind load self.now) }
+    {
+        let excess = excess_over(self.table.as_slice(), behind, load);
+        self.fits(excess, leaving)
+    }
+
     /// Reserves `load` for `entry` up to, and without, the slot `until`. The entry is not reserved yet.
     pub fn reserve(&mut self, entry: u16, load: u64, until: Option<u32>) -> Result<(), NoRoom>
         requires { All (λ h. h.entry ≢ entry) self.old }
         ensures answer { result ≡ answer_for self.old load }
         ensures reserved { OnOk result
-            (self.new ≡ self.old ++ record { entry = entry; load = load; until = until } ∷ []) }
+            (self.new ≡ self.old ++ record { entry = entry; load = load; until = until; waits = None } ∷ []) }
         ensures refused { OnErr result (self.new ≡ self.old) }
     {
-        room(self.table.len(), total(self.table.as_slice()), load)?;
-        self.table.push(Held { entry, load, until });
-        Ok(())
+        self.add(Held {
+            entry,
+            load,
+            until,
+            waits: None,
+        })
     }
 
-    /// Lets the reservation of `entry` end at `slot`: it is counted up to, and without, that slot. The entry is reserved.
+    /// Reserves `load` for `entry` up to, and without, the slot `until`, where it waits behind the entry `behind` up to the
+    /// slot `start`: until then it holds what its load has over that one's, or nothing where that is no less; from then
+    /// on it holds its load.
+    ///
+    /// The entry is not reserved yet. The entry `behind` is reserved, has started and ends at `start`, and no entry waits
+    /// behind it.
+    pub fn reserve_behind(
+        &mut self,
+        entry: u16,
+        load: u64,
+        behind: u16,
+        start: u32,
+        until: Option<u32>,
+    ) -> Result<(), NoRoom>
+        requires new { All (λ h. h.entry ≢ entry) self.old }
+        requires ends { Any (λ h. (h.entry ≡ behind) × (h.waits ≡ None) × (h.until ≡ Some start)) self.old }
+        requires free { All (λ h. behind_of h ≢ Some behind) self.old }
+        ensures answer { result ≡ answer_for self.old (excess_over behind load self.old) }
+        ensures reserved { OnOk result
+            (self.new ≡ self.old ++ record {
+              entry = entry;
+              load = load;
+              until = until;
+              waits = Some (record { behind = behind; start = start; excess = excess_over behind load self.old });
+            } ∷ []) }
+        ensures refused { OnErr result (self.new ≡ self.old) }
+    {
+        let excess = excess_over(self.table.as_slice(), behind, load);
+        self.add(Held {
+            entry,
+            load,
+            until,
+            waits: Some(Waits {
+                behind,
+                start,
+                excess,
+            }),
+        })
+    }
+
+    /// Lets the reservation of `entry` end at `slot`: it is counted up to, and without, that slot. The entry is reserved,
+    /// and no entry waits behind it.
     pub fn release_at(&mut self, entry: u16, slot: u32)
-        requires { Any (λ h. h.entry ≡ entry) self.old }
+        requires reserved { Any (λ h. h.entry ≡ entry) self.old }
+        requires free { All (λ h. behind_of h ≢ Some entry) self.old }
         ensures { self.new ≡ ends_at entry slot self.old }
     {
         end_at(self.table.as_mut_slice(), entry, slot);
     }
 
-    /// Drops what ended by `slot`. A reservation that ends at a slot is not counted at that slot.
+    /// Drops what ended by `slot`, and lets what waits start where its start is no later. A reservation that ends at a slot
+    /// is not counted at that slot, and one that starts at a slot holds its whole load there.
     pub fn pass_slot(&mut self, slot: u16)
-        ensures { self.new ≡ filter (λ h. is_before_end slot h.until) self.old }
+        ensures { self.new ≡ passed slot self.old }
     {
         self.table = remaining_at(self.table.as_slice(), slot);
     }
 
-    /// The sum of the loads in the table, in parts of `SCALE`.
+    /// The sum of what the lines hold now, in parts of `SCALE`.
     pub fn reserved(&self) -> u64
-        ensures sum { result ≡ sum_by (λ h. h.load) self.now }
+        ensures sum { result ≡ sum_by held_now self.now }
         ensures admitted { IsAdmitted self.now }
         ensures at_most_whole { result ≤ SCALE }
 
-        // At no slot is more reserved than the table holds.
-        ensures at_every_slot { (slot : ℕ)
-            → sum_by (λ h. h.load) (filter (λ h. is_before_end slot h.until) self.now) ≤ result }
+        // At no slot is more held than now.
+        ensures at_every_slot { (slot : ℕ) → sum_by (held_at slot) self.now ≤ result }
     {
         total(self.table.as_slice())
     }
@@ -127,6 +212,48 @@ impl Budget {
     {
         self.table.iter().any(|held| held.entry == entry)
     }
+
+    /// Whether a load is reserved for `entry` and has started, as `fits_behind` asks of the one behind which to wait.
+    pub fn has_started(&self, entry: u16) -> bool
+        ensures { MatchBool result (Any (λ h. (h.entry ≡ entry) × (h.waits ≡ None)) self.now)
+            (All (λ h. ¬ ((h.entry ≡ entry) × (h.waits ≡ None))) self.now) }
+    {
+        self.table
+            .iter()
+            .any(|held| held.entry == entry && held.waits.is_none())
+    }
+
+    /// Whether a load is reserved for `entry`, has started and ends at `slot`, as `reserve_behind` asks of the one behind
+    /// which to wait.
+    pub fn ends_at(&self, entry: u16, slot: u32) -> bool
+        ensures { MatchBool result (Any (λ h. (h.entry ≡ entry) × (h.waits ≡ None) × (h.until ≡ Some slot)) self.now)
+            (All (λ h. ¬ ((h.entry ≡ entry) × (h.waits ≡ None) × (h.until ≡ Some slot))) self.now) }
+    {
+        self.table.iter().any(|held| held.entry == entry
+            && held.waits.is_none()
+            && held.until == Some(slot))
+    }
+
+    /// Whether an entry waits behind `entry`, as `reserve_behind` and `release_at` ask.
+    pub fn is_awaited(&self, entry: u16) -> bool
+        ensures { MatchBool result (Any (λ h. behind_of h ≡ Some entry) self.now)
+            (All (λ h. behind_of h ≢ Some entry) self.now) }
+    {
+        self.table.iter().any(|held| is_behind(held.waits, entry))
+    }
+
+    /// Adds a line, where there is room for what it holds now.
+    fn add(&mut self, line: Held) -> Result<(), NoRoom>
+        requires new { All (λ h. h.entry ≢ line.entry) self.old }
+        requires handed { HasPlace line.load line.waits self.old }
+        ensures answer { result ≡ answer_for self.old (held_now line) }
+        ensures added { OnOk result (self.new ≡ self.old ++ line ∷ []) }
+        ensures refused { OnErr result (self.new ≡ self.old) }
+    {
+        room(self.table.len(), total(self.table.as_slice()), line.now())?;
+        self.table.push(line);
+        Ok(())
+    }
 }
 
 impl Default for Budget {
@@ -137,24 +264,53 @@ impl Default for Budget {
     }
 }
 
-/// The sum of the loads of a table.
-fn total(table: &[Held]) -> u64
-    requires { sum_by (λ h. h.load) table.now ≤ SCALE }
-    ensures { result ≡ sum_by (λ h. h.load) table.now }
+/// Whether what waits so waits behind `entry`.
+fn is_behind(waits: Option<Waits>, entry: u16) -> bool
+    ensures { MatchBool result (option_map (λ w. w.behind) waits ≡ Some entry) (option_map (λ w. w.behind) waits ≢ Some entry) }
 {
-    table.iter().map(|held| held.load).sum()
+    match waits {
+        None => false,
+        Some(waits) => waits.behind == entry,
+    }
 }
 
-/// The sum of the loads of the others of a table.
+/// What a load has over the one that is reserved for `entry`, or 0.
+fn excess_over(table: &[Held], entry: u16, load: u64) -> u64
+    ensures { result ≡ excess_over entry load table.now }
+{
+    load.saturating_sub(load_for(table, entry))
+}
+
+/// The load that is reserved for `entry`, or 0.
+fn load_for(table: &[Held], entry: u16) -> u64
+    ensures { result ≡ load_for entry table.now }
+{
+    for held in table {
+        if held.entry == entry {
+            return held.load;
+        }
+    }
+    0
+}
+
+/// The sum of what the lines of a table hold now.
+fn total(table: &[Held]) -> u64
+    requires { sum_by held_now table.now ≤ SCALE }
+    ensures { result ≡ sum_by held_now table.now }
+{
+    table.iter().map(|held| held.now()).sum()
+}
+
+/// The sum of what the others of a table hold now.
 fn total_without(table: &[Held], entry: u16) -> u64
-    requires { sum_by (λ h. h.load) table.now ≤ SCALE }
-    ensures sum { result ≡ sum_by (λ h. h.load) (remaining_without (Some entry) table.now) }
+    requires { sum_by held_now table.now ≤ SCALE }
+    ensures sum { result ≡ sum_by held_now (remaining_without (Some entry) table.now) }
     ensures at_most_whole { result ≤ SCALE }
 {
     table
         .iter()
         .filter(|held| held.entry != entry)
-        .map(|held| held.load)
+        .map(|held| held.now())
         .sum()
 }
 
@@ -165,7 +321,7 @@ fn count_without(table: &[Held], entry: u16) -> usize
     table.iter().filter(|held| held.entry != entry).count()
 }
 
-/// Whether a load has room beside `places` reserved messages whose loads sum to `sum`.
+/// Whether a load has room beside `places` reserved messages that hold `sum`.
 fn room(places: usize, sum: u64, load: u64) -> Result<(), NoRoom>
     requires { sum ≤ SCALE }
     ensures { result ≡ answer_of places sum load }
@@ -202,18 +358,38 @@ fn ended(held: Held, entry: u16, slot: u32) -> Held
     }
 }
 
-/// The lines of a table that are still counted at `slot`.
+/// The lines of a table that are still counted at `slot`, as they are there.
 fn remaining_at(table: &[Held], slot: u16) -> ArrayVec<Held, 64>
     requires { length table.now ≤ 64 }
-    ensures { result.items ≡ filter (λ h. is_before_end slot h.until) table.now }
+    ensures { result.items ≡ passed slot table.now }
 {
     let mut remaining: ArrayVec<Held, 64> = ArrayVec::new();
     for held in table {
         if is_counted(held.until, slot) {
-            remaining.push(*held);
+            remaining.push(started(*held, slot));
         }
     }
     remaining
+}
+
+/// A line as it is at `slot`: it waits no more, where it starts by then.
+fn started(held: Held, slot: u16) -> Held
+    ensures { result ≡ started_at slot held }
+{
+    Held {
+        waits: still_waits(held.waits, slot),
+        ..held
+    }
+}
+
+/// What is still waited for at `slot`.
+fn still_waits(waits: Option<Waits>, slot: u16) -> Option<Waits>
+    ensures { result ≡ waits_at slot waits }
+{
+    match waits {
+        Some(waits) if u32::from(slot) < waits.start => Some(waits),
+        _ => None,
+    }
 }
 
 /// Whether a reservation that ends at `until` is counted at `slot`.

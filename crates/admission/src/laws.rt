@@ -1,6 +1,7 @@
 //! Laws of loads and of reservations, over their definitions alone.
 
 ghost use Rattle.admission.specs.Laws.{PeriodsDivideScale, ScaleIsTheLeast, LoadsAreExact, NoSlotOverAll, NoSlotOverStanding};
+ghost use Rattle.admission.specs.Laws.{NoSlotOverNow, NoSlotOverScale, HeldNeverRises, PassedIsHeld};
 ghost use Rattle.admission.specs.Laws.{StopOnBoundary, StopBeforeStart, StopNoLater, StopCovers};
 
 /// States, as its contract, what the parts of a cell's slots are. It does nothing.
@@ -30,4 +31,14 @@ pub fn reservation_laws()
 
     // Each period that begins before the stop lies inside the reservation.
     ensures stop_covers { StopCovers }
+
+    // At no slot do the lines of a budget hold more than now, nor more than `SCALE`.
+    ensures no_slot_over_now { NoSlotOverNow }
+    ensures no_slot_over_scale { NoSlotOverScale }
+
+    // From slot to slot what they hold never rises, though some may wait for their start.
+    ensures held_never_rises { HeldNeverRises }
+
+    // What a budget holds once a slot has come is what it was to hold there.
+    ensures passed_is_held { PassedIsHeld }
 {}

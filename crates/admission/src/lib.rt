@@ -7,6 +7,6 @@ mod budget;
 mod laws;
 mod measure;
 
-pub use budget::{Budget, Held, NoRoom};
+pub use budget::{Budget, Held, NoRoom, Waits};
 pub use laws::{reservation_laws, scale_laws};
 pub use measure::{SCALE, load};

@@ -18,7 +18,8 @@ pub mod Numbers
 pub mod Outcome
 pub mod Sound
 pub mod Entered
-pub mod Rooms
+pub mod Lines
+pub mod Handed
 pub mod Booked
 pub mod Accepting
 pub mod Entering

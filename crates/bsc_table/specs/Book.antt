@@ -1,10 +1,10 @@
 -- What a cell's book keeps beside its record (own).
-use Rattle.std.specs.Prelude.{◌≡◌, ℕ, ◌+◌, ◌<◌, ⊤, Bool, true, false, not, find, ◌≤◌, ◌==◌, if◌then◌else◌, Option, Some, None, Result, Ok, Err, List, [], ◌∷◌, ◌++◌, length, map, filter, Contains, vec_len, vec_capacity}
+use Rattle.std.specs.Prelude.{◌≡◌, ℕ, ◌+◌, ◌<◌, ⊤, Bool, true, false, not, find, nat_lt, ◌≤◌, ◌==◌, if◌then◌else◌, Option, Some, None, Result, Ok, Err, List, [], ◌∷◌, ◌++◌, length, map, filter, Contains, vec_len, vec_capacity}
 use Rattle.admission.specs.declared.budget.Held.{Held}
+use Rattle.admission.specs.declared.budget.Waits.{Waits}
 use Rattle.admission.specs.declared.budget.NoRoom.{NoRoom}
 use Rattle.admission.specs.declared.budget.NoRoom.TheVariants.{Table, Load}
-use Rattle.admission.specs.Load.{load_of}
-use Rattle.admission.specs.Reservation.{is_before_end, end_of_reservation}
+use Rattle.std.specs.Option.{option_map}
 use Rattle.scheduler.specs.Message.{Message, stopped_if}
 use Rattle.scheduler.specs.Air.{Air}
 use Rattle.scheduler.specs.Follows.{Follows}
@@ -16,8 +16,9 @@ use Rattle.bsc_table.specs.declared.entry.Entry.{Entry}
 use Rattle.bsc_table.specs.declared.kept.Kept.{Kept}
 use Rattle.bsc_table.specs.declared.book.CellBook.TheInside.{Inside}
 use Rattle.bsc_table.specs.declared.record.CellRecord.TheInside as kept
-use Rattle.bsc_table.specs.Record.{Record, Accepted, accepted_in, messages_in, claims_of, is_of_pair, is_live}
+use Rattle.bsc_table.specs.Record.{Record, Accepted, accepted_in, messages_in, claims_in, is_of_pair, is_live}
 use Rattle.bsc_table.specs.Begun.{IsBegun}
+use Rattle.bsc_table.specs.Claim.{Claim, own_load, end_of, is_claimed_at}
 use Rattle.bsc_table.specs.Orders.{IsWellFormed}
 use Rattle.bsc_table.specs.Answer.{answer_with_room}
 use Rattle.bsc_table.specs.Legal.{IsLegal}
@@ -114,17 +115,18 @@ abbrev pub is_stopped : Answer → Bool
 is_stopped (answers.Stopped completed) = true
 is_stopped other = false
 
--- a message's line of a budget
-abbrev pub line_of : Message → Held
-line_of m = record {
-  entry = m.number;
-  load = load_of m.pages m.period;
-  until = end_of_reservation m.start m.period m.requested m.stop;
-}
+-- what a claim's line of a budget waits for at a slot: up to its start, the end of the one behind which it waits
+abbrev pub waits_of : ℕ → Claim → Option Waits
+waits_of slot c =
+    if nat_lt slot c.message.start then option_map (λ behind. record { behind = behind; start = c.message.start; excess = c.excess }) c.behind else None
 
--- the lines that a budget holds at a slot: of the messages whose reservations don't end by then
-abbrev pub lines_at : ℕ → List Message → List Held
-lines_at slot messages = filter (λ h. is_before_end slot h.until) (map line_of messages)
+-- a claim's line of a budget at a slot
+abbrev pub line_of : ℕ → Claim → Held
+line_of slot c = record { entry = c.message.number; load = own_load c.message; until = end_of c.message; waits = waits_of slot c }
+
+-- the lines that a budget holds at a slot: of the claims that are reserved there
+abbrev pub lines_at : ℕ → List Claim → List Held
+lines_at slot claims = map (line_of slot) (filter (is_claimed_at slot) claims)
 
 -- no message of a pair is live, and one is
 abbrev pub IsNotLive : ℕ → Option Message → Type 0
@@ -148,7 +150,7 @@ pub record IsBook (b : Inside) : Type 0 where
   pub short : b.slots ≤ 4096
   pub kept : map accepted_of b.accepted.items ≡ accepted_in b.log.items
   pub follows : Follows b.plan (messages_in b.log.items) (air_told b.air.items)
-  pub held : b.budget ≡ lines_at b.clock (messages_in b.log.items)
+  pub held : b.budget ≡ lines_at b.clock (claims_in b.log.items)
   pub places : vec_len b.air ≡ b.clock
   pub room : b.slots ≤ vec_capacity b.air
 
