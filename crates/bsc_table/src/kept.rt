@@ -7,11 +7,16 @@ ghost use Rattle.admission.specs.Load.{load_of};
 ghost use Rattle.admission.specs.Reservation.{natural_end, end_of_stopped};
 ghost use Rattle.scheduler.specs.Follows.{message_from};
 ghost use Rattle.bsc_table.specs.Record.{is_of_pair, is_live, state_at};
+ghost use Rattle.bsc_table.specs.declared.kept.TheConstants.{LATEST_START};
 ghost use Rattle.bsc_table.specs.Book.{accepted_of, kept_stopped};
 
 use crate::entry::State;
 use cbs_page::Serial;
 use scheduler::Item;
+
+/// No message starts as late as this slot. One that waits starts at the end of the period in which another was stopped:
+/// with a slot and a period of 16 bits at `0xFFFF + 0xFFFE` at most, so that the end of its broadcasts has room in 32 bits.
+const LATEST_START: u32 = 0x1_FFFE;
 
 /// A message that was accepted.
 #[derive(Clone, Copy, Debug, PartialEq, Eq)]
@@ -24,8 +29,12 @@ pub struct Kept {
     pub number: u16,
     /// The slot at which it was accepted.
     pub accepted: u16,
-    /// The slot from which it stands.
-    pub start: u16,
+    /// The number of the message behind which it waits up to its start. None where it started at once.
+    pub behind: Option<u16>,
+    /// The load that it reserves up to its start, in parts of `SCALE`.
+    pub excess: u64,
+    /// The slot from which it is broadcast.
+    pub start: u32,
     /// Its pages, from 1 to 15.
     pub pages: u8,
     /// The repetition period in slots, from 1 to 1,024.
@@ -45,7 +54,7 @@ impl Kept {
     {
         Item {
             entry: self.number,
-            start: u32::from(self.start),
+            start: self.start,
             pages: self.pages,
             period: self.period,
             broadcasts: self.broadcasts,
@@ -63,22 +72,25 @@ impl Kept {
 
     /// The slot at which the periods of its requested broadcasts end. None where it stands until it is stopped.
     pub fn natural_end(&self) -> Option<u32>
+        requires { self.now.start < LATEST_START }
         ensures { result ≡ natural_end self.now.start self.now.period self.now.broadcasts }
     {
         if self.broadcasts == 0 {
             return None;
         }
-        Some(u32::from(self.start) + u32::from(self.broadcasts) * u32::from(self.period))
+        Some(self.start + u32::from(self.broadcasts) * u32::from(self.period))
     }
 
     /// The slot up to which its load stays reserved if it is stopped at `slot`: the end of the period in which that
     /// is, and `slot` itself where it hasn't started by then.
     pub fn end_if_stopped(&self, slot: u16) -> u32
         requires { 0 < self.now.period }
-        ensures { result ≡ end_of_stopped self.now.start self.now.period slot }
+        ensures end { result ≡ end_of_stopped self.now.start self.now.period slot }
+        ensures soon { result < LATEST_START }
     {
-        let periods = slot.saturating_sub(self.start).div_ceil(self.period);
-        u32::from(self.start.min(slot)) + u32::from(self.period) * u32::from(periods)
+        let start = self.start.min(u32::from(slot));
+        let periods = (u32::from(slot) - start).div_ceil(u32::from(self.period));
+        start + u32::from(self.period) * periods
     }
 
     /// Its number, where a stop at `slot` would end its reservation there and then: on the boundary of its period.
@@ -97,11 +109,9 @@ impl Kept {
     pub fn is_live(&self, slot: u16) -> bool
         ensures { result ≡ is_live slot (accepted_of self.now).message }
     {
+        let periods = u64::from(self.broadcasts) * u64::from(self.period);
         self.stop.is_none()
-            && match self.natural_end() {
-                None => true,
-                Some(end) => u32::from(slot) < end,
-            }
+            && (self.broadcasts == 0 || u64::from(slot) < u64::from(self.start) + periods)
     }
 
     /// How it stands before `slot`.
