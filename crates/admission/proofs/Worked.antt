@@ -1,7 +1,11 @@
 -- The definitions on worked values.
-use Rattle.std.proofs.Common.{◌≡◌, refl, Some, None, [], ◌∷◌}
+use Rattle.std.proofs.Common.{◌≡◌, refl, Some, None, [], ◌∷◌, sum_by}
+use Rattle.admission.specs.declared.budget.Held.{Held}
+use Rattle.admission.specs.declared.measure.TheConstants.{SCALE}
 use Rattle.admission.specs.Load.{load_of}
 use Rattle.admission.specs.Reservation.{loads_at, end_of_reservation}
+use Rattle.admission.specs.Table.{excess_over, passed}
+use Rattle.admission.specs.Waiting.{held_now, held_at}
 
 -- one page in each slot takes all, and one in every third slot takes a third
 load_whole : load_of 1 1 ≡ 232792560
@@ -42,3 +46,28 @@ freed = refl
 
 not_begun : loads_at (record { number = 0; load = 5; start = 2; end = Some 6 } ∷ []) 1 ≡ 0
 not_begun = refl
+
+-- a quarter of the slots that ends at slot 4, a half, and a half that waits behind the quarter: until then it holds a quarter
+abbrev quarter : Held
+quarter = record { entry = 0; load = 58198140; until = Some 4; waits = None }
+
+abbrev half : Held
+half = record { entry = 1; load = 116396280; until = None; waits = None }
+
+abbrev waiting : Held
+waiting = record { entry = 2; load = 116396280; until = None; waits = Some (record { behind = 0; start = 4; excess = 58198140 }) }
+
+excess_of_a_half : excess_over 0 (load_of 1 2) (quarter ∷ half ∷ []) ≡ 58198140
+excess_of_a_half = refl
+
+full_while_it_waits : sum_by held_now (quarter ∷ half ∷ waiting ∷ []) ≡ SCALE
+full_while_it_waits = refl
+
+full_before_its_start : sum_by (held_at 3) (quarter ∷ half ∷ waiting ∷ []) ≡ SCALE
+full_before_its_start = refl
+
+full_from_its_start : sum_by (held_at 4) (quarter ∷ half ∷ waiting ∷ []) ≡ SCALE
+full_from_its_start = refl
+
+passed_its_start : passed 4 (quarter ∷ half ∷ waiting ∷ []) ≡ half ∷ record { entry = 2; load = 116396280; until = None; waits = None } ∷ []
+passed_its_start = refl

@@ -8,8 +8,8 @@ use Rattle.admission.specs.declared.measure.TheConstants.{SCALE}
 use Rattle.admission.specs.Reservation.{is_before_end}
 use Rattle.admission.specs.Waiting.{behind_of, held_now, HandsOver, started_at}
 
--- each entry stands once, there are at most 64, what they hold now is no more than SCALE, each that waits does so behind
--- one that hands over to it, and no two behind the same
+-- each entry stands once, there are at most 64, what they hold now is no more than SCALE, each that waits does so
+-- behind one that hands over to it, and no two behind the same
 pub record IsAdmitted (table : List Held) : Type 0 where
   pub distinct : AllPairs (λ a b. a.entry ≢ b.entry) table
   pub places : length table ≤ 64
@@ -20,7 +20,8 @@ pub record IsAdmitted (table : List Held) : Type 0 where
 -- whether a load has room beside so many reserved messages that hold so much: `Table` where they are 64, else `Load`
 -- where the sum with the load would be over SCALE
 abbrev pub answer_of : ℕ → ℕ → ℕ → Result (Unit {0}) NoRoom
-answer_of places total load = if nat_lt places 64 then (if nat_le (total + load) SCALE then Ok tt else Err Load) else Err Table
+answer_of places total load =
+    if nat_lt places 64 then (if nat_le (total + load) SCALE then Ok tt else Err Load) else Err Table
 
 -- whether a load has room beside a table
 abbrev pub answer_for : List Held → ℕ → Result (Unit {0}) NoRoom
@@ -55,8 +56,8 @@ ends_at entry slot table = map (λ h. ends_if (h.entry == entry) slot h) table
 abbrev pub passed : ℕ → List Held → List Held
 passed slot table = map (started_at slot) (filter (λ h. is_before_end slot h.until) table)
 
--- a line of that load that waits so, or not, may be added: where it waits, another hands over to it, and none waits behind
--- that one yet
+-- a line of that load that waits so, or not, may be added: where it waits, another hands over to it, and none waits
+-- behind that one yet
 abbrev pub HasPlace : ℕ → Option Waits → List Held → Type 0
 HasPlace load None table = ⊤
 HasPlace load (Some w) table = Any (HandsOver load w) table × All (λ h. behind_of h ≢ Some w.behind) table

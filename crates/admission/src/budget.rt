@@ -41,7 +41,7 @@ pub struct Waits {
 
 impl Held {
     /// What the line holds now, in parts of `SCALE`: its excess while it waits, else its whole load.
-    pub fn now(&self) -> u64
+    fn now(&self) -> u64
         ensures { result ≡ held_now self.now }
     {
         match self.waits {
@@ -54,21 +54,22 @@ impl Held {
 /// Why a load was not admitted.
 #[derive(Clone, Copy, Debug, PartialEq, Eq)]
 pub enum NoRoom {
-    /// 64 messages are reserved already. It is told before `Load`.
+    /// 64 messages are reserved already. It is reported before `Load`.
     Table,
-    /// The reserved loads and the new one would be more than `SCALE`.
+    /// What is held now and the new load would be more than `SCALE`.
     Load,
 }
 
 /// The loads that are reserved in a cell, in the order in which they were reserved.
 ///
 /// A contract sees a budget as the list of its lines. Each entry stands in it once, there are at most 64 lines, and
-/// what they hold sums to at most `SCALE`, now and at each slot. Each line that waits does so behind one that has started
-/// and ends where it starts, and no two wait behind the same. The slots of `pass_slot` may come in any order.
+/// what they hold sums to at most `SCALE`, now and at each slot. Each line that waits does so behind one that has
+/// started and ends where it starts, and no two wait behind the same. The slots of `pass_slot` may come in any order.
 ///
-/// A third of a cell's slots fits three times: after `reserve(entry, load(1, 3), None)` for three entries, `fits(1, None)`
-/// answers `Err(NoRoom::Load)`. Where entry 2 then ends at slot 6, `reserve_behind(3, load(1, 3), 2, 6, None)` has room
-/// all the same: entry 3 holds nothing up to slot 6, and a third from there on.
+/// A third of a cell's slots fits three times: after `reserve(entry, load(1, 3), None)` for three entries,
+/// `fits(1, None)` answers `Err(NoRoom::Load)`. Where entry 2 then ends at slot 6,
+/// `reserve_behind(3, load(1, 3), 2, 6, None)` has room all the same: entry 3 holds nothing up to slot 6, and a third
+/// from there on.
 #[derive(Drop)]
 pub struct Budget {
     table: ArrayVec<Held, 64>,
@@ -109,8 +110,9 @@ impl Budget {
         }
     }
 
-    /// Whether `load` could wait now behind the entry `behind`, as if the entry `leaving` were gone: whether there is room
-    /// for what it has over the load of `behind`. It changes nothing. The entry `behind` is reserved and has started.
+    /// Whether `load` could wait now behind the entry `behind`, as if the entry `leaving` were gone: whether there is
+    /// room for what it has over the load of `behind`. It changes nothing. The entry `behind` is reserved and has
+    /// started.
     pub fn fits_behind(&self, load: u64, behind: u16, leaving: Option<u16>) -> Result<(), NoRoom>
         requires { Any (λ h. (h.entry ≡ behind) × (h.waits ≡ None)) self.now }
         ensures { result ≡ answer_for (remaining_without leaving self.now) (excess_over behind load self.now) }
@@ -135,12 +137,12 @@ impl Budget {
         })
     }
 
-    /// Reserves `load` for `entry` up to, and without, the slot `until`, where it waits behind the entry `behind` up to the
-    /// slot `start`: until then it holds what its load has over that one's, or nothing where that is no less; from then
-    /// on it holds its load.
+    /// Reserves `load` for `entry` up to, and without, the slot `until`, where it waits behind the entry `behind` up to
+    /// the slot `start`: until then it holds what its load has over that one's, or nothing where that is no less; from
+    /// then on it holds its load.
     ///
-    /// The entry is not reserved yet. The entry `behind` is reserved, has started and ends at `start`, and no entry waits
-    /// behind it.
+    /// The entry is not reserved yet. The entry `behind` is reserved, has started and ends at `start`, and no entry
+    /// waits behind it.
     pub fn reserve_behind(
         &mut self,
         entry: u16,
@@ -175,8 +177,8 @@ impl Budget {
         })
     }
 
-    /// Lets the reservation of `entry` end at `slot`: it is counted up to, and without, that slot. The entry is reserved,
-    /// and no entry waits behind it.
+    /// Lets the reservation of `entry` end at `slot`: it is counted up to, and without, that slot. The entry is
+    /// reserved, and no entry waits behind it.
     pub fn release_at(&mut self, entry: u16, slot: u32)
         requires reserved { Any (λ h. h.entry ≡ entry) self.old }
         requires free { All (λ h. behind_of h ≢ Some entry) self.old }
@@ -185,8 +187,8 @@ impl Budget {
         end_at(self.table.as_mut_slice(), entry, slot);
     }
 
-    /// Drops what ended by `slot`, and lets what waits start where its start is no later. A reservation that ends at a slot
-    /// is not counted at that slot, and one that starts at a slot holds its whole load there.
+    /// Drops what ended by `slot`, and lets what waits start where its start is no later. A reservation that ends at a
+    /// slot is not counted at that slot, and one that starts at a slot holds its whole load there.
     pub fn pass_slot(&mut self, slot: u16)
         ensures { self.new ≡ passed slot self.old }
     {
@@ -223,9 +225,9 @@ impl Budget {
             .any(|held| held.entry == entry && held.waits.is_none())
     }
 
-    /// Whether a load is reserved for `entry`, has started and ends at `slot`, as `reserve_behind` asks of the one behind
-    /// which to wait.
-    pub fn ends_at(&self, entry: u16, slot: u32) -> bool
+    /// Whether a load is reserved for `entry`, has started and ends at `slot`, as `reserve_behind` asks of the one
+    /// behind which to wait.
+    pub fn hands_over_at(&self, entry: u16, slot: u32) -> bool
         ensures { MatchBool result (Any (λ h. (h.entry ≡ entry) × (h.waits ≡ None) × (h.until ≡ Some slot)) self.now)
             (All (λ h. ¬ ((h.entry ≡ entry) × (h.waits ≡ None) × (h.until ≡ Some slot))) self.now) }
     {
@@ -266,7 +268,8 @@ impl Default for Budget {
 
 /// Whether what waits so waits behind `entry`.
 fn is_behind(waits: Option<Waits>, entry: u16) -> bool
-    ensures { MatchBool result (option_map (λ w. w.behind) waits ≡ Some entry) (option_map (λ w. w.behind) waits ≢ Some entry) }
+    ensures { MatchBool result (option_map (λ w. w.behind) waits ≡ Some entry)
+        (option_map (λ w. w.behind) waits ≢ Some entry) }
 {
     match waits {
         None => false,

@@ -19,7 +19,8 @@ pub fn reservation_laws()
     // At no slot are more loads reserved than all of them together.
     ensures no_slot_over { NoSlotOverAll }
 
-    // From a slot on, the loads at each slot are no more than those of the reservations that have not ended by that slot.
+    // From a slot on, the loads at each slot are no more than those of the reservations that have not ended by that
+    // slot.
     ensures no_slot_over_standing { NoSlotOverStanding }
 
     // A stop on the boundary of a period ends the reservation at once, and so does one at the start or before it.

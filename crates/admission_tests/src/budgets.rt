@@ -1,28 +1,7 @@
 //! The worked values of loads and reservations.
 
+use crate::calls::{released, reserved};
 use admission::{Budget, NoRoom, SCALE, load, reservation_laws, scale_laws};
-
-/// What a budget answers to a reservation, or `None` where the entry is reserved already.
-fn reserved(
-    budget: &mut Budget,
-    entry: u16,
-    load: u64,
-    until: Option<u32>,
-) -> Option<Result<(), NoRoom>> {
-    if budget.is_reserved(entry) {
-        return None;
-    }
-    Some(budget.reserve(entry, load, until))
-}
-
-/// Lets a reservation end, and says whether there was one.
-fn released(budget: &mut Budget, entry: u16, slot: u32) -> bool {
-    let is_reserved = budget.is_reserved(entry);
-    if is_reserved {
-        budget.release_at(entry, slot);
-    }
-    is_reserved
-}
 
 #[test]
 fn gives_worked_loads(rt: HostRuntime) {

@@ -3,3 +3,7 @@
 
 #[cfg(test)]
 mod budgets;
+#[cfg(test)]
+mod calls;
+#[cfg(test)]
+mod waiting;

@@ -10,6 +10,7 @@ use Rattle.admission.specs.declared.budget.Held.{Held}
 use Rattle.admission.specs.declared.measure.TheConstants.{SCALE}
 use Rattle.admission.specs.Load.{load_of}
 use Rattle.admission.specs.Reservation.{is_before_end, natural_end, end_of_reservation, end_of_stopped}
+use Rattle.admission.specs.Waiting.{held_now}
 use Rattle.admission.specs.Table.{answer_for, ends_at}
 use Rattle.scheduler.specs.Message.{Message, stopped_if, stopped_at}
 use Rattle.scheduler.specs.Air.{Air}
@@ -102,8 +103,8 @@ begun_fits slot load before begun room fits =
     let same = same_room slot before begun in
     let lines : List Held = lines_at slot (map (λ (a : Accepted). a.message) before) in
     let few : length lines < 64 = omega (arith, same.places, room) in
-    let all : sum_by (λ (h : Held). h.load) lines + load ≤ SCALE = omega (arith, same.loads, fits) in
-    rw (lt-ltb (length lines) 64 few, le-leb (sum_by (λ (h : Held). h.load) lines + load) SCALE all) refl
+    let all : sum_by held_now lines + load ≤ SCALE = omega (arith, same.loads, fits) in
+    rw (lt-ltb (length lines) 64 few, le-leb (sum_by held_now lines + load) SCALE all) refl
 
 -- a live message is told of as standing
 pub standing_in : (plan : Planned) (slot : ℕ) (log : List Entry) (air : Air) (a : Accepted) → Follows plan (messages_in log) air → Contains (accepted_in log) a → is_live slot a.message ≡ true → Any (λ m. (m.number ≡ a.message.number) × (m.stop ≡ None)) (messages_of plan)
@@ -148,10 +149,10 @@ item_message m told same standing =
     same ∙ ap (λ (stop : Option ℕ). record m { stop = stop }) (sym standing)
 
 abbrev held : ℕ → ℕ → Option ℕ → Held
-held entry load until = record { entry = entry; load = load; until = until }
+held entry load until = record { entry = entry; load = load; until = until; waits = None }
 
 -- the line of a message that begins
-pub begun_line : (k : Kept) (load : ℕ) (until : Option ℕ) → load ≡ load_of k.pages k.period → until ≡ natural_end k.start k.period k.broadcasts → k.stop ≡ None → record { entry = k.number; load = load; until = until } ≡ line_of (accepted_of k).message
+pub begun_line : (k : Kept) (load : ℕ) (until : Option ℕ) → load ≡ load_of k.pages k.period → until ≡ natural_end k.start k.period k.broadcasts → k.stop ≡ None → record { entry = k.number; load = load; until = until; waits = None } ≡ line_of (accepted_of k).message
 begun_line k load until loads ends standing =
     let entry : ℕ = k.number in
     let P : Option ℕ → Type 0 = λ stop. until ≡ end_of_reservation k.start k.period k.broadcasts stop in

@@ -1,7 +1,7 @@
 //! The book of a cell: a legal history at all times.
 
-ghost use Rattle.std.specs.Prelude.{◌≡◌, ◌⊎◌, ℕ, true, ◌+◌, ◌<◌, ◌≤◌, [], ◌∷◌, ◌++◌, length, map, filter, IfOk, IfErr, OnOk, OnErr, min, vec_len, vec_capacity};
-ghost use Rattle.std.specs.List.{Any, Contains, find};
+ghost use Rattle.std.specs.Prelude.{◌≡◌, ◌⊎◌, ℕ, None, true, ◌+◌, ◌<◌, ◌≤◌, [], ◌∷◌, ◌++◌, length, map, filter, IfOk, IfErr, OnOk, OnErr, min, vec_len, vec_capacity};
+ghost use Rattle.std.specs.List.{All, Any, Contains, find};
 ghost use Rattle.std.specs.Option.{MatchOption, option_map};
 ghost use Rattle.scheduler.specs.Completed.{completed};
 ghost use Rattle.bsc_table.specs.declared.entry.Answer.TheVariants as answers;
@@ -478,10 +478,11 @@ impl CellBook {
     }
 }
 
-/// Gives the reservation of a message that is stopped at `slot` its end.
+/// Gives the reservation of a message that is stopped at `slot` its end, where no line waits.
 fn release(budget: &mut Budget, old: &Kept, slot: u16)
     requires period { 0 < old.now.period }
     requires reserved { Any (λ h. h.entry ≡ old.now.number) budget.old }
+    requires started { All (λ h. h.waits ≡ None) budget.old }
     ensures { budget.new ≡ filter (λ h. is_before_end slot h.until) (ends_at old.now.number (end_of_stopped old.now.start old.now.period slot) budget.old) }
 {
     budget.release_at(old.number, old.end_if_stopped(slot));

@@ -1,4 +1,4 @@
-use Rattle.std.proofs.Common.{◌≡◌, ◌<◌, ℕ, Result, List, [], ◌∷◌, ◌++◌, length, map, subst, sym, ap, ◌∙◌, arith}
+use Rattle.std.proofs.Common.{◌≡◌, ◌<◌, ℕ, None, Result, List, [], ◌∷◌, ◌++◌, length, map, subst, sym, ap, ◌∙◌, arith}
 use Rattle.std.specs.List.{All}
 use Rattle.std.specs.Result.{OnOk}
 use Rattle.admission.specs.declared.budget.Held.{Held}
@@ -61,7 +61,7 @@ invariant_of-self-2 c =
     -- the budget
     let load = c.load.ensures in
     let asked = c.reserve-3.ensures.answer ∙ ap (λ (l : List Held). answer_for l c.load.result) book.held ∙ ap (λ (n : ℕ). answer_for (lines_at r.clock before) n) load ∙ begun_room (length r.log) r.clock (accepted_in r.log) new sound.begun may in
-    let line : Held = record { entry = c.args.new.number; load = c.load.result; until = c.natural_end.result } in
+    let line : Held = record { entry = c.args.new.number; load = c.load.result; until = c.natural_end.result; waits = None } in
     let Reserved : Result (Unit {0}) NoRoom → Type 0 = λ x. OnOk x (c.reserve-3.new.self ≡ c.self.inside.budget ++ line ∷ []) in
     let reserved : c.reserve-3.new.self ≡ c.self.inside.budget ++ line ∷ [] = subst Reserved asked c.reserve-3.ensures.reserved in
     let lines = reserved ∙ ap (λ (l : List Held). l ++ line ∷ []) book.held ∙ ap (λ (h : Held). lines_at r.clock before ++ h ∷ []) (begun_line c.args.new c.load.result c.natural_end.result load c.natural_end.ensures may.standing) ∙ sym (begun_lines (length r.log) r.clock (accepted_in r.log) new may) in

@@ -1,4 +1,4 @@
-use Rattle.std.proofs.Common.{◌≡◌, ◌<◌, ℕ, Result, List, [], ◌∷◌, ◌++◌, length, map, subst, sym, ap, ◌∙◌, arith}
+use Rattle.std.proofs.Common.{◌≡◌, ◌<◌, ℕ, None, Result, List, [], ◌∷◌, ◌++◌, length, map, subst, sym, ap, ◌∙◌, arith}
 use Rattle.std.specs.Vec.{with_items}
 use Rattle.std.specs.List.{All, Any}
 use Rattle.std.specs.Result.{OnOk}
@@ -14,6 +14,7 @@ use Rattle.bsc_table.specs.Record.{Record, Accepted, accepted_in, messages_in}
 use Rattle.bsc_table.specs.Book.{accepted_of, stop_numbered, record_of, line_of, lines_at, IsNext, IsReplacement}
 use Rattle.bsc_table.proofs.Outcome.{messages_stopped}
 use Rattle.bsc_table.proofs.Sound.{HasLoad, IsSound-legal}
+use Rattle.bsc_table.proofs.Rooms.{lines_started}
 use Rattle.bsc_table.proofs.Entering.{book_with, table_stopped, released_lines, messages_with, kept_more, planned_below, held_below_without, number_below, standing_in, standing_beside, held_in, item_message, begun_line, begun_room, begun_lines, stopped_beside, stopped_begun}
 use Rattle.bsc_table.proofs.book.CellBook.enter_replacement.Goals as goal
 
@@ -66,6 +67,12 @@ reserve-requires-3 c =
     let below = subst Below (sym lines) (held_below_without r.clock number r.log) in
     λ k d h same. omega (arith, below k d h, change.begun.numbered, same)
 
+pub release-requires-clause-started : goal.release-requires-clause-started
+release-requires-clause-started c =
+    let r : Record = record_of c.self.inside in
+    let Started : List Held → Type 0 = λ lines. All (λ (h : Held). h.waits ≡ None) lines in
+    subst Started (sym c.self.invariant.held) (lines_started r.clock (messages_in r.log))
+
 pub invariant_of-self-2 : goal.invariant_of-self-2
 invariant_of-self-2 c =
     let book = c.self.invariant in
@@ -104,7 +111,7 @@ invariant_of-self-2 c =
     let load = c.load.ensures in
     let fits = ap (λ (l : List Message). answer_for (lines_at r.clock l) c.load.result) (sym same) ∙ ap (λ (n : ℕ). answer_for (lines_at r.clock (map (λ (a : Accepted). a.message) rest)) n) load ∙ begun_room (length r.log) r.clock rest new (stopped_begun number r.clock (accepted_in r.log) sound.begun) may in
     let asked = c.reserve-3.ensures.answer ∙ ap (λ (l : List Held). answer_for l c.load.result) released ∙ fits in
-    let line : Held = record { entry = c.args.new.number; load = c.load.result; until = c.natural_end.result } in
+    let line : Held = record { entry = c.args.new.number; load = c.load.result; until = c.natural_end.result; waits = None } in
     let Reserved : Result (Unit {0}) NoRoom → Type 0 = λ x. OnOk x (c.reserve-3.new.self ≡ c.release.new.budget ++ line ∷ []) in
     let reserved : c.reserve-3.new.self ≡ c.release.new.budget ++ line ∷ [] = subst Reserved asked c.reserve-3.ensures.reserved in
     let begins = begun_lines (length r.log) r.clock rest new may in

@@ -1,6 +1,6 @@
-use Rattle.std.proofs.Common.{◌≡◌, ℕ, List, [], ◌∷◌, ◌++◌, map, subst, sym, ap, ◌∙◌}
+use Rattle.std.proofs.Common.{◌≡◌, ℕ, None, List, [], ◌∷◌, ◌++◌, map, subst, sym, ap, ◌∙◌}
 use Rattle.std.specs.Vec.{with_items}
-use Rattle.std.specs.List.{Any}
+use Rattle.std.specs.List.{All, Any}
 use Rattle.std.proofs.lemmas.List.Elements.{All-contains}
 use Rattle.admission.specs.declared.budget.Held.{Held}
 use Rattle.scheduler.specs.Message.{Message}
@@ -9,6 +9,7 @@ use Rattle.bsc_table.specs.declared.entry.Entry.{Entry}
 use Rattle.bsc_table.specs.Record.{Record, Accepted, accepted_in, messages_in}
 use Rattle.bsc_table.specs.Book.{accepted_of, stop_numbered, record_of, lines_at, IsNext, IsStop}
 use Rattle.bsc_table.proofs.Sound.{HasLoad, IsSound-legal}
+use Rattle.bsc_table.proofs.Rooms.{lines_started}
 use Rattle.bsc_table.proofs.Entering.{messages_without, table_stopped, released_lines, book_with, standing_in, held_in}
 use Rattle.bsc_table.proofs.book.CellBook.enter_stop.Goals as goal
 
@@ -36,6 +37,12 @@ release-requires-clause-reserved c =
     let Has : List Held → Type 0 = λ lines. Any (λ (h : Held). h.entry ≡ old.message.number) lines in
     let stop = subst Stops (sym c.self.view_is) c.requires.stop in
     subst Has (sym c.self.invariant.held) (held_in r.clock r.log old stop.stops.there stop.stops.live)
+
+pub release-requires-clause-started : goal.release-requires-clause-started
+release-requires-clause-started c =
+    let r : Record = record_of c.self.inside in
+    let Started : List Held → Type 0 = λ lines. All (λ (h : Held). h.waits ≡ None) lines in
+    subst Started (sym c.self.invariant.held) (lines_started r.clock (messages_in r.log))
 
 pub invariant_of-self-2 : goal.invariant_of-self-2
 invariant_of-self-2 c =

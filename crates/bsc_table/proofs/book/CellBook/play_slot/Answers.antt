@@ -1,11 +1,12 @@
-use Rattle.std.proofs.Common.{ℕ, ◌+◌, ◌<◌, refl, ap, subst, sym, ◌∙◌, [], ◌∷◌, filter, arith}
-use Rattle.admission.specs.declared.budget.Held.{Held}
-use Rattle.admission.specs.Reservation.{is_before_end}
+use Rattle.std.proofs.Common.{ℕ, ◌+◌, ◌<◌, refl, ap, subst, sym, ◌∙◌, [], ◌∷◌, arith}
+use Rattle.admission.specs.Table.{passed}
+use Rattle.admission.proofs.Tables.{passed-plain}
 use Rattle.scheduler.specs.Air.{Air, IsChosen}
 use Rattle.scheduler.specs.Follows.{Follows}
 use Rattle.bsc_table.specs.Record.{Record, messages_in}
 use Rattle.bsc_table.specs.Legal.{IsLegal}
-use Rattle.bsc_table.specs.Book.{air_told, record_of, IsPlayedUpTo}
+use Rattle.bsc_table.specs.Book.{air_told, record_of, lines_at, IsPlayedUpTo}
+use Rattle.bsc_table.proofs.Rooms.{lines_started}
 use Rattle.bsc_table.proofs.BookLaws.{IsLegal-next, lines_at-next}
 use Rattle.bsc_table.proofs.book.CellBook.play_slot.Goals as goal
 
@@ -21,13 +22,13 @@ invariant_of-self c =
     let chosen = subst ChosenAt (sym book.legal.played) (c.next-used.ensures.chosen messages r.air book.follows) in
     let Legal : Air → Type 0 = λ air. IsLegal (record r { clock = r.clock + 1; air = air }) in
     let FollowsTo : Air → Type 0 = λ air. Follows c.next-used.new.self messages air in
-    let passed = ap (filter (λ (h : Held). is_before_end (r.clock + 1) h.until)) book.held in
+    let passes = ap (passed (r.clock + 1)) book.held ∙ passed-plain (r.clock + 1) (lines_at r.clock messages) (lines_started r.clock messages) in
     record {
       legal = subst Legal (sym c.put.ensures.aired) (IsLegal-next r used ahead chosen book.legal);
       short = book.short;
       kept = book.kept;
       follows = subst FollowsTo (sym c.put.ensures.aired) (c.next-used.ensures.follows messages r.air book.follows);
-      held = c.pass_slot.ensures ∙ passed ∙ lines_at-next r.clock messages;
+      held = c.pass_slot.ensures ∙ passes ∙ lines_at-next r.clock messages;
       places = omega (arith, c.put.ensures.places, book.places);
       room = omega (arith, c.put.ensures.room, book.room);
     }
