@@ -16,7 +16,7 @@ use Rattle.bsc_table.specs.Record.{is_live}
 use Rattle.bsc_table.specs.Claim.{Claim, end_of, own_load, is_claimed_at, IsWaiting, stop_claims}
 use Rattle.bsc_table.specs.Handover.{Place, handover}
 use Rattle.bsc_table.specs.Room.{HandsOver, AreInOrder}
-use Rattle.bsc_table.specs.Book.{waits_of, line_of, lines_at}
+use Rattle.bsc_table.specs.Book.{waits_of, line_of, lines_at, IsHeldFor}
 use Rattle.bsc_table.proofs.Claims.{is_claimed_at-says, is_claimed_at-from}
 use Rattle.bsc_table.proofs.Ahead.{by_number}
 use Rattle.bsc_table.proofs.Stopped.{not_live, in_order-stop}
@@ -103,12 +103,7 @@ load_of_entry number load (h ∷ lines) all found =
     later other (suc k, x, within, is, same) = (k, x, omega (arith, within), is, same)
 
 -- what a budget holds of the place that a message takes over
-pub record IsHandedIn (lines : List Held) (load : ℕ) (place : Place) : Type 0 where
-  pub ends : Any (λ h. (h.entry ≡ place.behind) × (h.waits ≡ None) × (h.until ≡ Some place.start)) lines
-  pub free : All (λ h. behind_of h ≢ Some place.behind) lines
-  pub excess : excess_over place.behind load lines ≡ place.excess
-
-pub handed_in : (slot load : ℕ) (claims : List Claim) (old : Claim) (place : Place) → AreInOrder claims slot → Contains claims old → is_live slot old.message ≡ true → handover (stop_claims old.message.number slot claims) slot old load ≡ Some place → IsHandedIn (lines_at slot (stop_claims old.message.number slot claims)) load place
+pub handed_in : (slot load : ℕ) (claims : List Claim) (old : Claim) (place : Place) → AreInOrder claims slot → Contains claims old → is_live slot old.message ≡ true → handover (stop_claims old.message.number slot claims) slot old load ≡ Some place → (slot < place.start) × IsHeldFor (lines_at slot (stop_claims old.message.number slot claims)) load place.behind place.start place.excess
 handed_in slot load claims old place order here live over =
     let number = old.message.number in
     let left = stop_claims number slot claims in
@@ -127,8 +122,8 @@ handed_in slot load claims old place order here live over =
     let is : get_or left k d ≡ p = by_number left (get_or left k d) p kept.rising (k, within, get_or_default left k (get_or left k d) d within) its.there (same ∙ sym behind) in
     ap (λ (x : Claim). own_load x.message) is) in
     let held = load_of_entry place.behind (own_load p.message) (lines_at slot left) loads (line.0, line_of slot p, line.1, line.2, behind) in
-    record {
+    (its.later, record {
       ends = (line.0, line_of slot p, line.1, line.2, (behind, waits_of-started slot p its.ahead.started, its.ends));
       free = subst Free behind (none_behind slot p.message.number left its.ahead.free);
-      excess = ap (λ (n : ℕ). load - n) held ∙ sym its.excess;
-    }
+      over = ap (λ (n : ℕ). load - n) held ∙ sym its.excess;
+    })

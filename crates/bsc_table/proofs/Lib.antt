@@ -20,6 +20,7 @@ pub mod Sound
 pub mod Entered
 pub mod Lines
 pub mod Handed
+pub mod Begun
 pub mod Booked
 pub mod Accepting
 pub mod Entering

@@ -41,7 +41,7 @@ pub record IsSound (all : List Accepted) (slot : ℕ) : Type 0 where
 abbrev HasRoom : ℕ → List Claim → Type 0
 HasRoom slot claims = AreInOrder claims slot × ClaimsFit claims
 
-its_claim : (all : List Accepted) (a : Accepted) → Contains all a → Contains (claims_of all) (claim_of a)
+pub its_claim : (all : List Accepted) (a : Accepted) → Contains all a → Contains (claims_of all) (claim_of a)
 its_claim all a here =
     (here.0, omega (arith, here.1, length-map all claim_of), get_or-map claim_of all here.0 a (claim_of a) here.1 ∙ ap claim_of here.2)
 

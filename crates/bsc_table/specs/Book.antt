@@ -1,10 +1,12 @@
 -- What a cell's book keeps beside its record (own).
-use Rattle.std.specs.Prelude.{◌≡◌, ℕ, ◌+◌, ◌<◌, ⊤, Bool, true, false, not, find, nat_lt, ◌≤◌, ◌==◌, if◌then◌else◌, Option, Some, None, Result, Ok, Err, List, [], ◌∷◌, ◌++◌, length, map, filter, Contains, vec_len, vec_capacity}
+use Rattle.std.specs.Prelude.{◌≡◌, ◌≢◌, ℕ, ◌+◌, ◌<◌, ⊤, Bool, true, false, not, find, nat_lt, ◌≤◌, ◌==◌, if◌then◌else◌, Option, Some, None, Result, Ok, Err, List, [], ◌∷◌, ◌++◌, length, map, filter, All, Any, Contains, vec_len, vec_capacity}
 use Rattle.admission.specs.declared.budget.Held.{Held}
 use Rattle.admission.specs.declared.budget.Waits.{Waits}
 use Rattle.admission.specs.declared.budget.NoRoom.{NoRoom}
 use Rattle.admission.specs.declared.budget.NoRoom.TheVariants.{Table, Load}
 use Rattle.std.specs.Option.{option_map}
+use Rattle.admission.specs.Waiting.{behind_of}
+use Rattle.admission.specs.Table.{answer_for, excess_over}
 use Rattle.scheduler.specs.Message.{Message, stopped_if}
 use Rattle.scheduler.specs.Air.{Air}
 use Rattle.scheduler.specs.Follows.{Follows}
@@ -127,6 +129,20 @@ line_of slot c = record { entry = c.message.number; load = own_load c.message; u
 -- the lines that a budget holds at a slot: of the claims that are reserved there
 abbrev pub lines_at : ℕ → List Claim → List Held
 lines_at slot claims = map (line_of slot) (filter (is_claimed_at slot) claims)
+
+-- the lines of a budget hold the place that a load is to take behind an entry, up to its start: that one has started and
+-- ends there, none waits behind it, and the load has so much over its own
+pub record IsHeldFor (lines : List Held) (load behind start excess : ℕ) : Type 0 where
+  pub ends : Any (λ h. (h.entry ≡ behind) × (h.waits ≡ None) × (h.until ≡ Some start)) lines
+  pub free : All (λ h. behind_of h ≢ Some behind) lines
+  pub over : excess_over behind load lines ≡ excess
+
+-- the lines of a budget have room for a claim, by the one behind which it waits: for its load where it starts by the slot;
+-- else for its excess, behind that one
+abbrev pub HasRoomFor : ℕ → List Held → Claim → Option ℕ → Type 0
+HasRoomFor slot lines c None = (c.message.start ≤ slot) × (answer_for lines (own_load c.message) ≡ Ok tt)
+HasRoomFor slot lines c (Some behind) =
+    (slot < c.message.start) × (answer_for lines c.excess ≡ Ok tt) × IsHeldFor lines (own_load c.message) behind c.message.start c.excess
 
 -- no message of a pair is live, and one is
 abbrev pub IsNotLive : ℕ → Option Message → Type 0
