@@ -23,15 +23,10 @@ use Rattle.bsc_table.specs.Legal.{IsLegal}
 use Rattle.bsc_table.specs.Book.{stop_numbered, line_of, lines_at, by_room}
 use Rattle.bsc_table.proofs.Numbers.{numbers_rise}
 use Rattle.bsc_table.proofs.Sound.{BeginsBy, HasLoad, IsSound-legal}
-use Rattle.bsc_table.proofs.Entered.{same_number}
+use Rattle.bsc_table.proofs.Entered.{Contains-message}
 use Rattle.bsc_table.proofs.Outcome.{messages_stopped, claims_stopped}
 use Rattle.bsc_table.proofs.Rooms.{SameRoom, same_room, live_is_counted, lines_at-stopped, room_without, answer_by_room}
 use Rattle.bsc_table.proofs.Named.{BelowIt, All-find}
-
--- an accepted message's message is among the messages
-pub Contains-message : (log : List Entry) (a : Accepted) → Contains (accepted_in log) a → Contains (messages_in log) a.message
-Contains-message log a there =
-    (there.0, omega (arith, length-map (accepted_in log) (λ (x : Accepted). x.message), there.1), get_or-map (λ (x : Accepted). x.message) (accepted_in log) there.0 a a.message there.1 ∙ ap (λ (x : Accepted). x.message) there.2)
 
 -- so a plan that follows them was told of it
 pub told_of_it : (plan : Kept) (log : List Entry) (air : Air) (a : Accepted) → Follows plan (messages_in log) air → Contains (accepted_in log) a → Any (λ m. m.number ≡ a.message.number) (messages_of plan)
@@ -60,20 +55,6 @@ option_is_there view id serial log found kept same is =
 pub new_by_room : (r : Record) (load : ℕ) → IsLegal r → answer_to_new r.log r.clock load ≡ by_room (answer_for (lines_at r.clock (messages_in r.log)) load) (answers.Started r.clock)
 new_by_room r load legal =
     answer_by_room r.clock (claims_in r.log) (lines_at r.clock (messages_in r.log)) load (answers.Started r.clock) (same_room r.clock (accepted_in r.log) ((IsSound-legal r legal).begun))
-
--- a live message's line is counted, and ends with its period when it is stopped now
-pub ended_messages : (slot : ℕ) (all : List Accepted) (a : Accepted) → AllPairs BelowIt all → Contains all a → is_live slot a.message ≡ true → All (λ m. m.number ≡ a.message.number → (is_before_end slot (line_of m).until ≡ true) × (end_of_stopped m.start m.period slot ≡ end_of_stopped a.message.start a.message.period slot)) (map (λ x. x.message) all)
-ended_messages slot all a rising there live =
-    let end : ℕ = end_of_stopped a.message.start a.message.period slot in
-    let Ended : Message → Type 0 = λ m. (is_before_end slot (line_of m).until ≡ true) × (end_of_stopped m.start m.period slot ≡ end) in
-    All-map (λ (m : Message). m.number ≡ a.message.number → Ended m) (λ (x : Accepted). x.message) all (λ i d within same.
-    let its : get_or all i d ≡ a = same_number all a rising there i d within same in
-    subst (λ (x : Accepted). Ended x.message) (sym its) (live_is_counted slot a.message live, refl))
-
--- the lines of a budget after a live message was stopped now
-pub lines_without : (slot : ℕ) (log : List Entry) (a : Accepted) → Contains (accepted_in log) a → is_live slot a.message ≡ true → filter (λ h. is_before_end slot h.until) (ends_at a.message.number (end_of_stopped a.message.start a.message.period slot) (lines_at slot (messages_in log))) ≡ lines_at slot (stopped_at a.message.number slot (messages_in log))
-lines_without slot log a there live =
-    lines_at-stopped slot a.message.number (end_of_stopped a.message.start a.message.period slot) (messages_in log) (ended_messages slot (accepted_in log) a (numbers_rise log) there live)
 
 -- the answer to a replacement, by the room of that budget without the old message, where its reservation ends now
 pub replacement_by_room : (r : Record) (load : ℕ) (a : Accepted) → IsLegal r → Contains (accepted_in r.log) a → is_live r.clock a.message ≡ true → answer_to_replacement r.log r.air r.clock load a.message ≡ by_room (answer_for (remaining_without (cond (end_of_stopped a.message.start a.message.period r.clock == r.clock) (Some a.message.number) None) (lines_at r.clock (messages_in r.log))) load) (answers.Replaced r.clock (completed a.message r.air r.clock))

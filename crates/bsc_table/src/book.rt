@@ -1,18 +1,20 @@
 //! The book of a cell: a legal history at all times.
 
-ghost use Rattle.std.specs.Prelude.{◌≡◌, ◌⊎◌, ℕ, None, true, ◌+◌, ◌<◌, ◌≤◌, [], ◌∷◌, ◌++◌, length, map, filter, IfOk, IfErr, OnOk, OnErr, min, vec_len, vec_capacity};
+ghost use Rattle.std.specs.Prelude.{◌≡◌, ◌≢◌, ◌⊎◌, ℕ, Some, None, true, ◌+◌, ◌<◌, ◌≤◌, [], ◌∷◌, ◌++◌, length, map, filter, IfOk, IfErr, OnOk, OnErr, min, vec_len, vec_capacity};
 ghost use Rattle.std.specs.List.{All, Any, Contains, find};
 ghost use Rattle.std.specs.Option.{MatchOption, option_map};
 ghost use Rattle.scheduler.specs.Completed.{completed};
 ghost use Rattle.bsc_table.specs.declared.entry.Answer.TheVariants as answers;
-ghost use Rattle.bsc_table.specs.Record.{Record, accepted_in, is_of_pair, is_live, message_named};
+ghost use Rattle.bsc_table.specs.declared.kept.TheConstants.{LATEST_START};
+ghost use Rattle.bsc_table.specs.Record.{Record, accepted_in, is_of_pair, is_live, message_named, claim_of};
 ghost use Rattle.bsc_table.specs.Answer.{told_of, answer_to_kill, answer_to_write, answer_to_new, answer_to_replacement, answer_with_room, answer_of};
 ghost use Rattle.bsc_table.specs.Orders.{IsWellFormed};
 ghost use Rattle.bsc_table.specs.Legal.{IsLegal};
 ghost use Rattle.bsc_table.specs.Promised.{IsServed, IsBounded};
-ghost use Rattle.bsc_table.specs.Book.{accepted_of, air_told, IsPlayedUpTo, IsNotLive, IsLiveAs, IsNext, IsStop, IsStart, IsReplacement, with_entry, answered_with, by_room};
-ghost use Rattle.admission.specs.Reservation.{is_before_end, end_of_stopped};
-ghost use Rattle.admission.specs.Table.{ends_at};
+ghost use Rattle.bsc_table.specs.Book.{accepted_of, air_told, IsPlayedUpTo, IsNotLive, IsLiveAs, IsNext, IsStop, IsStart, IsReplacement, with_entry, answered_with, by_room, line_of, HasRoomFor};
+ghost use Rattle.admission.specs.Reservation.{end_of_stopped};
+ghost use Rattle.admission.specs.Waiting.{behind_of};
+ghost use Rattle.admission.specs.Table.{ends_at, passed};
 
 use crate::command::{Command, Refused};
 use crate::entry::{Aired, Answer, Entry, SlotRange, State};
@@ -313,9 +315,7 @@ impl CellBook {
         self.log.reserve(1)?;
         self.accepted.reserve(1)?;
         self.plan.add(new.item())?;
-        let _ = self
-            .budget
-            .reserve(new.number, new.load(), new.natural_end());
+        reserve_for(&mut self.budget, &new, self.clock);
         push_within(&mut self.accepted, new);
         push_within(&mut self.log, entry);
         Ok(())
@@ -325,6 +325,7 @@ impl CellBook {
     fn enter_replacement(&mut self, entry: Entry, old: &Kept, new: Kept) -> Result<(), Refused>
         requires next { IsNext self.old entry }
         requires replacement { IsReplacement self.old entry (accepted_of old.now) (accepted_of new) }
+        requires soon { new.start < LATEST_START }
         ensures entered { OnOk result (self.new ≡ with_entry entry self.old) }
         ensures refused { OnErr result (self.new ≡ self.old) }
     {
@@ -334,9 +335,7 @@ impl CellBook {
         kept::stop(self.accepted.as_mut_slice(), old.number, self.clock);
         let _ = self.plan.stop(old.number, self.clock);
         release(&mut self.budget, old, self.clock);
-        let _ = self
-            .budget
-            .reserve(new.number, new.load(), new.natural_end());
+        reserve_for(&mut self.budget, &new, self.clock);
         push_within(&mut self.accepted, new);
         push_within(&mut self.log, entry);
         Ok(())
@@ -478,15 +477,32 @@ impl CellBook {
     }
 }
 
-/// Gives the reservation of a message that is stopped at `slot` its end, where no line waits.
+/// Gives the reservation of a message that is stopped at `slot` its end. None waits behind a message that is stopped now.
 fn release(budget: &mut Budget, old: &Kept, slot: u16)
     requires period { 0 < old.now.period }
     requires reserved { Any (λ h. h.entry ≡ old.now.number) budget.old }
-    requires started { All (λ h. h.waits ≡ None) budget.old }
-    ensures { budget.new ≡ filter (λ h. is_before_end slot h.until) (ends_at old.now.number (end_of_stopped old.now.start old.now.period slot) budget.old) }
+    requires free { All (λ h. behind_of h ≢ Some old.now.number) budget.old }
+    ensures { budget.new ≡ passed slot (ends_at old.now.number (end_of_stopped old.now.start old.now.period slot) budget.old) }
 {
     budget.release_at(old.number, old.end_if_stopped(slot));
     budget.pass_slot(slot);
+}
+
+/// Reserves what a message takes that was accepted at `slot`: its load from now on, or, where it waits behind another one,
+/// its excess up to its start and its load from there on.
+fn reserve_for(budget: &mut Budget, new: &Kept, slot: u16)
+    requires period { 0 < new.now.period }
+    requires soon { new.now.start < LATEST_START }
+    requires standing { new.now.stop ≡ None }
+    requires unreserved { All (λ h. h.entry ≢ new.now.number) budget.old }
+    requires room { HasRoomFor slot budget.old (claim_of (accepted_of new.now)) new.now.behind }
+    ensures { budget.new ≡ budget.old ++ line_of slot (claim_of (accepted_of new.now)) ∷ [] }
+{
+    let end = new.natural_end();
+    let _ = match new.behind {
+        None => budget.reserve(new.number, new.load(), end),
+        Some(behind) => budget.reserve_behind(new.number, new.load(), behind, new.start, end),
+    };
 }
 
 /// The answer to a write, by whether its load has room: the answer that accepts it, or the cause of the refusal.
