@@ -21,8 +21,9 @@ use Rattle.bsc_table.specs.Record.{Record, Accepted, accepted_in, messages_in, i
 use Rattle.bsc_table.specs.Claim.{Claim, is_claimed_at, stop_claim, stop_claims}
 use Rattle.bsc_table.specs.Answer.{answer_with_room, answer_of}
 use Rattle.bsc_table.specs.Legal.{IsLegal}
+use Rattle.bsc_table.specs.Room.{AreInOrder}
 use Rattle.bsc_table.specs.Begun.{IsBegun}
-use Rattle.bsc_table.specs.Book.{accepted_of, air_told, record_of, kept_stopped, stop_numbered, IsLiveIn, IsNext, IsBook, with_entry, line_of, lines_at}
+use Rattle.bsc_table.specs.Book.{accepted_of, air_told, record_of, kept_stopped, stop_numbered, IsLiveIn, IsNext, IsBook, with_entry, line_of, lines_at, left_by}
 use Rattle.bsc_table.proofs.Named.{live_is_standing}
 use Rattle.bsc_table.proofs.Numbers.{numbers_below}
 use Rattle.bsc_table.proofs.Outcome.{entry_with, messages_stopped, claims_stopped}
@@ -30,6 +31,8 @@ use Rattle.bsc_table.proofs.Entered.{IsLegal-entry, Contains-message}
 use Rattle.bsc_table.proofs.Ahead.{by_number}
 use Rattle.bsc_table.proofs.Lines.{live_is_claimed, new_is_claimed, lines_at-new, lines_at-stopped}
 use Rattle.bsc_table.proofs.Handed.{its_line, none_behind_live}
+use Rattle.bsc_table.proofs.Stopped.{in_order-stop}
+use Rattle.bsc_table.proofs.TakenOver.{only_live}
 use Rattle.bsc_table.proofs.Begun.{starts_forward}
 use Rattle.bsc_table.proofs.Sound.{IsSound-legal, its_claim}
 
@@ -139,6 +142,12 @@ table_stopped table seen after number slot same long stopped =
     let length_is : length after ≡ vec_len table = ap length stopped ∙ length-map seen (kept_stopped number slot) ∙ long in
     let items = with_items_is table after length_is ∙ stopped ∙ ap (map (kept_stopped number slot)) same in
     ap (map accepted_of) items ∙ kept_stop number slot table.items
+
+-- the claims are in order where a live message is stopped
+pub left_in_order : (r : Record) (a : Accepted) → IsLegal r → IsLiveIn r a → AreInOrder (left_by r a) r.clock
+left_in_order r a legal live =
+    let order = (IsSound-legal r legal).order in
+    in_order-stop (claims_in r.log) a.message.number r.clock order (only_live (claims_in r.log) r.clock (claim_of a) order.rising (its_claim (accepted_in r.log) a live.there) live.live)
 
 -- the lines that are left of a budget where a live message was released
 ended_claims : (r : Record) (a : Accepted) → IsLegal r → IsLiveIn r a → All (λ c. c.message.number ≡ a.message.number → (is_claimed_at r.clock c ≡ true) × (end_of_stopped c.message.start c.message.period r.clock ≡ end_of_stopped a.message.start a.message.period r.clock)) (claims_in r.log)

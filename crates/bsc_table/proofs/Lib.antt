@@ -22,9 +22,9 @@ pub mod Lines
 pub mod Handed
 pub mod Begun
 pub mod Booked
-pub mod Accepting
+pub mod Decided
+pub mod Placed
 pub mod Entering
-pub mod Deciding
 pub mod Ordered
 pub mod Refusals
 pub mod Written

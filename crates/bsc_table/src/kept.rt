@@ -1,14 +1,15 @@
 //! What a cell's book keeps of the messages that it accepted.
 
-ghost use Rattle.std.specs.Prelude.{◌≡◌, ◌<◌, ◌==◌, if◌then◌else◌, Some, None, map};
+ghost use Rattle.std.specs.Prelude.{◌≡◌, ◌<◌, ◌==◌, if◌then◌else◌, Some, None, IfSome, map};
 ghost use Rattle.std.specs.List.{find};
 ghost use Rattle.std.specs.Option.{option_map};
 ghost use Rattle.admission.specs.Load.{load_of};
 ghost use Rattle.admission.specs.Reservation.{natural_end, end_of_stopped};
 ghost use Rattle.scheduler.specs.Follows.{message_from};
-ghost use Rattle.bsc_table.specs.Record.{is_of_pair, is_live, state_at};
+ghost use Rattle.bsc_table.specs.Record.{is_of_pair, is_live, state_at, claim_of};
+ghost use Rattle.bsc_table.specs.Handover.{ahead_of, place_before};
 ghost use Rattle.bsc_table.specs.declared.kept.TheConstants.{LATEST_START};
-ghost use Rattle.bsc_table.specs.Book.{accepted_of, kept_stopped};
+ghost use Rattle.bsc_table.specs.Book.{accepted_of, kept_stopped, place_of, stopped_end};
 
 use crate::entry::State;
 use cbs_page::Serial;
@@ -45,6 +46,17 @@ pub struct Kept {
     pub high: bool,
     /// The slot before which it was stopped, if it was.
     pub stop: Option<u16>,
+}
+
+/// A place at which a message may take over: behind another one, up to the end of that one's reservation.
+#[derive(Clone, Copy)]
+pub struct Place {
+    /// The number of the message behind which it waits.
+    pub behind: u16,
+    /// The slot at which it starts.
+    pub start: u32,
+    /// The load that it reserves until then, in parts of `SCALE`: what its own has over that one's, or 0.
+    pub excess: u64,
 }
 
 impl Kept {
@@ -125,8 +137,50 @@ impl Kept {
         }
     }
 
+    /// The number of the message that stands before one that replaces this one at `slot`: this one, where it has started;
+    /// else the one behind which it waits.
+    pub fn ahead_at(&self, slot: u16) -> Option<u16>
+        ensures { result ≡ ahead_of slot (claim_of (accepted_of self.now)) }
+    {
+        if self.start <= u32::from(slot) {
+            Some(self.number)
+        } else {
+            self.behind
+        }
+    }
+
+    /// The place behind this message for one of that load that is accepted at `slot`, where this one was stopped and is
+    /// reserved beyond that slot.
+    pub fn place_behind(&self, slot: u16, load: u64) -> Option<Place>
+        requires { 0 < self.now.period }
+        ensures place { option_map place_of result ≡ place_before slot load (claim_of (accepted_of self.now)) (stopped_end self.now) }
+        ensures soon { IfSome result (λ place. place.start < LATEST_START) }
+    {
+        let start = self.end_if_stopped(self.stop?);
+        if start <= u32::from(slot) {
+            return None;
+        }
+        Some(Place {
+            behind: self.number,
+            start,
+            excess: load.saturating_sub(self.load()),
+        })
+    }
+
+    /// The message, where it waits at that place.
+    pub fn waiting_at(self, place: Place) -> Kept
+        ensures { result ≡ record self { behind = Some place.behind; excess = place.excess; start = place.start } }
+    {
+        Kept {
+            behind: Some(place.behind),
+            excess: place.excess,
+            start: place.start,
+            ..self
+        }
+    }
+
     /// The message, stopped before `slot` where its number is this one.
-    fn stopped_if(self, number: u16, slot: u16) -> Kept
+    pub fn stopped_if(self, number: u16, slot: u16) -> Kept
         ensures { result ≡ kept_stopped number slot self }
     {
         if self.number == number {
@@ -146,6 +200,18 @@ pub fn named(table: &[Kept], id: u16, serial: Serial) -> Option<Kept>
 {
     for kept in table {
         if kept.id == id && kept.serial == serial {
+            return Some(*kept);
+        }
+    }
+    None
+}
+
+/// The message of a number, if there is one.
+pub fn numbered(table: &[Kept], number: u16) -> Option<Kept>
+    ensures { option_map accepted_of result ≡ find (λ a. a.message.number == number) (map accepted_of table.now) }
+{
+    for kept in table {
+        if kept.number == number {
             return Some(*kept);
         }
     }
