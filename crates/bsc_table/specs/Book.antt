@@ -65,7 +65,7 @@ accepted_of k = record {
     period = k.period;
     requested = k.broadcasts;
     stop = k.stop;
-    high = k.high;
+    high = is_high k.category;
   };
 }
 
@@ -140,14 +140,15 @@ decided_answer (decisions.Stops old completed) = answers.Stopped completed
 decided_answer (decisions.Starts new) = answers.Started new.accepted
 decided_answer (decisions.Replaces old new completed) = answers.Replaced new.start completed
 
--- what a decision says of the messages is what its entry does to them; and a message that replaces another starts so soon
--- that the end of its broadcasts has room in 32 bits
+-- what a decision says of the messages is what its entry does to them; one that is only noted accepts nothing, and a message
+-- that replaces another starts so soon that the end of its broadcasts has room in 32 bits
 abbrev pub Does : Record → Entry → Decision → Type 0
 Does r e (decisions.Noted answer) = is_accepting answer ≡ false
 Does r e (decisions.Stops old completed) = IsStop r e (accepted_of old)
 Does r e (decisions.Starts new) = IsStart r e (accepted_of new)
 Does r e (decisions.Replaces old new completed) = IsReplacement r e (accepted_of old) (accepted_of new) × (new.start < LATEST_START)
 
+-- so it is with the entry of this command, which comes next
 abbrev pub Decides : Record → Command → Decision → Type 0
 Decides r command d = Does r (entry_by r command (decided_answer d)) d
 
@@ -162,13 +163,14 @@ pub record IsOffered (r : Record) (a : Accepted) : Type 0 where
   pub some_pages : 0 < a.message.pages
   pub some_period : 0 < a.message.period
 
--- a write of that message, in the place of another one or of none
+-- a write of that message, in the place of the one of this serial number or of none
 abbrev pub IsWriteOf : Accepted → Option ℕ → Command → Type 0
 IsWriteOf a replaced (commands.Write id serial replaces category period broadcasts dcs contents) =
     (replaces ≡ replaced)
     × (write_message a.message.number a.accepted a.message.start a.behind a.excess id serial (length contents) period broadcasts (is_high category) ≡ a)
 IsWriteOf a replaced other = ⊥
 
+-- and with that of each such write
 abbrev pub DecidesWrites : Record → Accepted → Option ℕ → Decision → Type 0
 DecidesWrites r a replaced d = (write : Command) → IsWriteOf a replaced write → Decides r write d
 
@@ -225,7 +227,7 @@ pub record HasRoom (claims : List Claim) (slot load : ℕ) : Type 0 where
   pub places : length (filter (is_claimed_at slot) claims) < 64
   pub loads : claimed_at claims slot + load ≤ SCALE
 
--- whether it has: so is a write answered
+-- whether it has, as a budget tells: a write is answered so, and accepted now only where the load has room
 pub record IsRoom (claims : List Claim) (slot load : ℕ) (room : Result (Unit {0}) NoRoom) : Type 0 where
   pub says : room ≡ answer_of (length (filter (is_claimed_at slot) claims)) (claimed_at claims slot) load
   pub answered : (place : Option Place) (accepts : ℕ → Answer) → answer_beside claims slot load place accepts ≡ by_room room (accepts slot) (answer_at claims slot accepts place)

@@ -229,9 +229,11 @@ impl CellBook {
     fn enter(&mut self, command: &Command, decision: Decision) -> Result<(), Refused>
         requires formed { IsWellFormed command.now }
         requires room { length self.old.log < 4096 }
-        requires right { decided_answer decision ≡ answer_with_room self.old.slots self.old.log self.old.air self.old.clock command.now }
+        requires right { decided_answer decision
+            ≡ answer_with_room self.old.slots self.old.log self.old.air self.old.clock command.now }
         requires decides { Decides self.old command.now decision }
-        ensures entered { OnOk result (self.new ≡ with_entry (entry_by self.old command.now (decided_answer decision)) self.old) }
+        ensures entered { OnOk result
+            (self.new ≡ with_entry (entry_by self.old command.now (decided_answer decision)) self.old) }
         ensures refused { OnErr result (self.new ≡ self.old) }
     {
         let entry = Entry {
@@ -341,9 +343,9 @@ impl CellBook {
 
     /// What a command comes to where the log isn't full.
     fn decide(&self, command: &Command) -> Decision
-        requires formed { IsWellFormed command.now }
-        requires room { length self.now.log < 4096 }
-        ensures right { decided_answer result ≡ answer_with_room self.now.slots self.now.log self.now.air self.now.clock command.now }
+        requires { IsWellFormed command.now }
+        ensures right { decided_answer result
+            ≡ answer_with_room self.now.slots self.now.log self.now.air self.now.clock command.now }
         ensures decides { Decides self.now command.now result }
     {
         match command {
@@ -373,7 +375,7 @@ impl CellBook {
                     pages: contents.list.len() as u8,
                     period: *period,
                     broadcasts: *broadcasts,
-                    high: category.is_high(),
+                    category: *category,
                     stop: None,
                 };
                 match replaces {
@@ -414,7 +416,8 @@ impl CellBook {
     fn decide_new(&self, new: Kept) -> Decision
         requires { IsOffered self.now (accepted_of new) }
         ensures right { decided_answer result
-            ≡ answer_to_write self.now.log self.now.air self.now.clock new.id new.serial None (load_of new.pages new.period) }
+            ≡ answer_to_write self.now.log self.now.air self.now.clock new.id new.serial None
+            (load_of new.pages new.period) }
         ensures decides { DecidesWrites self.now (accepted_of new) None result }
     {
         if self.named(new.id, new.serial).is_some() {
@@ -431,7 +434,8 @@ impl CellBook {
         requires legal { IsLegal self.now }
         requires offered { IsOffered self.now (accepted_of new) }
         ensures right { decided_answer result
-            ≡ answer_to_write self.now.log self.now.air self.now.clock new.id new.serial (Some replaced) (load_of new.pages new.period) }
+            ≡ answer_to_write self.now.log self.now.air self.now.clock new.id new.serial (Some replaced)
+            (load_of new.pages new.period) }
         ensures decides { DecidesWrites self.now (accepted_of new) (Some replaced) result }
     {
         match self.live(new.id, replaced) {
@@ -468,7 +472,8 @@ impl CellBook {
     /// Whether a load has room, where a live message counts as stopped.
     fn room_without(&self, old: &Kept, load: u64) -> Result<(), NoRoom>
         requires { IsLiveIn self.now (accepted_of old.now) }
-        ensures { IsRoom (stop_claims old.now.number self.now.clock (claims_in self.now.log)) self.now.clock load result }
+        ensures { IsRoom (stop_claims old.now.number self.now.clock (claims_in self.now.log)) self.now.clock load
+            result }
     {
         self.budget.fits(load, old.leaving_at(self.clock))
     }

@@ -11,6 +11,7 @@ ghost use Rattle.bsc_table.specs.Handover.{ahead_of, place_before};
 ghost use Rattle.bsc_table.specs.declared.kept.TheConstants.{LATEST_START};
 ghost use Rattle.bsc_table.specs.Book.{accepted_of, kept_stopped, place_of, stopped_end};
 
+use crate::command::Category;
 use crate::entry::State;
 use cbs_page::Serial;
 use scheduler::Item;
@@ -42,8 +43,8 @@ pub struct Kept {
     pub period: u16,
     /// The broadcasts requested; 0 where it stands until it is stopped.
     pub broadcasts: u16,
-    /// Whether it is of the high category.
-    pub high: bool,
+    /// Its category.
+    pub category: Category,
     /// The slot before which it was stopped, if it was.
     pub stop: Option<u16>,
 }
@@ -70,7 +71,7 @@ impl Kept {
             pages: self.pages,
             period: self.period,
             broadcasts: self.broadcasts,
-            high: self.high,
+            high: self.category.is_high(),
         }
     }
 
