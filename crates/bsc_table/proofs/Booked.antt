@@ -1,26 +1,27 @@
 -- A book's plan and budget, asked of an accepted message.
-use Rattle.std.proofs.Common.{◌≡◌, ℕ, ◌==◌, true, cond, filter, Result, Option, Some, None, List, length, map, get_or, refl, ap, sym, subst, ◌∙◌, arith}
+use Rattle.std.proofs.Common.{◌≡◌, ℕ, ◌+◌, ◌==◌, Bool, true, cond, ltb, leb, sum_by, filter, Result, Ok, Err, Option, Some, None, List, length, map, get_or, refl, ap, sym, subst, ◌∙◌, arith}
 use Rattle.std.specs.List.{All, AllPairs, Any, Contains, find}
 use Rattle.std.specs.Option.{option_map}
+use Rattle.std.specs.Result.{OnOk}
 use Rattle.std.proofs.lemmas.List.{length-map, get_or-map}
 use Rattle.std.proofs.lemmas.List.Elements.{All-contains, All-contains_itself, All-map, filter_passes}
 use Rattle.admission.specs.declared.budget.Held.{Held}
 use Rattle.admission.specs.declared.budget.NoRoom.{NoRoom}
+use Rattle.admission.specs.declared.budget.NoRoom.TheVariants.{Table, Load}
+use Rattle.std.proofs.lemmas.Bool.{cond_both, leb-true, ltb-true}
 use Rattle.admission.specs.Reservation.{is_before_end, end_of_stopped}
 use Rattle.admission.specs.Table.{answer_for, remaining_without, ends_at}
+use Rattle.admission.specs.declared.measure.TheConstants.{SCALE}
 use Rattle.admission.proofs.Reservations.{end_of_stopped-not_before}
 use Rattle.scheduler.specs.Message.{Message, stopped_at}
 use Rattle.scheduler.specs.Air.{Air}
 use Rattle.scheduler.specs.Completed.{completed}
 use Rattle.scheduler.specs.Follows.{Kept, messages_of, Follows}
 use Rattle.bsc_table.specs.declared.entry.Entry.{Entry}
-use Rattle.bsc_table.specs.declared.entry.Answer.{Answer}
-use Rattle.bsc_table.specs.declared.entry.Answer.TheVariants as answers
 use Rattle.bsc_table.specs.Record.{Record, Accepted, accepted_in, messages_in, is_of_pair, is_live, claims_of, claims_in}
 use Rattle.bsc_table.specs.Claim.{Claim, stop_claims}
-use Rattle.bsc_table.specs.Answer.{answer_to_new, answer_to_replacement}
 use Rattle.bsc_table.specs.Legal.{IsLegal}
-use Rattle.bsc_table.specs.Book.{stop_numbered, line_of, lines_at, by_room}
+use Rattle.bsc_table.specs.Book.{stop_numbered, IsLiveIn, line_of, lines_at, HasRoom, IsRoom}
 use Rattle.bsc_table.proofs.Numbers.{numbers_rise}
 use Rattle.bsc_table.proofs.Sound.{BeginsBy, HasLoad, IsSound-legal}
 use Rattle.bsc_table.proofs.Entered.{same_number}
@@ -56,10 +57,27 @@ pub option_is_there : {K : Type 0} (view : K → Accepted) (id serial : ℕ) (lo
 option_is_there view id serial log found kept same is =
     found_is_there id serial log (view kept) (sym same ∙ ap (option_map view) is)
 
--- the answer to a new write, by the room of a budget that holds the lines of the accepted messages
-pub new_by_room : (r : Record) (load : ℕ) → IsLegal r → answer_to_new r.log r.clock load ≡ by_room (answer_for (lines_at r.clock (messages_in r.log)) load) (answers.Started r.clock)
-new_by_room r load legal =
-    answer_by_room r.clock (claims_in r.log) (lines_at r.clock (messages_in r.log)) load (answers.Started r.clock) (same_room r.clock (accepted_in r.log) ((IsSound-legal r legal).begun))
+-- what a budget answers of a load, where it holds the lines of the claims
+room_beside : (slot load : ℕ) (claims : List Claim) (lines : List Held) → SameRoom slot claims lines → IsRoom claims slot load (answer_for lines load)
+room_beside slot load claims lines same =
+    let all : ℕ = sum_by (λ (h : Held). h.load) lines + load in
+    let few : Bool = ltb (length lines) 64 in
+    let fits : Bool = leb all SCALE in
+    let Fits : Result (Unit {0}) NoRoom → Type 0 = λ room. OnOk room (HasRoom claims slot load) in
+    let has_room : few ≡ true → fits ≡ true → HasRoom claims slot load = λ places loads. record {
+      places = omega (arith, same.places, ltb-true (length lines) 64 places);
+      loads = omega (arith, same.loads, leb-true all SCALE loads);
+    } in
+    let beside = cond fits (Ok tt) (Err Load) in
+    record {
+      answered = λ accepts. answer_by_room slot claims lines load accepts same;
+      fits = cond_both few beside (Err Table) Fits (λ places. cond_both fits (Ok tt) (Err Load) Fits (has_room places) (λ _. tt)) (λ _. tt);
+    }
+
+-- whether a load has room beside the accepted messages
+pub room_now : (r : Record) (load : ℕ) → IsLegal r → IsRoom (claims_in r.log) r.clock load (answer_for (lines_at r.clock (messages_in r.log)) load)
+room_now r load legal =
+    room_beside r.clock load (claims_in r.log) (lines_at r.clock (messages_in r.log)) (same_room r.clock (accepted_in r.log) ((IsSound-legal r legal).begun))
 
 -- a live message's line is counted, and ends with its period when it is stopped now
 pub ended_messages : (slot : ℕ) (all : List Accepted) (a : Accepted) → AllPairs BelowIt all → Contains all a → is_live slot a.message ≡ true → All (λ m. m.number ≡ a.message.number → (is_before_end slot (line_of m).until ≡ true) × (end_of_stopped m.start m.period slot ≡ end_of_stopped a.message.start a.message.period slot)) (map (λ x. x.message) all)
@@ -75,14 +93,13 @@ pub lines_without : (slot : ℕ) (log : List Entry) (a : Accepted) → Contains 
 lines_without slot log a there live =
     lines_at-stopped slot a.message.number (end_of_stopped a.message.start a.message.period slot) (messages_in log) (ended_messages slot (accepted_in log) a (numbers_rise log) there live)
 
--- the answer to a replacement, by the room of that budget without the old message, where its reservation ends now
-pub replacement_by_room : (r : Record) (load : ℕ) (a : Accepted) → IsLegal r → Contains (accepted_in r.log) a → is_live r.clock a.message ≡ true → answer_to_replacement r.log r.air r.clock load a.message ≡ by_room (answer_for (remaining_without (cond (end_of_stopped a.message.start a.message.period r.clock == r.clock) (Some a.message.number) None) (lines_at r.clock (messages_in r.log))) load) (answers.Replaced r.clock (completed a.message r.air r.clock))
-replacement_by_room r load a legal there live =
+-- and where a live one of them is stopped: the budget is asked as if that one were gone, where its reservation ends now
+pub room_after_stop : (r : Record) (load : ℕ) (a : Accepted) → IsLegal r → IsLiveIn r a → IsRoom (stop_claims a.message.number r.clock (claims_in r.log)) r.clock load (answer_for (remaining_without (cond (end_of_stopped a.message.start a.message.period r.clock == r.clock) (Some a.message.number) None) (lines_at r.clock (messages_in r.log))) load)
+room_after_stop r load a legal live =
     let sound = IsSound-legal r legal in
     let slot : ℕ = r.clock in
     let number : ℕ = a.message.number in
     let end : ℕ = end_of_stopped a.message.start a.message.period slot in
-    let accepts : Answer = answers.Replaced slot (completed a.message r.air slot) in
     let messages : List Message = messages_in r.log in
     let after : List Message = stopped_at number slot messages in
     let rest : List Accepted = map (stop_numbered number slot) (accepted_in r.log) in
@@ -90,7 +107,9 @@ replacement_by_room r load a legal there live =
     let Claimed : List Claim → Type 0 = λ claims. SameRoom slot claims (lines_at slot after) in
     let Lined : List Message → Type 0 = λ left. SameRoom slot (claims_of rest) (lines_at slot left) in
     let same = subst Claimed (claims_stopped number slot (accepted_in r.log)) (subst Lined (messages_stopped number slot (accepted_in r.log)) (same_room slot rest begun)) in
-    let lasts = (All-contains HasLoad (accepted_in r.log) a sound.loaded there).1 in
+    let lasts = (All-contains HasLoad (accepted_in r.log) a sound.loaded live.there).1 in
     let kept = filter_passes (λ (h : Held). is_before_end slot h.until) (map line_of messages) in
     let later = end_of_stopped-not_before a.message.start a.message.period slot lasts in
-    answer_by_room slot (stop_claims number slot (claims_in r.log)) (lines_at slot after) load accepts same ∙ ap (λ (l : List Held). by_room (answer_for l load) accepts) (sym (lines_without slot r.log a there live)) ∙ sym (ap (λ (x : Result (Unit {0}) NoRoom). by_room x accepts) (room_without slot number end load (lines_at slot messages) later kept))
+    let asked = room_without slot number end load (lines_at slot messages) later kept ∙ ap (λ (l : List Held). answer_for l load) (lines_without slot r.log a live.there live.live) in
+    let Room : Result (Unit {0}) NoRoom → Type 0 = IsRoom (stop_claims number slot (claims_in r.log)) slot load in
+    subst Room (sym asked) (room_beside slot load (stop_claims number slot (claims_in r.log)) (lines_at slot after) same)

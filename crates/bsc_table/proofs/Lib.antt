@@ -19,9 +19,8 @@ pub mod Sound
 pub mod Entered
 pub mod Rooms
 pub mod Booked
-pub mod Accepting
+pub mod Decided
 pub mod Entering
-pub mod Deciding
 pub mod Ordered
 pub mod Refusals
 pub mod Written

@@ -2,7 +2,7 @@
 use Rattle.std.proofs.Common.{◌≡◌, ℕ, zero, suc, ◌+◌, Bool, true, false, cond, Option, Some, None, is_some, List, [], ◌∷◌, ◌++◌, length, map, get_or, refl, sym, ap, ◌∙◌, inl, inr, arith}
 use Rattle.std.specs.Prelude.{◌||◌}
 use Rattle.std.specs.List.{slice_get}
-use Rattle.std.proofs.lemmas.Bool.{cases_Bool, false≢true}
+use Rattle.std.proofs.lemmas.Bool.{cases_Bool, false≢true, true≢false}
 use Rattle.std.proofs.lemmas.List.{append-nil, map-append, map-id}
 use Rattle.std.proofs.lemmas.Simd.{map-map}
 use Rattle.scheduler.specs.Renumbered.{KeepsOrder}
@@ -15,7 +15,6 @@ use Rattle.bsc_table.specs.Record.{Accepted, start_of, is_high, is_stop_by, is_s
 use Rattle.bsc_table.specs.Book.{is_stopped}
 use Rattle.bsc_table.specs.Refusals.{is_accepted, accepted_entries, accepted_renumbered, AcceptedEntriesAreAll}
 use Rattle.bsc_table.proofs.Named.{map_agree, stopped_once-false}
-use Rattle.bsc_table.proofs.Refusals.{neither}
 
 -- the place in the log of the entry that stands at a place among the accepted ones; past these, past the log
 abbrev step : Bool → ℕ → (ℕ → ℕ) → ℕ
@@ -78,8 +77,12 @@ adds_none : (place slot : ℕ) (start : Option ℕ) (command : Command) → is_s
 adds_none place slot None command none = refl
 adds_none place slot (Some start) command none = absurd (false≢true (sym none))
 
+neither : (a b : Bool) → (a || b) ≡ false → (a ≡ false) × (b ≡ false)
+neither true b h = absurd (true≢false h)
+neither false b h = (refl, h)
+
 -- so an entry that was not accepted leaves the messages before it as they are
-unmoved : (all : List Accepted) (place : ℕ) (e : Entry) → is_accepted e ≡ false → accepted_after all place e ≡ all
+pub unmoved : (all : List Accepted) (place : ℕ) (e : Entry) → is_accepted e ≡ false → accepted_after all place e ≡ all
 unmoved all place e refused =
     let stopped = map_agree (stopped_by e) (λ a. a) all (λ k d h.
     let a : Accepted = get_or all k d in

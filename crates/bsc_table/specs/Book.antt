@@ -1,5 +1,5 @@
 -- What a cell's book keeps beside its record (own).
-use Rattle.std.specs.Prelude.{◌≡◌, ℕ, ◌+◌, ◌<◌, ⊤, Bool, true, false, not, find, ◌≤◌, ◌==◌, if◌then◌else◌, Option, Some, None, Result, Ok, Err, List, [], ◌∷◌, ◌++◌, length, map, filter, Contains, vec_len, vec_capacity}
+use Rattle.std.specs.Prelude.{◌≡◌, ℕ, ◌+◌, ◌<◌, ⊤, Bool, true, false, not, is_some, ◌||◌, find, ◌≤◌, ◌==◌, if◌then◌else◌, Option, Some, None, Result, Ok, Err, OnOk, List, [], ◌∷◌, ◌++◌, length, map, filter, Contains, vec_len, vec_capacity}
 use Rattle.admission.specs.declared.budget.Held.{Held}
 use Rattle.admission.specs.declared.budget.NoRoom.{NoRoom}
 use Rattle.admission.specs.declared.budget.NoRoom.TheVariants.{Table, Load}
@@ -10,6 +10,9 @@ use Rattle.scheduler.specs.Message.{Message, stopped_if}
 use Rattle.scheduler.specs.Air.{Air}
 use Rattle.scheduler.specs.Follows.{Follows}
 use Rattle.bsc_table.specs.declared.command.Command.{Command}
+use Rattle.bsc_table.specs.declared.command.Command.TheVariants as commands
+use Rattle.bsc_table.specs.declared.decision.Decision.{Decision}
+use Rattle.bsc_table.specs.declared.decision.Decision.TheVariants as decisions
 use Rattle.bsc_table.specs.declared.entry.Answer.{Answer}
 use Rattle.bsc_table.specs.declared.entry.Answer.TheVariants as answers
 use Rattle.bsc_table.specs.declared.entry.Aired.{Aired}
@@ -17,10 +20,10 @@ use Rattle.bsc_table.specs.declared.entry.Entry.{Entry}
 use Rattle.bsc_table.specs.declared.kept.Kept.{Kept}
 use Rattle.bsc_table.specs.declared.book.CellBook.TheInside.{Inside}
 use Rattle.bsc_table.specs.declared.record.CellRecord.TheInside as kept
-use Rattle.bsc_table.specs.Record.{Record, Accepted, accepted_in, messages_in, claims_of, is_of_pair, is_live}
-use Rattle.bsc_table.specs.Claim.{is_claimed_at, claimed_at}
+use Rattle.bsc_table.specs.Record.{Record, Accepted, start_of, write_message, accepted_in, messages_in, claims_of, is_high, is_of_pair, is_live}
+use Rattle.bsc_table.specs.Claim.{Claim, is_claimed_at, claimed_at}
 use Rattle.bsc_table.specs.Orders.{IsWellFormed}
-use Rattle.bsc_table.specs.Answer.{answer_with_room}
+use Rattle.bsc_table.specs.Answer.{answer_beside, answer_with_room}
 use Rattle.bsc_table.specs.Legal.{IsLegal}
 
 -- what a slot airs, as a pair of the entry's number and the page
@@ -125,6 +128,52 @@ abbrev pub is_stopped : Answer → Bool
 is_stopped (answers.Stopped completed) = true
 is_stopped other = false
 
+-- an answer that accepts a write or a kill
+abbrev pub is_accepting : Answer → Bool
+is_accepting answer = is_some (start_of answer) || is_stopped answer
+
+-- the next entry, of a command with its answer
+abbrev pub entry_by : Record → Command → Answer → Entry
+entry_by r command answer = record { command = command; slot = r.clock; answer = answer }
+
+-- the answer of a decision
+abbrev pub decided_answer : Decision → Answer
+decided_answer (decisions.Noted answer) = answer
+decided_answer (decisions.Stops old completed) = answers.Stopped completed
+decided_answer (decisions.Starts new) = answers.Started new.accepted
+decided_answer (decisions.Replaces old new completed) = answers.Replaced new.start completed
+
+-- what a decision says of the messages is what its entry does to them; one that is only noted accepts nothing
+abbrev pub Does : Record → Entry → Decision → Type 0
+Does r e (decisions.Noted answer) = is_accepting answer ≡ false
+Does r e (decisions.Stops old completed) = IsStop r e (accepted_of old)
+Does r e (decisions.Starts new) = IsStart r e (accepted_of new)
+Does r e (decisions.Replaces old new completed) = IsReplacement r e (accepted_of old) (accepted_of new)
+
+-- so it is with the entry of this command, which comes next
+abbrev pub Decides : Record → Command → Decision → Type 0
+Decides r command d = Does r (entry_by r command (decided_answer d)) d
+
+-- a message that a write offers now: it would have the next entry's number, be accepted at the clock, and begin there
+pub record IsOffered (r : Record) (a : Accepted) : Type 0 where
+  pub numbered : a.message.number ≡ length r.log
+  pub accepted : a.accepted ≡ r.clock
+  pub begins : a.message.start ≡ r.clock
+  pub standing : a.message.stop ≡ None
+  pub some_pages : 0 < a.message.pages
+  pub some_period : 0 < a.message.period
+
+-- a write of that message, in the place of the one of this serial number or of none
+abbrev pub IsWriteOf : Accepted → Option ℕ → Command → Type 0
+IsWriteOf a replaced (commands.Write id serial replaces category period broadcasts dcs contents) =
+    (replaces ≡ replaced)
+    × (write_message a.message.number a.accepted a.message.start id serial (length contents) period broadcasts (is_high category) ≡ a)
+IsWriteOf a replaced other = ⊥
+
+-- and with that of each such write
+abbrev pub DecidesWrites : Record → Accepted → Option ℕ → Decision → Type 0
+DecidesWrites r a replaced d = (write : Command) → IsWriteOf a replaced write → Decides r write d
+
 -- a message's line of a budget
 abbrev pub line_of : Message → Held
 line_of m = record {
@@ -146,11 +195,25 @@ pub record IsLiveAs (slot id serial : ℕ) (log : List Entry) (a : Accepted) : T
   pub found : find (is_of_pair id serial) (accepted_in log) ≡ Some a
   pub live : is_live slot a.message ≡ true
 
--- the answer to a write, by whether its load has room: the answer that accepts it, or cause 07 or 06
+-- the causes of a refusal for want of room
+abbrev pub cause_of : NoRoom → ℕ
+cause_of Table = 0x07
+cause_of Load = 0x06
+
+-- the answer to a write, by whether its load has room: the answer that accepts it, or the cause
 abbrev pub by_room : Result (Unit {0}) NoRoom → Answer → Answer
 by_room (Ok done) accepts = accepts
-by_room (Err Table) accepts = answers.Cause 0x07
-by_room (Err Load) accepts = answers.Cause 0x06
+by_room (Err full) accepts = answers.Cause (cause_of full)
+
+-- a load has room beside claims at a slot
+pub record HasRoom (claims : List Claim) (slot load : ℕ) : Type 0 where
+  pub places : length (filter (is_claimed_at slot) claims) < 64
+  pub loads : claimed_at claims slot + load ≤ SCALE
+
+-- whether it has, as a budget tells: a write is answered so, and accepted only where the load has room
+pub record IsRoom (claims : List Claim) (slot load : ℕ) (room : Result (Unit {0}) NoRoom) : Type 0 where
+  pub answered : (accepts : Answer) → answer_beside claims slot load accepts ≡ by_room room accepts
+  pub fits : OnOk room (HasRoom claims slot load)
 
 -- a book: its record is a legal history, it keeps the accepted messages, its plan follows them and what was aired, its budget
 -- holds what they have reserved at the clock, and there is room for what all slots will air

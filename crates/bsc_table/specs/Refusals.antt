@@ -1,14 +1,14 @@
 -- The entries of a log that were accepted, and what the others do (own): nothing.
-use Rattle.std.specs.Prelude.{◌≡◌, ℕ, Bool, false, ◌||◌, is_some, List, [], ◌∷◌, ◌++◌, map, filter}
+use Rattle.std.specs.Prelude.{◌≡◌, ℕ, Bool, false, List, [], ◌∷◌, ◌++◌, map, filter}
 use Rattle.std.specs.List.{slice_get}
 use Rattle.scheduler.specs.Renumbered.{KeepsOrder, renumbered}
 use Rattle.bsc_table.specs.declared.entry.Entry.{Entry}
-use Rattle.bsc_table.specs.Record.{Accepted, start_of, accepted_in}
-use Rattle.bsc_table.specs.Book.{is_stopped}
+use Rattle.bsc_table.specs.Record.{Accepted, accepted_in}
+use Rattle.bsc_table.specs.Book.{is_accepting}
 
 -- an entry that was accepted: a write that starts a message, or a kill that stops one
 abbrev pub is_accepted : Entry → Bool
-is_accepted e = is_some (start_of e.answer) || is_stopped e.answer
+is_accepted e = is_accepting e.answer
 
 -- the accepted entries of a log, in order
 abbrev pub accepted_entries : List Entry → List Entry

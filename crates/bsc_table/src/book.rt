@@ -1,20 +1,24 @@
 //! The book of a cell: a legal history at all times.
 
-ghost use Rattle.std.specs.Prelude.{◌≡◌, ◌⊎◌, ℕ, true, ◌+◌, ◌<◌, ◌≤◌, [], ◌∷◌, ◌++◌, length, map, filter, IfOk, IfErr, OnOk, OnErr, min, vec_len, vec_capacity};
+ghost use Rattle.std.specs.Prelude.{◌≡◌, ◌⊎◌, ℕ, Some, None, true, false, ◌+◌, ◌<◌, ◌≤◌, [], ◌∷◌, ◌++◌, length, map, filter, IfOk, IfErr, OnOk, OnErr, min, vec_len, vec_capacity};
 ghost use Rattle.std.specs.List.{Any, Contains, find};
 ghost use Rattle.std.specs.Option.{MatchOption, option_map};
 ghost use Rattle.scheduler.specs.Completed.{completed};
 ghost use Rattle.bsc_table.specs.declared.entry.Answer.TheVariants as answers;
-ghost use Rattle.bsc_table.specs.Record.{Record, accepted_in, is_of_pair, is_live, message_named};
-ghost use Rattle.bsc_table.specs.Answer.{told_of, answer_to_kill, answer_to_write, answer_to_new, answer_to_replacement, answer_with_room, answer_of};
+ghost use Rattle.bsc_table.specs.declared.command.Command.TheVariants as commands;
+ghost use Rattle.bsc_table.specs.Claim.{stop_claims};
+ghost use Rattle.admission.specs.Load.{load_of};
+ghost use Rattle.bsc_table.specs.Record.{Record, accepted_in, is_of_pair, message_named, claims_in};
+ghost use Rattle.bsc_table.specs.Answer.{told_of, answer_to_kill, answer_to_write, answer_with_room, answer_of};
 ghost use Rattle.bsc_table.specs.Orders.{IsWellFormed};
 ghost use Rattle.bsc_table.specs.Legal.{IsLegal};
 ghost use Rattle.bsc_table.specs.Promised.{IsServed, IsBounded};
-ghost use Rattle.bsc_table.specs.Book.{accepted_of, air_told, IsPlayedUpTo, IsNotLive, IsLiveAs, IsNext, IsStop, IsStart, IsReplacement, with_entry, answered_with, by_room};
+ghost use Rattle.bsc_table.specs.Book.{accepted_of, air_told, IsPlayedUpTo, IsNotLive, IsLiveAs, IsLiveIn, IsNext, IsStop, IsStart, IsReplacement, IsOffered, IsRoom, Decides, DecidesWrites, decided_answer, is_accepting, entry_by, with_entry, answered_with, cause_of};
 ghost use Rattle.admission.specs.Reservation.{is_before_end, end_of_stopped};
 ghost use Rattle.admission.specs.Table.{ends_at};
 
 use crate::command::{Command, Refused};
+use crate::decision::Decision;
 use crate::entry::{Aired, Answer, Entry, SlotRange, State};
 use crate::kept::{self, Kept};
 use crate::record::CellRecord;
@@ -176,8 +180,9 @@ impl CellBook {
         if self.log.len() >= ENTRIES {
             return Answer::Cause(LOG_IS_FULL);
         }
-        let answer = self.answer(command);
-        match self.enter(command, answer) {
+        let decision = self.decide(command);
+        let answer = decision.answer();
+        match self.enter(command, decision) {
             Ok(()) => answer,
             Err(Refused) => Answer::Refused,
         }
@@ -217,67 +222,34 @@ impl CellBook {
         CellRecord::of(cell, slots, log, air)
     }
 
-    /// Enters a command with its answer. An answer that stops or replaces a message is given of a live one alone, so that where
-    /// none is found there is nothing to stop.
-    //
-    // Longer than others for the fields of a write, which it names twice.
-    fn enter(&mut self, command: &Command, answer: Answer) -> Result<(), Refused>
+    /// Enters a command with the answer of its decision.
+    fn enter(&mut self, command: &Command, decision: Decision) -> Result<(), Refused>
         requires formed { IsWellFormed command.now }
         requires room { length self.old.log < 4096 }
-        requires right { answer ≡ answer_with_room self.old.slots self.old.log self.old.air self.old.clock command.now }
-        ensures entered { OnOk result (self.new ≡ with_entry (record { command = command.now; slot = self.old.clock; answer = answer }) self.old) }
+        requires right { decided_answer decision
+            ≡ answer_with_room self.old.slots self.old.log self.old.air self.old.clock command.now }
+        requires decides { Decides self.old command.now decision }
+        ensures entered { OnOk result
+            (self.new ≡ with_entry (entry_by self.old command.now (decided_answer decision)) self.old) }
         ensures refused { OnErr result (self.new ≡ self.old) }
     {
         let entry = Entry {
             command: command.copy(*self.log.allocator())?,
             slot: self.clock,
-            answer,
+            answer: decision.answer(),
         };
-        match command {
-            Command::Status { .. } => self.enter_alone(entry),
-            Command::Kill { .. } if !answer.stops() => self.enter_alone(entry),
-            Command::Kill { id, serial } => match self.live(*id, *serial) {
-                Some(old) => self.enter_stop(entry, &old),
-                None => self.enter_alone(entry),
-            },
-            Command::Write { .. } if !answer.starts() => self.enter_alone(entry),
-            Command::Write {
-                id,
-                serial,
-                replaces,
-                category,
-                period,
-                broadcasts,
-                contents,
-                ..
-            } => {
-                let new = Kept {
-                    id: *id,
-                    serial: *serial,
-                    number: self.log.len() as u16,
-                    accepted: self.clock,
-                    start: self.clock,
-                    pages: contents.list.len() as u8,
-                    period: *period,
-                    broadcasts: *broadcasts,
-                    high: category.is_high(),
-                    stop: None,
-                };
-                match replaces {
-                    None => self.enter_new(entry, new),
-                    Some(replaced) => match self.live(*id, *replaced) {
-                        Some(old) => self.enter_replacement(entry, &old, new),
-                        None => self.enter_alone(entry),
-                    },
-                }
-            }
+        match decision {
+            Decision::Noted(_) => self.enter_alone(entry),
+            Decision::Stops { old, .. } => self.enter_stop(entry, &old),
+            Decision::Starts { new } => self.enter_new(entry, new),
+            Decision::Replaces { old, new, .. } => self.enter_replacement(entry, &old, new),
         }
     }
 
     /// Enters an entry that stops and starts nothing.
     fn enter_alone(&mut self, entry: Entry) -> Result<(), Refused>
         requires next { IsNext self.old entry }
-        requires same { accepted_in (self.old.log ++ entry ∷ []) ≡ accepted_in self.old.log }
+        requires noted { is_accepting entry.answer ≡ false }
         ensures entered { OnOk result (self.new ≡ with_entry entry self.old) }
         ensures refused { OnErr result (self.new ≡ self.old) }
     {
@@ -369,88 +341,132 @@ impl CellBook {
         }
     }
 
-    /// The answer to a kill before the run's end.
-    fn answer_to_kill(&self, id: u16, serial: Serial) -> Answer
-        ensures { result ≡ answer_to_kill self.now.log self.now.air self.now.clock id serial }
-    {
-        match self.live(id, serial) {
-            None => Answer::Cause(NOT_LIVE),
-            Some(message) => Answer::Stopped {
-                completed: self.completed(&message),
-            },
-        }
-    }
-
-    /// The answer to a write before the run's end.
-    fn answer_to_write(
-        &self,
-        id: u16,
-        serial: Serial,
-        replaces: Option<Serial>,
-        load: u64,
-    ) -> Answer
-        ensures { result ≡ answer_to_write self.now.log self.now.air self.now.clock id serial replaces load }
-    {
-        match replaces {
-            None if self.named(id, serial).is_some() => Answer::Cause(ACCEPTED_BEFORE),
-            None => self.answer_to_new(load),
-            Some(replaced) => match self.live(id, replaced) {
-                None => Answer::Cause(NOT_LIVE),
-                Some(_) if self.named(id, serial).is_some() => Answer::Cause(ACCEPTED_BEFORE),
-                Some(old) => self.answer_to_replacement(load, &old),
-            },
-        }
-    }
-
-    /// The answer to a write in the place of no message, but for its pair.
-    fn answer_to_new(&self, load: u64) -> Answer
-        ensures { result ≡ answer_to_new self.now.log self.now.clock load }
-    {
-        by_room(
-            self.budget.fits(load, None),
-            Answer::Started { slot: self.clock },
-        )
-    }
-
-    /// The answer to a write in the place of a live message, but for its pair: the old message counts as stopped.
-    fn answer_to_replacement(&self, load: u64, old: &Kept) -> Answer
-        requires there { Contains (accepted_in self.now.log) (accepted_of old.now) }
-        requires live { is_live self.now.clock (accepted_of old.now).message ≡ true }
-        ensures { result ≡ answer_to_replacement self.now.log self.now.air self.now.clock load (accepted_of old.now).message }
-    {
-        by_room(
-            self.budget.fits(load, old.leaving_at(self.clock)),
-            Answer::Replaced {
-                slot: u32::from(self.clock),
-                completed: self.completed(old),
-            },
-        )
-    }
-
-    /// The answer to a command where the log isn't full.
-    fn answer(&self, command: &Command) -> Answer
-        requires { IsWellFormed command.now }
-        ensures { result ≡ answer_with_room self.now.slots self.now.log self.now.air self.now.clock command.now }
+    /// What a command comes to where the log isn't full.
+    fn decide(&self, command: &Command) -> Decision
+        requires formed { IsWellFormed command.now }
+        requires room { length self.now.log < 4096 }
+        ensures right { decided_answer result
+            ≡ answer_with_room self.now.slots self.now.log self.now.air self.now.clock command.now }
+        ensures decides { Decides self.now command.now result }
     {
         match command {
-            Command::Status { id, serial } => match self.status(*id, *serial) {
-                None => Answer::Unknown,
-                Some((completed, state)) => Answer::Told { completed, state },
-            },
-            _ if self.clock == self.slots => Answer::Cause(RUN_IS_OVER),
-            Command::Kill { id, serial } => self.answer_to_kill(*id, *serial),
+            Command::Status { id, serial } => {
+                Decision::Noted(self.answer_to_status(*id, *serial))
+            }
+            _ if self.clock == self.slots => Decision::Noted(Answer::Cause(RUN_IS_OVER)),
+            Command::Kill { id, serial } => self.decide_kill(*id, *serial),
             Command::Write {
                 id,
                 serial,
                 replaces,
+                category,
                 period,
+                broadcasts,
                 contents,
                 ..
             } => {
-                let load = admission::load(contents.list.len() as u8, *period);
-                self.answer_to_write(*id, *serial, *replaces, load)
+                let new = Kept {
+                    id: *id,
+                    serial: *serial,
+                    number: self.log.len() as u16,
+                    accepted: self.clock,
+                    start: self.clock,
+                    pages: contents.list.len() as u8,
+                    period: *period,
+                    broadcasts: *broadcasts,
+                    high: category.is_high(),
+                    stop: None,
+                };
+                match replaces {
+                    None => self.decide_new(new),
+                    Some(replaced) => self.decide_replacement(new, *replaced),
+                }
             }
         }
+    }
+
+    /// The answer to a status.
+    fn answer_to_status(&self, id: u16, serial: Serial) -> Answer
+        ensures right { result ≡ told_of self.now.air self.now.clock (message_named id serial self.now.log) }
+        ensures noted { is_accepting result ≡ false }
+    {
+        match self.status(id, serial) {
+            None => Answer::Unknown,
+            Some((completed, state)) => Answer::Told { completed, state },
+        }
+    }
+
+    /// What a kill comes to before the run's end.
+    fn decide_kill(&self, id: u16, serial: Serial) -> Decision
+        requires { IsLegal self.now }
+        ensures right { decided_answer result ≡ answer_to_kill self.now.log self.now.air self.now.clock id serial }
+        ensures decides { Decides self.now (commands.Kill id serial) result }
+    {
+        match self.live(id, serial) {
+            None => Decision::Noted(Answer::Cause(NOT_LIVE)),
+            Some(old) => Decision::Stops {
+                old,
+                completed: self.completed(&old),
+            },
+        }
+    }
+
+    /// What a write in the place of no message comes to before the run's end.
+    fn decide_new(&self, new: Kept) -> Decision
+        requires { IsOffered self.now (accepted_of new) }
+        ensures right { decided_answer result
+            ≡ answer_to_write self.now.log self.now.air self.now.clock new.id new.serial None
+            (load_of new.pages new.period) }
+        ensures decides { DecidesWrites self.now (accepted_of new) None result }
+    {
+        if self.named(new.id, new.serial).is_some() {
+            return Decision::Noted(Answer::Cause(ACCEPTED_BEFORE));
+        }
+        match self.room(new.load()) {
+            Ok(()) => Decision::Starts { new },
+            Err(full) => Decision::Noted(Answer::Cause(cause_of(full))),
+        }
+    }
+
+    /// What a write in the place of the message of this serial number comes to before the run's end.
+    fn decide_replacement(&self, new: Kept, replaced: Serial) -> Decision
+        requires legal { IsLegal self.now }
+        requires offered { IsOffered self.now (accepted_of new) }
+        ensures right { decided_answer result
+            ≡ answer_to_write self.now.log self.now.air self.now.clock new.id new.serial (Some replaced)
+            (load_of new.pages new.period) }
+        ensures decides { DecidesWrites self.now (accepted_of new) (Some replaced) result }
+    {
+        match self.live(new.id, replaced) {
+            None => Decision::Noted(Answer::Cause(NOT_LIVE)),
+            Some(_) if self.named(new.id, new.serial).is_some() => {
+                Decision::Noted(Answer::Cause(ACCEPTED_BEFORE))
+            }
+            Some(old) => match self.room_without(&old, new.load()) {
+                Ok(()) => Decision::Replaces {
+                    old,
+                    new,
+                    completed: self.completed(&old),
+                },
+                Err(full) => Decision::Noted(Answer::Cause(cause_of(full))),
+            },
+        }
+    }
+
+    /// Whether a load has room.
+    fn room(&self, load: u64) -> Result<(), NoRoom>
+        ensures { IsRoom (claims_in self.now.log) self.now.clock load result }
+    {
+        self.budget.fits(load, None)
+    }
+
+    /// Whether a load has room, where a live message counts as stopped.
+    fn room_without(&self, old: &Kept, load: u64) -> Result<(), NoRoom>
+        requires { IsLiveIn self.now (accepted_of old.now) }
+        ensures { IsRoom (stop_claims old.now.number self.now.clock (claims_in self.now.log)) self.now.clock load
+            result }
+    {
+        self.budget.fits(load, old.leaving_at(self.clock))
     }
 
     /// Plays the slots before `to`.
@@ -486,14 +502,13 @@ fn release(budget: &mut Budget, old: &Kept, slot: u16)
     budget.pass_slot(slot);
 }
 
-/// The answer to a write, by whether its load has room: the answer that accepts it, or the cause of the refusal.
-fn by_room(room: Result<(), NoRoom>, accepts: Answer) -> Answer
-    ensures { result ≡ by_room room accepts }
+/// The cause of a refusal for want of room.
+fn cause_of(full: NoRoom) -> u8
+    ensures { result ≡ cause_of full }
 {
-    match room {
-        Ok(()) => accepts,
-        Err(NoRoom::Table) => Answer::Cause(TABLE_IS_FULL),
-        Err(NoRoom::Load) => Answer::Cause(LOAD_IS_FULL),
+    match full {
+        NoRoom::Table => TABLE_IS_FULL,
+        NoRoom::Load => LOAD_IS_FULL,
     }
 }
 

@@ -4,6 +4,7 @@ use Rattle.bsc_table.specs.declared.entry.Entry.{Entry}
 use Rattle.bsc_table.specs.Record.{Record, Accepted, accepted_in}
 use Rattle.bsc_table.specs.Legal.{IsLegal}
 use Rattle.bsc_table.specs.Book.{accepted_of, record_of, lines_at, IsNext}
+use Rattle.bsc_table.proofs.Refusals.{refusals_change_nothing}
 use Rattle.bsc_table.proofs.Entering.{IsLegal-with}
 use Rattle.bsc_table.proofs.book.CellBook.enter_alone.Goals as goal
 
@@ -14,9 +15,8 @@ invariant_of-self-2 c =
     let e : Entry = c.args.entry in
     let inside = sym c.self.view_is in
     let Next : Record → Type 0 = λ x. IsNext x e in
-    let Same : Record → Type 0 = λ x. accepted_in (x.log ++ e ∷ []) ≡ accepted_in x.log in
     let next = subst Next inside c.requires.next in
-    let same = subst Same inside c.requires.same in
+    let same = refusals_change_nothing r.log e c.requires.noted in
     let grown = sym (c.push_within.ensures.items ∙ ap (λ (l : List Entry). l ++ e ∷ []) c.reserve.ensures.items) in
     let Legal : List Entry → Type 0 = λ log. IsLegal (record r { log = log }) in
     let Kept : List Accepted → Type 0 = λ all. map accepted_of c.self.inside.accepted.items ≡ all in
