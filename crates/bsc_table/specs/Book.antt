@@ -56,7 +56,7 @@ accepted_of k = record {
     period = k.period;
     requested = k.broadcasts;
     stop = k.stop;
-    high = k.high;
+    high = is_high k.category;
   };
 }
 

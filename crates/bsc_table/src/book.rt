@@ -374,7 +374,7 @@ impl CellBook {
                     pages: contents.list.len() as u8,
                     period: *period,
                     broadcasts: *broadcasts,
-                    high: category.is_high(),
+                    category: *category,
                     stop: None,
                 };
                 match replaces {

@@ -9,6 +9,7 @@ ghost use Rattle.scheduler.specs.Follows.{message_from};
 ghost use Rattle.bsc_table.specs.Record.{is_of_pair, is_live, state_at};
 ghost use Rattle.bsc_table.specs.Book.{accepted_of, kept_stopped};
 
+use crate::command::Category;
 use crate::entry::State;
 use cbs_page::Serial;
 use scheduler::Item;
@@ -32,8 +33,8 @@ pub struct Kept {
     pub period: u16,
     /// The broadcasts requested; 0 where it stands until it is stopped.
     pub broadcasts: u16,
-    /// Whether it is of the high category.
-    pub high: bool,
+    /// Its category.
+    pub category: Category,
     /// The slot before which it was stopped, if it was.
     pub stop: Option<u16>,
 }
@@ -49,7 +50,7 @@ impl Kept {
             pages: self.pages,
             period: self.period,
             broadcasts: self.broadcasts,
-            high: self.high,
+            high: self.category.is_high(),
         }
     }
 
