@@ -343,8 +343,7 @@ impl CellBook {
 
     /// What a command comes to where the log isn't full.
     fn decide(&self, command: &Command) -> Decision
-        requires formed { IsWellFormed command.now }
-        requires room { length self.now.log < 4096 }
+        requires { IsWellFormed command.now }
         ensures right { decided_answer result
             ≡ answer_with_room self.now.slots self.now.log self.now.air self.now.clock command.now }
         ensures decides { Decides self.now command.now result }
