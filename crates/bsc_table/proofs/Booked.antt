@@ -86,6 +86,20 @@ room_beside slot load claims room says =
       fits = subst Fits (sym says) fits_by;
     }
 
+-- where it is refused for its load, there is a place
+pub few_places : (claims : List Claim) (slot load : ℕ) (room : Result (Unit {0}) NoRoom) → IsRoom claims slot load room → room ≡ Err Load → length (filter (is_claimed_at slot) claims) < 64
+few_places claims slot load room is full =
+    let places : ℕ = length (filter (is_claimed_at slot) claims) in
+    elim (cases_lt places 64) [
+      | inl few ↦ few
+      | inr many ↦
+          let none = ap (λ (b : Bool). cond b (cond (leb (claimed_at claims slot + load) SCALE) (Ok tt) (Err Load)) (Err Table)) (le-ltb places 64 many) in
+          absurd (apart (Err Table) (is.says ∙ none) full refl)
+    ]
+  where
+    apart : (other : Result (Unit {0}) NoRoom) → room ≡ other → room ≡ Err Load → other ≡ Err Table → ⊥
+    apart other is_other is_load is_table = cc
+
 -- whether a load has room beside the accepted messages
 pub room_now : (r : Record) (load : ℕ) → IsLegal r → IsRoom (claims_in r.log) r.clock load (answer_for (lines_at r.clock (claims_in r.log)) load)
 room_now r load legal =

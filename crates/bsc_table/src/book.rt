@@ -10,7 +10,7 @@ ghost use Rattle.bsc_table.specs.declared.kept.TheConstants.{LATEST_START};
 ghost use Rattle.bsc_table.specs.Claim.{stop_claims, is_claimed_at};
 ghost use Rattle.admission.specs.Load.{load_of};
 ghost use Rattle.bsc_table.specs.Record.{Record, accepted_in, is_of_pair, message_named, claim_of, claims_in};
-ghost use Rattle.bsc_table.specs.Answer.{told_of, answer_to_kill, answer_to_write, answer_with_room, answer_of};
+ghost use Rattle.bsc_table.specs.Answer.{told_of, answer_to_kill, answer_to_write, before_end, answer_with_room, answer_of};
 ghost use Rattle.bsc_table.specs.Handover.{handover};
 ghost use Rattle.bsc_table.specs.Orders.{IsWellFormed};
 ghost use Rattle.bsc_table.specs.Legal.{IsLegal};
@@ -352,7 +352,6 @@ impl CellBook {
             Command::Status { id, serial } => {
                 Decision::Noted(self.answer_to_status(*id, *serial))
             }
-            _ if self.clock == self.slots => Decision::Noted(Answer::Cause(RUN_IS_OVER)),
             Command::Kill { id, serial } => self.decide_kill(*id, *serial),
             Command::Write {
                 id,
@@ -378,10 +377,7 @@ impl CellBook {
                     category: *category,
                     stop: None,
                 };
-                match replaces {
-                    None => self.decide_new(new),
-                    Some(replaced) => self.decide_replacement(new, *replaced),
-                }
+                self.decide_write(new, *replaces)
             }
         }
     }
@@ -397,18 +393,40 @@ impl CellBook {
         }
     }
 
-    /// What a kill comes to before the run's end.
+    /// What a kill comes to.
     fn decide_kill(&self, id: u16, serial: Serial) -> Decision
         requires { IsLegal self.now }
-        ensures right { decided_answer result ≡ answer_to_kill self.now.log self.now.air self.now.clock id serial }
+        ensures right { decided_answer result
+            ≡ before_end self.now.slots self.now.clock (answer_to_kill self.now.log self.now.air self.now.clock id serial) }
         ensures decides { Decides self.now (commands.Kill id serial) result }
     {
+        if self.clock == self.slots {
+            return Decision::Noted(Answer::Cause(RUN_IS_OVER));
+        }
         match self.live(id, serial) {
             None => Decision::Noted(Answer::Cause(NOT_LIVE)),
             Some(old) => Decision::Stops {
                 old,
                 completed: self.completed(&old),
             },
+        }
+    }
+
+    /// What a write comes to.
+    fn decide_write(&self, new: Kept, replaces: Option<Serial>) -> Decision
+        requires legal { IsLegal self.now }
+        requires offered { IsOffered self.now (accepted_of new) }
+        ensures right { decided_answer result
+            ≡ before_end self.now.slots self.now.clock (answer_to_write self.now.log self.now.air self.now.clock new.id
+            new.serial replaces (load_of new.pages new.period)) }
+        ensures decides { DecidesWrites self.now (accepted_of new) replaces result }
+    {
+        if self.clock == self.slots {
+            return Decision::Noted(Answer::Cause(RUN_IS_OVER));
+        }
+        match replaces {
+            None => self.decide_new(new),
+            Some(replaced) => self.decide_replacement(new, replaced),
         }
     }
 
