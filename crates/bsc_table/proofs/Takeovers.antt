@@ -1,6 +1,6 @@
 -- Histories in which a replacement takes over, worked by hand: answers, what is reserved, and what is aired.
-use Rattle.std.proofs.Common.{◌≡◌, ℕ, zero, suc, ◌<◌, false, inl, refl, Option, Some, None, List, [], ◌∷◌, ◌++◌, length, take, get_or, arith}
-use Rattle.scheduler.specs.Air.{Air, pages_aired}
+use Rattle.std.proofs.Common.{◌≡◌, ℕ, zero, suc, ◌<◌, false, inl, refl, Some, None, List, [], ◌∷◌, ◌++◌, length, take, get_or, arith}
+use Rattle.scheduler.specs.Air.{pages_aired}
 use Rattle.scheduler.specs.Message.{Message}
 use Rattle.admission.specs.declared.measure.TheConstants.{SCALE}
 use Rattle.bsc_table.specs.declared.command.Category.TheVariants.{Normal}

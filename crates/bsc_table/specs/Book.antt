@@ -28,7 +28,7 @@ use Rattle.bsc_table.specs.declared.record.CellRecord.TheInside as kept
 use Rattle.bsc_table.specs.Record.{Record, Accepted, claim_of, start_of, write_message, accepted_in, messages_in, claims_in, is_high, is_of_pair, is_live}
 use Rattle.bsc_table.specs.Begun.{IsBegun}
 use Rattle.bsc_table.specs.Claim.{Claim, own_load, end_of, is_claimed_at, claimed_at, stop_claims}
-use Rattle.bsc_table.specs.Handover.{Place, place_before, handover}
+use Rattle.bsc_table.specs.Handover.{Place, handover}
 use Rattle.bsc_table.specs.Orders.{IsWellFormed}
 use Rattle.bsc_table.specs.Answer.{answer_at, answer_beside, answer_with_room}
 use Rattle.bsc_table.specs.Legal.{IsLegal}
