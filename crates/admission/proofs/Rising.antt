@@ -1,5 +1,5 @@
 -- What the lines of a budget hold never rises: what a line gains at its start, the one that it waited behind has lost there.
-use Rattle.std.proofs.Common.{◌≡◌, ℕ, ◌+◌, ◌-◌, ◌≤◌, ◌<◌, ◌==◌, ◌⊎◌, Bool, true, false, cond, Option, Some, None, List, [], ◌∷◌, get_or, map, filter, sum_by, refl, sym, ap, ◌∙◌, inl, inr, arith}
+use Rattle.std.proofs.Common.{◌≡◌, ℕ, ◌+◌, ◌-◌, ◌≤◌, ◌<◌, ◌==◌, ◌⊎◌, Bool, true, false, cond, Option, Some, None, List, [], ◌∷◌, get_or, map, filter, sum_by, refl, sym, ap, subst, ◌∙◌, inl, inr, arith}
 use Rattle.std.specs.List.{All, AllPairs}
 use Rattle.std.specs.Option.{option_map}
 use Rattle.std.proofs.lemmas.Bool.{cases_Bool, cases_lt, lt-ltb, le-ltb, eqb-true, eq-eqb, false≢true}
@@ -10,7 +10,7 @@ use Rattle.admission.specs.declared.budget.Waits.{Waits}
 use Rattle.admission.specs.Reservation.{is_before_end}
 use Rattle.admission.specs.Waiting.{behind_of, share_now, held_now, share_at, held_at, HandsOver, waits_at, started_at}
 use Rattle.admission.specs.Table.{IsAdmitted}
-use Rattle.admission.specs.Laws.{NoSlotOverNow, HeldNeverRises, NoSlotOverScale, PassedIsHeld}
+use Rattle.admission.specs.Laws.{NoSlotOverNow, HeldNeverRises, NoSlotOverScale, PassedIsHeld, PassedKeepsLater}
 use Rattle.admission.proofs.Reservations.{is_before_end-says, is_before_end-from, IsBeforeEnd-earlier}
 use Rattle.admission.proofs.Matched.{sum_by-plus, sum_by-same, sum_by-member, matched}
 
@@ -208,3 +208,36 @@ pub passed_is_held : PassedIsHeld
 passed_is_held [] slot = refl
 passed_is_held (h ∷ table) slot =
     one_more slot (is_before_end slot h.until) h (filter (λ x. is_before_end slot x.until) table) (sum_by (held_at slot) table) (passed_is_held table slot) ∙ sym (sum_by-cons (held_at slot) h table)
+
+-- and at later slots what it was to hold there
+share_later : (t u load : ℕ) (waits : Option Waits) → t ≤ u → share_at u load (waits_at t waits) ≡ share_at u load waits
+share_later t u load None later = refl
+share_later t u load (Some w) later =
+    elim (cases_lt t w.start) [
+      | inl before ↦ ap (λ (b : Bool). share_at u load (cond b (Some w) None)) (lt-ltb t w.start before)
+      | inr over ↦ ap (λ (b : Bool). share_at u load (cond b (Some w) None)) (le-ltb t w.start over) ∙ sym (share_at-started u load (Some w) w refl (omega arith))
+    ]
+
+held_later : (t u : ℕ) (h : Held) → t ≤ u → held_at u (started_at t h) ≡ held_at u h
+held_later t u h later =
+    ap (λ (n : ℕ). cond (is_before_end u h.until) n 0) (share_later t u h.load h.waits later)
+
+-- what has ended by a slot holds nothing at later ones
+held_at-ended : (t u : ℕ) (h : Held) → t ≤ u → is_before_end t h.until ≡ false → held_at u h ≡ 0
+held_at-ended t u h later over =
+    elim (cases_Bool (is_before_end u h.until)) [
+      | inr gone ↦ held_at-gone u h gone
+      | inl there ↦ absurd (false≢true (sym over ∙ is_before_end-from t h.until (IsBeforeEnd-earlier t u h.until later (is_before_end-says u h.until there))))
+    ]
+
+pub passed_keeps_later : PassedKeepsLater
+passed_keeps_later [] t u later = refl
+passed_keeps_later (h ∷ table) t u later =
+    let rest : List Held = filter (λ x. is_before_end t x.until) table in
+    let after = passed_keeps_later table t u later in
+    let Holds : Bool → Type 0 = λ b. sum_by (held_at u) (map (started_at t) (cond b (h ∷ rest) rest)) ≡ sum_by (held_at u) (h ∷ table) in
+    let first = sum_by-cons (held_at u) h table in
+    elim (cases_Bool (is_before_end t h.until)) [
+      | inl there ↦ subst Holds (sym there) (omega (arith, after, first, held_later t u h later, sum_by-cons (held_at u) (started_at t h) (map (started_at t) rest)))
+      | inr over ↦ subst Holds (sym over) (omega (arith, after, first, held_at-ended t u h later over))
+    ]

@@ -71,3 +71,9 @@ HeldNeverRises = (table : List Held) (t u : ℕ)
 -- what a table holds once a slot has come is what it was to hold there
 abbrev pub PassedIsHeld : Type 0
 PassedIsHeld = (table : List Held) (slot : ℕ) → sum_by held_now (passed slot table) ≡ sum_by (held_at slot) table
+
+-- and what it holds at that slot and later ones stays
+abbrev pub PassedKeepsLater : Type 0
+PassedKeepsLater = (table : List Held) (t u : ℕ)
+    → t ≤ u
+    → sum_by (held_at u) (passed t table) ≡ sum_by (held_at u) table

@@ -1,7 +1,7 @@
 //! Laws of loads and of reservations, over their definitions alone.
 
 ghost use Rattle.admission.specs.Laws.{PeriodsDivideScale, ScaleIsTheLeast, LoadsAreExact, NoSlotOverAll, NoSlotOverStanding};
-ghost use Rattle.admission.specs.Laws.{NoSlotOverNow, NoSlotOverScale, HeldNeverRises, PassedIsHeld};
+ghost use Rattle.admission.specs.Laws.{NoSlotOverNow, NoSlotOverScale, HeldNeverRises, PassedIsHeld, PassedKeepsLater};
 ghost use Rattle.admission.specs.Laws.{StopOnBoundary, StopBeforeStart, StopNoLater, StopCovers};
 
 /// States, as its contract, what the parts of a cell's slots are. It does nothing.
@@ -40,6 +40,7 @@ pub fn reservation_laws()
     // From slot to slot what they hold never rises, though some may wait for their start.
     ensures held_never_rises { HeldNeverRises }
 
-    // What a budget holds once a slot has come is what it was to hold there.
+    // What a budget holds once a slot has come is what it was to hold there, and what it holds later stays.
     ensures passed_is_held { PassedIsHeld }
+    ensures passed_keeps_later { PassedKeepsLater }
 {}
