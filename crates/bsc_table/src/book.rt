@@ -164,8 +164,11 @@ impl CellBook {
     /// - to a kill, `Stopped`;
     /// - cause 0D where a message of the pair was accepted before;
     /// - cause 07 where 64 messages are reserved, the one to replace being stopped;
-    /// - cause 06 where the load doesn't fit beside those that are then reserved;
-    /// - `Started`, or `Replaced` where one is replaced.
+    /// - `Started`, or `Replaced` where one is replaced, where the load fits beside those that are then reserved;
+    /// - `Replaced` at a later slot where the message takes over: it starts where the reservation of the message ahead of it
+    ///   ends (of the one that it replaces, or of the one behind which that one waits), and what its load has over that one's
+    ///   fits until then;
+    /// - else cause 06.
     ///
     /// Each answer but cause 08 has an entry, which is the only trace of a refusal. Where there is no memory for what an answer
     /// takes, the answer is `Refused` instead, and the book is as it was. The command is one that `orders_of` gives of a message
