@@ -1,5 +1,6 @@
 -- Lemmas on loads.
-use Rattle.std.proofs.Common.{◌≡◌, ℕ, ◌+◌, ◌*◌, ◌≤◌, ◌<◌, Bool, true, false, cond, not, List, [], ◌∷◌, filter, sum_by, refl, arith}
+use Rattle.std.proofs.Common.{◌≡◌, ℕ, ◌+◌, ◌*◌, ◌≤◌, ◌<◌, Bool, true, false, cond, not, List, [], ◌∷◌, filter, sum_by}
+use Rattle.std.proofs.Common.{refl, arith}
 use Rattle.std.specs.Int.{div_ceil}
 use Rattle.std.proofs.lemmas.Bool.{false≢true}
 use Rattle.std.proofs.lemmas.List.Sums.{sum_by-cons}
@@ -14,7 +15,8 @@ pub sum_by-filter-le : {X : Type 0} (f : X → ℕ) (p : X → Bool) (xs : List 
 sum_by-filter-le f p xs = omega (arith, sum_by-filter_both p (λ x. not (p x)) (λ _. refl) f xs)
 
 -- an element that is kept adds its own
-sum_by-cond : {X : Type 0} (f : X → ℕ) (b : Bool) (x : X) (xs : List X) → sum_by f (cond b (x ∷ xs) xs) ≡ cond b (f x) 0 + sum_by f xs
+sum_by-cond : {X : Type 0} (f : X → ℕ) (b : Bool) (x : X) (xs : List X)
+    → sum_by f (cond b (x ∷ xs) xs) ≡ cond b (f x) 0 + sum_by f xs
 sum_by-cond f true x xs = sum_by-cons f x xs
 sum_by-cond f false x xs = omega arith
 
@@ -24,10 +26,18 @@ cond-le_cond false c n h = omega arith
 cond-le_cond true false n h = absurd (false≢true (h refl))
 
 -- where one test passes only what another passes too, its filter sums to no more
-pub sum_by-filter-le_filter : {X : Type 0} (f : X → ℕ) (p q : X → Bool) → ((x : X) → p x ≡ true → q x ≡ true) → (xs : List X) → sum_by f (filter p xs) ≤ sum_by f (filter q xs)
+pub sum_by-filter-le_filter : {X : Type 0} (f : X → ℕ) (p q : X → Bool) → ((x : X) → p x ≡ true → q x ≡ true)
+    → (xs : List X) → sum_by f (filter p xs) ≤ sum_by f (filter q xs)
 sum_by-filter-le_filter f p q within [] = omega arith
 sum_by-filter-le_filter f p q within (x ∷ xs) =
-    omega (arith, sum_by-filter-le_filter f p q within xs, sum_by-cond f (p x) x (filter p xs), sum_by-cond f (q x) x (filter q xs), cond-le_cond (p x) (q x) (f x) (within x))
+    omega (
+      arith,
+      sum_by-filter-le_filter f p q within xs,
+      sum_by-cond f (p x) x (filter p xs),
+      sum_by-cond f (q x) x
+          (filter q xs),
+      cond-le_cond (p x) (q x) (f x) (within x),
+    )
 
 -- a quotient that is rounded up is enough
 pub div_ceil-enough : (a b : ℕ) → 0 < b → a ≤ div_ceil a b * b

@@ -1,5 +1,7 @@
--- What the lines of a budget hold never rises: what a line gains at its start, the one that it waited behind has lost there.
-use Rattle.std.proofs.Common.{◌≡◌, ℕ, ◌+◌, ◌-◌, ◌≤◌, ◌<◌, ◌==◌, ◌⊎◌, Bool, true, false, cond, Option, Some, None, List, [], ◌∷◌, get_or, map, filter, sum_by, refl, sym, ap, subst, ◌∙◌, inl, inr, arith}
+-- What the lines of a budget hold never rises: what a line gains at its start, the one that it waited behind has lost
+-- there.
+use Rattle.std.proofs.Common.{◌≡◌, ℕ, ◌+◌, ◌-◌, ◌≤◌, ◌<◌, ◌==◌, ◌⊎◌, Bool, true, false, cond, Option, Some, None, List}
+use Rattle.std.proofs.Common.{[], ◌∷◌, get_or, map, filter, sum_by, refl, sym, ap, subst, ◌∙◌, inl, inr, arith}
 use Rattle.std.specs.List.{All, AllPairs}
 use Rattle.std.specs.Option.{option_map}
 use Rattle.std.proofs.lemmas.Bool.{cases_Bool, cases_lt, lt-ltb, le-ltb, eqb-true, eq-eqb, false≢true}
@@ -18,7 +20,8 @@ use Rattle.admission.proofs.Matched.{sum_by-plus, sum_by-same, sum_by-member, ma
 held_at-gone : (slot : ℕ) (h : Held) → is_before_end slot h.until ≡ false → held_at slot h ≡ 0
 held_at-gone slot h over = ap (λ (b : Bool). cond b (share_at slot h.load h.waits) 0) over
 
-held_at-there : (slot : ℕ) (h : Held) → is_before_end slot h.until ≡ true → held_at slot h ≡ share_at slot h.load h.waits
+held_at-there : (slot : ℕ) (h : Held) → is_before_end slot h.until ≡ true
+    → held_at slot h ≡ share_at slot h.load h.waits
 held_at-there slot h there = ap (λ (b : Bool). cond b (share_at slot h.load h.waits) 0) there
 
 held_at-after : (slot end : ℕ) (h : Held) → h.until ≡ Some end → end ≤ slot → held_at slot h ≡ 0
@@ -28,11 +31,13 @@ held_at-after slot end h ends over =
 share_at-plain : (slot load : ℕ) (waits : Option Waits) → waits ≡ None → share_at slot load waits ≡ load
 share_at-plain slot load waits none = ap (share_at slot load) none
 
-share_at-waits : (slot load : ℕ) (waits : Option Waits) (w : Waits) → waits ≡ Some w → slot < w.start → share_at slot load waits ≡ w.excess
+share_at-waits : (slot load : ℕ) (waits : Option Waits) (w : Waits) → waits ≡ Some w → slot < w.start
+    → share_at slot load waits ≡ w.excess
 share_at-waits slot load waits w is before =
     ap (share_at slot load) is ∙ ap (λ (b : Bool). cond b w.excess load) (lt-ltb slot w.start before)
 
-share_at-started : (slot load : ℕ) (waits : Option Waits) (w : Waits) → waits ≡ Some w → w.start ≤ slot → share_at slot load waits ≡ load
+share_at-started : (slot load : ℕ) (waits : Option Waits) (w : Waits) → waits ≡ Some w → w.start ≤ slot
+    → share_at slot load waits ≡ load
 share_at-started slot load waits w is over =
     ap (share_at slot load) is ∙ ap (λ (b : Bool). cond b w.excess load) (le-ltb slot w.start over)
 
@@ -58,7 +63,8 @@ is_behind-from behind entry h =
 abbrev waits_for : Held → Held → Bool
 waits_for w g = is_behind (behind_of w) g.entry
 
--- a waiting line's excess is held earlier, and it starts by the slot where the load of the one before it was held earlier
+-- a waiting line's excess is held earlier, and it starts by the slot where the load of the one before it was held
+-- earlier
 record Starts (early : Held → ℕ) (slot : ℕ) (h : Held) (w : Waits) : Type 0 where
   excess : w.excess ≤ early h
   start : w.start ≤ slot
@@ -72,9 +78,21 @@ record IsEarlier (early : Held → ℕ) (slot : ℕ) : Type 0 where
 -- now is earlier than each slot
 now_is_earlier : (slot : ℕ) → IsEarlier held_now slot
 now_is_earlier slot = record {
-  plain = λ h none. omega (arith, held_at-le slot h, share_at-plain slot h.load h.waits none, ap (share_now h.load) none);
+  plain = λ h none. omega (
+    arith,
+    held_at-le slot h,
+    share_at-plain slot h.load h.waits none,
+    ap (share_now h.load)
+        none,
+  );
   waiting = λ h w is. elim (cases_lt slot w.start) [
-    | inl before ↦ inl (omega (arith, held_at-le slot h, share_at-waits slot h.load h.waits w is before, ap (share_now h.load) is))
+    | inl before ↦ inl (omega (
+      arith,
+      held_at-le slot h,
+      share_at-waits slot h.load h.waits w is before,
+      ap
+          (share_now h.load) is,
+    ))
     | inr over ↦ inr (record {
       excess = omega (arith, ap (share_now h.load) is);
       start = over;
@@ -88,7 +106,14 @@ slot_is_earlier : (t u : ℕ) → t ≤ u → IsEarlier (held_at t) u
 slot_is_earlier t u later = record {
   plain = λ h none. elim (cases_Bool (is_before_end u h.until)) [
     | inr over ↦ omega (arith, held_at-gone u h over)
-    | inl there ↦ omega (arith, held_at-there u h there, held_at-there t h (sooner h there), share_at-plain u h.load h.waits none, share_at-plain t h.load h.waits none)
+    | inl there ↦ omega (
+      arith,
+      held_at-there u h there,
+      held_at-there t h (sooner h there),
+      share_at-plain u h.load
+          h.waits none,
+      share_at-plain t h.load h.waits none,
+    )
   ];
   waiting = λ h w is. elim (cases_Bool (is_before_end u h.until)) [
     | inr over ↦ inl (omega (arith, held_at-gone u h over))
@@ -96,13 +121,28 @@ slot_is_earlier t u later = record {
         let at_u = held_at-there u h there in
         let at_t = held_at-there t h (sooner h there) in
         elim (cases_lt t w.start) [
-          | inr started ↦ inl (omega (arith, at_u, at_t, share_at-started t h.load h.waits w is started, share_at-started u h.load h.waits w is (omega arith)))
+          | inr started ↦ inl (omega (
+            arith,
+            at_u,
+            at_t,
+            share_at-started t h.load h.waits w is started,
+            share_at-started u h.load h.waits w is (omega arith),
+          ))
           | inl before ↦ elim (cases_lt u w.start) [
-            | inl still ↦ inl (omega (arith, at_u, at_t, share_at-waits t h.load h.waits w is before, share_at-waits u h.load h.waits w is still))
+            | inl still ↦ inl (omega (
+              arith,
+              at_u,
+              at_t,
+              share_at-waits t h.load h.waits w is before,
+              share_at-waits u
+                  h.load h.waits w is still,
+            ))
             | inr starts ↦ inr (record {
               excess = omega (arith, at_t, share_at-waits t h.load h.waits w is before);
               start = starts;
-              load = λ g over. let stands = held_at-there t g (ap (is_before_end t) over.ends ∙ lt-ltb t w.start before) in omega (arith, stands, share_at-plain t g.load g.waits over.started);
+              load = λ g over. let stands = held_at-there t g
+                  (ap (is_before_end t) over.ends ∙ lt-ltb t w.start before) in omega
+                  (arith, stands, share_at-plain t g.load g.waits over.started);
             })
           ]
         ]
@@ -126,7 +166,8 @@ waits_or_not None = inl refl
 waits_or_not (Some w) = inr (w, refl)
 
 -- each gain is covered by the losses of those that the line waits for
-covered : (early : Held → ℕ) (slot : ℕ) (table : List Held) → IsEarlier early slot → IsAdmitted table → All (λ h. gain early slot h ≤ sum_by (λ g. cond (waits_for h g) (loss early slot g) 0) table) table
+covered : (early : Held → ℕ) (slot : ℕ) (table : List Held) → IsEarlier early slot → IsAdmitted table
+    → All (λ h. gain early slot h ≤ sum_by (λ g. cond (waits_for h g) (loss early slot g) 0) table) table
 covered early slot table earlier admitted = λ k d within.
     let h : Held = get_or table k d in
     elim (waits_or_not h.waits) [
@@ -142,23 +183,38 @@ covered early slot table earlier admitted = λ k d within.
                 let term : Held → ℕ = λ x. cond (waits_for h x) (loss early slot x) 0 in
                 let member = sum_by-member term table found.0 g found.2 in
                 let there = ap term found.3 in
-                let behind : behind_of h ≡ Some g.entry = ap (λ (o : Option Waits). option_map (λ (x : Waits). x.behind) o) its.1 ∙ ap (λ (n : ℕ). Some n) over.named in
-                let matches = ap (λ (b : Bool). cond b (loss early slot g) 0) (is_behind-from (behind_of h) g.entry behind) in
+                let behind : behind_of h ≡ Some g.entry = ap (λ (o : Option Waits). option_map
+                (λ (x : Waits). x.behind) o) its.1 ∙ ap (λ (n : ℕ). Some n) over.named in
+                let matches = ap (λ (b : Bool). cond b (loss early slot g) 0)
+                (is_behind-from (behind_of h) g.entry behind) in
                 let gone = held_at-after slot w.start g over.ends starts.start in
                 let whole = share_at-started slot h.load h.waits w its.1 starts.start in
-                omega (arith, held_at-le slot h, whole, starts.excess, starts.load g over, over.covered, member, there, matches, gone)
+                omega (
+                  arith,
+                  held_at-le slot h,
+                  whole,
+                  starts.excess,
+                  starts.load g over,
+                  over.covered,
+                  member,
+                  there,
+                  matches,
+                  gone,
+                )
           ]
     ]
 
 -- a line that waits behind an entry waits
-the_waits : (entry : ℕ) (waits : Option Waits) → option_map (λ (x : Waits). x.behind) waits ≡ Some entry → (w : Waits) × (waits ≡ Some w) × (w.behind ≡ entry)
+the_waits : (entry : ℕ) (waits : Option Waits) → option_map (λ (x : Waits). x.behind) waits ≡ Some entry → (w : Waits)
+    × (waits ≡ Some w) × (w.behind ≡ entry)
 the_waits entry None is = absurd (none-some entry is)
 the_waits entry (Some w) is =
     let same : w.behind ≡ entry = cc in
     (w, refl, same)
 
 -- and each loss covers one gain
-once : (table : List Held) → IsAdmitted table → All (λ g. AllPairs (λ v w. waits_for v g ≡ true → waits_for w g ≡ true → ⊥) table) table
+once : (table : List Held) → IsAdmitted table → All (λ g. AllPairs
+    (λ v w. waits_for v g ≡ true → waits_for w g ≡ true → ⊥) table) table
 once table admitted = λ k d within. λ i j e before inside. λ first second.
     let g : Held = get_or table k d in
     let a : Held = get_or table i e in
@@ -168,12 +224,15 @@ once table admitted = λ k d within. λ i j e before inside. λ first second.
     admitted.alone i j e before inside v.0 w.0 v.1 w.1 (v.2 ∙ sym w.2)
 
 -- so no more is held at the slot than earlier
-no_more_than_earlier : (early : Held → ℕ) (slot : ℕ) (table : List Held) → IsEarlier early slot → IsAdmitted table → sum_by (held_at slot) table ≤ sum_by early table
+no_more_than_earlier : (early : Held → ℕ) (slot : ℕ) (table : List Held) → IsEarlier early slot → IsAdmitted table
+    → sum_by (held_at slot) table ≤ sum_by early table
 no_more_than_earlier early slot table earlier admitted =
-    let gains = matched (gain early slot) (loss early slot) waits_for table (covered early slot table earlier admitted) (once table admitted) in
+    let gains = matched (gain early slot) (loss early slot) waits_for table (covered early slot table earlier admitted)
+    (once table admitted) in
     let after = sum_by-plus (held_at slot) (loss early slot) table in
     let before = sum_by-plus early (gain early slot) table in
-    let both = sum_by-same (λ h. held_at slot h + loss early slot h) (λ h. early h + gain early slot h) table (λ h. either (held_at slot h) (early h)) in
+    let both = sum_by-same (λ h. held_at slot h + loss early slot h) (λ h. early h + gain early slot h) table
+    (λ h. either (held_at slot h) (early h)) in
     omega (arith, gains, after, before, both)
   where
     either : (a b : ℕ) → a + (b - a) ≡ b + (a - b)
@@ -195,19 +254,30 @@ now_then : (slot load : ℕ) (waits : Option Waits) → share_now load (waits_at
 now_then slot load None = refl
 now_then slot load (Some w) =
     elim (cases_lt slot w.start) [
-      | inl before ↦ ap (λ (b : Bool). share_now load (cond b (Some w) None)) (lt-ltb slot w.start before) ∙ sym (ap (λ (b : Bool). cond b w.excess load) (lt-ltb slot w.start before))
-      | inr over ↦ ap (λ (b : Bool). share_now load (cond b (Some w) None)) (le-ltb slot w.start over) ∙ sym (ap (λ (b : Bool). cond b w.excess load) (le-ltb slot w.start over))
+      | inl before ↦ ap (λ (b : Bool). share_now load (cond b (Some w) None)) (lt-ltb slot w.start before)
+          ∙ sym (ap (λ (b : Bool). cond b w.excess load) (lt-ltb slot w.start before))
+      | inr over ↦ ap (λ (b : Bool). share_now load (cond b (Some w) None)) (le-ltb slot w.start over)
+          ∙ sym (ap (λ (b : Bool). cond b w.excess load) (le-ltb slot w.start over))
     ]
 
-one_more : (slot : ℕ) (b : Bool) (h : Held) (rest : List Held) (n : ℕ) → sum_by held_now (map (started_at slot) rest) ≡ n → sum_by held_now (map (started_at slot) (cond b (h ∷ rest) rest)) ≡ cond b (share_at slot h.load h.waits) 0 + n
+one_more : (slot : ℕ) (b : Bool) (h : Held) (rest : List Held) (n : ℕ)
+    → sum_by held_now (map (started_at slot) rest) ≡ n → sum_by held_now
+    (map (started_at slot) (cond b (h ∷ rest) rest)) ≡ cond b (share_at slot h.load h.waits) 0 + n
 one_more slot true h rest n e =
-    omega (arith, e, sum_by-cons held_now (started_at slot h) (map (started_at slot) rest), now_then slot h.load h.waits)
+    omega (
+      arith,
+      e,
+      sum_by-cons held_now (started_at slot h) (map (started_at slot) rest),
+      now_then slot h.load
+          h.waits,
+    )
 one_more slot false h rest n e = omega (arith, e)
 
 pub passed_is_held : PassedIsHeld
 passed_is_held [] slot = refl
 passed_is_held (h ∷ table) slot =
-    one_more slot (is_before_end slot h.until) h (filter (λ x. is_before_end slot x.until) table) (sum_by (held_at slot) table) (passed_is_held table slot) ∙ sym (sum_by-cons (held_at slot) h table)
+    one_more slot (is_before_end slot h.until) h (filter (λ x. is_before_end slot x.until) table)
+    (sum_by (held_at slot) table) (passed_is_held table slot) ∙ sym (sum_by-cons (held_at slot) h table)
 
 -- and at later slots what it was to hold there
 share_later : (t u load : ℕ) (waits : Option Waits) → t ≤ u → share_at u load (waits_at t waits) ≡ share_at u load waits
@@ -215,7 +285,8 @@ share_later t u load None later = refl
 share_later t u load (Some w) later =
     elim (cases_lt t w.start) [
       | inl before ↦ ap (λ (b : Bool). share_at u load (cond b (Some w) None)) (lt-ltb t w.start before)
-      | inr over ↦ ap (λ (b : Bool). share_at u load (cond b (Some w) None)) (le-ltb t w.start over) ∙ sym (share_at-started u load (Some w) w refl (omega arith))
+      | inr over ↦ ap (λ (b : Bool). share_at u load (cond b (Some w) None)) (le-ltb t w.start over)
+          ∙ sym (share_at-started u load (Some w) w refl (omega arith))
     ]
 
 held_later : (t u : ℕ) (h : Held) → t ≤ u → held_at u (started_at t h) ≡ held_at u h
@@ -227,7 +298,8 @@ held_at-ended : (t u : ℕ) (h : Held) → t ≤ u → is_before_end t h.until �
 held_at-ended t u h later over =
     elim (cases_Bool (is_before_end u h.until)) [
       | inr gone ↦ held_at-gone u h gone
-      | inl there ↦ absurd (false≢true (sym over ∙ is_before_end-from t h.until (IsBeforeEnd-earlier t u h.until later (is_before_end-says u h.until there))))
+      | inl there ↦ absurd (false≢true (sym over ∙ is_before_end-from t h.until
+          (IsBeforeEnd-earlier t u h.until later (is_before_end-says u h.until there))))
     ]
 
 pub passed_keeps_later : PassedKeepsLater
@@ -235,9 +307,17 @@ passed_keeps_later [] t u later = refl
 passed_keeps_later (h ∷ table) t u later =
     let rest : List Held = filter (λ x. is_before_end t x.until) table in
     let after = passed_keeps_later table t u later in
-    let Holds : Bool → Type 0 = λ b. sum_by (held_at u) (map (started_at t) (cond b (h ∷ rest) rest)) ≡ sum_by (held_at u) (h ∷ table) in
+    let Holds : Bool → Type 0 = λ b. sum_by (held_at u) (map (started_at t) (cond b (h ∷ rest) rest)) ≡ sum_by
+    (held_at u) (h ∷ table) in
     let first = sum_by-cons (held_at u) h table in
     elim (cases_Bool (is_before_end t h.until)) [
-      | inl there ↦ subst Holds (sym there) (omega (arith, after, first, held_later t u h later, sum_by-cons (held_at u) (started_at t h) (map (started_at t) rest)))
+      | inl there ↦ subst Holds (sym there) (omega (
+        arith,
+        after,
+        first,
+        held_later t u h later,
+        sum_by-cons
+            (held_at u) (started_at t h) (map (started_at t) rest),
+      ))
       | inr over ↦ subst Holds (sym over) (omega (arith, after, first, held_at-ended t u h later over))
     ]

@@ -1,5 +1,6 @@
 -- What SCALE is divided by.
-use Rattle.std.proofs.Common.{◌≡◌, ℕ, zero, suc, ◌*◌, ◌/◌, ◌%◌, ◌<◌, ◌≤◌, ◌==◌, Bool, true, false, cond, inl, inr, refl, sym, ap, ◌∙◌, arith}
+use Rattle.std.proofs.Common.{◌≡◌, ℕ, zero, suc, ◌*◌, ◌/◌, ◌%◌, ◌<◌, ◌≤◌, ◌==◌, Bool, true, false, cond, inl, inr, refl}
+use Rattle.std.proofs.Common.{sym, ap, ◌∙◌, arith}
 use Rattle.std.proofs.Math.Nat.{div-add-mod}
 use Rattle.std.proofs.lemmas.Bool.{cases_eq, eqb-true, false≢true}
 use Rattle.std.specs.Int.{div_ceil}
@@ -25,7 +26,8 @@ divides_within zero k all within = absurd (omega (arith, within))
 divides_within (suc n) k all within =
     elim (cases_eq k n) [
       | inl last ↦
-          ap (λ m. SCALE % suc m) last ∙ eqb-true (SCALE % suc n) 0 (first_divides (SCALE % suc n == 0) (all_divide n) all)
+          ap (λ m. SCALE % suc m) last ∙ eqb-true (SCALE % suc n) 0
+          (first_divides (SCALE % suc n == 0) (all_divide n) all)
       | inr before ↦
           divides_within n k (others_divide (SCALE % suc n == 0) (all_divide n) all) (omega (arith, within, before))
     ]
@@ -36,7 +38,8 @@ SCALE-divided zero some few = absurd (omega (arith, some))
 SCALE-divided (suc k) some few = divides_within 20 k refl (omega (arith, few))
 
 -- a number that each of these divides is a multiple of SCALE, since SCALE's own factors divide it
-pub SCALE-least : (other : ℕ) → 0 < other → ((period : ℕ) → 0 < period → period ≤ 20 → other % period ≡ 0) → SCALE ≤ other
+pub SCALE-least : (other : ℕ) → 0 < other → ((period : ℕ) → 0 < period → period ≤ 20 → other % period ≡ 0)
+    → SCALE ≤ other
 SCALE-least other some divided =
     let sixteen = divided 16 (omega arith) (omega arith) in
     let nine = divided 9 (omega arith) (omega arith) in
@@ -54,4 +57,5 @@ load_of-exact pages period some few =
     let parts : ℕ = SCALE / period in
     let whole : SCALE ≡ parts * period = omega (arith, div-add-mod SCALE period, SCALE-divided period some few) in
     let all : SCALE * pages ≡ (parts * pages) * period = ap (λ n. n * pages) whole ∙ omega arith in
-    ap (λ n. div_ceil n period * period) all ∙ (ap (λ n. n * period) (div_ceil-whole (parts * pages) period some) ∙ sym all)
+    ap (λ n. div_ceil n period * period) all ∙ (ap (λ n. n * period) (div_ceil-whole (parts * pages) period some)
+    ∙ sym all)

@@ -38,16 +38,19 @@ end_at_start : end_of_reservation 7 4 5 (Some 7) ≡ Some 7
 end_at_start = refl
 
 -- a reservation that ends at slot 6 is counted at slot 5 and not at slot 6
-counted : loads_at (record { number = 0; load = 5; start = 2; end = Some 6 } ∷ record { number = 1; load = 7; start = 6; end = None } ∷ []) 5 ≡ 5
+counted : loads_at (record { number = 0; load = 5; start = 2; end = Some 6 } ∷ record
+    { number = 1; load = 7; start = 6; end = None } ∷ []) 5 ≡ 5
 counted = refl
 
-freed : loads_at (record { number = 0; load = 5; start = 2; end = Some 6 } ∷ record { number = 1; load = 7; start = 6; end = None } ∷ []) 6 ≡ 7
+freed : loads_at (record { number = 0; load = 5; start = 2; end = Some 6 } ∷ record
+    { number = 1; load = 7; start = 6; end = None } ∷ []) 6 ≡ 7
 freed = refl
 
 not_begun : loads_at (record { number = 0; load = 5; start = 2; end = Some 6 } ∷ []) 1 ≡ 0
 not_begun = refl
 
--- a quarter of the slots that ends at slot 4, a half, and a half that waits behind the quarter: until then it holds a quarter
+-- a quarter of the slots that ends at slot 4, a half, and a half that waits behind the quarter: until then it holds a
+-- quarter
 abbrev quarter : Held
 quarter = record { entry = 0; load = 58198140; until = Some 4; waits = None }
 
@@ -55,7 +58,13 @@ abbrev half : Held
 half = record { entry = 1; load = 116396280; until = None; waits = None }
 
 abbrev waiting : Held
-waiting = record { entry = 2; load = 116396280; until = None; waits = Some (record { behind = 0; start = 4; excess = 58198140 }) }
+waiting = record {
+  entry = 2;
+  load = 116396280;
+  until = None;
+  waits = Some
+      (record { behind = 0; start = 4; excess = 58198140 });
+}
 
 excess_of_a_half : excess_over 0 (load_of 1 2) (quarter ∷ half ∷ []) ≡ 58198140
 excess_of_a_half = refl
@@ -69,5 +78,6 @@ full_before_its_start = refl
 full_from_its_start : sum_by (held_at 4) (quarter ∷ half ∷ waiting ∷ []) ≡ SCALE
 full_from_its_start = refl
 
-passed_its_start : passed 4 (quarter ∷ half ∷ waiting ∷ []) ≡ half ∷ record { entry = 2; load = 116396280; until = None; waits = None } ∷ []
+passed_its_start : passed 4 (quarter ∷ half ∷ waiting ∷ []) ≡ half ∷ record
+    { entry = 2; load = 116396280; until = None; waits = None } ∷ []
 passed_its_start = refl

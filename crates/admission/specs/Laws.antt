@@ -13,7 +13,8 @@ PeriodsDivideScale = (period : ℕ) → 0 < period → period ≤ 20 → SCALE %
 
 -- and it is the least number of which that is true
 abbrev pub ScaleIsTheLeast : Type 0
-ScaleIsTheLeast = (other : ℕ) → 0 < other → ((period : ℕ) → 0 < period → period ≤ 20 → other % period ≡ 0) → SCALE ≤ other
+ScaleIsTheLeast = (other : ℕ) → 0 < other → ((period : ℕ) → 0 < period → period ≤ 20 → other % period ≡ 0)
+    → SCALE ≤ other
 
 -- so the load of a message with such a period is exact
 abbrev pub LoadsAreExact : Type 0
@@ -21,7 +22,8 @@ LoadsAreExact = (pages period : ℕ) → 0 < period → period ≤ 20 → load_o
 
 -- at no slot are more loads reserved than all of them together
 abbrev pub NoSlotOverAll : Type 0
-NoSlotOverAll = (reservations : List Reservation) (slot : ℕ) → loads_at reservations slot ≤ sum_by (λ r. r.load) reservations
+NoSlotOverAll = (reservations : List Reservation) (slot : ℕ) → loads_at reservations slot ≤ sum_by (λ r. r.load)
+    reservations
 
 -- from a slot on, the loads at each slot are no more than those of the reservations that have not ended by that slot
 abbrev pub NoSlotOverStanding : Type 0

@@ -1,5 +1,6 @@
 -- The reservation of a message (own): the slots at which its load counts.
-use Rattle.std.specs.Prelude.{ℕ, ◌+◌, ◌-◌, ◌*◌, ◌<◌, ◌≤◌, ◌==◌, min, Bool, true, ◌&&◌, nat_lt, nat_le, if◌then◌else◌, Option, Some, None, List, filter, sum_by, ⊤}
+use Rattle.std.specs.Prelude.{ℕ, ◌+◌, ◌-◌, ◌*◌, ◌<◌, ◌≤◌, ◌==◌, min, Bool, true, ◌&&◌, nat_lt, nat_le, if◌then◌else◌}
+use Rattle.std.specs.Prelude.{Option, Some, None, List, filter, sum_by, ⊤}
 use Rattle.std.specs.Int.{div_ceil}
 
 -- a message's number, its load, the slot from which the load counts, and the slot from which it counts no more, if any
@@ -30,7 +31,8 @@ is_reserved_at slot r = nat_le r.start slot && is_before_end slot r.end
 abbrev pub loads_at : List Reservation → ℕ → ℕ
 loads_at reservations slot = sum_by (λ r. r.load) (filter (is_reserved_at slot) reservations)
 
--- where a message that is never stopped runs out: after so many periods as broadcasts were requested; never where 0 were
+-- where a message that is never stopped runs out: after so many periods as broadcasts were requested; never where 0
+-- were
 abbrev pub natural_end : ℕ → ℕ → ℕ → Option ℕ
 natural_end start period requested = if requested == 0 then None else Some (start + requested * period)
 

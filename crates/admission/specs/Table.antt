@@ -1,5 +1,6 @@
 -- The table of a budget (own): the lines in the order of their reserving.
-use Rattle.std.specs.Prelude.{⊤, ◌≡◌, ◌≢◌, Bool, ℕ, ◌+◌, ◌-◌, ◌≤◌, ◌==◌, not, nat_lt, nat_le, if◌then◌else◌, Option, Some, None, Result, Ok, Err, List, length, filter, map, sum_by, find, All, Any, AllPairs}
+use Rattle.std.specs.Prelude.{⊤, ◌≡◌, ◌≢◌, Bool, ℕ, ◌+◌, ◌-◌, ◌≤◌, ◌==◌, not, nat_lt, nat_le, if◌then◌else◌, Option}
+use Rattle.std.specs.Prelude.{Some, None, Result, Ok, Err, List, length, filter, map, sum_by, find, All, Any, AllPairs}
 use Rattle.admission.specs.declared.budget.Held.{Held}
 use Rattle.admission.specs.declared.budget.Waits.{Waits}
 use Rattle.admission.specs.declared.budget.NoRoom.{NoRoom}

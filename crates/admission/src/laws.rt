@@ -1,6 +1,7 @@
 //! Laws of loads and of reservations, over their definitions alone.
 
-ghost use Rattle.admission.specs.Laws.{PeriodsDivideScale, ScaleIsTheLeast, LoadsAreExact, NoSlotOverAll, NoSlotOverStanding};
+ghost use Rattle.admission.specs.Laws.{PeriodsDivideScale, ScaleIsTheLeast, LoadsAreExact, NoSlotOverAll};
+ghost use Rattle.admission.specs.Laws.{NoSlotOverStanding};
 ghost use Rattle.admission.specs.Laws.{NoSlotOverNow, NoSlotOverScale, HeldNeverRises, PassedIsHeld, PassedKeepsLater};
 ghost use Rattle.admission.specs.Laws.{StopOnBoundary, StopBeforeStart, StopNoLater, StopCovers};
 

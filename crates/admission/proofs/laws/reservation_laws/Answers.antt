@@ -1,5 +1,7 @@
-use Rattle.admission.proofs.Reservations.{loads_at-le, loads_at-le_standing, end_of_stopped-boundary, end_of_stopped-early, end_of_stopped-no_later, end_of_stopped-covers}
-use Rattle.admission.proofs.Rising.{no_slot_over_now, no_slot_over_scale, held_never_rises, passed_is_held, passed_keeps_later}
+use Rattle.admission.proofs.Reservations.{loads_at-le, loads_at-le_standing, end_of_stopped-boundary}
+use Rattle.admission.proofs.Reservations.{end_of_stopped-early, end_of_stopped-no_later, end_of_stopped-covers}
+use Rattle.admission.proofs.Rising.{no_slot_over_now, no_slot_over_scale, held_never_rises, passed_is_held}
+use Rattle.admission.proofs.Rising.{passed_keeps_later}
 use Rattle.admission.proofs.laws.reservation_laws.Goals as goal
 
 pub returns : goal.returns

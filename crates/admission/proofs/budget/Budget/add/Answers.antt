@@ -15,5 +15,7 @@ invariant_of-self c =
     let new = subst New (sym c.self.view_is) c.requires.new in
     let place = subst Place (sym c.self.view_is) c.requires.handed in
     let total = c.total.ensures ∙ ap (sum_by held_now) c.as_slice.ensures.value in
-    let room : (c.len.result < 64) × (c.total.result + c.now.result ≤ SCALE) = has_room c.len.result c.total.result c.now.result c.in_ok-room.field-0 (sym c.room.ensures ∙ c.in_ok-room.was) in
-    subst IsAdmitted (sym c.push.ensures.items) (IsAdmitted-push table c.args.line c.self.invariant new place (omega (arith, room.0, c.len.ensures.value)) (omega (arith, room.1, total, c.now.ensures)))
+    let room : (c.len.result < 64) × (c.total.result + c.now.result ≤ SCALE) = has_room c.len.result c.total.result
+    c.now.result c.in_ok-room.field-0 (sym c.room.ensures ∙ c.in_ok-room.was) in
+    subst IsAdmitted (sym c.push.ensures.items) (IsAdmitted-push table c.args.line c.self.invariant new place
+    (omega (arith, room.0, c.len.ensures.value)) (omega (arith, room.1, total, c.now.ensures)))
