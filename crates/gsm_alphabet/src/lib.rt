@@ -18,6 +18,3 @@ mod law;
 
 pub use alphabet::{decode_ext, decode_one, encode_char};
 pub use law::alphabet_law;
-
-#[cfg(test)]
-mod tests;

@@ -95,6 +95,3 @@ fn unpacked_septet(octets: &[u8; 82], place: usize) -> u8
     let pair = u16::from(octets[first]) | u16::from(octets[first + 1]) << 8;
     (pair >> (7 * place % 8) & 0x7F) as u8
 }
-
-#[cfg(test)]
-mod tests;

@@ -25,6 +25,3 @@ pub fn char_of(unit: u16) -> char
 {
     char::from_u32(u32::from(unit)).unwrap_or(char::REPLACEMENT_CHARACTER)
 }
-
-#[cfg(test)]
-mod tests;

@@ -1,8 +1,8 @@
 //! Texts and their octets as another program writes them, high octet first and not filled.
 
-use super::*;
 use arrayvec::ArrayVec;
 use std::process::Abort;
+use ucs2_text::{char_of, put_units, ucs2_law, unit_of, units_of};
 
 /// A text and the octets of its units.
 const TEXTS: [(&str, &[u8]); 10] = [
@@ -70,33 +70,39 @@ fn units_of_text(rt: &impl Abort, text: &str) -> ArrayVec<u16, 41> {
     units
 }
 
+/// That a text is written as these octets, and filled with 000D.
+fn expect_written(rt: &impl Abort, text: &str, expected: &[u8]) {
+    let octets = put_units(&units_of_text(rt, text));
+    assert!(rt; expected.len() <= 82);
+    assert_eq!(rt; &octets[..expected.len()], expected, "of {text}");
+    for (place, octet) in octets.iter().enumerate().skip(expected.len()) {
+        assert_eq!(rt; *octet, if place % 2 == 0 { 0x00 } else { 0x0D });
+    }
+}
+
 #[test]
 fn agrees_with_another_program(rt: HostRuntime) {
     for (text, expected) in TEXTS {
-        let octets = put_units(&units_of_text(&rt, text));
-        assert!(rt; expected.len() <= 82);
-        assert_eq!(rt; &octets[..expected.len()], expected, "of {text}");
-        for (place, octet) in octets.iter().enumerate().skip(expected.len()) {
-            assert_eq!(rt;
-                *octet,
-                if place % 2 == 0 { 0x00 } else { 0x0D },
-                "at {place} of {text}"
-            );
-        }
+        expect_written(&rt, text, expected);
+    }
+}
+
+/// That these octets, filled with 0, begin with the characters of the text.
+fn expect_read(rt: &impl Abort, text: &str, written: &[u8]) {
+    let mut octets = [0; 82];
+    assert!(rt; written.len() <= 82);
+    octets[..written.len()].copy_from_slice(written);
+    let units = units_of(&octets);
+    for (place, character) in text.chars().enumerate() {
+        assert!(rt; place < 41);
+        assert_eq!(rt; char_of(units[place]), character, "at {place}");
     }
 }
 
 #[test]
 fn reads_what_another_program_wrote(rt: HostRuntime) {
     for (text, written) in TEXTS {
-        let mut octets = [0; 82];
-        assert!(rt; written.len() <= 82);
-        octets[..written.len()].copy_from_slice(written);
-        let units = units_of(&octets);
-        for (place, character) in text.chars().enumerate() {
-            assert!(rt; place < 41);
-            assert_eq!(rt; char_of(units[place]), character, "at {place} of {text}");
-        }
+        expect_read(&rt, text, written);
     }
 }
 

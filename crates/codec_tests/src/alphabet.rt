@@ -1,7 +1,8 @@
 //! Values on which two independent programs agree both ways; a carriage return and what an escape shows before other
 //! septets are from the standard.
 
-use super::*;
+use gsm_alphabet::{Code, alphabet_law, decode_ext, decode_one, encode_char};
+use std::process::Abort;
 
 /// The characters of one septet.
 const SINGLE: [(char, u8); 126] = [
@@ -146,23 +147,23 @@ const EXTENDED: [(char, u8); 9] = [
     ('€', 0x65),
 ];
 
+/// That a character has this code, and the code shows the character.
+fn expect_code(rt: &impl Abort, character: char, code: Code) {
+    assert_eq!(rt; encode_char(character), Some(code), "at {character}");
+    let shown = match code {
+        Code::One(septet) => decode_one(septet),
+        Code::Ext(septet) => decode_ext(septet),
+    };
+    assert_eq!(rt; shown, character);
+}
+
 #[test]
 fn agrees_with_other_programs(rt: HostRuntime) {
-    for (character, code) in SINGLE {
-        assert_eq!(rt;
-            encode_char(character),
-            Some(Code::One(code)),
-            "at {character}"
-        );
-        assert_eq!(rt; decode_one(code), character, "at {code}");
+    for (character, septet) in SINGLE {
+        expect_code(&rt, character, Code::One(septet));
     }
-    for (character, code) in EXTENDED {
-        assert_eq!(rt;
-            encode_char(character),
-            Some(Code::Ext(code)),
-            "at {character}"
-        );
-        assert_eq!(rt; decode_ext(code), character, "at {code}");
+    for (character, septet) in EXTENDED {
+        expect_code(&rt, character, Code::Ext(septet));
     }
 }
 

@@ -2,7 +2,9 @@
 
 ghost use Rattle.std.specs.Prelude.{◌<◌, All};
 
-use super::*;
+use arrayvec::ArrayVec;
+use septets::{OCTETS, SEPTETS, pack, packing_law, unpack};
+use std::process::Abort;
 
 /// The septets of a text, and the octets of its page, in hex.
 const PAGES: [(&str, &str); 17] = [
@@ -120,14 +122,19 @@ fn filled_page(septets: &ArrayVec<u8, 93>) -> [u8; 93] {
     page
 }
 
+/// That these septets are packed into these octets, and unpacked from them.
+fn expect_page(rt: &impl Abort, codes: &str, text: &str) {
+    let septets = septets_of(codes);
+    let octets = octets_of(text);
+    assert_eq!(rt; septets.len() * 2, codes.len(), "{codes}");
+    assert_eq!(rt; pack(&septets), octets, "{codes}");
+    assert_eq!(rt; unpack(&octets), filled_page(&septets), "{codes}");
+}
+
 #[test]
 fn packs_and_unpacks_outside_pages(rt: HostRuntime) {
     for (codes, text) in PAGES {
-        let septets = septets_of(codes);
-        let octets = octets_of(text);
-        assert_eq!(rt; septets.len() * 2, codes.len(), "{codes}");
-        assert_eq!(rt; pack(&septets), octets, "{codes}");
-        assert_eq!(rt; unpack(&octets), filled_page(&septets), "{codes}");
+        expect_page(&rt, codes, text);
     }
     packing_law();
 }
