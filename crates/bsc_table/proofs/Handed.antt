@@ -3,7 +3,7 @@
 use Rattle.std.proofs.Common.{◌≡◌, ◌≢◌, ℕ, zero, suc, ◌-◌, ◌≤◌, ◌<◌, ◌==◌, Bool, true, false, cond, Option, Some, None, List, [], ◌∷◌, filter, get_or, refl, ap, sym, subst, ◌∙◌, inl, inr, arith}
 use Rattle.std.specs.List.{All, Any, Contains, find}
 use Rattle.std.specs.Option.{option_map}
-use Rattle.std.proofs.lemmas.Bool.{cases_Bool, cases_lt, eqb-true, eq-eqb, lt-ltb, false≢true}
+use Rattle.std.proofs.lemmas.Bool.{cases_Bool, cases_eq, cases_lt, eqb-true, eq-eqb, lt-ltb, false≢true}
 use Rattle.std.proofs.lemmas.Option.{none-some, same_Some}
 use Rattle.std.proofs.lemmas.List.{length-map, get_or-map, get_or_default}
 use Rattle.std.proofs.lemmas.List.Elements.{All-nil, All-cons, All-head, All-tail, All-map, All-filter, All-weaker, All-contains, Contains-append_right, filter_passes}
@@ -11,17 +11,18 @@ use Rattle.admission.specs.declared.budget.Held.{Held}
 use Rattle.admission.specs.declared.budget.Waits.{Waits}
 use Rattle.admission.specs.Reservation.{IsBeforeEnd}
 use Rattle.admission.specs.Waiting.{behind_of}
-use Rattle.admission.specs.Table.{load_in, load_for}
+use Rattle.admission.specs.Table.{load_in, load_for, excess_over}
 use Rattle.bsc_table.specs.Record.{is_live}
-use Rattle.bsc_table.specs.Claim.{Claim, own_load, is_claimed_at, IsWaiting, stop_claims}
+use Rattle.bsc_table.specs.Claim.{Claim, end_of, own_load, is_claimed_at, IsWaiting, stop_claims}
 use Rattle.bsc_table.specs.Handover.{Place, handover}
 use Rattle.bsc_table.specs.Room.{AreInOrder}
 use Rattle.bsc_table.specs.Book.{waits_of, line_of, lines_at, IsHeldFor}
 use Rattle.bsc_table.proofs.Claims.{is_claimed_at-says, is_claimed_at-from}
-use Rattle.bsc_table.proofs.Ahead.{by_number}
+use Rattle.bsc_table.proofs.Ahead.{by_number, from_stopped}
+use Rattle.bsc_table.proofs.Stops.{stop_claim-other}
 use Rattle.bsc_table.proofs.Stopped.{not_live, in_order-stop}
 use Rattle.bsc_table.proofs.TakenOver.{is_free, only_live}
-use Rattle.bsc_table.proofs.Lines.{waits_of-started}
+use Rattle.bsc_table.proofs.Lines.{waits_of-started, live_is_claimed}
 
 -- a line waits behind the message behind which its claim does, where that has not started
 waits_behind : (slot number : ℕ) (c : Claim) → behind_of (line_of slot c) ≡ Some number → (slot < c.message.start) × (c.behind ≡ Some number)
@@ -129,3 +130,34 @@ handed_in slot load claims old place order here live over =
         over = ap (λ (n : ℕ). load - n) held ∙ sym its.excess;
       },
     )
+
+-- and of the one ahead, before the old one is stopped
+pub held_ahead : (slot load : ℕ) (claims : List Claim) (old : Claim) (place : Place) → AreInOrder claims slot → Contains claims old → is_live slot old.message ≡ true → handover (stop_claims old.message.number slot claims) slot old load ≡ Some place → Any (λ h. (h.entry ≡ place.behind) × (h.waits ≡ None)) (lines_at slot claims) × (excess_over place.behind load (lines_at slot claims) ≡ place.excess)
+held_ahead slot load claims old place order here live over =
+    let number = old.message.number in
+    let its = is_free claims slot load old place order here live over in
+    let p : Claim = its.p in
+    let from = from_stopped claims number slot p its.there in
+    let c : Claim = from.0 in
+    let numbers : p.message.number ≡ c.message.number = ap (λ (x : Claim). x.message.number) from.2 in
+    let behind : c.message.number ≡ place.behind = sym numbers ∙ sym its.named in
+    let started : c.message.start ≤ slot = omega (arith, its.ahead.started, ap (λ (x : Claim). x.message.start) from.2) in
+    let Stands : Claim → Type 0 = λ x. (x.accepted ≤ slot) × (0 < x.message.period) in
+    let stands = subst Stands from.1.2 (order.accepted from.1.0 c from.1.1, order.periods from.1.0 c from.1.1) in
+    let Before : Option ℕ → Type 0 = λ end. IsBeforeEnd slot end in
+    let claimed : is_claimed_at slot c ≡ true = elim (cases_eq c.message.number number) [
+      | inl same ↦
+          let is : c ≡ old = by_number claims c old order.rising from.1 here same in
+          live_is_claimed slot c stands.0 stands.1 (ap (λ (x : Claim). is_live slot x.message) is ∙ live)
+      | inr other ↦
+          let is : p ≡ c = from.2 ∙ stop_claim-other number slot c other in
+          let ends = ap (λ (x : Claim). end_of x.message) (sym is) ∙ its.ends in
+          is_claimed_at-from slot c (stands.0, subst Before (sym ends) its.later)
+    ] in
+    let line = its_line slot claims c from.1 claimed in
+    let loads = all_lines (λ (h : Held). h.entry ≡ place.behind → h.load ≡ own_load p.message) slot claims (λ k d within. λ counted same.
+    let x : Claim = get_or claims k d in
+    let is : get_or claims k d ≡ c = by_number claims (get_or claims k d) c order.rising (k, within, get_or_default claims k (get_or claims k d) d within) from.1 (same ∙ sym behind) in
+    ap (λ (y : Claim). own_load y.message) is ∙ sym (ap (λ (y : Claim). own_load y.message) from.2)) in
+    let held = load_of_entry place.behind (own_load p.message) (lines_at slot claims) loads (line.0, line_of slot c, line.1, line.2, behind) in
+    ((line.0, line_of slot c, line.1, line.2, (behind, waits_of-started slot c started)), ap (λ (n : ℕ). load - n) held ∙ sym its.excess)

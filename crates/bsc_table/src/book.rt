@@ -506,7 +506,7 @@ impl CellBook {
         ensures { IsLater self.now (accepted_of old.now) load result }
     {
         let place = self.place_after(old, load)?;
-        match self.room_without(old, place.excess) {
+        match self.room_behind(old, load, place) {
             Ok(()) => Some(place),
             Err(_) => None,
         }
@@ -524,6 +524,18 @@ impl CellBook {
         let ahead = kept::numbered(self.accepted.as_slice(), number)?;
         let stopped = ahead.stopped_if(old.number, self.clock);
         stopped.place_behind(self.clock, load)
+    }
+
+    /// Whether there is room for what a load has over that of the message behind which it is to wait, where a live message
+    /// counts as stopped.
+    fn room_behind(&self, old: &Kept, load: u64, place: Place) -> Result<(), NoRoom>
+        requires live { IsLiveIn self.now (accepted_of old.now) }
+        requires place { handover (left_by self.now (accepted_of old.now)) self.now.clock
+            (claim_of (accepted_of old.now)) load ≡ Some (place_of place) }
+        ensures { IsRoom (left_by self.now (accepted_of old.now)) self.now.clock place.excess result }
+    {
+        self.budget
+            .fits_behind(load, place.behind, old.leaving_at(self.clock))
     }
 
     /// Whether all slots of the run are played.
