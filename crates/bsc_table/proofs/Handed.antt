@@ -25,7 +25,9 @@ use Rattle.bsc_table.proofs.TakenOver.{is_free, only_live}
 use Rattle.bsc_table.proofs.Lines.{waits_of-started, live_is_claimed}
 
 -- a line waits behind the message behind which its claim does, where that has not started
-waits_behind : (slot number : ℕ) (c : Claim) → behind_of (line_of slot c) ≡ Some number → (slot < c.message.start) × (c.behind ≡ Some number)
+waits_behind : (slot number : ℕ) (c : Claim)
+    → behind_of (line_of slot c) ≡ Some number
+    → (slot < c.message.start) × (c.behind ≡ Some number)
 waits_behind slot number c waits =
     let its : Option Waits → Option ℕ = λ o. option_map (λ (w : Waits). w.behind) o in
     elim (cases_lt slot c.message.start) [
@@ -44,7 +46,9 @@ waits_behind slot number c waits =
     same (Some n) = refl
 
 -- what is true of each claim that is reserved is true of each line
-all_lines : (P : Held → Type 0) (slot : ℕ) (claims : List Claim) → All (λ c. is_claimed_at slot c ≡ true → P (line_of slot c)) claims → All P (lines_at slot claims)
+all_lines : (P : Held → Type 0) (slot : ℕ) (claims : List Claim)
+    → All (λ c. is_claimed_at slot c ≡ true → P (line_of slot c)) claims
+    → All P (lines_at slot claims)
 all_lines P slot claims each =
     let Counted : Claim → Type 0 = λ c. is_claimed_at slot c ≡ true in
     let Line : Claim → Type 0 = λ c. P (line_of slot c) in
@@ -53,14 +57,20 @@ all_lines P slot claims each =
     All-map P (line_of slot) (filter (is_claimed_at slot) claims) (λ k d within. kept k d within (passes k d within))
 
 -- behind a message that none waits for, no line waits
-pub none_behind : (slot number : ℕ) (claims : List Claim) → All (λ c. IsWaiting slot c → c.behind ≢ Some number) claims → All (λ h. behind_of h ≢ Some number) (lines_at slot claims)
+pub none_behind : (slot number : ℕ) (claims : List Claim)
+    → All (λ c. IsWaiting slot c → c.behind ≢ Some number) claims
+    → All (λ h. behind_of h ≢ Some number) (lines_at slot claims)
 none_behind slot number claims free =
     all_lines (λ (h : Held). behind_of h ≢ Some number) slot claims (λ k d within. λ claimed waits.
     let behind = waits_behind slot number (get_or claims k d) waits in
     free k d within (behind.0, (is_claimed_at-says slot (get_or claims k d) claimed).1) behind.1)
 
 -- so behind a live one
-pub none_behind_live : (slot : ℕ) (claims : List Claim) (old : Claim) → AreInOrder claims slot → Contains claims old → is_live slot old.message ≡ true → All (λ h. behind_of h ≢ Some old.message.number) (lines_at slot claims)
+pub none_behind_live : (slot : ℕ) (claims : List Claim) (old : Claim)
+    → AreInOrder claims slot
+    → Contains claims old
+    → is_live slot old.message ≡ true
+    → All (λ h. behind_of h ≢ Some old.message.number) (lines_at slot claims)
 none_behind_live slot claims old order here live =
     let number = old.message.number in
     let only = only_live claims slot old order.rising here live in
@@ -83,14 +93,20 @@ all_that_pass {X = X} p (x ∷ xs) =
     All-cons Passes x xs here (All-weaker (λ y. p y ≡ true → Contains (filter p xs) y) Passes (λ y kept passes. more_there (p x) x (filter p xs) y (kept passes)) xs (all_that_pass p xs))
 
 -- the line of a claim that is reserved
-pub its_line : (slot : ℕ) (claims : List Claim) (c : Claim) → Contains claims c → is_claimed_at slot c ≡ true → Contains (lines_at slot claims) (line_of slot c)
+pub its_line : (slot : ℕ) (claims : List Claim) (c : Claim)
+    → Contains claims c
+    → is_claimed_at slot c ≡ true
+    → Contains (lines_at slot claims) (line_of slot c)
 its_line slot claims c here claimed =
     let Claimed : Claim → Type 0 = λ x. is_claimed_at slot x ≡ true → Contains (filter (is_claimed_at slot) claims) x in
     let kept = All-contains Claimed claims c (all_that_pass (is_claimed_at slot) claims) here claimed in
     (kept.0, omega (arith, kept.1, length-map (filter (is_claimed_at slot) claims) (line_of slot)), get_or-map (line_of slot) (filter (is_claimed_at slot) claims) kept.0 c (line_of slot c) kept.1 ∙ ap (line_of slot) kept.2)
 
 -- the load that is held for an entry
-load_of_entry : (number load : ℕ) (lines : List Held) → All (λ h. h.entry ≡ number → h.load ≡ load) lines → Any (λ h. h.entry ≡ number) lines → load_for number lines ≡ load
+load_of_entry : (number load : ℕ) (lines : List Held)
+    → All (λ h. h.entry ≡ number → h.load ≡ load) lines
+    → Any (λ h. h.entry ≡ number) lines
+    → load_for number lines ≡ load
 load_of_entry number load [] all found = absurd (omega (arith, found.2))
 load_of_entry number load (h ∷ lines) all found =
     let Says : Held → Type 0 = λ x. x.entry ≡ number → x.load ≡ load in
@@ -104,7 +120,12 @@ load_of_entry number load (h ∷ lines) all found =
     later other (suc k, x, within, is, same) = (k, x, omega (arith, within), is, same)
 
 -- what a budget holds of the place that a message takes over
-pub handed_in : (slot load : ℕ) (claims : List Claim) (old : Claim) (place : Place) → AreInOrder claims slot → Contains claims old → is_live slot old.message ≡ true → handover (stop_claims old.message.number slot claims) slot old load ≡ Some place → (slot < place.start) × IsHeldFor (lines_at slot (stop_claims old.message.number slot claims)) load place.behind place.start place.excess
+pub handed_in : (slot load : ℕ) (claims : List Claim) (old : Claim) (place : Place)
+    → AreInOrder claims slot
+    → Contains claims old
+    → is_live slot old.message ≡ true
+    → handover (stop_claims old.message.number slot claims) slot old load ≡ Some place
+    → (slot < place.start) × IsHeldFor (lines_at slot (stop_claims old.message.number slot claims)) load place.behind place.start place.excess
 handed_in slot load claims old place order here live over =
     let number = old.message.number in
     let left = stop_claims number slot claims in
@@ -132,7 +153,12 @@ handed_in slot load claims old place order here live over =
     )
 
 -- and of the one ahead, before the old one is stopped
-pub held_ahead : (slot load : ℕ) (claims : List Claim) (old : Claim) (place : Place) → AreInOrder claims slot → Contains claims old → is_live slot old.message ≡ true → handover (stop_claims old.message.number slot claims) slot old load ≡ Some place → Any (λ h. (h.entry ≡ place.behind) × (h.waits ≡ None)) (lines_at slot claims) × (excess_over place.behind load (lines_at slot claims) ≡ place.excess)
+pub held_ahead : (slot load : ℕ) (claims : List Claim) (old : Claim) (place : Place)
+    → AreInOrder claims slot
+    → Contains claims old
+    → is_live slot old.message ≡ true
+    → handover (stop_claims old.message.number slot claims) slot old load ≡ Some place
+    → Any (λ h. (h.entry ≡ place.behind) × (h.waits ≡ None)) (lines_at slot claims) × (excess_over place.behind load (lines_at slot claims) ≡ place.excess)
 held_ahead slot load claims old place order here live over =
     let number = old.message.number in
     let its = is_free claims slot load old place order here live over in
