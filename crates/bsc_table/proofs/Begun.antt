@@ -18,12 +18,16 @@ use Rattle.bsc_table.proofs.TakenOver.{only_live}
 use Rattle.bsc_table.proofs.Lines.{lined, same_room}
 use Rattle.bsc_table.proofs.Handed.{handed_in}
 
-over_is_later : (slot : ℕ) (old : Accepted) (before : List Accepted) (a : Accepted) → TakesOver slot old before a → slot < a.message.start
+over_is_later : (slot : ℕ) (old : Accepted) (before : List Accepted) (a : Accepted)
+    → TakesOver slot old before a
+    → slot < a.message.start
 over_is_later slot old before a over =
     let took = taken (claims_of before) slot (own_load a.message) (ahead_of slot (claim_of old)) over.place over.over in
     omega (arith, took.later, over.placed.start)
 
-pub starts_forward : (slot : ℕ) (replaced : Option Accepted) (before : List Accepted) (a : Accepted) → Starts slot replaced before a → slot ≤ a.message.start
+pub starts_forward : (slot : ℕ) (replaced : Option Accepted) (before : List Accepted) (a : Accepted)
+    → Starts slot replaced before a
+    → slot ≤ a.message.start
 starts_forward slot None before a now = omega (arith, now.start)
 starts_forward slot (Some old) before a starts =
     elim starts [
@@ -32,22 +36,38 @@ starts_forward slot (Some old) before a starts =
     ]
 
 -- where there is a place and room, the budget says so
-has_room : (slot load : ℕ) (claims : List Claim) → AreInOrder claims slot → length (filter (is_claimed_at slot) claims) < 64 → claimed_at claims slot + load ≤ SCALE → answer_for (lines_at slot claims) load ≡ Ok tt
+has_room : (slot load : ℕ) (claims : List Claim)
+    → AreInOrder claims slot
+    → length (filter (is_claimed_at slot) claims) < 64
+    → claimed_at claims slot + load ≤ SCALE
+    → answer_for (lines_at slot claims) load ≡ Ok tt
 has_room slot load claims order room fits =
     let places = length (filter (is_claimed_at slot) claims) in
     let yes : answer_by places (claimed_at claims slot) load ≡ Ok tt = rw (lt-ltb (length (filter (is_claimed_at slot) claims)) 64 room, le-leb (claimed_at claims slot + load) SCALE fits) refl in
     same_room slot load claims (lined slot claims order) ∙ yes
 
-room_now : (slot : ℕ) (before : List Accepted) (a : Accepted) → AreInOrder (claims_of before) slot → length (filter (is_claimed_at slot) (claims_of before)) < 64 → StartsNow slot before a → HasRoomFor slot (lines_at slot (claims_of before)) (claim_of a) a.behind
+room_now : (slot : ℕ) (before : List Accepted) (a : Accepted)
+    → AreInOrder (claims_of before) slot
+    → length (filter (is_claimed_at slot) (claims_of before)) < 64
+    → StartsNow slot before a
+    → HasRoomFor slot (lines_at slot (claims_of before)) (claim_of a) a.behind
 room_now slot before a order room now =
     subst (HasRoomFor slot (lines_at slot (claims_of before)) (claim_of a)) (sym now.behind) (omega (arith, now.start), has_room slot (own_load a.message) (claims_of before) order room now.fits)
 
 -- a message in the place of none has room
-pub room_for_new : (number slot : ℕ) (before : List Accepted) (a : Accepted) → AreInOrder (claims_of before) slot → IsBegun number slot None before a → HasRoomFor slot (lines_at slot (claims_of before)) (claim_of a) a.behind
+pub room_for_new : (number slot : ℕ) (before : List Accepted) (a : Accepted)
+    → AreInOrder (claims_of before) slot
+    → IsBegun number slot None before a
+    → HasRoomFor slot (lines_at slot (claims_of before)) (claim_of a) a.behind
 room_for_new number slot before a order begun = room_now slot before a order begun.room begun.starts
 
 -- and so has one in the place of a live one
-pub room_for_replacement : (number slot : ℕ) (all : List Accepted) (old a : Accepted) → AreInOrder (claims_of all) slot → Contains all old → is_live slot old.message ≡ true → IsBegun number slot (Some old) (map (stop_numbered old.message.number slot) all) a → HasRoomFor slot (lines_at slot (stop_claims old.message.number slot (claims_of all))) (claim_of a) a.behind
+pub room_for_replacement : (number slot : ℕ) (all : List Accepted) (old a : Accepted)
+    → AreInOrder (claims_of all) slot
+    → Contains all old
+    → is_live slot old.message ≡ true
+    → IsBegun number slot (Some old) (map (stop_numbered old.message.number slot) all) a
+    → HasRoomFor slot (lines_at slot (stop_claims old.message.number slot (claims_of all))) (claim_of a) a.behind
 room_for_replacement number slot all old a order here live begun =
     let of_old = old.message.number in
     let claims = claims_of all in

@@ -6,8 +6,8 @@
 -- 3. Cause 02: the message to replace or to stop isn't live.
 -- 4. Cause 0D: a message of the same identifier and serial number was accepted before.
 -- 5. Cause 07: 64 messages are reserved, each from the slot at which it was accepted up to its end.
--- 6. Cause 06: the load doesn't fit beside those that are reserved, and there is no place that it may take over, or what
---    it has over the load that stands there doesn't fit either.
+-- 6. Cause 06: the load doesn't fit beside those that are reserved, and there is no place that it may take over, or
+--    what it has over the load that stands there doesn't fit either.
 --
 -- The definitions stand in the other direction, each below those that it asks next.
 use Rattle.std.specs.Prelude.{ℕ, ◌+◌, ◌==◌, nat_le, nat_lt, if◌then◌else◌, Option, Some, None, List, length, filter}
@@ -43,12 +43,13 @@ answer_beside claims slot load place accepts =
 abbrev pub answer_to_new : List Entry → ℕ → ℕ → Answer
 answer_to_new log slot load = answer_beside (claims_in log) slot load None (λ start. answers.Started start)
 
--- a write in the place of an old one, whose stop counts as applied: it may take over from that one where it has started,
--- and from the one behind which that one waits where it hasn't
+-- a write in the place of an old one, whose stop counts as applied: it may take over from that one where it has
+-- started, and from the one behind which that one waits where it hasn't
 abbrev pub answer_to_replacement : List Entry → Air → ℕ → ℕ → Accepted → Answer
 answer_to_replacement log air slot load old =
     let left = stop_claims old.message.number slot (claims_in log) in
-    answer_beside left slot load (handover left slot (claim_of old) load) (λ start. answers.Replaced start (completed old.message air slot))
+    answer_beside left slot load (handover left slot (claim_of old) load)
+    (λ start. answers.Replaced start (completed old.message air slot))
 
 -- 4, where the pair of a write was accepted before
 abbrev pub unless_accepted : Option Message → Answer → Answer
@@ -63,10 +64,12 @@ of_live slot (Some a) answer = if is_live slot a.message then answer a else answ
 abbrev pub answer_to_write : List Entry → Air → ℕ → ℕ → ℕ → Option ℕ → ℕ → Answer
 answer_to_write log air slot id serial None load = unless_accepted (message_named id serial log) (answer_to_new log slot load)
 answer_to_write log air slot id serial (Some replaced) load =
-    of_live slot (accepted_named id replaced log) (λ old. unless_accepted (message_named id serial log) (answer_to_replacement log air slot load old))
+    of_live slot (accepted_named id replaced log) (λ old.
+    unless_accepted (message_named id serial log) (answer_to_replacement log air slot load old))
 
 abbrev pub answer_to_kill : List Entry → Air → ℕ → ℕ → ℕ → Answer
-answer_to_kill log air slot id serial = of_live slot (accepted_named id serial log) (λ a. answers.Stopped (completed a.message air slot))
+answer_to_kill log air slot id serial =
+    of_live slot (accepted_named id serial log) (λ a. answers.Stopped (completed a.message air slot))
 
 -- a status tells the completed broadcasts and the state of a message that was accepted, whether it is live or not
 abbrev pub told_of : Air → ℕ → Option Message → Answer

@@ -165,9 +165,9 @@ impl CellBook {
     /// - cause 0D where a message of the pair was accepted before;
     /// - cause 07 where 64 messages are reserved, the one to replace being stopped;
     /// - `Started`, or `Replaced` where one is replaced, where the load fits beside those that are then reserved;
-    /// - `Replaced` at a later slot where the message takes over: it starts where the reservation of the message ahead of it
-    ///   ends (of the one that it replaces, or of the one behind which that one waits), and what its load has over that one's
-    ///   fits until then;
+    /// - `Replaced` at a later slot where the message takes over: it starts where the reservation of the message ahead of
+    ///   it ends (of the one that it replaces, or of the one behind which that one waits), and what its load has over
+    ///   that one's fits until then;
     /// - else cause 06.
     ///
     /// Each answer but cause 08 has an entry, which is the only trace of a refusal. Where there is no memory for what an answer
@@ -400,7 +400,8 @@ impl CellBook {
     fn decide_kill(&self, id: u16, serial: Serial) -> Decision
         requires { IsLegal self.now }
         ensures right { decided_answer result
-            ≡ before_end self.now.slots self.now.clock (answer_to_kill self.now.log self.now.air self.now.clock id serial) }
+            ≡ before_end self.now.slots self.now.clock
+            (answer_to_kill self.now.log self.now.air self.now.clock id serial) }
         ensures decides { Decides self.now (commands.Kill id serial) result }
     {
         if self.is_over() {
@@ -506,14 +507,14 @@ impl CellBook {
         ensures { IsLater self.now (accepted_of old.now) load result }
     {
         let place = self.place_after(old, load)?;
-        match self.room_without(old, place.excess) {
+        match self.room_behind(old, load, place) {
             Ok(()) => Some(place),
             Err(_) => None,
         }
     }
 
-    /// The place at which a message of this load may take over from a live one: behind that one, where it has started, else
-    /// behind the one behind which it waits.
+    /// The place at which a message of this load may take over from a live one: behind that one, where it has started,
+    /// else behind the one behind which it waits.
     fn place_after(&self, old: &Kept, load: u64) -> Option<Place>
         requires { IsLiveIn self.now (accepted_of old.now) }
         ensures place { option_map place_of result
@@ -524,6 +525,18 @@ impl CellBook {
         let ahead = kept::numbered(self.accepted.as_slice(), number)?;
         let stopped = ahead.stopped_if(old.number, self.clock);
         stopped.place_behind(self.clock, load)
+    }
+
+    /// Whether there is room for what a load has over that of the message behind which it is to wait, where a live
+    /// message counts as stopped.
+    fn room_behind(&self, old: &Kept, load: u64, place: Place) -> Result<(), NoRoom>
+        requires live { IsLiveIn self.now (accepted_of old.now) }
+        requires place { handover (left_by self.now (accepted_of old.now)) self.now.clock
+            (claim_of (accepted_of old.now)) load ≡ Some (place_of place) }
+        ensures { IsRoom (left_by self.now (accepted_of old.now)) self.now.clock place.excess result }
+    {
+        self.budget
+            .fits_behind(load, place.behind, old.leaving_at(self.clock))
     }
 
     /// Whether all slots of the run are played.
@@ -557,19 +570,21 @@ impl CellBook {
     }
 }
 
-/// Gives the reservation of a message that is stopped at `slot` its end. None waits behind a message that is stopped now.
+/// Gives the reservation of a message that is stopped at `slot` its end. None waits behind a message that is stopped
+/// now.
 fn release(budget: &mut Budget, old: &Kept, slot: u16)
     requires period { 0 < old.now.period }
     requires reserved { Any (λ h. h.entry ≡ old.now.number) budget.old }
     requires free { All (λ h. behind_of h ≢ Some old.now.number) budget.old }
-    ensures { budget.new ≡ passed slot (ends_at old.now.number (end_of_stopped old.now.start old.now.period slot) budget.old) }
+    ensures { budget.new
+        ≡ passed slot (ends_at old.now.number (end_of_stopped old.now.start old.now.period slot) budget.old) }
 {
     budget.release_at(old.number, old.end_if_stopped(slot));
     budget.pass_slot(slot);
 }
 
-/// Reserves what a message takes that was accepted at `slot`: its load from now on, or, where it waits behind another one,
-/// its excess up to its start and its load from there on.
+/// Reserves what a message takes that was accepted at `slot`: its load from now on, or, where it waits behind another
+/// one, its excess up to its start and its load from there on.
 fn reserve_for(budget: &mut Budget, new: &Kept, slot: u16)
     requires period { 0 < new.now.period }
     requires soon { new.now.start < LATEST_START }
