@@ -1,37 +1,36 @@
 -- A book's plan and budget, asked of an accepted message.
-use Rattle.std.proofs.Common.{◌≡◌, ℕ, ◌==◌, true, cond, filter, Result, Option, Some, None, List, length, map, get_or, refl, ap, sym, subst, ◌∙◌, arith}
-use Rattle.std.specs.List.{All, AllPairs, Any, Contains, find}
+use Rattle.std.proofs.Common.{◌≡◌, ℕ, ◌+◌, ◌≤◌, ◌<◌, ◌==◌, Bool, true, cond, Result, Option, Some, None, Ok, Err, List, length, map, filter, refl, ap, sym, subst, ◌∙◌, inl, inr, arith, ltb, leb}
+use Rattle.std.specs.List.{All, Any, Contains, find}
 use Rattle.std.specs.Option.{option_map}
-use Rattle.std.proofs.lemmas.List.{length-map, get_or-map}
-use Rattle.std.proofs.lemmas.List.Elements.{All-contains, All-contains_itself, All-map, filter_passes}
+use Rattle.std.specs.Result.{OnOk}
+use Rattle.std.proofs.lemmas.Bool.{cond_both, cases_lt, le-ltb, le-leb, lt-ltb, lt-leb, ltb-true, leb-true}
+use Rattle.std.proofs.lemmas.List.Elements.{All-contains, All-contains_itself}
 use Rattle.admission.specs.declared.budget.Held.{Held}
 use Rattle.admission.specs.declared.budget.NoRoom.{NoRoom}
-use Rattle.admission.specs.Reservation.{is_before_end, end_of_stopped}
-use Rattle.admission.specs.Table.{answer_for, remaining_without, ends_at}
+use Rattle.admission.specs.declared.budget.NoRoom.TheVariants.{Table, Load}
+use Rattle.admission.specs.declared.measure.TheConstants.{SCALE}
+use Rattle.admission.specs.Reservation.{end_of_stopped}
+use Rattle.admission.specs.Table.{answer_of as answer_by, answer_for, remaining_without}
 use Rattle.admission.proofs.Reservations.{end_of_stopped-not_before}
-use Rattle.scheduler.specs.Message.{Message, stopped_at}
+use Rattle.scheduler.specs.Message.{Message}
 use Rattle.scheduler.specs.Air.{Air}
 use Rattle.scheduler.specs.Completed.{completed}
 use Rattle.scheduler.specs.Follows.{Kept, messages_of, Follows}
 use Rattle.bsc_table.specs.declared.entry.Entry.{Entry}
 use Rattle.bsc_table.specs.declared.entry.Answer.{Answer}
 use Rattle.bsc_table.specs.declared.entry.Answer.TheVariants as answers
-use Rattle.bsc_table.specs.Record.{Record, Accepted, accepted_in, messages_in, is_of_pair, is_live, claims_of, claims_in}
-use Rattle.bsc_table.specs.Claim.{Claim, stop_claims}
-use Rattle.bsc_table.specs.Answer.{answer_to_new, answer_to_replacement}
+use Rattle.bsc_table.specs.Record.{Record, Accepted, accepted_in, messages_in, is_of_pair, claims_in}
+use Rattle.bsc_table.specs.Claim.{Claim, is_claimed_at, claimed_at, stop_claims}
+use Rattle.bsc_table.specs.Handover.{Place}
+use Rattle.bsc_table.specs.Room.{AreInOrder}
+use Rattle.bsc_table.specs.Answer.{answer_at, answer_beside}
 use Rattle.bsc_table.specs.Legal.{IsLegal}
-use Rattle.bsc_table.specs.Book.{stop_numbered, line_of, lines_at, by_room}
-use Rattle.bsc_table.proofs.Numbers.{numbers_rise}
-use Rattle.bsc_table.proofs.Sound.{BeginsBy, HasLoad, IsSound-legal}
-use Rattle.bsc_table.proofs.Entered.{same_number}
-use Rattle.bsc_table.proofs.Outcome.{messages_stopped, claims_stopped}
-use Rattle.bsc_table.proofs.Rooms.{SameRoom, same_room, live_is_counted, lines_at-stopped, room_without, answer_by_room}
-use Rattle.bsc_table.proofs.Named.{BelowIt, All-find}
-
--- an accepted message's message is among the messages
-pub Contains-message : (log : List Entry) (a : Accepted) → Contains (accepted_in log) a → Contains (messages_in log) a.message
-Contains-message log a there =
-    (there.0, omega (arith, length-map (accepted_in log) (λ (x : Accepted). x.message), there.1), get_or-map (λ (x : Accepted). x.message) (accepted_in log) there.0 a a.message there.1 ∙ ap (λ (x : Accepted). x.message) there.2)
+use Rattle.bsc_table.specs.Book.{IsLiveIn, lines_at, by_room, HasRoom, IsRoom, left_by}
+use Rattle.bsc_table.proofs.Named.{All-find}
+use Rattle.bsc_table.proofs.Entered.{Contains-message}
+use Rattle.bsc_table.proofs.Entering.{lines_without, left_in_order}
+use Rattle.bsc_table.proofs.Lines.{lined, same_room, lines_are_current, room_without}
+use Rattle.bsc_table.proofs.Sound.{HasLoad, IsSound-legal}
 
 -- so a plan that follows them was told of it
 pub told_of_it : (plan : Kept) (log : List Entry) (air : Air) (a : Accepted) → Follows plan (messages_in log) air → Contains (accepted_in log) a → Any (λ m. m.number ≡ a.message.number) (messages_of plan)
@@ -56,41 +55,66 @@ pub option_is_there : {K : Type 0} (view : K → Accepted) (id serial : ℕ) (lo
 option_is_there view id serial log found kept same is =
     found_is_there id serial log (view kept) (sym same ∙ ap (option_map view) is)
 
--- the answer to a new write, by the room of a budget that holds the lines of the accepted messages
-pub new_by_room : (r : Record) (load : ℕ) → IsLegal r → answer_to_new r.log r.clock load ≡ by_room (answer_for (lines_at r.clock (messages_in r.log)) load) (answers.Started r.clock)
-new_by_room r load legal =
-    answer_by_room r.clock (claims_in r.log) (lines_at r.clock (messages_in r.log)) load (answers.Started r.clock) (same_room r.clock (accepted_in r.log) ((IsSound-legal r legal).begun))
+-- what the refusals of a write for want of room are, by those of a budget
+room_told : (places all : ℕ) (now later : Answer) → cond (leb 64 places) (answers.Cause 0x07) (cond (ltb SCALE all) later now) ≡ by_room (cond (ltb places 64) (cond (leb all SCALE) (Ok tt) (Err Load)) (Err Table)) now later
+room_told places all now later =
+    elim (cases_lt places 64) [
+      | inl few ↦ elim (cases_lt SCALE all) [
+        | inl over ↦ rw (lt-leb 64 places few, lt-ltb SCALE all over, lt-ltb places 64 few, lt-leb all SCALE over) refl
+        | inr fits ↦ rw (lt-leb 64 places few, le-ltb SCALE all fits, lt-ltb places 64 few, le-leb all SCALE fits) refl
+      ]
+      | inr many ↦ rw (le-leb 64 places many, le-ltb places 64 many) refl
+    ]
 
--- a live message's line is counted, and ends with its period when it is stopped now
-pub ended_messages : (slot : ℕ) (all : List Accepted) (a : Accepted) → AllPairs BelowIt all → Contains all a → is_live slot a.message ≡ true → All (λ m. m.number ≡ a.message.number → (is_before_end slot (line_of m).until ≡ true) × (end_of_stopped m.start m.period slot ≡ end_of_stopped a.message.start a.message.period slot)) (map (λ x. x.message) all)
-ended_messages slot all a rising there live =
-    let end : ℕ = end_of_stopped a.message.start a.message.period slot in
-    let Ended : Message → Type 0 = λ m. (is_before_end slot (line_of m).until ≡ true) × (end_of_stopped m.start m.period slot ≡ end) in
-    All-map (λ (m : Message). m.number ≡ a.message.number → Ended m) (λ (x : Accepted). x.message) all (λ i d within same.
-    let its : get_or all i d ≡ a = same_number all a rising there i d within same in
-    subst (λ (x : Accepted). Ended x.message) (sym its) (live_is_counted slot a.message live, refl))
+-- what a budget answers of a load, where it holds as much as the claims
+room_beside : (slot load : ℕ) (claims : List Claim) (room : Result (Unit {0}) NoRoom) → room ≡ answer_by (length (filter (is_claimed_at slot) claims)) (claimed_at claims slot) load → IsRoom claims slot load room
+room_beside slot load claims room says =
+    let places : ℕ = length (filter (is_claimed_at slot) claims) in
+    let all : ℕ = claimed_at claims slot + load in
+    let few : Bool = ltb places 64 in
+    let fits : Bool = leb all SCALE in
+    let Fits : Result (Unit {0}) NoRoom → Type 0 = λ x. OnOk x (HasRoom claims slot load) in
+    let has_room : few ≡ true → fits ≡ true → HasRoom claims slot load = λ place loads. record {
+      places = ltb-true places 64 place;
+      loads = leb-true all SCALE loads;
+    } in
+    let beside = cond fits (Ok tt) (Err Load) in
+    let fits_by : Fits (answer_by places (claimed_at claims slot) load) = cond_both few beside (Err Table) Fits (λ place. cond_both fits (Ok tt) (Err Load) Fits (has_room place) (λ _. tt)) (λ _. tt) in
+    record {
+      says = says;
+      answered = λ place accepts. room_told places all (accepts slot) (answer_at claims slot accepts place) ∙ ap (λ (x : Result (Unit {0}) NoRoom). by_room x (accepts slot) (answer_at claims slot accepts place)) (sym says);
+      fits = subst Fits (sym says) fits_by;
+    }
 
--- the lines of a budget after a live message was stopped now
-pub lines_without : (slot : ℕ) (log : List Entry) (a : Accepted) → Contains (accepted_in log) a → is_live slot a.message ≡ true → filter (λ h. is_before_end slot h.until) (ends_at a.message.number (end_of_stopped a.message.start a.message.period slot) (lines_at slot (messages_in log))) ≡ lines_at slot (stopped_at a.message.number slot (messages_in log))
-lines_without slot log a there live =
-    lines_at-stopped slot a.message.number (end_of_stopped a.message.start a.message.period slot) (messages_in log) (ended_messages slot (accepted_in log) a (numbers_rise log) there live)
+-- where it is refused for its load, there is a place
+pub few_places : (claims : List Claim) (slot load : ℕ) (room : Result (Unit {0}) NoRoom) → IsRoom claims slot load room → room ≡ Err Load → length (filter (is_claimed_at slot) claims) < 64
+few_places claims slot load room is full =
+    let places : ℕ = length (filter (is_claimed_at slot) claims) in
+    elim (cases_lt places 64) [
+      | inl few ↦ few
+      | inr many ↦
+          let none = ap (λ (b : Bool). cond b (cond (leb (claimed_at claims slot + load) SCALE) (Ok tt) (Err Load)) (Err Table)) (le-ltb places 64 many) in
+          absurd (apart (Err Table) (is.says ∙ none) full refl)
+    ]
+  where
+    apart : (other : Result (Unit {0}) NoRoom) → room ≡ other → room ≡ Err Load → other ≡ Err Table → ⊥
+    apart other is_other is_load is_table = cc
 
--- the answer to a replacement, by the room of that budget without the old message, where its reservation ends now
-pub replacement_by_room : (r : Record) (load : ℕ) (a : Accepted) → IsLegal r → Contains (accepted_in r.log) a → is_live r.clock a.message ≡ true → answer_to_replacement r.log r.air r.clock load a.message ≡ by_room (answer_for (remaining_without (cond (end_of_stopped a.message.start a.message.period r.clock == r.clock) (Some a.message.number) None) (lines_at r.clock (messages_in r.log))) load) (answers.Replaced r.clock (completed a.message r.air r.clock))
-replacement_by_room r load a legal there live =
+-- whether a load has room beside the accepted messages
+pub room_now : (r : Record) (load : ℕ) → IsLegal r → IsRoom (claims_in r.log) r.clock load (answer_for (lines_at r.clock (claims_in r.log)) load)
+room_now r load legal =
+    room_beside r.clock load (claims_in r.log) (answer_for (lines_at r.clock (claims_in r.log)) load) (same_room r.clock load (claims_in r.log) (lined r.clock (claims_in r.log) (IsSound-legal r legal).order))
+
+-- and where a live one of them is stopped: the budget is asked as if that one were gone, where its reservation ends now
+pub room_after_stop : (r : Record) (load : ℕ) (a : Accepted) → IsLegal r → IsLiveIn r a → IsRoom (left_by r a) r.clock load (answer_for (remaining_without (cond (end_of_stopped a.message.start a.message.period r.clock == r.clock) (Some a.message.number) None) (lines_at r.clock (claims_in r.log))) load)
+room_after_stop r load a legal live =
     let sound = IsSound-legal r legal in
     let slot : ℕ = r.clock in
     let number : ℕ = a.message.number in
     let end : ℕ = end_of_stopped a.message.start a.message.period slot in
-    let accepts : Answer = answers.Replaced slot (completed a.message r.air slot) in
-    let messages : List Message = messages_in r.log in
-    let after : List Message = stopped_at number slot messages in
-    let rest : List Accepted = map (stop_numbered number slot) (accepted_in r.log) in
-    let begun : All (BeginsBy slot) rest = All-map (BeginsBy slot) (stop_numbered number slot) (accepted_in r.log) sound.begun in
-    let Claimed : List Claim → Type 0 = λ claims. SameRoom slot claims (lines_at slot after) in
-    let Lined : List Message → Type 0 = λ left. SameRoom slot (claims_of rest) (lines_at slot left) in
-    let same = subst Claimed (claims_stopped number slot (accepted_in r.log)) (subst Lined (messages_stopped number slot (accepted_in r.log)) (same_room slot rest begun)) in
-    let lasts = (All-contains HasLoad (accepted_in r.log) a sound.loaded there).1 in
-    let kept = filter_passes (λ (h : Held). is_before_end slot h.until) (map line_of messages) in
+    let lines : List Held = lines_at slot (claims_in r.log) in
+    let left : List Claim = left_by r a in
+    let lasts = (All-contains HasLoad (accepted_in r.log) a sound.loaded live.there).1 in
     let later = end_of_stopped-not_before a.message.start a.message.period slot lasts in
-    answer_by_room slot (stop_claims number slot (claims_in r.log)) (lines_at slot after) load accepts same ∙ ap (λ (l : List Held). by_room (answer_for l load) accepts) (sym (lines_without slot r.log a there live)) ∙ sym (ap (λ (x : Result (Unit {0}) NoRoom). by_room x accepts) (room_without slot number end load (lines_at slot messages) later kept))
+    let asked = room_without slot number end load lines later (lines_are_current slot (claims_in r.log)) ∙ ap (λ (l : List Held). answer_for l load) (lines_without r a legal live) in
+    room_beside slot load left (answer_for (remaining_without (cond (end == slot) (Some number) None) lines) load) (asked ∙ same_room slot load left (lined slot left (left_in_order r a legal live)))

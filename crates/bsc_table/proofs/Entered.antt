@@ -3,7 +3,7 @@ use Rattle.std.proofs.Common.{◌≡◌, ℕ, ◌≤◌, ◌<◌, true, Option, 
 use Rattle.std.specs.List.{All, AllPairs, Contains}
 use Rattle.std.specs.Option.{IfSome}
 use Rattle.std.proofs.lemmas.Bool.{cases_lt}
-use Rattle.std.proofs.lemmas.List.{take_all, take_at, take-append-le, get_or_append_left, get_or_default, get_or_push, length_push, map-append}
+use Rattle.std.proofs.lemmas.List.{get_or-map, length-map, take_all, take_at, take-append-le, get_or_append_left, get_or_default, get_or_push, length_push, map-append}
 use Rattle.std.proofs.lemmas.List.Elements.{All-push, All-map}
 use Rattle.std.proofs.lemmas.List.Quantifiers.{all_pairs_push}
 use Rattle.scheduler.specs.Message.{Message}
@@ -18,7 +18,8 @@ use Rattle.bsc_table.specs.Answer.{answer_of}
 use Rattle.bsc_table.specs.Legal.{IsAnswered, IsLegal}
 use Rattle.bsc_table.proofs.Named.{BelowIt, live_is_standing}
 use Rattle.bsc_table.proofs.Numbers.{numbers_rise}
-use Rattle.bsc_table.specs.Book.{IsBegun}
+use Rattle.bsc_table.specs.Begun.{IsBegun}
+use Rattle.bsc_table.proofs.Begun.{starts_forward}
 use Rattle.bsc_table.proofs.Outcome.{Outcome, entry_with, with, without, outcome_of, messages_stopped}
 use Rattle.bsc_table.proofs.Sound.{IsSound-legal}
 
@@ -28,6 +29,11 @@ same_number all a rising there = λ i d within same.
     let here : get_or all there.0 d ≡ a = get_or_default all there.0 d a there.1 ∙ there.2 in
     let its : (get_or all there.0 d).message.number ≡ a.message.number = ap (λ (x : Accepted). x.message.number) here in
     ap (λ (k : ℕ). get_or all k d) (rising-same (λ (x : Accepted). x.message.number) all rising i there.0 d within there.1 (same ∙ sym its)) ∙ here
+
+-- an accepted message's message is among the messages
+pub Contains-message : (log : List Entry) (a : Accepted) → Contains (accepted_in log) a → Contains (messages_in log) a.message
+Contains-message log a there =
+    (there.0, omega (arith, length-map (accepted_in log) (λ (x : Accepted). x.message), there.1), get_or-map (λ (x : Accepted). x.message) (accepted_in log) there.0 a a.message there.1 ∙ ap (λ (x : Accepted). x.message) there.2)
 
 -- a live message and no other one is stopped
 pub standing_number : (all : List Accepted) (slot : ℕ) (a : Accepted) → AllPairs BelowIt all → Contains all a → is_live slot a.message ≡ true → All (λ m. m.number ≡ a.message.number → m.stop ≡ None) (map (λ x. x.message) all)
@@ -42,17 +48,17 @@ air_without (Some a) slot all air rising live before airs =
     let Airs : List Message → Type 0 = λ messages. IsAirOf messages air in
     subst Airs (sym (messages_stopped a.message.number slot all)) (IsAirOf-stop (map (λ (x : Accepted). x.message) all) a.message.number slot air before (standing_number all slot a rising live.0 live.1) airs)
 
-air_with : (started : Option Accepted) (number slot : ℕ) (all : List Accepted) (air : Air) → IfSome started (λ a. IsBegun number slot all a) → length air ≤ slot → IsAirOf (map (λ a. a.message) all) air → IsAirOf (map (λ a. a.message) (with started all)) air
-air_with None number slot all air begun before airs = airs
-air_with (Some a) number slot all air begun before airs =
+air_with : (started replaced : Option Accepted) (number slot : ℕ) (all : List Accepted) (air : Air) → IfSome started (λ a. IsBegun number slot replaced all a) → length air ≤ slot → IsAirOf (map (λ a. a.message) all) air → IsAirOf (map (λ a. a.message) (with started all)) air
+air_with None replaced number slot all air begun before airs = airs
+air_with (Some a) replaced number slot all air begun before airs =
     let Airs : List Message → Type 0 = λ messages. IsAirOf messages air in
-    subst Airs (sym (map-append (λ (x : Accepted). x.message) all (a ∷ []))) (IsAirOf-add (map (λ (x : Accepted). x.message) all) a.message air (omega (arith, begun.begins)) airs)
+    subst Airs (sym (map-append (λ (x : Accepted). x.message) all (a ∷ []))) (IsAirOf-add (map (λ (x : Accepted). x.message) all) a.message air (omega (arith, before, starts_forward slot replaced all a begun.starts)) airs)
 
 pub IsAirOf-entry : (log : List Entry) (e : Entry) (air : Air) → Outcome log e → length air ≤ e.slot → IsAirOf (messages_in log) air → IsAirOf (messages_in (log ++ e ∷ [])) air
 IsAirOf-entry log e air outcome before airs =
     let rest : List Accepted = without outcome.stopped e.slot (accepted_in log) in
     let Airs : List Accepted → Type 0 = λ all. IsAirOf (map (λ (a : Accepted). a.message) all) air in
-    subst Airs (sym outcome.after) (air_with outcome.started (length log) e.slot rest air outcome.begun before (air_without outcome.stopped e.slot (accepted_in log) air (numbers_rise log) outcome.live before airs))
+    subst Airs (sym outcome.after) (air_with outcome.started outcome.stopped (length log) e.slot rest air outcome.begun before (air_without outcome.stopped e.slot (accepted_in log) air (numbers_rise log) outcome.live before airs))
 
 -- the answers of a log with one more
 answered_with : (r : Record) (command : Command) → IsLegal r → (let e = entry_with command r.clock (answer_of r.slots r.log r.air r.clock command) in (i : ℕ) (d : Entry) → i < length (r.log ++ e ∷ []) → IsAnswered r.slots (take i (r.log ++ e ∷ [])) r.air (get_or (r.log ++ e ∷ []) i d))
@@ -76,7 +82,7 @@ answered_with r command legal i d within =
 
 pub outcome_now : (r : Record) (command : Command) → IsLegal r → IsWellFormed command → Outcome r.log (entry_with command r.clock (answer_of r.slots r.log r.air r.clock command))
 outcome_now r command legal formed =
-    outcome_of r.slots r.log r.air r.clock command ((IsSound-legal r legal).once) formed
+    outcome_of r.slots r.log r.air r.clock command (IsSound-legal r legal).once (IsSound-legal r legal).order formed
 
 pub IsLegal-entry : (r : Record) (command : Command) → IsLegal r → length r.log < 4096 → IsWellFormed command → IsLegal (record r { log = r.log ++ entry_with command r.clock (answer_of r.slots r.log r.air r.clock command) ∷ [] })
 IsLegal-entry r command legal room formed =

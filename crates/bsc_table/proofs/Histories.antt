@@ -32,29 +32,29 @@ use Rattle.bsc_table.specs.Told.{IsTrulyTold}
 use Rattle.bsc_table.proofs.Promised.{legal_histories_are_served, legal_histories_are_bounded}
 use Rattle.bsc_table.proofs.Told.{legal_answers_are_true}
 
-abbrev contents : ℕ → List Content
+abbrev pub contents : ℕ → List Content
 contents zero = []
 contents (suc n) = record { used = 0; octets = replicate 82 0 } ∷ contents n
 
 -- a write of message 4370 that asks for so many pages in each period
-abbrev write : ℕ → Option ℕ → Category → ℕ → ℕ → ℕ → Command
+abbrev pub write : ℕ → Option ℕ → Category → ℕ → ℕ → ℕ → Command
 write serial replaces category pages period broadcasts = commands.Write 4370 serial replaces category period broadcasts (record { 0 = 1 }) (contents pages)
 
-abbrev kill : ℕ → Command
+abbrev pub kill : ℕ → Command
 kill serial = commands.Kill 4370 serial
 
-abbrev status : ℕ → Command
+abbrev pub status : ℕ → Command
 status serial = commands.Status 4370 serial
 
-abbrev entry : Command → ℕ → Answer → Entry
+abbrev pub entry : Command → ℕ → Answer → Entry
 entry command slot answer = record { command = command; slot = slot; answer = answer }
 
 -- what a run airs by the log
-abbrev aired : List Entry → ℕ → Air
+abbrev pub aired : List Entry → ℕ → Air
 aired log slots = air_of (messages_in log) slots
 
 -- the answer in a run of 8 slots, where the log so far gives the air
-abbrev answer : List Entry → ℕ → Command → Answer
+abbrev pub answer : List Entry → ℕ → Command → Answer
 answer log slot command = answer_of 8 log (aired log slot) slot command
 
 -- A: a page in every second slot; B: two pages in every fourth. They take the whole, so that C finds no room
@@ -136,15 +136,18 @@ high_has_no_room = refl
 high_starts_later : answer killed_high 3 (high 6) ≡ answers.Started 3
 high_starts_later = refl
 
--- a replacement on the boundary of a period finds the room of its old message; one within the period may not, and then
--- changes nothing
+-- a replacement on the boundary of a period finds the room of its old message; one within the period waits for it, up
+-- to the end of the period; and where what it has over the old one's load has no room until then, it changes nothing
 new_replaces : answer begun 4 (write 3 (Some 2) Normal 2 4 0) ≡ answers.Replaced 4 1
 new_replaces = refl
 
-new_has_no_room : answer begun 3 (write 3 (Some 2) Normal 2 4 0) ≡ answers.Cause 0x06
+new_waits : answer begun 3 (write 3 (Some 2) Normal 2 4 0) ≡ answers.Replaced 4 0
+new_waits = refl
+
+new_has_no_room : answer begun 3 (write 3 (Some 2) Normal 3 4 0) ≡ answers.Cause 0x06
 new_has_no_room = refl
 
-old_stays : answer (begun ++ entry (write 3 (Some 2) Normal 2 4 0) 3 (answers.Cause 0x06) ∷ []) 3 (status 2) ≡ answers.Told 0 states.Standing
+old_stays : answer (begun ++ entry (write 3 (Some 2) Normal 3 4 0) 3 (answers.Cause 0x06) ∷ []) 3 (status 2) ≡ answers.Told 0 states.Standing
 old_stays = refl
 
 none_to_replace : answer begun 3 (write 3 (Some 9) Normal 2 4 0) ≡ answers.Cause 0x02
@@ -183,7 +186,7 @@ twice_is_dead : answer twice 6 (kill 9) ≡ answers.Cause 0x02
 twice_is_dead = refl
 
 -- the record of a run of 8 slots by a log, after so many of them
-abbrev run : List Entry → ℕ → Record
+abbrev pub run : List Entry → ℕ → Record
 run log clock = record { cell = record { lac = 1; ci = 1 }; slots = 8; clock = clock; log = log; air = aired log clock }
 
 -- the slots of a log rise, from a slot on, up to another
@@ -253,7 +256,7 @@ filled_answered (suc (suc (suc zero))) d within = refl
 filled_answered (suc (suc (suc (suc i)))) d within = absurd (omega arith)
 
 -- what is left to show of a run whose air list is computed
-legal_run : (log : List Entry) (clock : ℕ) → length log ≤ 4096 → clock ≤ 8 → slots_rise 0 log clock ≡ true → list_all (λ e. is_formed e.command) log ≡ true → list_all (λ m. nat_lt 0 m.period) (messages_in log) ≡ true → ((i : ℕ) (d : Entry) → i < length log → IsAnswered 8 (take i log) (aired log clock) (get_or log i d)) → length (aired log clock) ≡ clock → IsLegal (run log clock)
+pub legal_run : (log : List Entry) (clock : ℕ) → length log ≤ 4096 → clock ≤ 8 → slots_rise 0 log clock ≡ true → list_all (λ e. is_formed e.command) log ≡ true → list_all (λ m. nat_lt 0 m.period) (messages_in log) ≡ true → ((i : ℕ) (d : Entry) → i < length log → IsAnswered 8 (take i log) (aired log clock) (get_or log i d)) → length (aired log clock) ≡ clock → IsLegal (run log clock)
 legal_run log clock few within rise formed periods answered played = record {
   within = within;
   few = few;
@@ -337,7 +340,7 @@ no_load_fits : answer three 0 (write 4 None Normal 1 1024 0) ≡ answers.Cause 0
 no_load_fits = refl
 
 -- so many messages of one page in 1,024 slots
-abbrev many : ℕ → List Entry
+abbrev pub many : ℕ → List Entry
 many zero = []
 many (suc n) = many n ++ entry (write n None Normal 1 1024 0) 0 (answers.Started 0) ∷ []
 

@@ -11,17 +11,20 @@ pub mod Told
 mod Worked
 pub mod BookLaws
 mod Histories
+mod Takeovers
 pub mod Appended
 pub mod Named
 pub mod Numbers
 pub mod Outcome
 pub mod Sound
 pub mod Entered
-pub mod Rooms
+pub mod Lines
+pub mod Handed
+pub mod Begun
 pub mod Booked
-pub mod Accepting
+pub mod Decided
+pub mod Placed
 pub mod Entering
-pub mod Deciding
 pub mod Ordered
 pub mod Refusals
 pub mod Written

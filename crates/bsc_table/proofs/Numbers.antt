@@ -7,7 +7,7 @@ use Rattle.std.proofs.lemmas.List.Quantifiers.{all_pairs_push}
 use Rattle.bsc_table.specs.declared.command.Command.{Command}
 use Rattle.bsc_table.specs.declared.command.Command.TheVariants as commands
 use Rattle.bsc_table.specs.declared.entry.Entry.{Entry}
-use Rattle.bsc_table.specs.Record.{Accepted, start_of, is_high, stopped_by, write_message, added_by, accepted_after, accepted_from, accepted_in}
+use Rattle.bsc_table.specs.Record.{Accepted, start_of, is_high, stopped_by, replaced_in, behind_of, written_behind, added_by, accepted_after, accepted_from, accepted_in}
 use Rattle.bsc_table.proofs.Named.{BelowIt}
 
 abbrev IsBelow : ℕ → Accepted → Type 0
@@ -31,12 +31,12 @@ numbered_later all place numbered =
     let P : List Accepted → Type 0 = λ l. AreNumbered l (place + 1) in
     subst P (sym (append-nil all)) (record { rising = numbered.rising; below = All-weaker (IsBelow place) (IsBelow (place + 1)) (λ a h. omega arith) all numbered.below })
 
-numbered_with : (before : List Accepted) (place slot : ℕ) (start : Option ℕ) (command : Command) → AreNumbered before place → AreNumbered (before ++ added_by place slot start command) (place + 1)
-numbered_with before place slot None command numbered = numbered_later before place numbered
-numbered_with before place slot (Some start) (commands.Kill id serial) numbered = numbered_later before place numbered
-numbered_with before place slot (Some start) (commands.Status id serial) numbered = numbered_later before place numbered
-numbered_with before place slot (Some start) (commands.Write id serial replaces category period broadcasts dcs contents) numbered =
-    let new : Accepted = write_message place slot start id serial (length contents) period broadcasts (is_high category) in
+numbered_with : (all before : List Accepted) (place slot : ℕ) (start : Option ℕ) (command : Command) → AreNumbered before place → AreNumbered (before ++ added_by all place slot start command) (place + 1)
+numbered_with all before place slot None command numbered = numbered_later before place numbered
+numbered_with all before place slot (Some start) (commands.Kill id serial) numbered = numbered_later before place numbered
+numbered_with all before place slot (Some start) (commands.Status id serial) numbered = numbered_later before place numbered
+numbered_with all before place slot (Some start) (commands.Write id serial replaces category period broadcasts dcs contents) numbered =
+    let new : Accepted = written_behind all place slot start (behind_of slot start (replaced_in all id replaces)) id serial (length contents) period broadcasts (is_high category) in
     record {
       rising = all_pairs_push BelowIt before new numbered.rising (λ k d h. numbered.below k d h);
       below = All-push (IsBelow (place + 1)) before new (All-weaker (IsBelow place) (IsBelow (place + 1)) (λ a h. omega arith) before numbered.below) (omega arith);
@@ -44,7 +44,7 @@ numbered_with before place slot (Some start) (commands.Write id serial replaces 
 
 numbered_after : (all : List Accepted) (place : ℕ) (e : Entry) → AreNumbered all place → AreNumbered (accepted_after all place e) (place + 1)
 numbered_after all place e numbered =
-    numbered_with (map (stopped_by e) all) place e.slot (start_of e.answer) e.command (record {
+    numbered_with all (map (stopped_by e) all) place e.slot (start_of e.answer) e.command (record {
       rising = AllPairs-map BelowIt (stopped_by e) (λ a b h. h) all numbered.rising;
       below = All-map (IsBelow place) (stopped_by e) all numbered.below;
     })

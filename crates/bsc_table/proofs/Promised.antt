@@ -1,5 +1,5 @@
 -- What a cell promises: the reserved loads fit, so that each broadcast is served.
-use Rattle.std.proofs.Common.{◌≡◌, ℕ, suc, ◌≤◌, ◌<◌, Bool, cond, List, [], ◌∷◌, map, get_or, sum_by, ap, sym, inl, inr, arith}
+use Rattle.std.proofs.Common.{◌≡◌, ℕ, suc, ◌≤◌, ◌<◌, Bool, cond, None, List, [], ◌∷◌, map, get_or, sum_by, ap, sym, inl, inr, arith}
 use Rattle.std.specs.List.{All, AllPairs}
 use Rattle.std.proofs.lemmas.Bool.{cases_Bool}
 use Rattle.std.proofs.lemmas.List.{get_or_default, get_or-map, length-map}
@@ -65,7 +65,7 @@ numbers_of_messages_rise : (log : List Entry) → AllPairs (λ a b. a.number < b
 numbers_of_messages_rise log = λ i j d before within.
     let all = accepted_in log in
     let message : Accepted → Message = λ a. a.message in
-    let default : Accepted = record { id = 0; serial = 0; accepted = 0; message = d } in
+    let default : Accepted = record { id = 0; serial = 0; accepted = 0; behind = None; excess = 0; message = d } in
     let long = length-map all message in
     let first = ap (λ (m : Message). m.number) (get_or-map message all i default d (omega arith)) in
     let second = ap (λ (m : Message). m.number) (get_or-map message all j default d (omega arith)) in

@@ -1,5 +1,5 @@
--- Of a legal history: each pair was accepted once, no message begins after the clock, and the claims are in order and fit.
-use Rattle.std.proofs.Common.{◌≡◌, ℕ, zero, suc, ◌≤◌, ◌<◌, ◌==◌, Bool, true, false, ◌&&◌, Option, Some, None, List, [], ◌∷◌, ◌++◌, length, take, map, get_or, refl, ap, sym, subst, ◌∙◌, inl, inr, arith}
+-- Of a legal history: each pair was accepted once, each message has pages and a period, and the claims are in order and fit.
+use Rattle.std.proofs.Common.{◌≡◌, ℕ, zero, suc, ◌+◌, ◌≤◌, ◌<◌, ◌==◌, Bool, true, false, ◌&&◌, Option, Some, None, List, [], ◌∷◌, ◌++◌, length, take, map, get_or, refl, ap, sym, subst, ◌∙◌, inl, inr, arith}
 use Rattle.std.specs.List.{All, AllPairs, Contains, find}
 use Rattle.std.specs.Option.{IfSome}
 use Rattle.std.proofs.lemmas.Bool.{cases_Bool, cases_eq, eq-eqb, ne_eqb}
@@ -8,24 +8,23 @@ use Rattle.std.proofs.Math.Seq.{take-suc}
 use Rattle.std.proofs.lemmas.List.{get_or_default, take_all, length-take-le, get_or-take, get_or-map, length-map, map-append}
 use Rattle.std.proofs.lemmas.List.Elements.{All-nil, All-cons, All-push, All-map, All-weaker, All-take}
 use Rattle.std.proofs.lemmas.List.Quantifiers.{all_pairs_push}
+use Rattle.admission.specs.declared.measure.TheConstants.{SCALE}
 use Rattle.bsc_table.specs.declared.entry.Answer.{Answer}
 use Rattle.bsc_table.specs.declared.entry.Entry.{Entry}
-use Rattle.bsc_table.specs.Record.{Record, Accepted, accepted_in, is_of_pair, is_live, claim_of, claims_of}
-use Rattle.bsc_table.specs.Claim.{Claim}
+use Rattle.bsc_table.specs.Record.{Record, Accepted, accepted_in, is_of_pair, is_live, claim_of, claims_of, claims_in}
+use Rattle.bsc_table.specs.Claim.{Claim, own_load, claimed_at}
+use Rattle.bsc_table.specs.Handover.{Place, handover}
 use Rattle.bsc_table.specs.Room.{AreInOrder, ClaimsFit, IsNew}
 use Rattle.bsc_table.specs.Legal.{IsLegal}
-use Rattle.bsc_table.specs.Book.{stop_numbered, IsBegun}
+use Rattle.bsc_table.specs.Begun.{StartsNow, TakesOver, IsBegun}
+use Rattle.bsc_table.specs.Book.{stop_numbered}
 use Rattle.bsc_table.proofs.Named.{OfAnotherPair}
 use Rattle.bsc_table.proofs.Numbers.{AllPairs-map, numbers_below}
 use Rattle.bsc_table.proofs.Stops.{in_order-later}
 use Rattle.bsc_table.proofs.Stopped.{stop_keeps_room}
 use Rattle.bsc_table.proofs.Added.{start_keeps_room}
-use Rattle.bsc_table.proofs.TakenOver.{only_live}
+use Rattle.bsc_table.proofs.TakenOver.{only_live, takeover_keeps_room}
 use Rattle.bsc_table.proofs.Outcome.{Outcome, entry_with, with, without, outcome_of, claims_stopped}
-
--- the message was accepted at the slot or before it, and begins by then
-abbrev pub BeginsBy : ℕ → Accepted → Type 0
-BeginsBy slot a = (a.accepted ≤ slot) × (a.message.start ≤ slot)
 
 -- the message has a page and a period
 abbrev pub HasLoad : Accepted → Type 0
@@ -34,7 +33,6 @@ HasLoad a = (0 < a.message.pages) × (0 < a.message.period)
 -- what is true of the accepted messages of a log, up to a slot
 pub record IsSound (all : List Accepted) (slot : ℕ) : Type 0 where
   pub once : AllPairs OfAnotherPair all
-  pub begun : All (BeginsBy slot) all
   pub loaded : All HasLoad all
   pub order : AreInOrder (claims_of all) slot
   pub fit : ClaimsFit (claims_of all)
@@ -43,7 +41,7 @@ pub record IsSound (all : List Accepted) (slot : ℕ) : Type 0 where
 abbrev HasRoom : ℕ → List Claim → Type 0
 HasRoom slot claims = AreInOrder claims slot × ClaimsFit claims
 
-its_claim : (all : List Accepted) (a : Accepted) → Contains all a → Contains (claims_of all) (claim_of a)
+pub its_claim : (all : List Accepted) (a : Accepted) → Contains all a → Contains (claims_of all) (claim_of a)
 its_claim all a here =
     (here.0, omega (arith, here.1, length-map all claim_of), get_or-map claim_of all here.0 a (claim_of a) here.1 ∙ ap claim_of here.2)
 
@@ -61,7 +59,6 @@ without_sound (Some a) slot all live sound =
     let room = room_without (Some a) slot all live (sound.order, sound.fit) in
     record {
       once = AllPairs-map OfAnotherPair (stop_numbered a.message.number slot) (λ x y apart. apart) all sound.once;
-      begun = All-map (BeginsBy slot) (stop_numbered a.message.number slot) all sound.begun;
       loaded = All-map HasLoad (stop_numbered a.message.number slot) all sound.loaded;
       order = room.0;
       fit = room.1;
@@ -103,21 +100,52 @@ find_without (Some a) at id serial all none = stays all none
           | inr fails ↦ rw fails (stays xs (rw fails at e))
         ]
 
--- and the claims stay so where one is added that has room
-room_with : (number slot : ℕ) (before : List Accepted) (new : Accepted) → All (λ a. a.message.number < number) before → IsBegun number slot before new → HasRoom slot (claims_of before) → HasRoom slot (claims_of (before ++ new ∷ []))
-room_with number slot before new below begun room =
-    let greatest = All-map (λ (c : Claim). c.message.number < new.message.number) claim_of before (All-weaker (λ (a : Accepted). a.message.number < number) (λ (a : Accepted). a.message.number < new.message.number) (λ a h. omega (arith, h, begun.numbered)) before below) in
-    let new_one : IsNew (claims_of before) slot (claim_of new) = record { accepted = begun.accepted; greatest = greatest; period = begun.some_period; standing = begun.standing } in
-    subst (HasRoom slot) (sym (map-append claim_of before (new ∷ []))) (start_keeps_room (claims_of before) slot (claim_of new) room.0 room.1 new_one begun.begins begun.fits)
+-- the message that is added is new among the claims
+is_new : (number slot : ℕ) (replaced : Option Accepted) (before : List Accepted) (new : Accepted) → All (λ a. a.message.number < number) before → IsBegun number slot replaced before new → IsNew (claims_of before) slot (claim_of new)
+is_new number slot replaced before new below begun = record {
+  accepted = begun.accepted;
+  greatest = All-map (λ (c : Claim). c.message.number < new.message.number) claim_of before (All-weaker (λ (a : Accepted). a.message.number < number) (λ (a : Accepted). a.message.number < new.message.number) (λ a h. omega (arith, h, begun.numbered)) before below);
+  period = begun.some_period;
+  standing = begun.standing;
+}
 
-with_sound : (started : Option Accepted) (number slot : ℕ) (before : List Accepted) → All (λ a. a.message.number < number) before → IfSome started (λ a. find (is_of_pair a.id a.serial) before ≡ None) → IfSome started (λ a. IsBegun number slot before a) → IsSound before slot → IsSound (with started before) slot
-with_sound None number slot before below fresh begun sound = sound
-with_sound (Some new) number slot before below fresh begun sound =
-    let room = room_with number slot before new below begun (sound.order, sound.fit) in
+-- the claims stay so where it starts at once
+room_now : (slot : ℕ) (before : List Accepted) (new : Accepted) → IsNew (claims_of before) slot (claim_of new) → StartsNow slot before new → HasRoom slot (claims_of before) → HasRoom slot (claims_of (before ++ new ∷ []))
+room_now slot before new is now room =
+    subst (HasRoom slot) (sym (map-append claim_of before (new ∷ []))) (start_keeps_room (claims_of before) slot (claim_of new) room.0 room.1 is now.start now.fits)
+
+-- and where it takes over
+room_over : (slot : ℕ) (all : List Accepted) (old new : Accepted) → Contains all old × (is_live slot old.message ≡ true) → IsNew (claims_of (map (stop_numbered old.message.number slot) all)) slot (claim_of new) → TakesOver slot old (map (stop_numbered old.message.number slot) all) new → HasRoom slot (claims_of all) → HasRoom slot (claims_of (map (stop_numbered old.message.number slot) all ++ new ∷ []))
+room_over slot all old new live is over room =
+    let number = old.message.number in
+    let before = map (stop_numbered number slot) all in
+    let same = claims_stopped number slot all in
+    let New : List Claim → Type 0 = λ claims. IsNew claims slot (claim_of new) in
+    let Over : List Claim → Type 0 = λ claims. handover claims slot (claim_of old) (own_load new.message) ≡ Some over.place in
+    let Fits : List Claim → Type 0 = λ claims. claimed_at claims slot + over.place.excess ≤ SCALE in
+    let Room : List Claim → Type 0 = λ claims. HasRoom slot (claims ++ claim_of new ∷ []) in
+    let kept = takeover_keeps_room (claims_of all) slot (claim_of old) (claim_of new) over.place room.0 room.1 (its_claim all old live.0) live.1 (subst Over same over.over) (subst New same is) over.placed (subst Fits same over.fits) in
+    subst (HasRoom slot) (sym (map-append claim_of before (new ∷ []))) (subst Room (sym same) kept)
+
+room_with : (number slot : ℕ) (replaced : Option Accepted) (all : List Accepted) (new : Accepted) → All (λ a. a.message.number < number) (without replaced slot all) → IfSome replaced (λ a. Contains all a × (is_live slot a.message ≡ true)) → IsBegun number slot replaced (without replaced slot all) new → HasRoom slot (claims_of all) → HasRoom slot (claims_of (without replaced slot all)) → HasRoom slot (claims_of (without replaced slot all ++ new ∷ []))
+room_with number slot None all new below live begun room left =
+    room_now slot all new (is_new number slot None all new below begun) begun.starts left
+room_with number slot (Some old) all new below live begun room left =
+    let before = map (stop_numbered old.message.number slot) all in
+    let is = is_new number slot (Some old) before new below begun in
+    elim begun.starts [
+      | inl now ↦ room_now slot before new is now left
+      | inr over ↦ room_over slot all old new live is over room
+    ]
+
+with_sound : (started replaced : Option Accepted) (number slot : ℕ) (all : List Accepted) → All (λ a. a.message.number < number) (without replaced slot all) → IfSome replaced (λ a. Contains all a × (is_live slot a.message ≡ true)) → IfSome started (λ a. find (is_of_pair a.id a.serial) (without replaced slot all) ≡ None) → IfSome started (λ a. IsBegun number slot replaced (without replaced slot all) a) → IsSound all slot → IsSound (without replaced slot all) slot → IsSound (with started (without replaced slot all)) slot
+with_sound None replaced number slot all below live fresh begun sound left = left
+with_sound (Some new) replaced number slot all below live fresh begun sound left =
+    let before = without replaced slot all in
+    let room = room_with number slot replaced all new below live begun (sound.order, sound.fit) (left.order, left.fit) in
     record {
-      once = all_pairs_push OfAnotherPair before new sound.once (others_are_apart new before fresh);
-      begun = All-push (BeginsBy slot) before new sound.begun (omega (arith, begun.accepted), omega (arith, begun.begins));
-      loaded = All-push HasLoad before new sound.loaded (begun.some_pages, begun.some_period);
+      once = all_pairs_push OfAnotherPair before new left.once (others_are_apart new before fresh);
+      loaded = All-push HasLoad before new left.loaded (begun.some_pages, begun.some_period);
       order = room.0;
       fit = room.1;
     }
@@ -134,25 +162,27 @@ fresh_without (Some new) stopped at all fresh = find_without stopped at new.id n
 -- they stay so with one more entry
 pub IsSound-push : (log : List Entry) (e : Entry) → Outcome log e → IsSound (accepted_in log) e.slot → IsSound (accepted_in (log ++ e ∷ [])) e.slot
 IsSound-push log e outcome sound =
-    let before : List Accepted = without outcome.stopped e.slot (accepted_in log) in
-    let Sound : List Accepted → Type 0 = λ all. IsSound all e.slot in
-    subst Sound (sym outcome.after) (with_sound outcome.started (length log) e.slot before (below_without outcome.stopped (length log) e.slot (accepted_in log) (numbers_below log)) (fresh_without outcome.started outcome.stopped e.slot (accepted_in log) outcome.fresh) outcome.begun (without_sound outcome.stopped e.slot (accepted_in log) outcome.live sound))
+    let all = accepted_in log in
+    let below = below_without outcome.stopped (length log) e.slot all (numbers_below log) in
+    let fresh = fresh_without outcome.started outcome.stopped e.slot all outcome.fresh in
+    let left = without_sound outcome.stopped e.slot all outcome.live sound in
+    let Sound : List Accepted → Type 0 = λ l. IsSound l e.slot in
+    subst Sound (sym outcome.after) (with_sound outcome.started outcome.stopped (length log) e.slot all below outcome.live fresh outcome.begun sound left)
 
 IsSound-later : (all : List Accepted) (slot later : ℕ) → slot ≤ later → IsSound all slot → IsSound all later
 IsSound-later all slot later after sound = record {
   once = sound.once;
-  begun = All-weaker (BeginsBy slot) (BeginsBy later) (λ a begun. (omega (arith, begun.0), omega (arith, begun.1))) all sound.begun;
   loaded = sound.loaded;
   order = in_order-later (claims_of all) slot later after sound.order;
   fit = sound.fit;
 }
 
 -- an entry of a legal history and those before it
-pub outcome_at : (r : Record) → IsLegal r → (k : ℕ) (d : Entry) → k < length r.log → AllPairs OfAnotherPair (accepted_in (take k r.log)) → Outcome (take k r.log) (get_or r.log k d)
-outcome_at r legal k d within once =
+pub outcome_at : (r : Record) → IsLegal r → (k : ℕ) (d : Entry) → k < length r.log → AllPairs OfAnotherPair (accepted_in (take k r.log)) → AreInOrder (claims_in (take k r.log)) (get_or r.log k d).slot → Outcome (take k r.log) (get_or r.log k d)
+outcome_at r legal k d within once order =
     let e : Entry = get_or r.log k d in
     let P : Answer → Type 0 = λ answer. Outcome (take k r.log) (entry_with e.command e.slot answer) in
-    subst P (sym (legal.answered k d within)) (outcome_of r.slots (take k r.log) (take e.slot r.air) e.slot e.command once (legal.formed k d within))
+    subst P (sym (legal.answered k d within)) (outcome_of r.slots (take k r.log) (take e.slot r.air) e.slot e.command once order (legal.formed k d within))
 
 -- an entry of a log that has one
 pub some_entry : (log : List Entry) → 0 < length log → Entry
@@ -179,13 +209,13 @@ empty_order slot = record {
 }
 
 pub sound_at : (r : Record) → IsLegal r → (k slot : ℕ) → k ≤ length r.log → All (λ e. e.slot ≤ slot) (take k r.log) → IsSound (accepted_in (take k r.log)) slot
-sound_at r legal zero slot within before = record { once = λ i j d b w. absurd (omega arith); begun = All-nil (BeginsBy slot); loaded = All-nil HasLoad; order = empty_order slot; fit = λ t. omega arith }
+sound_at r legal zero slot within before = record { once = λ i j d b w. absurd (omega arith); loaded = All-nil HasLoad; order = empty_order slot; fit = λ t. omega arith }
 sound_at r legal (suc k) slot within before =
     let d : Entry = some_entry r.log (omega arith) in
     let e : Entry = get_or r.log k d in
     let grown : take (suc k) r.log ≡ take k r.log ++ e ∷ [] = take-suc r.log k d (omega arith) in
     let sound = sound_at r legal k e.slot (omega arith) (slots_before r legal k d (omega arith)) in
-    let outcome = outcome_at r legal k d (omega arith) sound.once in
+    let outcome = outcome_at r legal k d (omega arith) sound.once sound.order in
     let Sound : List Entry → Type 0 = λ log. IsSound (accepted_in log) slot in
     let last : get_or (take (suc k) r.log) k d ≡ e = get_or-take (suc k) r.log k d (omega arith) in
     let at_e : e.slot ≤ slot =

@@ -22,7 +22,7 @@ only_live claims now old rising here live = λ k d within. λ same.
     subst Live (sym is) live
 
 -- what is true of the one ahead of a message that takes over from the old one
-record IsAhead (claims : List Claim) (now : ℕ) (number : ℕ) (p : Claim) : Type 0 where
+pub record IsAhead (claims : List Claim) (now : ℕ) (number : ℕ) (p : Claim) : Type 0 where
   pub started : p.message.start ≤ now
   pub stopped : is_some p.message.stop ≡ true
   pub free : All (λ v. IsWaiting now v → v.behind ≢ Some p.message.number) (stop_claims number now claims)
@@ -127,7 +127,7 @@ ahead_waiting claims now old p order here live some waits there behind =
     )
 
 -- what the place that is taken over is
-record IsFree (claims : List Claim) (now load number : ℕ) (place : Place) : Type 0 where
+pub record IsFree (claims : List Claim) (now load number : ℕ) (place : Place) : Type 0 where
   pub p : Claim
   pub there : Contains (stop_claims number now claims) p
   pub ahead : IsAhead claims now number p
@@ -136,7 +136,7 @@ record IsFree (claims : List Claim) (now load number : ℕ) (place : Place) : Ty
   pub later : now < place.start
   pub excess : place.excess ≡ load - own_load p.message
 
-is_free : (claims : List Claim) (now load : ℕ) (old : Claim) (place : Place) → AreInOrder claims now → Contains claims old → is_live now old.message ≡ true → handover (stop_claims old.message.number now claims) now old load ≡ Some place → IsFree claims now load old.message.number place
+pub is_free : (claims : List Claim) (now load : ℕ) (old : Claim) (place : Place) → AreInOrder claims now → Contains claims old → is_live now old.message ≡ true → handover (stop_claims old.message.number now claims) now old load ≡ Some place → IsFree claims now load old.message.number place
 is_free claims now load old place order here live over =
     let left = stop_claims old.message.number now claims in
     let took = taken left now load (ahead_of now old) place over in

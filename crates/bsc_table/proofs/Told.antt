@@ -19,8 +19,9 @@ use Rattle.bsc_table.specs.declared.entry.Answer.{Answer}
 use Rattle.bsc_table.specs.declared.entry.Answer.TheVariants as answers
 use Rattle.bsc_table.specs.declared.entry.Entry.{Entry}
 use Rattle.bsc_table.specs.Bounds.{least_completed, most_completed}
-use Rattle.bsc_table.specs.Record.{Record, Accepted, start_of, is_stop_of, stop_after, stopped_by, added_by, accepted_in, messages_in, is_of_pair, message_told, message_named, claims_in}
+use Rattle.bsc_table.specs.Record.{Record, Accepted, start_of, is_stop_of, stop_after, stopped_by, added_by, accepted_in, messages_in, is_of_pair, message_told, message_named, claim_of, claims_in}
 use Rattle.bsc_table.specs.Claim.{stop_claims}
+use Rattle.bsc_table.specs.Handover.{handover}
 use Rattle.bsc_table.specs.Answer.{answer_to_new, answer_to_replacement, unless_accepted, answer_to_write, answer_to_kill, told_of, answer_with_room, answer_of}
 use Rattle.bsc_table.specs.Legal.{IsLegal}
 use Rattle.bsc_table.specs.Told.{completed_told, IsAbout, IsTrulyTold, LegalAnswersAreTrue}
@@ -63,7 +64,7 @@ status_tells log air slot id serial (Some a) e = λ told says. record {
 kill_tells : (log : List Entry) (air : Air) (slot id serial : ℕ) → TellsTrue log air slot (commands.Kill id serial) (answer_to_kill log air slot id serial)
 kill_tells log air slot id serial =
     let P : Answer → Type 0 = TellsTrue log air slot (commands.Kill id serial) in
-    of_live_cases P slot (find (is_of_pair id serial) (accepted_in log)) (λ m. answers.Stopped (completed m air slot)) (λ cause. tells_none log air slot (commands.Kill id serial) (answers.Cause cause) refl) (λ a found live. λ told says. record {
+    of_live_cases P slot (find (is_of_pair id serial) (accepted_in log)) (λ a. answers.Stopped (completed a.message air slot)) (λ cause. tells_none log air slot (commands.Kill id serial) (answers.Cause cause) refl) (λ a found live. λ told says. record {
       of_message = a;
       here = Contains-find (is_of_pair id serial) (accepted_in log) a found;
       about = found_pair id serial (accepted_in log) a found;
@@ -75,18 +76,21 @@ write_tells : (log : List Entry) (air : Air) (slot load id serial : ℕ) (replac
 write_tells log air slot load id serial None command about =
     let P : Answer → Type 0 = TellsTrue log air slot command in
     let refuses : (cause : ℕ) → P (answers.Cause cause) = λ cause. tells_none log air slot command (answers.Cause cause) refl in
-    unless_accepted_cases P (find (is_of_pair id serial) (accepted_in log)) (answer_to_new log slot load) refuses (λ fresh. beside_cases P (claims_in log) slot load (answers.Started slot) refuses (λ places fits. tells_none log air slot command (answers.Started slot) refl))
+    unless_accepted_cases P (find (is_of_pair id serial) (accepted_in log)) (answer_to_new log slot load) refuses (λ fresh. beside_cases P (claims_in log) slot load None (λ start. answers.Started start) refuses (λ room fits. tells_none log air slot command (answers.Started slot) refl) (λ room p none. absurd (none-some p none)))
 write_tells log air slot load id serial (Some old) command about =
     let P : Answer → Type 0 = TellsTrue log air slot command in
     let refuses : (cause : ℕ) → P (answers.Cause cause) = λ cause. tells_none log air slot command (answers.Cause cause) refl in
-    of_live_cases P slot (find (is_of_pair id old) (accepted_in log)) (λ m. unless_accepted (message_named id serial log) (answer_to_replacement log air slot load m)) refuses (λ a found live. unless_accepted_cases P (find (is_of_pair id serial) (accepted_in log)) (answer_to_replacement log air slot load a.message) refuses (λ fresh. beside_cases P (stop_claims a.message.number slot (claims_in log)) slot load (answers.Replaced slot (completed a.message air slot)) refuses (λ places fits. λ told says.
+    of_live_cases P slot (find (is_of_pair id old) (accepted_in log)) (λ a. unless_accepted (message_named id serial log) (answer_to_replacement log air slot load a)) refuses (λ a found live. unless_accepted_cases P (find (is_of_pair id serial) (accepted_in log)) (answer_to_replacement log air slot load a) refuses (λ fresh.
+    let left = stop_claims a.message.number slot (claims_in log) in
+    let tells : (start : ℕ) → P (answers.Replaced start (completed a.message air slot)) = λ start. λ told says.
     let pair = found_pair id old (accepted_in log) a found in
     record {
       of_message = a;
       here = Contains-find (is_of_pair id old) (accepted_in log) a found;
       about = about a pair.0 (ap (λ n. Some n) pair.1);
       number = same_Some (completed a.message air slot) told says;
-    })))
+    } in
+    beside_cases P left slot load (handover left slot (claim_of a) load) (λ start. answers.Replaced start (completed a.message air slot)) refuses (λ room fits. tells slot) (λ room p over fits. tells p.start)))
 
 tells_with_room : (slots : ℕ) (log : List Entry) (air : Air) (slot : ℕ) (command : Command) → TellsTrue log air slot command (answer_with_room slots log air slot command)
 tells_with_room slots log air slot (commands.Status id serial) =
@@ -134,7 +138,7 @@ continued_after : (log : List Entry) (e : Entry) (slot : ℕ) (a b : Accepted) �
 continued_after log e slot a b after here on =
     let all = accepted_in log in
     let says = is_stop_of b.id b.serial e in
-    let added = added_by (length log) e.slot (start_of e.answer) e.command in
+    let added = added_by (accepted_in log) (length log) e.slot (start_of e.answer) e.command in
     let c : Accepted = stopped_by e b in
     let Has : List Accepted → Type 0 = λ l. Contains l c in
     let there = subst Has (sym (accepted_in-push log e)) (Contains-append_left (map (stopped_by e) all) added c (Contains-map (stopped_by e) all b here)) in

@@ -9,7 +9,7 @@ use Rattle.bsc_table.specs.declared.command.Command.{Command}
 use Rattle.bsc_table.specs.declared.command.Command.TheVariants as commands
 use Rattle.bsc_table.specs.declared.entry.Answer.{Answer}
 use Rattle.bsc_table.specs.declared.entry.Entry.{Entry}
-use Rattle.bsc_table.specs.Record.{Accepted, start_of, is_high, stopped_by, write_message, added_by, accepted_after, accepted_from, accepted_in, messages_in}
+use Rattle.bsc_table.specs.Record.{Accepted, start_of, is_high, stopped_by, replaced_in, behind_of, written_behind, added_by, accepted_after, accepted_from, accepted_in, messages_in}
 use Rattle.bsc_table.specs.Written.{IsWriteBy, AcceptedAreWrites, HasPage, UsesAreOfWrites}
 use Rattle.bsc_table.proofs.Outcome.{entry_with}
 
@@ -25,16 +25,16 @@ still_written e a (commands.Kill id serial) start h = h
 still_written e a (commands.Status id serial) start h = h
 
 -- and what an entry adds is its write
-added_is_written : (log : List Entry) (d : Entry) (place slot : ℕ) (answer : Answer) (command : Command) (start : Option ℕ) → place < length log → get_or log place d ≡ entry_with command slot answer → start_of answer ≡ start → All (IsWritten log d) (added_by place slot start command)
-added_is_written log d place slot answer (commands.Write id serial replaces category period broadcasts dcs contents) (Some start) within here told =
-    let a : Accepted = write_message place slot start id serial (length contents) period broadcasts (is_high category) in
+added_is_written : (log : List Entry) (d : Entry) (all : List Accepted) (place slot : ℕ) (answer : Answer) (command : Command) (start : Option ℕ) → place < length log → get_or log place d ≡ entry_with command slot answer → start_of answer ≡ start → All (IsWritten log d) (added_by all place slot start command)
+added_is_written log d all place slot answer (commands.Write id serial replaces category period broadcasts dcs contents) (Some start) within here told =
+    let a : Accepted = written_behind all place slot start (behind_of slot start (replaced_in all id replaces)) id serial (length contents) period broadcasts (is_high category) in
     let Here : Entry → Type 0 = λ x. IsWriteBy a x.command (start_of x.answer) in
     All-cons (IsWritten log d) a [] (within, subst Here (sym here) (refl, refl, refl, told), sym (ap (λ (x : Entry). x.slot) here)) (All-nil (IsWritten log d))
-added_is_written log d place slot answer (commands.Write id serial replaces category period broadcasts dcs contents) None within here told = All-nil (IsWritten log d)
-added_is_written log d place slot answer (commands.Kill id serial) (Some start) within here told = All-nil (IsWritten log d)
-added_is_written log d place slot answer (commands.Kill id serial) None within here told = All-nil (IsWritten log d)
-added_is_written log d place slot answer (commands.Status id serial) (Some start) within here told = All-nil (IsWritten log d)
-added_is_written log d place slot answer (commands.Status id serial) None within here told = All-nil (IsWritten log d)
+added_is_written log d all place slot answer (commands.Write id serial replaces category period broadcasts dcs contents) None within here told = All-nil (IsWritten log d)
+added_is_written log d all place slot answer (commands.Kill id serial) (Some start) within here told = All-nil (IsWritten log d)
+added_is_written log d all place slot answer (commands.Kill id serial) None within here told = All-nil (IsWritten log d)
+added_is_written log d all place slot answer (commands.Status id serial) (Some start) within here told = All-nil (IsWritten log d)
+added_is_written log d all place slot answer (commands.Status id serial) None within here told = All-nil (IsWritten log d)
 
 -- so from a place of the log on, where its later entries stand there
 written_from : (log : List Entry) (d : Entry) (all : List Accepted) (place : ℕ) (later : List Entry) → ((i : ℕ) → i < length later → (place + i < length log) × (get_or log (place + i) d ≡ get_or later i d)) → All (IsWritten log d) all → All (IsWritten log d) (accepted_from all place later)
@@ -45,8 +45,8 @@ written_from log d all place (e ∷ later) there written =
     let within : place < length log = omega (arith, first.0) in
     let here : get_or log place d ≡ e = ap (λ n. get_or log n d) (sym at) ∙ first.1 in
     let stopped = All-map (IsWritten log d) (stopped_by e) all (All-weaker (IsWritten log d) (λ (a : Accepted). IsWritten log d (stopped_by e a)) (λ a h. (h.0, still_written e a (get_or log a.message.number d).command (start_of (get_or log a.message.number d).answer) h.1, h.2)) all written) in
-    let added = added_is_written log d place e.slot e.answer e.command (start_of e.answer) within here refl in
-    let after = All-append (IsWritten log d) (map (stopped_by e) all) (added_by place e.slot (start_of e.answer) e.command) stopped added in
+    let added = added_is_written log d all place e.slot e.answer e.command (start_of e.answer) within here refl in
+    let after = All-append (IsWritten log d) (map (stopped_by e) all) (added_by all place e.slot (start_of e.answer) e.command) stopped added in
     written_from log d (accepted_after all place e) (place + 1) later (λ i h.
     let There : ℕ → Type 0 = λ n. (n < length log) × (get_or log n d ≡ get_or later i d) in
     let next : place + suc i ≡ place + 1 + i = omega arith in
@@ -73,7 +73,7 @@ uses_are_of_writes r slot number page d legal within used =
     let m : Message = chosen.1 in
     let all = accepted_in r.log in
     let message : Accepted → Message = λ a. a.message in
-    let default : Accepted = record { id = 0; serial = 0; accepted = 0; message = m } in
+    let default : Accepted = record { id = 0; serial = 0; accepted = 0; behind = None; excess = 0; message = m } in
     let long = length-map all message in
     let a : Accepted = get_or all chosen.0 default in
     let here : a.message ≡ m = sym (get_or-map message all chosen.0 default m (omega (arith, long, chosen.2))) ∙ chosen.3 in

@@ -6,7 +6,8 @@
 -- 3. Cause 02: the message to replace or to stop isn't live.
 -- 4. Cause 0D: a message of the same identifier and serial number was accepted before.
 -- 5. Cause 07: 64 messages are reserved, each from the slot at which it was accepted up to its end.
--- 6. Cause 06: the load doesn't fit beside those that are reserved.
+-- 6. Cause 06: the load doesn't fit beside those that are reserved, and there is no place that it may take over, or what
+--    it has over the load that stands there doesn't fit either.
 --
 -- The definitions stand in the other direction, each below those that it asks next.
 use Rattle.std.specs.Prelude.{ℕ, ◌+◌, ◌==◌, nat_le, nat_lt, if◌then◌else◌, Option, Some, None, List, length, filter}
@@ -21,22 +22,33 @@ use Rattle.bsc_table.specs.declared.entry.Answer.{Answer}
 use Rattle.bsc_table.specs.declared.entry.Answer.TheVariants as answers
 use Rattle.bsc_table.specs.declared.entry.Entry.{Entry}
 use Rattle.bsc_table.specs.Claim.{Claim, is_claimed_at, claimed_at, stop_claims}
-use Rattle.bsc_table.specs.Record.{message_named, claims_in, is_live, state_at}
+use Rattle.bsc_table.specs.Handover.{Place, handover}
+use Rattle.bsc_table.specs.Record.{Accepted, accepted_named, message_named, claim_of, claims_in, is_live, state_at}
 
--- 5 and 6, else the answer that accepts
-abbrev pub answer_beside : List Claim → ℕ → ℕ → Answer → Answer
-answer_beside claims slot load accepts =
+-- 6, where the load doesn't fit now: it starts later, at the place that it may take over, where its excess fits now;
+-- from then on no more is reserved at any slot
+abbrev pub answer_at : List Claim → ℕ → (ℕ → Answer) → Option Place → Answer
+answer_at claims slot accepts None = answers.Cause 0x06
+answer_at claims slot accepts (Some place) =
+    if nat_lt SCALE (claimed_at claims slot + place.excess) then answers.Cause 0x06 else accepts place.start
+
+-- 5 and 6, else the answer that accepts, by the slot at which the message starts: at once where its load fits
+abbrev pub answer_beside : List Claim → ℕ → ℕ → Option Place → (ℕ → Answer) → Answer
+answer_beside claims slot load place accepts =
     if nat_le 64 (length (filter (is_claimed_at slot) claims)) then answers.Cause 0x07
-    else if nat_lt SCALE (claimed_at claims slot + load) then answers.Cause 0x06
-    else accepts
+    else if nat_lt SCALE (claimed_at claims slot + load) then answer_at claims slot accepts place
+    else accepts slot
 
--- a write in the place of no message, and in the place of an old one, whose stop counts as applied
+-- a write in the place of no message: there is no place that it may take over
 abbrev pub answer_to_new : List Entry → ℕ → ℕ → Answer
-answer_to_new log slot load = answer_beside (claims_in log) slot load (answers.Started slot)
+answer_to_new log slot load = answer_beside (claims_in log) slot load None (λ start. answers.Started start)
 
-abbrev pub answer_to_replacement : List Entry → Air → ℕ → ℕ → Message → Answer
+-- a write in the place of an old one, whose stop counts as applied: it may take over from that one where it has started,
+-- and from the one behind which that one waits where it hasn't
+abbrev pub answer_to_replacement : List Entry → Air → ℕ → ℕ → Accepted → Answer
 answer_to_replacement log air slot load old =
-    answer_beside (stop_claims old.number slot (claims_in log)) slot load (answers.Replaced slot (completed old air slot))
+    let left = stop_claims old.message.number slot (claims_in log) in
+    answer_beside left slot load (handover left slot (claim_of old) load) (λ start. answers.Replaced start (completed old.message air slot))
 
 -- 4, where the pair of a write was accepted before
 abbrev pub unless_accepted : Option Message → Answer → Answer
@@ -44,17 +56,17 @@ unless_accepted (Some m) answer = answers.Cause 0x0D
 unless_accepted None answer = answer
 
 -- 3: what is said of a live message; cause 02 where it isn't live, or was never accepted
-abbrev pub of_live : ℕ → Option Message → (Message → Answer) → Answer
+abbrev pub of_live : ℕ → Option Accepted → (Accepted → Answer) → Answer
 of_live slot None answer = answers.Cause 0x02
-of_live slot (Some m) answer = if is_live slot m then answer m else answers.Cause 0x02
+of_live slot (Some a) answer = if is_live slot a.message then answer a else answers.Cause 0x02
 
 abbrev pub answer_to_write : List Entry → Air → ℕ → ℕ → ℕ → Option ℕ → ℕ → Answer
 answer_to_write log air slot id serial None load = unless_accepted (message_named id serial log) (answer_to_new log slot load)
 answer_to_write log air slot id serial (Some replaced) load =
-    of_live slot (message_named id replaced log) (λ old. unless_accepted (message_named id serial log) (answer_to_replacement log air slot load old))
+    of_live slot (accepted_named id replaced log) (λ old. unless_accepted (message_named id serial log) (answer_to_replacement log air slot load old))
 
 abbrev pub answer_to_kill : List Entry → Air → ℕ → ℕ → ℕ → Answer
-answer_to_kill log air slot id serial = of_live slot (message_named id serial log) (λ m. answers.Stopped (completed m air slot))
+answer_to_kill log air slot id serial = of_live slot (accepted_named id serial log) (λ a. answers.Stopped (completed a.message air slot))
 
 -- a status tells the completed broadcasts and the state of a message that was accepted, whether it is live or not
 abbrev pub told_of : Air → ℕ → Option Message → Answer

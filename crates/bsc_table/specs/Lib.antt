@@ -12,3 +12,4 @@ pub mod Written
 pub mod Claim
 pub mod Handover
 pub mod Room
+pub mod Begun

@@ -1,5 +1,6 @@
 -- A cell's record, and the messages that its log accepted (own).
-use Rattle.std.specs.Prelude.{ℕ, ◌+◌, ◌*◌, Bool, true, false, ◌==◌, ◌&&◌, ◌||◌, not, nat_lt, Option, Some, None, is_some, List, [], ◌∷◌, ◌++◌, length, map, find}
+use Rattle.std.specs.Prelude.{ℕ, ◌+◌, ◌-◌, ◌*◌, Bool, true, false, ◌==◌, ◌&&◌, ◌||◌, not, nat_lt, if◌then◌else◌, Option, Some, None, is_some, List, [], ◌∷◌, ◌++◌, length, map, find}
+use Rattle.admission.specs.Load.{load_of}
 use Rattle.cbsp_wire.specs.declared.message.Cell.{Cell}
 use Rattle.scheduler.specs.Message.{Message}
 use Rattle.scheduler.specs.Air.{Air}
@@ -12,7 +13,8 @@ use Rattle.bsc_table.specs.declared.entry.Answer.TheVariants as answers
 use Rattle.bsc_table.specs.declared.entry.State.{State}
 use Rattle.bsc_table.specs.declared.entry.State.TheVariants as states
 use Rattle.bsc_table.specs.declared.entry.Entry.{Entry}
-use Rattle.bsc_table.specs.Claim.{Claim}
+use Rattle.bsc_table.specs.Claim.{Claim, own_load}
+use Rattle.bsc_table.specs.Handover.{ahead_of, numbered}
 
 -- a cell's record: how many slots its run has, how many of them were played, the commands that were answered, in order, and
 -- what each played slot aired
@@ -23,15 +25,26 @@ pub record Record : Type 0 where
   pub log : List Entry
   pub air : Air
 
--- a message that was accepted: the pair that names it, the slot at which it was accepted, and the message as the
--- schedule sees it
+-- a message that was accepted: the pair that names it, the slot at which it was accepted, the number of the message
+-- behind which it waits up to its start and the load that it reserves until then (none and 0 where it starts at once),
+-- and the message as the schedule sees it
 pub record Accepted : Type 0 where
   pub id : ℕ
   pub serial : ℕ
   pub accepted : ℕ
+  pub behind : Option ℕ
+  pub excess : ℕ
   pub message : Message
 
--- the slot from which a write's message stands, where the answer accepts it
+-- what an accepted message claims of the cell's slots
+abbrev pub claim_of : Accepted → Claim
+claim_of a = record { message = a.message; accepted = a.accepted; behind = a.behind; excess = a.excess }
+
+abbrev pub claims_of : List Accepted → List Claim
+claims_of all = map claim_of all
+
+-- the slot from which a write's message stands, where the answer accepts it: a later one than its own where the message
+-- takes over from the one that it replaces
 abbrev pub start_of : Answer → Option ℕ
 start_of (answers.Started slot) = Some slot
 start_of (answers.Replaced slot completed) = Some slot
@@ -62,13 +75,35 @@ stop_after None false now = None
 abbrev pub stopped_by : Entry → Accepted → Accepted
 stopped_by e a = record a { message = record (a.message) { stop = stop_after a.message.stop (is_stop_of a.id a.serial e) e.slot } }
 
--- a write's message, which stands: its place in the log, the slots of its acceptance and of its start, its pair, and
--- what is broadcast
-abbrev pub write_message : ℕ → ℕ → ℕ → ℕ → ℕ → ℕ → ℕ → ℕ → Bool → Accepted
-write_message place slot start id serial pages period broadcasts high = record {
+-- the message of a pair is this one
+abbrev pub is_of_pair : ℕ → ℕ → Accepted → Bool
+is_of_pair id serial a = (a.id == id) && (a.serial == serial)
+
+-- the message that a write replaces, of those accepted before, if it replaces one
+abbrev pub replaced_in : List Accepted → ℕ → Option ℕ → Option Accepted
+replaced_in all id None = None
+replaced_in all id (Some serial) = find (is_of_pair id serial) all
+
+-- behind which message one waits that was accepted at the slot with that start: none where it starts at once; else the
+-- one that it replaces where that has started, or the one behind which that waits
+abbrev pub behind_of : ℕ → ℕ → Option Accepted → Option ℕ
+behind_of slot start None = None
+behind_of slot start (Some old) = if start == slot then None else ahead_of slot (claim_of old)
+
+-- what a load has over that of the message behind which it waits; 0 where there is none, or where it has less
+abbrev pub excess_over : ℕ → Option Claim → ℕ
+excess_over load None = 0
+excess_over load (Some p) = load - own_load p.message
+
+-- a write's message, which stands: its place in the log, the slots of its acceptance and of its start, behind which it
+-- waits and with what excess, its pair, and what is broadcast
+abbrev pub write_message : ℕ → ℕ → ℕ → Option ℕ → ℕ → ℕ → ℕ → ℕ → ℕ → ℕ → Bool → Accepted
+write_message place slot start behind excess id serial pages period broadcasts high = record {
   id = id;
   serial = serial;
   accepted = slot;
+  behind = behind;
+  excess = excess;
   message = record {
     number = place;
     start = start;
@@ -80,17 +115,22 @@ write_message place slot start id serial pages period broadcasts high = record {
   };
 }
 
--- the message that an entry at this place of the log and at this slot adds, by its start and its command: a write's
--- that was accepted
-abbrev pub added_by : ℕ → ℕ → Option ℕ → Command → List Accepted
-added_by place slot (Some start) (commands.Write id serial replaces category period broadcasts dcs contents) =
-    write_message place slot start id serial (length contents) period broadcasts (is_high category) ∷ []
-added_by place slot start command = []
+-- the message that a write of the pair adds to those accepted before, by the message behind which it waits
+abbrev pub written_behind : List Accepted → ℕ → ℕ → ℕ → Option ℕ → ℕ → ℕ → ℕ → ℕ → ℕ → Bool → Accepted
+written_behind all place slot start behind id serial pages period broadcasts high =
+    write_message place slot start behind (excess_over (load_of pages period) (numbered behind (claims_of all))) id serial pages period broadcasts high
+
+-- the message that an entry at this place of the log and at this slot adds to those accepted before, by its start and
+-- its command: a write's that was accepted
+abbrev pub added_by : List Accepted → ℕ → ℕ → Option ℕ → Command → List Accepted
+added_by all place slot (Some start) (commands.Write id serial replaces category period broadcasts dcs contents) =
+    written_behind all place slot start (behind_of slot start (replaced_in all id replaces)) id serial (length contents) period broadcasts (is_high category) ∷ []
+added_by all place slot start command = []
 
 -- the accepted messages after one more entry, at this place of the log: those before it, stopped where it stops them,
 -- and the one that it adds, if it does
 abbrev pub accepted_after : List Accepted → ℕ → Entry → List Accepted
-accepted_after all place e = map (stopped_by e) all ++ added_by place e.slot (start_of e.answer) e.command
+accepted_after all place e = map (stopped_by e) all ++ added_by all place e.slot (start_of e.answer) e.command
 
 -- and after the entries of which the first stands at this place
 abbrev pub accepted_from : List Accepted → ℕ → List Entry → List Accepted
@@ -104,16 +144,16 @@ accepted_in log = accepted_from [] 0 log
 abbrev pub messages_in : List Entry → List Message
 messages_in log = map (λ a. a.message) (accepted_in log)
 
--- the accepted message of a pair, if there is one
-abbrev pub is_of_pair : ℕ → ℕ → Accepted → Bool
-is_of_pair id serial a = (a.id == id) && (a.serial == serial)
+-- the accepted message of a pair, if there is one, and its message
+abbrev pub accepted_named : ℕ → ℕ → List Entry → Option Accepted
+accepted_named id serial log = find (is_of_pair id serial) (accepted_in log)
 
 abbrev pub message_told : Option Accepted → Option Message
 message_told None = None
 message_told (Some a) = Some a.message
 
 abbrev pub message_named : ℕ → ℕ → List Entry → Option Message
-message_named id serial log = message_told (find (is_of_pair id serial) (accepted_in log))
+message_named id serial log = message_told (accepted_named id serial log)
 
 -- a message that wasn't stopped by now is live up to the end of the periods of its requested broadcasts, if they have an end
 abbrev pub is_live : ℕ → Message → Bool
@@ -131,12 +171,6 @@ state_by None live = unstopped_state live
 abbrev pub state_at : ℕ → Message → State
 state_at slot m = state_by m.stop (is_live slot m)
 
--- what an accepted message claims of the cell's slots: it starts when it is accepted, and so waits behind none
-abbrev pub claim_of : Accepted → Claim
-claim_of a = record { message = a.message; accepted = a.accepted; behind = None; excess = 0 }
-
-abbrev pub claims_of : List Accepted → List Claim
-claims_of all = map claim_of all
-
+-- what the accepted messages of a log claim of the cell's slots
 abbrev pub claims_in : List Entry → List Claim
 claims_in log = claims_of (accepted_in log)

@@ -1,14 +1,15 @@
 -- The entries of a log that were accepted, and what the others do (own): nothing.
-use Rattle.std.specs.Prelude.{◌≡◌, ℕ, Bool, false, ◌||◌, is_some, List, [], ◌∷◌, ◌++◌, map, filter}
+use Rattle.std.specs.Prelude.{◌≡◌, ℕ, Bool, false, List, [], ◌∷◌, ◌++◌, map, filter}
 use Rattle.std.specs.List.{slice_get}
+use Rattle.std.specs.Option.{option_map}
 use Rattle.scheduler.specs.Renumbered.{KeepsOrder, renumbered}
 use Rattle.bsc_table.specs.declared.entry.Entry.{Entry}
-use Rattle.bsc_table.specs.Record.{Accepted, start_of, accepted_in}
-use Rattle.bsc_table.specs.Book.{is_stopped}
+use Rattle.bsc_table.specs.Record.{Accepted, accepted_in}
+use Rattle.bsc_table.specs.Book.{is_accepting}
 
 -- an entry that was accepted: a write that starts a message, or a kill that stops one
 abbrev pub is_accepted : Entry → Bool
-is_accepted e = is_some (start_of e.answer) || is_stopped e.answer
+is_accepted e = is_accepting e.answer
 
 -- the accepted entries of a log, in order
 abbrev pub accepted_entries : List Entry → List Entry
@@ -19,9 +20,9 @@ accepted_entries log = filter is_accepted log
 abbrev pub RefusalsChangeNothing : Type 0
 RefusalsChangeNothing = (log : List Entry) (e : Entry) → is_accepted e ≡ false → accepted_in (log ++ e ∷ []) ≡ accepted_in log
 
--- an accepted message under another number
+-- an accepted message under another number, where the one behind which it waits has another, too
 abbrev pub accepted_renumbered : (ℕ → ℕ) → Accepted → Accepted
-accepted_renumbered f a = record a { message = renumbered f a.message }
+accepted_renumbered f a = record a { message = renumbered f a.message; behind = option_map f a.behind }
 
 -- `place` gives each accepted entry's place in the log by its place among the accepted ones, in order; and the
 -- accepted messages of the log are those of the accepted entries alone, numbered by these places

@@ -1,22 +1,29 @@
 //! The book of a cell: a legal history at all times.
 
-ghost use Rattle.std.specs.Prelude.{◌≡◌, ◌⊎◌, ℕ, None, true, ◌+◌, ◌<◌, ◌≤◌, [], ◌∷◌, ◌++◌, length, map, filter, IfOk, IfErr, OnOk, OnErr, min, vec_len, vec_capacity};
+ghost use Rattle.std.specs.Prelude.{◌≡◌, ◌≢◌, ◌⊎◌, ℕ, Some, None, IfSome, true, false, ◌+◌, ◌<◌, ◌≤◌, [], ◌∷◌, ◌++◌, length, map, filter, IfOk, IfErr, OnOk, OnErr, min, vec_len, vec_capacity};
 ghost use Rattle.std.specs.List.{All, Any, Contains, find};
 ghost use Rattle.std.specs.Option.{MatchOption, option_map};
 ghost use Rattle.scheduler.specs.Completed.{completed};
 ghost use Rattle.bsc_table.specs.declared.entry.Answer.TheVariants as answers;
-ghost use Rattle.bsc_table.specs.Record.{Record, accepted_in, is_of_pair, is_live, message_named};
-ghost use Rattle.bsc_table.specs.Answer.{told_of, answer_to_kill, answer_to_write, answer_to_new, answer_to_replacement, answer_with_room, answer_of};
+ghost use Rattle.bsc_table.specs.declared.command.Command.TheVariants as commands;
+ghost use Rattle.bsc_table.specs.declared.kept.TheConstants.{LATEST_START};
+ghost use Rattle.bsc_table.specs.Claim.{stop_claims, is_claimed_at};
+ghost use Rattle.admission.specs.Load.{load_of};
+ghost use Rattle.bsc_table.specs.Record.{Record, accepted_in, is_of_pair, message_named, claim_of, claims_in};
+ghost use Rattle.bsc_table.specs.Answer.{told_of, answer_to_kill, answer_to_write, before_end, answer_with_room, answer_of};
+ghost use Rattle.bsc_table.specs.Handover.{handover};
 ghost use Rattle.bsc_table.specs.Orders.{IsWellFormed};
 ghost use Rattle.bsc_table.specs.Legal.{IsLegal};
 ghost use Rattle.bsc_table.specs.Promised.{IsServed, IsBounded};
-ghost use Rattle.bsc_table.specs.Book.{accepted_of, air_told, IsPlayedUpTo, IsNotLive, IsLiveAs, IsNext, IsStop, IsStart, IsReplacement, with_entry, answered_with, by_room};
-ghost use Rattle.admission.specs.Reservation.{is_before_end, end_of_stopped};
-ghost use Rattle.admission.specs.Table.{ends_at};
+ghost use Rattle.bsc_table.specs.Book.{accepted_of, air_told, IsPlayedUpTo, IsNotLive, IsLiveAs, IsLiveIn, IsNext, IsStop, IsStart, IsReplacement, IsOffered, IsRoom, IsLater, Decides, DecidesWrites, decided_answer, is_accepting, entry_by, with_entry, answered_with, cause_of, left_by, place_of, line_of, HasRoomFor};
+ghost use Rattle.admission.specs.Reservation.{end_of_stopped};
+ghost use Rattle.admission.specs.Waiting.{behind_of};
+ghost use Rattle.admission.specs.Table.{ends_at, passed};
 
 use crate::command::{Command, Refused};
+use crate::decision::Decision;
 use crate::entry::{Aired, Answer, Entry, SlotRange, State};
-use crate::kept::{self, Kept};
+use crate::kept::{self, Kept, Place};
 use crate::record::CellRecord;
 use admission::{Budget, NoRoom};
 use cbs_page::Serial;
@@ -176,8 +183,9 @@ impl CellBook {
         if self.log.len() >= ENTRIES {
             return Answer::Cause(LOG_IS_FULL);
         }
-        let answer = self.answer(command);
-        match self.enter(command, answer) {
+        let decision = self.decide(command);
+        let answer = decision.answer();
+        match self.enter(command, decision) {
             Ok(()) => answer,
             Err(Refused) => Answer::Refused,
         }
@@ -217,67 +225,34 @@ impl CellBook {
         CellRecord::of(cell, slots, log, air)
     }
 
-    /// Enters a command with its answer. An answer that stops or replaces a message is given of a live one alone, so that where
-    /// none is found there is nothing to stop.
-    //
-    // Longer than others for the fields of a write, which it names twice.
-    fn enter(&mut self, command: &Command, answer: Answer) -> Result<(), Refused>
+    /// Enters a command with the answer of its decision.
+    fn enter(&mut self, command: &Command, decision: Decision) -> Result<(), Refused>
         requires formed { IsWellFormed command.now }
         requires room { length self.old.log < 4096 }
-        requires right { answer ≡ answer_with_room self.old.slots self.old.log self.old.air self.old.clock command.now }
-        ensures entered { OnOk result (self.new ≡ with_entry (record { command = command.now; slot = self.old.clock; answer = answer }) self.old) }
+        requires right { decided_answer decision
+            ≡ answer_with_room self.old.slots self.old.log self.old.air self.old.clock command.now }
+        requires decides { Decides self.old command.now decision }
+        ensures entered { OnOk result
+            (self.new ≡ with_entry (entry_by self.old command.now (decided_answer decision)) self.old) }
         ensures refused { OnErr result (self.new ≡ self.old) }
     {
         let entry = Entry {
             command: command.copy(*self.log.allocator())?,
             slot: self.clock,
-            answer,
+            answer: decision.answer(),
         };
-        match command {
-            Command::Status { .. } => self.enter_alone(entry),
-            Command::Kill { .. } if !answer.stops() => self.enter_alone(entry),
-            Command::Kill { id, serial } => match self.live(*id, *serial) {
-                Some(old) => self.enter_stop(entry, &old),
-                None => self.enter_alone(entry),
-            },
-            Command::Write { .. } if !answer.starts() => self.enter_alone(entry),
-            Command::Write {
-                id,
-                serial,
-                replaces,
-                category,
-                period,
-                broadcasts,
-                contents,
-                ..
-            } => {
-                let new = Kept {
-                    id: *id,
-                    serial: *serial,
-                    number: self.log.len() as u16,
-                    accepted: self.clock,
-                    start: self.clock,
-                    pages: contents.list.len() as u8,
-                    period: *period,
-                    broadcasts: *broadcasts,
-                    high: category.is_high(),
-                    stop: None,
-                };
-                match replaces {
-                    None => self.enter_new(entry, new),
-                    Some(replaced) => match self.live(*id, *replaced) {
-                        Some(old) => self.enter_replacement(entry, &old, new),
-                        None => self.enter_alone(entry),
-                    },
-                }
-            }
+        match decision {
+            Decision::Noted(_) => self.enter_alone(entry),
+            Decision::Stops { old, .. } => self.enter_stop(entry, &old),
+            Decision::Starts { new } => self.enter_new(entry, new),
+            Decision::Replaces { old, new, .. } => self.enter_replacement(entry, &old, new),
         }
     }
 
     /// Enters an entry that stops and starts nothing.
     fn enter_alone(&mut self, entry: Entry) -> Result<(), Refused>
         requires next { IsNext self.old entry }
-        requires same { accepted_in (self.old.log ++ entry ∷ []) ≡ accepted_in self.old.log }
+        requires noted { is_accepting entry.answer ≡ false }
         ensures entered { OnOk result (self.new ≡ with_entry entry self.old) }
         ensures refused { OnErr result (self.new ≡ self.old) }
     {
@@ -311,9 +286,7 @@ impl CellBook {
         self.log.reserve(1)?;
         self.accepted.reserve(1)?;
         self.plan.add(new.item())?;
-        let _ = self
-            .budget
-            .reserve(new.number, new.load(), new.natural_end());
+        reserve_for(&mut self.budget, &new, self.clock);
         push_within(&mut self.accepted, new);
         push_within(&mut self.log, entry);
         Ok(())
@@ -323,6 +296,7 @@ impl CellBook {
     fn enter_replacement(&mut self, entry: Entry, old: &Kept, new: Kept) -> Result<(), Refused>
         requires next { IsNext self.old entry }
         requires replacement { IsReplacement self.old entry (accepted_of old.now) (accepted_of new) }
+        requires soon { new.start < LATEST_START }
         ensures entered { OnOk result (self.new ≡ with_entry entry self.old) }
         ensures refused { OnErr result (self.new ≡ self.old) }
     {
@@ -332,9 +306,7 @@ impl CellBook {
         kept::stop(self.accepted.as_mut_slice(), old.number, self.clock);
         let _ = self.plan.stop(old.number, self.clock);
         release(&mut self.budget, old, self.clock);
-        let _ = self
-            .budget
-            .reserve(new.number, new.load(), new.natural_end());
+        reserve_for(&mut self.budget, &new, self.clock);
         push_within(&mut self.accepted, new);
         push_within(&mut self.log, entry);
         Ok(())
@@ -369,88 +341,186 @@ impl CellBook {
         }
     }
 
-    /// The answer to a kill before the run's end.
-    fn answer_to_kill(&self, id: u16, serial: Serial) -> Answer
-        ensures { result ≡ answer_to_kill self.now.log self.now.air self.now.clock id serial }
-    {
-        match self.live(id, serial) {
-            None => Answer::Cause(NOT_LIVE),
-            Some(message) => Answer::Stopped {
-                completed: self.completed(&message),
-            },
-        }
-    }
-
-    /// The answer to a write before the run's end.
-    fn answer_to_write(
-        &self,
-        id: u16,
-        serial: Serial,
-        replaces: Option<Serial>,
-        load: u64,
-    ) -> Answer
-        ensures { result ≡ answer_to_write self.now.log self.now.air self.now.clock id serial replaces load }
-    {
-        match replaces {
-            None if self.named(id, serial).is_some() => Answer::Cause(ACCEPTED_BEFORE),
-            None => self.answer_to_new(load),
-            Some(replaced) => match self.live(id, replaced) {
-                None => Answer::Cause(NOT_LIVE),
-                Some(_) if self.named(id, serial).is_some() => Answer::Cause(ACCEPTED_BEFORE),
-                Some(old) => self.answer_to_replacement(load, &old),
-            },
-        }
-    }
-
-    /// The answer to a write in the place of no message, but for its pair.
-    fn answer_to_new(&self, load: u64) -> Answer
-        ensures { result ≡ answer_to_new self.now.log self.now.clock load }
-    {
-        by_room(
-            self.budget.fits(load, None),
-            Answer::Started { slot: self.clock },
-        )
-    }
-
-    /// The answer to a write in the place of a live message, but for its pair: the old message counts as stopped.
-    fn answer_to_replacement(&self, load: u64, old: &Kept) -> Answer
-        requires there { Contains (accepted_in self.now.log) (accepted_of old.now) }
-        requires live { is_live self.now.clock (accepted_of old.now).message ≡ true }
-        ensures { result ≡ answer_to_replacement self.now.log self.now.air self.now.clock load (accepted_of old.now).message }
-    {
-        by_room(
-            self.budget.fits(load, old.leaving_at(self.clock)),
-            Answer::Replaced {
-                slot: u32::from(self.clock),
-                completed: self.completed(old),
-            },
-        )
-    }
-
-    /// The answer to a command where the log isn't full.
-    fn answer(&self, command: &Command) -> Answer
+    /// What a command comes to where the log isn't full.
+    fn decide(&self, command: &Command) -> Decision
         requires { IsWellFormed command.now }
-        ensures { result ≡ answer_with_room self.now.slots self.now.log self.now.air self.now.clock command.now }
+        ensures right { decided_answer result
+            ≡ answer_with_room self.now.slots self.now.log self.now.air self.now.clock command.now }
+        ensures decides { Decides self.now command.now result }
     {
         match command {
-            Command::Status { id, serial } => match self.status(*id, *serial) {
-                None => Answer::Unknown,
-                Some((completed, state)) => Answer::Told { completed, state },
-            },
-            _ if self.clock == self.slots => Answer::Cause(RUN_IS_OVER),
-            Command::Kill { id, serial } => self.answer_to_kill(*id, *serial),
+            Command::Status { id, serial } => {
+                Decision::Noted(self.answer_to_status(*id, *serial))
+            }
+            Command::Kill { id, serial } => self.decide_kill(*id, *serial),
             Command::Write {
                 id,
                 serial,
                 replaces,
+                category,
                 period,
+                broadcasts,
                 contents,
                 ..
             } => {
-                let load = admission::load(contents.list.len() as u8, *period);
-                self.answer_to_write(*id, *serial, *replaces, load)
+                let new = Kept {
+                    id: *id,
+                    serial: *serial,
+                    number: self.log.len() as u16,
+                    accepted: self.clock,
+                    behind: None,
+                    excess: 0,
+                    start: u32::from(self.clock),
+                    pages: contents.list.len() as u8,
+                    period: *period,
+                    broadcasts: *broadcasts,
+                    category: *category,
+                    stop: None,
+                };
+                self.decide_write(new, *replaces)
             }
         }
+    }
+
+    /// The answer to a status.
+    fn answer_to_status(&self, id: u16, serial: Serial) -> Answer
+        ensures right { result ≡ told_of self.now.air self.now.clock (message_named id serial self.now.log) }
+        ensures noted { is_accepting result ≡ false }
+    {
+        match self.status(id, serial) {
+            None => Answer::Unknown,
+            Some((completed, state)) => Answer::Told { completed, state },
+        }
+    }
+
+    /// What a kill comes to.
+    fn decide_kill(&self, id: u16, serial: Serial) -> Decision
+        requires { IsLegal self.now }
+        ensures right { decided_answer result
+            ≡ before_end self.now.slots self.now.clock (answer_to_kill self.now.log self.now.air self.now.clock id serial) }
+        ensures decides { Decides self.now (commands.Kill id serial) result }
+    {
+        if self.clock == self.slots {
+            return Decision::Noted(Answer::Cause(RUN_IS_OVER));
+        }
+        match self.live(id, serial) {
+            None => Decision::Noted(Answer::Cause(NOT_LIVE)),
+            Some(old) => Decision::Stops {
+                old,
+                completed: self.completed(&old),
+            },
+        }
+    }
+
+    /// What a write comes to.
+    fn decide_write(&self, new: Kept, replaces: Option<Serial>) -> Decision
+        requires legal { IsLegal self.now }
+        requires offered { IsOffered self.now (accepted_of new) }
+        ensures right { decided_answer result
+            ≡ before_end self.now.slots self.now.clock (answer_to_write self.now.log self.now.air self.now.clock new.id
+            new.serial replaces (load_of new.pages new.period)) }
+        ensures decides { DecidesWrites self.now (accepted_of new) replaces result }
+    {
+        if self.clock == self.slots {
+            return Decision::Noted(Answer::Cause(RUN_IS_OVER));
+        }
+        match replaces {
+            None => self.decide_new(new),
+            Some(replaced) => self.decide_replacement(new, replaced),
+        }
+    }
+
+    /// What a write in the place of no message comes to before the run's end.
+    fn decide_new(&self, new: Kept) -> Decision
+        requires { IsOffered self.now (accepted_of new) }
+        ensures right { decided_answer result
+            ≡ answer_to_write self.now.log self.now.air self.now.clock new.id new.serial None
+            (load_of new.pages new.period) }
+        ensures decides { DecidesWrites self.now (accepted_of new) None result }
+    {
+        if self.named(new.id, new.serial).is_some() {
+            return Decision::Noted(Answer::Cause(ACCEPTED_BEFORE));
+        }
+        match self.room(new.load()) {
+            Ok(()) => Decision::Starts { new },
+            Err(full) => Decision::Noted(Answer::Cause(cause_of(full))),
+        }
+    }
+
+    /// What a write in the place of the message of this serial number comes to before the run's end.
+    fn decide_replacement(&self, new: Kept, replaced: Serial) -> Decision
+        requires legal { IsLegal self.now }
+        requires offered { IsOffered self.now (accepted_of new) }
+        ensures right { decided_answer result
+            ≡ answer_to_write self.now.log self.now.air self.now.clock new.id new.serial (Some replaced)
+            (load_of new.pages new.period) }
+        ensures decides { DecidesWrites self.now (accepted_of new) (Some replaced) result }
+    {
+        match self.live(new.id, replaced) {
+            None => Decision::Noted(Answer::Cause(NOT_LIVE)),
+            Some(_) if self.named(new.id, new.serial).is_some() => {
+                Decision::Noted(Answer::Cause(ACCEPTED_BEFORE))
+            }
+            Some(old) => match self.room_without(&old, new.load()) {
+                Ok(()) => Decision::Replaces {
+                    old,
+                    new,
+                    completed: self.completed(&old),
+                },
+                Err(NoRoom::Table) => Decision::Noted(Answer::Cause(TABLE_IS_FULL)),
+                Err(NoRoom::Load) => match self.later_place(&old, new.load()) {
+                    None => Decision::Noted(Answer::Cause(LOAD_IS_FULL)),
+                    Some(place) => Decision::Replaces {
+                        old,
+                        new: new.waiting_at(place),
+                        completed: self.completed(&old),
+                    },
+                },
+            },
+        }
+    }
+
+    /// Whether a load has room.
+    fn room(&self, load: u64) -> Result<(), NoRoom>
+        ensures { IsRoom (claims_in self.now.log) self.now.clock load result }
+    {
+        self.budget.fits(load, None)
+    }
+
+    /// Whether a load has room, where a live message counts as stopped.
+    fn room_without(&self, old: &Kept, load: u64) -> Result<(), NoRoom>
+        requires { IsLiveIn self.now (accepted_of old.now) }
+        ensures { IsRoom (stop_claims old.now.number self.now.clock (claims_in self.now.log)) self.now.clock load
+            result }
+    {
+        self.budget.fits(load, old.leaving_at(self.clock))
+    }
+
+    /// The place at which a message of this load may take over from a live one, where there is room for its excess.
+    fn later_place(&self, old: &Kept, load: u64) -> Option<Place>
+        requires live { IsLiveIn self.now (accepted_of old.now) }
+        requires room { length (filter (is_claimed_at self.now.clock) (left_by self.now (accepted_of old.now))) < 64 }
+        ensures { IsLater self.now (accepted_of old.now) load result }
+    {
+        let place = self.place_after(old, load)?;
+        match self.room_without(old, place.excess) {
+            Ok(()) => Some(place),
+            Err(_) => None,
+        }
+    }
+
+    /// The place at which a message of this load may take over from a live one: behind that one, where it has started, else
+    /// behind the one behind which it waits.
+    fn place_after(&self, old: &Kept, load: u64) -> Option<Place>
+        requires { IsLiveIn self.now (accepted_of old.now) }
+        ensures place { option_map place_of result
+            ≡ handover (left_by self.now (accepted_of old.now)) self.now.clock (claim_of (accepted_of old.now)) load }
+        ensures soon { IfSome result (λ place. place.start < LATEST_START) }
+    {
+        let number = old.ahead_at(self.clock)?;
+        let ahead = kept::numbered(self.accepted.as_slice(), number)?;
+        let stopped = ahead.stopped_if(old.number, self.clock);
+        stopped.place_behind(self.clock, load)
     }
 
     /// Plays the slots before `to`.
@@ -476,25 +546,41 @@ impl CellBook {
     }
 }
 
-/// Gives the reservation of a message that is stopped at `slot` its end, where no line waits.
+/// Gives the reservation of a message that is stopped at `slot` its end. None waits behind a message that is stopped now.
 fn release(budget: &mut Budget, old: &Kept, slot: u16)
     requires period { 0 < old.now.period }
     requires reserved { Any (λ h. h.entry ≡ old.now.number) budget.old }
-    requires started { All (λ h. h.waits ≡ None) budget.old }
-    ensures { budget.new ≡ filter (λ h. is_before_end slot h.until) (ends_at old.now.number (end_of_stopped old.now.start old.now.period slot) budget.old) }
+    requires free { All (λ h. behind_of h ≢ Some old.now.number) budget.old }
+    ensures { budget.new ≡ passed slot (ends_at old.now.number (end_of_stopped old.now.start old.now.period slot) budget.old) }
 {
     budget.release_at(old.number, old.end_if_stopped(slot));
     budget.pass_slot(slot);
 }
 
-/// The answer to a write, by whether its load has room: the answer that accepts it, or the cause of the refusal.
-fn by_room(room: Result<(), NoRoom>, accepts: Answer) -> Answer
-    ensures { result ≡ by_room room accepts }
+/// Reserves what a message takes that was accepted at `slot`: its load from now on, or, where it waits behind another one,
+/// its excess up to its start and its load from there on.
+fn reserve_for(budget: &mut Budget, new: &Kept, slot: u16)
+    requires period { 0 < new.now.period }
+    requires soon { new.now.start < LATEST_START }
+    requires standing { new.now.stop ≡ None }
+    requires unreserved { All (λ h. h.entry ≢ new.now.number) budget.old }
+    requires room { HasRoomFor slot budget.old (claim_of (accepted_of new.now)) new.now.behind }
+    ensures { budget.new ≡ budget.old ++ line_of slot (claim_of (accepted_of new.now)) ∷ [] }
 {
-    match room {
-        Ok(()) => accepts,
-        Err(NoRoom::Table) => Answer::Cause(TABLE_IS_FULL),
-        Err(NoRoom::Load) => Answer::Cause(LOAD_IS_FULL),
+    let end = new.natural_end();
+    let _ = match new.behind {
+        None => budget.reserve(new.number, new.load(), end),
+        Some(behind) => budget.reserve_behind(new.number, new.load(), behind, new.start, end),
+    };
+}
+
+/// The cause of a refusal for want of room.
+fn cause_of(full: NoRoom) -> u8
+    ensures { result ≡ cause_of full }
+{
+    match full {
+        NoRoom::Table => TABLE_IS_FULL,
+        NoRoom::Load => LOAD_IS_FULL,
     }
 }
 

@@ -1,9 +1,5 @@
 //! What a cell's log holds: commands, each with its answer and the slot at which it was given.
 
-ghost use Rattle.std.specs.Prelude.{◌≡◌, is_some};
-ghost use Rattle.bsc_table.specs.Record.{start_of};
-ghost use Rattle.bsc_table.specs.Book.{is_stopped};
-
 use crate::command::Command;
 
 /// How a message stands.
@@ -53,22 +49,6 @@ pub enum Answer {
     Cause(u8),
     /// There was no memory: the cell is as it was.
     Refused,
-}
-
-impl Answer {
-    /// Whether it is that of a kill that was accepted.
-    pub(crate) fn stops(self) -> bool
-        ensures { result ≡ is_stopped self }
-    {
-        matches!(self, Answer::Stopped { .. })
-    }
-
-    /// Whether it is that of a write that was accepted.
-    pub(crate) fn starts(self) -> bool
-        ensures { result ≡ is_some (start_of self) }
-    {
-        matches!(self, Answer::Started { .. } | Answer::Replaced { .. })
-    }
 }
 
 /// A command that was answered.

@@ -1,17 +1,24 @@
 //! What a cell's book keeps of the messages that it accepted.
 
-ghost use Rattle.std.specs.Prelude.{◌≡◌, ◌<◌, ◌==◌, if◌then◌else◌, Some, None, map};
+ghost use Rattle.std.specs.Prelude.{◌≡◌, ◌<◌, ◌==◌, if◌then◌else◌, Some, None, IfSome, map};
 ghost use Rattle.std.specs.List.{find};
 ghost use Rattle.std.specs.Option.{option_map};
 ghost use Rattle.admission.specs.Load.{load_of};
 ghost use Rattle.admission.specs.Reservation.{natural_end, end_of_stopped};
 ghost use Rattle.scheduler.specs.Follows.{message_from};
-ghost use Rattle.bsc_table.specs.Record.{is_of_pair, is_live, state_at};
-ghost use Rattle.bsc_table.specs.Book.{accepted_of, kept_stopped};
+ghost use Rattle.bsc_table.specs.Record.{is_of_pair, is_live, state_at, claim_of};
+ghost use Rattle.bsc_table.specs.Handover.{ahead_of, place_before};
+ghost use Rattle.bsc_table.specs.declared.kept.TheConstants.{LATEST_START};
+ghost use Rattle.bsc_table.specs.Book.{accepted_of, kept_stopped, place_of, stopped_end};
 
+use crate::command::Category;
 use crate::entry::State;
 use cbs_page::Serial;
 use scheduler::Item;
+
+/// No message starts as late as this slot. One that waits starts at the end of the period in which another was stopped:
+/// with a slot and a period of 16 bits at `0xFFFF + 0xFFFE` at most, so that the end of its broadcasts has room in 32 bits.
+const LATEST_START: u32 = 0x1_FFFE;
 
 /// A message that was accepted.
 #[derive(Clone, Copy, Debug, PartialEq, Eq)]
@@ -24,18 +31,33 @@ pub struct Kept {
     pub number: u16,
     /// The slot at which it was accepted.
     pub accepted: u16,
-    /// The slot from which it stands.
-    pub start: u16,
+    /// The number of the message behind which it waits up to its start. None where it started at once.
+    pub behind: Option<u16>,
+    /// The load that it reserves up to its start, in parts of `SCALE`.
+    pub excess: u64,
+    /// The slot from which it is broadcast.
+    pub start: u32,
     /// Its pages, from 1 to 15.
     pub pages: u8,
     /// The repetition period in slots, from 1 to 1,024.
     pub period: u16,
     /// The broadcasts requested; 0 where it stands until it is stopped.
     pub broadcasts: u16,
-    /// Whether it is of the high category.
-    pub high: bool,
+    /// Its category.
+    pub category: Category,
     /// The slot before which it was stopped, if it was.
     pub stop: Option<u16>,
+}
+
+/// A place at which a message may take over: behind another one, up to the end of that one's reservation.
+#[derive(Clone, Copy)]
+pub struct Place {
+    /// The number of the message behind which it waits.
+    pub behind: u16,
+    /// The slot at which it starts.
+    pub start: u32,
+    /// The load that it reserves until then, in parts of `SCALE`: what its own has over that one's, or 0.
+    pub excess: u64,
 }
 
 impl Kept {
@@ -45,11 +67,11 @@ impl Kept {
     {
         Item {
             entry: self.number,
-            start: u32::from(self.start),
+            start: self.start,
             pages: self.pages,
             period: self.period,
             broadcasts: self.broadcasts,
-            high: self.high,
+            high: self.category.is_high(),
         }
     }
 
@@ -63,22 +85,25 @@ impl Kept {
 
     /// The slot at which the periods of its requested broadcasts end. None where it stands until it is stopped.
     pub fn natural_end(&self) -> Option<u32>
+        requires { self.now.start < LATEST_START }
         ensures { result ≡ natural_end self.now.start self.now.period self.now.broadcasts }
     {
         if self.broadcasts == 0 {
             return None;
         }
-        Some(u32::from(self.start) + u32::from(self.broadcasts) * u32::from(self.period))
+        Some(self.start + u32::from(self.broadcasts) * u32::from(self.period))
     }
 
     /// The slot up to which its load stays reserved if it is stopped at `slot`: the end of the period in which that
     /// is, and `slot` itself where it hasn't started by then.
     pub fn end_if_stopped(&self, slot: u16) -> u32
         requires { 0 < self.now.period }
-        ensures { result ≡ end_of_stopped self.now.start self.now.period slot }
+        ensures end { result ≡ end_of_stopped self.now.start self.now.period slot }
+        ensures soon { result < LATEST_START }
     {
-        let periods = slot.saturating_sub(self.start).div_ceil(self.period);
-        u32::from(self.start.min(slot)) + u32::from(self.period) * u32::from(periods)
+        let start = self.start.min(u32::from(slot));
+        let periods = (u32::from(slot) - start).div_ceil(u32::from(self.period));
+        start + u32::from(self.period) * periods
     }
 
     /// Its number, where a stop at `slot` would end its reservation there and then: on the boundary of its period.
@@ -97,11 +122,9 @@ impl Kept {
     pub fn is_live(&self, slot: u16) -> bool
         ensures { result ≡ is_live slot (accepted_of self.now).message }
     {
+        let periods = u64::from(self.broadcasts) * u64::from(self.period);
         self.stop.is_none()
-            && match self.natural_end() {
-                None => true,
-                Some(end) => u32::from(slot) < end,
-            }
+            && (self.broadcasts == 0 || u64::from(slot) < u64::from(self.start) + periods)
     }
 
     /// How it stands before `slot`.
@@ -115,8 +138,50 @@ impl Kept {
         }
     }
 
+    /// The number of the message that stands before one that replaces this one at `slot`: this one, where it has started;
+    /// else the one behind which it waits.
+    pub fn ahead_at(&self, slot: u16) -> Option<u16>
+        ensures { result ≡ ahead_of slot (claim_of (accepted_of self.now)) }
+    {
+        if self.start <= u32::from(slot) {
+            Some(self.number)
+        } else {
+            self.behind
+        }
+    }
+
+    /// The place behind this message for one of that load that is accepted at `slot`, where this one was stopped and is
+    /// reserved beyond that slot.
+    pub fn place_behind(&self, slot: u16, load: u64) -> Option<Place>
+        requires { 0 < self.now.period }
+        ensures place { option_map place_of result ≡ place_before slot load (claim_of (accepted_of self.now)) (stopped_end self.now) }
+        ensures soon { IfSome result (λ place. place.start < LATEST_START) }
+    {
+        let start = self.end_if_stopped(self.stop?);
+        if start <= u32::from(slot) {
+            return None;
+        }
+        Some(Place {
+            behind: self.number,
+            start,
+            excess: load.saturating_sub(self.load()),
+        })
+    }
+
+    /// The message, where it waits at that place.
+    pub fn waiting_at(self, place: Place) -> Kept
+        ensures { result ≡ record self { behind = Some place.behind; excess = place.excess; start = place.start } }
+    {
+        Kept {
+            behind: Some(place.behind),
+            excess: place.excess,
+            start: place.start,
+            ..self
+        }
+    }
+
     /// The message, stopped before `slot` where its number is this one.
-    fn stopped_if(self, number: u16, slot: u16) -> Kept
+    pub fn stopped_if(self, number: u16, slot: u16) -> Kept
         ensures { result ≡ kept_stopped number slot self }
     {
         if self.number == number {
@@ -136,6 +201,18 @@ pub fn named(table: &[Kept], id: u16, serial: Serial) -> Option<Kept>
 {
     for kept in table {
         if kept.id == id && kept.serial == serial {
+            return Some(*kept);
+        }
+    }
+    None
+}
+
+/// The message of a number, if there is one.
+pub fn numbered(table: &[Kept], number: u16) -> Option<Kept>
+    ensures { option_map accepted_of result ≡ find (λ a. a.message.number == number) (map accepted_of table.now) }
+{
+    for kept in table {
+        if kept.number == number {
             return Some(*kept);
         }
     }

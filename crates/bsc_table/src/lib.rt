@@ -5,6 +5,7 @@
 
 pub mod book;
 pub mod command;
+mod decision;
 pub mod entry;
 mod kept;
 mod laws;

@@ -3,7 +3,7 @@ use Rattle.bsc_table.specs.declared.entry.Entry.{Entry}
 use Rattle.bsc_table.specs.Record.{Record}
 use Rattle.bsc_table.specs.Answer.{answer_with_room}
 use Rattle.bsc_table.specs.Legal.{IsLegal}
-use Rattle.bsc_table.specs.Book.{record_of, IsNext, with_entry}
+use Rattle.bsc_table.specs.Book.{record_of, IsNext, with_entry, decided_answer}
 use Rattle.bsc_table.proofs.Outcome.{entry_with}
 use Rattle.bsc_table.proofs.Entering.{IsLegal-with}
 use Rattle.bsc_table.proofs.book.CellBook.apply.Goals as goal
@@ -12,14 +12,14 @@ pub returns-in-Ok-clause-legal : goal.returns-in-Ok-clause-legal
 returns-in-Ok-clause-legal c =
     let r : Record = record_of c.self.inside in
     let command = c.args.command.now in
-    let inside = sym c.self.view_is in
-    let Right : Record → Type 0 = λ x. c.answer-answer.result ≡ answer_with_room x.slots x.log x.air x.clock command in
-    let e : Entry = entry_with command r.clock c.answer-answer.result in
+    let answer = decided_answer c.decide-decision.result in
+    let Right : Record → Type 0 = λ x. answer ≡ answer_with_room x.slots x.log x.air x.clock command in
+    let e : Entry = entry_with command r.clock answer in
     let next : IsNext r e = record {
       now = refl;
       room = omega (arith, c.len.ensures, c.self.inside.log.ok.0, c.if-len-ge-ENTRIES.false);
       formed = c.requires;
-      right = subst Right inside c.answer-answer.ensures;
+      right = subst Right (sym c.self.view_is) c.decide-decision.ensures.right;
     } in
-    let Legal : Record → Type 0 = λ x. IsLegal (with_entry (entry_with command x.clock c.answer-answer.result) x) in
+    let Legal : Record → Type 0 = λ x. IsLegal (with_entry (entry_with command x.clock answer) x) in
     subst IsLegal (sym c.in-Ok.ensures.entered) (subst Legal c.self.view_is (IsLegal-with r e c.self.invariant.legal next))

@@ -2,16 +2,16 @@ use Rattle.std.proofs.Common.{◌≡◌, ◌<◌, ℕ, None, Result, List, [], �
 use Rattle.std.specs.List.{All}
 use Rattle.std.specs.Result.{OnOk}
 use Rattle.admission.specs.declared.budget.Held.{Held}
-use Rattle.admission.specs.declared.budget.NoRoom.{NoRoom}
-use Rattle.admission.specs.Table.{answer_for}
 use Rattle.scheduler.specs.Message.{Message}
 use Rattle.scheduler.specs.Follows.{Follows, message_from}
 use Rattle.bsc_table.specs.declared.entry.Entry.{Entry}
 use Rattle.bsc_table.specs.declared.kept.Kept.{Kept}
-use Rattle.bsc_table.specs.Record.{Record, Accepted, accepted_in, messages_in}
-use Rattle.bsc_table.specs.Book.{accepted_of, record_of, lines_at, IsNext, IsStart}
+use Rattle.bsc_table.specs.Record.{Record, Accepted, accepted_in, messages_in, claim_of, claims_in}
+use Rattle.bsc_table.specs.Claim.{Claim, stop_claims}
+use Rattle.bsc_table.specs.Book.{accepted_of, record_of, line_of, lines_at, HasRoomFor, IsNext, IsStart}
+use Rattle.bsc_table.proofs.Begun.{room_for_new}
 use Rattle.bsc_table.proofs.Sound.{IsSound-legal}
-use Rattle.bsc_table.proofs.Entering.{book_with, messages_with, kept_more, planned_below, held_below, item_message, begun_line, begun_room, begun_lines}
+use Rattle.bsc_table.proofs.Entering.{book_with, messages_with, kept_more, planned_below, held_below, item_message, begun_lines, claims_with}
 use Rattle.bsc_table.proofs.book.CellBook.enter_new.Goals as goal
 
 pub add-requires-clause-rising : goal.add-requires-clause-rising
@@ -24,15 +24,30 @@ add-requires-clause-rising c =
     let entry = ap (λ (m : Message). m.number) c.item.ensures in
     λ k d h. omega (arith, below k d h, entry, may.numbered)
 
-pub reserve-requires-3 : goal.reserve-requires-3
-reserve-requires-3 c =
+pub reserve_for-requires-clause-soon : goal.reserve_for-requires-clause-soon
+reserve_for-requires-clause-soon c =
     let r : Record = record_of c.self.inside in
     let Starts : Record → Type 0 = λ x. IsStart x c.args.entry (accepted_of c.args.new) in
     let start = subst Starts (sym c.self.view_is) c.requires.start in
-    let may = start.begun in
+    omega (arith, start.begun.starts.start, c.self.invariant.legal.within, c.self.invariant.short)
+
+pub reserve_for-requires-clause-unreserved : goal.reserve_for-requires-clause-unreserved
+reserve_for-requires-clause-unreserved c =
+    let r : Record = record_of c.self.inside in
+    let Starts : Record → Type 0 = λ x. IsStart x c.args.entry (accepted_of c.args.new) in
+    let start = subst Starts (sym c.self.view_is) c.requires.start in
     let Below : List Held → Type 0 = λ lines. All (λ (h : Held). h.entry < length r.log) lines in
     let below = subst Below (sym c.self.invariant.held) (held_below r.clock r.log) in
-    λ k d h same. omega (arith, below k d h, may.numbered, same)
+    λ k d h same. omega (arith, below k d h, start.begun.numbered, same)
+
+pub reserve_for-requires-clause-room : goal.reserve_for-requires-clause-room
+reserve_for-requires-clause-room c =
+    let r : Record = record_of c.self.inside in
+    let new : Accepted = accepted_of c.args.new in
+    let Starts : Record → Type 0 = λ x. IsStart x c.args.entry new in
+    let start = subst Starts (sym c.self.view_is) c.requires.start in
+    let Room : List Held → Type 0 = λ lines. HasRoomFor r.clock lines (claim_of new) new.behind in
+    subst Room (sym c.self.invariant.held) (room_for_new (length r.log) r.clock (accepted_in r.log) new (IsSound-legal r c.self.invariant.legal).order start.begun)
 
 pub invariant_of-self-2 : goal.invariant_of-self-2
 invariant_of-self-2 c =
@@ -59,12 +74,8 @@ invariant_of-self-2 c =
     let FollowsOne : Message → Type 0 = λ m. Follows c.add.new.self (before ++ m ∷ []) r.air in
     let follows = subst FollowsOne told (c.in_ok-add.ensures.follows before r.air book.follows) in
     -- the budget
-    let load = c.load.ensures in
-    let asked = c.reserve-3.ensures.answer ∙ ap (λ (l : List Held). answer_for l c.load.result) book.held ∙ ap (λ (n : ℕ). answer_for (lines_at r.clock before) n) load ∙ begun_room (length r.log) r.clock (accepted_in r.log) new sound.begun may in
-    let line : Held = record { entry = c.args.new.number; load = c.load.result; until = c.natural_end.result; waits = None } in
-    let Reserved : Result (Unit {0}) NoRoom → Type 0 = λ x. OnOk x (c.reserve-3.new.self ≡ c.self.inside.budget ++ line ∷ []) in
-    let reserved : c.reserve-3.new.self ≡ c.self.inside.budget ++ line ∷ [] = subst Reserved asked c.reserve-3.ensures.reserved in
-    let lines = reserved ∙ ap (λ (l : List Held). l ++ line ∷ []) book.held ∙ ap (λ (h : Held). lines_at r.clock before ++ h ∷ []) (begun_line c.args.new c.load.result c.natural_end.result load c.natural_end.ensures may.standing) ∙ sym (begun_lines (length r.log) r.clock (accepted_in r.log) new may) in
+    let claims = claims_with r.log e (accepted_in r.log) new adds in
+    let lines = c.reserve_for.ensures ∙ ap (λ (l : List Held). l ++ line_of r.clock (claim_of new) ∷ []) book.held ∙ sym (begun_lines (length r.log) r.clock None (accepted_in r.log) (claims_in r.log) new may) in
     let FollowsAll : List Message → Type 0 = λ all. Follows c.add.new.self all r.air in
-    let HeldFor : List Message → Type 0 = λ all. c.reserve-3.new.self ≡ lines_at r.clock all in
-    book_with c.self.inside e c.push_within-2.new.list c.push_within.new.list c.add.new.self c.reserve-3.new.self book next grown more (subst FollowsAll (sym messages) follows) (subst HeldFor (sym messages) lines)
+    let HeldFor : List Claim → Type 0 = λ all. c.reserve_for.new.budget ≡ lines_at r.clock all in
+    book_with c.self.inside e c.push_within-2.new.list c.push_within.new.list c.add.new.self c.reserve_for.new.budget book next grown more (subst FollowsAll (sym messages) follows) (subst HeldFor (sym claims) lines)

@@ -1,21 +1,21 @@
-use Rattle.std.proofs.Common.{◌≡◌, ◌<◌, ℕ, None, Result, List, [], ◌∷◌, ◌++◌, length, map, subst, sym, ap, ◌∙◌, arith}
+use Rattle.std.proofs.Common.{◌≡◌, ◌≢◌, ◌<◌, ℕ, Some, Result, List, [], ◌∷◌, ◌++◌, length, map, subst, sym, ap, ◌∙◌, arith}
 use Rattle.std.specs.Vec.{with_items}
 use Rattle.std.specs.List.{All, Any}
 use Rattle.std.specs.Result.{OnOk}
 use Rattle.std.proofs.lemmas.List.Elements.{All-contains}
 use Rattle.admission.specs.declared.budget.Held.{Held}
-use Rattle.admission.specs.declared.budget.NoRoom.{NoRoom}
-use Rattle.admission.specs.Table.{answer_for}
+use Rattle.admission.specs.Waiting.{behind_of}
 use Rattle.scheduler.specs.Message.{Message, stopped_at}
 use Rattle.scheduler.specs.Follows.{Follows, messages_of, message_from}
 use Rattle.bsc_table.specs.declared.entry.Entry.{Entry}
 use Rattle.bsc_table.specs.declared.kept.Kept.{Kept}
-use Rattle.bsc_table.specs.Record.{Record, Accepted, accepted_in, messages_in}
-use Rattle.bsc_table.specs.Book.{accepted_of, stop_numbered, record_of, line_of, lines_at, IsNext, IsReplacement}
-use Rattle.bsc_table.proofs.Outcome.{messages_stopped}
+use Rattle.bsc_table.specs.Record.{Record, Accepted, accepted_in, messages_in, claim_of, claims_in}
+use Rattle.bsc_table.specs.Claim.{Claim, stop_claims}
+use Rattle.bsc_table.specs.Book.{accepted_of, stop_numbered, record_of, line_of, lines_at, HasRoomFor, IsNext, IsReplacement}
+use Rattle.bsc_table.proofs.Outcome.{messages_stopped, claims_stopped}
+use Rattle.bsc_table.proofs.Begun.{room_for_replacement}
 use Rattle.bsc_table.proofs.Sound.{HasLoad, IsSound-legal}
-use Rattle.bsc_table.proofs.Rooms.{lines_started}
-use Rattle.bsc_table.proofs.Entering.{book_with, table_stopped, released_lines, messages_with, kept_more, planned_below, held_below_without, number_below, standing_in, standing_beside, held_in, item_message, begun_line, begun_room, begun_lines, stopped_beside, stopped_begun}
+use Rattle.bsc_table.proofs.Entering.{free_of, book_with, table_stopped, released_lines, messages_with, kept_more, planned_below, held_below_without, number_below, standing_in, standing_beside, held_in, item_message, begun_lines, claims_with, stopped_beside}
 use Rattle.bsc_table.proofs.book.CellBook.enter_replacement.Goals as goal
 
 pub add-requires-clause-rising : goal.add-requires-clause-rising
@@ -53,25 +53,39 @@ release-requires-clause-reserved c =
     let Replaces : Record → Type 0 = λ x. IsReplacement x c.args.entry old (accepted_of c.args.new) in
     let change = subst Replaces (sym c.self.view_is) c.requires.replacement in
     let Has : List Held → Type 0 = λ lines. Any (λ (h : Held). h.entry ≡ old.message.number) lines in
-    subst Has (sym c.self.invariant.held) (held_in r.clock r.log old change.stops.there change.stops.live)
+    subst Has (sym c.self.invariant.held) (held_in r old c.self.invariant.legal change.stops)
 
-pub reserve-requires-3 : goal.reserve-requires-3
-reserve-requires-3 c =
+pub reserve_for-requires-clause-unreserved : goal.reserve_for-requires-clause-unreserved
+reserve_for-requires-clause-unreserved c =
     let r : Record = record_of c.self.inside in
     let old : Accepted = accepted_of c.args.old.now in
     let number : ℕ = old.message.number in
     let Replaces : Record → Type 0 = λ x. IsReplacement x c.args.entry old (accepted_of c.args.new) in
     let change = subst Replaces (sym c.self.view_is) c.requires.replacement in
-    let lines = released_lines r old c.self.inside.budget c.release.new.budget change.stops c.self.invariant.held c.release.ensures in
+    let lines = released_lines r old c.self.inside.budget c.release.new.budget c.self.invariant.legal change.stops c.self.invariant.held c.release.ensures in
     let Below : List Held → Type 0 = λ l. All (λ (h : Held). h.entry < length r.log) l in
     let below = subst Below (sym lines) (held_below_without r.clock number r.log) in
     λ k d h same. omega (arith, below k d h, change.begun.numbered, same)
 
-pub release-requires-clause-started : goal.release-requires-clause-started
-release-requires-clause-started c =
+pub reserve_for-requires-clause-room : goal.reserve_for-requires-clause-room
+reserve_for-requires-clause-room c =
     let r : Record = record_of c.self.inside in
-    let Started : List Held → Type 0 = λ lines. All (λ (h : Held). h.waits ≡ None) lines in
-    subst Started (sym c.self.invariant.held) (lines_started r.clock (messages_in r.log))
+    let old : Accepted = accepted_of c.args.old.now in
+    let new : Accepted = accepted_of c.args.new in
+    let Replaces : Record → Type 0 = λ x. IsReplacement x c.args.entry old new in
+    let change = subst Replaces (sym c.self.view_is) c.requires.replacement in
+    let lines = released_lines r old c.self.inside.budget c.release.new.budget c.self.invariant.legal change.stops c.self.invariant.held c.release.ensures in
+    let Room : List Held → Type 0 = λ l. HasRoomFor r.clock l (claim_of new) new.behind in
+    subst Room (sym lines) (room_for_replacement (length r.log) r.clock (accepted_in r.log) old new (IsSound-legal r c.self.invariant.legal).order change.stops.there change.stops.live change.begun)
+
+pub release-requires-clause-free : goal.release-requires-clause-free
+release-requires-clause-free c =
+    let r : Record = record_of c.self.inside in
+    let old : Accepted = accepted_of c.args.old.now in
+    let Replaces : Record → Type 0 = λ x. IsReplacement x c.args.entry old (accepted_of c.args.new) in
+    let Free : List Held → Type 0 = λ lines. All (λ (h : Held). behind_of h ≢ Some old.message.number) lines in
+    let change = subst Replaces (sym c.self.view_is) c.requires.replacement in
+    subst Free (sym c.self.invariant.held) (free_of r old c.self.invariant.legal change.stops)
 
 pub invariant_of-self-2 : goal.invariant_of-self-2
 invariant_of-self-2 c =
@@ -107,14 +121,9 @@ invariant_of-self-2 c =
     let apart = stopped_beside number r.clock before new.message (λ equal. omega (arith, below, may.numbered, equal)) in
     let follows = subst FollowsThese apart (c.stop-2.ensures.follows (before ++ new.message ∷ []) r.air added) in
     -- the budget
-    let released = released_lines r old c.self.inside.budget c.release.new.budget change.stops book.held c.release.ensures in
-    let load = c.load.ensures in
-    let fits = ap (λ (l : List Message). answer_for (lines_at r.clock l) c.load.result) (sym same) ∙ ap (λ (n : ℕ). answer_for (lines_at r.clock (map (λ (a : Accepted). a.message) rest)) n) load ∙ begun_room (length r.log) r.clock rest new (stopped_begun number r.clock (accepted_in r.log) sound.begun) may in
-    let asked = c.reserve-3.ensures.answer ∙ ap (λ (l : List Held). answer_for l c.load.result) released ∙ fits in
-    let line : Held = record { entry = c.args.new.number; load = c.load.result; until = c.natural_end.result; waits = None } in
-    let Reserved : Result (Unit {0}) NoRoom → Type 0 = λ x. OnOk x (c.reserve-3.new.self ≡ c.release.new.budget ++ line ∷ []) in
-    let reserved : c.reserve-3.new.self ≡ c.release.new.budget ++ line ∷ [] = subst Reserved asked c.reserve-3.ensures.reserved in
-    let begins = begun_lines (length r.log) r.clock rest new may in
-    let lines = reserved ∙ ap (λ (l : List Held). l ++ line ∷ []) released ∙ ap (λ (h : Held). lines_at r.clock after ++ h ∷ []) (begun_line c.args.new c.load.result c.natural_end.result load c.natural_end.ensures may.standing) ∙ ap (λ (l : List Message). lines_at r.clock l ++ line_of new.message ∷ []) (sym same) ∙ sym begins ∙ ap (λ (l : List Message). lines_at r.clock (l ++ new.message ∷ [])) same in
-    let HeldFor : List Message → Type 0 = λ all. c.reserve-3.new.self ≡ lines_at r.clock all in
-    book_with c.self.inside e c.push_within-2.new.list c.push_within.new.list c.stop-2.new.self c.reserve-3.new.self book next grown kept (subst FollowsThese (sym messages) follows) (subst HeldFor (sym messages) lines)
+    let left : List Claim = stop_claims number r.clock (claims_in r.log) in
+    let released = released_lines r old c.self.inside.budget c.release.new.budget book.legal change.stops book.held c.release.ensures in
+    let claims = claims_with r.log e rest new change.after ∙ ap (λ (l : List Claim). l ++ claim_of new ∷ []) (claims_stopped number r.clock (accepted_in r.log)) in
+    let lines = c.reserve_for.ensures ∙ ap (λ (l : List Held). l ++ line_of r.clock (claim_of new) ∷ []) released ∙ sym (begun_lines (length r.log) r.clock (Some old) rest left new may) in
+    let HeldFor : List Claim → Type 0 = λ all. c.reserve_for.new.budget ≡ lines_at r.clock all in
+    book_with c.self.inside e c.push_within-2.new.list c.push_within.new.list c.stop-2.new.self c.reserve_for.new.budget book next grown kept (subst FollowsThese (sym messages) follows) (subst HeldFor (sym claims) lines)

@@ -1,16 +1,17 @@
-use Rattle.std.proofs.Common.{◌≡◌, ℕ, None, List, [], ◌∷◌, ◌++◌, map, subst, sym, ap, ◌∙◌}
+use Rattle.std.proofs.Common.{◌≡◌, ◌≢◌, ℕ, Some, List, [], ◌∷◌, ◌++◌, map, subst, sym, ap, ◌∙◌}
 use Rattle.std.specs.Vec.{with_items}
 use Rattle.std.specs.List.{All, Any}
 use Rattle.std.proofs.lemmas.List.Elements.{All-contains}
 use Rattle.admission.specs.declared.budget.Held.{Held}
+use Rattle.admission.specs.Waiting.{behind_of}
 use Rattle.scheduler.specs.Message.{Message}
 use Rattle.scheduler.specs.Follows.{Follows}
 use Rattle.bsc_table.specs.declared.entry.Entry.{Entry}
 use Rattle.bsc_table.specs.Record.{Record, Accepted, accepted_in, messages_in}
+use Rattle.bsc_table.specs.Claim.{Claim}
 use Rattle.bsc_table.specs.Book.{accepted_of, stop_numbered, record_of, lines_at, IsNext, IsStop}
 use Rattle.bsc_table.proofs.Sound.{HasLoad, IsSound-legal}
-use Rattle.bsc_table.proofs.Rooms.{lines_started}
-use Rattle.bsc_table.proofs.Entering.{messages_without, table_stopped, released_lines, book_with, standing_in, held_in}
+use Rattle.bsc_table.proofs.Entering.{messages_without, claims_without, free_of, table_stopped, released_lines, book_with, standing_in, held_in}
 use Rattle.bsc_table.proofs.book.CellBook.enter_stop.Goals as goal
 
 pub stop-requires-2-clause-standing : goal.stop-requires-2-clause-standing
@@ -36,13 +37,16 @@ release-requires-clause-reserved c =
     let Stops : Record → Type 0 = λ x. IsStop x c.args.entry old in
     let Has : List Held → Type 0 = λ lines. Any (λ (h : Held). h.entry ≡ old.message.number) lines in
     let stop = subst Stops (sym c.self.view_is) c.requires.stop in
-    subst Has (sym c.self.invariant.held) (held_in r.clock r.log old stop.stops.there stop.stops.live)
+    subst Has (sym c.self.invariant.held) (held_in r old c.self.invariant.legal stop.stops)
 
-pub release-requires-clause-started : goal.release-requires-clause-started
-release-requires-clause-started c =
+pub release-requires-clause-free : goal.release-requires-clause-free
+release-requires-clause-free c =
     let r : Record = record_of c.self.inside in
-    let Started : List Held → Type 0 = λ lines. All (λ (h : Held). h.waits ≡ None) lines in
-    subst Started (sym c.self.invariant.held) (lines_started r.clock (messages_in r.log))
+    let old : Accepted = accepted_of c.args.old.now in
+    let Stops : Record → Type 0 = λ x. IsStop x c.args.entry old in
+    let Free : List Held → Type 0 = λ lines. All (λ (h : Held). behind_of h ≢ Some old.message.number) lines in
+    let stop = subst Stops (sym c.self.view_is) c.requires.stop in
+    subst Free (sym c.self.invariant.held) (free_of r old c.self.invariant.legal stop.stops)
 
 pub invariant_of-self-2 : goal.invariant_of-self-2
 invariant_of-self-2 c =
@@ -61,7 +65,8 @@ invariant_of-self-2 c =
     -- the plan and the budget
     let messages = messages_without r.log e number r.clock stop.after in
     let follows = c.stop-2.ensures.follows (messages_in r.log) r.air book.follows in
-    let lines = released_lines r old c.self.inside.budget c.release.new.budget stop.stops book.held c.release.ensures in
+    let lines = released_lines r old c.self.inside.budget c.release.new.budget book.legal stop.stops book.held c.release.ensures in
     let FollowsAll : List Message → Type 0 = λ all. Follows c.stop-2.new.self all r.air in
-    let HeldFor : List Message → Type 0 = λ all. c.release.new.budget ≡ lines_at r.clock all in
-    book_with c.self.inside e c.push_within.new.list (with_items c.self.inside.accepted c.stop.new.table) c.stop-2.new.self c.release.new.budget book next grown fewer (subst FollowsAll (sym messages) follows) (subst HeldFor (sym messages) lines)
+    let claims = claims_without r.log e number r.clock stop.after in
+    let HeldFor : List Claim → Type 0 = λ all. c.release.new.budget ≡ lines_at r.clock all in
+    book_with c.self.inside e c.push_within.new.list (with_items c.self.inside.accepted c.stop.new.table) c.stop-2.new.self c.release.new.budget book next grown fewer (subst FollowsAll (sym messages) follows) (subst HeldFor (sym claims) lines)

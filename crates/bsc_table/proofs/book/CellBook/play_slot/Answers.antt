@@ -1,13 +1,15 @@
-use Rattle.std.proofs.Common.{ℕ, ◌+◌, ◌<◌, refl, ap, subst, sym, ◌∙◌, [], ◌∷◌, arith}
+use Rattle.std.proofs.Common.{ℕ, ◌+◌, ◌≤◌, ◌<◌, refl, ap, subst, sym, ◌∙◌, [], ◌∷◌, arith}
+use Rattle.std.specs.List.{All}
 use Rattle.admission.specs.Table.{passed}
-use Rattle.admission.proofs.Tables.{passed-plain}
 use Rattle.scheduler.specs.Air.{Air, IsChosen}
 use Rattle.scheduler.specs.Follows.{Follows}
-use Rattle.bsc_table.specs.Record.{Record, messages_in}
+use Rattle.bsc_table.specs.Record.{Record, messages_in, claims_in}
+use Rattle.bsc_table.specs.Claim.{Claim}
 use Rattle.bsc_table.specs.Legal.{IsLegal}
 use Rattle.bsc_table.specs.Book.{air_told, record_of, lines_at, IsPlayedUpTo}
-use Rattle.bsc_table.proofs.Rooms.{lines_started}
-use Rattle.bsc_table.proofs.BookLaws.{IsLegal-next, lines_at-next}
+use Rattle.bsc_table.proofs.BookLaws.{IsLegal-next}
+use Rattle.bsc_table.proofs.Sound.{IsSound-legal}
+use Rattle.bsc_table.proofs.Lines.{lines_at-later}
 use Rattle.bsc_table.proofs.book.CellBook.play_slot.Goals as goal
 
 pub invariant_of-self : goal.invariant_of-self
@@ -22,13 +24,14 @@ invariant_of-self c =
     let chosen = subst ChosenAt (sym book.legal.played) (c.next-used.ensures.chosen messages r.air book.follows) in
     let Legal : Air → Type 0 = λ air. IsLegal (record r { clock = r.clock + 1; air = air }) in
     let FollowsTo : Air → Type 0 = λ air. Follows c.next-used.new.self messages air in
-    let passes = ap (passed (r.clock + 1)) book.held ∙ passed-plain (r.clock + 1) (lines_at r.clock messages) (lines_started r.clock messages) in
+    let accepted : All (λ (k : Claim). k.accepted ≤ r.clock) (claims_in r.log) = (IsSound-legal r book.legal).order.accepted in
+    let later = lines_at-later r.clock (r.clock + 1) (claims_in r.log) (omega arith) accepted in
     record {
       legal = subst Legal (sym c.put.ensures.aired) (IsLegal-next r used ahead chosen book.legal);
       short = book.short;
       kept = book.kept;
       follows = subst FollowsTo (sym c.put.ensures.aired) (c.next-used.ensures.follows messages r.air book.follows);
-      held = c.pass_slot.ensures ∙ passes ∙ lines_at-next r.clock messages;
+      held = c.pass_slot.ensures ∙ ap (passed (r.clock + 1)) book.held ∙ later;
       places = omega (arith, c.put.ensures.places, book.places);
       room = omega (arith, c.put.ensures.room, book.room);
     }

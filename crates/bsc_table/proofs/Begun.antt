@@ -1,0 +1,74 @@
+-- A message that begins: it starts no sooner than it is accepted, and there is room for it in the budget.
+use Rattle.std.proofs.Common.{◌≡◌, ℕ, ◌+◌, ◌≤◌, ◌<◌, true, Option, Some, None, Ok, List, length, map, filter, refl, ap, sym, subst, ◌∙◌, inl, inr, arith}
+use Rattle.std.specs.List.{Contains}
+use Rattle.std.proofs.lemmas.Bool.{lt-ltb, le-leb}
+use Rattle.admission.specs.declared.measure.TheConstants.{SCALE}
+use Rattle.admission.specs.Table.{answer_of as answer_by, answer_for}
+use Rattle.bsc_table.specs.Record.{Accepted, is_live, claim_of, claims_of}
+use Rattle.bsc_table.specs.Claim.{Claim, own_load, is_claimed_at, claimed_at, stop_claims}
+use Rattle.bsc_table.specs.Handover.{Place, ahead_of, handover}
+use Rattle.bsc_table.specs.Room.{AreInOrder}
+use Rattle.bsc_table.specs.Begun.{StartsNow, TakesOver, Starts, IsBegun}
+use Rattle.bsc_table.specs.Book.{stop_numbered, lines_at, IsHeldFor, HasRoomFor}
+use Rattle.bsc_table.proofs.Ahead.{taken}
+use Rattle.bsc_table.proofs.Outcome.{claims_stopped}
+use Rattle.bsc_table.proofs.Sound.{its_claim}
+use Rattle.bsc_table.proofs.Stopped.{in_order-stop}
+use Rattle.bsc_table.proofs.TakenOver.{only_live}
+use Rattle.bsc_table.proofs.Lines.{IsLined, lined, same_room}
+use Rattle.bsc_table.proofs.Handed.{handed_in}
+
+over_is_later : (slot : ℕ) (old : Accepted) (before : List Accepted) (a : Accepted) → TakesOver slot old before a → slot < a.message.start
+over_is_later slot old before a over =
+    let took = taken (claims_of before) slot (own_load a.message) (ahead_of slot (claim_of old)) over.place over.over in
+    omega (arith, took.later, over.placed.start)
+
+pub starts_forward : (slot : ℕ) (replaced : Option Accepted) (before : List Accepted) (a : Accepted) → Starts slot replaced before a → slot ≤ a.message.start
+starts_forward slot None before a now = omega (arith, now.start)
+starts_forward slot (Some old) before a starts =
+    elim starts [
+      | inl now ↦ omega (arith, now.start)
+      | inr over ↦ omega (arith, over_is_later slot old before a over)
+    ]
+
+-- where there is a place and room, the budget says so
+has_room : (slot load : ℕ) (claims : List Claim) → AreInOrder claims slot → length (filter (is_claimed_at slot) claims) < 64 → claimed_at claims slot + load ≤ SCALE → answer_for (lines_at slot claims) load ≡ Ok tt
+has_room slot load claims order room fits =
+    let places = length (filter (is_claimed_at slot) claims) in
+    let yes : answer_by places (claimed_at claims slot) load ≡ Ok tt = rw (lt-ltb (length (filter (is_claimed_at slot) claims)) 64 room, le-leb (claimed_at claims slot + load) SCALE fits) refl in
+    same_room slot load claims (lined slot claims order) ∙ yes
+
+room_now : (slot : ℕ) (before : List Accepted) (a : Accepted) → AreInOrder (claims_of before) slot → length (filter (is_claimed_at slot) (claims_of before)) < 64 → StartsNow slot before a → HasRoomFor slot (lines_at slot (claims_of before)) (claim_of a) a.behind
+room_now slot before a order room now =
+    subst (HasRoomFor slot (lines_at slot (claims_of before)) (claim_of a)) (sym now.behind) (omega (arith, now.start), has_room slot (own_load a.message) (claims_of before) order room now.fits)
+
+-- a message in the place of none has room
+pub room_for_new : (number slot : ℕ) (before : List Accepted) (a : Accepted) → AreInOrder (claims_of before) slot → IsBegun number slot None before a → HasRoomFor slot (lines_at slot (claims_of before)) (claim_of a) a.behind
+room_for_new number slot before a order begun = room_now slot before a order begun.room begun.starts
+
+-- and so has one in the place of a live one
+pub room_for_replacement : (number slot : ℕ) (all : List Accepted) (old a : Accepted) → AreInOrder (claims_of all) slot → Contains all old → is_live slot old.message ≡ true → IsBegun number slot (Some old) (map (stop_numbered old.message.number slot) all) a → HasRoomFor slot (lines_at slot (stop_claims old.message.number slot (claims_of all))) (claim_of a) a.behind
+room_for_replacement number slot all old a order here live begun =
+    let of_old = old.message.number in
+    let claims = claims_of all in
+    let before = map (stop_numbered of_old slot) all in
+    let left = stop_claims of_old slot claims in
+    let same = claims_stopped of_old slot all in
+    let its = its_claim all old here in
+    let kept = in_order-stop claims of_old slot order (only_live claims slot (claim_of old) order.rising its live) in
+    let InOrder : List Claim → Type 0 = λ l. AreInOrder l slot in
+    let Room : List Claim → Type 0 = λ l. length (filter (is_claimed_at slot) l) < 64 in
+    let For : List Claim → Type 0 = λ l. HasRoomFor slot (lines_at slot l) (claim_of a) a.behind in
+    elim begun.starts [
+      | inl now ↦ subst For same (room_now slot before a (subst InOrder (sym same) kept) begun.room now)
+      | inr over ↦
+          let place = over.place in
+          let Over : List Claim → Type 0 = λ l. handover l slot (claim_of old) (own_load a.message) ≡ Some place in
+          let Fits : List Claim → Type 0 = λ l. claimed_at l slot + place.excess ≤ SCALE in
+          let held = handed_in slot (own_load a.message) claims (claim_of old) place order its live (subst Over same over.over) in
+          let fits = has_room slot place.excess left kept (subst Room same begun.room) (subst Fits same over.fits) in
+          let Started : ℕ → Type 0 = λ start. (slot < start) × (answer_for (lines_at slot left) place.excess ≡ Ok tt) × IsHeldFor (lines_at slot left) (own_load a.message) place.behind start place.excess in
+          let Reserved : ℕ → Type 0 = λ excess. (slot < a.message.start) × (answer_for (lines_at slot left) excess ≡ Ok tt) × IsHeldFor (lines_at slot left) (own_load a.message) place.behind a.message.start excess in
+          let with_start = subst Started (sym over.placed.start) (held.0, fits, held.1) in
+          subst (HasRoomFor slot (lines_at slot left) (claim_of a)) (sym over.placed.behind) (subst Reserved (sym over.placed.excess) with_start)
+    ]

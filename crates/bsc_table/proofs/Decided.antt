@@ -1,0 +1,192 @@
+-- What a decision says of the messages is what its entry does to them.
+use Rattle.std.proofs.Common.{◌≡◌, ℕ, ◌+◌, ◌≤◌, ◌<◌, ◌==◌, cond, Result, Option, Some, None, Ok, Err, List, length, map, filter, refl, ap, sym, subst, ◌∙◌, inl, inr, arith}
+use Rattle.std.specs.List.{find}
+use Rattle.std.specs.Option.{IfSome, option_map}
+use Rattle.std.specs.Result.{OnOk}
+use Rattle.std.proofs.lemmas.Bool.{eq-eqb}
+use Rattle.admission.specs.declared.budget.NoRoom.{NoRoom}
+use Rattle.admission.specs.declared.budget.NoRoom.TheVariants.{Load}
+use Rattle.admission.specs.declared.measure.TheConstants.{SCALE}
+use Rattle.admission.specs.Load.{load_of}
+use Rattle.cbs_page.specs.declared.content.Content.{Content}
+use Rattle.bsc_table.specs.declared.command.Category.{Category}
+use Rattle.bsc_table.specs.declared.command.Command.TheVariants as commands
+use Rattle.bsc_table.specs.declared.decision.Decision.TheVariants as decisions
+use Rattle.bsc_table.specs.declared.kept.Kept.{Kept}
+use Rattle.bsc_table.specs.declared.kept.Place.{Place as KeptPlace}
+use Rattle.bsc_table.specs.declared.kept.TheConstants.{LATEST_START}
+use Rattle.bsc_table.specs.Claim.{Claim, is_claimed_at, claimed_at, stop_claims}
+use Rattle.bsc_table.specs.Handover.{Place, ahead_of, numbered, handover}
+use Rattle.bsc_table.specs.Record.{Record, Accepted, accepted_in, is_of_pair, is_high, claim_of, claims_of, claims_in, behind_of, excess_over, write_message}
+use Rattle.bsc_table.specs.Legal.{IsLegal}
+use Rattle.bsc_table.specs.Begun.{StartsNow, TakesOver, Starts, IsBegun}
+use Rattle.bsc_table.specs.Book.{accepted_of, stop_numbered, IsLiveIn, IsLiveAs, IsOffered, HasRoom, Decides, DecidesWrites, place_of, left_by}
+use Rattle.bsc_table.proofs.Named.{live_is_standing}
+use Rattle.bsc_table.proofs.Outcome.{new_message, stops_one, starts_one, replaces_one, placed_at, claims_stopped}
+use Rattle.bsc_table.proofs.Sound.{IsSound-legal}
+use Rattle.bsc_table.proofs.Booked.{found_is_there}
+
+-- a message that is found by its pair, and is live
+pub live_in : (r : Record) (id serial : ℕ) (a : Accepted) → IsLiveAs r.clock id serial r.log a → IsLiveIn r a
+live_in r id serial a live = record { there = found_is_there id serial r.log a live.found; live = live.live }
+
+-- a message that is offered may begin beside others that leave it room now
+begins : (r : Record) (replaced : Option Accepted) (before : List Accepted) (a : Accepted)
+    → IsOffered r a
+    → HasRoom (claims_of before) r.clock (load_of a.message.pages a.message.period)
+    → (StartsNow r.clock before a → Starts r.clock replaced before a)
+    → IsBegun (length r.log) r.clock replaced before a
+begins r replaced before a offered room either = record {
+  numbered = offered.numbered;
+  accepted = offered.accepted;
+  standing = offered.standing;
+  some_pages = offered.some_pages;
+  some_period = offered.some_period;
+  room = room.places;
+  starts = either (record { start = offered.begins; behind = offered.behind; fits = room.loads });
+}
+
+-- a kill of a live message stops it
+pub kills : (r : Record) (id serial completed : ℕ) (old : Kept)
+    → IsLegal r
+    → IsLiveAs r.clock id serial r.log (accepted_of old)
+    → Decides r (commands.Kill id serial) (decisions.Stops old completed)
+kills r id serial completed old legal live =
+    let a : Accepted = accepted_of old in
+    let once = (IsSound-legal r legal).once in
+    let standing = live_is_standing r.clock a.message live.live in
+    record {
+      stops = live_in r id serial a live;
+      after = stops_one r.log r.clock id serial completed a once live.found standing;
+    }
+
+-- a write in the place of none starts its message, where that has room
+pub starts : (r : Record) (new : Kept)
+    → IsOffered r (accepted_of new)
+    → HasRoom (claims_in r.log) r.clock (load_of new.pages new.period)
+    → DecidesWrites r (accepted_of new) None (decisions.Starts new)
+starts r new offered room (commands.Write id serial None category period broadcasts dcs contents) same =
+    let after = starts_one r.log r.clock id serial category period broadcasts dcs contents in
+    record {
+      begun = begins r None (accepted_in r.log) (accepted_of new) offered room (λ now. now);
+      after = cc;
+    }
+starts r new offered room (commands.Write id serial (Some old) category period broadcasts dcs contents) same = cc
+starts r new offered room (commands.Kill id serial) same = absurd same
+starts r new offered room (commands.Status id serial) same = absurd same
+
+-- and a write in the place of a live message, where it has room once that one is stopped
+pub replaces : (r : Record) (old new : Kept) (replaced completed : ℕ)
+    → IsLegal r
+    → IsLiveAs r.clock new.id replaced r.log (accepted_of old)
+    → IsOffered r (accepted_of new)
+    → r.clock < LATEST_START
+    → HasRoom (left_by r (accepted_of old)) r.clock (load_of new.pages new.period)
+    → DecidesWrites r (accepted_of new) (Some replaced) (decisions.Replaces old new completed)
+replaces r old new replaced completed legal live offered soon room
+    (commands.Write id serial (Some named) category period broadcasts dcs contents) same =
+    let a : Accepted = accepted_of old in
+    let once = (IsSound-legal r legal).once in
+    let standing = live_is_standing r.clock a.message live.live in
+    let same_id : id ≡ new.id = ap (λ (x : Accepted). x.id) same.1 in
+    let same_old : named ≡ replaced = cc in
+    let Found : ℕ → ℕ → Type 0 = λ i s. find (is_of_pair i s) (accepted_in r.log) ≡ Some a in
+    let found = subst (λ i. Found i named) (sym same_id) (subst (Found new.id) (sym same_old) live.found) in
+    let at_once : behind_of r.clock r.clock (Some a) ≡ None =
+    ap (λ b. cond b None (ahead_of r.clock (claim_of a))) (eq-eqb r.clock r.clock refl) in
+    let after =
+    replaces_one r.log r.clock r.clock id serial named completed category period broadcasts dcs contents a None once found standing at_once in
+    let left : List Accepted = map (stop_numbered old.number r.clock) (accepted_in r.log) in
+    let Room : List Claim → Type 0 = λ claims. HasRoom claims r.clock (load_of new.pages new.period) in
+    let room_left = subst Room (sym (claims_stopped old.number r.clock (accepted_in r.log))) room in
+    (
+      record {
+        stops = live_in r new.id replaced a live;
+        begun = begins r (Some a) left (accepted_of new) offered room_left (λ now. inl now);
+        after = cc;
+      },
+      omega (arith, offered.begins, soon),
+    )
+replaces r old new replaced completed legal live offered soon room
+    (commands.Write id serial None category period broadcasts dcs contents) same = cc
+replaces r old new replaced completed legal live offered soon room (commands.Kill id serial) same = absurd same
+replaces r old new replaced completed legal live offered soon room (commands.Status id serial) same = absurd same
+
+-- the message of a write that waits
+abbrev pub waiting_at : Kept → KeptPlace → Kept
+waiting_at new place = record new { behind = Some place.behind; excess = place.excess; start = place.start }
+
+-- or where it takes over at a place, once that one is stopped
+pub takes_over : (r : Record) (old new : Kept) (place : KeptPlace) (replaced completed : ℕ)
+    → IsLegal r
+    → IsLiveAs r.clock new.id replaced r.log (accepted_of old)
+    → IsOffered r (accepted_of new)
+    → length (filter (is_claimed_at r.clock) (left_by r (accepted_of old))) < 64
+    → handover (left_by r (accepted_of old)) r.clock (claim_of (accepted_of old)) (load_of new.pages new.period) ≡ Some (place_of place)
+    → claimed_at (left_by r (accepted_of old)) r.clock + place.excess ≤ SCALE
+    → place.start < LATEST_START
+    → DecidesWrites r (accepted_of new) (Some replaced) (decisions.Replaces old (waiting_at new place) completed)
+takes_over r old new place replaced completed legal live offered room over fits soon
+    (commands.Write id serial (Some named) category period broadcasts dcs contents) same =
+    let a : Accepted = accepted_of old in
+    let all : List Accepted = accepted_in r.log in
+    let sound = IsSound-legal r legal in
+    let standing = live_is_standing r.clock a.message live.live in
+    let same_id : id ≡ new.id = ap (λ (x : Accepted). x.id) same.1 in
+    let same_pages : length contents ≡ new.pages = ap (λ (x : Accepted). x.message.pages) same.1 in
+    let same_period : period ≡ new.period = ap (λ (x : Accepted). x.message.period) same.1 in
+    let same_old : named ≡ replaced = cc in
+    let Found : ℕ → ℕ → Type 0 = λ i s. find (is_of_pair i s) all ≡ Some a in
+    let found = subst (λ i. Found i named) (sym same_id) (subst (Found new.id) (sym same_old) live.found) in
+    let load : load_of (length contents) period ≡ load_of new.pages new.period =
+    ap (λ n. load_of n period) same_pages ∙ ap (λ n. load_of new.pages n) same_period in
+    let placed = placed_at r.log r.clock (load_of new.pages new.period) a (place_of place) sound.order over in
+    let excess : excess_over (load_of (length contents) period) (numbered (Some place.behind) (claims_in r.log)) ≡ place.excess =
+    ap (λ n. excess_over n (numbered (Some place.behind) (claims_in r.log))) load ∙ placed.2 in
+    let after =
+    replaces_one r.log r.clock place.start id serial named completed category period broadcasts dcs contents a (Some place.behind) sound.once found standing placed.1 in
+    let left : List Accepted = map (stop_numbered old.number r.clock) all in
+    let same_left = sym (claims_stopped old.number r.clock all) in
+    let Room : List Claim → Type 0 = λ claims. length (filter (is_claimed_at r.clock) claims) < 64 in
+    let Over : List Claim → Type 0 = λ claims. handover claims r.clock (claim_of a) (load_of new.pages new.period) ≡ Some (place_of place) in
+    let Fits : List Claim → Type 0 = λ claims. claimed_at claims r.clock + place.excess ≤ SCALE in
+    let waits : Accepted = accepted_of (waiting_at new place) in
+    let it : write_message (length r.log) r.clock place.start (Some place.behind) place.excess id serial (length contents) period broadcasts (is_high category) ≡ waits =
+    moved (length r.log) r.clock same.1 offered.numbered offered.accepted in
+    let its : new_message all (length r.log) r.clock place.start (Some place.behind) id serial category period broadcasts contents ≡ waits =
+    ap (λ n. write_message (length r.log) r.clock place.start (Some place.behind) n id serial (length contents) period broadcasts (is_high category)) excess ∙ it in
+    (
+      record {
+        stops = live_in r new.id replaced a live;
+        begun = record {
+          numbered = offered.numbered;
+          accepted = offered.accepted;
+          standing = offered.standing;
+          some_pages = offered.some_pages;
+          some_period = offered.some_period;
+          room = subst Room same_left room;
+          starts = inr (record {
+            place = place_of place;
+            over = subst Over same_left over;
+            placed = record { behind = refl; start = refl; excess = refl };
+            fits = subst Fits same_left fits;
+          });
+        };
+        after = cc;
+      },
+      soon,
+    )
+  where
+    -- what is offered, at another start and place
+    at_place : Accepted → Accepted
+    at_place x = record x { behind = Some place.behind; excess = place.excess; message = record (x.message) { start = place.start } }
+
+    moved : (number slot : ℕ) → write_message new.number new.accepted new.start new.behind new.excess id serial (length contents) period broadcasts (is_high category) ≡ accepted_of new → new.number ≡ number → new.accepted ≡ slot → write_message number slot place.start (Some place.behind) place.excess id serial (length contents) period broadcasts (is_high category) ≡ accepted_of (waiting_at new place)
+    moved number slot same_new same_number same_slot =
+        ap (λ n. write_message n slot place.start (Some place.behind) place.excess id serial (length contents) period broadcasts (is_high category)) (sym same_number)
+        ∙ ap (λ n. write_message new.number n place.start (Some place.behind) place.excess id serial (length contents) period broadcasts (is_high category)) (sym same_slot)
+        ∙ ap at_place same_new
+takes_over r old new place replaced completed legal live offered room over fits soon
+    (commands.Write id serial None category period broadcasts dcs contents) same = cc
+takes_over r old new place replaced completed legal live offered room over fits soon (commands.Kill id serial) same = absurd same
+takes_over r old new place replaced completed legal live offered room over fits soon (commands.Status id serial) same = absurd same

@@ -1,0 +1,129 @@
+-- What a budget holds of the message behind which one is to wait: its line has started and ends where that one starts, and
+-- no other waits behind it.
+use Rattle.std.proofs.Common.{◌≡◌, ◌≢◌, ℕ, zero, suc, ◌-◌, ◌≤◌, ◌<◌, ◌==◌, Bool, true, false, cond, Option, Some, None, List, [], ◌∷◌, length, map, filter, get_or, refl, ap, sym, subst, ◌∙◌, inl, inr, arith}
+use Rattle.std.specs.List.{All, AllPairs, Any, Contains, find}
+use Rattle.std.specs.Option.{option_map}
+use Rattle.std.proofs.lemmas.Bool.{cases_Bool, cases_lt, eqb-true, eq-eqb, le-leb, lt-ltb, false≢true}
+use Rattle.std.proofs.lemmas.Option.{none-some, same_Some}
+use Rattle.std.proofs.lemmas.List.{length-map, get_or-map, get_or_default}
+use Rattle.std.proofs.lemmas.List.Elements.{All-nil, All-cons, All-head, All-tail, All-map, All-filter, All-weaker, All-contains, Contains-append_right, filter_passes}
+use Rattle.admission.specs.declared.budget.Held.{Held}
+use Rattle.admission.specs.declared.budget.Waits.{Waits}
+use Rattle.admission.specs.Reservation.{IsBeforeEnd}
+use Rattle.admission.specs.Waiting.{behind_of}
+use Rattle.admission.specs.Table.{load_in, load_for, excess_over}
+use Rattle.bsc_table.specs.Record.{is_live}
+use Rattle.bsc_table.specs.Claim.{Claim, end_of, own_load, is_claimed_at, IsWaiting, stop_claims}
+use Rattle.bsc_table.specs.Handover.{Place, handover}
+use Rattle.bsc_table.specs.Room.{HandsOver, AreInOrder}
+use Rattle.bsc_table.specs.Book.{waits_of, line_of, lines_at, IsHeldFor}
+use Rattle.bsc_table.proofs.Claims.{is_claimed_at-says, is_claimed_at-from}
+use Rattle.bsc_table.proofs.Ahead.{by_number}
+use Rattle.bsc_table.proofs.Stopped.{not_live, in_order-stop}
+use Rattle.bsc_table.proofs.TakenOver.{IsFree, is_free, only_live}
+use Rattle.bsc_table.proofs.Lines.{waits_of-started, waits_of-waiting}
+
+-- a line waits behind the message behind which its claim does, where that has not started
+waits_behind : (slot number : ℕ) (c : Claim) → behind_of (line_of slot c) ≡ Some number → (slot < c.message.start) × (c.behind ≡ Some number)
+waits_behind slot number c waits =
+    let its : Option Waits → Option ℕ = λ o. option_map (λ (w : Waits). w.behind) o in
+    elim (cases_lt slot c.message.start) [
+      | inl later ↦ (later, sym (same c.behind) ∙ sym (ap its (before later)) ∙ waits)
+      | inr started ↦ absurd (none-some number (sym (ap its (waits_of-started slot c started)) ∙ waits))
+    ]
+  where
+    waiting : Option ℕ → Option Waits
+    waiting o = option_map (λ (n : ℕ). record { behind = n; start = c.message.start; excess = c.excess }) o
+
+    before : slot < c.message.start → waits_of slot c ≡ waiting c.behind
+    before later = ap (λ (b : Bool). cond b (waiting c.behind) None) (lt-ltb slot c.message.start later)
+
+    same : (o : Option ℕ) → option_map (λ (w : Waits). w.behind) (waiting o) ≡ o
+    same None = refl
+    same (Some n) = refl
+
+-- what is true of each claim that is reserved is true of each line
+all_lines : (P : Held → Type 0) (slot : ℕ) (claims : List Claim) → All (λ c. is_claimed_at slot c ≡ true → P (line_of slot c)) claims → All P (lines_at slot claims)
+all_lines P slot claims each =
+    let Counted : Claim → Type 0 = λ c. is_claimed_at slot c ≡ true in
+    let Line : Claim → Type 0 = λ c. P (line_of slot c) in
+    let kept = All-filter (is_claimed_at slot) (λ (c : Claim). Counted c → Line c) claims each in
+    let passes = filter_passes (is_claimed_at slot) claims in
+    All-map P (line_of slot) (filter (is_claimed_at slot) claims) (λ k d within. kept k d within (passes k d within))
+
+-- behind a message that none waits for, no line waits
+pub none_behind : (slot number : ℕ) (claims : List Claim) → All (λ c. IsWaiting slot c → c.behind ≢ Some number) claims → All (λ h. behind_of h ≢ Some number) (lines_at slot claims)
+none_behind slot number claims free =
+    all_lines (λ (h : Held). behind_of h ≢ Some number) slot claims (λ k d within. λ claimed waits.
+    let behind = waits_behind slot number (get_or claims k d) waits in
+    free k d within (behind.0, (is_claimed_at-says slot (get_or claims k d) claimed).1) behind.1)
+
+-- so behind a live one
+pub none_behind_live : (slot : ℕ) (claims : List Claim) (old : Claim) → AreInOrder claims slot → Contains claims old → is_live slot old.message ≡ true → All (λ h. behind_of h ≢ Some old.message.number) (lines_at slot claims)
+none_behind_live slot claims old order here live =
+    let number = old.message.number in
+    let only = only_live claims slot old order.rising here live in
+    none_behind slot number claims (λ k d within. λ waiting behind.
+    let found = order.handed k d within waiting in
+    let p : Claim = found.1 in
+    let same = same_Some p.message.number number (sym found.4.named ∙ behind) in
+    not_live claims number slot found.0 p (get_or claims k d) only found.2 found.3 found.4 same)
+
+-- what passes a test stays
+more_there : {X : Type 0} (b : Bool) (x : X) (xs : List X) (y : X) → Contains xs y → Contains (cond b (x ∷ xs) xs) y
+more_there true x xs y there = Contains-append_right (x ∷ []) xs y there
+more_there false x xs y there = there
+
+all_that_pass : {X : Type 0} (p : X → Bool) (xs : List X) → All (λ x. p x ≡ true → Contains (filter p xs) x) xs
+all_that_pass {X = X} p [] = All-nil (λ (x : X). p x ≡ true → Contains (filter p []) x)
+all_that_pass {X = X} p (x ∷ xs) =
+    let Passes : X → Type 0 = λ y. p y ≡ true → Contains (filter p (x ∷ xs)) y in
+    let here : Passes x = λ passes. rw passes (0, omega arith, refl) in
+    All-cons Passes x xs here (All-weaker (λ y. p y ≡ true → Contains (filter p xs) y) Passes (λ y kept passes. more_there (p x) x (filter p xs) y (kept passes)) xs (all_that_pass p xs))
+
+-- the line of a claim that is reserved
+pub its_line : (slot : ℕ) (claims : List Claim) (c : Claim) → Contains claims c → is_claimed_at slot c ≡ true → Contains (lines_at slot claims) (line_of slot c)
+its_line slot claims c here claimed =
+    let Claimed : Claim → Type 0 = λ x. is_claimed_at slot x ≡ true → Contains (filter (is_claimed_at slot) claims) x in
+    let kept = All-contains Claimed claims c (all_that_pass (is_claimed_at slot) claims) here claimed in
+    (kept.0, omega (arith, kept.1, length-map (filter (is_claimed_at slot) claims) (line_of slot)), get_or-map (line_of slot) (filter (is_claimed_at slot) claims) kept.0 c (line_of slot c) kept.1 ∙ ap (line_of slot) kept.2)
+
+-- the load that is held for an entry
+load_of_entry : (number load : ℕ) (lines : List Held) → All (λ h. h.entry ≡ number → h.load ≡ load) lines → Any (λ h. h.entry ≡ number) lines → load_for number lines ≡ load
+load_of_entry number load [] all found = absurd (omega (arith, found.2))
+load_of_entry number load (h ∷ lines) all found =
+    let Says : Held → Type 0 = λ x. x.entry ≡ number → x.load ≡ load in
+    elim (cases_Bool (h.entry == number)) [
+      | inl same ↦ ap (λ (b : Bool). load_in (cond b (Some h) (find (λ (x : Held). x.entry == number) lines))) same ∙ All-head Says h lines all (eqb-true h.entry number same)
+      | inr other ↦ ap (λ (b : Bool). load_in (cond b (Some h) (find (λ (x : Held). x.entry == number) lines))) other ∙ load_of_entry number load lines (All-tail Says h lines all) (later other found)
+    ]
+  where
+    later : (h.entry == number) ≡ false → Any (λ x. x.entry ≡ number) (h ∷ lines) → Any (λ x. x.entry ≡ number) lines
+    later other (zero, x, within, is, same) = absurd (false≢true (sym other ∙ eq-eqb h.entry number (ap (λ (y : Held). y.entry) is ∙ same)))
+    later other (suc k, x, within, is, same) = (k, x, omega (arith, within), is, same)
+
+-- what a budget holds of the place that a message takes over
+pub handed_in : (slot load : ℕ) (claims : List Claim) (old : Claim) (place : Place) → AreInOrder claims slot → Contains claims old → is_live slot old.message ≡ true → handover (stop_claims old.message.number slot claims) slot old load ≡ Some place → (slot < place.start) × IsHeldFor (lines_at slot (stop_claims old.message.number slot claims)) load place.behind place.start place.excess
+handed_in slot load claims old place order here live over =
+    let number = old.message.number in
+    let left = stop_claims number slot claims in
+    let kept = in_order-stop claims number slot order (only_live claims slot old order.rising here live) in
+    let its = is_free claims slot load old place order here live over in
+    let p : Claim = its.p in
+    let Accepted : Claim → Type 0 = λ c. c.accepted ≤ slot in
+    let accepted : p.accepted ≤ slot = subst Accepted its.there.2 (kept.accepted its.there.0 p its.there.1) in
+    let Before : Option ℕ → Type 0 = λ end. IsBeforeEnd slot end in
+    let claimed = is_claimed_at-from slot p (accepted, subst Before (sym its.ends) its.later) in
+    let line = its_line slot left p its.there claimed in
+    let behind : p.message.number ≡ place.behind = sym its.named in
+    let Free : ℕ → Type 0 = λ n. All (λ h. behind_of h ≢ Some n) (lines_at slot left) in
+    let loads = all_lines (λ (h : Held). h.entry ≡ place.behind → h.load ≡ own_load p.message) slot left (λ k d within. λ counted same.
+    let c : Claim = get_or left k d in
+    let is : get_or left k d ≡ p = by_number left (get_or left k d) p kept.rising (k, within, get_or_default left k (get_or left k d) d within) its.there (same ∙ sym behind) in
+    ap (λ (x : Claim). own_load x.message) is) in
+    let held = load_of_entry place.behind (own_load p.message) (lines_at slot left) loads (line.0, line_of slot p, line.1, line.2, behind) in
+    (its.later, record {
+      ends = (line.0, line_of slot p, line.1, line.2, (behind, waits_of-started slot p its.ahead.started, its.ends));
+      free = subst Free behind (none_behind slot p.message.number left its.ahead.free);
+      over = ap (λ (n : ℕ). load - n) held ∙ sym its.excess;
+    })
