@@ -1,25 +1,19 @@
 -- What a decision says of the messages is what its entry does to them.
-use Rattle.std.proofs.Common.{◌≡◌, ℕ, ◌+◌, ◌≤◌, ◌<◌, ◌==◌, cond, Result, Option, Some, None, Ok, Err, List, length, map, filter, refl, ap, sym, subst, ◌∙◌, inl, inr, arith}
+use Rattle.std.proofs.Common.{◌≡◌, ℕ, ◌+◌, ◌≤◌, ◌<◌, cond, Option, Some, None, List, length, map, filter, refl, ap, sym, subst, ◌∙◌, inl, inr, arith}
 use Rattle.std.specs.List.{find}
-use Rattle.std.specs.Option.{IfSome, option_map}
-use Rattle.std.specs.Result.{OnOk}
 use Rattle.std.proofs.lemmas.Bool.{eq-eqb}
-use Rattle.admission.specs.declared.budget.NoRoom.{NoRoom}
-use Rattle.admission.specs.declared.budget.NoRoom.TheVariants.{Load}
 use Rattle.admission.specs.declared.measure.TheConstants.{SCALE}
 use Rattle.admission.specs.Load.{load_of}
-use Rattle.cbs_page.specs.declared.content.Content.{Content}
-use Rattle.bsc_table.specs.declared.command.Category.{Category}
 use Rattle.bsc_table.specs.declared.command.Command.TheVariants as commands
 use Rattle.bsc_table.specs.declared.decision.Decision.TheVariants as decisions
 use Rattle.bsc_table.specs.declared.kept.Kept.{Kept}
 use Rattle.bsc_table.specs.declared.kept.Place.{Place as KeptPlace}
 use Rattle.bsc_table.specs.declared.kept.TheConstants.{LATEST_START}
-use Rattle.bsc_table.specs.Claim.{Claim, is_claimed_at, claimed_at, stop_claims}
-use Rattle.bsc_table.specs.Handover.{Place, ahead_of, numbered, handover}
-use Rattle.bsc_table.specs.Record.{Record, Accepted, accepted_in, is_of_pair, is_high, claim_of, claims_of, claims_in, behind_of, excess_over, write_message}
+use Rattle.bsc_table.specs.Claim.{Claim, is_claimed_at, claimed_at}
+use Rattle.bsc_table.specs.Handover.{ahead_of, numbered, handover}
+use Rattle.bsc_table.specs.Record.{Record, Accepted, accepted_in, is_of_pair, rank_of, claim_of, claims_of, claims_in, behind_of, excess_over, write_message}
 use Rattle.bsc_table.specs.Legal.{IsLegal}
-use Rattle.bsc_table.specs.Begun.{StartsNow, TakesOver, Starts, IsBegun}
+use Rattle.bsc_table.specs.Begun.{StartsNow, Starts, IsBegun}
 use Rattle.bsc_table.specs.Book.{accepted_of, stop_numbered, IsLiveIn, IsLiveAs, IsOffered, HasRoom, Decides, DecidesWrites, place_of, left_by}
 use Rattle.bsc_table.proofs.Named.{live_is_standing}
 use Rattle.bsc_table.proofs.Outcome.{new_message, stops_one, starts_one, replaces_one, placed_at, claims_stopped}
@@ -98,8 +92,7 @@ replaces r old new replaced completed legal live offered soon room
     replaces_one r.log r.clock r.clock id serial named completed category period broadcasts dcs contents a None once found standing at_once in
     let left : List Accepted = map (stop_numbered old.number r.clock) (accepted_in r.log) in
     let Room : List Claim → Type 0 = λ claims. HasRoom claims r.clock (load_of new.pages new.period) in
-    let room_left = subst Room (sym (claims_stopped old.number r.clock (accepted_in r.log))) room in
-    (
+    let room_left = subst Room (sym (claims_stopped old.number r.clock (accepted_in r.log))) room in (
       record {
         stops = live_in r new.id replaced a live;
         begun = begins r (Some a) left (accepted_of new) offered room_left (λ now. inl now);
@@ -151,11 +144,10 @@ takes_over r old new place replaced completed legal live offered room over fits 
     let Over : List Claim → Type 0 = λ claims. handover claims r.clock (claim_of a) (load_of new.pages new.period) ≡ Some (place_of place) in
     let Fits : List Claim → Type 0 = λ claims. claimed_at claims r.clock + place.excess ≤ SCALE in
     let waits : Accepted = accepted_of (waiting_at new place) in
-    let it : write_message (length r.log) r.clock place.start (Some place.behind) place.excess id serial (length contents) period broadcasts (is_high category) ≡ waits =
+    let it : write_message (length r.log) r.clock place.start (Some place.behind) place.excess id serial (length contents) period broadcasts (rank_of category) ≡ waits =
     moved (length r.log) r.clock same.1 offered.numbered offered.accepted in
     let its : new_message all (length r.log) r.clock place.start (Some place.behind) id serial category period broadcasts contents ≡ waits =
-    ap (λ n. write_message (length r.log) r.clock place.start (Some place.behind) n id serial (length contents) period broadcasts (is_high category)) excess ∙ it in
-    (
+    ap (λ n. write_message (length r.log) r.clock place.start (Some place.behind) n id serial (length contents) period broadcasts (rank_of category)) excess ∙ it in (
       record {
         stops = live_in r new.id replaced a live;
         begun = record {
@@ -181,10 +173,10 @@ takes_over r old new place replaced completed legal live offered room over fits 
     at_place : Accepted → Accepted
     at_place x = record x { behind = Some place.behind; excess = place.excess; message = record (x.message) { start = place.start } }
 
-    moved : (number slot : ℕ) → write_message new.number new.accepted new.start new.behind new.excess id serial (length contents) period broadcasts (is_high category) ≡ accepted_of new → new.number ≡ number → new.accepted ≡ slot → write_message number slot place.start (Some place.behind) place.excess id serial (length contents) period broadcasts (is_high category) ≡ accepted_of (waiting_at new place)
+    moved : (number slot : ℕ) → write_message new.number new.accepted new.start new.behind new.excess id serial (length contents) period broadcasts (rank_of category) ≡ accepted_of new → new.number ≡ number → new.accepted ≡ slot → write_message number slot place.start (Some place.behind) place.excess id serial (length contents) period broadcasts (rank_of category) ≡ accepted_of (waiting_at new place)
     moved number slot same_new same_number same_slot =
-        ap (λ n. write_message n slot place.start (Some place.behind) place.excess id serial (length contents) period broadcasts (is_high category)) (sym same_number)
-        ∙ ap (λ n. write_message new.number n place.start (Some place.behind) place.excess id serial (length contents) period broadcasts (is_high category)) (sym same_slot)
+        ap (λ n. write_message n slot place.start (Some place.behind) place.excess id serial (length contents) period broadcasts (rank_of category)) (sym same_number)
+        ∙ ap (λ n. write_message new.number n place.start (Some place.behind) place.excess id serial (length contents) period broadcasts (rank_of category)) (sym same_slot)
         ∙ ap at_place same_new
 takes_over r old new place replaced completed legal live offered room over fits soon
     (commands.Write id serial None category period broadcasts dcs contents) same = cc

@@ -4,6 +4,7 @@ pub mod Busy
 pub mod Demand
 pub mod Inside
 pub mod Promised
+mod Ranks
 pub mod Reserved
 pub mod Served
 pub mod Sums

@@ -1,5 +1,5 @@
 -- What an entry with the right answer does to the accepted messages: it stops a live one or none, and adds an admitted one or none.
-use Rattle.std.proofs.Common.{◌≡◌, ℕ, ◌+◌, ◌≤◌, ◌<◌, ◌==◌, ◌⊎◌, ◌-◌, Bool, true, false, cond, Option, Some, None, List, [], ◌∷◌, ◌++◌, length, map, filter, get_or, refl, ap, sym, subst, ◌∙◌, inl, inr, arith, ltb, leb}
+use Rattle.std.proofs.Common.{◌≡◌, ℕ, ◌+◌, ◌≤◌, ◌<◌, ◌==◌, ◌-◌, Bool, true, false, cond, Option, Some, None, List, [], ◌∷◌, ◌++◌, length, map, filter, get_or, refl, ap, sym, subst, ◌∙◌, inl, inr, arith, ltb, leb}
 use Rattle.std.specs.List.{AllPairs, Contains, find}
 use Rattle.std.specs.Option.{IfSome}
 use Rattle.std.proofs.lemmas.Bool.{cond_both, leb-false, ltb-false, ne_eqb, eq-eqb}
@@ -20,11 +20,11 @@ use Rattle.bsc_table.specs.declared.entry.Answer.{Answer}
 use Rattle.bsc_table.specs.declared.entry.Answer.TheVariants as answers
 use Rattle.bsc_table.specs.declared.entry.Entry.{Entry}
 use Rattle.bsc_table.specs.Orders.{IsBroadcastable, IsWellFormed}
-use Rattle.bsc_table.specs.Record.{Accepted, start_of, is_stop_by, is_stop_of, stopped_by, replaced_in, behind_of, excess_over, written_behind, added_by, accepted_in, is_high, is_of_pair, accepted_named, message_told, message_named, is_live, claim_of, claims_of, claims_in}
-use Rattle.bsc_table.specs.Claim.{Claim, own_load, is_claimed_at, claimed_at, stop_claim, stop_claims}
-use Rattle.bsc_table.specs.Handover.{Place, ahead_of, numbered, handover, IsPlacedAt}
+use Rattle.bsc_table.specs.Record.{Accepted, start_of, is_stop_by, is_stop_of, stopped_by, behind_of, excess_over, written_behind, added_by, accepted_in, rank_of, is_of_pair, message_told, message_named, is_live, claim_of, claims_of, claims_in}
+use Rattle.bsc_table.specs.Claim.{Claim, own_load, is_claimed_at, claimed_at, stop_claims}
+use Rattle.bsc_table.specs.Handover.{Place, ahead_of, numbered, handover}
 use Rattle.bsc_table.specs.Room.{AreInOrder}
-use Rattle.bsc_table.specs.Begun.{StartsNow, TakesOver, Starts, IsBegun}
+use Rattle.bsc_table.specs.Begun.{StartsNow, Starts, IsBegun}
 use Rattle.bsc_table.specs.Answer.{answer_at, answer_beside, answer_to_new, answer_to_replacement, unless_accepted, of_live, answer_to_write, answer_to_kill, told_of, before_end, answer_with_room, answer_of}
 use Rattle.bsc_table.specs.Book.{stop_numbered}
 use Rattle.bsc_table.proofs.Ahead.{taken, from_stopped}
@@ -70,7 +70,7 @@ does_nothing log e never adds =
 -- the message that a write adds
 abbrev pub new_message : List Accepted → ℕ → ℕ → ℕ → Option ℕ → ℕ → ℕ → Category → ℕ → ℕ → List Content → Accepted
 new_message all number slot start behind id serial category period broadcasts contents =
-    written_behind all number slot start behind id serial (length contents) period broadcasts (is_high category)
+    written_behind all number slot start behind id serial (length contents) period broadcasts (rank_of category)
 
 -- a write in the place of none
 pub starts_one : (log : List Entry) (slot id serial : ℕ) (category : Category) (period broadcasts : ℕ) (dcs : Dcs) (contents : List Content) → accepted_in (log ++ entry_with (commands.Write id serial None category period broadcasts dcs contents) slot (answers.Started slot) ∷ []) ≡ accepted_in log ++ new_message (accepted_in log) (length log) slot slot None id serial category period broadcasts contents ∷ []

@@ -3,13 +3,13 @@ use Rattle.std.proofs.Common.{◌≡◌, ℕ, suc, ◌≤◌, ◌<◌, Bool, con
 use Rattle.std.specs.List.{All, AllPairs}
 use Rattle.std.proofs.lemmas.Bool.{cases_Bool}
 use Rattle.std.proofs.lemmas.List.{get_or_default, get_or-map, length-map}
-use Rattle.std.proofs.lemmas.List.Elements.{All-map, All-weaker}
+use Rattle.std.proofs.lemmas.List.Elements.{All-nil, All-map, All-weaker}
 use Rattle.std.proofs.lemmas.List.Sums.{sum_by-cons}
 use Rattle.admission.specs.Reservation.{is_reserved_at}
 use Rattle.admission.proofs.Reservations.{is_reserved_at-says}
 use Rattle.scheduler.specs.Message.{Message, release, due}
 use Rattle.scheduler.specs.AirLaws.{PagesComeOnce}
-use Rattle.scheduler.specs.Air.{pages_aired}
+use Rattle.scheduler.specs.Air.{layer, pages_aired}
 use Rattle.bsc_table.specs.declared.entry.Entry.{Entry}
 use Rattle.bsc_table.specs.Guarantee.{reservation_of, AreAdmitted}
 use Rattle.bsc_table.specs.Record.{Record, Accepted, accepted_in, messages_in, claim_of, claims_of}
@@ -19,6 +19,7 @@ use Rattle.bsc_table.specs.Promised.{LegalLoadsFit, LegalHistoriesAreServed, Leg
 use Rattle.bsc_table.proofs.Bounds.{completed_is_at_most, completed_is_at_least}
 use Rattle.bsc_table.proofs.Claims.{claim_at-reserved, share_at-started}
 use Rattle.bsc_table.proofs.Numbers.{numbers_rise}
+use Rattle.bsc_table.proofs.Ranks.{foreground_from}
 use Rattle.bsc_table.proofs.Reserved.{load_at, loads_by_message}
 use Rattle.bsc_table.proofs.Served.{admitted_load_is_a_guarantee}
 use Rattle.bsc_table.proofs.Sound.{HasLoad, IsSound-legal}
@@ -71,11 +72,17 @@ numbers_of_messages_rise log = λ i j d before within.
     let second = ap (λ (m : Message). m.number) (get_or-map message all j default d (omega arith)) in
     omega (arith, first, second, numbers_rise log i j default before (omega arith))
 
+-- none is background
+not_background : (log : List Entry) → All (λ m. layer m ≡ 0) (messages_in log)
+not_background log =
+    All-map (λ (m : Message). layer m ≡ 0) (λ (a : Accepted). a.message) (accepted_in log) (foreground_from [] 0 log (All-nil (λ (a : Accepted). layer a.message ≡ 0)))
+
 -- so they are admitted
 admitted_of : (r : Record) → IsLegal r → AreAdmitted (messages_in r.log)
 admitted_of r legal = record {
   rising = numbers_of_messages_rise r.log;
   periods = have_periods (accepted_in r.log) (IsSound-legal r legal).loaded;
+  foreground = not_background r.log;
   fit = legal_loads_fit r legal;
 }
 

@@ -25,10 +25,10 @@ use Rattle.bsc_table.specs.declared.kept.Place.{Place as KeptPlace}
 use Rattle.bsc_table.specs.declared.kept.TheConstants.{LATEST_START}
 use Rattle.bsc_table.specs.declared.book.CellBook.TheInside.{Inside}
 use Rattle.bsc_table.specs.declared.record.CellRecord.TheInside as kept
-use Rattle.bsc_table.specs.Record.{Record, Accepted, claim_of, start_of, write_message, accepted_in, messages_in, claims_in, is_high, is_of_pair, is_live}
+use Rattle.bsc_table.specs.Record.{Record, Accepted, claim_of, start_of, write_message, accepted_in, messages_in, claims_in, rank_of, is_of_pair, is_live}
 use Rattle.bsc_table.specs.Begun.{IsBegun}
 use Rattle.bsc_table.specs.Claim.{Claim, own_load, end_of, is_claimed_at, claimed_at, stop_claims}
-use Rattle.bsc_table.specs.Handover.{Place, place_before, handover}
+use Rattle.bsc_table.specs.Handover.{Place, handover}
 use Rattle.bsc_table.specs.Orders.{IsWellFormed}
 use Rattle.bsc_table.specs.Answer.{answer_at, answer_beside, answer_with_room}
 use Rattle.bsc_table.specs.Legal.{IsLegal}
@@ -65,7 +65,7 @@ accepted_of k = record {
     period = k.period;
     requested = k.broadcasts;
     stop = k.stop;
-    high = is_high k.category;
+    rank = rank_of k.category;
   };
 }
 
@@ -167,7 +167,7 @@ pub record IsOffered (r : Record) (a : Accepted) : Type 0 where
 abbrev pub IsWriteOf : Accepted → Option ℕ → Command → Type 0
 IsWriteOf a replaced (commands.Write id serial replaces category period broadcasts dcs contents) =
     (replaces ≡ replaced)
-    × (write_message a.message.number a.accepted a.message.start a.behind a.excess id serial (length contents) period broadcasts (is_high category) ≡ a)
+    × (write_message a.message.number a.accepted a.message.start a.behind a.excess id serial (length contents) period broadcasts (rank_of category) ≡ a)
 IsWriteOf a replaced other = ⊥
 
 -- and with that of each such write

@@ -2,6 +2,8 @@
 use Rattle.std.specs.Prelude.{ℕ, ◌+◌, ◌-◌, ◌*◌, Bool, true, false, ◌==◌, ◌&&◌, ◌||◌, not, nat_lt, if◌then◌else◌, Option, Some, None, is_some, List, [], ◌∷◌, ◌++◌, length, map, find}
 use Rattle.admission.specs.Load.{load_of}
 use Rattle.cbsp_wire.specs.declared.message.Cell.{Cell}
+use Rattle.scheduler.specs.declared.plan.Rank.{Rank}
+use Rattle.scheduler.specs.declared.plan.Rank.TheVariants as ranks
 use Rattle.scheduler.specs.Message.{Message}
 use Rattle.scheduler.specs.Air.{Air}
 use Rattle.bsc_table.specs.declared.command.Category.{Category}
@@ -50,9 +52,10 @@ start_of (answers.Started slot) = Some slot
 start_of (answers.Replaced slot completed) = Some slot
 start_of other = None
 
-abbrev pub is_high : Category → Bool
-is_high High = true
-is_high Normal = false
+-- the rank of a message as the schedule sees it, by its category
+abbrev pub rank_of : Category → Rank
+rank_of High = ranks.High
+rank_of Normal = ranks.Normal
 
 -- whether an entry stopped the message of this pair: a kill of it that was answered `Stopped`, or a write in its place that
 -- was answered `Replaced`
@@ -97,8 +100,8 @@ excess_over load (Some p) = load - own_load p.message
 
 -- a write's message, which stands: its place in the log, the slots of its acceptance and of its start, behind which it
 -- waits and with what excess, its pair, and what is broadcast
-abbrev pub write_message : ℕ → ℕ → ℕ → Option ℕ → ℕ → ℕ → ℕ → ℕ → ℕ → ℕ → Bool → Accepted
-write_message place slot start behind excess id serial pages period broadcasts high = record {
+abbrev pub write_message : ℕ → ℕ → ℕ → Option ℕ → ℕ → ℕ → ℕ → ℕ → ℕ → ℕ → Rank → Accepted
+write_message place slot start behind excess id serial pages period broadcasts rank = record {
   id = id;
   serial = serial;
   accepted = slot;
@@ -111,20 +114,20 @@ write_message place slot start behind excess id serial pages period broadcasts h
     period = period;
     requested = broadcasts;
     stop = None;
-    high = high;
+    rank = rank;
   };
 }
 
 -- the message that a write of the pair adds to those accepted before, by the message behind which it waits
-abbrev pub written_behind : List Accepted → ℕ → ℕ → ℕ → Option ℕ → ℕ → ℕ → ℕ → ℕ → ℕ → Bool → Accepted
-written_behind all place slot start behind id serial pages period broadcasts high =
-    write_message place slot start behind (excess_over (load_of pages period) (numbered behind (claims_of all))) id serial pages period broadcasts high
+abbrev pub written_behind : List Accepted → ℕ → ℕ → ℕ → Option ℕ → ℕ → ℕ → ℕ → ℕ → ℕ → Rank → Accepted
+written_behind all place slot start behind id serial pages period broadcasts rank =
+    write_message place slot start behind (excess_over (load_of pages period) (numbered behind (claims_of all))) id serial pages period broadcasts rank
 
 -- the message that an entry at this place of the log and at this slot adds to those accepted before, by its start and
 -- its command: a write's that was accepted
 abbrev pub added_by : List Accepted → ℕ → ℕ → Option ℕ → Command → List Accepted
 added_by all place slot (Some start) (commands.Write id serial replaces category period broadcasts dcs contents) =
-    written_behind all place slot start (behind_of slot start (replaced_in all id replaces)) id serial (length contents) period broadcasts (is_high category) ∷ []
+    written_behind all place slot start (behind_of slot start (replaced_in all id replaces)) id serial (length contents) period broadcasts (rank_of category) ∷ []
 added_by all place slot start command = []
 
 -- the accepted messages after one more entry, at this place of the log: those before it, stopped where it stops them,

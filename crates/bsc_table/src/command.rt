@@ -2,10 +2,11 @@
 
 ghost use Rattle.std.specs.Prelude.{◌≡◌, IfOk, IfErr};
 ghost use Rattle.bsc_table.specs.Orders.{IsWrite};
-ghost use Rattle.bsc_table.specs.Record.{is_high};
+ghost use Rattle.bsc_table.specs.Record.{rank_of};
 
 use cbs_page::{Dcs, Serial};
 use cbsp_wire::Contents;
+use scheduler::Rank;
 use std::alloc::{AllocError, Global};
 use thiserror::Error;
 
@@ -37,13 +38,13 @@ pub enum Category {
 }
 
 impl Category {
-    /// Whether it is the high one.
-    pub(crate) fn is_high(self) -> bool
-        ensures { result ≡ is_high self }
+    /// The rank of its messages in the schedule.
+    pub(crate) fn rank(self) -> Rank
+        ensures { result ≡ rank_of self }
     {
         match self {
-            Category::High => true,
-            Category::Normal => false,
+            Category::High => Rank::High,
+            Category::Normal => Rank::Normal,
         }
     }
 }

@@ -71,7 +71,7 @@ impl Kept {
             pages: self.pages,
             period: self.period,
             broadcasts: self.broadcasts,
-            high: self.category.is_high(),
+            rank: self.category.rank(),
         }
     }
 
