@@ -121,9 +121,11 @@ handed_in slot load claims old place order here live over =
     let c : Claim = get_or left k d in
     let is : get_or left k d ≡ p = by_number left (get_or left k d) p kept.rising (k, within, get_or_default left k (get_or left k d) d within) its.there (same ∙ sym behind) in
     ap (λ (x : Claim). own_load x.message) is) in
-    let held = load_of_entry place.behind (own_load p.message) (lines_at slot left) loads (line.0, line_of slot p, line.1, line.2, behind) in
-    (its.later, record {
-      ends = (line.0, line_of slot p, line.1, line.2, (behind, waits_of-started slot p its.ahead.started, its.ends));
-      free = subst Free behind (none_behind slot p.message.number left its.ahead.free);
-      over = ap (λ (n : ℕ). load - n) held ∙ sym its.excess;
-    })
+    let held = load_of_entry place.behind (own_load p.message) (lines_at slot left) loads (line.0, line_of slot p, line.1, line.2, behind) in (
+      its.later,
+      record {
+        ends = (line.0, line_of slot p, line.1, line.2, (behind, waits_of-started slot p its.ahead.started, its.ends));
+        free = subst Free behind (none_behind slot p.message.number left its.ahead.free);
+        over = ap (λ (n : ℕ). load - n) held ∙ sym its.excess;
+      },
+    )

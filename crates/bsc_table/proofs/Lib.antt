@@ -2,6 +2,7 @@ pub mod Bounds
 pub mod Broadcasts
 pub mod Busy
 pub mod Demand
+pub mod Foreground
 pub mod Inside
 pub mod Promised
 mod Ranks

@@ -7,9 +7,10 @@ use Rattle.admission.specs.declared.measure.TheConstants.{SCALE}
 use Rattle.admission.specs.Reservation.{Reservation, loads_at}
 use Rattle.admission.proofs.Reservations.{loads_at-le, loads_at-le_standing}
 use Rattle.scheduler.specs.declared.plan.Rank.{Rank}
-use Rattle.scheduler.specs.declared.plan.Rank.TheVariants.{High, Normal}
+use Rattle.scheduler.specs.declared.plan.Rank.TheVariants.{High, Normal, Background}
 use Rattle.scheduler.specs.Message.{Message, release, due}
 use Rattle.scheduler.specs.Air.{Air, layer, pages_aired, IsAirOf}
+use Rattle.scheduler.specs.Background.{foreground}
 use Rattle.scheduler.specs.Completed.{completed}
 use Rattle.scheduler.specs.Choice.{air_of}
 use Rattle.scheduler.proofs.Choice.{IsAirOf-air_of}
@@ -298,3 +299,16 @@ unbegun_least = refl
 
 unbegun_most : most_completed (message 0 5 1 3 None Normal) 4 ≡ 0
 unbegun_most = refl
+
+-- N: a page in every second slot. B: two pages of background in every fourth, beside it
+abbrev beside_background : List Message
+beside_background = message 0 0 1 2 None Normal ∷ message 1 0 2 4 None Background ∷ []
+
+abbrev n_alone : List Message
+n_alone = message 0 0 1 2 None Normal ∷ []
+
+n_is_alone : foreground beside_background ≡ n_alone
+n_is_alone = refl
+
+beside_background_aired : air_of beside_background 4 ≡ Some (0, 1) ∷ Some (1, 1) ∷ Some (0, 1) ∷ Some (1, 2) ∷ []
+beside_background_aired = refl

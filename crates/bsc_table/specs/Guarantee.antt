@@ -6,6 +6,8 @@ use Rattle.admission.specs.Load.{load_of}
 use Rattle.admission.specs.Reservation.{Reservation, IsReservedAt, loads_at, end_of_reservation}
 use Rattle.scheduler.specs.Message.{Message, release, due, HasBroadcast, IsBeforeStop, has_broadcast, is_before_stop}
 use Rattle.scheduler.specs.Air.{Air, layer, pages_aired, IsPending, next_page, IsAirOf}
+use Rattle.scheduler.specs.AirLaws.{NumbersRise}
+use Rattle.scheduler.specs.Background.{foreground}
 use Rattle.scheduler.specs.Completed.{IsWhole}
 
 -- what a message has reserved: its load, from its start up to the end that its period, its requested broadcasts and its
@@ -99,3 +101,12 @@ AdmittedBroadcastsAreWhole = (messages : List Message) (air : Air) (slot : ℕ)
     → AreAdmitted messages
     → IsAirOf messages air
     → All (λ m. (j : ℕ) → IsUncut m j air → due m j ≤ slot → IsWhole m j air slot) messages
+
+-- among background messages, which reserve nothing: where those that aren't background are admitted, each uncut broadcast
+-- of these has all its pages aired between its release and its due slot
+abbrev pub ForegroundIsServed : Type 0
+ForegroundIsServed = (messages : List Message) (air : Air)
+    → NumbersRise messages
+    → AreAdmitted (foreground messages)
+    → IsAirOf messages air
+    → All (λ m. (j : ℕ) → IsUncut m j air → pages_aired m.number air (release m j) (due m j) ≡ m.pages) (foreground messages)
