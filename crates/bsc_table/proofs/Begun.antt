@@ -1,12 +1,12 @@
 -- A message that begins: it starts no sooner than it is accepted, and there is room for it in the budget.
-use Rattle.std.proofs.Common.{◌≡◌, ℕ, ◌+◌, ◌≤◌, ◌<◌, true, Option, Some, None, Ok, List, length, map, filter, refl, ap, sym, subst, ◌∙◌, inl, inr, arith}
+use Rattle.std.proofs.Common.{◌≡◌, ℕ, ◌+◌, ◌≤◌, ◌<◌, true, Option, Some, None, Ok, List, length, map, filter, refl, sym, subst, ◌∙◌, inl, inr, arith}
 use Rattle.std.specs.List.{Contains}
 use Rattle.std.proofs.lemmas.Bool.{lt-ltb, le-leb}
 use Rattle.admission.specs.declared.measure.TheConstants.{SCALE}
 use Rattle.admission.specs.Table.{answer_of as answer_by, answer_for}
 use Rattle.bsc_table.specs.Record.{Accepted, is_live, claim_of, claims_of}
 use Rattle.bsc_table.specs.Claim.{Claim, own_load, is_claimed_at, claimed_at, stop_claims}
-use Rattle.bsc_table.specs.Handover.{Place, ahead_of, handover}
+use Rattle.bsc_table.specs.Handover.{ahead_of, handover}
 use Rattle.bsc_table.specs.Room.{AreInOrder}
 use Rattle.bsc_table.specs.Begun.{StartsNow, TakesOver, Starts, IsBegun}
 use Rattle.bsc_table.specs.Book.{stop_numbered, lines_at, IsHeldFor, HasRoomFor}
@@ -15,7 +15,7 @@ use Rattle.bsc_table.proofs.Outcome.{claims_stopped}
 use Rattle.bsc_table.proofs.Sound.{its_claim}
 use Rattle.bsc_table.proofs.Stopped.{in_order-stop}
 use Rattle.bsc_table.proofs.TakenOver.{only_live}
-use Rattle.bsc_table.proofs.Lines.{IsLined, lined, same_room}
+use Rattle.bsc_table.proofs.Lines.{lined, same_room}
 use Rattle.bsc_table.proofs.Handed.{handed_in}
 
 over_is_later : (slot : ℕ) (old : Accepted) (before : List Accepted) (a : Accepted) → TakesOver slot old before a → slot < a.message.start

@@ -1,7 +1,6 @@
 -- A book stays legal while slots are played.
-use Rattle.std.proofs.Common.{◌≡◌, ℕ, ◌+◌, ◌<◌, Bool, true, false, cond, length, take, get_or, Option, Some, None, List, [], ◌∷◌, ◌++◌, map, filter, inl, inr, refl, ap, subst, sym, ◌∙◌, arith}
+use Rattle.std.proofs.Common.{◌≡◌, ℕ, ◌+◌, ◌<◌, length, take, get_or, Option, [], ◌∷◌, ◌++◌, subst, sym, arith}
 use Rattle.std.proofs.lemmas.List.{length_push, take-append-le}
-use Rattle.scheduler.specs.Message.{Message}
 use Rattle.scheduler.specs.Air.{Air, IsChosen}
 use Rattle.scheduler.proofs.Rule.{IsAirOf-next}
 use Rattle.bsc_table.specs.declared.entry.Entry.{Entry}

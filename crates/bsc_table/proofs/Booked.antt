@@ -1,5 +1,5 @@
 -- A book's plan and budget, asked of an accepted message.
-use Rattle.std.proofs.Common.{◌≡◌, ℕ, ◌+◌, ◌≤◌, ◌<◌, ◌==◌, Bool, true, cond, Result, Option, Some, None, Ok, Err, List, length, map, filter, refl, ap, sym, subst, ◌∙◌, inl, inr, arith, ltb, leb}
+use Rattle.std.proofs.Common.{◌≡◌, ℕ, ◌+◌, ◌<◌, ◌==◌, Bool, true, cond, Result, Option, Some, None, Ok, Err, List, length, filter, refl, ap, sym, subst, ◌∙◌, inl, inr, ltb, leb}
 use Rattle.std.specs.List.{All, Any, Contains, find}
 use Rattle.std.specs.Option.{option_map}
 use Rattle.std.specs.Result.{OnOk}
@@ -20,10 +20,8 @@ use Rattle.bsc_table.specs.declared.entry.Entry.{Entry}
 use Rattle.bsc_table.specs.declared.entry.Answer.{Answer}
 use Rattle.bsc_table.specs.declared.entry.Answer.TheVariants as answers
 use Rattle.bsc_table.specs.Record.{Record, Accepted, accepted_in, messages_in, is_of_pair, claims_in}
-use Rattle.bsc_table.specs.Claim.{Claim, is_claimed_at, claimed_at, stop_claims}
-use Rattle.bsc_table.specs.Handover.{Place}
-use Rattle.bsc_table.specs.Room.{AreInOrder}
-use Rattle.bsc_table.specs.Answer.{answer_at, answer_beside}
+use Rattle.bsc_table.specs.Claim.{Claim, is_claimed_at, claimed_at}
+use Rattle.bsc_table.specs.Answer.{answer_at}
 use Rattle.bsc_table.specs.Legal.{IsLegal}
 use Rattle.bsc_table.specs.Book.{IsLiveIn, lines_at, by_room, HasRoom, IsRoom, left_by}
 use Rattle.bsc_table.proofs.Named.{All-find}

@@ -1,5 +1,5 @@
 -- A book with one more entry: its record, its messages, and what its plan and budget hold of them.
-use Rattle.std.proofs.Common.{◌≡◌, ◌≢◌, ℕ, ◌≤◌, ◌<◌, ◌==◌, Bool, true, cond, Option, Some, None, List, [], ◌∷◌, ◌++◌, length, map, filter, get_or, refl, ap, sym, subst, ◌∙◌, arith}
+use Rattle.std.proofs.Common.{◌≡◌, ◌≢◌, ℕ, ◌≤◌, ◌<◌, ◌==◌, Bool, true, Option, Some, None, List, [], ◌∷◌, ◌++◌, length, map, filter, get_or, refl, ap, sym, subst, ◌∙◌}
 use Rattle.std.specs.List.{All, Any, Contains}
 use Rattle.std.specs.Global.{Vec}
 use Rattle.std.specs.Vec.{vec_len, with_items}

@@ -1,9 +1,9 @@
 -- What a budget holds of the message behind which one is to wait: its line has started and ends where that one starts, and
 -- no other waits behind it.
-use Rattle.std.proofs.Common.{◌≡◌, ◌≢◌, ℕ, zero, suc, ◌-◌, ◌≤◌, ◌<◌, ◌==◌, Bool, true, false, cond, Option, Some, None, List, [], ◌∷◌, length, map, filter, get_or, refl, ap, sym, subst, ◌∙◌, inl, inr, arith}
-use Rattle.std.specs.List.{All, AllPairs, Any, Contains, find}
+use Rattle.std.proofs.Common.{◌≡◌, ◌≢◌, ℕ, zero, suc, ◌-◌, ◌≤◌, ◌<◌, ◌==◌, Bool, true, false, cond, Option, Some, None, List, [], ◌∷◌, filter, get_or, refl, ap, sym, subst, ◌∙◌, inl, inr, arith}
+use Rattle.std.specs.List.{All, Any, Contains, find}
 use Rattle.std.specs.Option.{option_map}
-use Rattle.std.proofs.lemmas.Bool.{cases_Bool, cases_lt, eqb-true, eq-eqb, le-leb, lt-ltb, false≢true}
+use Rattle.std.proofs.lemmas.Bool.{cases_Bool, cases_lt, eqb-true, eq-eqb, lt-ltb, false≢true}
 use Rattle.std.proofs.lemmas.Option.{none-some, same_Some}
 use Rattle.std.proofs.lemmas.List.{length-map, get_or-map, get_or_default}
 use Rattle.std.proofs.lemmas.List.Elements.{All-nil, All-cons, All-head, All-tail, All-map, All-filter, All-weaker, All-contains, Contains-append_right, filter_passes}
@@ -11,17 +11,17 @@ use Rattle.admission.specs.declared.budget.Held.{Held}
 use Rattle.admission.specs.declared.budget.Waits.{Waits}
 use Rattle.admission.specs.Reservation.{IsBeforeEnd}
 use Rattle.admission.specs.Waiting.{behind_of}
-use Rattle.admission.specs.Table.{load_in, load_for, excess_over}
+use Rattle.admission.specs.Table.{load_in, load_for}
 use Rattle.bsc_table.specs.Record.{is_live}
-use Rattle.bsc_table.specs.Claim.{Claim, end_of, own_load, is_claimed_at, IsWaiting, stop_claims}
+use Rattle.bsc_table.specs.Claim.{Claim, own_load, is_claimed_at, IsWaiting, stop_claims}
 use Rattle.bsc_table.specs.Handover.{Place, handover}
-use Rattle.bsc_table.specs.Room.{HandsOver, AreInOrder}
+use Rattle.bsc_table.specs.Room.{AreInOrder}
 use Rattle.bsc_table.specs.Book.{waits_of, line_of, lines_at, IsHeldFor}
 use Rattle.bsc_table.proofs.Claims.{is_claimed_at-says, is_claimed_at-from}
 use Rattle.bsc_table.proofs.Ahead.{by_number}
 use Rattle.bsc_table.proofs.Stopped.{not_live, in_order-stop}
-use Rattle.bsc_table.proofs.TakenOver.{IsFree, is_free, only_live}
-use Rattle.bsc_table.proofs.Lines.{waits_of-started, waits_of-waiting}
+use Rattle.bsc_table.proofs.TakenOver.{is_free, only_live}
+use Rattle.bsc_table.proofs.Lines.{waits_of-started}
 
 -- a line waits behind the message behind which its claim does, where that has not started
 waits_behind : (slot number : ℕ) (c : Claim) → behind_of (line_of slot c) ≡ Some number → (slot < c.message.start) × (c.behind ≡ Some number)

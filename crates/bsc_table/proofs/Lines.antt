@@ -1,11 +1,11 @@
 -- What a budget holds at a slot, against the claims of the accepted messages.
 use Rattle.std.proofs.Common.{◌≡◌, ℕ, ◌+◌, ◌*◌, ◌≤◌, ◌<◌, ◌==◌, Bool, true, false, cond, not, ◌&&◌, Option, Some, None, List, [], ◌∷◌, ◌++◌, length, map, filter, sum_by, refl, ap, sym, subst, ◌∙◌, inl, inr, arith}
 use Rattle.std.specs.Prelude.{nat_le, nat_lt}
-use Rattle.std.specs.List.{All, Any}
+use Rattle.std.specs.List.{All}
 use Rattle.std.specs.Option.{option_map}
 use Rattle.std.proofs.lemmas.Bool.{cases_Bool, cases_lt, cases_eq, and_parts, eq-eqb, ne_eqb, eqb-true, le-leb, le-ltb, lt-ltb, false≢true, true≢false}
 use Rattle.std.proofs.lemmas.List.{map-append, length-map}
-use Rattle.std.proofs.lemmas.List.Elements.{All-head, All-tail, All-map, All-filter, All-weaker, filter-append, filter_passes}
+use Rattle.std.proofs.lemmas.List.Elements.{All-head, All-tail, All-map, All-weaker, filter-append, filter_passes}
 use Rattle.std.proofs.lemmas.List.Sums.{sum_by-cons}
 use Rattle.std.proofs.Math.Nat.{mul-pos}
 use Rattle.admission.specs.declared.budget.Held.{Held}
@@ -13,7 +13,7 @@ use Rattle.admission.specs.declared.budget.Waits.{Waits}
 use Rattle.admission.specs.Reservation.{IsBeforeEnd, is_before_end, natural_end, end_of_reservation, end_of_stopped}
 use Rattle.admission.specs.Waiting.{held_now, share_now, waits_at, started_at}
 use Rattle.admission.specs.Table.{answer_of as answer_by, answer_for, remaining_without, ends_if, ends_at, passed}
-use Rattle.scheduler.specs.Message.{Message, stopped_if}
+use Rattle.scheduler.specs.Message.{stopped_if}
 use Rattle.bsc_table.specs.Record.{is_live}
 use Rattle.bsc_table.specs.Claim.{Claim, end_of, own_load, is_claimed_at, share_at, claim_at, claimed_at, IsWaiting, stop_claim, stop_claims}
 use Rattle.bsc_table.specs.Room.{AreInOrder}

@@ -1,9 +1,9 @@
 -- The place at which a message may take over from a live one, as it is looked up among the messages that are kept.
-use Rattle.std.proofs.Common.{◌≡◌, ℕ, ◌<◌, ◌==◌, Bool, true, false, cond, Option, Some, None, is_some, List, [], ◌∷◌, length, map, refl, ap, sym, subst, ◌∙◌, inl, inr, arith}
+use Rattle.std.proofs.Common.{◌≡◌, ℕ, ◌<◌, ◌==◌, Bool, true, false, cond, Option, Some, None, is_some, List, [], ◌∷◌, refl, ap, sym, ◌∙◌, arith}
 use Rattle.std.specs.List.{Contains, find}
 use Rattle.std.specs.Option.{option_map}
 use Rattle.std.proofs.lemmas.Bool.{false≢true, eqb-true}
-use Rattle.std.proofs.lemmas.Option.{none-some, same_Some}
+use Rattle.std.proofs.lemmas.Option.{same_Some}
 use Rattle.std.proofs.lemmas.List.{get_or-map, length-map}
 use Rattle.std.proofs.lemmas.List.Elements.{All-contains}
 use Rattle.admission.specs.Reservation.{end_of_reservation, end_of_stopped}
@@ -17,7 +17,7 @@ use Rattle.bsc_table.proofs.Ahead.{taken, by_number}
 use Rattle.bsc_table.proofs.Named.{find_passes}
 use Rattle.bsc_table.proofs.Outcome.{Contains-find}
 use Rattle.bsc_table.proofs.Sound.{HasLoad, IsSound-legal, its_claim}
-use Rattle.bsc_table.proofs.TakenOver.{IsFree, is_free}
+use Rattle.bsc_table.proofs.TakenOver.{is_free}
 use Rattle.bsc_table.proofs.Entering.{left_in_order}
 
 -- a message of a number, looked up as accepted or as a claim of which one is stopped

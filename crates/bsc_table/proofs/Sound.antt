@@ -13,7 +13,7 @@ use Rattle.bsc_table.specs.declared.entry.Answer.{Answer}
 use Rattle.bsc_table.specs.declared.entry.Entry.{Entry}
 use Rattle.bsc_table.specs.Record.{Record, Accepted, accepted_in, is_of_pair, is_live, claim_of, claims_of, claims_in}
 use Rattle.bsc_table.specs.Claim.{Claim, own_load, claimed_at}
-use Rattle.bsc_table.specs.Handover.{Place, handover}
+use Rattle.bsc_table.specs.Handover.{handover}
 use Rattle.bsc_table.specs.Room.{AreInOrder, ClaimsFit, IsNew}
 use Rattle.bsc_table.specs.Legal.{IsLegal}
 use Rattle.bsc_table.specs.Begun.{StartsNow, TakesOver, IsBegun}

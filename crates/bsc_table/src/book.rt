@@ -1,6 +1,6 @@
 //! The book of a cell: a legal history at all times.
 
-ghost use Rattle.std.specs.Prelude.{◌≡◌, ◌≢◌, ◌⊎◌, ℕ, Some, None, IfSome, true, false, ◌+◌, ◌<◌, ◌≤◌, [], ◌∷◌, ◌++◌, length, map, filter, IfOk, IfErr, OnOk, OnErr, min, vec_len, vec_capacity};
+ghost use Rattle.std.specs.Prelude.{◌≡◌, ◌≢◌, ◌⊎◌, ℕ, Some, None, IfSome, true, false, ◌+◌, ◌<◌, ◌≤◌, ◌==◌, [], ◌∷◌, ◌++◌, length, map, filter, IfOk, IfErr, OnOk, OnErr, min, vec_len, vec_capacity};
 ghost use Rattle.std.specs.List.{All, Any, Contains, find};
 ghost use Rattle.std.specs.Option.{MatchOption, option_map};
 ghost use Rattle.scheduler.specs.Completed.{completed};
@@ -400,7 +400,7 @@ impl CellBook {
             ≡ before_end self.now.slots self.now.clock (answer_to_kill self.now.log self.now.air self.now.clock id serial) }
         ensures decides { Decides self.now (commands.Kill id serial) result }
     {
-        if self.clock == self.slots {
+        if self.is_over() {
             return Decision::Noted(Answer::Cause(RUN_IS_OVER));
         }
         match self.live(id, serial) {
@@ -421,7 +421,7 @@ impl CellBook {
             new.serial replaces (load_of new.pages new.period)) }
         ensures decides { DecidesWrites self.now (accepted_of new) replaces result }
     {
-        if self.clock == self.slots {
+        if self.is_over() {
             return Decision::Noted(Answer::Cause(RUN_IS_OVER));
         }
         match replaces {
@@ -521,6 +521,14 @@ impl CellBook {
         let ahead = kept::numbered(self.accepted.as_slice(), number)?;
         let stopped = ahead.stopped_if(old.number, self.clock);
         stopped.place_behind(self.clock, load)
+    }
+
+    /// Whether all slots of the run are played.
+    fn is_over(&self) -> bool
+        ensures { result ≡ (self.now.clock == self.now.slots) }
+    {
+        let end = self.slots;
+        end == self.clock
     }
 
     /// Plays the slots before `to`.

@@ -132,17 +132,11 @@ fn a_load_that_is_not_free_yet_guards_the_others(rt: HostRuntime) -> Result<(), 
 }
 
 #[test]
-fn a_replacement_on_the_boundary_takes_the_room_of_the_old_message(
-    rt: HostRuntime,
-) -> Result<(), Fail> {
-    let replaced = Answer::Replaced {
-        slot: 3,
-        completed: 1,
-    };
+fn a_replacement_within_the_period_waits_for_its_end(rt: HostRuntime) -> Result<(), Fail> {
     let (of_r, of_q, of_p) = (page(0, 1), page(1, 1), page(2, 1));
-    for (slot, answer, slot_4, slot_5, slot_6) in [
-        (3, replaced, of_r, of_p, page(3, 1)),
-        (4, Answer::Cause(0x06), of_r, of_q, of_p),
+    for (slot, answer, slot_6) in [
+        (3, replaced(3, 1), page(3, 1)),
+        (4, replaced(6, 1), NOTHING),
     ] {
         let steps = [
             Step::One(standing(1, 6), started(0)),
@@ -153,7 +147,7 @@ fn a_replacement_on_the_boundary_takes_the_room_of_the_old_message(
             Step::Play(6),
         ];
         let book = run(&rt, rt.alloc(), 6, steps.as_slice())?;
-        let air = [of_p, of_q, of_p, slot_4, slot_5, slot_6];
+        let air = [of_p, of_q, of_p, of_r, of_p, slot_6];
         expect_air(&rt, &book, air.as_slice());
     }
     Ok(())
@@ -161,19 +155,15 @@ fn a_replacement_on_the_boundary_takes_the_room_of_the_old_message(
 
 #[test]
 fn a_refused_replacement_leaves_the_old_message(rt: HostRuntime) -> Result<(), Fail> {
-    let replaced = Answer::Replaced {
-        slot: 4,
-        completed: 1,
-    };
     let steps = [
         Step::One(standing(1, 2), started(0)),
         Step::Two(standing(2, 4), started(0)),
         Step::Play(3),
-        Step::Two(standing_for(2, 3, 4), Answer::Cause(0x06)),
+        Step::Three(standing_for(2, 3, 4), Answer::Cause(0x06)),
         Step::Status(2, Some((0, State::Standing))),
         Step::Status(3, None),
         Step::Play(1),
-        Step::Two(standing_for(2, 3, 4), replaced),
+        Step::Two(standing_for(2, 3, 4), replaced(4, 1)),
         Step::Status(2, Some((1, State::Stopped { slot: 4 }))),
         Step::Kill(2, Answer::Cause(0x02)),
     ];

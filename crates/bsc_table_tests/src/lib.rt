@@ -11,3 +11,5 @@ mod orders;
 mod orders_vectors;
 #[cfg(test)]
 mod refusals;
+#[cfg(test)]
+mod takeovers;

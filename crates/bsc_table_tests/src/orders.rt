@@ -33,6 +33,8 @@ pub enum Step {
     One(Wish, Answer),
     /// A write of two pages.
     Two(Wish, Answer),
+    /// A write of three pages.
+    Three(Wish, Answer),
     /// A kill of the message of this serial number.
     Kill(u16, Answer),
     /// A status of it, as a command.
@@ -73,6 +75,11 @@ pub fn standing_for(old: u16, serial: u16, period: u16) -> Wish {
 /// The answer that a message stands from this slot on.
 pub fn started(slot: u16) -> Answer {
     Answer::Started { slot }
+}
+
+/// The answer that a message stands from this slot on, in place of one that had as many whole broadcasts.
+pub fn replaced(slot: u32, completed: u16) -> Answer {
+    Answer::Replaced { slot, completed }
 }
 
 /// A write with these pages.
@@ -116,20 +123,29 @@ fn write_two(alloc: Global, book: &mut CellBook, wish: Wish) -> Result<Answer, F
     Ok(book.apply(&command))
 }
 
-/// The answer to a write of one page or of two.
+/// The answer to a write of three pages.
+fn write_three(alloc: Global, book: &mut CellBook, wish: Wish) -> Result<Answer, Fail>
+    requires period { 1 ≤ wish.period }
+    requires short { wish.period ≤ 1024 }
+{
+    let command = write(alloc, wish, [PAGE, PAGE, PAGE].as_slice())?;
+    Ok(book.apply(&command))
+}
+
+/// The answer to a write of one page, of two or of three.
 fn write_pages(
     rt: &impl Abort,
     alloc: Global,
     book: &mut CellBook,
     wish: Wish,
-    two: bool,
+    pages: u8,
 ) -> Result<Answer, Fail> {
     assert!(rt; 1 <= wish.period);
     assert!(rt; wish.period <= 1024);
-    if two {
-        write_two(alloc, book, wish)
-    } else {
-        write_one(alloc, book, wish)
+    match pages {
+        1 => write_one(alloc, book, wish),
+        2 => write_two(alloc, book, wish),
+        _ => write_three(alloc, book, wish),
     }
 }
 
@@ -174,15 +190,13 @@ fn expect_step(
 ) -> Result<(), Fail> {
     match step {
         Step::One(wish, wanted) => {
-            expect_answer(
-                rt,
-                place,
-                write_pages(rt, alloc, book, wish, false)?,
-                wanted,
-            );
+            expect_answer(rt, place, write_pages(rt, alloc, book, wish, 1)?, wanted);
         }
         Step::Two(wish, wanted) => {
-            expect_answer(rt, place, write_pages(rt, alloc, book, wish, true)?, wanted);
+            expect_answer(rt, place, write_pages(rt, alloc, book, wish, 2)?, wanted);
+        }
+        Step::Three(wish, wanted) => {
+            expect_answer(rt, place, write_pages(rt, alloc, book, wish, 3)?, wanted);
         }
         Step::Kill(serial, wanted) => expect_answer(rt, place, kill(book, serial), wanted),
         Step::Ask(serial, wanted) => expect_answer(rt, place, ask(book, serial), wanted),

@@ -26,14 +26,10 @@ fn a_cell_reserves_64_messages(rt: HostRuntime) -> Result<(), Fail> {
         let step = Step::One(standing(serial, 1024), started(0));
         go_on(&rt, alloc, &mut book, [step].as_slice())?;
     }
-    let replaced = Answer::Replaced {
-        slot: 0,
-        completed: 0,
-    };
     let steps = [
         Step::One(standing(64, 1024), Answer::Cause(0x07)),
         Step::One(standing(64, 1), Answer::Cause(0x07)),
-        Step::One(standing_for(63, 64, 1024), replaced),
+        Step::One(standing_for(63, 64, 1024), replaced(0, 0)),
     ];
     go_on(&rt, alloc, &mut book, steps.as_slice())
 }

@@ -105,7 +105,7 @@ aired_by_rule r slot (Some used) sound chosen =
     let m : Message = chosen.1 in
     let all = accepted_in r.log in
     let message : Accepted → Message = λ a. a.message in
-    let default : Accepted = record { id = 0; serial = 0; accepted = 0; message = m } in
+    let default : Accepted = record { id = 0; serial = 0; accepted = 0; behind = None; excess = 0; message = m } in
     let long = length-map (accepted_in r.log) message in
     let within : chosen.0 < length (accepted_in r.log) = let h = chosen.2 in omega (arith, long, h) in
     let a : Accepted = get_or all chosen.0 default in

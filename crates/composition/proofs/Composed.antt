@@ -40,7 +40,7 @@ abbrev message : Accepted → scheduled.Message
 message a = a.message
 
 abbrev accepted_as : scheduled.Message → Accepted
-accepted_as m = record { id = 0; serial = 0; accepted = 0; message = m }
+accepted_as m = record { id = 0; serial = 0; accepted = 0; behind = None; excess = 0; message = m }
 
 pub messages_rise : (laws : Laws) (log : List Entry) → AllPairs (λ (a b : scheduled.Message). a.number < b.number) (messages_in log)
 messages_rise laws log = λ i j d before within.

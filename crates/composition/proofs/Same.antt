@@ -37,7 +37,7 @@ periods : (laws : Laws) (r : Record) → IsLegal r → All (λ (m : scheduled.Me
 periods laws r legal = λ k d within.
     let front = accepted_in (accepted_entries r.log) in
     let long = length-map (accepted_in (accepted_entries r.log)) message in
-    let a : Accepted = record { id = 0; serial = 0; accepted = 0; message = d } in
+    let a : Accepted = record { id = 0; serial = 0; accepted = 0; behind = None; excess = 0; message = d } in
     let read = get_or-map message (accepted_in (accepted_entries r.log)) k a d (omega (arith, long, within)) in
     let all = subst (λ xs. All HasLoad xs) (laws.accepted_entries_are_all r.log).1.same_messages (laws.accepted_have_loads r legal) in
     let many = length-map (accepted_in (accepted_entries r.log)) (accepted_renumbered (place_in laws r.log)) in

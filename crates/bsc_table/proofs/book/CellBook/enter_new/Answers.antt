@@ -1,13 +1,12 @@
-use Rattle.std.proofs.Common.{◌≡◌, ◌<◌, ℕ, None, Result, List, [], ◌∷◌, ◌++◌, length, map, subst, sym, ap, ◌∙◌, arith}
+use Rattle.std.proofs.Common.{◌≡◌, ◌<◌, None, List, [], ◌∷◌, ◌++◌, length, map, subst, sym, ap, ◌∙◌, arith}
 use Rattle.std.specs.List.{All}
-use Rattle.std.specs.Result.{OnOk}
 use Rattle.admission.specs.declared.budget.Held.{Held}
 use Rattle.scheduler.specs.Message.{Message}
 use Rattle.scheduler.specs.Follows.{Follows, message_from}
 use Rattle.bsc_table.specs.declared.entry.Entry.{Entry}
 use Rattle.bsc_table.specs.declared.kept.Kept.{Kept}
 use Rattle.bsc_table.specs.Record.{Record, Accepted, accepted_in, messages_in, claim_of, claims_in}
-use Rattle.bsc_table.specs.Claim.{Claim, stop_claims}
+use Rattle.bsc_table.specs.Claim.{Claim}
 use Rattle.bsc_table.specs.Book.{accepted_of, record_of, line_of, lines_at, HasRoomFor, IsNext, IsStart}
 use Rattle.bsc_table.proofs.Begun.{room_for_new}
 use Rattle.bsc_table.proofs.Sound.{IsSound-legal}

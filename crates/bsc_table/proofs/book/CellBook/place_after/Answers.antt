@@ -1,10 +1,10 @@
-use Rattle.std.proofs.Common.{◌≡◌, ◌<◌, ◌==◌, ℕ, Bool, Option, Some, None, List, map, subst, sym, ap, ◌∙◌}
+use Rattle.std.proofs.Common.{◌≡◌, ◌<◌, ◌==◌, ℕ, Bool, Some, None, List, map, subst, sym, ap, ◌∙◌}
 use Rattle.std.specs.List.{find}
 use Rattle.std.specs.Option.{option_map}
 use Rattle.bsc_table.specs.declared.kept.Kept.{Kept}
 use Rattle.bsc_table.specs.Record.{Record, Accepted, accepted_in, claim_of}
-use Rattle.bsc_table.specs.Handover.{Place, ahead_of, place_before, handover}
-use Rattle.bsc_table.specs.Book.{accepted_of, record_of, kept_stopped, stopped_end, place_of, left_by, IsLiveIn}
+use Rattle.bsc_table.specs.Handover.{ahead_of, place_before, handover}
+use Rattle.bsc_table.specs.Book.{accepted_of, record_of, stopped_end, place_of, left_by, IsLiveIn}
 use Rattle.bsc_table.proofs.Placed.{none_ahead, found_lasts, place_ahead}
 use Rattle.bsc_table.proofs.book.CellBook.place_after.Goals as goal
 

@@ -6,7 +6,7 @@ use Rattle.scheduler.specs.Follows.{Follows}
 use Rattle.bsc_table.specs.Record.{Record, messages_in, claims_in}
 use Rattle.bsc_table.specs.Claim.{Claim}
 use Rattle.bsc_table.specs.Legal.{IsLegal}
-use Rattle.bsc_table.specs.Book.{air_told, record_of, lines_at, IsPlayedUpTo}
+use Rattle.bsc_table.specs.Book.{air_told, record_of, IsPlayedUpTo}
 use Rattle.bsc_table.proofs.BookLaws.{IsLegal-next}
 use Rattle.bsc_table.proofs.Sound.{IsSound-legal}
 use Rattle.bsc_table.proofs.Lines.{lines_at-later}
