@@ -1,5 +1,5 @@
 -- Among background messages the others are served as without them.
-use Rattle.std.proofs.Common.{◌≡◌, ℕ, ◌≤◌, ◌==◌, List, length, filter, get_or, sym, ◌∙◌, arith}
+use Rattle.std.proofs.Common.{◌==◌, List, get_or, sym, ◌∙◌, arith}
 use Rattle.std.specs.List.{All, Contains}
 use Rattle.std.proofs.lemmas.List.{length-map}
 use Rattle.std.proofs.lemmas.List.Elements.{All-filter, All-contains_itself}
@@ -7,7 +7,7 @@ use Rattle.scheduler.specs.Message.{Message, release, due}
 use Rattle.scheduler.specs.Air.{Air, layer}
 use Rattle.scheduler.specs.Background.{foreground, blank_use, blanked}
 use Rattle.scheduler.proofs.Background.{background_counts_as_idle, blanking_keeps_pages, blanking_keeps_completed}
-use Rattle.bsc_table.specs.Guarantee.{IsUncut, ForegroundIsServed}
+use Rattle.bsc_table.specs.Guarantee.{ForegroundIsServed}
 use Rattle.bsc_table.specs.Bounds.{ForegroundIsAtLeast}
 use Rattle.bsc_table.proofs.Bounds.{completed_is_at_least}
 use Rattle.bsc_table.proofs.Served.{admitted_load_is_a_guarantee}
