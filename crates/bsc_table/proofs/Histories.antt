@@ -302,7 +302,9 @@ third_most = refl
 
 -- so it is at each slot up to the clock
 half_is_bounded : (slot : ℕ) → slot ≤ 6 → (least_completed half slot ≤ completed half (aired filled 6) slot) × (completed half (aired filled 6) slot ≤ most_completed half slot)
-half_is_bounded slot by = legal_histories_are_bounded (run filled 6) filled_is_legal 2 half (omega arith) slot by
+half_is_bounded slot by =
+    let bounds = legal_histories_are_bounded (run filled 6) filled_is_legal 2 half (omega arith) slot by in
+    (bounds.0 refl, bounds.1)
 
 -- the history with a kill and refusals is legal too, so that C, which had to wait for room, is whole by slot 8
 whole_answered : (i : ℕ) (d : Entry) → i < length whole → IsAnswered 8 (take i whole) (aired whole 8) (get_or whole i d)

@@ -6,6 +6,7 @@ pub mod Foreground
 pub mod Inside
 pub mod Promised
 mod Ranks
+mod HasEntry
 pub mod Reserved
 pub mod Served
 pub mod Sums

@@ -14,7 +14,7 @@ use Rattle.bsc_table.specs.declared.command.Command.TheVariants as commands
 use Rattle.bsc_table.specs.declared.entry.Answer.{Answer}
 use Rattle.bsc_table.specs.declared.entry.Answer.TheVariants as answers
 use Rattle.bsc_table.specs.declared.entry.Entry.{Entry}
-use Rattle.bsc_table.specs.Claim.{Claim}
+use Rattle.bsc_table.specs.Claim.{Claim, reserves}
 use Rattle.bsc_table.specs.Handover.{ahead_of, numbered}
 use Rattle.bsc_table.specs.Record.{Accepted, claim_of, claims_of, start_of, rank_of, is_stop_by, is_stop_of, is_of_pair, stopped_by, replaced_in, behind_of, excess_over, write_message, written_behind, added_by, accepted_after, accepted_from, accepted_in}
 use Rattle.bsc_table.specs.Book.{is_stopped}
@@ -139,8 +139,13 @@ excess_alike f keeps load (Some number) (a ∷ front) =
     let all = claims_of (map (accepted_renumbered f) front) in
     let renamed : Claim = claim_of (accepted_renumbered f a) in
     let rest = excess_alike f keeps load (Some number) front in
-    ap (λ (b : Bool). excess_over load (cond b (Some renamed) (numbered (Some (f number)) all))) (same_number f keeps a.message.number number) ∙ one (a.message.number == number) rest
+    let here = ap (λ (b : Bool). excess_over load (cond b (Some renamed) (numbered (Some (f number)) all))) (same_number f keeps a.message.number number) ∙ one (a.message.number == number) rest in
+    claimed (reserves (claim_of a)) here rest
   where
+    claimed : (says : Bool) → excess_over load (numbered (Some (f number)) (claim_of (accepted_renumbered f a) ∷ claims_of (map (accepted_renumbered f) front))) ≡ excess_over load (numbered (Some number) (claim_of a ∷ claims_of front)) → excess_over load (numbered (Some (f number)) (claims_of (map (accepted_renumbered f) front))) ≡ excess_over load (numbered (Some number) (claims_of front)) → excess_over load (numbered (Some (f number)) (cond says (claim_of (accepted_renumbered f a) ∷ claims_of (map (accepted_renumbered f) front)) (claims_of (map (accepted_renumbered f) front)))) ≡ excess_over load (numbered (Some number) (cond says (claim_of a ∷ claims_of front) (claims_of front)))
+    claimed true here rest = here
+    claimed false here rest = rest
+
     one : (says : Bool) → excess_over load (numbered (Some (f number)) (claims_of (map (accepted_renumbered f) front))) ≡ excess_over load (numbered (Some number) (claims_of front)) → excess_over load (cond says (Some (claim_of (accepted_renumbered f a))) (numbered (Some (f number)) (claims_of (map (accepted_renumbered f) front)))) ≡ excess_over load (cond says (Some (claim_of a)) (numbered (Some number) (claims_of front)))
     one true rest = refl
     one false rest = rest

@@ -1,13 +1,13 @@
 -- A cell's record, and the messages that its log accepted (own).
-use Rattle.std.specs.Prelude.{ℕ, ◌+◌, ◌-◌, ◌*◌, Bool, true, false, ◌==◌, ◌&&◌, ◌||◌, not, nat_lt, if◌then◌else◌, Option, Some, None, is_some, List, [], ◌∷◌, ◌++◌, length, map, find}
+use Rattle.std.specs.Prelude.{ℕ, ◌+◌, ◌-◌, ◌*◌, Bool, true, false, ◌==◌, ◌&&◌, ◌||◌, not, nat_lt, if◌then◌else◌, Option, Some, None, is_some, List, [], ◌∷◌, ◌++◌, length, map, filter, find}
 use Rattle.admission.specs.Load.{load_of}
 use Rattle.cbsp_wire.specs.declared.message.Cell.{Cell}
 use Rattle.scheduler.specs.declared.plan.Rank.{Rank}
 use Rattle.scheduler.specs.declared.plan.Rank.TheVariants as ranks
 use Rattle.scheduler.specs.Message.{Message}
-use Rattle.scheduler.specs.Air.{Air}
+use Rattle.scheduler.specs.Air.{Air, layer}
 use Rattle.bsc_table.specs.declared.command.Category.{Category}
-use Rattle.bsc_table.specs.declared.command.Category.TheVariants.{High, Normal}
+use Rattle.bsc_table.specs.declared.command.Category.TheVariants.{High, Normal, Background}
 use Rattle.bsc_table.specs.declared.command.Command.{Command}
 use Rattle.bsc_table.specs.declared.command.Command.TheVariants as commands
 use Rattle.bsc_table.specs.declared.entry.Answer.{Answer}
@@ -15,8 +15,8 @@ use Rattle.bsc_table.specs.declared.entry.Answer.TheVariants as answers
 use Rattle.bsc_table.specs.declared.entry.State.{State}
 use Rattle.bsc_table.specs.declared.entry.State.TheVariants as states
 use Rattle.bsc_table.specs.declared.entry.Entry.{Entry}
-use Rattle.bsc_table.specs.Claim.{Claim, own_load}
-use Rattle.bsc_table.specs.Handover.{ahead_of, numbered}
+use Rattle.bsc_table.specs.Claim.{Claim, own_load, reserves}
+use Rattle.bsc_table.specs.Handover.{Place, ahead_of, numbered, handover}
 
 -- a cell's record: how many slots its run has, how many of them were played, the commands that were answered, in order, and
 -- what each played slot aired
@@ -42,8 +42,9 @@ pub record Accepted : Type 0 where
 abbrev pub claim_of : Accepted → Claim
 claim_of a = record { message = a.message; accepted = a.accepted; behind = a.behind; excess = a.excess }
 
+-- of some accepted messages those that aren't background
 abbrev pub claims_of : List Accepted → List Claim
-claims_of all = map claim_of all
+claims_of all = filter reserves (map claim_of all)
 
 -- the slot from which a write's message stands, where the answer accepts it: a later one than its own where the message
 -- takes over from the one that it replaces
@@ -56,6 +57,12 @@ start_of other = None
 abbrev pub rank_of : Category → Rank
 rank_of High = ranks.High
 rank_of Normal = ranks.Normal
+rank_of Background = ranks.Background
+
+abbrev pub is_background : Category → Bool
+is_background High = false
+is_background Normal = false
+is_background Background = true
 
 -- whether an entry stopped the message of this pair: a kill of it that was answered `Stopped`, or a write in its place that
 -- was answered `Replaced`
@@ -92,6 +99,11 @@ replaced_in all id (Some serial) = find (is_of_pair id serial) all
 abbrev pub behind_of : ℕ → ℕ → Option Accepted → Option ℕ
 behind_of slot start None = None
 behind_of slot start (Some old) = if start == slot then None else ahead_of slot (claim_of old)
+
+-- the place that a replacement of the old message may take over at the slot, in claims in which the old one is stopped:
+-- none where that is background, behind which nothing waits
+abbrev pub place_after : List Claim → ℕ → Accepted → ℕ → Option Place
+place_after claims slot old load = if layer old.message == 0 then handover claims slot (claim_of old) load else None
 
 -- what a load has over that of the message behind which it waits; 0 where there is none, or where it has less
 abbrev pub excess_over : ℕ → Option Claim → ℕ

@@ -2,7 +2,7 @@
 
 ghost use Rattle.std.specs.Prelude.{◌≡◌, IfOk, IfErr};
 ghost use Rattle.bsc_table.specs.Orders.{IsWrite};
-ghost use Rattle.bsc_table.specs.Record.{rank_of};
+ghost use Rattle.bsc_table.specs.Record.{rank_of, is_background};
 
 use cbs_page::{Dcs, Serial};
 use cbsp_wire::Contents;
@@ -35,6 +35,8 @@ pub enum Category {
     High,
     /// Normal.
     Normal,
+    /// Background: aired only in slots that nothing else needs.
+    Background,
 }
 
 impl Category {
@@ -45,6 +47,17 @@ impl Category {
         match self {
             Category::High => Rank::High,
             Category::Normal => Rank::Normal,
+            Category::Background => Rank::Background,
+        }
+    }
+
+    /// Whether its messages reserve nothing, and are aired only where nothing else is pending.
+    pub(crate) fn is_background(self) -> bool
+        ensures { result ≡ is_background self }
+    {
+        match self {
+            Category::High | Category::Normal => false,
+            Category::Background => true,
         }
     }
 }
