@@ -5,7 +5,7 @@ use Rattle.std.specs.Option.{option_map}
 use Rattle.std.proofs.lemmas.Bool.{cases_Bool, cases_lt, lt-ltb, le-ltb, ltb-true, leb-true, ne_eqb, eq-eqb}
 use Rattle.std.proofs.lemmas.Option.{none-some}
 use Rattle.std.proofs.lemmas.List.{get_or-map, length-map, take-append-le, get_or_append_left, length_push}
-use Rattle.std.proofs.lemmas.List.Elements.{All-head, All-tail, All-map, All-push, All-filter}
+use Rattle.std.proofs.lemmas.List.Elements.{All-map, All-push, All-filter}
 use Rattle.std.proofs.lemmas.List.Filters.{length-filter_both}
 use Rattle.std.proofs.lemmas.List.Kept.{AllPairs-filter}
 use Rattle.std.proofs.lemmas.List.Quantifiers.{all_pairs_push}
@@ -192,25 +192,3 @@ place_behind behind load start excess table distinct ahead free is =
       covered = omega (arith, own, is);
     } in
     ((ahead.0, g, ahead.2, ahead.3, over), free)
-
--- where no line waits, slots that pass drop lines and nothing else
-pub passed-plain : (slot : ℕ) (table : List Held) → All (λ h. h.waits ≡ None) table → passed slot table ≡ filter (λ h. is_before_end slot h.until) table
-passed-plain slot [] started = refl
-passed-plain slot (h ∷ table) started =
-    let Started : Held → Type 0 = λ x. x.waits ≡ None in
-    let p : Held → Bool = λ x. is_before_end slot x.until in
-    one (p h) (started_at-plain slot h (All-head Started h table started)) (passed-plain slot table (All-tail Started h table started))
-  where
-    one : (b : Bool) → started_at slot h ≡ h → map (started_at slot) (filter (λ x. is_before_end slot x.until) table) ≡ filter (λ x. is_before_end slot x.until) table → map (started_at slot) (cond b (h ∷ filter (λ x. is_before_end slot x.until) table) (filter (λ x. is_before_end slot x.until) table)) ≡ cond b (h ∷ filter (λ x. is_before_end slot x.until) table) (filter (λ x. is_before_end slot x.until) table)
-    one true same rest = cc
-    one false same rest = rest
-
--- so it stays where an end is set
-pub started-ends_at : (entry slot : ℕ) (table : List Held) → All (λ h. h.waits ≡ None) table → All (λ h. h.waits ≡ None) (ends_at entry slot table)
-started-ends_at entry slot table started =
-    All-map (λ (h : Held). h.waits ≡ None) (λ (h : Held). ends_if (h.entry == entry) slot h) table started
-
--- and behind what has started none waits
-pub started-free : (entry : ℕ) (table : List Held) → All (λ h. h.waits ≡ None) table → All (λ h. behind_of h ≢ Some entry) table
-started-free entry table started = λ k d within. λ is.
-    none-some entry (sym (ap (λ (o : Option Waits). option_map (λ (x : Waits). x.behind) o) (started k d within)) ∙ is)

@@ -20,12 +20,16 @@ use Rattle.bsc_table.proofs.Stopped.{in_order-stop}
 use Rattle.bsc_table.proofs.Lines.{lined, same_room}
 use Rattle.bsc_table.proofs.Handed.{handed_in}
 
-over_is_later : (slot : ℕ) (old : Accepted) (before : List Accepted) (a : Accepted) → TakesOver slot old before a → slot < a.message.start
+over_is_later : (slot : ℕ) (old : Accepted) (before : List Accepted) (a : Accepted)
+    → TakesOver slot old before a
+    → slot < a.message.start
 over_is_later slot old before a over =
     let took = taken (claims_of before) slot (own_load a.message) (ahead_of slot (claim_of old)) over.place over.over in
     omega (arith, took.later, over.placed.start)
 
-pub starts_forward : (slot : ℕ) (replaced : Option Accepted) (before : List Accepted) (a : Accepted) → Starts slot replaced before a → slot ≤ a.message.start
+pub starts_forward : (slot : ℕ) (replaced : Option Accepted) (before : List Accepted) (a : Accepted)
+    → Starts slot replaced before a
+    → slot ≤ a.message.start
 starts_forward slot None before a now = omega (arith, now.start)
 starts_forward slot (Some old) before a starts =
     elim starts [
@@ -34,7 +38,11 @@ starts_forward slot (Some old) before a starts =
     ]
 
 -- where there is a place and room, the budget says so
-has_room : (slot load : ℕ) (claims : List Claim) → AreInOrder claims slot → length (filter (is_claimed_at slot) claims) < 64 → claimed_at claims slot + load ≤ SCALE → answer_for (lines_at slot claims) load ≡ Ok tt
+has_room : (slot load : ℕ) (claims : List Claim)
+    → AreInOrder claims slot
+    → length (filter (is_claimed_at slot) claims) < 64
+    → claimed_at claims slot + load ≤ SCALE
+    → answer_for (lines_at slot claims) load ≡ Ok tt
 has_room slot load claims order room fits =
     let places = length (filter (is_claimed_at slot) claims) in
     let yes : answer_by places (claimed_at claims slot) load ≡ Ok tt = rw (lt-ltb (length (filter (is_claimed_at slot) claims)) 64 room, le-leb (claimed_at claims slot + load) SCALE fits) refl in

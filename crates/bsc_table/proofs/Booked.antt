@@ -31,30 +31,44 @@ use Rattle.bsc_table.proofs.Lines.{lined, same_room, lines_are_current, room_wit
 use Rattle.bsc_table.proofs.Sound.{HasLoad, IsSound-legal}
 
 -- so a plan that follows them was told of it
-pub told_of_it : (plan : Kept) (log : List Entry) (air : Air) (a : Accepted) → Follows plan (messages_in log) air → Contains (accepted_in log) a → Any (λ m. m.number ≡ a.message.number) (messages_of plan)
+pub told_of_it : (plan : Kept) (log : List Entry) (air : Air) (a : Accepted)
+    → Follows plan (messages_in log) air
+    → Contains (accepted_in log) a
+    → Any (λ m. m.number ≡ a.message.number) (messages_of plan)
 told_of_it plan log air a follows there =
     let P : List Message → Type 0 = λ messages. Any (λ (m : Message). m.number ≡ a.message.number) messages in
     let found = Contains-message log a there in
     subst P (sym follows.told) (found.0, a.message, found.1, found.2, refl)
 
 -- and what it answers of its number is true of it
-pub completed_of_it : (log : List Entry) (air : Air) (slot told : ℕ) (a : Accepted) → length air ≡ slot → Contains (accepted_in log) a → All (λ m. m.number ≡ a.message.number → told ≡ completed m air (length air)) (messages_in log) → told ≡ completed a.message air slot
+pub completed_of_it : (log : List Entry) (air : Air) (slot told : ℕ) (a : Accepted)
+    → length air ≡ slot
+    → Contains (accepted_in log) a
+    → All (λ m. m.number ≡ a.message.number → told ≡ completed m air (length air)) (messages_in log)
+    → told ≡ completed a.message air slot
 completed_of_it log air slot told a long there says =
     let Says : Message → Type 0 = λ m. m.number ≡ a.message.number → told ≡ completed m air (length air) in
-    All-contains Says (messages_in log) a.message says (Contains-message log a there) refl ∙ ap (completed a.message air) long
+    All-contains Says (messages_in log) a.message says (Contains-message log a there) refl
+    ∙ ap (completed a.message air) long
 
 -- what is found by its pair was accepted
-pub found_is_there : (id serial : ℕ) (log : List Entry) (a : Accepted) → find (is_of_pair id serial) (accepted_in log) ≡ Some a → Contains (accepted_in log) a
+pub found_is_there : (id serial : ℕ) (log : List Entry) (a : Accepted)
+    → find (is_of_pair id serial) (accepted_in log) ≡ Some a
+    → Contains (accepted_in log) a
 found_is_there id serial log a found =
     All-find (Contains (accepted_in log)) (is_of_pair id serial) (accepted_in log) a (All-contains_itself (accepted_in log)) found
 
 -- the same where the result of looking is an option
-pub option_is_there : {K : Type 0} (view : K → Accepted) (id serial : ℕ) (log : List Entry) (found : Option K) (kept : K) → option_map view found ≡ find (is_of_pair id serial) (accepted_in log) → found ≡ Some kept → Contains (accepted_in log) (view kept)
+pub option_is_there : {K : Type 0} (view : K → Accepted) (id serial : ℕ) (log : List Entry) (found : Option K) (kept : K)
+    → option_map view found ≡ find (is_of_pair id serial) (accepted_in log)
+    → found ≡ Some kept
+    → Contains (accepted_in log) (view kept)
 option_is_there view id serial log found kept same is =
     found_is_there id serial log (view kept) (sym same ∙ ap (option_map view) is)
 
 -- what the refusals of a write for want of room are, by those of a budget
-room_told : (places all : ℕ) (now later : Answer) → cond (leb 64 places) (answers.Cause 0x07) (cond (ltb SCALE all) later now) ≡ by_room (cond (ltb places 64) (cond (leb all SCALE) (Ok tt) (Err Load)) (Err Table)) now later
+room_told : (places all : ℕ) (now later : Answer)
+    → cond (leb 64 places) (answers.Cause 0x07) (cond (ltb SCALE all) later now) ≡ by_room (cond (ltb places 64) (cond (leb all SCALE) (Ok tt) (Err Load)) (Err Table)) now later
 room_told places all now later =
     elim (cases_lt places 64) [
       | inl few ↦ elim (cases_lt SCALE all) [
@@ -65,7 +79,9 @@ room_told places all now later =
     ]
 
 -- what a budget answers of a load, where it holds as much as the claims
-room_beside : (slot load : ℕ) (claims : List Claim) (room : Result (Unit {0}) NoRoom) → room ≡ answer_by (length (filter (is_claimed_at slot) claims)) (claimed_at claims slot) load → IsRoom claims slot load room
+room_beside : (slot load : ℕ) (claims : List Claim) (room : Result (Unit {0}) NoRoom)
+    → room ≡ answer_by (length (filter (is_claimed_at slot) claims)) (claimed_at claims slot) load
+    → IsRoom claims slot load room
 room_beside slot load claims room says =
     let places : ℕ = length (filter (is_claimed_at slot) claims) in
     let all : ℕ = claimed_at claims slot + load in
@@ -85,7 +101,10 @@ room_beside slot load claims room says =
     }
 
 -- where it is refused for its load, there is a place
-pub few_places : (claims : List Claim) (slot load : ℕ) (room : Result (Unit {0}) NoRoom) → IsRoom claims slot load room → room ≡ Err Load → length (filter (is_claimed_at slot) claims) < 64
+pub few_places : (claims : List Claim) (slot load : ℕ) (room : Result (Unit {0}) NoRoom)
+    → IsRoom claims slot load room
+    → room ≡ Err Load
+    → length (filter (is_claimed_at slot) claims) < 64
 few_places claims slot load room is full =
     let places : ℕ = length (filter (is_claimed_at slot) claims) in
     elim (cases_lt places 64) [
@@ -99,12 +118,17 @@ few_places claims slot load room is full =
     apart other is_other is_load is_table = cc
 
 -- whether a load has room beside the accepted messages
-pub room_now : (r : Record) (load : ℕ) → IsLegal r → IsRoom (claims_in r.log) r.clock load (answer_for (lines_at r.clock (claims_in r.log)) load)
+pub room_now : (r : Record) (load : ℕ)
+    → IsLegal r
+    → IsRoom (claims_in r.log) r.clock load (answer_for (lines_at r.clock (claims_in r.log)) load)
 room_now r load legal =
     room_beside r.clock load (claims_in r.log) (answer_for (lines_at r.clock (claims_in r.log)) load) (same_room r.clock load (claims_in r.log) (lined r.clock (claims_in r.log) (IsSound-legal r legal).order))
 
 -- and where a live one of them is stopped: the budget is asked as if that one were gone, where its reservation ends now
-pub room_after_stop : (r : Record) (load : ℕ) (a : Accepted) → IsLegal r → IsLiveIn r a → IsRoom (left_by r a) r.clock load (answer_for (remaining_without (cond (end_of_stopped a.message.start a.message.period r.clock == r.clock) (Some a.message.number) None) (lines_at r.clock (claims_in r.log))) load)
+pub room_after_stop : (r : Record) (load : ℕ) (a : Accepted)
+    → IsLegal r
+    → IsLiveIn r a
+    → IsRoom (left_by r a) r.clock load (answer_for (remaining_without (cond (end_of_stopped a.message.start a.message.period r.clock == r.clock) (Some a.message.number) None) (lines_at r.clock (claims_in r.log))) load)
 room_after_stop r load a legal live =
     let sound = IsSound-legal r legal in
     let slot : ℕ = r.clock in

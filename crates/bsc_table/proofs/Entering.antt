@@ -36,7 +36,9 @@ use Rattle.bsc_table.proofs.Begun.{starts_forward}
 use Rattle.bsc_table.proofs.Sound.{IsSound-legal, stops_live}
 
 -- where the log has room, cause 08 doesn't apply
-pub answer-with_room : (r : Record) (e : Entry) → length r.log < 4096 → answer_of r.slots r.log r.air r.clock e.command ≡ answer_with_room r.slots r.log r.air r.clock e.command
+pub answer-with_room : (r : Record) (e : Entry)
+    → length r.log < 4096
+    → answer_of r.slots r.log r.air r.clock e.command ≡ answer_with_room r.slots r.log r.air r.clock e.command
 answer-with_room r e room =
     cond-false _ _ _ (lt-leb 4096 (length r.log) room)
 
@@ -49,33 +51,44 @@ IsLegal-with r e legal next =
     subst P same (IsLegal-entry r e.command legal next.room next.formed)
 
 -- the messages, as the accepted ones
-pub messages_with : (log : List Entry) (e : Entry) (all : List Accepted) (a : Accepted) → accepted_in (log ++ e ∷ []) ≡ all ++ a ∷ [] → messages_in (log ++ e ∷ []) ≡ map (λ x. x.message) all ++ a.message ∷ []
+pub messages_with : (log : List Entry) (e : Entry) (all : List Accepted) (a : Accepted)
+    → accepted_in (log ++ e ∷ []) ≡ all ++ a ∷ []
+    → messages_in (log ++ e ∷ []) ≡ map (λ x. x.message) all ++ a.message ∷ []
 messages_with log e all a after =
     ap (map (λ (x : Accepted). x.message)) after ∙ map-append (λ (x : Accepted). x.message) all (a ∷ [])
 
-pub messages_without : (log : List Entry) (e : Entry) (number slot : ℕ) → accepted_in (log ++ e ∷ []) ≡ map (stop_numbered number slot) (accepted_in log) → messages_in (log ++ e ∷ []) ≡ stopped_at number slot (messages_in log)
+pub messages_without : (log : List Entry) (e : Entry) (number slot : ℕ)
+    → accepted_in (log ++ e ∷ []) ≡ map (stop_numbered number slot) (accepted_in log)
+    → messages_in (log ++ e ∷ []) ≡ stopped_at number slot (messages_in log)
 messages_without log e number slot after =
     ap (map (λ (x : Accepted). x.message)) after ∙ messages_stopped number slot (accepted_in log)
 
 -- what is kept, stopped as the accepted messages are
-pub kept_stop : (number slot : ℕ) (kept : List Kept) → map accepted_of (map (kept_stopped number slot) kept) ≡ map (stop_numbered number slot) (map accepted_of kept)
+pub kept_stop : (number slot : ℕ) (kept : List Kept)
+    → map accepted_of (map (kept_stopped number slot) kept) ≡ map (stop_numbered number slot) (map accepted_of kept)
 kept_stop number slot [] = refl
 kept_stop number slot (k ∷ kept) =
     ap (λ (l : List Accepted). accepted_of (kept_stopped number slot k) ∷ l) (kept_stop number slot kept)
 
 -- and with one more
-pub kept_more : (kept : List Kept) (new : Kept) (all : List Accepted) → map accepted_of kept ≡ all → map accepted_of (kept ++ new ∷ []) ≡ all ++ accepted_of new ∷ []
+pub kept_more : (kept : List Kept) (new : Kept) (all : List Accepted)
+    → map accepted_of kept ≡ all
+    → map accepted_of (kept ++ new ∷ []) ≡ all ++ accepted_of new ∷ []
 kept_more kept new all same =
     map-append accepted_of kept (new ∷ []) ∙ ap (λ (l : List Accepted). l ++ accepted_of new ∷ []) same
 
 -- a plan's numbers are below the length of the log
-pub planned_below : (plan : Planned) (log : List Entry) (air : Air) → Follows plan (messages_in log) air → All (λ m. m.number < length log) (messages_of plan)
+pub planned_below : (plan : Planned) (log : List Entry) (air : Air)
+    → Follows plan (messages_in log) air
+    → All (λ m. m.number < length log) (messages_of plan)
 planned_below plan log air follows =
     let Below : List Message → Type 0 = λ messages. All (λ (m : Message). m.number < length log) messages in
     subst Below (sym follows.told) (All-map (λ (m : Message). m.number < length log) (λ (a : Accepted). a.message) (accepted_in log) (numbers_below log))
 
 -- so are those of a budget
-lines_below : (slot n : ℕ) (claims : List Claim) → All (λ c. c.message.number < n) claims → All (λ h. h.entry < n) (lines_at slot claims)
+lines_below : (slot n : ℕ) (claims : List Claim)
+    → All (λ c. c.message.number < n) claims
+    → All (λ h. h.entry < n) (lines_at slot claims)
 lines_below slot n claims below =
     All-map (λ (h : Held). h.entry < n) (line_of slot) (filter (is_claimed_at slot) claims) (All-filter (is_claimed_at slot) (λ (c : Claim). c.message.number < n) claims below)
 
@@ -86,29 +99,40 @@ claims_below log =
 pub held_below : (slot : ℕ) (log : List Entry) → All (λ h. h.entry < length log) (lines_at slot (claims_in log))
 held_below slot log = lines_below slot (length log) (claims_in log) (claims_below log)
 
-pub held_below_without : (slot number : ℕ) (log : List Entry) → All (λ h. h.entry < length log) (lines_at slot (stop_claims number slot (claims_in log)))
+pub held_below_without : (slot number : ℕ) (log : List Entry)
+    → All (λ h. h.entry < length log) (lines_at slot (stop_claims number slot (claims_in log)))
 held_below_without slot number log =
     lines_below slot (length log) (stop_claims number slot (claims_in log)) (All-map (λ (c : Claim). c.message.number < length log) (stop_claim number slot) (claims_in log) (claims_below log))
 
 -- a message with another number stays as it is where one is stopped
-pub stopped_beside : (number slot : ℕ) (messages : List Message) (m : Message) → (m.number ≡ number → ⊥) → stopped_at number slot (messages ++ m ∷ []) ≡ stopped_at number slot messages ++ m ∷ []
+pub stopped_beside : (number slot : ℕ) (messages : List Message) (m : Message)
+    → (m.number ≡ number → ⊥)
+    → stopped_at number slot (messages ++ m ∷ []) ≡ stopped_at number slot messages ++ m ∷ []
 stopped_beside number slot messages m other =
     let stop : Message → Message = λ x. stopped_if (x.number == number) slot x in
-    map-append stop messages (m ∷ []) ∙ ap (λ (b : Bool). stopped_at number slot messages ++ stopped_if b slot m ∷ []) (ne_eqb m.number number other)
+    map-append stop messages (m ∷ [])
+    ∙ ap (λ (b : Bool). stopped_at number slot messages ++ stopped_if b slot m ∷ []) (ne_eqb m.number number other)
 
 pub number_below : (log : List Entry) (a : Accepted) → Contains (accepted_in log) a → a.message.number < length log
 number_below log a there =
     All-contains (λ (x : Accepted). x.message.number < length log) (accepted_in log) a (numbers_below log) there
 
 -- a live message is told of as standing
-pub standing_in : (plan : Planned) (slot : ℕ) (log : List Entry) (air : Air) (a : Accepted) → Follows plan (messages_in log) air → Contains (accepted_in log) a → is_live slot a.message ≡ true → Any (λ m. (m.number ≡ a.message.number) × (m.stop ≡ None)) (messages_of plan)
+pub standing_in : (plan : Planned) (slot : ℕ) (log : List Entry) (air : Air) (a : Accepted)
+    → Follows plan (messages_in log) air
+    → Contains (accepted_in log) a
+    → is_live slot a.message ≡ true
+    → Any (λ m. (m.number ≡ a.message.number) × (m.stop ≡ None)) (messages_of plan)
 standing_in plan slot log air a follows there live =
     let P : List Message → Type 0 = λ messages. Any (λ (m : Message). (m.number ≡ a.message.number) × (m.stop ≡ None)) messages in
     let found = Contains-message log a there in
     subst P (sym follows.told) (found.0, a.message, found.1, found.2, (refl, live_is_standing slot a.message live))
 
 -- also where one more was told
-pub standing_beside : (plan : Planned) (slot : ℕ) (log : List Entry) (a : Accepted) (told : List Message) (m : Message) → messages_of plan ≡ told ++ m ∷ [] → Any (λ x. (x.number ≡ a.message.number) × (x.stop ≡ None)) told → Any (λ x. (x.number ≡ a.message.number) × (x.stop ≡ None)) (messages_of plan)
+pub standing_beside : (plan : Planned) (slot : ℕ) (log : List Entry) (a : Accepted) (told : List Message) (m : Message)
+    → messages_of plan ≡ told ++ m ∷ []
+    → Any (λ x. (x.number ≡ a.message.number) × (x.stop ≡ None)) told
+    → Any (λ x. (x.number ≡ a.message.number) × (x.stop ≡ None)) (messages_of plan)
 standing_beside plan slot log a told m same found =
     let P : List Message → Type 0 = λ messages. Any (λ (x : Message). (x.number ≡ a.message.number) × (x.stop ≡ None)) messages in
     let there : Contains (told ++ m ∷ []) found.1 =
@@ -136,7 +160,11 @@ item_message m told same standing =
     same ∙ ap (λ (stop : Option ℕ). record m { stop = stop }) (sym standing)
 
 -- a table in whose items a message was stopped in place
-pub table_stopped : (table : Vec Kept) (seen after : List Kept) (number slot : ℕ) → seen ≡ table.items → length seen ≡ vec_len table → after ≡ map (kept_stopped number slot) seen → map accepted_of (with_items table after).items ≡ map (stop_numbered number slot) (map accepted_of table.items)
+pub table_stopped : (table : Vec Kept) (seen after : List Kept) (number slot : ℕ)
+    → seen ≡ table.items
+    → length seen ≡ vec_len table
+    → after ≡ map (kept_stopped number slot) seen
+    → map accepted_of (with_items table after).items ≡ map (stop_numbered number slot) (map accepted_of table.items)
 table_stopped table seen after number slot same long stopped =
     let length_is : length after ≡ vec_len table = ap length stopped ∙ length-map seen (kept_stopped number slot) ∙ long in
     let items = with_items_is table after length_is ∙ stopped ∙ ap (map (kept_stopped number slot)) same in
@@ -149,7 +177,10 @@ left_in_order r a legal live =
     in_order-stop (claims_in r.log) a.message.number r.clock sound.order (stops_live (accepted_in r.log) r.clock a sound.rising live.there live.live)
 
 -- the lines that are left of a budget where a live message was released
-ended_claims : (r : Record) (a : Accepted) → IsLegal r → IsLiveIn r a → All (λ c. c.message.number ≡ a.message.number → (is_claimed_at r.clock c ≡ true) × (end_of_stopped c.message.start c.message.period r.clock ≡ end_of_stopped a.message.start a.message.period r.clock)) (claims_in r.log)
+ended_claims : (r : Record) (a : Accepted)
+    → IsLegal r
+    → IsLiveIn r a
+    → All (λ c. c.message.number ≡ a.message.number → (is_claimed_at r.clock c ≡ true) × (end_of_stopped c.message.start c.message.period r.clock ≡ end_of_stopped a.message.start a.message.period r.clock)) (claims_in r.log)
 ended_claims r a legal live = λ k d within. λ same.
     let claims = claims_in r.log in
     let order = (IsSound-legal r legal).order in
@@ -158,7 +189,10 @@ ended_claims r a legal live = λ k d within. λ same.
     let Live : Claim → Type 0 = λ x. is_live r.clock x.message ≡ true in
     (live_is_claimed r.clock c (order.accepted k d within) (order.periods k d within) (subst Live (sym is) live.live), ap (λ (x : Claim). end_of_stopped x.message.start x.message.period r.clock) is)
 
-pub lines_without : (r : Record) (a : Accepted) → IsLegal r → IsLiveIn r a → passed r.clock (ends_at a.message.number (end_of_stopped a.message.start a.message.period r.clock) (lines_at r.clock (claims_in r.log))) ≡ lines_at r.clock (stop_claims a.message.number r.clock (claims_in r.log))
+pub lines_without : (r : Record) (a : Accepted)
+    → IsLegal r
+    → IsLiveIn r a
+    → passed r.clock (ends_at a.message.number (end_of_stopped a.message.start a.message.period r.clock) (lines_at r.clock (claims_in r.log))) ≡ lines_at r.clock (stop_claims a.message.number r.clock (claims_in r.log))
 lines_without r a legal live =
     lines_at-stopped r.clock a.message.number (end_of_stopped a.message.start a.message.period r.clock) (claims_in r.log) (IsSound-legal r legal).order.accepted (ended_claims r a legal live)
 
@@ -172,7 +206,9 @@ released_lines r a before after legal live held false front released =
     released ∙ ap left held ∙ lines_without r a legal live
 
 -- the claims of a log with an entry that stops a message, and that starts one
-pub claims_without : (log : List Entry) (e : Entry) (number slot : ℕ) → accepted_in (log ++ e ∷ []) ≡ map (stop_numbered number slot) (accepted_in log) → claims_in (log ++ e ∷ []) ≡ stop_claims number slot (claims_in log)
+pub claims_without : (log : List Entry) (e : Entry) (number slot : ℕ)
+    → accepted_in (log ++ e ∷ []) ≡ map (stop_numbered number slot) (accepted_in log)
+    → claims_in (log ++ e ∷ []) ≡ stop_claims number slot (claims_in log)
 claims_without log e number slot after = ap claims_of after ∙ claims_stopped number slot (accepted_in log)
 
 pub claims_with : (log : List Entry) (e : Entry) (all : List Accepted) (a : Accepted) → accepted_in (log ++ e ∷ []) ≡ all ++ a ∷ [] → claims_in (log ++ e ∷ []) ≡ claims_of all ++ filter reserves (claim_of a ∷ [])
@@ -192,7 +228,14 @@ begun_lines number slot replaced before claims a begun held after same false fro
         lines_at-new slot claims (claim_of a) (new_is_claimed slot (claim_of a) begun.accepted (starts_forward slot replaced before a begun.starts) begun.some_period begun.standing)
 
 -- a book whose log has the entry that was to come next, and whose table, plan and budget are those of the messages with it
-pub book_with : (b : Inside) (e : Entry) (log : Vec Entry) (accepted : Vec Kept) (plan : Planned) (budget : List Held) → IsBook b → IsNext (record_of b) e → log.items ≡ b.log.items ++ e ∷ [] → map accepted_of accepted.items ≡ accepted_in (b.log.items ++ e ∷ []) → Follows plan (messages_in (b.log.items ++ e ∷ [])) (air_told b.air.items) → budget ≡ lines_at b.clock (claims_in (b.log.items ++ e ∷ [])) → IsBook (record b { log = log; accepted = accepted; plan = plan; budget = budget })
+pub book_with : (b : Inside) (e : Entry) (log : Vec Entry) (accepted : Vec Kept) (plan : Planned) (budget : List Held)
+    → IsBook b
+    → IsNext (record_of b) e
+    → log.items ≡ b.log.items ++ e ∷ []
+    → map accepted_of accepted.items ≡ accepted_in (b.log.items ++ e ∷ [])
+    → Follows plan (messages_in (b.log.items ++ e ∷ [])) (air_told b.air.items)
+    → budget ≡ lines_at b.clock (claims_in (b.log.items ++ e ∷ []))
+    → IsBook (record b { log = log; accepted = accepted; plan = plan; budget = budget })
 book_with b e log accepted plan budget book next grown kept follows held =
     let Legal : List Entry → Type 0 = λ l. IsLegal (record (record_of b) { log = l }) in
     let KeptBy : List Entry → Type 0 = λ l. map accepted_of accepted.items ≡ accepted_in l in

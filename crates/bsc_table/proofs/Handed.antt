@@ -3,7 +3,7 @@
 use Rattle.std.proofs.Common.{◌≡◌, ◌≢◌, ℕ, zero, suc, ◌-◌, ◌≤◌, ◌<◌, ◌==◌, Bool, true, false, cond, Option, Some, None, List, [], ◌∷◌, filter, get_or, refl, ap, sym, subst, ◌∙◌, inl, inr, arith}
 use Rattle.std.specs.List.{All, Any, Contains, find}
 use Rattle.std.specs.Option.{option_map}
-use Rattle.std.proofs.lemmas.Bool.{cases_Bool, cases_lt, eqb-true, eq-eqb, lt-ltb, false≢true}
+use Rattle.std.proofs.lemmas.Bool.{cases_Bool, cases_eq, cases_lt, eqb-true, eq-eqb, lt-ltb, false≢true}
 use Rattle.std.proofs.lemmas.Option.{none-some, same_Some}
 use Rattle.std.proofs.lemmas.List.{length-map, get_or-map, get_or_default}
 use Rattle.std.proofs.lemmas.List.Elements.{All-nil, All-cons, All-head, All-tail, All-map, All-filter, All-weaker, All-contains, Contains-append_right, filter_passes}
@@ -11,20 +11,23 @@ use Rattle.admission.specs.declared.budget.Held.{Held}
 use Rattle.admission.specs.declared.budget.Waits.{Waits}
 use Rattle.admission.specs.Reservation.{IsBeforeEnd}
 use Rattle.admission.specs.Waiting.{behind_of}
-use Rattle.admission.specs.Table.{load_in, load_for}
+use Rattle.admission.specs.Table.{load_in, load_for, excess_over}
 use Rattle.bsc_table.specs.Record.{is_live}
-use Rattle.bsc_table.specs.Claim.{Claim, own_load, is_claimed_at, IsWaiting, stop_claims}
+use Rattle.bsc_table.specs.Claim.{Claim, end_of, own_load, is_claimed_at, IsWaiting, stop_claims}
 use Rattle.bsc_table.specs.Handover.{Place, handover}
 use Rattle.bsc_table.specs.Room.{AreInOrder}
 use Rattle.bsc_table.specs.Book.{waits_of, line_of, lines_at, IsHeldFor}
 use Rattle.bsc_table.proofs.Claims.{is_claimed_at-says, is_claimed_at-from}
-use Rattle.bsc_table.proofs.Ahead.{by_number}
+use Rattle.bsc_table.proofs.Ahead.{by_number, from_stopped}
+use Rattle.bsc_table.proofs.Stops.{stop_claim-other}
 use Rattle.bsc_table.proofs.Stopped.{not_live, in_order-stop}
 use Rattle.bsc_table.proofs.TakenOver.{is_free, only_live}
-use Rattle.bsc_table.proofs.Lines.{waits_of-started}
+use Rattle.bsc_table.proofs.Lines.{waits_of-started, live_is_claimed}
 
 -- a line waits behind the message behind which its claim does, where that has not started
-waits_behind : (slot number : ℕ) (c : Claim) → behind_of (line_of slot c) ≡ Some number → (slot < c.message.start) × (c.behind ≡ Some number)
+waits_behind : (slot number : ℕ) (c : Claim)
+    → behind_of (line_of slot c) ≡ Some number
+    → (slot < c.message.start) × (c.behind ≡ Some number)
 waits_behind slot number c waits =
     let its : Option Waits → Option ℕ = λ o. option_map (λ (w : Waits). w.behind) o in
     elim (cases_lt slot c.message.start) [
@@ -43,7 +46,9 @@ waits_behind slot number c waits =
     same (Some n) = refl
 
 -- what is true of each claim that is reserved is true of each line
-all_lines : (P : Held → Type 0) (slot : ℕ) (claims : List Claim) → All (λ c. is_claimed_at slot c ≡ true → P (line_of slot c)) claims → All P (lines_at slot claims)
+all_lines : (P : Held → Type 0) (slot : ℕ) (claims : List Claim)
+    → All (λ c. is_claimed_at slot c ≡ true → P (line_of slot c)) claims
+    → All P (lines_at slot claims)
 all_lines P slot claims each =
     let Counted : Claim → Type 0 = λ c. is_claimed_at slot c ≡ true in
     let Line : Claim → Type 0 = λ c. P (line_of slot c) in
@@ -52,14 +57,20 @@ all_lines P slot claims each =
     All-map P (line_of slot) (filter (is_claimed_at slot) claims) (λ k d within. kept k d within (passes k d within))
 
 -- behind a message that none waits for, no line waits
-pub none_behind : (slot number : ℕ) (claims : List Claim) → All (λ c. IsWaiting slot c → c.behind ≢ Some number) claims → All (λ h. behind_of h ≢ Some number) (lines_at slot claims)
+pub none_behind : (slot number : ℕ) (claims : List Claim)
+    → All (λ c. IsWaiting slot c → c.behind ≢ Some number) claims
+    → All (λ h. behind_of h ≢ Some number) (lines_at slot claims)
 none_behind slot number claims free =
     all_lines (λ (h : Held). behind_of h ≢ Some number) slot claims (λ k d within. λ claimed waits.
     let behind = waits_behind slot number (get_or claims k d) waits in
     free k d within (behind.0, (is_claimed_at-says slot (get_or claims k d) claimed).1) behind.1)
 
 -- so behind a live one
-pub none_behind_live : (slot : ℕ) (claims : List Claim) (old : Claim) → AreInOrder claims slot → Contains claims old → is_live slot old.message ≡ true → All (λ h. behind_of h ≢ Some old.message.number) (lines_at slot claims)
+pub none_behind_live : (slot : ℕ) (claims : List Claim) (old : Claim)
+    → AreInOrder claims slot
+    → Contains claims old
+    → is_live slot old.message ≡ true
+    → All (λ h. behind_of h ≢ Some old.message.number) (lines_at slot claims)
 none_behind_live slot claims old order here live =
     let number = old.message.number in
     let only = only_live claims slot old order.rising here live in
@@ -82,14 +93,20 @@ all_that_pass {X = X} p (x ∷ xs) =
     All-cons Passes x xs here (All-weaker (λ y. p y ≡ true → Contains (filter p xs) y) Passes (λ y kept passes. more_there (p x) x (filter p xs) y (kept passes)) xs (all_that_pass p xs))
 
 -- the line of a claim that is reserved
-pub its_line : (slot : ℕ) (claims : List Claim) (c : Claim) → Contains claims c → is_claimed_at slot c ≡ true → Contains (lines_at slot claims) (line_of slot c)
+pub its_line : (slot : ℕ) (claims : List Claim) (c : Claim)
+    → Contains claims c
+    → is_claimed_at slot c ≡ true
+    → Contains (lines_at slot claims) (line_of slot c)
 its_line slot claims c here claimed =
     let Claimed : Claim → Type 0 = λ x. is_claimed_at slot x ≡ true → Contains (filter (is_claimed_at slot) claims) x in
     let kept = All-contains Claimed claims c (all_that_pass (is_claimed_at slot) claims) here claimed in
     (kept.0, omega (arith, kept.1, length-map (filter (is_claimed_at slot) claims) (line_of slot)), get_or-map (line_of slot) (filter (is_claimed_at slot) claims) kept.0 c (line_of slot c) kept.1 ∙ ap (line_of slot) kept.2)
 
 -- the load that is held for an entry
-load_of_entry : (number load : ℕ) (lines : List Held) → All (λ h. h.entry ≡ number → h.load ≡ load) lines → Any (λ h. h.entry ≡ number) lines → load_for number lines ≡ load
+load_of_entry : (number load : ℕ) (lines : List Held)
+    → All (λ h. h.entry ≡ number → h.load ≡ load) lines
+    → Any (λ h. h.entry ≡ number) lines
+    → load_for number lines ≡ load
 load_of_entry number load [] all found = absurd (omega (arith, found.2))
 load_of_entry number load (h ∷ lines) all found =
     let Says : Held → Type 0 = λ x. x.entry ≡ number → x.load ≡ load in
@@ -103,7 +120,12 @@ load_of_entry number load (h ∷ lines) all found =
     later other (suc k, x, within, is, same) = (k, x, omega (arith, within), is, same)
 
 -- what a budget holds of the place that a message takes over
-pub handed_in : (slot load : ℕ) (claims : List Claim) (old : Claim) (place : Place) → AreInOrder claims slot → Contains claims old → is_live slot old.message ≡ true → handover (stop_claims old.message.number slot claims) slot old load ≡ Some place → (slot < place.start) × IsHeldFor (lines_at slot (stop_claims old.message.number slot claims)) load place.behind place.start place.excess
+pub handed_in : (slot load : ℕ) (claims : List Claim) (old : Claim) (place : Place)
+    → AreInOrder claims slot
+    → Contains claims old
+    → is_live slot old.message ≡ true
+    → handover (stop_claims old.message.number slot claims) slot old load ≡ Some place
+    → (slot < place.start) × IsHeldFor (lines_at slot (stop_claims old.message.number slot claims)) load place.behind place.start place.excess
 handed_in slot load claims old place order here live over =
     let number = old.message.number in
     let left = stop_claims number slot claims in
@@ -129,3 +151,39 @@ handed_in slot load claims old place order here live over =
         over = ap (λ (n : ℕ). load - n) held ∙ sym its.excess;
       },
     )
+
+-- and of the one ahead, before the old one is stopped
+pub held_ahead : (slot load : ℕ) (claims : List Claim) (old : Claim) (place : Place)
+    → AreInOrder claims slot
+    → Contains claims old
+    → is_live slot old.message ≡ true
+    → handover (stop_claims old.message.number slot claims) slot old load ≡ Some place
+    → Any (λ h. (h.entry ≡ place.behind) × (h.waits ≡ None)) (lines_at slot claims) × (excess_over place.behind load (lines_at slot claims) ≡ place.excess)
+held_ahead slot load claims old place order here live over =
+    let number = old.message.number in
+    let its = is_free claims slot load old place order here live over in
+    let p : Claim = its.p in
+    let from = from_stopped claims number slot p its.there in
+    let c : Claim = from.0 in
+    let numbers : p.message.number ≡ c.message.number = ap (λ (x : Claim). x.message.number) from.2 in
+    let behind : c.message.number ≡ place.behind = sym numbers ∙ sym its.named in
+    let started : c.message.start ≤ slot = omega (arith, its.ahead.started, ap (λ (x : Claim). x.message.start) from.2) in
+    let Stands : Claim → Type 0 = λ x. (x.accepted ≤ slot) × (0 < x.message.period) in
+    let stands = subst Stands from.1.2 (order.accepted from.1.0 c from.1.1, order.periods from.1.0 c from.1.1) in
+    let Before : Option ℕ → Type 0 = λ end. IsBeforeEnd slot end in
+    let claimed : is_claimed_at slot c ≡ true = elim (cases_eq c.message.number number) [
+      | inl same ↦
+          let is : c ≡ old = by_number claims c old order.rising from.1 here same in
+          live_is_claimed slot c stands.0 stands.1 (ap (λ (x : Claim). is_live slot x.message) is ∙ live)
+      | inr other ↦
+          let is : p ≡ c = from.2 ∙ stop_claim-other number slot c other in
+          let ends = ap (λ (x : Claim). end_of x.message) (sym is) ∙ its.ends in
+          is_claimed_at-from slot c (stands.0, subst Before (sym ends) its.later)
+    ] in
+    let line = its_line slot claims c from.1 claimed in
+    let loads = all_lines (λ (h : Held). h.entry ≡ place.behind → h.load ≡ own_load p.message) slot claims (λ k d within. λ counted same.
+    let x : Claim = get_or claims k d in
+    let is : get_or claims k d ≡ c = by_number claims (get_or claims k d) c order.rising (k, within, get_or_default claims k (get_or claims k d) d within) from.1 (same ∙ sym behind) in
+    ap (λ (y : Claim). own_load y.message) is ∙ sym (ap (λ (y : Claim). own_load y.message) from.2)) in
+    let held = load_of_entry place.behind (own_load p.message) (lines_at slot claims) loads (line.0, line_of slot c, line.1, line.2, behind) in
+    ((line.0, line_of slot c, line.1, line.2, (behind, waits_of-started slot c started)), ap (λ (n : ℕ). load - n) held ∙ sym its.excess)

@@ -35,22 +35,31 @@ pub waits_of-started : (slot : ℕ) (c : Claim) → c.message.start ≤ slot →
 waits_of-started slot c started =
     ap (λ (b : Bool). cond b (option_map (λ (behind : ℕ). record { behind = behind; start = c.message.start; excess = c.excess }) c.behind) None) (le-ltb slot c.message.start started)
 
-pub waits_of-waiting : (slot : ℕ) (c : Claim) (number : ℕ) → slot < c.message.start → c.behind ≡ Some number → waits_of slot c ≡ Some (record { behind = number; start = c.message.start; excess = c.excess })
+pub waits_of-waiting : (slot : ℕ) (c : Claim) (number : ℕ)
+    → slot < c.message.start
+    → c.behind ≡ Some number
+    → waits_of slot c ≡ Some (record { behind = number; start = c.message.start; excess = c.excess })
 waits_of-waiting slot c number waits behind =
     let waiting : Option ℕ → Option Waits = λ o. option_map (λ (n : ℕ). record { behind = n; start = c.message.start; excess = c.excess }) o in
     ap (λ (b : Bool). cond b (waiting c.behind) None) (lt-ltb slot c.message.start waits) ∙ ap waiting behind
 
 -- a claim's line holds now what the claim reserves
-line_holds : (slot : ℕ) (c : Claim) → is_claimed_at slot c ≡ true → IsLined slot c → held_now (line_of slot c) ≡ share_at slot c
+line_holds : (slot : ℕ) (c : Claim)
+    → is_claimed_at slot c ≡ true
+    → IsLined slot c
+    → held_now (line_of slot c) ≡ share_at slot c
 line_holds slot c claimed lines =
     elim (cases_lt slot c.message.start) [
       | inl waits ↦
           let behind = lines (waits, (is_claimed_at-says slot c claimed).1) in
-          ap (share_now (own_load c.message)) (waits_of-waiting slot c behind.0 waits behind.1) ∙ sym (share_at-waiting slot c waits)
+          ap (share_now (own_load c.message)) (waits_of-waiting slot c behind.0 waits behind.1)
+          ∙ sym (share_at-waiting slot c waits)
       | inr started ↦ ap (share_now (own_load c.message)) (waits_of-started slot c started) ∙ sym (share_at-started slot c started)
     ]
 
-same_loads : (slot : ℕ) (claims : List Claim) → All (IsLined slot) claims → sum_by held_now (lines_at slot claims) ≡ claimed_at claims slot
+same_loads : (slot : ℕ) (claims : List Claim)
+    → All (IsLined slot) claims
+    → sum_by held_now (lines_at slot claims) ≡ claimed_at claims slot
 same_loads slot [] lines = refl
 same_loads slot (c ∷ claims) lines =
     let rest = same_loads slot claims (All-tail (IsLined slot) c claims lines) in
@@ -69,9 +78,12 @@ same_loads slot (c ∷ claims) lines =
     ]
 
 -- so a load has room beside the lines where it has room beside the claims
-pub same_room : (slot load : ℕ) (claims : List Claim) → All (IsLined slot) claims → answer_for (lines_at slot claims) load ≡ answer_by (length (filter (is_claimed_at slot) claims)) (claimed_at claims slot) load
+pub same_room : (slot load : ℕ) (claims : List Claim)
+    → All (IsLined slot) claims
+    → answer_for (lines_at slot claims) load ≡ answer_by (length (filter (is_claimed_at slot) claims)) (claimed_at claims slot) load
 same_room slot load claims lines =
-    ap (λ (n : ℕ). answer_by n (sum_by held_now (lines_at slot claims)) load) (length-map (filter (is_claimed_at slot) claims) (line_of slot)) ∙ ap (λ (n : ℕ). answer_by (length (filter (is_claimed_at slot) claims)) n load) (same_loads slot claims lines)
+    ap (λ (n : ℕ). answer_by n (sum_by held_now (lines_at slot claims)) load) (length-map (filter (is_claimed_at slot) claims) (line_of slot))
+    ∙ ap (λ (n : ℕ). answer_by (length (filter (is_claimed_at slot) claims)) n load) (same_loads slot claims lines)
 
 -- the line of a later slot
 waits_of-later : (slot later : ℕ) (c : Claim) → slot ≤ later → waits_at later (waits_of slot c) ≡ waits_of later c
@@ -99,7 +111,10 @@ line_later : (slot later : ℕ) (c : Claim) → slot ≤ later → started_at la
 line_later slot later c after =
     ap (λ (w : Option Waits). record { entry = c.message.number; load = own_load c.message; until = end_of c.message; waits = w }) (waits_of-later slot later c after)
 
-before_end-sooner : (slot later : ℕ) (end : Option ℕ) → slot ≤ later → is_before_end later end ≡ true → is_before_end slot end ≡ true
+before_end-sooner : (slot later : ℕ) (end : Option ℕ)
+    → slot ≤ later
+    → is_before_end later end ≡ true
+    → is_before_end slot end ≡ true
 before_end-sooner slot later None after h = refl
 before_end-sooner slot later (Some end) after h =
     elim (cases_lt later end) [
@@ -107,24 +122,38 @@ before_end-sooner slot later (Some end) after h =
       | inr over ↦ absurd (true≢false (sym h ∙ le-ltb later end over))
     ]
 
-claimed_by_end : (slot : ℕ) (c : Claim) → c.accepted ≤ slot → is_claimed_at slot c ≡ is_before_end slot (end_of c.message)
+claimed_by_end : (slot : ℕ) (c : Claim)
+    → c.accepted ≤ slot
+    → is_claimed_at slot c ≡ is_before_end slot (end_of c.message)
 claimed_by_end slot c accepted =
     ap (λ (b : Bool). b && is_before_end slot (end_of c.message)) (le-leb c.accepted slot accepted)
 
 -- the lines of a slot, once a later one has come
-one_later : (b d : Bool) (later : ℕ) (h after : Held) (lines rest : List Held) → (d ≡ true → b ≡ true) → is_before_end later h.until ≡ d → started_at later h ≡ after → passed later lines ≡ rest → passed later (cond b (h ∷ lines) lines) ≡ cond d (after ∷ rest) rest
+one_later : (b d : Bool) (later : ℕ) (h after : Held) (lines rest : List Held)
+    → (d ≡ true → b ≡ true)
+    → is_before_end later h.until ≡ d
+    → started_at later h ≡ after
+    → passed later lines ≡ rest
+    → passed later (cond b (h ∷ lines) lines) ≡ cond d (after ∷ rest) rest
 one_later true true later h after lines rest within stands same more =
-    ap (λ (b : Bool). map (started_at later) (cond b (h ∷ filter (λ (x : Held). is_before_end later x.until) lines) (filter (λ (x : Held). is_before_end later x.until) lines))) stands ∙ ap (λ (x : Held). x ∷ passed later lines) same ∙ ap (λ (l : List Held). after ∷ l) more
+    ap (λ (b : Bool). map (started_at later) (cond b (h ∷ filter (λ (x : Held). is_before_end later x.until) lines) (filter (λ (x : Held). is_before_end later x.until) lines))) stands
+    ∙ ap (λ (x : Held). x ∷ passed later lines) same
+    ∙ ap (λ (l : List Held). after ∷ l) more
 one_later true false later h after lines rest within stands same more =
-    ap (λ (b : Bool). map (started_at later) (cond b (h ∷ filter (λ (x : Held). is_before_end later x.until) lines) (filter (λ (x : Held). is_before_end later x.until) lines))) stands ∙ more
+    ap (λ (b : Bool). map (started_at later) (cond b (h ∷ filter (λ (x : Held). is_before_end later x.until) lines) (filter (λ (x : Held). is_before_end later x.until) lines))) stands
+    ∙ more
 one_later false true later h after lines rest within stands same more = absurd (false≢true (within refl))
 one_later false false later h after lines rest within stands same more = more
 
-map_cond : {X Y : Type 0} (f : X → Y) (b : Bool) (x : X) (xs : List X) → map f (cond b (x ∷ xs) xs) ≡ cond b (f x ∷ map f xs) (map f xs)
+map_cond : {X Y : Type 0} (f : X → Y) (b : Bool) (x : X) (xs : List X)
+    → map f (cond b (x ∷ xs) xs) ≡ cond b (f x ∷ map f xs) (map f xs)
 map_cond f true x xs = refl
 map_cond f false x xs = refl
 
-pub lines_at-later : (slot later : ℕ) (claims : List Claim) → slot ≤ later → All (λ c. c.accepted ≤ slot) claims → passed later (lines_at slot claims) ≡ lines_at later claims
+pub lines_at-later : (slot later : ℕ) (claims : List Claim)
+    → slot ≤ later
+    → All (λ c. c.accepted ≤ slot) claims
+    → passed later (lines_at slot claims) ≡ lines_at later claims
 lines_at-later slot later [] after accepted = refl
 lines_at-later slot later (c ∷ claims) after accepted =
     let Accepted : Claim → Type 0 = λ x. x.accepted ≤ slot in
@@ -138,13 +167,18 @@ lines_at-later slot later (c ∷ claims) after accepted =
     ∙ sym (map_cond (line_of later) (is_claimed_at later c) c (filter (is_claimed_at later) claims))
 
 -- the line of the message that is stopped now
-ended_line : (b : Bool) (slot end : ℕ) (c : Claim) → (b ≡ true → end_of_stopped c.message.start c.message.period slot ≡ end) → ends_if b end (line_of slot c) ≡ line_of slot (record c { message = stopped_if b slot c.message })
+ended_line : (b : Bool) (slot end : ℕ) (c : Claim)
+    → (b ≡ true → end_of_stopped c.message.start c.message.period slot ≡ end)
+    → ends_if b end (line_of slot c) ≡ line_of slot (record c { message = stopped_if b slot c.message })
 ended_line true slot end c same =
     ap (λ (n : ℕ). record { entry = c.message.number; load = own_load c.message; until = Some n; waits = waits_of slot c }) (sym (same refl))
 ended_line false slot end c same = refl
 
 -- the lines with one message stopped now
-pub lines_at-stopped : (slot number end : ℕ) (claims : List Claim) → All (λ c. c.accepted ≤ slot) claims → All (λ c. c.message.number ≡ number → (is_claimed_at slot c ≡ true) × (end_of_stopped c.message.start c.message.period slot ≡ end)) claims → passed slot (ends_at number end (lines_at slot claims)) ≡ lines_at slot (stop_claims number slot claims)
+pub lines_at-stopped : (slot number end : ℕ) (claims : List Claim)
+    → All (λ c. c.accepted ≤ slot) claims
+    → All (λ c. c.message.number ≡ number → (is_claimed_at slot c ≡ true) × (end_of_stopped c.message.start c.message.period slot ≡ end)) claims
+    → passed slot (ends_at number end (lines_at slot claims)) ≡ lines_at slot (stop_claims number slot claims)
 lines_at-stopped slot number end [] accepted fit = refl
 lines_at-stopped slot number end (c ∷ claims) accepted fit =
     let Accepted : Claim → Type 0 = λ x. x.accepted ≤ slot in
@@ -168,11 +202,18 @@ lines_at-stopped slot number end (c ∷ claims) accepted fit =
     ∙ sym (map_cond (line_of slot) (is_claimed_at slot s) s (filter (is_claimed_at slot) (stop_claims number slot claims)))
 
 -- a live message is reserved, and so is one that is accepted now
-pub live_is_claimed : (slot : ℕ) (c : Claim) → c.accepted ≤ slot → 0 < c.message.period → is_live slot c.message ≡ true → is_claimed_at slot c ≡ true
+pub live_is_claimed : (slot : ℕ) (c : Claim)
+    → c.accepted ≤ slot
+    → 0 < c.message.period
+    → is_live slot c.message ≡ true
+    → is_claimed_at slot c ≡ true
 live_is_claimed slot c accepted some live =
     is_claimed_at-from slot c (accepted, live_before slot c.message some live)
 
-stands_from : (slot start period requested : ℕ) → slot ≤ start → 0 < period → IsBeforeEnd slot (natural_end start period requested)
+stands_from : (slot start period requested : ℕ)
+    → slot ≤ start
+    → 0 < period
+    → IsBeforeEnd slot (natural_end start period requested)
 stands_from slot start period requested forward some =
     elim (cases_eq requested 0) [
       | inl always ↦ rw (eq-eqb requested 0 always) tt
@@ -181,16 +222,24 @@ stands_from slot start period requested forward some =
           rw (ne_eqb requested 0 few) past
     ]
 
-pub new_is_claimed : (slot : ℕ) (c : Claim) → c.accepted ≡ slot → slot ≤ c.message.start → 0 < c.message.period → c.message.stop ≡ None → is_claimed_at slot c ≡ true
+pub new_is_claimed : (slot : ℕ) (c : Claim)
+    → c.accepted ≡ slot
+    → slot ≤ c.message.start
+    → 0 < c.message.period
+    → c.message.stop ≡ None
+    → is_claimed_at slot c ≡ true
 new_is_claimed slot c accepted forward some standing =
     let Stands : Option ℕ → Type 0 = λ stop. IsBeforeEnd slot (end_of_reservation c.message.start c.message.period c.message.requested stop) in
     is_claimed_at-from slot c (omega (arith, accepted), subst Stands (sym standing) (stands_from slot c.message.start c.message.period c.message.requested forward some))
 
 -- the lines with one claim more
-pub lines_at-new : (slot : ℕ) (claims : List Claim) (c : Claim) → is_claimed_at slot c ≡ true → lines_at slot (claims ++ c ∷ []) ≡ lines_at slot claims ++ line_of slot c ∷ []
+pub lines_at-new : (slot : ℕ) (claims : List Claim) (c : Claim)
+    → is_claimed_at slot c ≡ true
+    → lines_at slot (claims ++ c ∷ []) ≡ lines_at slot claims ++ line_of slot c ∷ []
 lines_at-new slot claims c claimed =
     let counted = filter (is_claimed_at slot) claims in
-    ap (map (line_of slot)) (filter-append (is_claimed_at slot) claims (c ∷ []) ∙ ap (λ (b : Bool). counted ++ cond b (c ∷ []) []) claimed) ∙ map-append (line_of slot) counted (c ∷ [])
+    ap (map (line_of slot)) (filter-append (is_claimed_at slot) claims (c ∷ []) ∙ ap (λ (b : Bool). counted ++ cond b (c ∷ []) []) claimed)
+    ∙ map-append (line_of slot) counted (c ∷ [])
 
 -- a line as it is at the slot: it counts, and what it waits for is still to come
 abbrev pub IsCurrent : ℕ → Held → Type 0
@@ -201,7 +250,9 @@ lines_are_current slot claims =
     All-map (IsCurrent slot) (line_of slot) (filter (is_claimed_at slot) claims) (All-weaker (λ (c : Claim). is_claimed_at slot c ≡ true) (λ (c : Claim). IsCurrent slot (line_of slot c)) (λ c claimed. ((and_parts (nat_le c.accepted slot) (is_before_end slot (end_of c.message)) claimed).1, line_later slot slot c (omega arith))) (filter (is_claimed_at slot) claims) (filter_passes (is_claimed_at slot) claims))
 
 -- what leaves a budget where a reservation ends now: its line
-ends_now : (slot number : ℕ) (lines : List Held) → All (IsCurrent slot) lines → passed slot (ends_at number slot lines) ≡ remaining_without (Some number) lines
+ends_now : (slot number : ℕ) (lines : List Held)
+    → All (IsCurrent slot) lines
+    → passed slot (ends_at number slot lines) ≡ remaining_without (Some number) lines
 ends_now slot number [] current = refl
 ends_now slot number (h ∷ lines) current =
     let rest = ends_now slot number lines (All-tail (IsCurrent slot) h lines current) in
@@ -209,7 +260,8 @@ ends_now slot number (h ∷ lines) current =
     let left = ends_at number slot lines in
     let ended = ends_if (h.entry == number) slot h in
     let others = remaining_without (Some number) lines in
-    one_later true (not (h.entry == number)) slot ended (started_at slot ended) left others (λ _. refl) (counts (h.entry == number) here.0) refl rest ∙ stays (h.entry == number) others here.1
+    one_later true (not (h.entry == number)) slot ended (started_at slot ended) left others (λ _. refl) (counts (h.entry == number) here.0) refl rest
+    ∙ stays (h.entry == number) others here.1
   where
     counts : (b : Bool) → is_before_end slot h.until ≡ true → is_before_end slot (ends_if b slot h).until ≡ not b
     counts true here = le-ltb slot slot (omega arith)
@@ -220,7 +272,10 @@ ends_now slot number (h ∷ lines) current =
     stays false others same = ap (λ (x : Held). x ∷ others) same
 
 -- where it ends later, as many lines are left, which hold as much
-ends_later : (slot number end : ℕ) (lines : List Held) → slot < end → All (IsCurrent slot) lines → passed slot (ends_at number end lines) ≡ ends_at number end lines
+ends_later : (slot number end : ℕ) (lines : List Held)
+    → slot < end
+    → All (IsCurrent slot) lines
+    → passed slot (ends_at number end lines) ≡ ends_at number end lines
 ends_later slot number end [] later current = refl
 ends_later slot number end (h ∷ lines) later current =
     let rest = ends_later slot number end lines later (All-tail (IsCurrent slot) h lines current) in
@@ -242,7 +297,10 @@ ended_holds number end (h ∷ lines) =
     omega (arith, ended_holds number end lines, sum_by-cons held_now h lines, sum_by-cons held_now (ends_if (h.entry == number) end h) (ends_at number end lines))
 
 -- the answer about room beside what stays when a reservation is given an end
-pub room_without : (slot number end load : ℕ) (lines : List Held) → slot ≤ end → All (IsCurrent slot) lines → answer_for (remaining_without (cond (end == slot) (Some number) None) lines) load ≡ answer_for (passed slot (ends_at number end lines)) load
+pub room_without : (slot number end load : ℕ) (lines : List Held)
+    → slot ≤ end
+    → All (IsCurrent slot) lines
+    → answer_for (remaining_without (cond (end == slot) (Some number) None) lines) load ≡ answer_for (passed slot (ends_at number end lines)) load
 room_without slot number end load lines after current =
     elim (cases_eq end slot) [
       | inl now ↦

@@ -56,14 +56,19 @@ pub record Outcome (log : List Entry) (e : Entry) : Type 0 where
   pub begun : IfSome started (λ a. IsBegun (length log) e.slot stopped (without stopped e.slot (accepted_in log)) a)
 
 -- an entry that stops nothing leaves the messages before it as they are
-pub stops_none : (log : List Entry) (e : Entry) → ((id serial : ℕ) → is_stop_of id serial e ≡ false) → map (stopped_by e) (accepted_in log) ≡ accepted_in log
+pub stops_none : (log : List Entry) (e : Entry)
+    → ((id serial : ℕ) → is_stop_of id serial e ≡ false)
+    → map (stopped_by e) (accepted_in log) ≡ accepted_in log
 stops_none log e never =
     map_agree (stopped_by e) (λ a. a) (accepted_in log) (λ k d h.
     let a : Accepted = get_or (accepted_in log) k d in
     stopped_once-false (is_stop_of a.id a.serial e) e.slot a (never a.id a.serial)) ∙ map-id (accepted_in log)
 
 -- so an entry that adds none either changes nothing
-pub does_nothing : (log : List Entry) (e : Entry) → ((id serial : ℕ) → is_stop_of id serial e ≡ false) → added_by (accepted_in log) (length log) e.slot (start_of e.answer) e.command ≡ [] → accepted_in (log ++ e ∷ []) ≡ accepted_in log
+pub does_nothing : (log : List Entry) (e : Entry)
+    → ((id serial : ℕ) → is_stop_of id serial e ≡ false)
+    → added_by (accepted_in log) (length log) e.slot (start_of e.answer) e.command ≡ []
+    → accepted_in (log ++ e ∷ []) ≡ accepted_in log
 does_nothing log e never adds =
     let all = map (stopped_by e) (accepted_in log) in
     accepted_in-push log e ∙ ap (λ (l : List Accepted). all ++ l) adds ∙ append-nil all ∙ stops_none log e never
@@ -74,29 +79,45 @@ new_message all number slot start behind id serial category period broadcasts co
     written_behind all number slot start behind id serial (length contents) period broadcasts (rank_of category)
 
 -- a write in the place of none
-pub starts_one : (log : List Entry) (slot id serial : ℕ) (category : Category) (period broadcasts : ℕ) (dcs : Dcs) (contents : List Content) → accepted_in (log ++ entry_with (commands.Write id serial None category period broadcasts dcs contents) slot (answers.Started slot) ∷ []) ≡ accepted_in log ++ new_message (accepted_in log) (length log) slot slot None id serial category period broadcasts contents ∷ []
+pub starts_one : (log : List Entry) (slot id serial : ℕ) (category : Category) (period broadcasts : ℕ) (dcs : Dcs) (contents : List Content)
+    → accepted_in (log ++ entry_with (commands.Write id serial None category period broadcasts dcs contents) slot (answers.Started slot) ∷ []) ≡ accepted_in log ++ new_message (accepted_in log) (length log) slot slot None id serial category period broadcasts contents ∷ []
 starts_one log slot id serial category period broadcasts dcs contents =
     let e = entry_with (commands.Write id serial None category period broadcasts dcs contents) slot (answers.Started slot) in
-    accepted_in-push log e ∙ ap (λ (l : List Accepted). l ++ new_message (accepted_in log) (length log) slot slot None id serial category period broadcasts contents ∷ []) (stops_none log e (λ i s. refl))
+    accepted_in-push log e
+    ∙ ap (λ (l : List Accepted). l ++ new_message (accepted_in log) (length log) slot slot None id serial category period broadcasts contents ∷ []) (stops_none log e (λ i s. refl))
 
 -- a kill of a message that wasn't stopped
-pub stops_one : (log : List Entry) (slot id serial completed : ℕ) (a : Accepted) → AllPairs OfAnotherPair (accepted_in log) → find (is_of_pair id serial) (accepted_in log) ≡ Some a → a.message.stop ≡ None → accepted_in (log ++ entry_with (commands.Kill id serial) slot (answers.Stopped completed) ∷ []) ≡ map (stop_numbered a.message.number slot) (accepted_in log)
+pub stops_one : (log : List Entry) (slot id serial completed : ℕ) (a : Accepted)
+    → AllPairs OfAnotherPair (accepted_in log)
+    → find (is_of_pair id serial) (accepted_in log) ≡ Some a
+    → a.message.stop ≡ None
+    → accepted_in (log ++ entry_with (commands.Kill id serial) slot (answers.Stopped completed) ∷ []) ≡ map (stop_numbered a.message.number slot) (accepted_in log)
 stops_one log slot id serial completed a once found standing =
     let e = entry_with (commands.Kill id serial) slot (answers.Stopped completed) in
-    accepted_in-push log e ∙ append-nil (map (stopped_by e) (accepted_in log)) ∙ stopped_by_pair id serial slot (accepted_in log) a once (numbers_rise log) found standing
+    accepted_in-push log e
+    ∙ append-nil (map (stopped_by e) (accepted_in log))
+    ∙ stopped_by_pair id serial slot (accepted_in log) a once (numbers_rise log) found standing
 
 -- a write in the place of one that wasn't stopped
-pub replaces_one : (log : List Entry) (slot start id serial old completed : ℕ) (category : Category) (period broadcasts : ℕ) (dcs : Dcs) (contents : List Content) (a : Accepted) (behind : Option ℕ) → AllPairs OfAnotherPair (accepted_in log) → find (is_of_pair id old) (accepted_in log) ≡ Some a → a.message.stop ≡ None → behind_of slot start (Some a) ≡ behind → accepted_in (log ++ entry_with (commands.Write id serial (Some old) category period broadcasts dcs contents) slot (answers.Replaced start completed) ∷ []) ≡ map (stop_numbered a.message.number slot) (accepted_in log) ++ new_message (accepted_in log) (length log) slot start behind id serial category period broadcasts contents ∷ []
+pub replaces_one : (log : List Entry) (slot start id serial old completed : ℕ) (category : Category) (period broadcasts : ℕ) (dcs : Dcs) (contents : List Content) (a : Accepted) (behind : Option ℕ)
+    → AllPairs OfAnotherPair (accepted_in log)
+    → find (is_of_pair id old) (accepted_in log) ≡ Some a
+    → a.message.stop ≡ None
+    → behind_of slot start (Some a) ≡ behind
+    → accepted_in (log ++ entry_with (commands.Write id serial (Some old) category period broadcasts dcs contents) slot (answers.Replaced start completed) ∷ []) ≡ map (stop_numbered a.message.number slot) (accepted_in log) ++ new_message (accepted_in log) (length log) slot start behind id serial category period broadcasts contents ∷ []
 replaces_one log slot start id serial old completed category period broadcasts dcs contents a behind once found standing waits =
     let e = entry_with (commands.Write id serial (Some old) category period broadcasts dcs contents) slot (answers.Replaced start completed) in
     let all = accepted_in log in
     let stopped = map (stop_numbered a.message.number slot) all in
     let adds : Option ℕ → List Accepted = λ by. new_message all (length log) slot start by id serial category period broadcasts contents ∷ [] in
     let by = ap (behind_of slot start) found ∙ waits in
-    accepted_in-push log e ∙ ap (λ (l : List Accepted). l ++ adds (behind_of slot start (find (is_of_pair id old) all))) (stopped_by_pair id old slot all a once (numbers_rise log) found standing) ∙ ap (λ (o : Option ℕ). stopped ++ adds o) by
+    accepted_in-push log e
+    ∙ ap (λ (l : List Accepted). l ++ adds (behind_of slot start (find (is_of_pair id old) all))) (stopped_by_pair id old slot all a once (numbers_rise log) found standing)
+    ∙ ap (λ (o : Option ℕ). stopped ++ adds o) by
 
 -- a cause stops nothing
-nothing_of_cause : (cause id serial : ℕ) (command : Command) → is_stop_by id serial command (answers.Cause cause) ≡ false
+nothing_of_cause : (cause id serial : ℕ) (command : Command)
+    → is_stop_by id serial command (answers.Cause cause) ≡ false
 nothing_of_cause cause id serial (commands.Write of_id new None category period broadcasts dcs contents) = refl
 nothing_of_cause cause id serial (commands.Write of_id new (Some old) category period broadcasts dcs contents) = refl
 nothing_of_cause cause id serial (commands.Kill of_id of_serial) = refl
@@ -106,15 +127,18 @@ nothing_of_cause cause id serial (commands.Status of_id of_serial) = refl
 nothing : (log : List Entry) (e : Entry) → accepted_in (log ++ e ∷ []) ≡ accepted_in log → Outcome log e
 nothing log e same = record { stopped = None; started = None; after = same; live = tt; fresh = tt; begun = tt }
 
-pub refused_does_nothing : (log : List Entry) (slot cause : ℕ) (command : Command) → accepted_in (log ++ entry_with command slot (answers.Cause cause) ∷ []) ≡ accepted_in log
+pub refused_does_nothing : (log : List Entry) (slot cause : ℕ) (command : Command)
+    → accepted_in (log ++ entry_with command slot (answers.Cause cause) ∷ []) ≡ accepted_in log
 refused_does_nothing log slot cause command =
     does_nothing log (entry_with command slot (answers.Cause cause)) (λ id serial. nothing_of_cause cause id serial command) refl
 
-refused : (log : List Entry) (slot : ℕ) (command : Command) (cause : ℕ) → Outcome log (entry_with command slot (answers.Cause cause))
+refused : (log : List Entry) (slot : ℕ) (command : Command) (cause : ℕ)
+    → Outcome log (entry_with command slot (answers.Cause cause))
 refused log slot command cause =
     nothing log (entry_with command slot (answers.Cause cause)) (refused_does_nothing log slot cause command)
 
-pub status_does_nothing : (log : List Entry) (slot id serial : ℕ) (answer : Answer) → accepted_in (log ++ entry_with (commands.Status id serial) slot answer ∷ []) ≡ accepted_in log
+pub status_does_nothing : (log : List Entry) (slot id serial : ℕ) (answer : Answer)
+    → accepted_in (log ++ entry_with (commands.Status id serial) slot answer ∷ []) ≡ accepted_in log
 status_does_nothing log slot id serial answer =
     does_nothing log (entry_with (commands.Status id serial) slot answer) (λ i s. refl) (adds_none (start_of answer))
   where
@@ -123,27 +147,43 @@ status_does_nothing log slot id serial answer =
     adds_none (Some at) = refl
 
 -- the answers by cases: a cause, or what accepts, with what then holds
-pub before_end_cases : (P : Answer → Type 0) (slots slot : ℕ) (answer : Answer) → ((cause : ℕ) → P (answers.Cause cause)) → P answer → P (before_end slots slot answer)
+pub before_end_cases : (P : Answer → Type 0) (slots slot : ℕ) (answer : Answer)
+    → ((cause : ℕ) → P (answers.Cause cause))
+    → P answer
+    → P (before_end slots slot answer)
 before_end_cases P slots slot answer refuses accepts =
     cond_both (slot == slots) (answers.Cause 0x0A) answer P (λ _. refuses 0x0A) (λ _. accepts)
 
-pub of_live_cases : (P : Answer → Type 0) (slot : ℕ) (found : Option Accepted) (answer : Accepted → Answer) → ((cause : ℕ) → P (answers.Cause cause)) → ((a : Accepted) → found ≡ Some a → is_live slot a.message ≡ true → P (answer a)) → P (of_live slot found answer)
+pub of_live_cases : (P : Answer → Type 0) (slot : ℕ) (found : Option Accepted) (answer : Accepted → Answer)
+    → ((cause : ℕ) → P (answers.Cause cause))
+    → ((a : Accepted) → found ≡ Some a → is_live slot a.message ≡ true → P (answer a))
+    → P (of_live slot found answer)
 of_live_cases P slot None answer refuses accepts = refuses 0x02
 of_live_cases P slot (Some a) answer refuses accepts =
     cond_both (is_live slot a.message) (answer a) (answers.Cause 0x02) P (λ live. accepts a refl live) (λ _. refuses 0x02)
 
-pub unless_accepted_cases : (P : Answer → Type 0) (found : Option Accepted) (answer : Answer) → ((cause : ℕ) → P (answers.Cause cause)) → (found ≡ None → P answer) → P (unless_accepted (message_told found) answer)
+pub unless_accepted_cases : (P : Answer → Type 0) (found : Option Accepted) (answer : Answer)
+    → ((cause : ℕ) → P (answers.Cause cause))
+    → (found ≡ None → P answer)
+    → P (unless_accepted (message_told found) answer)
 unless_accepted_cases P None answer refuses accepts = accepts refl
 unless_accepted_cases P (Some a) answer refuses accepts = refuses 0x0D
 
-at_cases : (P : Answer → Type 0) (claims : List Claim) (slot : ℕ) (accepts : ℕ → Answer) (place : Option Place) → ((cause : ℕ) → P (answers.Cause cause)) → ((p : Place) → place ≡ Some p → claimed_at claims slot + p.excess ≤ SCALE → P (accepts p.start)) → P (answer_at claims slot accepts place)
+at_cases : (P : Answer → Type 0) (claims : List Claim) (slot : ℕ) (accepts : ℕ → Answer) (place : Option Place)
+    → ((cause : ℕ) → P (answers.Cause cause))
+    → ((p : Place) → place ≡ Some p → claimed_at claims slot + p.excess ≤ SCALE → P (accepts p.start))
+    → P (answer_at claims slot accepts place)
 at_cases P claims slot accepts None refuses later = refuses 0x06
 at_cases P claims slot accepts (Some p) refuses later =
     let sum : ℕ = claimed_at claims slot + p.excess in
     cond_both (ltb SCALE sum) (answers.Cause 0x06) (accepts p.start) P (λ _. refuses 0x06) (λ fits. later p refl (ltb-false SCALE sum fits))
 
 -- a place of the table, and room for the load now or for the excess up to a later start
-pub beside_cases : (P : Answer → Type 0) (claims : List Claim) (slot load : ℕ) (place : Option Place) (accepts : ℕ → Answer) → ((cause : ℕ) → P (answers.Cause cause)) → (length (filter (is_claimed_at slot) claims) < 64 → claimed_at claims slot + load ≤ SCALE → P (accepts slot)) → (length (filter (is_claimed_at slot) claims) < 64 → (p : Place) → place ≡ Some p → claimed_at claims slot + p.excess ≤ SCALE → P (accepts p.start)) → P (answer_beside claims slot load place accepts)
+pub beside_cases : (P : Answer → Type 0) (claims : List Claim) (slot load : ℕ) (place : Option Place) (accepts : ℕ → Answer)
+    → ((cause : ℕ) → P (answers.Cause cause))
+    → (length (filter (is_claimed_at slot) claims) < 64 → claimed_at claims slot + load ≤ SCALE → P (accepts slot))
+    → (length (filter (is_claimed_at slot) claims) < 64 → (p : Place) → place ≡ Some p → claimed_at claims slot + p.excess ≤ SCALE → P (accepts p.start))
+    → P (answer_beside claims slot load place accepts)
 beside_cases P claims slot load place accepts refuses now later =
     let places : ℕ = length (filter (is_claimed_at slot) claims) in
     let sum : ℕ = claimed_at claims slot + load in
@@ -168,13 +208,15 @@ pub Contains-find : (p : Accepted → Bool) (all : List Accepted) (a : Accepted)
 Contains-find p all a found = All-find (Contains all) p all a (All-contains_itself all) found
 
 -- stopped as accepted messages, or as messages alone
-pub messages_stopped : (number slot : ℕ) (all : List Accepted) → map (λ a. a.message) (map (stop_numbered number slot) all) ≡ stopped_at number slot (map (λ a. a.message) all)
+pub messages_stopped : (number slot : ℕ) (all : List Accepted)
+    → map (λ a. a.message) (map (stop_numbered number slot) all) ≡ stopped_at number slot (map (λ a. a.message) all)
 messages_stopped number slot [] = refl
 messages_stopped number slot (a ∷ all) =
     ap (λ (l : List Message). (stop_numbered number slot a).message ∷ l) (messages_stopped number slot all)
 
 -- and as claims
-pub claims_stopped : (number slot : ℕ) (all : List Accepted) → claims_of (map (stop_numbered number slot) all) ≡ stop_claims number slot (claims_of all)
+pub claims_stopped : (number slot : ℕ) (all : List Accepted)
+    → claims_of (map (stop_numbered number slot) all) ≡ stop_claims number slot (claims_of all)
 claims_stopped number slot [] = refl
 claims_stopped number slot (a ∷ all) = one (reserves (claim_of a)) (claims_stopped number slot all)
   where
@@ -182,7 +224,9 @@ claims_stopped number slot (a ∷ all) = one (reserves (claim_of a)) (claims_sto
     one true rest = ap (λ (l : List Claim). claim_of (stop_numbered number slot a) ∷ l) rest
     one false rest = rest
 
-kill_outcome : (log : List Entry) (air : Air) (slot id serial : ℕ) → AllPairs OfAnotherPair (accepted_in log) → Outcome log (entry_with (commands.Kill id serial) slot (answer_to_kill log air slot id serial))
+kill_outcome : (log : List Entry) (air : Air) (slot id serial : ℕ)
+    → AllPairs OfAnotherPair (accepted_in log)
+    → Outcome log (entry_with (commands.Kill id serial) slot (answer_to_kill log air slot id serial))
 kill_outcome log air slot id serial once =
     let command = commands.Kill id serial in
     let P : Answer → Type 0 = λ answer. Outcome log (entry_with command slot answer) in
@@ -223,7 +267,10 @@ new_outcome log slot id serial category period broadcasts dcs contents formed =
     }) (λ front room p none. absurd (none-some p none)))
 
 -- the place at which a write takes over is that of the message that it adds
-pub placed_at : (log : List Entry) (slot load : ℕ) (old : Accepted) (place : Place) → AreInOrder (claims_in log) slot → handover (stop_claims old.message.number slot (claims_in log)) slot (claim_of old) load ≡ Some place → (slot < place.start) × (behind_of slot place.start (Some old) ≡ Some place.behind) × (excess_over load (numbered (Some place.behind) (claims_in log)) ≡ place.excess)
+pub placed_at : (log : List Entry) (slot load : ℕ) (old : Accepted) (place : Place)
+    → AreInOrder (claims_in log) slot
+    → handover (stop_claims old.message.number slot (claims_in log)) slot (claim_of old) load ≡ Some place
+    → (slot < place.start) × (behind_of slot place.start (Some old) ≡ Some place.behind) × (excess_over load (numbered (Some place.behind) (claims_in log)) ≡ place.excess)
 placed_at log slot load old place order over =
     let claims = claims_in log in
     let number = old.message.number in
@@ -291,7 +338,11 @@ replacement_outcome log air slot id serial old category period broadcasts dcs co
       };
     })))
 
-outcome_with_room : (slots : ℕ) (log : List Entry) (air : Air) (slot : ℕ) (command : Command) → AllPairs OfAnotherPair (accepted_in log) → AreInOrder (claims_in log) slot → IsWellFormed command → Outcome log (entry_with command slot (answer_with_room slots log air slot command))
+outcome_with_room : (slots : ℕ) (log : List Entry) (air : Air) (slot : ℕ) (command : Command)
+    → AllPairs OfAnotherPair (accepted_in log)
+    → AreInOrder (claims_in log) slot
+    → IsWellFormed command
+    → Outcome log (entry_with command slot (answer_with_room slots log air slot command))
 outcome_with_room slots log air slot (commands.Status id serial) once order formed =
     let answer = told_of air slot (message_named id serial log) in
     nothing log (entry_with (commands.Status id serial) slot answer) (status_does_nothing log slot id serial answer)
@@ -309,7 +360,11 @@ outcome_with_room slots log air slot (commands.Write id serial (Some old) catego
     before_end_cases P slots slot (answer_to_write log air slot id serial (Some old) category (load_of (length contents) period)) (refused log slot command) (replacement_outcome log air slot id serial old category period broadcasts dcs contents once order formed)
 
 -- what an entry with the right answer does, where each pair was accepted once before and the claims are in order
-pub outcome_of : (slots : ℕ) (log : List Entry) (air : Air) (slot : ℕ) (command : Command) → AllPairs OfAnotherPair (accepted_in log) → AreInOrder (claims_in log) slot → IsWellFormed command → Outcome log (entry_with command slot (answer_of slots log air slot command))
+pub outcome_of : (slots : ℕ) (log : List Entry) (air : Air) (slot : ℕ) (command : Command)
+    → AllPairs OfAnotherPair (accepted_in log)
+    → AreInOrder (claims_in log) slot
+    → IsWellFormed command
+    → Outcome log (entry_with command slot (answer_of slots log air slot command))
 outcome_of slots log air slot command once order formed =
     let P : Answer → Type 0 = λ answer. Outcome log (entry_with command slot answer) in
     cond_both (leb 4096 (length log)) (answers.Cause 0x08) (answer_with_room slots log air slot command) P (λ _. refused log slot command 0x08) (λ _. outcome_with_room slots log air slot command once order formed)

@@ -40,7 +40,8 @@ numbered_left of_old slot number (a ∷ all) =
 -- what is looked up, by the number of the message ahead
 ahead_in : (r : Record) (old : Accepted) (number load : ℕ) (found : Option Accepted) → ahead_of r.clock (claim_of old) ≡ Some number → find (is_reserved_as number) (accepted_in r.log) ≡ found → handover (left_by r old) r.clock (claim_of old) load ≡ place_behind r.clock load (option_map (λ a. stop_claim old.message.number r.clock (claim_of a)) found)
 ahead_in r old number load found ahead e =
-    ap (λ (o : Option ℕ). place_behind r.clock load (numbered o (left_by r old))) ahead ∙ ap (place_behind r.clock load) (numbered_left old.message.number r.clock number (accepted_in r.log) ∙ ap (option_map (λ (a : Accepted). stop_claim old.message.number r.clock (claim_of a))) e)
+    ap (λ (o : Option ℕ). place_behind r.clock load (numbered o (left_by r old))) ahead
+    ∙ ap (place_behind r.clock load) (numbered_left old.message.number r.clock number (accepted_in r.log) ∙ ap (option_map (λ (a : Accepted). stop_claim old.message.number r.clock (claim_of a))) e)
 
 -- where there is none, there is no place
 pub none_ahead : (r : Record) (old : Accepted) (number load : ℕ) → ahead_of r.clock (claim_of old) ≡ Some number → find (is_reserved_as number) (accepted_in r.log) ≡ None → handover (left_by r old) r.clock (claim_of old) load ≡ None

@@ -1,5 +1,5 @@
 -- What a cell promises: the reserved loads fit, so that each broadcast is served.
-use Rattle.std.proofs.Common.{◌≡◌, ℕ, suc, ◌≤◌, ◌<◌, ◌==◌, Bool, true, false, cond, None, List, [], ◌∷◌, map, filter, get_or, sum_by, ap, sym, inl, inr, arith}
+use Rattle.std.proofs.Common.{◌≡◌, ℕ, ◌≤◌, ◌<◌, ◌==◌, Bool, true, false, cond, None, List, [], ◌∷◌, map, filter, get_or, sum_by, ap, sym, inl, inr, arith}
 use Rattle.std.specs.List.{All, AllPairs, Contains}
 use Rattle.std.proofs.lemmas.Bool.{cases_Bool, eqb-true, eq-eqb}
 use Rattle.std.proofs.lemmas.List.{get_or_default, get_or-map, length-map}
@@ -107,8 +107,7 @@ legal_histories_are_bounded r legal = λ k d within. λ slot by.
     let pages = have_pages (accepted_in r.log) (IsSound-legal r legal).loaded in
     let periods = have_periods (accepted_in r.log) (IsSound-legal r legal).loaded in
     let least = foreground_is_at_least messages r.air slot (numbers_of_messages_rise r.log) (admitted_of r legal) legal.aired (omega (arith, legal.played)) in
-    let Least : Message → Type 0 = λ o. least_completed o slot ≤ completed o r.air slot in
-    (
+    let Least : Message → Type 0 = λ o. least_completed o slot ≤ completed o r.air slot in (
       λ front. All-contains Least (foreground messages) (get_or messages k d) least (Contains-filter (λ o. layer o == 0) messages (get_or messages k d) here (eq-eqb (layer m) 0 front)),
       completed_is_at_most (get_or messages k d) r.air slot (pages k d within) (periods k d within),
     )

@@ -43,7 +43,9 @@ keeps_order [] a b before = before
 keeps_order (e ∷ log) a b before = keeps_by (is_accepted e) (place_in log) (keeps_order log) a b before
 
 -- there stands that entry
-found_by : (says : Bool) (e : Entry) (log front : List Entry) (n : ℕ) → ((m : ℕ) → slice_get log (place_in log m) ≡ slice_get front m) → slice_get (e ∷ log) (step says n (place_in log)) ≡ slice_get (cond says (e ∷ front) front) n
+found_by : (says : Bool) (e : Entry) (log front : List Entry) (n : ℕ)
+    → ((m : ℕ) → slice_get log (place_in log m) ≡ slice_get front m)
+    → slice_get (e ∷ log) (step says n (place_in log)) ≡ slice_get (cond says (e ∷ front) front) n
 found_by true e log front zero rest = refl
 found_by true e log front (suc n) rest = rest n
 found_by false e log front n rest = rest n
@@ -53,7 +55,9 @@ found [] n = refl
 found (e ∷ log) n = found_by (is_accepted e) e log (accepted_entries log) n (λ m. found log m)
 
 -- a stop is an accepted entry
-stops_by : (id serial : ℕ) (command : Command) (answer : Answer) → is_stop_by id serial command answer ≡ true → (is_some (start_of answer) || is_stopped answer) ≡ true
+stops_by : (id serial : ℕ) (command : Command) (answer : Answer)
+    → is_stop_by id serial command answer ≡ true
+    → (is_some (start_of answer) || is_stopped answer) ≡ true
 stops_by id serial (commands.Kill of_id of_serial) (answers.Stopped completed) h = refl
 stops_by id serial (commands.Kill of_id of_serial) (answers.Started slot) h = refl
 stops_by id serial (commands.Kill of_id of_serial) (answers.Replaced slot completed) h = refl
@@ -78,7 +82,9 @@ stops_none id serial e refused =
       | inr none ↦ none
     ]
 
-adds_none : (all : List Accepted) (place slot : ℕ) (start : Option ℕ) (command : Command) → is_some start ≡ false → added_by all place slot start command ≡ []
+adds_none : (all : List Accepted) (place slot : ℕ) (start : Option ℕ) (command : Command)
+    → is_some start ≡ false
+    → added_by all place slot start command ≡ []
 adds_none all place slot None command none = refl
 adds_none all place slot (Some start) command none = absurd (false≢true (sym none))
 
@@ -92,10 +98,13 @@ unmoved all place e refused =
     let stopped = map_agree (stopped_by e) (λ a. a) all (λ k d h.
     let a : Accepted = get_or all k d in
     stopped_once-false (is_stop_of a.id a.serial e) e.slot a (stops_none a.id a.serial e refused)) ∙ map-id all in
-    ap (λ (l : List Accepted). map (stopped_by e) all ++ l) (adds_none all place e.slot (start_of e.answer) e.command (neither (is_some (start_of e.answer)) (is_stopped e.answer) refused).0) ∙ append-nil (map (stopped_by e) all) ∙ stopped
+    ap (λ (l : List Accepted). map (stopped_by e) all ++ l) (adds_none all place e.slot (start_of e.answer) e.command (neither (is_some (start_of e.answer)) (is_stopped e.answer) refused).0)
+    ∙ append-nil (map (stopped_by e) all)
+    ∙ stopped
 
 -- the message that a write replaces is the same one under another number
-found_alike : (f : ℕ → ℕ) (id serial : ℕ) (front : List Accepted) → find (is_of_pair id serial) (map (accepted_renumbered f) front) ≡ option_map (accepted_renumbered f) (find (is_of_pair id serial) front)
+found_alike : (f : ℕ → ℕ) (id serial : ℕ) (front : List Accepted)
+    → find (is_of_pair id serial) (map (accepted_renumbered f) front) ≡ option_map (accepted_renumbered f) (find (is_of_pair id serial) front)
 found_alike f id serial [] = refl
 found_alike f id serial (a ∷ front) = one (is_of_pair id serial a) (found_alike f id serial front)
   where
@@ -103,20 +112,25 @@ found_alike f id serial (a ∷ front) = one (is_of_pair id serial a) (found_alik
     one true rest = refl
     one false rest = rest
 
-replaced_alike : (f : ℕ → ℕ) (id : ℕ) (replaces : Option ℕ) (front : List Accepted) → replaced_in (map (accepted_renumbered f) front) id replaces ≡ option_map (accepted_renumbered f) (replaced_in front id replaces)
+replaced_alike : (f : ℕ → ℕ) (id : ℕ) (replaces : Option ℕ) (front : List Accepted)
+    → replaced_in (map (accepted_renumbered f) front) id replaces ≡ option_map (accepted_renumbered f) (replaced_in front id replaces)
 replaced_alike f id None front = refl
 replaced_alike f id (Some serial) front = found_alike f id serial front
 
 -- so is the one behind which it waits
-ahead_alike : (f : ℕ → ℕ) (says : Bool) (number : ℕ) (behind : Option ℕ) → cond says (Some (f number)) (option_map f behind) ≡ option_map f (cond says (Some number) behind)
+ahead_alike : (f : ℕ → ℕ) (says : Bool) (number : ℕ) (behind : Option ℕ)
+    → cond says (Some (f number)) (option_map f behind) ≡ option_map f (cond says (Some number) behind)
 ahead_alike f true number behind = refl
 ahead_alike f false number behind = refl
 
-waits_alike : (f : ℕ → ℕ) (says : Bool) (ahead under : Option ℕ) → under ≡ option_map f ahead → cond says None under ≡ option_map f (cond says None ahead)
+waits_alike : (f : ℕ → ℕ) (says : Bool) (ahead under : Option ℕ)
+    → under ≡ option_map f ahead
+    → cond says None under ≡ option_map f (cond says None ahead)
 waits_alike f true ahead under same = refl
 waits_alike f false ahead under same = same
 
-behind_alike : (f : ℕ → ℕ) (slot start : ℕ) (found : Option Accepted) → behind_of slot start (option_map (accepted_renumbered f) found) ≡ option_map f (behind_of slot start found)
+behind_alike : (f : ℕ → ℕ) (slot start : ℕ) (found : Option Accepted)
+    → behind_of slot start (option_map (accepted_renumbered f) found) ≡ option_map f (behind_of slot start found)
 behind_alike f slot start None = refl
 behind_alike f slot start (Some old) =
     waits_alike f (start == slot) (ahead_of slot (claim_of old)) (ahead_of slot (claim_of (accepted_renumbered f old))) (ahead_alike f (nat_le old.message.start slot) old.message.number old.behind)
@@ -132,7 +146,10 @@ same_number f keeps a b =
       ]
     ]
 
-excess_alike : (f : ℕ → ℕ) → KeepsOrder f → (load : ℕ) (behind : Option ℕ) (front : List Accepted) → excess_over load (numbered (option_map f behind) (claims_of (map (accepted_renumbered f) front))) ≡ excess_over load (numbered behind (claims_of front))
+excess_alike : (f : ℕ → ℕ)
+    → KeepsOrder f
+    → (load : ℕ) (behind : Option ℕ) (front : List Accepted)
+    → excess_over load (numbered (option_map f behind) (claims_of (map (accepted_renumbered f) front))) ≡ excess_over load (numbered behind (claims_of front))
 excess_alike f keeps load None front = refl
 excess_alike f keeps load (Some number) [] = refl
 excess_alike f keeps load (Some number) (a ∷ front) =
@@ -162,7 +179,11 @@ written_alike f keeps front place among slot start id serial replaces pages peri
     ∙ ap (λ (excess : ℕ). write_message place slot start (option_map f behind) excess id serial pages period broadcasts rank) (excess_alike f keeps load behind front)
     ∙ ap (λ (n : ℕ). write_message n slot start (option_map f behind) (excess_over load (numbered behind (claims_of front))) id serial pages period broadcasts rank) (sym at)
 
-added_alike : (f : ℕ → ℕ) → KeepsOrder f → (front : List Accepted) (place among slot : ℕ) (start : Option ℕ) (command : Command) → f among ≡ place → added_by (map (accepted_renumbered f) front) place slot start command ≡ map (accepted_renumbered f) (added_by front among slot start command)
+added_alike : (f : ℕ → ℕ)
+    → KeepsOrder f
+    → (front : List Accepted) (place among slot : ℕ) (start : Option ℕ) (command : Command)
+    → f among ≡ place
+    → added_by (map (accepted_renumbered f) front) place slot start command ≡ map (accepted_renumbered f) (added_by front among slot start command)
 added_alike f keeps front place among slot (Some start) (commands.Write id serial replaces category period broadcasts dcs contents) at =
     ap (λ (a : Accepted). a ∷ []) (written_alike f keeps front place among slot start id serial replaces (length contents) period broadcasts (rank_of category) at)
 added_alike f keeps front place among slot None (commands.Write id serial replaces category period broadcasts dcs contents) at = refl
@@ -171,7 +192,12 @@ added_alike f keeps front place among slot None (commands.Kill id serial) at = r
 added_alike f keeps front place among slot (Some start) (commands.Status id serial) at = refl
 added_alike f keeps front place among slot None (commands.Status id serial) at = refl
 
-after_alike : (f : ℕ → ℕ) → KeepsOrder f → (all front : List Accepted) (place among : ℕ) (e : Entry) → all ≡ map (accepted_renumbered f) front → f among ≡ place → accepted_after all place e ≡ map (accepted_renumbered f) (accepted_after front among e)
+after_alike : (f : ℕ → ℕ)
+    → KeepsOrder f
+    → (all front : List Accepted) (place among : ℕ) (e : Entry)
+    → all ≡ map (accepted_renumbered f) front
+    → f among ≡ place
+    → accepted_after all place e ≡ map (accepted_renumbered f) (accepted_after front among e)
 after_alike f keeps all front place among e same at =
     let under = map (accepted_renumbered f) front in
     let added = added_by front among e.slot (start_of e.answer) e.command in
@@ -187,7 +213,16 @@ AreLater f place among later = (i : ℕ) → f (among + i) ≡ place + place_in 
 abbrev SameFrom : (ℕ → ℕ) → List Entry → Type 0
 SameFrom f later = (all front : List Accepted) (place among : ℕ) → all ≡ map (accepted_renumbered f) front → AreLater f place among later → accepted_from all place later ≡ map (accepted_renumbered f) (accepted_from front among (accepted_entries later))
 
-same_by : (f : ℕ → ℕ) → KeepsOrder f → (e : Entry) (later : List Entry) → SameFrom f later → (all front : List Accepted) (place among : ℕ) → all ≡ map (accepted_renumbered f) front → (says : Bool) → is_accepted e ≡ says → ((i : ℕ) → f (among + i) ≡ place + step says i (place_in later)) → accepted_from (accepted_after all place e) (place + 1) later ≡ map (accepted_renumbered f) (accepted_from front among (cond says (e ∷ accepted_entries later) (accepted_entries later)))
+same_by : (f : ℕ → ℕ)
+    → KeepsOrder f
+    → (e : Entry) (later : List Entry)
+    → SameFrom f later
+    → (all front : List Accepted) (place among : ℕ)
+    → all ≡ map (accepted_renumbered f) front
+    → (says : Bool)
+    → is_accepted e ≡ says
+    → ((i : ℕ) → f (among + i) ≡ place + step says i (place_in later))
+    → accepted_from (accepted_after all place e) (place + 1) later ≡ map (accepted_renumbered f) (accepted_from front among (cond says (e ∷ accepted_entries later) (accepted_entries later)))
 same_by f keeps e later rest all front place among same true accepted at =
     let here : among + 0 ≡ among = omega arith in
     let zeroth = at 0 in
@@ -205,7 +240,8 @@ same_from f keeps [] all front place among same places = same
 same_from f keeps (e ∷ later) all front place among same places =
     same_by f keeps e later (same_from f keeps later) all front place among same (is_accepted e) refl places
 
-same_messages : (log : List Entry) → accepted_in log ≡ map (accepted_renumbered (place_in log)) (accepted_in (accepted_entries log))
+same_messages : (log : List Entry)
+    → accepted_in log ≡ map (accepted_renumbered (place_in log)) (accepted_in (accepted_entries log))
 same_messages log =
     same_from (place_in log) (keeps_order log) log [] [] 0 0 refl (λ i.
     let same : 0 + i ≡ i = omega arith in

@@ -5,7 +5,7 @@ use Rattle.std.specs.Option.{IfSome}
 use Rattle.std.proofs.lemmas.Bool.{cases_Bool, cases_eq, eq-eqb, ne_eqb}
 use Rattle.std.proofs.lemmas.Option.{none-some}
 use Rattle.std.proofs.Math.Seq.{take-suc}
-use Rattle.std.proofs.lemmas.List.{get_or_default, take_all, length-take-le, get_or-take, get_or-map, length-map, map-append}
+use Rattle.std.proofs.lemmas.List.{get_or_default, take_all, length-take-le, get_or-take}
 use Rattle.std.proofs.lemmas.List.Elements.{All-nil, All-cons, All-push, All-map, All-filter, All-weaker, All-take}
 use Rattle.std.proofs.lemmas.List.Quantifiers.{all_pairs_push}
 use Rattle.scheduler.specs.Air.{layer}
@@ -58,7 +58,10 @@ room_without (Some a) slot all live rising room =
     subst (HasRoom slot) (sym (claims_stopped a.message.number slot all)) (stop_keeps_room (claims_of all) a.message.number slot room.0 lives room.1)
 
 -- stopping a message changes neither pairs nor starts
-without_sound : (stopped : Option Accepted) (slot : ℕ) (all : List Accepted) → IfSome stopped (λ a. Contains all a × (is_live slot a.message ≡ true)) → IsSound all slot → IsSound (without stopped slot all) slot
+without_sound : (stopped : Option Accepted) (slot : ℕ) (all : List Accepted)
+    → IfSome stopped (λ a. Contains all a × (is_live slot a.message ≡ true))
+    → IsSound all slot
+    → IsSound (without stopped slot all) slot
 without_sound None slot all live sound = sound
 without_sound (Some a) slot all live sound =
     let room = room_without (Some a) slot all live sound.rising (sound.order, sound.fit) in
@@ -86,7 +89,9 @@ not_found p (a ∷ all) none =
       | inr fails ↦ All-cons (λ (x : Accepted). p x ≡ false) a all fails (not_found p all (rw fails at none))
     ]
 
-others_are_apart : (new : Accepted) (all : List Accepted) → find (is_of_pair new.id new.serial) all ≡ None → All (λ a. OfAnotherPair a new) all
+others_are_apart : (new : Accepted) (all : List Accepted)
+    → find (is_of_pair new.id new.serial) all ≡ None
+    → All (λ a. OfAnotherPair a new) all
 others_are_apart new all none =
     All-weaker (λ (a : Accepted). is_of_pair new.id new.serial a ≡ false) (λ (a : Accepted). OfAnotherPair a new) (λ a apart.
     let turned : is_of_pair a.id a.serial new ≡ is_of_pair new.id new.serial a =
@@ -94,7 +99,9 @@ others_are_apart new all none =
     turned ∙ apart) all (not_found (is_of_pair new.id new.serial) all none)
 
 -- pairs stay as they are where a message is stopped
-find_without : (stopped : Option Accepted) (at id serial : ℕ) (all : List Accepted) → find (is_of_pair id serial) all ≡ None → find (is_of_pair id serial) (without stopped at all) ≡ None
+find_without : (stopped : Option Accepted) (at id serial : ℕ) (all : List Accepted)
+    → find (is_of_pair id serial) all ≡ None
+    → find (is_of_pair id serial) (without stopped at all) ≡ None
 find_without None at id serial all none = none
 find_without (Some a) at id serial all none = stays all none
   where
@@ -107,7 +114,10 @@ find_without (Some a) at id serial all none = stays all none
         ]
 
 -- the message that is added is new among the claims
-is_new : (number slot : ℕ) (replaced : Option Accepted) (before : List Accepted) (new : Accepted) → All (λ a. a.message.number < number) before → IsBegun number slot replaced before new → IsNew (claims_of before) slot (claim_of new)
+is_new : (number slot : ℕ) (replaced : Option Accepted) (before : List Accepted) (new : Accepted)
+    → All (λ a. a.message.number < number) before
+    → IsBegun number slot replaced before new
+    → IsNew (claims_of before) slot (claim_of new)
 is_new number slot replaced before new below begun = record {
   accepted = begun.accepted;
   greatest = All-filter reserves (λ (c : Claim). c.message.number < new.message.number) (all_claims before) (All-map (λ (c : Claim). c.message.number < new.message.number) claim_of before (All-weaker (λ (a : Accepted). a.message.number < number) (λ (a : Accepted). a.message.number < new.message.number) (λ a h. omega (arith, h, begun.numbered)) before below));
@@ -116,7 +126,11 @@ is_new number slot replaced before new below begun = record {
 }
 
 -- the claims stay so where it starts at once
-room_now : (slot : ℕ) (before : List Accepted) (new : Accepted) → IsNew (claims_of before) slot (claim_of new) → StartsNow slot before new → HasRoom slot (claims_of before) → HasRoom slot (claims_of (before ++ new ∷ []))
+room_now : (slot : ℕ) (before : List Accepted) (new : Accepted)
+    → IsNew (claims_of before) slot (claim_of new)
+    → StartsNow slot before new
+    → HasRoom slot (claims_of before)
+    → HasRoom slot (claims_of (before ++ new ∷ []))
 room_now slot before new is now room =
     elim (cases_eq (layer new.message) 0) [
       | inl front ↦ subst (HasRoom slot) (sym (claims_more_front before new front)) (start_keeps_room (claims_of before) slot (claim_of new) room.0 room.1 is now.start (now.fits front))
@@ -124,7 +138,12 @@ room_now slot before new is now room =
     ]
 
 -- and where it takes over
-room_over : (slot : ℕ) (all : List Accepted) (old new : Accepted) → Contains all old × (is_live slot old.message ≡ true) → IsNew (claims_of (map (stop_numbered old.message.number slot) all)) slot (claim_of new) → TakesOver slot old (map (stop_numbered old.message.number slot) all) new → HasRoom slot (claims_of all) → HasRoom slot (claims_of (map (stop_numbered old.message.number slot) all ++ new ∷ []))
+room_over : (slot : ℕ) (all : List Accepted) (old new : Accepted)
+    → Contains all old × (is_live slot old.message ≡ true)
+    → IsNew (claims_of (map (stop_numbered old.message.number slot) all)) slot (claim_of new)
+    → TakesOver slot old (map (stop_numbered old.message.number slot) all) new
+    → HasRoom slot (claims_of all)
+    → HasRoom slot (claims_of (map (stop_numbered old.message.number slot) all ++ new ∷ []))
 room_over slot all old new live is over room =
     let number = old.message.number in
     let before = map (stop_numbered number slot) all in
@@ -136,7 +155,13 @@ room_over slot all old new live is over room =
     let kept = takeover_keeps_room (claims_of all) slot (claim_of old) (claim_of new) over.place room.0 room.1 (its_claim all old live.0 over.of_reserved) live.1 (subst Over same over.over) (subst New same is) over.placed (subst Fits same over.fits) in
     subst (HasRoom slot) (sym (claims_more_front before new over.reserved)) (subst Room (sym same) kept)
 
-room_with : (number slot : ℕ) (replaced : Option Accepted) (all : List Accepted) (new : Accepted) → All (λ a. a.message.number < number) (without replaced slot all) → IfSome replaced (λ a. Contains all a × (is_live slot a.message ≡ true)) → IsBegun number slot replaced (without replaced slot all) new → HasRoom slot (claims_of all) → HasRoom slot (claims_of (without replaced slot all)) → HasRoom slot (claims_of (without replaced slot all ++ new ∷ []))
+room_with : (number slot : ℕ) (replaced : Option Accepted) (all : List Accepted) (new : Accepted)
+    → All (λ a. a.message.number < number) (without replaced slot all)
+    → IfSome replaced (λ a. Contains all a × (is_live slot a.message ≡ true))
+    → IsBegun number slot replaced (without replaced slot all) new
+    → HasRoom slot (claims_of all)
+    → HasRoom slot (claims_of (without replaced slot all))
+    → HasRoom slot (claims_of (without replaced slot all ++ new ∷ []))
 room_with number slot None all new below live begun room left =
     room_now slot all new (is_new number slot None all new below begun) begun.starts left
 room_with number slot (Some old) all new below live begun room left =
@@ -147,7 +172,14 @@ room_with number slot (Some old) all new below live begun room left =
       | inr over ↦ room_over slot all old new live is over room
     ]
 
-with_sound : (started replaced : Option Accepted) (number slot : ℕ) (all : List Accepted) → All (λ a. a.message.number < number) (without replaced slot all) → IfSome replaced (λ a. Contains all a × (is_live slot a.message ≡ true)) → IfSome started (λ a. find (is_of_pair a.id a.serial) (without replaced slot all) ≡ None) → IfSome started (λ a. IsBegun number slot replaced (without replaced slot all) a) → IsSound all slot → IsSound (without replaced slot all) slot → IsSound (with started (without replaced slot all)) slot
+with_sound : (started replaced : Option Accepted) (number slot : ℕ) (all : List Accepted)
+    → All (λ a. a.message.number < number) (without replaced slot all)
+    → IfSome replaced (λ a. Contains all a × (is_live slot a.message ≡ true))
+    → IfSome started (λ a. find (is_of_pair a.id a.serial) (without replaced slot all) ≡ None)
+    → IfSome started (λ a. IsBegun number slot replaced (without replaced slot all) a)
+    → IsSound all slot
+    → IsSound (without replaced slot all) slot
+    → IsSound (with started (without replaced slot all)) slot
 with_sound None replaced number slot all below live fresh begun sound left = left
 with_sound (Some new) replaced number slot all below live fresh begun sound left =
     let before = without replaced slot all in
@@ -160,17 +192,24 @@ with_sound (Some new) replaced number slot all below live fresh begun sound left
       fit = room.1;
     }
 
-below_without : (stopped : Option Accepted) (number slot : ℕ) (all : List Accepted) → All (λ a. a.message.number < number) all → All (λ a. a.message.number < number) (without stopped slot all)
+below_without : (stopped : Option Accepted) (number slot : ℕ) (all : List Accepted)
+    → All (λ a. a.message.number < number) all
+    → All (λ a. a.message.number < number) (without stopped slot all)
 below_without None number slot all below = below
 below_without (Some a) number slot all below =
     All-map (λ (x : Accepted). x.message.number < number) (stop_numbered a.message.number slot) all below
 
-fresh_without : (started stopped : Option Accepted) (at : ℕ) (all : List Accepted) → IfSome started (λ a. find (is_of_pair a.id a.serial) all ≡ None) → IfSome started (λ a. find (is_of_pair a.id a.serial) (without stopped at all) ≡ None)
+fresh_without : (started stopped : Option Accepted) (at : ℕ) (all : List Accepted)
+    → IfSome started (λ a. find (is_of_pair a.id a.serial) all ≡ None)
+    → IfSome started (λ a. find (is_of_pair a.id a.serial) (without stopped at all) ≡ None)
 fresh_without None stopped at all fresh = tt
 fresh_without (Some new) stopped at all fresh = find_without stopped at new.id new.serial all fresh
 
 -- they stay so with one more entry
-pub IsSound-push : (log : List Entry) (e : Entry) → Outcome log e → IsSound (accepted_in log) e.slot → IsSound (accepted_in (log ++ e ∷ [])) e.slot
+pub IsSound-push : (log : List Entry) (e : Entry)
+    → Outcome log e
+    → IsSound (accepted_in log) e.slot
+    → IsSound (accepted_in (log ++ e ∷ [])) e.slot
 IsSound-push log e outcome sound =
     let all = accepted_in log in
     let below = below_without outcome.stopped (length log) e.slot all (numbers_below log) in
@@ -189,7 +228,13 @@ IsSound-later all slot later after sound = record {
 }
 
 -- an entry of a legal history and those before it
-pub outcome_at : (r : Record) → IsLegal r → (k : ℕ) (d : Entry) → k < length r.log → AllPairs OfAnotherPair (accepted_in (take k r.log)) → AreInOrder (claims_in (take k r.log)) (get_or r.log k d).slot → Outcome (take k r.log) (get_or r.log k d)
+pub outcome_at : (r : Record)
+    → IsLegal r
+    → (k : ℕ) (d : Entry)
+    → k < length r.log
+    → AllPairs OfAnotherPair (accepted_in (take k r.log))
+    → AreInOrder (claims_in (take k r.log)) (get_or r.log k d).slot
+    → Outcome (take k r.log) (get_or r.log k d)
 outcome_at r legal k d within once order =
     let e : Entry = get_or r.log k d in
     let P : Answer → Type 0 = λ answer. Outcome (take k r.log) (entry_with e.command e.slot answer) in
@@ -201,7 +246,11 @@ some_entry [] some = absurd (omega arith)
 some_entry (e ∷ log) some = e
 
 -- the entries before it have no later slots
-pub slots_before : (r : Record) → IsLegal r → (k : ℕ) (d : Entry) → k < length r.log → All (λ e. e.slot ≤ (get_or r.log k d).slot) (take k r.log)
+pub slots_before : (r : Record)
+    → IsLegal r
+    → (k : ℕ) (d : Entry)
+    → k < length r.log
+    → All (λ e. e.slot ≤ (get_or r.log k d).slot) (take k r.log)
 slots_before r legal k d within = λ i x h.
     let short = length-take-le k r.log (omega arith) in
     let same = get_or-take k r.log i x (omega arith) in

@@ -74,7 +74,8 @@ answer_to_write log air slot id serial (Some replaced) category load =
     of_live slot (accepted_named id replaced log) (λ old. unless_accepted (message_named id serial log) (answer_to_replacement log air slot category load old))
 
 abbrev pub answer_to_kill : List Entry → Air → ℕ → ℕ → ℕ → Answer
-answer_to_kill log air slot id serial = of_live slot (accepted_named id serial log) (λ a. answers.Stopped (completed a.message air slot))
+answer_to_kill log air slot id serial =
+    of_live slot (accepted_named id serial log) (λ a. answers.Stopped (completed a.message air slot))
 
 -- a status tells the completed broadcasts and the state of a message that was accepted, whether it is live or not
 abbrev pub told_of : Air → ℕ → Option Message → Answer

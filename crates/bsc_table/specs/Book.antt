@@ -25,10 +25,10 @@ use Rattle.bsc_table.specs.declared.kept.Place.{Place as KeptPlace}
 use Rattle.bsc_table.specs.declared.kept.TheConstants.{LATEST_START}
 use Rattle.bsc_table.specs.declared.book.CellBook.TheInside.{Inside}
 use Rattle.bsc_table.specs.declared.record.CellRecord.TheInside as kept
-use Rattle.bsc_table.specs.Record.{Record, Accepted, claim_of, start_of, write_message, accepted_in, messages_in, claims_in, rank_of, place_after, is_of_pair, is_live}
+use Rattle.bsc_table.specs.Record.{Record, Accepted, start_of, write_message, accepted_in, messages_in, claims_in, rank_of, place_after, is_of_pair, is_live}
 use Rattle.bsc_table.specs.Begun.{IsBegun}
 use Rattle.bsc_table.specs.Claim.{Claim, own_load, end_of, is_claimed_at, claimed_at, stop_claims}
-use Rattle.bsc_table.specs.Handover.{Place, handover}
+use Rattle.bsc_table.specs.Handover.{Place}
 use Rattle.bsc_table.specs.Orders.{IsWellFormed}
 use Rattle.bsc_table.specs.Answer.{answer_at, answer_beside, answer_with_room}
 use Rattle.bsc_table.specs.Legal.{IsLegal}
@@ -102,7 +102,8 @@ pub record IsStart (r : Record) (e : Entry) (new : Accepted) : Type 0 where
 -- an entry stops a message and starts one in its place
 pub record IsReplacement (r : Record) (e : Entry) (old new : Accepted) : Type 0 where
   pub stops : IsLiveIn r old
-  pub begun : IsBegun (length r.log) r.clock (Some old) (map (stop_numbered old.message.number r.clock) (accepted_in r.log)) new
+  pub begun : IsBegun (length r.log) r.clock (Some old)
+      (map (stop_numbered old.message.number r.clock) (accepted_in r.log)) new
   pub after : accepted_in (r.log ++ e ∷ []) ≡ map (stop_numbered old.message.number r.clock) (accepted_in r.log) ++ new ∷ []
 
 -- a record with one more entry
@@ -140,13 +141,14 @@ decided_answer (decisions.Stops old completed) = answers.Stopped completed
 decided_answer (decisions.Starts new) = answers.Started new.accepted
 decided_answer (decisions.Replaces old new completed) = answers.Replaced new.start completed
 
--- what a decision says of the messages is what its entry does to them; one that is only noted accepts nothing, and a message
--- that replaces another starts so soon that the end of its broadcasts has room in 32 bits
+-- what a decision says of the messages is what its entry does to them; one that is only noted accepts nothing, and a
+-- message that replaces another starts so soon that the end of its broadcasts has room in 32 bits
 abbrev pub Does : Record → Entry → Decision → Type 0
 Does r e (decisions.Noted answer) = is_accepting answer ≡ false
 Does r e (decisions.Stops old completed) = IsStop r e (accepted_of old)
 Does r e (decisions.Starts new) = IsStart r e (accepted_of new)
-Does r e (decisions.Replaces old new completed) = IsReplacement r e (accepted_of old) (accepted_of new) × (new.start < LATEST_START)
+Does r e (decisions.Replaces old new completed) =
+    IsReplacement r e (accepted_of old) (accepted_of new) × (new.start < LATEST_START)
 
 -- so it is with the entry of this command, which comes next
 abbrev pub Decides : Record → Command → Decision → Type 0
@@ -177,29 +179,38 @@ DecidesWrites r a replaced d = (write : Command) → IsWriteOf a replaced write 
 -- what a claim's line of a budget waits for at a slot: up to its start, the end of the one behind which it waits
 abbrev pub waits_of : ℕ → Claim → Option Waits
 waits_of slot c =
-    if nat_lt slot c.message.start then option_map (λ behind. record { behind = behind; start = c.message.start; excess = c.excess }) c.behind else None
+    if nat_lt slot c.message.start
+    then option_map (λ behind. record { behind = behind; start = c.message.start; excess = c.excess }) c.behind
+    else None
 
 -- a claim's line of a budget at a slot
 abbrev pub line_of : ℕ → Claim → Held
-line_of slot c = record { entry = c.message.number; load = own_load c.message; until = end_of c.message; waits = waits_of slot c }
+line_of slot c = record {
+  entry = c.message.number;
+  load = own_load c.message;
+  until = end_of c.message;
+  waits = waits_of slot c;
+}
 
 -- the lines that a budget holds at a slot: of the claims that are reserved there
 abbrev pub lines_at : ℕ → List Claim → List Held
 lines_at slot claims = map (line_of slot) (filter (is_claimed_at slot) claims)
 
--- the lines of a budget hold the place that a load is to take behind an entry, up to its start: that one has started and
--- ends there, none waits behind it, and the load has so much over its own
+-- the lines of a budget hold the place that a load is to take behind an entry, up to its start: that one has started
+-- and ends there, none waits behind it, and the load has so much over its own
 pub record IsHeldFor (lines : List Held) (load behind start excess : ℕ) : Type 0 where
   pub ends : Any (λ h. (h.entry ≡ behind) × (h.waits ≡ None) × (h.until ≡ Some start)) lines
   pub free : All (λ h. behind_of h ≢ Some behind) lines
   pub over : excess_over behind load lines ≡ excess
 
--- the lines of a budget have room for a claim, by the one behind which it waits: for its load where it starts by the slot;
--- else for its excess, behind that one
+-- the lines of a budget have room for a claim, by the one behind which it waits: for its load where it starts by the
+-- slot; else for its excess, behind that one
 abbrev pub HasRoomFor : ℕ → List Held → Claim → Option ℕ → Type 0
 HasRoomFor slot lines c None = (c.message.start ≤ slot) × (answer_for lines (own_load c.message) ≡ Ok tt)
 HasRoomFor slot lines c (Some behind) =
-    (slot < c.message.start) × (answer_for lines c.excess ≡ Ok tt) × IsHeldFor lines (own_load c.message) behind c.message.start c.excess
+    (slot < c.message.start)
+    × (answer_for lines c.excess ≡ Ok tt)
+    × IsHeldFor lines (own_load c.message) behind c.message.start c.excess
 
 -- no message of a pair is live, and one is
 abbrev pub IsNotLive : ℕ → Option Message → Type 0
@@ -215,8 +226,8 @@ abbrev pub cause_of : NoRoom → ℕ
 cause_of Table = 0x07
 cause_of Load = 0x06
 
--- the answer to a write, by whether its load has room: the one that accepts it now, that for want of a place, or that for
--- want of room for its load now
+-- the answer to a write, by whether its load has room: the one that accepts it now, that for a full table, or that
+-- where its load has no room now
 abbrev pub by_room : Result (Unit {0}) NoRoom → Answer → Answer → Answer
 by_room (Ok done) now later = now
 by_room (Err Table) now later = answers.Cause (cause_of Table)
@@ -230,7 +241,8 @@ pub record HasRoom (claims : List Claim) (slot load : ℕ) : Type 0 where
 -- whether it has, as a budget tells: a write is answered so, and accepted now only where the load has room
 pub record IsRoom (claims : List Claim) (slot load : ℕ) (room : Result (Unit {0}) NoRoom) : Type 0 where
   pub says : room ≡ answer_of (length (filter (is_claimed_at slot) claims)) (claimed_at claims slot) load
-  pub answered : (place : Option Place) (accepts : ℕ → Answer) → answer_beside claims slot load place accepts ≡ by_room room (accepts slot) (answer_at claims slot accepts place)
+  pub answered : (place : Option Place) (accepts : ℕ → Answer)
+      → answer_beside claims slot load place accepts ≡ by_room room (accepts slot) (answer_at claims slot accepts place)
   pub fits : OnOk room (HasRoom claims slot load)
 
 -- a place as it is kept
@@ -250,8 +262,8 @@ abbrev pub by_place : Option KeptPlace → (ℕ → Answer) → Answer
 by_place None accepts = answers.Cause 0x06
 by_place (Some p) accepts = accepts p.start
 
--- the place at which a message of that load may take over from a live one, if there is one with room: so is a write in its
--- place answered, where that has no room now
+-- the place at which a message of that load may take over from a live one, if there is one with room: so is a write
+-- in its place answered, where that has no room now
 pub record IsLater (r : Record) (old : Accepted) (load : ℕ) (later : Option KeptPlace) : Type 0 where
   pub answered : (accepts : ℕ → Answer) → answer_at (left_by r old) r.clock accepts (place_after (left_by r old) r.clock old load) ≡ by_place later accepts
   pub there : IfSome later (λ p. place_after (left_by r old) r.clock old load ≡ Some (place_of p))

@@ -162,9 +162,13 @@ impl CellBook {
     /// - cause 02 where the message to stop or to replace isn't live;
     /// - to a kill, `Stopped`;
     /// - cause 0D where a message of the pair was accepted before;
-    /// - cause 07, but for a background message, where 64 messages are reserved, the one to replace being stopped;
-    /// - cause 06 where the load doesn't fit beside those that are then reserved;
-    /// - `Started`, or `Replaced` where one is replaced.
+    /// - `Started`, or `Replaced`, where the new message is background, which reserves nothing;
+    /// - cause 07 where 64 messages are reserved, the one to replace being stopped;
+    /// - `Started`, or `Replaced` where one is replaced, where the load fits beside those that are then reserved;
+    /// - `Replaced` at a later slot where the message takes over: it starts where the reservation of the message ahead of
+    ///   it ends (of the one that it replaces, or of the one behind which that one waits), and what its load has over
+    ///   that one's fits until then;
+    /// - else cause 06.
     ///
     /// Each answer but cause 08 has an entry, which is the only trace of a refusal. Where there is no memory for what an answer
     /// takes, the answer is `Refused` instead, and the book is as it was. The command is one that `orders_of` gives of a message
@@ -396,7 +400,8 @@ impl CellBook {
     fn decide_kill(&self, id: u16, serial: Serial) -> Decision
         requires { IsLegal self.now }
         ensures right { decided_answer result
-            ≡ before_end self.now.slots self.now.clock (answer_to_kill self.now.log self.now.air self.now.clock id serial) }
+            ≡ before_end self.now.slots self.now.clock
+            (answer_to_kill self.now.log self.now.air self.now.clock id serial) }
         ensures decides { Decides self.now (commands.Kill id serial) result }
     {
         if self.is_over() {
@@ -510,14 +515,14 @@ impl CellBook {
         ensures { IsLater self.now (accepted_of old.now) load result }
     {
         let place = self.place_after(old, load)?;
-        match self.room_without(old, place.excess) {
+        match self.room_behind(old, load, place) {
             Ok(()) => Some(place),
             Err(_) => None,
         }
     }
 
-    /// The place at which a message of this load may take over from a live one: behind that one, where it has started, else
-    /// behind the one behind which it waits.
+    /// The place at which a message of this load may take over from a live one: behind that one, where it has started,
+    /// else behind the one behind which it waits.
     fn place_after(&self, old: &Kept, load: u64) -> Option<Place>
         requires { IsLiveIn self.now (accepted_of old.now) }
         ensures place { option_map place_of result
@@ -531,6 +536,18 @@ impl CellBook {
         let ahead = kept::reserved(self.accepted.as_slice(), number)?;
         let stopped = ahead.stopped_if(old.number, self.clock);
         stopped.place_behind(self.clock, load)
+    }
+
+    /// Whether there is room for what a load has over that of the message behind which it is to wait, where a live
+    /// message counts as stopped.
+    fn room_behind(&self, old: &Kept, load: u64, place: Place) -> Result<(), NoRoom>
+        requires live { IsLiveIn self.now (accepted_of old.now) }
+        requires place { place_after (left_by self.now (accepted_of old.now)) self.now.clock (accepted_of old.now) load
+            ≡ Some (place_of place) }
+        ensures { IsRoom (left_by self.now (accepted_of old.now)) self.now.clock place.excess result }
+    {
+        self.budget
+            .fits_behind(load, place.behind, old.leaving_at(self.clock))
     }
 
     /// Whether all slots of the run are played.

@@ -26,7 +26,7 @@ pub enum Answer {
     },
     /// So it does, and the message that it replaces stands no more.
     Replaced {
-        /// The slot from which it stands.
+        /// The slot from which it stands: that of the answer, or a later one, where it takes over.
         slot: u32,
         /// How many broadcasts of the replaced message were whole.
         completed: u16,

@@ -18,7 +18,8 @@ use cbs_page::Serial;
 use scheduler::Item;
 
 /// No message starts as late as this slot. One that waits starts at the end of the period in which another was stopped:
-/// with a slot and a period of 16 bits at `0xFFFF + 0xFFFE` at most, so that the end of its broadcasts has room in 32 bits.
+/// with a slot and a period of 16 bits at `0xFFFF + 0xFFFE` at most, so that the end of its broadcasts has room in 32
+/// bits.
 const LATEST_START: u32 = 0x1_FFFE;
 
 /// A message that was accepted.
@@ -139,8 +140,8 @@ impl Kept {
         }
     }
 
-    /// The number of the message that stands before one that replaces this one at `slot`: this one, where it has started;
-    /// else the one behind which it waits.
+    /// The number of the message that stands before one that replaces this one at `slot`: this one, where it has
+    /// started; else the one behind which it waits.
     pub fn ahead_at(&self, slot: u16) -> Option<u16>
         ensures { result ≡ ahead_of slot (claim_of (accepted_of self.now)) }
     {
@@ -155,7 +156,8 @@ impl Kept {
     /// reserved beyond that slot.
     pub fn place_behind(&self, slot: u16, load: u64) -> Option<Place>
         requires { 0 < self.now.period }
-        ensures place { option_map place_of result ≡ place_before slot load (claim_of (accepted_of self.now)) (stopped_end self.now) }
+        ensures place { option_map place_of result
+            ≡ place_before slot load (claim_of (accepted_of self.now)) (stopped_end self.now) }
         ensures soon { IfSome result (λ place. place.start < LATEST_START) }
     {
         let start = self.end_if_stopped(self.stop?);

@@ -37,8 +37,7 @@ pub fn guarantee()
 
 /// What keeps room at every slot, also where a message that is accepted has to wait for its start: up to then it
 /// reserves what its load has over that of the stopped message behind which it waits, and from then on its whole
-/// load, where that one's reservation ends. Over what messages claim of a cell alone; no cell lets a message wait
-/// yet. Own rules, of no standard.
+/// load, where that one's reservation ends. Over what messages claim of a cell alone. Own rules, of no standard.
 ///
 /// Does nothing: its contract is the law.
 pub fn room_laws()

@@ -4,8 +4,7 @@ use Rattle.admission.specs.declared.budget.NoRoom.{NoRoom}
 use Rattle.bsc_table.specs.declared.decision.Decision.TheVariants as decisions
 use Rattle.bsc_table.specs.declared.kept.Kept.{Kept}
 use Rattle.bsc_table.specs.declared.kept.Place.{Place}
-use Rattle.bsc_table.specs.Handover.{handover}
-use Rattle.bsc_table.specs.Record.{claim_of, place_after}
+use Rattle.bsc_table.specs.Record.{place_after}
 use Rattle.bsc_table.specs.declared.kept.TheConstants.{LATEST_START}
 use Rattle.bsc_table.specs.Book.{accepted_of, HasRoom, DecidesWrites, IsLater, place_of, left_by}
 use Rattle.bsc_table.proofs.Booked.{few_places}

@@ -7,7 +7,7 @@ use Rattle.bsc_table.specs.declared.entry.Entry.{Entry}
 use Rattle.bsc_table.specs.declared.kept.Kept.{Kept}
 use Rattle.bsc_table.specs.Record.{Record, Accepted, accepted_in, messages_in, claim_of, claims_in, is_background}
 use Rattle.bsc_table.specs.Claim.{Claim}
-use Rattle.bsc_table.specs.Book.{accepted_of, record_of, line_of, lines_at, HasRoomFor, IsNext, IsStart}
+use Rattle.bsc_table.specs.Book.{accepted_of, record_of, lines_at, HasRoomFor, IsNext, IsStart}
 use Rattle.bsc_table.proofs.Begun.{room_for_new}
 use Rattle.bsc_table.proofs.Sound.{IsSound-legal}
 use Rattle.bsc_table.proofs.Ranks.{in_front, layer_tells}

@@ -10,7 +10,7 @@ use Rattle.bsc_table.specs.declared.entry.Entry.{Entry}
 use Rattle.bsc_table.specs.declared.kept.Kept.{Kept}
 use Rattle.bsc_table.specs.Record.{Record, Accepted, accepted_in, messages_in, claim_of, claims_in, is_background}
 use Rattle.bsc_table.specs.Claim.{Claim, reserves, stop_claims}
-use Rattle.bsc_table.specs.Book.{accepted_of, stop_numbered, record_of, line_of, lines_at, HasRoomFor, IsNext, IsReplacement}
+use Rattle.bsc_table.specs.Book.{accepted_of, stop_numbered, record_of, lines_at, HasRoomFor, IsNext, IsReplacement}
 use Rattle.bsc_table.proofs.Outcome.{messages_stopped, claims_stopped}
 use Rattle.bsc_table.proofs.Begun.{room_for_replacement}
 use Rattle.bsc_table.proofs.Sound.{HasLoad, IsSound-legal}

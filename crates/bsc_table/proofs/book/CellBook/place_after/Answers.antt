@@ -1,12 +1,12 @@
-use Rattle.std.proofs.Common.{◌≡◌, ◌<◌, ◌==◌, ℕ, Bool, Some, None, List, map, subst, sym, ap, ◌∙◌}
+use Rattle.std.proofs.Common.{◌≡◌, ◌<◌, ℕ, Bool, Some, None, List, map, subst, sym, ap, ◌∙◌}
 use Rattle.std.specs.List.{find}
 use Rattle.std.specs.Option.{option_map}
 use Rattle.bsc_table.specs.declared.kept.Kept.{Kept}
 use Rattle.bsc_table.specs.Record.{Record, Accepted, accepted_in, claim_of, place_after}
-use Rattle.bsc_table.specs.Handover.{ahead_of, place_before, handover}
+use Rattle.bsc_table.specs.Handover.{ahead_of, place_before}
 use Rattle.bsc_table.specs.Book.{accepted_of, record_of, stopped_end, place_of, left_by, IsLiveIn}
-use Rattle.bsc_table.proofs.Placed.{is_reserved_as, none_ahead, found_lasts, place_ahead, place_in_front, no_place}
-use Rattle.bsc_table.proofs.Ranks.{in_front, not_in_front}
+use Rattle.bsc_table.proofs.Placed.{is_reserved_as, none_ahead, found_lasts, place_ahead, place_in_front}
+use Rattle.bsc_table.proofs.Ranks.{in_front}
 use Rattle.bsc_table.proofs.book.CellBook.place_after.Goals as goal
 
 pub returns-in_err-ahead-clause-place : goal.returns-in_err-ahead-clause-place
