@@ -1,7 +1,8 @@
 -- A message that begins: it starts no sooner than it is accepted, and there is room for it in the budget.
 use Rattle.std.proofs.Common.{◌≡◌, ℕ, ◌+◌, ◌≤◌, ◌<◌, true, Option, Some, None, Ok, List, length, map, filter, refl, sym, subst, ◌∙◌, inl, inr, arith}
-use Rattle.std.specs.List.{Contains}
+use Rattle.std.specs.List.{AllPairs, Contains}
 use Rattle.std.proofs.lemmas.Bool.{lt-ltb, le-leb}
+use Rattle.scheduler.specs.Air.{layer}
 use Rattle.admission.specs.declared.measure.TheConstants.{SCALE}
 use Rattle.admission.specs.Table.{answer_of as answer_by, answer_for}
 use Rattle.bsc_table.specs.Record.{Accepted, is_live, claim_of, claims_of}
@@ -12,9 +13,10 @@ use Rattle.bsc_table.specs.Begun.{StartsNow, TakesOver, Starts, IsBegun}
 use Rattle.bsc_table.specs.Book.{stop_numbered, lines_at, IsHeldFor, HasRoomFor}
 use Rattle.bsc_table.proofs.Ahead.{taken}
 use Rattle.bsc_table.proofs.Outcome.{claims_stopped}
-use Rattle.bsc_table.proofs.Sound.{its_claim}
+use Rattle.bsc_table.proofs.Named.{BelowIt}
+use Rattle.bsc_table.proofs.Ranks.{its_claim}
+use Rattle.bsc_table.proofs.Sound.{stops_live}
 use Rattle.bsc_table.proofs.Stopped.{in_order-stop}
-use Rattle.bsc_table.proofs.TakenOver.{only_live}
 use Rattle.bsc_table.proofs.Lines.{lined, same_room}
 use Rattle.bsc_table.proofs.Handed.{handed_in}
 
@@ -46,47 +48,35 @@ has_room slot load claims order room fits =
     let yes : answer_by places (claimed_at claims slot) load ≡ Ok tt = rw (lt-ltb (length (filter (is_claimed_at slot) claims)) 64 room, le-leb (claimed_at claims slot + load) SCALE fits) refl in
     same_room slot load claims (lined slot claims order) ∙ yes
 
-room_now : (slot : ℕ) (before : List Accepted) (a : Accepted)
-    → AreInOrder (claims_of before) slot
-    → length (filter (is_claimed_at slot) (claims_of before)) < 64
-    → StartsNow slot before a
-    → HasRoomFor slot (lines_at slot (claims_of before)) (claim_of a) a.behind
-room_now slot before a order room now =
-    subst (HasRoomFor slot (lines_at slot (claims_of before)) (claim_of a)) (sym now.behind) (omega (arith, now.start), has_room slot (own_load a.message) (claims_of before) order room now.fits)
+room_now : (slot : ℕ) (before : List Accepted) (a : Accepted) → AreInOrder (claims_of before) slot → layer a.message ≡ 0 → length (filter (is_claimed_at slot) (claims_of before)) < 64 → StartsNow slot before a → HasRoomFor slot (lines_at slot (claims_of before)) (claim_of a) a.behind
+room_now slot before a order front room now =
+    subst (HasRoomFor slot (lines_at slot (claims_of before)) (claim_of a)) (sym now.behind) (omega (arith, now.start), has_room slot (own_load a.message) (claims_of before) order room (now.fits front))
 
 -- a message in the place of none has room
-pub room_for_new : (number slot : ℕ) (before : List Accepted) (a : Accepted)
-    → AreInOrder (claims_of before) slot
-    → IsBegun number slot None before a
-    → HasRoomFor slot (lines_at slot (claims_of before)) (claim_of a) a.behind
-room_for_new number slot before a order begun = room_now slot before a order begun.room begun.starts
+pub room_for_new : (number slot : ℕ) (before : List Accepted) (a : Accepted) → AreInOrder (claims_of before) slot → IsBegun number slot None before a → layer a.message ≡ 0 → HasRoomFor slot (lines_at slot (claims_of before)) (claim_of a) a.behind
+room_for_new number slot before a order begun front = room_now slot before a order front (begun.room front) begun.starts
 
 -- and so has one in the place of a live one
-pub room_for_replacement : (number slot : ℕ) (all : List Accepted) (old a : Accepted)
-    → AreInOrder (claims_of all) slot
-    → Contains all old
-    → is_live slot old.message ≡ true
-    → IsBegun number slot (Some old) (map (stop_numbered old.message.number slot) all) a
-    → HasRoomFor slot (lines_at slot (stop_claims old.message.number slot (claims_of all))) (claim_of a) a.behind
-room_for_replacement number slot all old a order here live begun =
+pub room_for_replacement : (number slot : ℕ) (all : List Accepted) (old a : Accepted) → AreInOrder (claims_of all) slot → AllPairs BelowIt all → Contains all old → is_live slot old.message ≡ true → IsBegun number slot (Some old) (map (stop_numbered old.message.number slot) all) a → layer a.message ≡ 0 → HasRoomFor slot (lines_at slot (stop_claims old.message.number slot (claims_of all))) (claim_of a) a.behind
+room_for_replacement number slot all old a order rising here live begun front =
     let of_old = old.message.number in
     let claims = claims_of all in
     let before = map (stop_numbered of_old slot) all in
     let left = stop_claims of_old slot claims in
     let same = claims_stopped of_old slot all in
-    let its = its_claim all old here in
-    let kept = in_order-stop claims of_old slot order (only_live claims slot (claim_of old) order.rising its live) in
+    let kept = in_order-stop claims of_old slot order (stops_live all slot old rising here live) in
     let InOrder : List Claim → Type 0 = λ l. AreInOrder l slot in
     let Room : List Claim → Type 0 = λ l. length (filter (is_claimed_at slot) l) < 64 in
     let For : List Claim → Type 0 = λ l. HasRoomFor slot (lines_at slot l) (claim_of a) a.behind in
     elim begun.starts [
-      | inl now ↦ subst For same (room_now slot before a (subst InOrder (sym same) kept) begun.room now)
+      | inl now ↦ subst For same (room_now slot before a (subst InOrder (sym same) kept) front (begun.room front) now)
       | inr over ↦
           let place = over.place in
+          let its = its_claim all old here over.of_reserved in
           let Over : List Claim → Type 0 = λ l. handover l slot (claim_of old) (own_load a.message) ≡ Some place in
           let Fits : List Claim → Type 0 = λ l. claimed_at l slot + place.excess ≤ SCALE in
           let held = handed_in slot (own_load a.message) claims (claim_of old) place order its live (subst Over same over.over) in
-          let fits = has_room slot place.excess left kept (subst Room same begun.room) (subst Fits same over.fits) in
+          let fits = has_room slot place.excess left kept (subst Room same (begun.room front)) (subst Fits same over.fits) in
           let Started : ℕ → Type 0 = λ start. (slot < start) × (answer_for (lines_at slot left) place.excess ≡ Ok tt) × IsHeldFor (lines_at slot left) (own_load a.message) place.behind start place.excess in
           let Reserved : ℕ → Type 0 = λ excess. (slot < a.message.start) × (answer_for (lines_at slot left) excess ≡ Ok tt) × IsHeldFor (lines_at slot left) (own_load a.message) place.behind a.message.start excess in
           let with_start = subst Started (sym over.placed.start) (held.0, fits, held.1) in

@@ -3,7 +3,7 @@ use Rattle.std.proofs.Common.{◌≡◌, ℕ, zero, suc, ◌+◌, ◌-◌, ◌�
 use Rattle.std.specs.List.{All, Any}
 use Rattle.std.proofs.lemmas.Bool.{cases_lt}
 use Rattle.scheduler.specs.Message.{Message, release, due}
-use Rattle.scheduler.specs.Air.{Air, pages_aired, next_page, IsPending, IsNoLater, IsChosen, IsAirOf}
+use Rattle.scheduler.specs.Air.{Air, pages_aired, layer, next_page, IsPending, IsServedBy, IsChosen, IsAirOf}
 use Rattle.scheduler.proofs.Air.{pages_aired-none}
 use Rattle.bsc_table.specs.Guarantee.{IsUncut, AirsOneWithin, LackMeansABusyPeriod}
 use Rattle.bsc_table.proofs.Sums.{total-le}
@@ -18,20 +18,30 @@ AirsDue messages air to slot =
 abbrev NoneDue : List Message → Air → ℕ → ℕ → Type 0
 NoneDue messages air to slot = All (λ m. (j : ℕ) → IsPending m j air slot → to < due m j) messages
 
--- what is served no later is due no later
-due_no_later : (a b : Message) (i j : ℕ) → IsNoLater a i b j → due a i ≤ due b j
-due_no_later a b i j h = elim h [ inl sooner ↦ omega arith | inr tied ↦ omega (arith, tied.0) ]
+-- none of the messages is background
+abbrev NoBackground : List Message → Type 0
+NoBackground messages = All (λ m. layer m ≡ 0) messages
+
+-- of such messages, what is served no later is due no later
+due_no_later : (a b : Message) (i j : ℕ) → layer a ≡ 0 → layer b ≡ 0 → IsServedBy a i b j → due a i ≤ due b j
+due_no_later a b i j one other h =
+    elim h [
+      | inl above ↦ absurd (omega (arith, one, other, above))
+      | inr same ↦ elim same.1 [ inl sooner ↦ omega arith | inr tied ↦ omega (arith, tied.0) ]
+    ]
 
 -- a slot airs what is due by then, or nothing that is due by then is pending
-chosen_due : (messages : List Message) (air : Air) (to slot : ℕ) (used : Option (ℕ × ℕ)) → get_or air slot None ≡ used → IsChosen messages air slot used → AirsDue messages air to slot ⊎ NoneDue messages air to slot
-chosen_due messages air to slot None same chosen =
+chosen_due : (messages : List Message) (air : Air) (to slot : ℕ) (used : Option (ℕ × ℕ)) → NoBackground messages → get_or air slot None ≡ used → IsChosen messages air slot used → AirsDue messages air to slot ⊎ NoneDue messages air to slot
+chosen_due messages air to slot None alone same chosen =
     inr (λ k d within. λ j pending. absurd (chosen k d within j pending))
-chosen_due messages air to slot (Some used) same chosen =
+chosen_due messages air to slot (Some used) alone same chosen =
     let m = chosen.1 in
     let j = chosen.4.0 in
+    let Alone : Message → Type 0 = λ o. layer o ≡ 0 in
+    let its = subst Alone chosen.3 (alone chosen.0 m chosen.2) in
     elim (cases_lt to (due m j)) [
       | inl later ↦ inr (λ k d within. λ i pending.
-          let no_later = due_no_later m (get_or messages k d) j i (chosen.4.1.first k d within i pending) in
+          let no_later = due_no_later m (get_or messages k d) j i its (alone k d within) (chosen.4.1.first k d within i pending) in
           omega (arith, no_later, later))
       | inr by ↦ inl (chosen.0, m, chosen.2, chosen.3, (j, chosen.4.1.pending, same ∙ ap Some chosen.4.2, by))
     ]
@@ -43,14 +53,14 @@ record IsBusyFrom (messages : List Message) (air : Air) (at to from : ℕ) : Typ
   busy : (slot : ℕ) → from ≤ slot → slot < to → AirsDue messages air to slot
   begins : (slot : ℕ) → from ≡ slot + 1 → NoneDue messages air to slot
 
-busy_from : (messages : List Message) (air : Air) (to at : ℕ) → IsAirOf messages air → at ≤ to → to ≤ length air → ((slot : ℕ) → at ≤ slot → slot < to → AirsDue messages air to slot) → (from : ℕ) × IsBusyFrom messages air at to from
-busy_from messages air to zero rule before within busy =
+busy_from : (messages : List Message) (air : Air) (to at : ℕ) → NoBackground messages → IsAirOf messages air → at ≤ to → to ≤ length air → ((slot : ℕ) → at ≤ slot → slot < to → AirsDue messages air to slot) → (from : ℕ) × IsBusyFrom messages air at to from
+busy_from messages air to zero alone rule before within busy =
     (0, record { early = omega arith; busy = busy; begins = λ slot e. absurd (omega arith) })
-busy_from messages air to (suc at) rule before within busy =
-    elim (chosen_due messages air to at (get_or air at None) refl (rule at (omega arith))) [
+busy_from messages air to (suc at) alone rule before within busy =
+    elim (chosen_due messages air to at (get_or air at None) alone refl (rule at (omega arith))) [
       | inl due_by ↦
           let Aired : ℕ → Type 0 = λ s. AirsDue messages air to s in
-          let more = busy_from messages air to at rule (omega arith) within (λ slot low high. elim (cases_lt at slot) [
+          let more = busy_from messages air to at alone rule (omega arith) within (λ slot low high. elim (cases_lt at slot) [
             | inl later ↦ busy slot (omega arith) high
             | inr here ↦
                 let same : at ≡ slot = omega arith in
@@ -103,17 +113,17 @@ pending_throughout m j air t uncut lacks low high = record {
 }
 
 pub lack_means_a_busy_period : LackMeansABusyPeriod
-lack_means_a_busy_period messages air rule = λ k d inside. λ j uncut lacks.
+lack_means_a_busy_period messages air alone rule = λ k d inside. λ j uncut lacks.
     let m = get_or messages k d in
     let to = due m j in
     let busy_after : (slot : ℕ) → release m j ≤ slot → slot < to → AirsDue messages air to slot = λ slot low high.
-    (elim (chosen_due messages air to slot (get_or air slot None) refl (rule slot (omega (arith, uncut.aired_by)))) [
+    (elim (chosen_due messages air to slot (get_or air slot None) alone refl (rule slot (omega (arith, uncut.aired_by)))) [
       | inl due_by ↦ due_by
       | inr none ↦ absurd (omega (arith, none k d inside j (pending_throughout m j air slot uncut lacks low high)))
     ]) in
     elim (cases_lt (release m j) to) [
       | inl ahead ↦
-          let busy = busy_from messages air to (release m j) rule (omega arith) uncut.aired_by busy_after in
+          let busy = busy_from messages air to (release m j) alone rule (omega arith) uncut.aired_by busy_after in
           (busy.0, busy.1.early, λ slot low high. within_since messages air to slot busy.0 (omega (arith, uncut.aired_by)) low busy.1.begins (busy.1.busy slot low high))
       | inr never ↦ (release m j, omega arith, λ slot low high. absurd (omega arith))
     ]

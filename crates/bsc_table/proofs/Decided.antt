@@ -1,9 +1,10 @@
 -- What a decision says of the messages is what its entry does to them.
-use Rattle.std.proofs.Common.{◌≡◌, ℕ, ◌+◌, ◌≤◌, ◌<◌, cond, Option, Some, None, List, length, map, filter, refl, ap, sym, subst, ◌∙◌, inl, inr, arith}
+use Rattle.std.proofs.Common.{◌≡◌, ℕ, ◌+◌, ◌≤◌, ◌<◌, false, cond, Option, Some, None, List, length, map, filter, refl, ap, sym, subst, ◌∙◌, inl, inr, arith}
 use Rattle.std.specs.List.{find}
 use Rattle.std.proofs.lemmas.Bool.{eq-eqb}
 use Rattle.admission.specs.declared.measure.TheConstants.{SCALE}
 use Rattle.admission.specs.Load.{load_of}
+use Rattle.scheduler.specs.Air.{layer, layer_of}
 use Rattle.bsc_table.specs.declared.command.Command.TheVariants as commands
 use Rattle.bsc_table.specs.declared.decision.Decision.TheVariants as decisions
 use Rattle.bsc_table.specs.declared.kept.Kept.{Kept}
@@ -11,12 +12,13 @@ use Rattle.bsc_table.specs.declared.kept.Place.{Place as KeptPlace}
 use Rattle.bsc_table.specs.declared.kept.TheConstants.{LATEST_START}
 use Rattle.bsc_table.specs.Claim.{Claim, is_claimed_at, claimed_at}
 use Rattle.bsc_table.specs.Handover.{ahead_of, numbered, handover}
-use Rattle.bsc_table.specs.Record.{Record, Accepted, accepted_in, is_of_pair, is_high, claim_of, claims_of, claims_in, behind_of, excess_over, write_message}
+use Rattle.bsc_table.specs.Record.{Record, Accepted, accepted_in, is_of_pair, rank_of, claim_of, claims_of, claims_in, is_background, place_after, behind_of, excess_over, write_message}
 use Rattle.bsc_table.specs.Legal.{IsLegal}
 use Rattle.bsc_table.specs.Begun.{StartsNow, Starts, IsBegun}
 use Rattle.bsc_table.specs.Book.{accepted_of, stop_numbered, IsLiveIn, IsLiveAs, IsOffered, HasRoom, Decides, DecidesWrites, place_of, left_by}
 use Rattle.bsc_table.proofs.Named.{live_is_standing}
-use Rattle.bsc_table.proofs.Outcome.{new_message, stops_one, starts_one, replaces_one, placed_at, claims_stopped}
+use Rattle.bsc_table.proofs.Outcome.{new_message, stops_one, starts_one, replaces_one, placed_at, taken_after, claims_stopped}
+use Rattle.bsc_table.proofs.Ranks.{in_front, is_front}
 use Rattle.bsc_table.proofs.Sound.{IsSound-legal}
 use Rattle.bsc_table.proofs.Booked.{found_is_there}
 
@@ -27,7 +29,7 @@ live_in r id serial a live = record { there = found_is_there id serial r.log a l
 -- a message that is offered may begin beside others that leave it room now
 begins : (r : Record) (replaced : Option Accepted) (before : List Accepted) (a : Accepted)
     → IsOffered r a
-    → HasRoom (claims_of before) r.clock (load_of a.message.pages a.message.period)
+    → (layer a.message ≡ 0 → HasRoom (claims_of before) r.clock (load_of a.message.pages a.message.period))
     → (StartsNow r.clock before a → Starts r.clock replaced before a)
     → IsBegun (length r.log) r.clock replaced before a
 begins r replaced before a offered room either = record {
@@ -36,8 +38,8 @@ begins r replaced before a offered room either = record {
   standing = offered.standing;
   some_pages = offered.some_pages;
   some_period = offered.some_period;
-  room = room.places;
-  starts = either (record { start = offered.begins; behind = offered.behind; fits = room.loads });
+  room = λ front. (room front).places;
+  starts = either (record { start = offered.begins; behind = offered.behind; fits = λ front. (room front).loads });
 }
 
 -- a kill of a live message stops it
@@ -57,12 +59,12 @@ kills r id serial completed old legal live =
 -- a write in the place of none starts its message, where that has room
 pub starts : (r : Record) (new : Kept)
     → IsOffered r (accepted_of new)
-    → HasRoom (claims_in r.log) r.clock (load_of new.pages new.period)
+    → (is_background new.category ≡ false → HasRoom (claims_in r.log) r.clock (load_of new.pages new.period))
     → DecidesWrites r (accepted_of new) None (decisions.Starts new)
 starts r new offered room (commands.Write id serial None category period broadcasts dcs contents) same =
     let after = starts_one r.log r.clock id serial category period broadcasts dcs contents in
     record {
-      begun = begins r None (accepted_in r.log) (accepted_of new) offered room (λ now. now);
+      begun = begins r None (accepted_in r.log) (accepted_of new) offered (λ front. room (is_front new.category front)) (λ now. now);
       after = cc;
     }
 starts r new offered room (commands.Write id serial (Some old) category period broadcasts dcs contents) same = cc
@@ -75,7 +77,7 @@ pub replaces : (r : Record) (old new : Kept) (replaced completed : ℕ)
     → IsLiveAs r.clock new.id replaced r.log (accepted_of old)
     → IsOffered r (accepted_of new)
     → r.clock < LATEST_START
-    → HasRoom (left_by r (accepted_of old)) r.clock (load_of new.pages new.period)
+    → (is_background new.category ≡ false → HasRoom (left_by r (accepted_of old)) r.clock (load_of new.pages new.period))
     → DecidesWrites r (accepted_of new) (Some replaced) (decisions.Replaces old new completed)
 replaces r old new replaced completed legal live offered soon room
     (commands.Write id serial (Some named) category period broadcasts dcs contents) same =
@@ -92,7 +94,7 @@ replaces r old new replaced completed legal live offered soon room
     replaces_one r.log r.clock r.clock id serial named completed category period broadcasts dcs contents a None once found standing at_once in
     let left : List Accepted = map (stop_numbered old.number r.clock) (accepted_in r.log) in
     let Room : List Claim → Type 0 = λ claims. HasRoom claims r.clock (load_of new.pages new.period) in
-    let room_left = subst Room (sym (claims_stopped old.number r.clock (accepted_in r.log))) room in (
+    let room_left = λ (front : layer_of (rank_of new.category) ≡ 0). subst Room (sym (claims_stopped old.number r.clock (accepted_in r.log))) (room (is_front new.category front)) in (
       record {
         stops = live_in r new.id replaced a live;
         begun = begins r (Some a) left (accepted_of new) offered room_left (λ now. inl now);
@@ -115,13 +117,16 @@ pub takes_over : (r : Record) (old new : Kept) (place : KeptPlace) (replaced com
     → IsLiveAs r.clock new.id replaced r.log (accepted_of old)
     → IsOffered r (accepted_of new)
     → length (filter (is_claimed_at r.clock) (left_by r (accepted_of old))) < 64
-    → handover (left_by r (accepted_of old)) r.clock (claim_of (accepted_of old)) (load_of new.pages new.period) ≡ Some (place_of place)
+    → is_background new.category ≡ false
+    → place_after (left_by r (accepted_of old)) r.clock (accepted_of old) (load_of new.pages new.period) ≡ Some (place_of place)
     → claimed_at (left_by r (accepted_of old)) r.clock + place.excess ≤ SCALE
     → place.start < LATEST_START
     → DecidesWrites r (accepted_of new) (Some replaced) (decisions.Replaces old (waiting_at new place) completed)
-takes_over r old new place replaced completed legal live offered room over fits soon
+takes_over r old new place replaced completed legal live offered room front after_old fits soon
     (commands.Write id serial (Some named) category period broadcasts dcs contents) same =
     let a : Accepted = accepted_of old in
+    let taken = taken_after (left_by r a) r.clock (load_of new.pages new.period) a (place_of place) after_old in
+    let over = taken.1 in
     let all : List Accepted = accepted_in r.log in
     let sound = IsSound-legal r legal in
     let standing = live_is_standing r.clock a.message live.live in
@@ -144,10 +149,10 @@ takes_over r old new place replaced completed legal live offered room over fits 
     let Over : List Claim → Type 0 = λ claims. handover claims r.clock (claim_of a) (load_of new.pages new.period) ≡ Some (place_of place) in
     let Fits : List Claim → Type 0 = λ claims. claimed_at claims r.clock + place.excess ≤ SCALE in
     let waits : Accepted = accepted_of (waiting_at new place) in
-    let it : write_message (length r.log) r.clock place.start (Some place.behind) place.excess id serial (length contents) period broadcasts (is_high category) ≡ waits =
+    let it : write_message (length r.log) r.clock place.start (Some place.behind) place.excess id serial (length contents) period broadcasts (rank_of category) ≡ waits =
     moved (length r.log) r.clock same.1 offered.numbered offered.accepted in
     let its : new_message all (length r.log) r.clock place.start (Some place.behind) id serial category period broadcasts contents ≡ waits =
-    ap (λ n. write_message (length r.log) r.clock place.start (Some place.behind) n id serial (length contents) period broadcasts (is_high category)) excess ∙ it in (
+    ap (λ n. write_message (length r.log) r.clock place.start (Some place.behind) n id serial (length contents) period broadcasts (rank_of category)) excess ∙ it in (
       record {
         stops = live_in r new.id replaced a live;
         begun = record {
@@ -156,11 +161,13 @@ takes_over r old new place replaced completed legal live offered room over fits 
           standing = offered.standing;
           some_pages = offered.some_pages;
           some_period = offered.some_period;
-          room = subst Room same_left room;
+          room = λ _. subst Room same_left room;
           starts = inr (record {
             place = place_of place;
             over = subst Over same_left over;
             placed = record { behind = refl; start = refl; excess = refl };
+            of_reserved = taken.0;
+            reserved = in_front new.category front;
             fits = subst Fits same_left fits;
           });
         };
@@ -173,12 +180,12 @@ takes_over r old new place replaced completed legal live offered room over fits 
     at_place : Accepted → Accepted
     at_place x = record x { behind = Some place.behind; excess = place.excess; message = record (x.message) { start = place.start } }
 
-    moved : (number slot : ℕ) → write_message new.number new.accepted new.start new.behind new.excess id serial (length contents) period broadcasts (is_high category) ≡ accepted_of new → new.number ≡ number → new.accepted ≡ slot → write_message number slot place.start (Some place.behind) place.excess id serial (length contents) period broadcasts (is_high category) ≡ accepted_of (waiting_at new place)
+    moved : (number slot : ℕ) → write_message new.number new.accepted new.start new.behind new.excess id serial (length contents) period broadcasts (rank_of category) ≡ accepted_of new → new.number ≡ number → new.accepted ≡ slot → write_message number slot place.start (Some place.behind) place.excess id serial (length contents) period broadcasts (rank_of category) ≡ accepted_of (waiting_at new place)
     moved number slot same_new same_number same_slot =
-        ap (λ n. write_message n slot place.start (Some place.behind) place.excess id serial (length contents) period broadcasts (is_high category)) (sym same_number)
-        ∙ ap (λ n. write_message new.number n place.start (Some place.behind) place.excess id serial (length contents) period broadcasts (is_high category)) (sym same_slot)
+        ap (λ n. write_message n slot place.start (Some place.behind) place.excess id serial (length contents) period broadcasts (rank_of category)) (sym same_number)
+        ∙ ap (λ n. write_message new.number n place.start (Some place.behind) place.excess id serial (length contents) period broadcasts (rank_of category)) (sym same_slot)
         ∙ ap at_place same_new
-takes_over r old new place replaced completed legal live offered room over fits soon
+takes_over r old new place replaced completed legal live offered room front after_old fits soon
     (commands.Write id serial None category period broadcasts dcs contents) same = cc
-takes_over r old new place replaced completed legal live offered room over fits soon (commands.Kill id serial) same = absurd same
-takes_over r old new place replaced completed legal live offered room over fits soon (commands.Status id serial) same = absurd same
+takes_over r old new place replaced completed legal live offered room front after_old fits soon (commands.Kill id serial) same = absurd same
+takes_over r old new place replaced completed legal live offered room front after_old fits soon (commands.Status id serial) same = absurd same

@@ -1,24 +1,24 @@
 -- A book with one more entry: its record, its messages, and what its plan and budget hold of them.
-use Rattle.std.proofs.Common.{◌≡◌, ◌≢◌, ℕ, ◌≤◌, ◌<◌, ◌==◌, Bool, true, Option, Some, None, List, [], ◌∷◌, ◌++◌, length, map, filter, get_or, refl, ap, sym, subst, ◌∙◌}
+use Rattle.std.proofs.Common.{◌≡◌, ◌≢◌, ℕ, ◌≤◌, ◌<◌, ◌==◌, Bool, true, false, not, cond, Option, Some, None, List, [], ◌∷◌, ◌++◌, length, map, filter, get_or, refl, ap, sym, subst, ◌∙◌}
 use Rattle.std.specs.List.{All, Any, Contains}
 use Rattle.std.specs.Global.{Vec}
 use Rattle.std.specs.Vec.{vec_len, with_items}
-use Rattle.std.proofs.lemmas.Bool.{lt-leb, ne_eqb, cond-false}
-use Rattle.std.proofs.lemmas.List.{map-append, length-map, get_or_default, with_items_is}
+use Rattle.std.proofs.lemmas.Bool.{lt-leb, eq-eqb, ne_eqb, cond-false, false≢true}
+use Rattle.std.proofs.lemmas.List.{append-nil, map-append, length-map, with_items_is}
 use Rattle.std.proofs.lemmas.List.Elements.{Contains-append_left, All-map, All-filter, All-contains}
 use Rattle.admission.specs.declared.budget.Held.{Held}
 use Rattle.admission.specs.Reservation.{end_of_stopped}
 use Rattle.admission.specs.Waiting.{behind_of}
 use Rattle.admission.specs.Table.{ends_at, passed}
 use Rattle.scheduler.specs.Message.{Message, stopped_if, stopped_at}
-use Rattle.scheduler.specs.Air.{Air}
+use Rattle.scheduler.specs.Air.{Air, layer}
 use Rattle.scheduler.specs.Follows.{Kept as Planned, messages_of, Follows}
 use Rattle.bsc_table.specs.declared.kept.Kept.{Kept}
 use Rattle.bsc_table.specs.declared.book.CellBook.TheInside.{Inside}
 use Rattle.bsc_table.specs.declared.entry.Answer.{Answer}
 use Rattle.bsc_table.specs.declared.entry.Entry.{Entry}
 use Rattle.bsc_table.specs.Record.{Record, Accepted, accepted_in, messages_in, is_live, claim_of, claims_of, claims_in}
-use Rattle.bsc_table.specs.Claim.{Claim, is_claimed_at, stop_claim, stop_claims}
+use Rattle.bsc_table.specs.Claim.{Claim, reserves, is_claimed_at, stop_claim, stop_claims}
 use Rattle.bsc_table.specs.Answer.{answer_with_room, answer_of}
 use Rattle.bsc_table.specs.Legal.{IsLegal}
 use Rattle.bsc_table.specs.Room.{AreInOrder}
@@ -28,13 +28,12 @@ use Rattle.bsc_table.proofs.Named.{live_is_standing}
 use Rattle.bsc_table.proofs.Numbers.{numbers_below}
 use Rattle.bsc_table.proofs.Outcome.{entry_with, messages_stopped, claims_stopped}
 use Rattle.bsc_table.proofs.Entered.{IsLegal-entry, Contains-message}
-use Rattle.bsc_table.proofs.Ahead.{by_number}
+use Rattle.bsc_table.proofs.Ranks.{all_claims, its_claim, same_claim, same_claims, claims_more}
 use Rattle.bsc_table.proofs.Lines.{live_is_claimed, new_is_claimed, lines_at-new, lines_at-stopped}
 use Rattle.bsc_table.proofs.Handed.{its_line, none_behind_live}
 use Rattle.bsc_table.proofs.Stopped.{in_order-stop}
-use Rattle.bsc_table.proofs.TakenOver.{only_live}
 use Rattle.bsc_table.proofs.Begun.{starts_forward}
-use Rattle.bsc_table.proofs.Sound.{IsSound-legal, its_claim}
+use Rattle.bsc_table.proofs.Sound.{IsSound-legal, stops_live}
 
 -- where the log has room, cause 08 doesn't apply
 pub answer-with_room : (r : Record) (e : Entry)
@@ -95,7 +94,7 @@ lines_below slot n claims below =
 
 claims_below : (log : List Entry) → All (λ c. c.message.number < length log) (claims_in log)
 claims_below log =
-    All-map (λ (c : Claim). c.message.number < length log) claim_of (accepted_in log) (numbers_below log)
+    All-filter reserves (λ (c : Claim). c.message.number < length log) (all_claims (accepted_in log)) (All-map (λ (c : Claim). c.message.number < length log) claim_of (accepted_in log) (numbers_below log))
 
 pub held_below : (slot : ℕ) (log : List Entry) → All (λ h. h.entry < length log) (lines_at slot (claims_in log))
 held_below slot log = lines_below slot (length log) (claims_in log) (claims_below log)
@@ -141,25 +140,19 @@ standing_beside plan slot log a told m same found =
     subst P (sym same) (there.0, found.1, there.1, there.2, found.4)
 
 -- its line is held
-pub held_in : (r : Record) (a : Accepted)
-    → IsLegal r
-    → IsLiveIn r a
-    → Any (λ h. h.entry ≡ a.message.number) (lines_at r.clock (claims_in r.log))
-held_in r a legal live =
+pub held_in : (r : Record) (a : Accepted) → IsLegal r → IsLiveIn r a → layer a.message ≡ 0 → Any (λ h. h.entry ≡ a.message.number) (lines_at r.clock (claims_in r.log))
+held_in r a legal live front =
     let order = (IsSound-legal r legal).order in
-    let here = its_claim (accepted_in r.log) a live.there in
+    let here = its_claim (accepted_in r.log) a live.there front in
     let Stands : Claim → Type 0 = λ c. (c.accepted ≤ r.clock) × (0 < c.message.period) in
     let its = subst Stands here.2 (order.accepted here.0 (claim_of a) here.1, order.periods here.0 (claim_of a) here.1) in
     let line = its_line r.clock (claims_in r.log) (claim_of a) here (live_is_claimed r.clock (claim_of a) its.0 its.1 live.live) in
     (line.0, line_of r.clock (claim_of a), line.1, line.2, refl)
 
 -- and none waits behind it
-pub free_of : (r : Record) (a : Accepted)
-    → IsLegal r
-    → IsLiveIn r a
-    → All (λ h. behind_of h ≢ Some a.message.number) (lines_at r.clock (claims_in r.log))
-free_of r a legal live =
-    none_behind_live r.clock (claims_in r.log) (claim_of a) (IsSound-legal r legal).order (its_claim (accepted_in r.log) a live.there) live.live
+pub free_of : (r : Record) (a : Accepted) → IsLegal r → IsLiveIn r a → layer a.message ≡ 0 → All (λ h. behind_of h ≢ Some a.message.number) (lines_at r.clock (claims_in r.log))
+free_of r a legal live front =
+    none_behind_live r.clock (claims_in r.log) (claim_of a) (IsSound-legal r legal).order (its_claim (accepted_in r.log) a live.there front) live.live
 
 -- the message of a plan's item
 pub item_message : (m : Message) (told : Message) → told ≡ record m { stop = None } → m.stop ≡ None → told ≡ m
@@ -180,8 +173,8 @@ table_stopped table seen after number slot same long stopped =
 -- the claims are in order where a live message is stopped
 pub left_in_order : (r : Record) (a : Accepted) → IsLegal r → IsLiveIn r a → AreInOrder (left_by r a) r.clock
 left_in_order r a legal live =
-    let order = (IsSound-legal r legal).order in
-    in_order-stop (claims_in r.log) a.message.number r.clock order (only_live (claims_in r.log) r.clock (claim_of a) order.rising (its_claim (accepted_in r.log) a live.there) live.live)
+    let sound = IsSound-legal r legal in
+    in_order-stop (claims_in r.log) a.message.number r.clock sound.order (stops_live (accepted_in r.log) r.clock a sound.rising live.there live.live)
 
 -- the lines that are left of a budget where a live message was released
 ended_claims : (r : Record) (a : Accepted)
@@ -191,10 +184,8 @@ ended_claims : (r : Record) (a : Accepted)
 ended_claims r a legal live = λ k d within. λ same.
     let claims = claims_in r.log in
     let order = (IsSound-legal r legal).order in
-    let here = its_claim (accepted_in r.log) a live.there in
     let c : Claim = get_or claims k d in
-    let there : Contains claims (get_or claims k d) = (k, within, get_or_default claims k (get_or claims k d) d within) in
-    let is : get_or claims k d ≡ claim_of a = by_number claims (get_or claims k d) (claim_of a) order.rising there here same in
+    let is : get_or claims k d ≡ claim_of a = same_claim (accepted_in r.log) a (IsSound-legal r legal).rising live.there k d within same in
     let Live : Claim → Type 0 = λ x. is_live r.clock x.message ≡ true in
     (live_is_claimed r.clock c (order.accepted k d within) (order.periods k d within) (subst Live (sym is) live.live), ap (λ (x : Claim). end_of_stopped x.message.start x.message.period r.clock) is)
 
@@ -205,13 +196,12 @@ pub lines_without : (r : Record) (a : Accepted)
 lines_without r a legal live =
     lines_at-stopped r.clock a.message.number (end_of_stopped a.message.start a.message.period r.clock) (claims_in r.log) (IsSound-legal r legal).order.accepted (ended_claims r a legal live)
 
-pub released_lines : (r : Record) (a : Accepted) (before after : List Held)
-    → IsLegal r
-    → IsLiveIn r a
-    → before ≡ lines_at r.clock (claims_in r.log)
-    → after ≡ passed r.clock (ends_at a.message.number (end_of_stopped a.message.start a.message.period r.clock) before)
-    → after ≡ lines_at r.clock (stop_claims a.message.number r.clock (claims_in r.log))
-released_lines r a before after legal live held released =
+pub released_lines : (r : Record) (a : Accepted) (before after : List Held) → IsLegal r → IsLiveIn r a → before ≡ lines_at r.clock (claims_in r.log) → (back : Bool) → (layer a.message == 0) ≡ not back → after ≡ cond back before (passed r.clock (ends_at a.message.number (end_of_stopped a.message.start a.message.period r.clock) before)) → after ≡ lines_at r.clock (stop_claims a.message.number r.clock (claims_in r.log))
+released_lines r a before after legal live held true back released =
+    let sound = IsSound-legal r legal in
+    let other : layer a.message ≡ 0 → ⊥ = λ front. false≢true (sym back ∙ eq-eqb (layer a.message) 0 front) in
+    released ∙ held ∙ ap (lines_at r.clock) (sym (same_claims a.message.number r.clock (accepted_in r.log) a sound.rising live.there refl other))
+released_lines r a before after legal live held false front released =
     let left : List Held → List Held = λ lines. passed r.clock (ends_at a.message.number (end_of_stopped a.message.start a.message.period r.clock) lines) in
     released ∙ ap left held ∙ lines_without r a legal live
 
@@ -221,17 +211,21 @@ pub claims_without : (log : List Entry) (e : Entry) (number slot : ℕ)
     → claims_in (log ++ e ∷ []) ≡ stop_claims number slot (claims_in log)
 claims_without log e number slot after = ap claims_of after ∙ claims_stopped number slot (accepted_in log)
 
-pub claims_with : (log : List Entry) (e : Entry) (all : List Accepted) (a : Accepted)
-    → accepted_in (log ++ e ∷ []) ≡ all ++ a ∷ []
-    → claims_in (log ++ e ∷ []) ≡ claims_of all ++ claim_of a ∷ []
-claims_with log e all a after = ap claims_of after ∙ map-append claim_of all (a ∷ [])
+pub claims_with : (log : List Entry) (e : Entry) (all : List Accepted) (a : Accepted) → accepted_in (log ++ e ∷ []) ≡ all ++ a ∷ [] → claims_in (log ++ e ∷ []) ≡ claims_of all ++ filter reserves (claim_of a ∷ [])
+claims_with log e all a after = ap claims_of after ∙ claims_more all a
 
--- the lines with the one of a message that begins
-pub begun_lines : (number slot : ℕ) (replaced : Option Accepted) (before : List Accepted) (claims : List Claim) (a : Accepted)
-    → IsBegun number slot replaced before a
-    → lines_at slot (claims ++ claim_of a ∷ []) ≡ lines_at slot claims ++ line_of slot (claim_of a) ∷ []
-begun_lines number slot replaced before claims a begun =
-    lines_at-new slot claims (claim_of a) (new_is_claimed slot (claim_of a) begun.accepted (starts_forward slot replaced before a begun.starts) begun.some_period begun.standing)
+-- the lines with the one of a message that begins, if it isn't background
+pub begun_lines : (number slot : ℕ) (replaced : Option Accepted) (before : List Accepted) (claims : List Claim) (a : Accepted) → IsBegun number slot replaced before a → (held after : List Held) → held ≡ lines_at slot claims → (back : Bool) → (layer a.message == 0) ≡ not back → after ≡ cond back held (held ++ line_of slot (claim_of a) ∷ []) → after ≡ lines_at slot (claims ++ filter reserves (claim_of a ∷ []))
+begun_lines number slot replaced before claims a begun held after same true back reserved =
+    let none : filter reserves (claim_of a ∷ []) ≡ [] = ap (λ (b : Bool). cond b (claim_of a ∷ []) []) back in
+    reserved ∙ same ∙ ap (lines_at slot) (sym (append-nil claims) ∙ ap (λ (l : List Claim). claims ++ l) (sym none))
+begun_lines number slot replaced before claims a begun held after same false front reserved =
+    let one : filter reserves (claim_of a ∷ []) ≡ claim_of a ∷ [] = ap (λ (b : Bool). cond b (claim_of a ∷ []) []) front in
+    reserved ∙ ap (λ (l : List Held). l ++ line_of slot (claim_of a) ∷ []) same ∙ sym (new_line number slot replaced before claims a begun) ∙ ap (λ (l : List Claim). lines_at slot (claims ++ l)) (sym one)
+  where
+    new_line : (number slot : ℕ) (replaced : Option Accepted) (before : List Accepted) (claims : List Claim) (a : Accepted) → IsBegun number slot replaced before a → lines_at slot (claims ++ claim_of a ∷ []) ≡ lines_at slot claims ++ line_of slot (claim_of a) ∷ []
+    new_line number slot replaced before claims a begun =
+        lines_at-new slot claims (claim_of a) (new_is_claimed slot (claim_of a) begun.accepted (starts_forward slot replaced before a begun.starts) begun.some_period begun.standing)
 
 -- a book whose log has the entry that was to come next, and whose table, plan and budget are those of the messages with it
 pub book_with : (b : Inside) (e : Entry) (log : Vec Entry) (accepted : Vec Kept) (plan : Planned) (budget : List Held)

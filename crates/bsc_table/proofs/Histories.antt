@@ -1,5 +1,5 @@
 -- Legal histories worked by hand: answers, and what is aired.
-use Rattle.std.proofs.Common.{◌≡◌, ℕ, zero, suc, ◌≤◌, ◌<◌, Bool, true, false, ◌&&◌, inl, refl, Option, Some, None, List, [], ◌∷◌, replicate, ◌++◌, length, take, get_or, arith}
+use Rattle.std.proofs.Common.{◌≡◌, ℕ, zero, suc, ◌≤◌, ◌<◌, Bool, true, ◌&&◌, inl, refl, Option, Some, None, List, [], ◌∷◌, replicate, ◌++◌, length, take, get_or, arith}
 use Rattle.std.specs.Prelude.{nat_le, nat_lt}
 use Rattle.std.specs.List.{All, AllPairs, Any, list_all}
 use Rattle.std.proofs.lemmas.Bool.{and_parts, leb-true, le-leb, ltb-true, eqb-true}
@@ -8,6 +8,7 @@ use Rattle.std.proofs.lemmas.List.Kept.{AllPairs-cons}
 use Rattle.std.proofs.lemmas.List.Sums.{AllPass-from_list_all}
 use Rattle.cbs_page.specs.declared.content.Content.{Content}
 use Rattle.cbsp_wire.specs.Range.{is_coding, is_full}
+use Rattle.scheduler.specs.declared.plan.Rank.TheVariants as ranks
 use Rattle.scheduler.specs.Air.{Air, pages_aired}
 use Rattle.scheduler.specs.Completed.{completed}
 use Rattle.scheduler.specs.Choice.{air_of}
@@ -273,12 +274,12 @@ filled_is_legal = legal_run filled 6 (omega arith) (omega arith) refl refl refl 
 
 -- after five of the slots the half has the least number of whole broadcasts that it may have, and the third the most
 abbrev half : Message
-half = record { number = 2; start = 0; pages = 1; period = 2; requested = 0; stop = None; high = false }
+half = record { number = 2; start = 0; pages = 1; period = 2; requested = 0; stop = None; rank = ranks.Normal }
 
 abbrev third : Message
-third = record { number = 1; start = 0; pages = 1; period = 3; requested = 0; stop = None; high = false }
+third = record { number = 1; start = 0; pages = 1; period = 3; requested = 0; stop = None; rank = ranks.Normal }
 
-filled_messages : messages_in filled ≡ record { number = 0; start = 0; pages = 1; period = 6; requested = 0; stop = None; high = false } ∷ third ∷ half ∷ []
+filled_messages : messages_in filled ≡ record { number = 0; start = 0; pages = 1; period = 6; requested = 0; stop = None; rank = ranks.Normal } ∷ third ∷ half ∷ []
 filled_messages = refl
 
 half_least : least_completed half 5 ≡ 2
@@ -301,7 +302,9 @@ third_most = refl
 
 -- so it is at each slot up to the clock
 half_is_bounded : (slot : ℕ) → slot ≤ 6 → (least_completed half slot ≤ completed half (aired filled 6) slot) × (completed half (aired filled 6) slot ≤ most_completed half slot)
-half_is_bounded slot by = legal_histories_are_bounded (run filled 6) filled_is_legal 2 half (omega arith) slot by
+half_is_bounded slot by =
+    let bounds = legal_histories_are_bounded (run filled 6) filled_is_legal 2 half (omega arith) slot by in
+    (bounds.0 refl, bounds.1)
 
 -- the history with a kill and refusals is legal too, so that C, which had to wait for room, is whole by slot 8
 whole_answered : (i : ℕ) (d : Entry) → i < length whole → IsAnswered 8 (take i whole) (aired whole 8) (get_or whole i d)

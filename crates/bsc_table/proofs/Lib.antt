@@ -2,8 +2,11 @@ pub mod Bounds
 pub mod Broadcasts
 pub mod Busy
 pub mod Demand
+pub mod Foreground
 pub mod Inside
 pub mod Promised
+mod Ranks
+mod HasEntry
 pub mod Reserved
 pub mod Served
 pub mod Sums

@@ -2,14 +2,14 @@
 use Rattle.std.proofs.Common.{◌≡◌, ℕ, ◌+◌, ◌≤◌, ◌<◌, ◌==◌, ◌-◌, Bool, true, false, cond, Option, Some, None, List, [], ◌∷◌, ◌++◌, length, map, filter, get_or, refl, ap, sym, subst, ◌∙◌, inl, inr, arith, ltb, leb}
 use Rattle.std.specs.List.{AllPairs, Contains, find}
 use Rattle.std.specs.Option.{IfSome}
-use Rattle.std.proofs.lemmas.Bool.{cond_both, leb-false, ltb-false, ne_eqb, eq-eqb}
+use Rattle.std.proofs.lemmas.Bool.{cond_both, eqb-true, leb-false, ltb-false, ne_eqb, eq-eqb}
 use Rattle.std.proofs.lemmas.Option.{none-some}
 use Rattle.std.proofs.lemmas.List.{append-nil, map-id}
 use Rattle.std.proofs.lemmas.List.Elements.{All-contains_itself}
 use Rattle.admission.specs.declared.measure.TheConstants.{SCALE}
 use Rattle.admission.specs.Load.{load_of}
 use Rattle.scheduler.specs.Message.{Message, stopped_at}
-use Rattle.scheduler.specs.Air.{Air}
+use Rattle.scheduler.specs.Air.{Air, layer, layer_of}
 use Rattle.scheduler.specs.Completed.{completed}
 use Rattle.cbs_page.specs.declared.content.Content.{Content}
 use Rattle.cbs_page.specs.declared.Dcs.{Dcs}
@@ -20,18 +20,19 @@ use Rattle.bsc_table.specs.declared.entry.Answer.{Answer}
 use Rattle.bsc_table.specs.declared.entry.Answer.TheVariants as answers
 use Rattle.bsc_table.specs.declared.entry.Entry.{Entry}
 use Rattle.bsc_table.specs.Orders.{IsBroadcastable, IsWellFormed}
-use Rattle.bsc_table.specs.Record.{Accepted, start_of, is_stop_by, is_stop_of, stopped_by, behind_of, excess_over, written_behind, added_by, accepted_in, is_high, is_of_pair, message_told, message_named, is_live, claim_of, claims_of, claims_in}
-use Rattle.bsc_table.specs.Claim.{Claim, own_load, is_claimed_at, claimed_at, stop_claims}
+use Rattle.bsc_table.specs.Record.{Accepted, start_of, is_stop_by, is_stop_of, stopped_by, behind_of, excess_over, written_behind, added_by, accepted_in, rank_of, is_background, place_after, is_of_pair, message_told, message_named, is_live, claim_of, claims_of, claims_in}
+use Rattle.bsc_table.specs.Claim.{Claim, own_load, reserves, is_claimed_at, claimed_at, stop_claims}
 use Rattle.bsc_table.specs.Handover.{Place, ahead_of, numbered, handover}
 use Rattle.bsc_table.specs.Room.{AreInOrder}
 use Rattle.bsc_table.specs.Begun.{StartsNow, Starts, IsBegun}
-use Rattle.bsc_table.specs.Answer.{answer_at, answer_beside, answer_to_new, answer_to_replacement, unless_accepted, of_live, answer_to_write, answer_to_kill, told_of, before_end, answer_with_room, answer_of}
+use Rattle.bsc_table.specs.Answer.{answer_at, answer_beside, answer_for, answer_to_new, answer_to_replacement, unless_accepted, of_live, answer_to_write, answer_to_kill, told_of, before_end, answer_with_room, answer_of}
 use Rattle.bsc_table.specs.Book.{stop_numbered}
 use Rattle.bsc_table.proofs.Ahead.{taken, from_stopped}
 use Rattle.bsc_table.proofs.TakenOver.{find_number}
 use Rattle.bsc_table.proofs.Appended.{accepted_in-push}
 use Rattle.bsc_table.proofs.Named.{OfAnotherPair, stopped_once-false, map_agree, All-find, stopped_by_pair, live_is_standing}
 use Rattle.bsc_table.proofs.Numbers.{numbers_rise}
+use Rattle.bsc_table.proofs.Ranks.{in_front, not_in_front}
 
 abbrev pub entry_with : Command → ℕ → Answer → Entry
 entry_with command slot answer = record { command = command; slot = slot; answer = answer }
@@ -75,7 +76,7 @@ does_nothing log e never adds =
 -- the message that a write adds
 abbrev pub new_message : List Accepted → ℕ → ℕ → ℕ → Option ℕ → ℕ → ℕ → Category → ℕ → ℕ → List Content → Accepted
 new_message all number slot start behind id serial category period broadcasts contents =
-    written_behind all number slot start behind id serial (length contents) period broadcasts (is_high category)
+    written_behind all number slot start behind id serial (length contents) period broadcasts (rank_of category)
 
 -- a write in the place of none
 pub starts_one : (log : List Entry) (slot id serial : ℕ) (category : Category) (period broadcasts : ℕ) (dcs : Dcs) (contents : List Content)
@@ -189,6 +190,19 @@ beside_cases P claims slot load place accepts refuses now later =
     let room : leb 64 places ≡ false → places < 64 = λ few. leb-false 64 places few in
     cond_both (leb 64 places) (answers.Cause 0x07) (cond (ltb SCALE sum) (answer_at claims slot accepts place) (accepts slot)) P (λ _. refuses 0x07) (λ few. cond_both (ltb SCALE sum) (answer_at claims slot accepts place) (accepts slot) P (λ _. at_cases P claims slot accepts place refuses (later (room few))) (λ fits. now (room few) (ltb-false SCALE sum fits)))
 
+-- a background message is accepted at once; of the others there is a place of the table, and room
+pub for_cases : (P : Answer → Type 0) (category : Category) (claims : List Claim) (slot load : ℕ) (place : Option Place) (accepts : ℕ → Answer) → ((cause : ℕ) → P (answers.Cause cause)) → ((layer_of (rank_of category) ≡ 0 → length (filter (is_claimed_at slot) claims) < 64) → (layer_of (rank_of category) ≡ 0 → claimed_at claims slot + load ≤ SCALE) → P (accepts slot)) → (layer_of (rank_of category) ≡ 0 → length (filter (is_claimed_at slot) claims) < 64 → (p : Place) → place ≡ Some p → claimed_at claims slot + p.excess ≤ SCALE → P (accepts p.start)) → P (answer_for category claims slot load place accepts)
+for_cases P category claims slot load place accepts refuses now later =
+    cond_both (is_background category) (accepts slot) (answer_beside claims slot load place accepts) P (λ is. now (λ front. absurd (not_in_front category is front)) (λ front. absurd (not_in_front category is front))) (λ is. beside_cases P claims slot load place accepts refuses (λ room fits. now (λ _. room) (λ _. fits)) (later (in_front category is)))
+
+-- a place that is left is left by a message that isn't background
+pub taken_after : (claims : List Claim) (slot load : ℕ) (old : Accepted) (place : Place) → place_after claims slot old load ≡ Some place → (layer old.message ≡ 0) × (handover claims slot (claim_of old) load ≡ Some place)
+taken_after claims slot load old place is = one (layer old.message == 0) refl is
+  where
+    one : (says : Bool) → (layer old.message == 0) ≡ says → cond says (handover claims slot (claim_of old) load) None ≡ Some place → (layer old.message ≡ 0) × (handover claims slot (claim_of old) load ≡ Some place)
+    one true front over = (eqb-true (layer old.message) 0 front, over)
+    one false back over = absurd (none-some place over)
+
 -- to find is to have
 pub Contains-find : (p : Accepted → Bool) (all : List Accepted) (a : Accepted) → find p all ≡ Some a → Contains all a
 Contains-find p all a found = All-find (Contains all) p all a (All-contains_itself all) found
@@ -204,8 +218,11 @@ messages_stopped number slot (a ∷ all) =
 pub claims_stopped : (number slot : ℕ) (all : List Accepted)
     → claims_of (map (stop_numbered number slot) all) ≡ stop_claims number slot (claims_of all)
 claims_stopped number slot [] = refl
-claims_stopped number slot (a ∷ all) =
-    ap (λ (l : List Claim). claim_of (stop_numbered number slot a) ∷ l) (claims_stopped number slot all)
+claims_stopped number slot (a ∷ all) = one (reserves (claim_of a)) (claims_stopped number slot all)
+  where
+    one : (says : Bool) → claims_of (map (stop_numbered number slot) all) ≡ stop_claims number slot (claims_of all) → cond says (claim_of (stop_numbered number slot a) ∷ claims_of (map (stop_numbered number slot) all)) (claims_of (map (stop_numbered number slot) all)) ≡ stop_claims number slot (cond says (claim_of a ∷ claims_of all) (claims_of all))
+    one true rest = ap (λ (l : List Claim). claim_of (stop_numbered number slot a) ∷ l) rest
+    one false rest = rest
 
 kill_outcome : (log : List Entry) (air : Air) (slot id serial : ℕ)
     → AllPairs OfAnotherPair (accepted_in log)
@@ -223,12 +240,7 @@ kill_outcome log air slot id serial once =
     })
 
 -- the message that starts at once is such as may be accepted
-pub begun_now : (all before : List Accepted) (number slot : ℕ) (replaced : Option Accepted) (id serial : ℕ) (category : Category) (period broadcasts : ℕ) (dcs : Dcs) (contents : List Content)
-    → IsBroadcastable period dcs contents
-    → (StartsNow slot before (new_message all number slot slot None id serial category period broadcasts contents) → Starts slot replaced before (new_message all number slot slot None id serial category period broadcasts contents))
-    → length (filter (is_claimed_at slot) (claims_of before)) < 64
-    → claimed_at (claims_of before) slot + load_of (length contents) period ≤ SCALE
-    → IsBegun number slot replaced before (new_message all number slot slot None id serial category period broadcasts contents)
+pub begun_now : (all before : List Accepted) (number slot : ℕ) (replaced : Option Accepted) (id serial : ℕ) (category : Category) (period broadcasts : ℕ) (dcs : Dcs) (contents : List Content) → IsBroadcastable period dcs contents → (StartsNow slot before (new_message all number slot slot None id serial category period broadcasts contents) → Starts slot replaced before (new_message all number slot slot None id serial category period broadcasts contents)) → (layer_of (rank_of category) ≡ 0 → length (filter (is_claimed_at slot) (claims_of before)) < 64) → (layer_of (rank_of category) ≡ 0 → claimed_at (claims_of before) slot + load_of (length contents) period ≤ SCALE) → IsBegun number slot replaced before (new_message all number slot slot None id serial category period broadcasts contents)
 begun_now all before number slot replaced id serial category period broadcasts dcs contents formed either room fits = record {
   numbered = refl;
   accepted = refl;
@@ -239,22 +251,20 @@ begun_now all before number slot replaced id serial category period broadcasts d
   starts = either (record { start = refl; behind = refl; fits = fits });
 }
 
-new_outcome : (log : List Entry) (slot id serial : ℕ) (category : Category) (period broadcasts : ℕ) (dcs : Dcs) (contents : List Content)
-    → IsBroadcastable period dcs contents
-    → Outcome log (entry_with (commands.Write id serial None category period broadcasts dcs contents) slot (unless_accepted (message_named id serial log) (answer_to_new log slot (load_of (length contents) period))))
+new_outcome : (log : List Entry) (slot id serial : ℕ) (category : Category) (period broadcasts : ℕ) (dcs : Dcs) (contents : List Content) → IsBroadcastable period dcs contents → Outcome log (entry_with (commands.Write id serial None category period broadcasts dcs contents) slot (unless_accepted (message_named id serial log) (answer_to_new log slot category (load_of (length contents) period))))
 new_outcome log slot id serial category period broadcasts dcs contents formed =
     let command = commands.Write id serial None category period broadcasts dcs contents in
     let P : Answer → Type 0 = λ answer. Outcome log (entry_with command slot answer) in
     let all = accepted_in log in
     let load = load_of (length contents) period in
-    unless_accepted_cases P (find (is_of_pair id serial) all) (answer_to_new log slot load) (refused log slot command) (λ fresh. beside_cases P (claims_in log) slot load None (λ start. answers.Started start) (refused log slot command) (λ room fits. record {
+    unless_accepted_cases P (find (is_of_pair id serial) all) (answer_to_new log slot category load) (refused log slot command) (λ fresh. for_cases P category (claims_in log) slot load None (λ start. answers.Started start) (refused log slot command) (λ room fits. record {
       stopped = None;
       started = Some (new_message all (length log) slot slot None id serial category period broadcasts contents);
       after = starts_one log slot id serial category period broadcasts dcs contents;
       live = tt;
       fresh = fresh;
       begun = begun_now all all (length log) slot None id serial category period broadcasts dcs contents formed (λ now. now) room fits;
-    }) (λ room p none. absurd (none-some p none)))
+    }) (λ front room p none. absurd (none-some p none)))
 
 -- the place at which a write takes over is that of the message that it adds
 pub placed_at : (log : List Entry) (slot load : ℕ) (old : Accepted) (place : Place)
@@ -279,27 +289,24 @@ placed_at log slot load old place order over =
     ap (λ (o : Option ℕ). excess_over load (numbered o claims)) named ∙ ap (excess_over load) found in
     (took.later, behind, omega (arith, excess, took.excess, loads))
 
-replacement_outcome : (log : List Entry) (air : Air) (slot id serial old : ℕ) (category : Category) (period broadcasts : ℕ) (dcs : Dcs) (contents : List Content)
-    → AllPairs OfAnotherPair (accepted_in log)
-    → AreInOrder (claims_in log) slot
-    → IsBroadcastable period dcs contents
-    → Outcome log (entry_with (commands.Write id serial (Some old) category period broadcasts dcs contents) slot (answer_to_write log air slot id serial (Some old) (load_of (length contents) period)))
+replacement_outcome : (log : List Entry) (air : Air) (slot id serial old : ℕ) (category : Category) (period broadcasts : ℕ) (dcs : Dcs) (contents : List Content) → AllPairs OfAnotherPair (accepted_in log) → AreInOrder (claims_in log) slot → IsBroadcastable period dcs contents → Outcome log (entry_with (commands.Write id serial (Some old) category period broadcasts dcs contents) slot (answer_to_write log air slot id serial (Some old) category (load_of (length contents) period)))
 replacement_outcome log air slot id serial old category period broadcasts dcs contents once order formed =
     let command = commands.Write id serial (Some old) category period broadcasts dcs contents in
     let P : Answer → Type 0 = λ answer. Outcome log (entry_with command slot answer) in
     let all = accepted_in log in
     let load = load_of (length contents) period in
-    of_live_cases P slot (find (is_of_pair id old) all) (λ a. unless_accepted (message_named id serial log) (answer_to_replacement log air slot load a)) (refused log slot command) (λ a found live. unless_accepted_cases P (find (is_of_pair id serial) all) (answer_to_replacement log air slot load a) (refused log slot command) (λ fresh.
+    of_live_cases P slot (find (is_of_pair id old) all) (λ a. unless_accepted (message_named id serial log) (answer_to_replacement log air slot category load a)) (refused log slot command) (λ a found live. unless_accepted_cases P (find (is_of_pair id serial) all) (answer_to_replacement log air slot category load a) (refused log slot command) (λ fresh.
     let number = a.message.number in
     let before = map (stop_numbered number slot) all in
     let left = stop_claims number slot (claims_in log) in
     let same = sym (claims_stopped number slot all) in
     let Room : List Claim → Type 0 = λ claims. length (filter (is_claimed_at slot) claims) < 64 in
+    let RoomNow : List Claim → Type 0 = λ claims. layer_of (rank_of category) ≡ 0 → length (filter (is_claimed_at slot) claims) < 64 in
     let there = Contains-find (is_of_pair id old) all a found in
     let standing = live_is_standing slot a.message live in
     let told = completed a.message air slot in
-    beside_cases P left slot load (handover left slot (claim_of a) load) (λ start. answers.Replaced start told) (refused log slot command) (λ room fits.
-    let Fits : List Claim → Type 0 = λ claims. claimed_at claims slot + load ≤ SCALE in
+    for_cases P category left slot load (place_after left slot a load) (λ start. answers.Replaced start told) (refused log slot command) (λ room fits.
+    let Fits : List Claim → Type 0 = λ claims. layer_of (rank_of category) ≡ 0 → claimed_at claims slot + load ≤ SCALE in
     let at_once : behind_of slot slot (Some a) ≡ None = ap (λ (b : Bool). cond b None (ahead_of slot (claim_of a))) (eq-eqb slot slot refl) in
     record {
       stopped = Some a;
@@ -307,8 +314,10 @@ replacement_outcome log air slot id serial old category period broadcasts dcs co
       after = replaces_one log slot slot id serial old told category period broadcasts dcs contents a None once found standing at_once;
       live = (there, live);
       fresh = fresh;
-      begun = begun_now all before (length log) slot (Some a) id serial category period broadcasts dcs contents formed (λ now. inl now) (subst Room same room) (subst Fits same fits);
-    }) (λ room p over fits.
+      begun = begun_now all before (length log) slot (Some a) id serial category period broadcasts dcs contents formed (λ now. inl now) (subst RoomNow same room) (subst Fits same fits);
+    }) (λ front room p after fits.
+    let taken = taken_after left slot load a p after in
+    let over = taken.1 in
     let placed = placed_at log slot load a p order over in
     let Over : List Claim → Type 0 = λ claims. handover claims slot (claim_of a) load ≡ Some p in
     let Fits : List Claim → Type 0 = λ claims. claimed_at claims slot + p.excess ≤ SCALE in
@@ -324,8 +333,8 @@ replacement_outcome log air slot id serial old category period broadcasts dcs co
         standing = refl;
         some_pages = omega (arith, formed.some_pages);
         some_period = omega (arith, formed.some_period);
-        room = subst Room same room;
-        starts = inr (record { place = p; over = subst Over same over; placed = record { behind = refl; start = refl; excess = placed.2 }; fits = subst Fits same fits });
+        room = λ _. subst Room same room;
+        starts = inr (record { place = p; over = subst Over same over; placed = record { behind = refl; start = refl; excess = placed.2 }; of_reserved = taken.0; reserved = front; fits = subst Fits same fits });
       };
     })))
 
@@ -344,11 +353,11 @@ outcome_with_room slots log air slot (commands.Kill id serial) once order formed
 outcome_with_room slots log air slot (commands.Write id serial None category period broadcasts dcs contents) once order formed =
     let command = commands.Write id serial None category period broadcasts dcs contents in
     let P : Answer → Type 0 = λ answer. Outcome log (entry_with command slot answer) in
-    before_end_cases P slots slot (answer_to_write log air slot id serial None (load_of (length contents) period)) (refused log slot command) (new_outcome log slot id serial category period broadcasts dcs contents formed)
+    before_end_cases P slots slot (answer_to_write log air slot id serial None category (load_of (length contents) period)) (refused log slot command) (new_outcome log slot id serial category period broadcasts dcs contents formed)
 outcome_with_room slots log air slot (commands.Write id serial (Some old) category period broadcasts dcs contents) once order formed =
     let command = commands.Write id serial (Some old) category period broadcasts dcs contents in
     let P : Answer → Type 0 = λ answer. Outcome log (entry_with command slot answer) in
-    before_end_cases P slots slot (answer_to_write log air slot id serial (Some old) (load_of (length contents) period)) (refused log slot command) (replacement_outcome log air slot id serial old category period broadcasts dcs contents once order formed)
+    before_end_cases P slots slot (answer_to_write log air slot id serial (Some old) category (load_of (length contents) period)) (refused log slot command) (replacement_outcome log air slot id serial old category period broadcasts dcs contents once order formed)
 
 -- what an entry with the right answer does, where each pair was accepted once before and the claims are in order
 pub outcome_of : (slots : ℕ) (log : List Entry) (air : Air) (slot : ℕ) (command : Command)

@@ -7,15 +7,16 @@ use Rattle.std.proofs.lemmas.Bool.{cases_Bool, cases_order, eq-eqb, ne_eqb, fals
 use Rattle.std.proofs.lemmas.List.{append-nil, map-append, map-id}
 use Rattle.std.proofs.lemmas.Simd.{map-map}
 use Rattle.admission.specs.Load.{load_of}
+use Rattle.scheduler.specs.declared.plan.Rank.{Rank}
 use Rattle.scheduler.specs.Renumbered.{KeepsOrder}
 use Rattle.bsc_table.specs.declared.command.Command.{Command}
 use Rattle.bsc_table.specs.declared.command.Command.TheVariants as commands
 use Rattle.bsc_table.specs.declared.entry.Answer.{Answer}
 use Rattle.bsc_table.specs.declared.entry.Answer.TheVariants as answers
 use Rattle.bsc_table.specs.declared.entry.Entry.{Entry}
-use Rattle.bsc_table.specs.Claim.{Claim}
+use Rattle.bsc_table.specs.Claim.{Claim, reserves}
 use Rattle.bsc_table.specs.Handover.{ahead_of, numbered}
-use Rattle.bsc_table.specs.Record.{Accepted, claim_of, claims_of, start_of, is_high, is_stop_by, is_stop_of, is_of_pair, stopped_by, replaced_in, behind_of, excess_over, write_message, written_behind, added_by, accepted_after, accepted_from, accepted_in}
+use Rattle.bsc_table.specs.Record.{Accepted, claim_of, claims_of, start_of, rank_of, is_stop_by, is_stop_of, is_of_pair, stopped_by, replaced_in, behind_of, excess_over, write_message, written_behind, added_by, accepted_after, accepted_from, accepted_in}
 use Rattle.bsc_table.specs.Book.{is_stopped}
 use Rattle.bsc_table.specs.Refusals.{is_accepted, accepted_entries, accepted_renumbered, AcceptedEntriesAreAll}
 use Rattle.bsc_table.proofs.Named.{map_agree, stopped_once-false}
@@ -155,28 +156,28 @@ excess_alike f keeps load (Some number) (a ∷ front) =
     let all = claims_of (map (accepted_renumbered f) front) in
     let renamed : Claim = claim_of (accepted_renumbered f a) in
     let rest = excess_alike f keeps load (Some number) front in
-    ap (λ (b : Bool). excess_over load (cond b (Some renamed) (numbered (Some (f number)) all))) (same_number f keeps a.message.number number)
-    ∙ one (a.message.number == number) rest
+    let here = ap (λ (b : Bool). excess_over load (cond b (Some renamed) (numbered (Some (f number)) all))) (same_number f keeps a.message.number number) ∙ one (a.message.number == number) rest in
+    claimed (reserves (claim_of a)) here rest
   where
+    claimed : (says : Bool) → excess_over load (numbered (Some (f number)) (claim_of (accepted_renumbered f a) ∷ claims_of (map (accepted_renumbered f) front))) ≡ excess_over load (numbered (Some number) (claim_of a ∷ claims_of front)) → excess_over load (numbered (Some (f number)) (claims_of (map (accepted_renumbered f) front))) ≡ excess_over load (numbered (Some number) (claims_of front)) → excess_over load (numbered (Some (f number)) (cond says (claim_of (accepted_renumbered f a) ∷ claims_of (map (accepted_renumbered f) front)) (claims_of (map (accepted_renumbered f) front)))) ≡ excess_over load (numbered (Some number) (cond says (claim_of a ∷ claims_of front) (claims_of front)))
+    claimed true here rest = here
+    claimed false here rest = rest
+
     one : (says : Bool) → excess_over load (numbered (Some (f number)) (claims_of (map (accepted_renumbered f) front))) ≡ excess_over load (numbered (Some number) (claims_of front)) → excess_over load (cond says (Some (claim_of (accepted_renumbered f a))) (numbered (Some (f number)) (claims_of (map (accepted_renumbered f) front)))) ≡ excess_over load (cond says (Some (claim_of a)) (numbered (Some number) (claims_of front)))
     one true rest = refl
     one false rest = rest
 
 -- so an entry does the same to messages under other numbers
-written_alike : (f : ℕ → ℕ)
-    → KeepsOrder f
-    → (front : List Accepted) (place among slot start : ℕ) (id serial : ℕ) (replaces : Option ℕ) (pages period broadcasts : ℕ) (high : Bool)
-    → f among ≡ place
-    → written_behind (map (accepted_renumbered f) front) place slot start (behind_of slot start (replaced_in (map (accepted_renumbered f) front) id replaces)) id serial pages period broadcasts high ≡ accepted_renumbered f (written_behind front among slot start (behind_of slot start (replaced_in front id replaces)) id serial pages period broadcasts high)
-written_alike f keeps front place among slot start id serial replaces pages period broadcasts high at =
+written_alike : (f : ℕ → ℕ) → KeepsOrder f → (front : List Accepted) (place among slot start : ℕ) (id serial : ℕ) (replaces : Option ℕ) (pages period broadcasts : ℕ) (rank : Rank) → f among ≡ place → written_behind (map (accepted_renumbered f) front) place slot start (behind_of slot start (replaced_in (map (accepted_renumbered f) front) id replaces)) id serial pages period broadcasts rank ≡ accepted_renumbered f (written_behind front among slot start (behind_of slot start (replaced_in front id replaces)) id serial pages period broadcasts rank)
+written_alike f keeps front place among slot start id serial replaces pages period broadcasts rank at =
     let all = map (accepted_renumbered f) front in
     let load = load_of pages period in
     let behind = behind_of slot start (replaced_in front id replaces) in
     let waits : behind_of slot start (replaced_in all id replaces) ≡ option_map f behind =
     ap (behind_of slot start) (replaced_alike f id replaces front) ∙ behind_alike f slot start (replaced_in front id replaces) in
-    ap (λ (o : Option ℕ). written_behind all place slot start o id serial pages period broadcasts high) waits
-    ∙ ap (λ (excess : ℕ). write_message place slot start (option_map f behind) excess id serial pages period broadcasts high) (excess_alike f keeps load behind front)
-    ∙ ap (λ (n : ℕ). write_message n slot start (option_map f behind) (excess_over load (numbered behind (claims_of front))) id serial pages period broadcasts high) (sym at)
+    ap (λ (o : Option ℕ). written_behind all place slot start o id serial pages period broadcasts rank) waits
+    ∙ ap (λ (excess : ℕ). write_message place slot start (option_map f behind) excess id serial pages period broadcasts rank) (excess_alike f keeps load behind front)
+    ∙ ap (λ (n : ℕ). write_message n slot start (option_map f behind) (excess_over load (numbered behind (claims_of front))) id serial pages period broadcasts rank) (sym at)
 
 added_alike : (f : ℕ → ℕ)
     → KeepsOrder f
@@ -184,7 +185,7 @@ added_alike : (f : ℕ → ℕ)
     → f among ≡ place
     → added_by (map (accepted_renumbered f) front) place slot start command ≡ map (accepted_renumbered f) (added_by front among slot start command)
 added_alike f keeps front place among slot (Some start) (commands.Write id serial replaces category period broadcasts dcs contents) at =
-    ap (λ (a : Accepted). a ∷ []) (written_alike f keeps front place among slot start id serial replaces (length contents) period broadcasts (is_high category) at)
+    ap (λ (a : Accepted). a ∷ []) (written_alike f keeps front place among slot start id serial replaces (length contents) period broadcasts (rank_of category) at)
 added_alike f keeps front place among slot None (commands.Write id serial replaces category period broadcasts dcs contents) at = refl
 added_alike f keeps front place among slot (Some start) (commands.Kill id serial) at = refl
 added_alike f keeps front place among slot None (commands.Kill id serial) at = refl

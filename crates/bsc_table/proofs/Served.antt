@@ -88,7 +88,7 @@ admitted_load_is_a_guarantee messages air admitted rule = λ k d within. λ j un
     elim (cases_lt (pages_aired m.number air (release m j) (due m j)) m.pages) [
       | inr enough ↦ omega arith
       | inl lacks ↦
-          let busy = lack_means_a_busy_period messages air rule k d within j uncut lacks in
+          let busy = lack_means_a_busy_period messages air admitted.foreground rule k d within j uncut lacks in
           let served : All (λ o. IsServed messages air o) messages = λ i e h. record {
             rising = admitted.rising;
             rule = rule;

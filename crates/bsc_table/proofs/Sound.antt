@@ -5,25 +5,27 @@ use Rattle.std.specs.Option.{IfSome}
 use Rattle.std.proofs.lemmas.Bool.{cases_Bool, cases_eq, eq-eqb, ne_eqb}
 use Rattle.std.proofs.lemmas.Option.{none-some}
 use Rattle.std.proofs.Math.Seq.{take-suc}
-use Rattle.std.proofs.lemmas.List.{get_or_default, take_all, length-take-le, get_or-take, get_or-map, length-map, map-append}
-use Rattle.std.proofs.lemmas.List.Elements.{All-nil, All-cons, All-push, All-map, All-weaker, All-take}
+use Rattle.std.proofs.lemmas.List.{get_or_default, take_all, length-take-le, get_or-take}
+use Rattle.std.proofs.lemmas.List.Elements.{All-nil, All-cons, All-push, All-map, All-filter, All-weaker, All-take}
 use Rattle.std.proofs.lemmas.List.Quantifiers.{all_pairs_push}
+use Rattle.scheduler.specs.Air.{layer}
 use Rattle.admission.specs.declared.measure.TheConstants.{SCALE}
 use Rattle.bsc_table.specs.declared.entry.Answer.{Answer}
 use Rattle.bsc_table.specs.declared.entry.Entry.{Entry}
 use Rattle.bsc_table.specs.Record.{Record, Accepted, accepted_in, is_of_pair, is_live, claim_of, claims_of, claims_in}
-use Rattle.bsc_table.specs.Claim.{Claim, own_load, claimed_at}
+use Rattle.bsc_table.specs.Claim.{Claim, own_load, reserves, claimed_at}
 use Rattle.bsc_table.specs.Handover.{handover}
 use Rattle.bsc_table.specs.Room.{AreInOrder, ClaimsFit, IsNew}
 use Rattle.bsc_table.specs.Legal.{IsLegal}
 use Rattle.bsc_table.specs.Begun.{StartsNow, TakesOver, IsBegun}
 use Rattle.bsc_table.specs.Book.{stop_numbered}
-use Rattle.bsc_table.proofs.Named.{OfAnotherPair}
+use Rattle.bsc_table.proofs.Named.{OfAnotherPair, BelowIt}
 use Rattle.bsc_table.proofs.Numbers.{AllPairs-map, numbers_below}
 use Rattle.bsc_table.proofs.Stops.{in_order-later}
 use Rattle.bsc_table.proofs.Stopped.{stop_keeps_room}
 use Rattle.bsc_table.proofs.Added.{start_keeps_room}
-use Rattle.bsc_table.proofs.TakenOver.{only_live, takeover_keeps_room}
+use Rattle.bsc_table.proofs.TakenOver.{takeover_keeps_room}
+use Rattle.bsc_table.proofs.Ranks.{all_claims, its_claim, same_claim, claims_more_front, claims_more_back}
 use Rattle.bsc_table.proofs.Outcome.{Outcome, entry_with, with, without, outcome_of, claims_stopped}
 
 -- the message has a page and a period
@@ -32,6 +34,7 @@ HasLoad a = (0 < a.message.pages) × (0 < a.message.period)
 
 -- what is true of the accepted messages of a log, up to a slot
 pub record IsSound (all : List Accepted) (slot : ℕ) : Type 0 where
+  pub rising : AllPairs BelowIt all
   pub once : AllPairs OfAnotherPair all
   pub loaded : All HasLoad all
   pub order : AreInOrder (claims_of all) slot
@@ -41,18 +44,17 @@ pub record IsSound (all : List Accepted) (slot : ℕ) : Type 0 where
 abbrev HasRoom : ℕ → List Claim → Type 0
 HasRoom slot claims = AreInOrder claims slot × ClaimsFit claims
 
-pub its_claim : (all : List Accepted) (a : Accepted) → Contains all a → Contains (claims_of all) (claim_of a)
-its_claim all a here =
-    (here.0, omega (arith, here.1, length-map all claim_of), get_or-map claim_of all here.0 a (claim_of a) here.1 ∙ ap claim_of here.2)
+-- each claim of a live message is live, if it claims anything
+pub stops_live : (all : List Accepted) (slot : ℕ) (a : Accepted) → AllPairs BelowIt all → Contains all a → is_live slot a.message ≡ true → All (λ c. c.message.number ≡ a.message.number → is_live slot c.message ≡ true) (claims_of all)
+stops_live all slot a rising here live = λ k d within. λ same.
+    let Live : Claim → Type 0 = λ c. is_live slot c.message ≡ true in
+    subst Live (sym (same_claim all a rising here k d within same)) live
 
 -- the claims stay so where a live message is stopped
-room_without : (stopped : Option Accepted) (slot : ℕ) (all : List Accepted)
-    → IfSome stopped (λ a. Contains all a × (is_live slot a.message ≡ true))
-    → HasRoom slot (claims_of all)
-    → HasRoom slot (claims_of (without stopped slot all))
-room_without None slot all live room = room
-room_without (Some a) slot all live room =
-    let lives = only_live (claims_of all) slot (claim_of a) room.0.rising (its_claim all a live.0) live.1 in
+room_without : (stopped : Option Accepted) (slot : ℕ) (all : List Accepted) → IfSome stopped (λ a. Contains all a × (is_live slot a.message ≡ true)) → AllPairs BelowIt all → HasRoom slot (claims_of all) → HasRoom slot (claims_of (without stopped slot all))
+room_without None slot all live rising room = room
+room_without (Some a) slot all live rising room =
+    let lives = stops_live all slot a rising live.0 live.1 in
     subst (HasRoom slot) (sym (claims_stopped a.message.number slot all)) (stop_keeps_room (claims_of all) a.message.number slot room.0 lives room.1)
 
 -- stopping a message changes neither pairs nor starts
@@ -62,8 +64,9 @@ without_sound : (stopped : Option Accepted) (slot : ℕ) (all : List Accepted)
     → IsSound (without stopped slot all) slot
 without_sound None slot all live sound = sound
 without_sound (Some a) slot all live sound =
-    let room = room_without (Some a) slot all live (sound.order, sound.fit) in
+    let room = room_without (Some a) slot all live sound.rising (sound.order, sound.fit) in
     record {
+      rising = AllPairs-map BelowIt (stop_numbered a.message.number slot) (λ x y below. below) all sound.rising;
       once = AllPairs-map OfAnotherPair (stop_numbered a.message.number slot) (λ x y apart. apart) all sound.once;
       loaded = All-map HasLoad (stop_numbered a.message.number slot) all sound.loaded;
       order = room.0;
@@ -117,7 +120,7 @@ is_new : (number slot : ℕ) (replaced : Option Accepted) (before : List Accepte
     → IsNew (claims_of before) slot (claim_of new)
 is_new number slot replaced before new below begun = record {
   accepted = begun.accepted;
-  greatest = All-map (λ (c : Claim). c.message.number < new.message.number) claim_of before (All-weaker (λ (a : Accepted). a.message.number < number) (λ (a : Accepted). a.message.number < new.message.number) (λ a h. omega (arith, h, begun.numbered)) before below);
+  greatest = All-filter reserves (λ (c : Claim). c.message.number < new.message.number) (all_claims before) (All-map (λ (c : Claim). c.message.number < new.message.number) claim_of before (All-weaker (λ (a : Accepted). a.message.number < number) (λ (a : Accepted). a.message.number < new.message.number) (λ a h. omega (arith, h, begun.numbered)) before below));
   period = begun.some_period;
   standing = begun.standing;
 }
@@ -129,7 +132,10 @@ room_now : (slot : ℕ) (before : List Accepted) (new : Accepted)
     → HasRoom slot (claims_of before)
     → HasRoom slot (claims_of (before ++ new ∷ []))
 room_now slot before new is now room =
-    subst (HasRoom slot) (sym (map-append claim_of before (new ∷ []))) (start_keeps_room (claims_of before) slot (claim_of new) room.0 room.1 is now.start now.fits)
+    elim (cases_eq (layer new.message) 0) [
+      | inl front ↦ subst (HasRoom slot) (sym (claims_more_front before new front)) (start_keeps_room (claims_of before) slot (claim_of new) room.0 room.1 is now.start (now.fits front))
+      | inr back ↦ subst (HasRoom slot) (sym (claims_more_back before new back)) room
+    ]
 
 -- and where it takes over
 room_over : (slot : ℕ) (all : List Accepted) (old new : Accepted)
@@ -146,8 +152,8 @@ room_over slot all old new live is over room =
     let Over : List Claim → Type 0 = λ claims. handover claims slot (claim_of old) (own_load new.message) ≡ Some over.place in
     let Fits : List Claim → Type 0 = λ claims. claimed_at claims slot + over.place.excess ≤ SCALE in
     let Room : List Claim → Type 0 = λ claims. HasRoom slot (claims ++ claim_of new ∷ []) in
-    let kept = takeover_keeps_room (claims_of all) slot (claim_of old) (claim_of new) over.place room.0 room.1 (its_claim all old live.0) live.1 (subst Over same over.over) (subst New same is) over.placed (subst Fits same over.fits) in
-    subst (HasRoom slot) (sym (map-append claim_of before (new ∷ []))) (subst Room (sym same) kept)
+    let kept = takeover_keeps_room (claims_of all) slot (claim_of old) (claim_of new) over.place room.0 room.1 (its_claim all old live.0 over.of_reserved) live.1 (subst Over same over.over) (subst New same is) over.placed (subst Fits same over.fits) in
+    subst (HasRoom slot) (sym (claims_more_front before new over.reserved)) (subst Room (sym same) kept)
 
 room_with : (number slot : ℕ) (replaced : Option Accepted) (all : List Accepted) (new : Accepted)
     → All (λ a. a.message.number < number) (without replaced slot all)
@@ -179,6 +185,7 @@ with_sound (Some new) replaced number slot all below live fresh begun sound left
     let before = without replaced slot all in
     let room = room_with number slot replaced all new below live begun (sound.order, sound.fit) (left.order, left.fit) in
     record {
+      rising = all_pairs_push BelowIt before new left.rising (λ k d h. omega (arith, below k d h, begun.numbered));
       once = all_pairs_push OfAnotherPair before new left.once (others_are_apart new before fresh);
       loaded = All-push HasLoad before new left.loaded (begun.some_pages, begun.some_period);
       order = room.0;
@@ -213,6 +220,7 @@ IsSound-push log e outcome sound =
 
 IsSound-later : (all : List Accepted) (slot later : ℕ) → slot ≤ later → IsSound all slot → IsSound all later
 IsSound-later all slot later after sound = record {
+  rising = sound.rising;
   once = sound.once;
   loaded = sound.loaded;
   order = in_order-later (claims_of all) slot later after sound.order;
@@ -260,13 +268,8 @@ empty_order slot = record {
   alone = λ i j d b w. absurd (omega arith);
 }
 
-pub sound_at : (r : Record)
-    → IsLegal r
-    → (k slot : ℕ)
-    → k ≤ length r.log
-    → All (λ e. e.slot ≤ slot) (take k r.log)
-    → IsSound (accepted_in (take k r.log)) slot
-sound_at r legal zero slot within before = record { once = λ i j d b w. absurd (omega arith); loaded = All-nil HasLoad; order = empty_order slot; fit = λ t. omega arith }
+pub sound_at : (r : Record) → IsLegal r → (k slot : ℕ) → k ≤ length r.log → All (λ e. e.slot ≤ slot) (take k r.log) → IsSound (accepted_in (take k r.log)) slot
+sound_at r legal zero slot within before = record { rising = λ i j d b w. absurd (omega arith); once = λ i j d b w. absurd (omega arith); loaded = All-nil HasLoad; order = empty_order slot; fit = λ t. omega arith }
 sound_at r legal (suc k) slot within before =
     let d : Entry = some_entry r.log (omega arith) in
     let e : Entry = get_or r.log k d in

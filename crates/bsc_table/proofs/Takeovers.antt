@@ -1,5 +1,6 @@
 -- Histories in which a replacement takes over, worked by hand: answers, what is reserved, and what is aired.
-use Rattle.std.proofs.Common.{◌≡◌, ℕ, zero, suc, ◌<◌, false, inl, refl, Some, None, List, [], ◌∷◌, ◌++◌, length, take, get_or, arith}
+use Rattle.std.proofs.Common.{◌≡◌, ℕ, zero, suc, ◌<◌, inl, refl, Some, None, List, [], ◌∷◌, ◌++◌, length, take, get_or, arith}
+use Rattle.scheduler.specs.declared.plan.Rank.TheVariants as ranks
 use Rattle.scheduler.specs.Air.{pages_aired}
 use Rattle.scheduler.specs.Message.{Message}
 use Rattle.admission.specs.declared.measure.TheConstants.{SCALE}
@@ -199,7 +200,7 @@ passed_is_legal : IsLegal (run passed 8)
 passed_is_legal = legal_run passed 8 (omega arith) (omega arith) refl refl refl passed_answered refl
 
 abbrev of_k : Message
-of_k = record { number = 4; start = 4; pages = 1; period = 4; requested = 0; stop = None; high = false }
+of_k = record { number = 4; start = 4; pages = 1; period = 4; requested = 0; stop = None; rank = ranks.Normal }
 
 k_is_served : pages_aired 4 (aired passed 8) 4 8 ≡ 1
 k_is_served =

@@ -9,26 +9,26 @@ use Rattle.std.proofs.lemmas.List.Elements.{All-contains, Contains-append_left}
 use Rattle.std.proofs.lemmas.Option.{none-some, same_Some}
 use Rattle.admission.specs.Load.{load_of}
 use Rattle.scheduler.specs.Message.{Message, release, due, has_broadcast, is_before_stop}
-use Rattle.scheduler.specs.Air.{Air, pages_aired}
+use Rattle.scheduler.specs.Air.{Air, layer, pages_aired}
 use Rattle.scheduler.specs.Completed.{completed, is_whole}
 use Rattle.scheduler.proofs.Air.{pages_aired-append}
 use Rattle.scheduler.proofs.Completed.{is_whole-unreleased}
+use Rattle.bsc_table.specs.declared.command.Category.{Category}
 use Rattle.bsc_table.specs.declared.command.Command.{Command}
 use Rattle.bsc_table.specs.declared.command.Command.TheVariants as commands
 use Rattle.bsc_table.specs.declared.entry.Answer.{Answer}
 use Rattle.bsc_table.specs.declared.entry.Answer.TheVariants as answers
 use Rattle.bsc_table.specs.declared.entry.Entry.{Entry}
 use Rattle.bsc_table.specs.Bounds.{least_completed, most_completed}
-use Rattle.bsc_table.specs.Record.{Record, Accepted, start_of, is_stop_of, stop_after, stopped_by, added_by, accepted_in, messages_in, is_of_pair, message_told, message_named, claim_of, claims_in}
+use Rattle.bsc_table.specs.Record.{Record, Accepted, start_of, is_stop_of, stop_after, stopped_by, added_by, accepted_in, messages_in, is_of_pair, message_told, message_named, place_after, claims_in}
 use Rattle.bsc_table.specs.Claim.{stop_claims}
-use Rattle.bsc_table.specs.Handover.{handover}
 use Rattle.bsc_table.specs.Answer.{answer_to_new, answer_to_replacement, unless_accepted, answer_to_write, answer_to_kill, told_of, answer_with_room, answer_of}
 use Rattle.bsc_table.specs.Legal.{IsLegal}
 use Rattle.bsc_table.specs.Told.{completed_told, IsAbout, IsTrulyTold, LegalAnswersAreTrue}
 use Rattle.bsc_table.proofs.Appended.{accepted_in-push}
 use Rattle.scheduler.proofs.Lists.{count_below_same}
 use Rattle.bsc_table.proofs.Named.{find_passes}
-use Rattle.bsc_table.proofs.Outcome.{before_end_cases, of_live_cases, unless_accepted_cases, beside_cases, Contains-find}
+use Rattle.bsc_table.proofs.Outcome.{before_end_cases, of_live_cases, unless_accepted_cases, for_cases, Contains-find}
 use Rattle.bsc_table.proofs.Promised.{legal_histories_are_bounded}
 use Rattle.bsc_table.proofs.Sound.{HasLoad, IsSound-legal}
 
@@ -72,15 +72,15 @@ kill_tells log air slot id serial =
     })
 
 -- a write in the place of none tells nothing, one in the place of another tells of that one
-write_tells : (log : List Entry) (air : Air) (slot load id serial : ℕ) (replaces : Option ℕ) (command : Command) → ((a : Accepted) → (id ≡ a.id) → replaces ≡ Some a.serial → IsAbout a.id a.serial command) → TellsTrue log air slot command (answer_to_write log air slot id serial replaces load)
-write_tells log air slot load id serial None command about =
+write_tells : (log : List Entry) (air : Air) (slot load id serial : ℕ) (replaces : Option ℕ) (category : Category) (command : Command) → ((a : Accepted) → (id ≡ a.id) → replaces ≡ Some a.serial → IsAbout a.id a.serial command) → TellsTrue log air slot command (answer_to_write log air slot id serial replaces category load)
+write_tells log air slot load id serial None category command about =
     let P : Answer → Type 0 = TellsTrue log air slot command in
     let refuses : (cause : ℕ) → P (answers.Cause cause) = λ cause. tells_none log air slot command (answers.Cause cause) refl in
-    unless_accepted_cases P (find (is_of_pair id serial) (accepted_in log)) (answer_to_new log slot load) refuses (λ fresh. beside_cases P (claims_in log) slot load None (λ start. answers.Started start) refuses (λ room fits. tells_none log air slot command (answers.Started slot) refl) (λ room p none. absurd (none-some p none)))
-write_tells log air slot load id serial (Some old) command about =
+    unless_accepted_cases P (find (is_of_pair id serial) (accepted_in log)) (answer_to_new log slot category load) refuses (λ fresh. for_cases P category (claims_in log) slot load None (λ start. answers.Started start) refuses (λ room fits. tells_none log air slot command (answers.Started slot) refl) (λ front room p none. absurd (none-some p none)))
+write_tells log air slot load id serial (Some old) category command about =
     let P : Answer → Type 0 = TellsTrue log air slot command in
     let refuses : (cause : ℕ) → P (answers.Cause cause) = λ cause. tells_none log air slot command (answers.Cause cause) refl in
-    of_live_cases P slot (find (is_of_pair id old) (accepted_in log)) (λ a. unless_accepted (message_named id serial log) (answer_to_replacement log air slot load a)) refuses (λ a found live. unless_accepted_cases P (find (is_of_pair id serial) (accepted_in log)) (answer_to_replacement log air slot load a) refuses (λ fresh.
+    of_live_cases P slot (find (is_of_pair id old) (accepted_in log)) (λ a. unless_accepted (message_named id serial log) (answer_to_replacement log air slot category load a)) refuses (λ a found live. unless_accepted_cases P (find (is_of_pair id serial) (accepted_in log)) (answer_to_replacement log air slot category load a) refuses (λ fresh.
     let left = stop_claims a.message.number slot (claims_in log) in
     let tells : (start : ℕ) → P (answers.Replaced start (completed a.message air slot)) = λ start. λ told says.
     let pair = found_pair id old (accepted_in log) a found in
@@ -90,7 +90,7 @@ write_tells log air slot load id serial (Some old) command about =
       about = about a pair.0 (ap (λ n. Some n) pair.1);
       number = same_Some (completed a.message air slot) told says;
     } in
-    beside_cases P left slot load (handover left slot (claim_of a) load) (λ start. answers.Replaced start (completed a.message air slot)) refuses (λ room fits. tells slot) (λ room p over fits. tells p.start)))
+    for_cases P category left slot load (place_after left slot a load) (λ start. answers.Replaced start (completed a.message air slot)) refuses (λ room fits. tells slot) (λ front room p over fits. tells p.start)))
 
 tells_with_room : (slots : ℕ) (log : List Entry) (air : Air) (slot : ℕ) (command : Command) → TellsTrue log air slot command (answer_with_room slots log air slot command)
 tells_with_room slots log air slot (commands.Status id serial) =
@@ -101,7 +101,7 @@ tells_with_room slots log air slot (commands.Kill id serial) =
 tells_with_room slots log air slot (commands.Write id serial replaces category period broadcasts dcs contents) =
     let command = commands.Write id serial replaces category period broadcasts dcs contents in
     let load = load_of (length contents) period in
-    before_end_cases (TellsTrue log air slot command) slots slot (answer_to_write log air slot id serial replaces load) (λ cause. tells_none log air slot command (answers.Cause cause) refl) (write_tells log air slot load id serial replaces command (λ a same replaced. (same, replaced)))
+    before_end_cases (TellsTrue log air slot command) slots slot (answer_to_write log air slot id serial replaces category load) (λ cause. tells_none log air slot command (answers.Cause cause) refl) (write_tells log air slot load id serial replaces category command (λ a same replaced. (same, replaced)))
 
 tells_true : (slots : ℕ) (log : List Entry) (air : Air) (slot : ℕ) (command : Command) → TellsTrue log air slot command (answer_of slots log air slot command)
 tells_true slots log air slot command =
@@ -209,7 +209,7 @@ pages-continued slot a b on some = omega (arith, ap (λ (x : Accepted). x.messag
 
 -- the bounds of a message's number, at each slot up to the clock
 abbrev IsBounded : Record → Message → Type 0
-IsBounded r m = (slot : ℕ) → slot ≤ r.clock → (least_completed m slot ≤ completed m r.air slot) × (completed m r.air slot ≤ most_completed m slot)
+IsBounded r m = (slot : ℕ) → slot ≤ r.clock → (layer m ≡ 0 → least_completed m slot ≤ completed m r.air slot) × (completed m r.air slot ≤ most_completed m slot)
 
 -- what was told of a message is true of what became of it
 told_of_continued : (r : Record) (e : Entry) (told : ℕ) (a b : Accepted) → IsLegal r → e.slot ≤ r.clock → IsAbout a.id a.serial e.command → completed a.message (take e.slot r.air) e.slot ≡ told → IsContinued e.slot a b → Contains (accepted_in r.log) b → IsTrulyTold r.air e told b
@@ -222,7 +222,7 @@ told_of_continued r e told a b legal by about number on here =
     record {
       about = subst About (sym on.same) about;
       exact = sym number ∙ same;
-      least = omega (arith, bounds.0, same, number);
+      least = λ front. omega (arith, bounds.0 front, same, number);
       most = omega (arith, bounds.1, same, number);
     }
 

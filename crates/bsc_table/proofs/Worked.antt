@@ -1,13 +1,16 @@
 -- The guarantee on worked runs: its premises hold of them, and matter.
-use Rattle.std.proofs.Common.{◌≡◌, ℕ, zero, suc, ◌≤◌, ◌<◌, Bool, true, false, refl, Option, Some, None, List, [], ◌∷◌, map, sum_by, inl, arith}
+use Rattle.std.proofs.Common.{◌≡◌, ℕ, zero, suc, ◌≤◌, ◌<◌, refl, Option, Some, None, List, [], ◌∷◌, map, sum_by, inl, arith}
 use Rattle.std.specs.List.{All, AllPairs}
 use Rattle.std.proofs.lemmas.List.Elements.{All-cons}
 use Rattle.std.proofs.lemmas.List.Kept.{AllPairs-cons}
 use Rattle.admission.specs.declared.measure.TheConstants.{SCALE}
 use Rattle.admission.specs.Reservation.{Reservation, loads_at}
 use Rattle.admission.proofs.Reservations.{loads_at-le, loads_at-le_standing}
+use Rattle.scheduler.specs.declared.plan.Rank.{Rank}
+use Rattle.scheduler.specs.declared.plan.Rank.TheVariants.{High, Normal, Background}
 use Rattle.scheduler.specs.Message.{Message, release, due}
-use Rattle.scheduler.specs.Air.{Air, pages_aired, IsAirOf}
+use Rattle.scheduler.specs.Air.{Air, layer, pages_aired, IsAirOf}
+use Rattle.scheduler.specs.Background.{foreground}
 use Rattle.scheduler.specs.Completed.{completed}
 use Rattle.scheduler.specs.Choice.{air_of}
 use Rattle.scheduler.proofs.Choice.{IsAirOf-air_of}
@@ -16,15 +19,15 @@ use Rattle.bsc_table.specs.Bounds.{least_completed, most_completed}
 use Rattle.bsc_table.proofs.Served.{admitted_load_is_a_guarantee}
 
 -- a message that stands until it is stopped
-abbrev message : ℕ → ℕ → ℕ → ℕ → Option ℕ → Bool → Message
-message number start pages period stop high = record {
+abbrev message : ℕ → ℕ → ℕ → ℕ → Option ℕ → Rank → Message
+message number start pages period stop rank = record {
   number = number;
   start = start;
   pages = pages;
   period = period;
   requested = 0;
   stop = stop;
-  high = high;
+  rank = rank;
 }
 
 abbrev Rising : List Message → Type 0
@@ -36,6 +39,9 @@ HavePeriods messages = All (λ m. 0 < m.period) messages
 none_of : (P : Message → Type 0) → All P []
 none_of P = λ k d h. absurd (omega arith)
 
+abbrev NoBackground : List Message → Type 0
+NoBackground messages = All (λ m. layer m ≡ 0) messages
+
 none_rising : Rising []
 none_rising = λ i j d before within. absurd (omega arith)
 
@@ -45,16 +51,16 @@ fit_together messages all = λ slot. omega (arith, loads_at-le (map reservation_
 
 -- A: two pages in every fourth slot. B, C, D: one high page in every second, each until the next one is written
 abbrev a : Message
-a = message 0 0 2 4 None false
+a = message 0 0 2 4 None Normal
 
 abbrev b : Message
-b = message 1 0 1 2 (Some 1) true
+b = message 1 0 1 2 (Some 1) High
 
 abbrev c : Message
-c = message 2 1 1 2 (Some 2) true
+c = message 2 1 1 2 (Some 2) High
 
 abbrev d : Message
-d = message 3 2 1 2 None true
+d = message 3 2 1 2 None High
 
 -- B is stopped at slot 1, and its load stays reserved up to slot 2: C finds no room
 abbrev by_the_rules : List Message
@@ -66,6 +72,11 @@ by_the_rules_aired = refl
 by_the_rules_rise : Rising by_the_rules
 by_the_rules_rise =
     AllPairs-cons (λ (x : Message) (y : Message). x.number < y.number) a (b ∷ []) (All-cons (λ (y : Message). a.number < y.number) b [] (omega arith) (none_of (λ y. a.number < y.number))) (AllPairs-cons (λ (x : Message) (y : Message). x.number < y.number) b [] (none_of (λ y. b.number < y.number)) none_rising)
+
+by_the_rules_foreground : NoBackground by_the_rules
+by_the_rules_foreground =
+    let Alone : Message → Type 0 = λ m. layer m ≡ 0 in
+    All-cons Alone a (b ∷ []) refl (All-cons Alone b [] refl (none_of Alone))
 
 by_the_rules_have_periods : HavePeriods by_the_rules
 by_the_rules_have_periods =
@@ -80,7 +91,7 @@ by_the_rules_fit = fit_together by_the_rules (omega (arith, by_the_rules_sum))
 -- so A's broadcast, due at slot 4, is aired whole
 a_is_whole : pages_aired 0 (air_of by_the_rules 4) 0 4 ≡ 2
 a_is_whole =
-    admitted_load_is_a_guarantee by_the_rules (air_of by_the_rules 4) (record { rising = by_the_rules_rise; periods = by_the_rules_have_periods; fit = by_the_rules_fit }) (IsAirOf-air_of by_the_rules 4 by_the_rules_have_periods) 0 a (omega arith) 0 (record { requested = inl refl; standing = tt; aired_by = omega arith })
+    admitted_load_is_a_guarantee by_the_rules (air_of by_the_rules 4) (record { rising = by_the_rules_rise; periods = by_the_rules_have_periods; foreground = by_the_rules_foreground; fit = by_the_rules_fit }) (IsAirOf-air_of by_the_rules 4 by_the_rules_have_periods) 0 a (omega arith) 0 (record { requested = inl refl; standing = tt; aired_by = omega arith })
 
 by_the_rules_demand : demand by_the_rules 0 4 ≡ 3
 by_the_rules_demand = refl
@@ -150,13 +161,13 @@ all_four_over = refl
 
 -- R, Q, P: a sixth, a third and a half fill each slot
 abbrev r : Message
-r = message 0 0 1 6 None false
+r = message 0 0 1 6 None Normal
 
 abbrev p : Message
-p = message 2 0 1 2 None false
+p = message 2 0 1 2 None Normal
 
 abbrev three : List Message
-three = r ∷ message 1 0 1 3 None false ∷ p ∷ []
+three = r ∷ message 1 0 1 3 None Normal ∷ p ∷ []
 
 three_aired : air_of three 6 ≡ Some (2, 1) ∷ Some (1, 1) ∷ Some (2, 1) ∷ Some (0, 1) ∷ Some (1, 1) ∷ Some (2, 1) ∷ []
 three_aired = refl
@@ -173,31 +184,37 @@ three_fit = fit_together three (omega (arith, three_sum))
 three_rise : Rising three
 three_rise =
     let Below : Message → Message → Type 0 = λ x y. x.number < y.number in
-    let q = message 1 0 1 3 None false in
+    let q = message 1 0 1 3 None Normal in
     AllPairs-cons Below r (q ∷ p ∷ []) (All-cons (Below r) q (p ∷ []) (omega arith) (All-cons (Below r) p [] (omega arith) (none_of (Below r)))) (AllPairs-cons Below q (p ∷ []) (All-cons (Below q) p [] (omega arith) (none_of (Below q))) (AllPairs-cons Below p [] (none_of (Below p)) none_rising))
+
+three_foreground : NoBackground three
+three_foreground =
+    let Alone : Message → Type 0 = λ m. layer m ≡ 0 in
+    let q = message 1 0 1 3 None Normal in
+    All-cons Alone r (q ∷ p ∷ []) refl (All-cons Alone q (p ∷ []) refl (All-cons Alone p [] refl (none_of Alone)))
 
 three_have_periods : HavePeriods three
 three_have_periods =
     let Has : Message → Type 0 = λ m. 0 < m.period in
-    let q = message 1 0 1 3 None false in
+    let q = message 1 0 1 3 None Normal in
     All-cons Has r (q ∷ p ∷ []) (omega arith) (All-cons Has q (p ∷ []) (omega arith) (All-cons Has p [] (omega arith) (none_of Has)))
 
 -- so R's one broadcast is aired by slot 6
 r_is_whole : pages_aired 0 (air_of three 6) 0 6 ≡ 1
 r_is_whole =
-    admitted_load_is_a_guarantee three (air_of three 6) (record { rising = three_rise; periods = three_have_periods; fit = three_fit }) (IsAirOf-air_of three 6 three_have_periods) 0 r (omega arith) 0 (record { requested = inl refl; standing = tt; aired_by = omega arith })
+    admitted_load_is_a_guarantee three (air_of three 6) (record { rising = three_rise; periods = three_have_periods; foreground = three_foreground; fit = three_fit }) (IsAirOf-air_of three 6 three_have_periods) 0 r (omega arith) 0 (record { requested = inl refl; standing = tt; aired_by = omega arith })
 
 -- Q is replaced at slot 3, on the boundary of its period, by one with the same load
 abbrev replaced : List Message
-replaced = r ∷ message 1 0 1 3 (Some 3) false ∷ p ∷ message 3 3 1 3 None false ∷ []
+replaced = r ∷ message 1 0 1 3 (Some 3) Normal ∷ p ∷ message 3 3 1 3 None Normal ∷ []
 
 replaced_aired : air_of replaced 6 ≡ Some (2, 1) ∷ Some (1, 1) ∷ Some (2, 1) ∷ Some (0, 1) ∷ Some (2, 1) ∷ Some (3, 1) ∷ []
 replaced_aired = refl
 
-replaced_completed : completed (message 1 0 1 3 (Some 3) false) (air_of replaced 6) 3 ≡ 1
+replaced_completed : completed (message 1 0 1 3 (Some 3) Normal) (air_of replaced 6) 3 ≡ 1
 replaced_completed = refl
 
-replaced_rest : sum_by (λ (x : Reservation). x.load) (map reservation_of (r ∷ p ∷ message 3 3 1 3 None false ∷ [])) ≡ SCALE
+replaced_rest : sum_by (λ (x : Reservation). x.load) (map reservation_of (r ∷ p ∷ message 3 3 1 3 None Normal ∷ [])) ≡ SCALE
 replaced_rest = refl
 
 replaced_fit : LoadsFit replaced
@@ -210,29 +227,36 @@ replaced_fit (suc (suc (suc slot))) =
 replaced_rise : Rising replaced
 replaced_rise =
     let Below : Message → Message → Type 0 = λ x y. x.number < y.number in
-    let q = message 1 0 1 3 (Some 3) false in
-    let n = message 3 3 1 3 None false in
+    let q = message 1 0 1 3 (Some 3) Normal in
+    let n = message 3 3 1 3 None Normal in
     AllPairs-cons Below r (q ∷ p ∷ n ∷ []) (All-cons (Below r) q (p ∷ n ∷ []) (omega arith) (All-cons (Below r) p (n ∷ []) (omega arith) (All-cons (Below r) n [] (omega arith) (none_of (Below r))))) (AllPairs-cons Below q (p ∷ n ∷ []) (All-cons (Below q) p (n ∷ []) (omega arith) (All-cons (Below q) n [] (omega arith) (none_of (Below q)))) (AllPairs-cons Below p (n ∷ []) (All-cons (Below p) n [] (omega arith) (none_of (Below p))) (AllPairs-cons Below n [] (none_of (Below n)) none_rising)))
+
+replaced_foreground : NoBackground replaced
+replaced_foreground =
+    let Alone : Message → Type 0 = λ m. layer m ≡ 0 in
+    let q = message 1 0 1 3 (Some 3) Normal in
+    let n = message 3 3 1 3 None Normal in
+    All-cons Alone r (q ∷ p ∷ n ∷ []) refl (All-cons Alone q (p ∷ n ∷ []) refl (All-cons Alone p (n ∷ []) refl (All-cons Alone n [] refl (none_of Alone))))
 
 replaced_have_periods : HavePeriods replaced
 replaced_have_periods =
     let Has : Message → Type 0 = λ m. 0 < m.period in
-    let q = message 1 0 1 3 (Some 3) false in
-    let n = message 3 3 1 3 None false in
+    let q = message 1 0 1 3 (Some 3) Normal in
+    let n = message 3 3 1 3 None Normal in
     All-cons Has r (q ∷ p ∷ n ∷ []) (omega arith) (All-cons Has q (p ∷ n ∷ []) (omega arith) (All-cons Has p (n ∷ []) (omega arith) (All-cons Has n [] (omega arith) (none_of Has))))
 
 -- so the new one's first broadcast is whole by slot 6
 replacement_is_whole : pages_aired 3 (air_of replaced 6) 3 6 ≡ 1
 replacement_is_whole =
-    admitted_load_is_a_guarantee replaced (air_of replaced 6) (record { rising = replaced_rise; periods = replaced_have_periods; fit = replaced_fit }) (IsAirOf-air_of replaced 6 replaced_have_periods) 3 r (omega arith) 0 (record { requested = inl refl; standing = tt; aired_by = omega arith })
+    admitted_load_is_a_guarantee replaced (air_of replaced 6) (record { rising = replaced_rise; periods = replaced_have_periods; foreground = replaced_foreground; fit = replaced_fit }) (IsAirOf-air_of replaced 6 replaced_have_periods) 3 r (omega arith) 0 (record { requested = inl refl; standing = tt; aired_by = omega arith })
 
 -- replaced at slot 4, within its period, it would leave no room for the new one
-replaced_late_over : loads_at (map reservation_of (r ∷ message 1 0 1 3 (Some 4) false ∷ p ∷ message 3 4 1 3 None false ∷ [])) 4 ≡ 310390080
+replaced_late_over : loads_at (map reservation_of (r ∷ message 1 0 1 3 (Some 4) Normal ∷ p ∷ message 3 4 1 3 None Normal ∷ [])) 4 ≡ 310390080
 replaced_late_over = refl
 
 -- two broadcasts, in the slots 0 to 2 and 3 to 5: by slot 10 both are whole, and by slot 4 the first is
 abbrev twice : Message
-twice = record (message 0 0 1 3 None false) { requested = 2 }
+twice = record (message 0 0 1 3 None Normal) { requested = 2 }
 
 twice_least : least_completed twice 10 ≡ 2
 twice_least = refl
@@ -248,7 +272,7 @@ twice_most_within = refl
 
 -- a broadcast that a stop cuts may be whole or not, as its pages and the others have it
 abbrev cut : ℕ → Message
-cut pages = message 0 0 pages 4 (Some 3) false
+cut pages = message 0 0 pages 4 (Some 3) Normal
 
 cut_least : least_completed (cut 1) 8 ≡ 0
 cut_least = refl
@@ -259,19 +283,32 @@ cut_most = refl
 cut_but_whole : completed (cut 1) (air_of (cut 1 ∷ d ∷ []) 8) 8 ≡ 1
 cut_but_whole = refl
 
-cut_and_lost : completed (cut 2) (air_of (cut 2 ∷ message 1 0 1 2 None true ∷ []) 8) 8 ≡ 0
+cut_and_lost : completed (cut 2) (air_of (cut 2 ∷ message 1 0 1 2 None High ∷ []) 8) 8 ≡ 0
 cut_and_lost = refl
 
 -- stopped on the boundary of a period, nothing of it is in doubt
-boundary_least : least_completed (message 0 0 1 3 (Some 3) false) 8 ≡ 1
+boundary_least : least_completed (message 0 0 1 3 (Some 3) Normal) 8 ≡ 1
 boundary_least = refl
 
-boundary_most : most_completed (message 0 0 1 3 (Some 3) false) 8 ≡ 1
+boundary_most : most_completed (message 0 0 1 3 (Some 3) Normal) 8 ≡ 1
 boundary_most = refl
 
 -- nor of one that has not begun
-unbegun_least : least_completed (message 0 5 1 3 None false) 4 ≡ 0
+unbegun_least : least_completed (message 0 5 1 3 None Normal) 4 ≡ 0
 unbegun_least = refl
 
-unbegun_most : most_completed (message 0 5 1 3 None false) 4 ≡ 0
+unbegun_most : most_completed (message 0 5 1 3 None Normal) 4 ≡ 0
 unbegun_most = refl
+
+-- N: a page in every second slot. B: two pages of background in every fourth, beside it
+abbrev beside_background : List Message
+beside_background = message 0 0 1 2 None Normal ∷ message 1 0 2 4 None Background ∷ []
+
+abbrev n_alone : List Message
+n_alone = message 0 0 1 2 None Normal ∷ []
+
+n_is_alone : foreground beside_background ≡ n_alone
+n_is_alone = refl
+
+beside_background_aired : air_of beside_background 4 ≡ Some (0, 1) ∷ Some (1, 1) ∷ Some (0, 1) ∷ Some (1, 2) ∷ []
+beside_background_aired = refl

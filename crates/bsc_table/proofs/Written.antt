@@ -9,7 +9,7 @@ use Rattle.bsc_table.specs.declared.command.Command.{Command}
 use Rattle.bsc_table.specs.declared.command.Command.TheVariants as commands
 use Rattle.bsc_table.specs.declared.entry.Answer.{Answer}
 use Rattle.bsc_table.specs.declared.entry.Entry.{Entry}
-use Rattle.bsc_table.specs.Record.{Accepted, start_of, is_high, stopped_by, replaced_in, behind_of, written_behind, added_by, accepted_after, accepted_from, accepted_in, messages_in}
+use Rattle.bsc_table.specs.Record.{Accepted, start_of, rank_of, stopped_by, replaced_in, behind_of, written_behind, added_by, accepted_after, accepted_from, accepted_in, messages_in}
 use Rattle.bsc_table.specs.Written.{IsWriteBy, AcceptedAreWrites, HasPage, UsesAreOfWrites}
 use Rattle.bsc_table.proofs.Outcome.{entry_with}
 
@@ -27,7 +27,7 @@ still_written e a (commands.Status id serial) start h = h
 -- and what an entry adds is its write
 added_is_written : (log : List Entry) (d : Entry) (all : List Accepted) (place slot : ℕ) (answer : Answer) (command : Command) (start : Option ℕ) → place < length log → get_or log place d ≡ entry_with command slot answer → start_of answer ≡ start → All (IsWritten log d) (added_by all place slot start command)
 added_is_written log d all place slot answer (commands.Write id serial replaces category period broadcasts dcs contents) (Some start) within here told =
-    let a : Accepted = written_behind all place slot start (behind_of slot start (replaced_in all id replaces)) id serial (length contents) period broadcasts (is_high category) in
+    let a : Accepted = written_behind all place slot start (behind_of slot start (replaced_in all id replaces)) id serial (length contents) period broadcasts (rank_of category) in
     let Here : Entry → Type 0 = λ x. IsWriteBy a x.command (start_of x.answer) in
     All-cons (IsWritten log d) a [] (within, subst Here (sym here) (refl, refl, refl, told), sym (ap (λ (x : Entry). x.slot) here)) (All-nil (IsWritten log d))
 added_is_written log d all place slot answer (commands.Write id serial replaces category period broadcasts dcs contents) None within here told = All-nil (IsWritten log d)

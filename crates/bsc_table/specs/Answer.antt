@@ -5,9 +5,10 @@
 -- 2. Cause 0A: all slots of the run are played. Not for a status.
 -- 3. Cause 02: the message to replace or to stop isn't live.
 -- 4. Cause 0D: a message of the same identifier and serial number was accepted before.
--- 5. Cause 07: 64 messages are reserved, each from the slot at which it was accepted up to its end.
--- 6. Cause 06: the load doesn't fit beside those that are reserved, and there is no place that it may take over, or
---    what it has over the load that stands there doesn't fit either.
+-- 5. Cause 07: 64 messages are reserved, each from the slot at which it was accepted up to its end. Not for a background
+--    message, which reserves nothing and isn't counted.
+-- 6. Cause 06, not for a background message: the load doesn't fit beside those that are reserved, and there is no place that it may take over, or what
+--    it has over the load that stands there doesn't fit either.
 --
 -- The definitions stand in the other direction, each below those that it asks next.
 use Rattle.std.specs.Prelude.{ℕ, ◌+◌, ◌==◌, nat_le, nat_lt, if◌then◌else◌, Option, Some, None, List, length, filter}
@@ -16,14 +17,15 @@ use Rattle.admission.specs.Load.{load_of}
 use Rattle.scheduler.specs.Message.{Message}
 use Rattle.scheduler.specs.Air.{Air}
 use Rattle.scheduler.specs.Completed.{completed}
+use Rattle.bsc_table.specs.declared.command.Category.{Category}
 use Rattle.bsc_table.specs.declared.command.Command.{Command}
 use Rattle.bsc_table.specs.declared.command.Command.TheVariants as commands
 use Rattle.bsc_table.specs.declared.entry.Answer.{Answer}
 use Rattle.bsc_table.specs.declared.entry.Answer.TheVariants as answers
 use Rattle.bsc_table.specs.declared.entry.Entry.{Entry}
 use Rattle.bsc_table.specs.Claim.{Claim, is_claimed_at, claimed_at, stop_claims}
-use Rattle.bsc_table.specs.Handover.{Place, handover}
-use Rattle.bsc_table.specs.Record.{Accepted, accepted_named, message_named, claim_of, claims_in, is_live, state_at}
+use Rattle.bsc_table.specs.Handover.{Place}
+use Rattle.bsc_table.specs.Record.{Accepted, accepted_named, message_named, claims_in, is_background, place_after, is_live, state_at}
 
 -- 6, where the load doesn't fit now: it starts later, at the place that it may take over, where its excess fits now;
 -- from then on no more is reserved at any slot
@@ -39,17 +41,21 @@ answer_beside claims slot load place accepts =
     else if nat_lt SCALE (claimed_at claims slot + load) then answer_at claims slot accepts place
     else accepts slot
 
--- a write in the place of no message: there is no place that it may take over
-abbrev pub answer_to_new : List Entry → ℕ → ℕ → Answer
-answer_to_new log slot load = answer_beside (claims_in log) slot load None (λ start. answers.Started start)
+-- 5 and 6 by the category: a background message is accepted at once
+abbrev pub answer_for : Category → List Claim → ℕ → ℕ → Option Place → (ℕ → Answer) → Answer
+answer_for category claims slot load place accepts =
+    if is_background category then accepts slot else answer_beside claims slot load place accepts
 
--- a write in the place of an old one, whose stop counts as applied: it may take over from that one where it has
--- started, and from the one behind which that one waits where it hasn't
-abbrev pub answer_to_replacement : List Entry → Air → ℕ → ℕ → Accepted → Answer
-answer_to_replacement log air slot load old =
+-- a write in the place of no message: there is no place that it may take over
+abbrev pub answer_to_new : List Entry → ℕ → Category → ℕ → Answer
+answer_to_new log slot category load = answer_for category (claims_in log) slot load None (λ start. answers.Started start)
+
+-- a write in the place of an old one, whose stop counts as applied: it may take over from that one where it has started,
+-- and from the one behind which that one waits where it hasn't
+abbrev pub answer_to_replacement : List Entry → Air → ℕ → Category → ℕ → Accepted → Answer
+answer_to_replacement log air slot category load old =
     let left = stop_claims old.message.number slot (claims_in log) in
-    answer_beside left slot load (handover left slot (claim_of old) load)
-    (λ start. answers.Replaced start (completed old.message air slot))
+    answer_for category left slot load (place_after left slot old load) (λ start. answers.Replaced start (completed old.message air slot))
 
 -- 4, where the pair of a write was accepted before
 abbrev pub unless_accepted : Option Message → Answer → Answer
@@ -61,11 +67,11 @@ abbrev pub of_live : ℕ → Option Accepted → (Accepted → Answer) → Answe
 of_live slot None answer = answers.Cause 0x02
 of_live slot (Some a) answer = if is_live slot a.message then answer a else answers.Cause 0x02
 
-abbrev pub answer_to_write : List Entry → Air → ℕ → ℕ → ℕ → Option ℕ → ℕ → Answer
-answer_to_write log air slot id serial None load = unless_accepted (message_named id serial log) (answer_to_new log slot load)
-answer_to_write log air slot id serial (Some replaced) load =
-    of_live slot (accepted_named id replaced log) (λ old.
-    unless_accepted (message_named id serial log) (answer_to_replacement log air slot load old))
+abbrev pub answer_to_write : List Entry → Air → ℕ → ℕ → ℕ → Option ℕ → Category → ℕ → Answer
+answer_to_write log air slot id serial None category load =
+    unless_accepted (message_named id serial log) (answer_to_new log slot category load)
+answer_to_write log air slot id serial (Some replaced) category load =
+    of_live slot (accepted_named id replaced log) (λ old. unless_accepted (message_named id serial log) (answer_to_replacement log air slot category load old))
 
 abbrev pub answer_to_kill : List Entry → Air → ℕ → ℕ → ℕ → Answer
 answer_to_kill log air slot id serial =
@@ -84,7 +90,7 @@ abbrev pub answer_with_room : ℕ → List Entry → Air → ℕ → Command →
 answer_with_room slots log air slot (commands.Status id serial) = told_of air slot (message_named id serial log)
 answer_with_room slots log air slot (commands.Kill id serial) = before_end slots slot (answer_to_kill log air slot id serial)
 answer_with_room slots log air slot (commands.Write id serial replaces category period broadcasts dcs contents) =
-    before_end slots slot (answer_to_write log air slot id serial replaces (load_of (length contents) period))
+    before_end slots slot (answer_to_write log air slot id serial replaces category (load_of (length contents) period))
 
 -- the answer to a command at a slot of a run of so many slots, by the entries before it and what is aired
 abbrev pub answer_of : ℕ → List Entry → Air → ℕ → Command → Answer

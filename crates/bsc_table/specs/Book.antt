@@ -25,10 +25,10 @@ use Rattle.bsc_table.specs.declared.kept.Place.{Place as KeptPlace}
 use Rattle.bsc_table.specs.declared.kept.TheConstants.{LATEST_START}
 use Rattle.bsc_table.specs.declared.book.CellBook.TheInside.{Inside}
 use Rattle.bsc_table.specs.declared.record.CellRecord.TheInside as kept
-use Rattle.bsc_table.specs.Record.{Record, Accepted, claim_of, start_of, write_message, accepted_in, messages_in, claims_in, is_high, is_of_pair, is_live}
+use Rattle.bsc_table.specs.Record.{Record, Accepted, start_of, write_message, accepted_in, messages_in, claims_in, rank_of, place_after, is_of_pair, is_live}
 use Rattle.bsc_table.specs.Begun.{IsBegun}
 use Rattle.bsc_table.specs.Claim.{Claim, own_load, end_of, is_claimed_at, claimed_at, stop_claims}
-use Rattle.bsc_table.specs.Handover.{Place, handover}
+use Rattle.bsc_table.specs.Handover.{Place}
 use Rattle.bsc_table.specs.Orders.{IsWellFormed}
 use Rattle.bsc_table.specs.Answer.{answer_at, answer_beside, answer_with_room}
 use Rattle.bsc_table.specs.Legal.{IsLegal}
@@ -65,7 +65,7 @@ accepted_of k = record {
     period = k.period;
     requested = k.broadcasts;
     stop = k.stop;
-    high = is_high k.category;
+    rank = rank_of k.category;
   };
 }
 
@@ -169,8 +169,7 @@ pub record IsOffered (r : Record) (a : Accepted) : Type 0 where
 abbrev pub IsWriteOf : Accepted → Option ℕ → Command → Type 0
 IsWriteOf a replaced (commands.Write id serial replaces category period broadcasts dcs contents) =
     (replaces ≡ replaced)
-    × (write_message a.message.number a.accepted a.message.start a.behind a.excess id serial (length contents) period
-    broadcasts (is_high category) ≡ a)
+    × (write_message a.message.number a.accepted a.message.start a.behind a.excess id serial (length contents) period broadcasts (rank_of category) ≡ a)
 IsWriteOf a replaced other = ⊥
 
 -- and with that of each such write
@@ -266,10 +265,8 @@ by_place (Some p) accepts = accepts p.start
 -- the place at which a message of that load may take over from a live one, if there is one with room: so is a write
 -- in its place answered, where that has no room now
 pub record IsLater (r : Record) (old : Accepted) (load : ℕ) (later : Option KeptPlace) : Type 0 where
-  pub answered : (accepts : ℕ → Answer)
-      → answer_at (left_by r old) r.clock accepts (handover (left_by r old) r.clock (claim_of old) load)
-      ≡ by_place later accepts
-  pub there : IfSome later (λ p. handover (left_by r old) r.clock (claim_of old) load ≡ Some (place_of p))
+  pub answered : (accepts : ℕ → Answer) → answer_at (left_by r old) r.clock accepts (place_after (left_by r old) r.clock old load) ≡ by_place later accepts
+  pub there : IfSome later (λ p. place_after (left_by r old) r.clock old load ≡ Some (place_of p))
   pub fits : IfSome later (λ p. claimed_at (left_by r old) r.clock + p.excess ≤ SCALE)
   pub soon : IfSome later (λ p. p.start < LATEST_START)
 

@@ -3,6 +3,8 @@ use Rattle.std.specs.Prelude.{ℕ, ◌+◌, ◌-◌, ◌/◌, ◌<◌, ◌≤◌
 use Rattle.std.specs.Int.{div_ceil}
 use Rattle.scheduler.specs.Message.{Message}
 use Rattle.scheduler.specs.Air.{Air, IsAirOf}
+use Rattle.scheduler.specs.AirLaws.{NumbersRise}
+use Rattle.scheduler.specs.Background.{foreground}
 use Rattle.scheduler.specs.Completed.{completed}
 use Rattle.bsc_table.specs.Guarantee.{AreAdmitted}
 
@@ -41,6 +43,15 @@ CompletedIsAtLeast = (messages : List Message) (air : Air) (slot : ℕ)
     → IsAirOf messages air
     → slot ≤ length air
     → All (λ m. least_completed m slot ≤ completed m air slot) messages
+
+-- the same of the messages that aren't background, among some that are
+abbrev pub ForegroundIsAtLeast : Type 0
+ForegroundIsAtLeast = (messages : List Message) (air : Air) (slot : ℕ)
+    → NumbersRise messages
+    → AreAdmitted (foreground messages)
+    → IsAirOf messages air
+    → slot ≤ length air
+    → All (λ m. least_completed m slot ≤ completed m air slot) (foreground messages)
 
 -- the two bounds differ by one at most: only the broadcast whose period isn't over is in doubt
 abbrev pub BoundsAreNear : Type 0

@@ -4,6 +4,7 @@ use Rattle.std.specs.Prelude.{ℕ, ◌<◌, ◌≤◌, ◌==◌, Bool, ◌&&◌,
 use Rattle.admission.specs.Load.{load_of}
 use Rattle.admission.specs.Reservation.{IsBeforeEnd, is_before_end, end_of_reservation}
 use Rattle.scheduler.specs.Message.{Message, stopped_if}
+use Rattle.scheduler.specs.Air.{layer}
 
 -- a message with the slot in which it was accepted, the number of the message behind which it waits up to its start,
 -- if it took over, and the load that it reserves up to its start
@@ -27,6 +28,10 @@ IsClaimedAt c slot = (c.accepted ≤ slot) × IsBeforeEnd slot (end_of c.message
 
 abbrev pub is_claimed_at : ℕ → Claim → Bool
 is_claimed_at slot c = nat_le c.accepted slot && is_before_end slot (end_of c.message)
+
+-- a background message reserves nothing
+abbrev pub reserves : Claim → Bool
+reserves c = layer c.message == 0
 
 -- the load that it reserves at a slot: the excess before its start, its own load from its start on
 abbrev pub share_at : ℕ → Claim → ℕ

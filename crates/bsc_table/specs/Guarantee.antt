@@ -5,7 +5,9 @@ use Rattle.admission.specs.declared.measure.TheConstants.{SCALE}
 use Rattle.admission.specs.Load.{load_of}
 use Rattle.admission.specs.Reservation.{Reservation, IsReservedAt, loads_at, end_of_reservation}
 use Rattle.scheduler.specs.Message.{Message, release, due, HasBroadcast, IsBeforeStop, has_broadcast, is_before_stop}
-use Rattle.scheduler.specs.Air.{Air, pages_aired, IsPending, next_page, IsAirOf}
+use Rattle.scheduler.specs.Air.{Air, layer, pages_aired, IsPending, next_page, IsAirOf}
+use Rattle.scheduler.specs.AirLaws.{NumbersRise}
+use Rattle.scheduler.specs.Background.{foreground}
 use Rattle.scheduler.specs.Completed.{IsWhole}
 
 -- what a message has reserved: its load, from its start up to the end that its period, its requested broadcasts and its
@@ -22,10 +24,12 @@ reservation_of m = record {
 abbrev pub LoadsFit : List Message → Type 0
 LoadsFit messages = (slot : ℕ) → loads_at (map reservation_of messages) slot ≤ SCALE
 
--- messages as a cell admits them: each later one has a greater number, each has a period, and their loads fit
+-- messages as a cell admits them: each later one has a greater number, each has a period, none is background, and their
+-- loads fit
 pub record AreAdmitted (messages : List Message) : Type 0 where
   pub rising : AllPairs (λ a b. a.number < b.number) messages
   pub periods : All (λ m. 0 < m.period) messages
+  pub foreground : All (λ m. layer m ≡ 0) messages
   pub fit : LoadsFit messages
 
 -- the slot comes no later than the stop, or there is none
@@ -76,9 +80,10 @@ abbrev pub HasBusyPeriod : List Message → Air → Message → ℕ → Type 0
 HasBusyPeriod messages air m j =
     (from : ℕ) × (from ≤ release m j) × ((slot : ℕ) → from ≤ slot → slot < due m j → AirsOneWithin messages air from (due m j) slot)
 
--- an uncut broadcast that lacks a page by its due slot has such a busy period
+-- where none is background, an uncut broadcast that lacks a page by its due slot has such a busy period
 abbrev pub LackMeansABusyPeriod : Type 0
 LackMeansABusyPeriod = (messages : List Message) (air : Air)
+    → All (λ m. layer m ≡ 0) messages
     → IsAirOf messages air
     → All (λ m. (j : ℕ) → IsUncut m j air → pages_aired m.number air (release m j) (due m j) < m.pages → HasBusyPeriod messages air m j) messages
 
@@ -96,3 +101,12 @@ AdmittedBroadcastsAreWhole = (messages : List Message) (air : Air) (slot : ℕ)
     → AreAdmitted messages
     → IsAirOf messages air
     → All (λ m. (j : ℕ) → IsUncut m j air → due m j ≤ slot → IsWhole m j air slot) messages
+
+-- among background messages, which reserve nothing: where those that aren't background are admitted, each uncut broadcast
+-- of these has all its pages aired between its release and its due slot
+abbrev pub ForegroundIsServed : Type 0
+ForegroundIsServed = (messages : List Message) (air : Air)
+    → NumbersRise messages
+    → AreAdmitted (foreground messages)
+    → IsAirOf messages air
+    → All (λ m. (j : ℕ) → IsUncut m j air → pages_aired m.number air (release m j) (due m j) ≡ m.pages) (foreground messages)

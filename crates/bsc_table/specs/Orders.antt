@@ -8,7 +8,7 @@ use Rattle.cbsp_wire.specs.declared.message.Cell.{Cell}
 use Rattle.cbsp_wire.specs.declared.message.Message.{Message}
 use Rattle.cbsp_wire.specs.declared.message.Message.TheVariants as messages
 use Rattle.bsc_table.specs.declared.command.Category.{Category}
-use Rattle.bsc_table.specs.declared.command.Category.TheVariants.{High, Normal}
+use Rattle.bsc_table.specs.declared.command.Category.TheVariants.{High, Normal, Background}
 use Rattle.bsc_table.specs.declared.command.Command.{Command}
 use Rattle.bsc_table.specs.declared.command.Command.TheVariants as commands
 
@@ -35,10 +35,10 @@ IsWellFormed (commands.Write id serial replaces category period broadcasts dcs c
 IsWellFormed (commands.Kill id serial) = ⊤
 IsWellFormed (commands.Status id serial) = ⊤
 
--- the category: 0 high, 2 normal, absent normal; 1, background, isn't taken
+-- the category: 0 high, 1 background, 2 normal, absent normal
 abbrev pub category_of : Option ℕ → Option Category
 category_of None = Some Normal
-category_of (Some n) = if n == 0 then Some High else if n == 2 then Some Normal else None
+category_of (Some n) = if n == 0 then Some High else if n == 1 then Some Background else if n == 2 then Some Normal else None
 
 -- the basic channel: 0, or absent
 abbrev pub is_basic : Option ℕ → Bool

@@ -1,7 +1,8 @@
 -- What a cell promises of the messages that it accepted (own): of each legal history, with no other premise.
 use Rattle.std.specs.Prelude.{◌≡◌, ℕ, ◌≤◌, false, All, AllPairs}
 use Rattle.scheduler.specs.Message.{release, due}
-use Rattle.scheduler.specs.Air.{pages_aired}
+use Rattle.scheduler.specs.Air.{layer, pages_aired}
+use Rattle.scheduler.specs.Background.{foreground}
 use Rattle.scheduler.specs.Completed.{completed}
 use Rattle.scheduler.specs.Pages.{times_between}
 use Rattle.bsc_table.specs.Guarantee.{LoadsFit, IsUncut}
@@ -19,21 +20,23 @@ LegalPairsComeOnce = (r : Record) → IsLegal r → AllPairs (λ a b. is_of_pair
 abbrev pub LegalClaimsFit : Type 0
 LegalClaimsFit = (r : Record) → IsLegal r → AreInOrder (claims_in r.log) r.clock × ClaimsFit (claims_in r.log)
 
--- so the loads that the accepted messages have reserved from their starts on sum to at most SCALE at each slot
+-- so the loads that the accepted messages but those of background have reserved from their starts on sum to at most SCALE
+-- at each slot
 abbrev pub LegalLoadsFit : Type 0
-LegalLoadsFit = (r : Record) → IsLegal r → LoadsFit (messages_in r.log)
+LegalLoadsFit = (r : Record) → IsLegal r → LoadsFit (foreground (messages_in r.log))
 
--- each broadcast of an accepted message that was requested, that no stop cuts, and that is due by the clock was aired
+-- each broadcast of an accepted message that isn't background, that was requested, that no stop cuts, and that is due by the clock was aired
 -- whole: from its release up to its due slot the cell aired as many pages of the message as it has
 abbrev pub IsServed : Record → Type 0
 IsServed r =
-    All (λ m. (j : ℕ) → IsUncut m j r.air → pages_aired m.number r.air (release m j) (due m j) ≡ m.pages) (messages_in r.log)
+    All (λ m. (j : ℕ) → IsUncut m j r.air → pages_aired m.number r.air (release m j) (due m j) ≡ m.pages) (foreground (messages_in r.log))
 
--- before each slot up to the clock, the number of whole broadcasts of an accepted message lies between its bounds
+-- before each slot up to the clock, the number of whole broadcasts of an accepted message lies between its bounds; of a
+-- background message it may be less
 abbrev pub IsBounded : Record → Type 0
 IsBounded r =
     All (λ m. (slot : ℕ) → slot ≤ r.clock
-    → (least_completed m slot ≤ completed m r.air slot) × (completed m r.air slot ≤ most_completed m slot)) (messages_in r.log)
+    → (layer m ≡ 0 → least_completed m slot ≤ completed m r.air slot) × (completed m r.air slot ≤ most_completed m slot)) (messages_in r.log)
 
 -- both are true of each legal history
 abbrev pub LegalHistoriesAreServed : Type 0
@@ -47,4 +50,4 @@ abbrev pub LegalPagesAreAiredOnce : Type 0
 LegalPagesAreAiredOnce = (r : Record)
     → IsLegal r
     → All (λ m. (j page : ℕ) → IsUncut m j r.air → 1 ≤ page → page ≤ m.pages
-    → times_between m.number page r.air (release m j) (due m j) ≡ 1) (messages_in r.log)
+    → times_between m.number page r.air (release m j) (due m j) ≡ 1) (foreground (messages_in r.log))

@@ -1,11 +1,13 @@
 -- A cell's record, and the messages that its log accepted (own).
-use Rattle.std.specs.Prelude.{ℕ, ◌+◌, ◌-◌, ◌*◌, Bool, true, false, ◌==◌, ◌&&◌, ◌||◌, not, nat_lt, if◌then◌else◌, Option, Some, None, is_some, List, [], ◌∷◌, ◌++◌, length, map, find}
+use Rattle.std.specs.Prelude.{ℕ, ◌+◌, ◌-◌, ◌*◌, Bool, true, false, ◌==◌, ◌&&◌, ◌||◌, not, nat_lt, if◌then◌else◌, Option, Some, None, is_some, List, [], ◌∷◌, ◌++◌, length, map, filter, find}
 use Rattle.admission.specs.Load.{load_of}
 use Rattle.cbsp_wire.specs.declared.message.Cell.{Cell}
+use Rattle.scheduler.specs.declared.plan.Rank.{Rank}
+use Rattle.scheduler.specs.declared.plan.Rank.TheVariants as ranks
 use Rattle.scheduler.specs.Message.{Message}
-use Rattle.scheduler.specs.Air.{Air}
+use Rattle.scheduler.specs.Air.{Air, layer}
 use Rattle.bsc_table.specs.declared.command.Category.{Category}
-use Rattle.bsc_table.specs.declared.command.Category.TheVariants.{High, Normal}
+use Rattle.bsc_table.specs.declared.command.Category.TheVariants.{High, Normal, Background}
 use Rattle.bsc_table.specs.declared.command.Command.{Command}
 use Rattle.bsc_table.specs.declared.command.Command.TheVariants as commands
 use Rattle.bsc_table.specs.declared.entry.Answer.{Answer}
@@ -13,8 +15,8 @@ use Rattle.bsc_table.specs.declared.entry.Answer.TheVariants as answers
 use Rattle.bsc_table.specs.declared.entry.State.{State}
 use Rattle.bsc_table.specs.declared.entry.State.TheVariants as states
 use Rattle.bsc_table.specs.declared.entry.Entry.{Entry}
-use Rattle.bsc_table.specs.Claim.{Claim, own_load}
-use Rattle.bsc_table.specs.Handover.{ahead_of, numbered}
+use Rattle.bsc_table.specs.Claim.{Claim, own_load, reserves}
+use Rattle.bsc_table.specs.Handover.{Place, ahead_of, numbered, handover}
 
 -- a cell's record: how many slots its run has, how many of them were played, the commands that were answered, in order, and
 -- what each played slot aired
@@ -40,8 +42,9 @@ pub record Accepted : Type 0 where
 abbrev pub claim_of : Accepted → Claim
 claim_of a = record { message = a.message; accepted = a.accepted; behind = a.behind; excess = a.excess }
 
+-- of some accepted messages those that aren't background
 abbrev pub claims_of : List Accepted → List Claim
-claims_of all = map claim_of all
+claims_of all = filter reserves (map claim_of all)
 
 -- the slot from which a write's message stands, where the answer accepts it: a later one than its own where the message
 -- takes over from the one that it replaces
@@ -50,9 +53,16 @@ start_of (answers.Started slot) = Some slot
 start_of (answers.Replaced slot completed) = Some slot
 start_of other = None
 
-abbrev pub is_high : Category → Bool
-is_high High = true
-is_high Normal = false
+-- the rank of a message as the schedule sees it, by its category
+abbrev pub rank_of : Category → Rank
+rank_of High = ranks.High
+rank_of Normal = ranks.Normal
+rank_of Background = ranks.Background
+
+abbrev pub is_background : Category → Bool
+is_background High = false
+is_background Normal = false
+is_background Background = true
 
 -- whether an entry stopped the message of this pair: a kill of it that was answered `Stopped`, or a write in its place that
 -- was answered `Replaced`
@@ -90,6 +100,11 @@ abbrev pub behind_of : ℕ → ℕ → Option Accepted → Option ℕ
 behind_of slot start None = None
 behind_of slot start (Some old) = if start == slot then None else ahead_of slot (claim_of old)
 
+-- the place that a replacement of the old message may take over at the slot, in claims in which the old one is stopped:
+-- none where that is background, behind which nothing waits
+abbrev pub place_after : List Claim → ℕ → Accepted → ℕ → Option Place
+place_after claims slot old load = if layer old.message == 0 then handover claims slot (claim_of old) load else None
+
 -- what a load has over that of the message behind which it waits; 0 where there is none, or where it has less
 abbrev pub excess_over : ℕ → Option Claim → ℕ
 excess_over load None = 0
@@ -97,8 +112,8 @@ excess_over load (Some p) = load - own_load p.message
 
 -- a write's message, which stands: its place in the log, the slots of its acceptance and of its start, behind which it
 -- waits and with what excess, its pair, and what is broadcast
-abbrev pub write_message : ℕ → ℕ → ℕ → Option ℕ → ℕ → ℕ → ℕ → ℕ → ℕ → ℕ → Bool → Accepted
-write_message place slot start behind excess id serial pages period broadcasts high = record {
+abbrev pub write_message : ℕ → ℕ → ℕ → Option ℕ → ℕ → ℕ → ℕ → ℕ → ℕ → ℕ → Rank → Accepted
+write_message place slot start behind excess id serial pages period broadcasts rank = record {
   id = id;
   serial = serial;
   accepted = slot;
@@ -111,22 +126,20 @@ write_message place slot start behind excess id serial pages period broadcasts h
     period = period;
     requested = broadcasts;
     stop = None;
-    high = high;
+    rank = rank;
   };
 }
 
 -- the message that a write of the pair adds to those accepted before, by the message behind which it waits
-abbrev pub written_behind : List Accepted → ℕ → ℕ → ℕ → Option ℕ → ℕ → ℕ → ℕ → ℕ → ℕ → Bool → Accepted
-written_behind all place slot start behind id serial pages period broadcasts high =
-    let excess = excess_over (load_of pages period) (numbered behind (claims_of all)) in
-    write_message place slot start behind excess id serial pages period broadcasts high
+abbrev pub written_behind : List Accepted → ℕ → ℕ → ℕ → Option ℕ → ℕ → ℕ → ℕ → ℕ → ℕ → Rank → Accepted
+written_behind all place slot start behind id serial pages period broadcasts rank =
+    write_message place slot start behind (excess_over (load_of pages period) (numbered behind (claims_of all))) id serial pages period broadcasts rank
 
 -- the message that an entry at this place of the log and at this slot adds to those accepted before, by its start and
 -- its command: a write's that was accepted
 abbrev pub added_by : List Accepted → ℕ → ℕ → Option ℕ → Command → List Accepted
 added_by all place slot (Some start) (commands.Write id serial replaces category period broadcasts dcs contents) =
-    let behind = behind_of slot start (replaced_in all id replaces) in
-    written_behind all place slot start behind id serial (length contents) period broadcasts (is_high category) ∷ []
+    written_behind all place slot start (behind_of slot start (replaced_in all id replaces)) id serial (length contents) period broadcasts (rank_of category) ∷ []
 added_by all place slot start command = []
 
 -- the accepted messages after one more entry, at this place of the log: those before it, stopped where it stops them,

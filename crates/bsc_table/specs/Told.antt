@@ -1,6 +1,6 @@
 -- The numbers of whole broadcasts that a cell tells (own): each is that of the message that was asked about, in the end too.
 use Rattle.std.specs.Prelude.{◌≡◌, ℕ, ◌≤◌, Option, Some, None, All, Any}
-use Rattle.scheduler.specs.Air.{Air}
+use Rattle.scheduler.specs.Air.{Air, layer}
 use Rattle.scheduler.specs.Completed.{completed}
 use Rattle.bsc_table.specs.declared.command.Command.{Command}
 use Rattle.bsc_table.specs.declared.command.Command.TheVariants as commands
@@ -24,11 +24,12 @@ IsAbout id serial (commands.Write of_id new replaces category period broadcasts 
 IsAbout id serial (commands.Kill of_id of_serial) = (of_id ≡ id) × (of_serial ≡ serial)
 IsAbout id serial (commands.Status of_id of_serial) = (of_id ≡ id) × (of_serial ≡ serial)
 
--- the number that an entry tells is that of the message's broadcasts that are whole before its slot, and lies between its bounds
+-- the number that an entry tells is that of the message's broadcasts that are whole before its slot, and lies between its
+-- bounds; of a background message it may be less
 pub record IsTrulyTold (air : Air) (e : Entry) (told : ℕ) (a : Accepted) : Type 0 where
   pub about : IsAbout a.id a.serial e.command
   pub exact : told ≡ completed a.message air e.slot
-  pub least : least_completed a.message e.slot ≤ told
+  pub least : layer a.message ≡ 0 → least_completed a.message e.slot ≤ told
   pub most : told ≤ most_completed a.message e.slot
 
 -- each number that a legal history tells is so told of an accepted message, whatever was entered and aired after it

@@ -1,6 +1,6 @@
 //! The book of a cell: a legal history at all times.
 
-ghost use Rattle.std.specs.Prelude.{◌≡◌, ◌≢◌, ◌⊎◌, ℕ, Some, None, IfSome, true, false, ◌+◌, ◌<◌, ◌≤◌, ◌==◌, [], ◌∷◌, ◌++◌, length, map, filter, IfOk, IfErr, OnOk, OnErr, min, vec_len, vec_capacity};
+ghost use Rattle.std.specs.Prelude.{◌≡◌, ◌≢◌, ◌⊎◌, ℕ, Some, None, IfSome, true, false, ◌+◌, ◌<◌, ◌≤◌, ◌==◌, [], ◌∷◌, ◌++◌, length, map, filter, if◌then◌else◌, IfOk, IfErr, OnOk, OnErr, min, vec_len, vec_capacity};
 ghost use Rattle.std.specs.List.{All, Any, Contains, find};
 ghost use Rattle.std.specs.Option.{MatchOption, option_map};
 ghost use Rattle.scheduler.specs.Completed.{completed};
@@ -9,9 +9,8 @@ ghost use Rattle.bsc_table.specs.declared.command.Command.TheVariants as command
 ghost use Rattle.bsc_table.specs.declared.kept.TheConstants.{LATEST_START};
 ghost use Rattle.bsc_table.specs.Claim.{stop_claims, is_claimed_at};
 ghost use Rattle.admission.specs.Load.{load_of};
-ghost use Rattle.bsc_table.specs.Record.{Record, accepted_in, is_of_pair, message_named, claim_of, claims_in};
+ghost use Rattle.bsc_table.specs.Record.{Record, accepted_in, is_of_pair, is_background, place_after, message_named, claim_of, claims_in};
 ghost use Rattle.bsc_table.specs.Answer.{told_of, answer_to_kill, answer_to_write, before_end, answer_with_room, answer_of};
-ghost use Rattle.bsc_table.specs.Handover.{handover};
 ghost use Rattle.bsc_table.specs.Orders.{IsWellFormed};
 ghost use Rattle.bsc_table.specs.Legal.{IsLegal};
 ghost use Rattle.bsc_table.specs.Promised.{IsServed, IsBounded};
@@ -163,6 +162,7 @@ impl CellBook {
     /// - cause 02 where the message to stop or to replace isn't live;
     /// - to a kill, `Stopped`;
     /// - cause 0D where a message of the pair was accepted before;
+    /// - `Started`, or `Replaced`, where the new message is background, which reserves nothing;
     /// - cause 07 where 64 messages are reserved, the one to replace being stopped;
     /// - `Started`, or `Replaced` where one is replaced, where the load fits beside those that are then reserved;
     /// - `Replaced` at a later slot where the message takes over: it starts where the reservation of the message ahead of
@@ -422,7 +422,7 @@ impl CellBook {
         requires offered { IsOffered self.now (accepted_of new) }
         ensures right { decided_answer result
             ≡ before_end self.now.slots self.now.clock (answer_to_write self.now.log self.now.air self.now.clock new.id
-            new.serial replaces (load_of new.pages new.period)) }
+            new.serial replaces new.category (load_of new.pages new.period)) }
         ensures decides { DecidesWrites self.now (accepted_of new) replaces result }
     {
         if self.is_over() {
@@ -438,12 +438,15 @@ impl CellBook {
     fn decide_new(&self, new: Kept) -> Decision
         requires { IsOffered self.now (accepted_of new) }
         ensures right { decided_answer result
-            ≡ answer_to_write self.now.log self.now.air self.now.clock new.id new.serial None
+            ≡ answer_to_write self.now.log self.now.air self.now.clock new.id new.serial None new.category
             (load_of new.pages new.period) }
         ensures decides { DecidesWrites self.now (accepted_of new) None result }
     {
         if self.named(new.id, new.serial).is_some() {
             return Decision::Noted(Answer::Cause(ACCEPTED_BEFORE));
+        }
+        if new.category.is_background() {
+            return Decision::Starts { new };
         }
         match self.room(new.load()) {
             Ok(()) => Decision::Starts { new },
@@ -456,7 +459,7 @@ impl CellBook {
         requires legal { IsLegal self.now }
         requires offered { IsOffered self.now (accepted_of new) }
         ensures right { decided_answer result
-            ≡ answer_to_write self.now.log self.now.air self.now.clock new.id new.serial (Some replaced)
+            ≡ answer_to_write self.now.log self.now.air self.now.clock new.id new.serial (Some replaced) new.category
             (load_of new.pages new.period) }
         ensures decides { DecidesWrites self.now (accepted_of new) (Some replaced) result }
     {
@@ -465,6 +468,11 @@ impl CellBook {
             Some(_) if self.named(new.id, new.serial).is_some() => {
                 Decision::Noted(Answer::Cause(ACCEPTED_BEFORE))
             }
+            Some(old) if new.category.is_background() => Decision::Replaces {
+                old,
+                new,
+                completed: self.completed(&old),
+            },
             Some(old) => match self.room_without(&old, new.load()) {
                 Ok(()) => Decision::Replaces {
                     old,
@@ -518,11 +526,14 @@ impl CellBook {
     fn place_after(&self, old: &Kept, load: u64) -> Option<Place>
         requires { IsLiveIn self.now (accepted_of old.now) }
         ensures place { option_map place_of result
-            ≡ handover (left_by self.now (accepted_of old.now)) self.now.clock (claim_of (accepted_of old.now)) load }
+            ≡ place_after (left_by self.now (accepted_of old.now)) self.now.clock (accepted_of old.now) load }
         ensures soon { IfSome result (λ place. place.start < LATEST_START) }
     {
+        if old.category.is_background() {
+            return None;
+        }
         let number = old.ahead_at(self.clock)?;
-        let ahead = kept::numbered(self.accepted.as_slice(), number)?;
+        let ahead = kept::reserved(self.accepted.as_slice(), number)?;
         let stopped = ahead.stopped_if(old.number, self.clock);
         stopped.place_behind(self.clock, load)
     }
@@ -531,8 +542,8 @@ impl CellBook {
     /// message counts as stopped.
     fn room_behind(&self, old: &Kept, load: u64, place: Place) -> Result<(), NoRoom>
         requires live { IsLiveIn self.now (accepted_of old.now) }
-        requires place { handover (left_by self.now (accepted_of old.now)) self.now.clock
-            (claim_of (accepted_of old.now)) load ≡ Some (place_of place) }
+        requires place { place_after (left_by self.now (accepted_of old.now)) self.now.clock (accepted_of old.now) load
+            ≡ Some (place_of place) }
         ensures { IsRoom (left_by self.now (accepted_of old.now)) self.now.clock place.excess result }
     {
         self.budget
@@ -570,29 +581,37 @@ impl CellBook {
     }
 }
 
-/// Gives the reservation of a message that is stopped at `slot` its end. None waits behind a message that is stopped
-/// now.
+/// Gives the reservation of a message that is stopped at `slot` its end, unless it is background, which has none. None
+/// waits behind a message that is stopped now.
 fn release(budget: &mut Budget, old: &Kept, slot: u16)
     requires period { 0 < old.now.period }
-    requires reserved { Any (λ h. h.entry ≡ old.now.number) budget.old }
-    requires free { All (λ h. behind_of h ≢ Some old.now.number) budget.old }
-    ensures { budget.new
-        ≡ passed slot (ends_at old.now.number (end_of_stopped old.now.start old.now.period slot) budget.old) }
+    requires reserved { is_background old.now.category ≡ false → Any (λ h. h.entry ≡ old.now.number) budget.old }
+    requires free { is_background old.now.category ≡ false → All (λ h. behind_of h ≢ Some old.now.number) budget.old }
+    ensures { budget.new ≡ (if is_background old.now.category then budget.old
+        else passed slot (ends_at old.now.number (end_of_stopped old.now.start old.now.period slot) budget.old)) }
 {
+    if old.category.is_background() {
+        return;
+    }
     budget.release_at(old.number, old.end_if_stopped(slot));
     budget.pass_slot(slot);
 }
 
-/// Reserves what a message takes that was accepted at `slot`: its load from now on, or, where it waits behind another
-/// one, its excess up to its start and its load from there on.
+/// Reserves what a message takes that was accepted at `slot`: its load from now on, or, where it waits behind another one,
+/// its excess up to its start and its load from there on; nothing where it is background.
 fn reserve_for(budget: &mut Budget, new: &Kept, slot: u16)
     requires period { 0 < new.now.period }
     requires soon { new.now.start < LATEST_START }
     requires standing { new.now.stop ≡ None }
     requires unreserved { All (λ h. h.entry ≢ new.now.number) budget.old }
-    requires room { HasRoomFor slot budget.old (claim_of (accepted_of new.now)) new.now.behind }
-    ensures { budget.new ≡ budget.old ++ line_of slot (claim_of (accepted_of new.now)) ∷ [] }
+    requires room { is_background new.now.category ≡ false
+        → HasRoomFor slot budget.old (claim_of (accepted_of new.now)) new.now.behind }
+    ensures { budget.new ≡ (if is_background new.now.category then budget.old
+        else budget.old ++ line_of slot (claim_of (accepted_of new.now)) ∷ []) }
 {
+    if new.category.is_background() {
+        return;
+    }
     let end = new.natural_end();
     let _ = match new.behind {
         None => budget.reserve(new.number, new.load(), end),

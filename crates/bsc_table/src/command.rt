@@ -2,10 +2,11 @@
 
 ghost use Rattle.std.specs.Prelude.{◌≡◌, IfOk, IfErr};
 ghost use Rattle.bsc_table.specs.Orders.{IsWrite};
-ghost use Rattle.bsc_table.specs.Record.{is_high};
+ghost use Rattle.bsc_table.specs.Record.{rank_of, is_background};
 
 use cbs_page::{Dcs, Serial};
 use cbsp_wire::Contents;
+use scheduler::Rank;
 use std::alloc::{AllocError, Global};
 use thiserror::Error;
 
@@ -34,16 +35,29 @@ pub enum Category {
     High,
     /// Normal.
     Normal,
+    /// Background: aired only in slots that nothing else needs.
+    Background,
 }
 
 impl Category {
-    /// Whether it is the high one.
-    pub(crate) fn is_high(self) -> bool
-        ensures { result ≡ is_high self }
+    /// The rank of its messages in the schedule.
+    pub(crate) fn rank(self) -> Rank
+        ensures { result ≡ rank_of self }
     {
         match self {
-            Category::High => true,
-            Category::Normal => false,
+            Category::High => Rank::High,
+            Category::Normal => Rank::Normal,
+            Category::Background => Rank::Background,
+        }
+    }
+
+    /// Whether its messages reserve nothing, and are aired only where nothing else is pending.
+    pub(crate) fn is_background(self) -> bool
+        ensures { result ≡ is_background self }
+    {
+        match self {
+            Category::High | Category::Normal => false,
+            Category::Background => true,
         }
     }
 }

@@ -1,11 +1,12 @@
 //! What a cell's book keeps of the messages that it accepted.
 
-ghost use Rattle.std.specs.Prelude.{◌≡◌, ◌<◌, ◌==◌, if◌then◌else◌, Some, None, IfSome, map};
+ghost use Rattle.std.specs.Prelude.{◌≡◌, ◌<◌, ◌==◌, ◌&&◌, if◌then◌else◌, Some, None, IfSome, map};
 ghost use Rattle.std.specs.List.{find};
 ghost use Rattle.std.specs.Option.{option_map};
 ghost use Rattle.admission.specs.Load.{load_of};
 ghost use Rattle.admission.specs.Reservation.{natural_end, end_of_stopped};
 ghost use Rattle.scheduler.specs.Follows.{message_from};
+ghost use Rattle.scheduler.specs.Air.{layer};
 ghost use Rattle.bsc_table.specs.Record.{is_of_pair, is_live, state_at, claim_of};
 ghost use Rattle.bsc_table.specs.Handover.{ahead_of, place_before};
 ghost use Rattle.bsc_table.specs.declared.kept.TheConstants.{LATEST_START};
@@ -72,7 +73,7 @@ impl Kept {
             pages: self.pages,
             period: self.period,
             broadcasts: self.broadcasts,
-            high: self.category.is_high(),
+            rank: self.category.rank(),
         }
     }
 
@@ -209,12 +210,12 @@ pub fn named(table: &[Kept], id: u16, serial: Serial) -> Option<Kept>
     None
 }
 
-/// The message of a number, if there is one.
-pub fn numbered(table: &[Kept], number: u16) -> Option<Kept>
-    ensures { option_map accepted_of result ≡ find (λ a. a.message.number == number) (map accepted_of table.now) }
+/// The message of a number that reserves, if there is one: that isn't background.
+pub fn reserved(table: &[Kept], number: u16) -> Option<Kept>
+    ensures { option_map accepted_of result ≡ find (λ a. (a.message.number == number) && (layer a.message == 0)) (map accepted_of table.now) }
 {
     for kept in table {
-        if kept.number == number {
+        if kept.number == number && !kept.category.is_background() {
             return Some(*kept);
         }
     }

@@ -1,9 +1,9 @@
 //! The guarantee and the laws that it stands on, over the definitions of load and air alone; and what it comes to for a cell's
 //! legal history.
 
-ghost use Rattle.bsc_table.specs.Guarantee.{ReservationsCoverBroadcasts, DemandIsNoMoreThanTheSlots, LackMeansABusyPeriod, AdmittedLoadIsAGuarantee, AdmittedBroadcastsAreWhole};
+ghost use Rattle.bsc_table.specs.Guarantee.{ReservationsCoverBroadcasts, DemandIsNoMoreThanTheSlots, LackMeansABusyPeriod, AdmittedLoadIsAGuarantee, AdmittedBroadcastsAreWhole, ForegroundIsServed};
 ghost use Rattle.bsc_table.specs.Room.{ReservedNeverRises, StopKeepsRoom, StartKeepsRoom, TakeoverKeepsRoom, WaitingPassesItsStart};
-ghost use Rattle.bsc_table.specs.Bounds.{CompletedIsAtMost, CompletedIsAtLeast, BoundsAreNear};
+ghost use Rattle.bsc_table.specs.Bounds.{CompletedIsAtMost, CompletedIsAtLeast, ForegroundIsAtLeast, BoundsAreNear};
 ghost use Rattle.bsc_table.specs.Promised.{LegalPairsComeOnce, LegalClaimsFit, LegalLoadsFit, LegalHistoriesAreServed, LegalHistoriesAreBounded, LegalPagesAreAiredOnce};
 ghost use Rattle.bsc_table.specs.Refusals.{RefusalsChangeNothing, AcceptedEntriesAreAll};
 ghost use Rattle.bsc_table.specs.Written.{AcceptedAreWrites, UsesAreOfWrites, AcceptedRise, AcceptedHaveLoads};
@@ -30,6 +30,9 @@ pub fn guarantee()
 
     // In the words of the completed number: from its due slot on, each counts as whole.
     ensures admitted_broadcasts_are_whole { AdmittedBroadcastsAreWhole }
+
+    // Background messages, which reserve nothing, take no page from the others.
+    ensures foreground_is_served { ForegroundIsServed }
 {}
 
 /// What keeps room at every slot, also where a message that is accepted has to wait for its start: up to then it
@@ -62,6 +65,9 @@ pub fn completed_bounds()
 
     // Each broadcast counts whose period was over, where the reserved loads fit and each slot airs what the air rule says.
     ensures completed_is_at_least { CompletedIsAtLeast }
+
+    // Of messages that aren't background, that is so also among background messages, of which nothing is admitted.
+    ensures foreground_is_at_least { ForegroundIsAtLeast }
 
     // So the number is known up to one: only the broadcast under way, or cut by the stop, is in doubt.
     ensures bounds_are_near { BoundsAreNear }

@@ -7,14 +7,15 @@ ghost use Rattle.bsc_table.specs.Orders.{IsWellFormed, order_of, category_of, is
 use crate::command::{Category, Command};
 use cbsp_wire::{Cell, Message};
 
-/// The category that a value stands for: 0 high, 2 normal, and normal where it is absent. None for 1, background, and for any
-/// other value.
+/// The category that a value stands for: 0 high, 1 background, 2 normal, and normal where it is absent. None for any other
+/// value.
 fn category_of(value: Option<u8>) -> Option<Category>
     ensures { result ≡ category_of value }
 {
     match value {
         None | Some(2) => Some(Category::Normal),
         Some(0) => Some(Category::High),
+        Some(1) => Some(Category::Background),
         Some(_) => None,
     }
 }
@@ -34,7 +35,7 @@ fn is_basic(channel: Option<u8>) -> bool
 /// # Errors
 ///
 /// The first of these causes (3GPP TS 48.049, 8.2, Cause) that applies: 04 for a reply, which is no order; 01 for a category
-/// other than high and normal; 0C for a channel other than the basic one.
+/// other than high, background and normal; 0C for a channel other than the basic one.
 //
 // Longer than others for the fields of a write, which it names twice.
 pub fn orders_of(message: Message) -> Result<(Vec<Cell>, Command), u8>

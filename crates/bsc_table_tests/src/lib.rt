@@ -4,6 +4,8 @@
 #[cfg(test)]
 mod airs;
 #[cfg(test)]
+mod background;
+#[cfg(test)]
 mod messages;
 #[cfg(test)]
 mod orders;

@@ -134,11 +134,12 @@ fn a_kill_is_an_order_to_its_cells(rt: HostRuntime) -> Result<(), Fail> {
 }
 
 #[test]
-fn background_and_the_extended_channel_are_refused(rt: HostRuntime) -> Result<(), Fail> {
+fn an_unknown_category_and_the_extended_channel_are_refused(rt: HostRuntime) -> Result<(), Fail> {
     let alloc = rt.alloc();
-    assert_eq!(rt; cause_of(write(alloc, None, Some(1))?), Some(0x01));
+    assert_eq!(rt; cause_of(write(alloc, None, Some(3))?), Some(0x01));
     assert_eq!(rt; cause_of(write(alloc, Some(1), Some(2))?), Some(0x0C));
-    assert_eq!(rt; cause_of(write(alloc, Some(1), Some(1))?), Some(0x01));
+    assert_eq!(rt; cause_of(write(alloc, Some(1), Some(1))?), Some(0x0C));
+    assert_eq!(rt; cause_of(write(alloc, Some(1), Some(3))?), Some(0x01));
     assert_eq!(rt; cause_of(kill(alloc, Some(1))?), Some(0x0C));
     Ok(())
 }
@@ -160,7 +161,7 @@ fn a_reply_is_no_order(rt: HostRuntime) -> Result<(), Fail> {
 }
 
 #[test]
-fn category_0_is_high(rt: HostRuntime) -> Result<(), Fail> {
+fn a_category_is_known_by_its_value(rt: HostRuntime) -> Result<(), Fail> {
     let alloc = rt.alloc();
     assert_eq!(rt;
         category_of(write(alloc, Some(0), Some(0))?),
@@ -169,6 +170,10 @@ fn category_0_is_high(rt: HostRuntime) -> Result<(), Fail> {
     assert_eq!(rt;
         category_of(write(alloc, Some(0), Some(2))?),
         Some(Category::Normal)
+    );
+    assert_eq!(rt;
+        category_of(write(alloc, Some(0), Some(1))?),
+        Some(Category::Background)
     );
     Ok(())
 }

@@ -64,6 +64,22 @@ pub fn standing_high(serial: u16, period: u16) -> Wish {
     }
 }
 
+/// One of the background.
+pub fn background(serial: u16, period: u16) -> Wish {
+    Wish {
+        category: Category::Background,
+        ..standing(serial, period)
+    }
+}
+
+/// One of the background in place of another.
+pub fn background_for(old: u16, serial: u16, period: u16) -> Wish {
+    Wish {
+        replaces: Some(old),
+        ..background(serial, period)
+    }
+}
+
 /// One in place of another.
 pub fn standing_for(old: u16, serial: u16, period: u16) -> Wish {
     Wish {

@@ -158,7 +158,7 @@ const ORDERS_2: [(&str, Result<&[Cell], u8>); 23] = [
         "0100007101527e51dcd95da0adbcde6221b524e5423780cdc81b34b4f5009b6703d8cfa12707fd43de341eb813b910bf\
          0d27711cea4801c6e14e73bd9d8ace900666e114e214cb58b580b73fcaee0acfc580f4ad2130af41036f6613010e080d\
          0211a6040005010000000105010c4806000207d761",
-        Err(0x01),
+        Ok(&[Cell { lac: 0, ci: 1 }]),
     ),
     (
         "010000730ed0a903bf43023f6f04000501000000011201050206000107843713010c010152e22c70cd7b0b2e0f13f855\
@@ -192,7 +192,7 @@ const ORDERS_2: [(&str, Result<&[Cell], u8>); 23] = [
         "0100006e072d000c0f0601f40e944a01014b515e947f86fada5bb845b64376167357d72cbc1b46af8e22cbd356253736\
          b8c45dca6eb057460e25793ababbf417a89556a27fca64b6c358994a8e96397872a422a47c83df4f95e6ba9e4d81d1ee\
          5598af03dd47040005010001000105011301",
-        Err(0x01),
+        Ok(&[Cell { lac: 1, ci: 1 }]),
     ),
     (
         "0100006f0ee335039b4502ce61040005010000000106000907020613010c0f0128d502f7b6e24e6d9890cdfcb4f63360\
@@ -214,7 +214,11 @@ const ORDERS_2: [(&str, Result<&[Cell], u8>); 23] = [
          ccb7a11bee3af7d3300c821eaeebb3aef131efcb330ce9417ad636c1770100fc16d3a1580005982ff770a21e2dfa2769\
          76815a59ff4dcf045eb553d2aba4ea19c647d1d33c85a114bdba81ba6ff4cfdbf6ea24affdafed61d1420c6281c5c714\
          1dfded05fa6b020a537c094f5ecbe81e0c",
-        Err(0x01),
+        Ok(&[
+            Cell { lac: 1, ci: 1 },
+            Cell { lac: 0, ci: 2 },
+            Cell { lac: 0, ci: 3 },
+        ]),
     ),
     (
         "010000c70e047403236702a9b9040009010000000100010002060002073a2713020c5b01528786916a3e848816529537\

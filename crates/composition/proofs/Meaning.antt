@@ -9,7 +9,7 @@ use Rattle.std.proofs.lemmas.List.Folds.{flat_map-map}
 use Rattle.std.proofs.Math.Seq.{take-suc}
 use Rattle.cbs_page.specs.declared.octets.PageView.{PageView}
 use Rattle.cbs_page.specs.Text.{text_of_page}
-use Rattle.scheduler.specs.Air.{Air}
+use Rattle.scheduler.specs.Air.{Air, layer}
 use Rattle.scheduler.specs.Completed.{completed}
 use Rattle.handset.specs.Reading.{Message, pages_read, shown_in}
 use Rattle.handset.specs.Counting.{whole_in}
@@ -124,12 +124,12 @@ accepted_are_meant laws r slot legal by = λ k d within.
       );
     }
   where
-    bounded : (laws : Laws) (r : Record) (slot : ℕ) → IsLegal r → slot ≤ r.clock → All (λ a. (least_completed a.message slot ≤ completed a.message r.air slot) × (completed a.message r.air slot ≤ most_completed a.message slot)) (accepted_in r.log)
+    bounded : (laws : Laws) (r : Record) (slot : ℕ) → IsLegal r → slot ≤ r.clock → All (λ a. (layer a.message ≡ 0 → least_completed a.message slot ≤ completed a.message r.air slot) × (completed a.message r.air slot ≤ most_completed a.message slot)) (accepted_in r.log)
     bounded laws r slot legal by = λ k d within.
         let long = length-map (accepted_in r.log) message in
         let same = get_or-map message (accepted_in r.log) k d d.message within in
         let both = laws.legal_histories_are_bounded r legal k d.message (omega (arith, long, within)) slot by in
-        subst (λ (m : scheduled.Message). (least_completed m slot ≤ completed m r.air slot) × (completed m r.air slot ≤ most_completed m slot)) same both
+        subst (λ (m : scheduled.Message). (layer m ≡ 0 → least_completed m slot ≤ completed m r.air slot) × (completed m r.air slot ≤ most_completed m slot)) same both
 
     was_whole : (laws : Laws) (r : Record) (slot : ℕ) → IsLegal r → (a : Accepted) → Contains (accepted_in r.log) a → {m : Message} → Any (λ b. (1 ≤ completed b.message r.air slot) × (m ≡ message_accepted r.log b)) (accepted_in r.log) → m ≡ message_accepted r.log a → 1 ≤ completed a.message r.air slot
     was_whole laws r slot legal a there is same =

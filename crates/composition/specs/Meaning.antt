@@ -6,7 +6,7 @@ use Rattle.cbs_page.specs.Coding.{alphabet_of}
 use Rattle.cbs_page.specs.declared.content.Content.{Content}
 use Rattle.cbs_page.specs.Text.{text_of_page, text_in}
 use Rattle.scheduler.specs.Message.{IsBeforeStop}
-use Rattle.scheduler.specs.Air.{airs}
+use Rattle.scheduler.specs.Air.{layer, airs}
 use Rattle.handset.specs.Reading.{pages_read, shown_in}
 use Rattle.handset.specs.Counting.{whole_in}
 use Rattle.handset.specs.Tape.{IsTape, tape_octets, most_slots}
@@ -40,10 +40,10 @@ ToldIsWholeInBlocks = (r : Record)
 
 -- what an accepted message means: of its broadcasts as many are whole in the blocks before a slot as its bounds say,
 -- which speak of its start, its period, its requested broadcasts and its stop alone; and it is shown exactly where
--- that is one or more
+-- that is one or more. Of a background message it may be less
 pub record IsMeant (r : Record) (slot : ℕ) (a : Accepted) : Type 0 where
   pub count : ℕ
-  pub least : least_completed a.message slot ≤ count
+  pub least : layer a.message ≡ 0 → least_completed a.message slot ≤ count
   pub most : count ≤ most_completed a.message slot
   pub read : whole_in (name_accepted a) (blocks_before slot r) ≡ count
   pub shown : (1 ≤ count) ↔ Contains (shown_in (blocks_before slot r)) (message_accepted r.log a)

@@ -5,13 +5,13 @@ use Rattle.std.proofs.lemmas.List.{length_push}
 use Rattle.std.proofs.lemmas.List.Elements.{All-nil, All-cons, Contains-append_right}
 use Rattle.std.proofs.lemmas.Bool.{and_parts, and_from, or_cases, leb-true, le-leb, lt-ltb, ltb-true, eqb-true, eq-eqb, false≢true}
 use Rattle.scheduler.specs.Message.{Message}
-use Rattle.scheduler.specs.Air.{Air, IsPending, IsChosen, IsAirOf, IsNoLater, class}
-use Rattle.scheduler.specs.Choice.{is_pending, is_no_later, first_of, first_pending, used_by, choice, air_of}
+use Rattle.scheduler.specs.Air.{Air, IsPending, IsChosen, IsAirOf, IsNoLater, IsServedBy, class}
+use Rattle.scheduler.specs.Choice.{is_pending, is_no_later, is_served_by, first_of, first_pending, used_by, choice, air_of}
 use Rattle.scheduler.specs.Message.{broadcast_at}
 use Rattle.scheduler.proofs.Air.{broadcast_at-released, broadcast_at-not_due, broadcast_at-only}
 use Rattle.scheduler.proofs.Message.{has_broadcast-says, has_broadcast-from, is_before_stop-says, is_before_stop-from}
-use Rattle.scheduler.proofs.Rule.{IsAirOf-next, IsNoLater-total}
-use Rattle.scheduler.proofs.Ready.{IsNoLater-same, IsNoLater-trans}
+use Rattle.scheduler.proofs.Rule.{IsAirOf-next, IsServedBy-total}
+use Rattle.scheduler.proofs.Ready.{IsServedBy-same, IsServedBy-trans}
 
 -- the tests say what the facts say
 IsPending-from_test : (m : Message) (air : Air) (slot : ℕ) → 0 < m.period → is_pending air slot m ≡ true → IsPending m (broadcast_at m slot) air slot
@@ -74,10 +74,26 @@ test_from_IsNoLater slot a b h =
       | inr same ↦ or_right _ _ (and_from _ _ (eq-eqb _ _ same.0) (le-leb _ _ same.1))
     ]
 
-IsNoLater-from_failed_test : (slot : ℕ) (a b : Message) → is_no_later slot a b ≡ false → IsNoLater b (broadcast_at b slot) a (broadcast_at a slot)
-IsNoLater-from_failed_test slot a b h =
-    elim (IsNoLater-total a b (broadcast_at a slot) (broadcast_at b slot)) [
-      | inl no_later ↦ absurd (false≢true (sym h ∙ test_from_IsNoLater slot a b no_later))
+IsServedBy-from_test : (slot : ℕ) (a b : Message) → is_served_by slot a b ≡ true → IsServedBy a (broadcast_at a slot) b (broadcast_at b slot)
+IsServedBy-from_test slot a b h =
+    elim (or_cases _ _ h) [
+      | inl above ↦ inl (ltb-true _ _ above)
+      | inr same ↦
+          let parts = and_parts _ _ same in
+          inr (eqb-true _ _ parts.0, IsNoLater-from_test slot a b parts.1)
+    ]
+
+test_from_IsServedBy : (slot : ℕ) (a b : Message) → IsServedBy a (broadcast_at a slot) b (broadcast_at b slot) → is_served_by slot a b ≡ true
+test_from_IsServedBy slot a b h =
+    elim h [
+      | inl above ↦ or_left _ _ (lt-ltb _ _ above)
+      | inr same ↦ or_right _ _ (and_from _ _ (eq-eqb _ _ same.0) (test_from_IsNoLater slot a b same.1))
+    ]
+
+IsServedBy-from_failed_test : (slot : ℕ) (a b : Message) → is_served_by slot a b ≡ false → IsServedBy b (broadcast_at b slot) a (broadcast_at a slot)
+IsServedBy-from_failed_test slot a b h =
+    elim (IsServedBy-total a b (broadcast_at a slot) (broadcast_at b slot)) [
+      | inl served ↦ absurd (false≢true (sym h ∙ test_from_IsServedBy slot a b served))
       | inr later ↦ later
     ]
 
@@ -85,32 +101,32 @@ IsNoLater-from_failed_test slot a b h =
 abbrev IsFirstIn : List Message → Air → ℕ → Option Message → Type 0
 IsFirstIn messages air slot None = All (λ m. is_pending air slot m ≡ false) messages
 IsFirstIn messages air slot (Some first) =
-    Contains messages first × (is_pending air slot first ≡ true) × All (λ m. is_pending air slot m ≡ true → IsNoLater first (broadcast_at first slot) m (broadcast_at m slot)) messages
+    Contains messages first × (is_pending air slot first ≡ true) × All (λ m. is_pending air slot m ≡ true → IsServedBy first (broadcast_at first slot) m (broadcast_at m slot)) messages
 
 IsFirstIn-cons : (messages : List Message) (air : Air) (slot : ℕ) (m : Message) (says : Bool) (rest : Option Message) → is_pending air slot m ≡ says → IsFirstIn messages air slot rest → IsFirstIn (m ∷ messages) air slot (first_of slot says m rest)
 IsFirstIn-cons messages air slot m false None is h = All-cons (λ o. is_pending air slot o ≡ false) m messages is h
 IsFirstIn-cons messages air slot m false (Some first) is h = (
   Contains-append_right (m ∷ []) messages first h.0,
   h.1,
-  All-cons (λ o. is_pending air slot o ≡ true → IsNoLater first (broadcast_at first slot) o (broadcast_at o slot)) m messages (λ e. absurd (false≢true (sym is ∙ e))) h.2,
+  All-cons (λ o. is_pending air slot o ≡ true → IsServedBy first (broadcast_at first slot) o (broadcast_at o slot)) m messages (λ e. absurd (false≢true (sym is ∙ e))) h.2,
 )
 IsFirstIn-cons messages air slot m true None is h = (
   (0, omega arith, refl),
   is,
-  All-cons (λ o. is_pending air slot o ≡ true → IsNoLater m (broadcast_at m slot) o (broadcast_at o slot)) m messages (λ e. IsNoLater-same m _) (λ k d within. λ e. absurd (false≢true (sym (h k d within) ∙ e))),
+  All-cons (λ o. is_pending air slot o ≡ true → IsServedBy m (broadcast_at m slot) o (broadcast_at o slot)) m messages (λ e. IsServedBy-same m _) (λ k d within. λ e. absurd (false≢true (sym (h k d within) ∙ e))),
 )
-IsFirstIn-cons messages air slot m true (Some first) is h = picked (is_no_later slot m first) refl
+IsFirstIn-cons messages air slot m true (Some first) is h = picked (is_served_by slot m first) refl
   where
-    picked : (says : Bool) → is_no_later slot m first ≡ says → IsFirstIn (m ∷ messages) air slot (cond says (Some m) (Some first))
+    picked : (says : Bool) → is_served_by slot m first ≡ says → IsFirstIn (m ∷ messages) air slot (cond says (Some m) (Some first))
     picked true test = (
       (0, omega arith, refl),
       is,
-      All-cons (λ o. is_pending air slot o ≡ true → IsNoLater m (broadcast_at m slot) o (broadcast_at o slot)) m messages (λ e. IsNoLater-same m _) (λ k d within. λ e. IsNoLater-trans m first (get_or messages k d) _ _ _ (IsNoLater-from_test slot m first test) (h.2 k d within e)),
+      All-cons (λ o. is_pending air slot o ≡ true → IsServedBy m (broadcast_at m slot) o (broadcast_at o slot)) m messages (λ e. IsServedBy-same m _) (λ k d within. λ e. IsServedBy-trans m first (get_or messages k d) _ _ _ (IsServedBy-from_test slot m first test) (h.2 k d within e)),
     )
     picked false test = (
       Contains-append_right (m ∷ []) messages first h.0,
       h.1,
-      All-cons (λ o. is_pending air slot o ≡ true → IsNoLater first (broadcast_at first slot) o (broadcast_at o slot)) m messages (λ e. IsNoLater-from_failed_test slot m first test) h.2,
+      All-cons (λ o. is_pending air slot o ≡ true → IsServedBy first (broadcast_at first slot) o (broadcast_at o slot)) m messages (λ e. IsServedBy-from_failed_test slot m first test) h.2,
     )
 
 first_pending-first : (messages : List Message) (air : Air) (slot : ℕ) → IsFirstIn messages air slot (first_pending messages air slot)
@@ -131,15 +147,15 @@ IsChosen-from_first messages air slot (Some first) periods h =
         broadcast_at first slot,
         record {
           pending = IsPending-from_test first air slot period h.1;
-          first = λ k d within. λ j p. no_later (get_or messages k d) (h.2 k d within) (periods k d within) j p;
+          first = λ k d within. λ j p. served (get_or messages k d) (h.2 k d within) (periods k d within) j p;
         },
         refl,
       ),
     )
   where
-    no_later : (m : Message) → (is_pending air slot m ≡ true → IsNoLater first (broadcast_at first slot) m (broadcast_at m slot)) → 0 < m.period → (j : ℕ) → IsPending m j air slot → IsNoLater first (broadcast_at first slot) m j
-    no_later m known some j p =
-        let Later : ℕ → Type 0 = λ i. IsNoLater first (broadcast_at first slot) m i in
+    served : (m : Message) → (is_pending air slot m ≡ true → IsServedBy first (broadcast_at first slot) m (broadcast_at m slot)) → 0 < m.period → (j : ℕ) → IsPending m j air slot → IsServedBy first (broadcast_at first slot) m j
+    served m known some j p =
+        let Later : ℕ → Type 0 = λ i. IsServedBy first (broadcast_at first slot) m i in
         subst Later (sym (pending_now m j air slot some p)) (known (test_from_IsPending m j air slot some p))
 
 -- each slot has a choice

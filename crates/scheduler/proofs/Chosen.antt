@@ -6,7 +6,7 @@ use Rattle.std.proofs.lemmas.List.Elements.{All-map}
 use Rattle.std.proofs.lemmas.Bool.{and_from, le-leb, lt-ltb, eqb-true, false≢true}
 use Rattle.scheduler.specs.declared.tracked.Tracked.{Tracked}
 use Rattle.scheduler.specs.Message.{release, has_broadcast}
-use Rattle.scheduler.specs.Air.{Air, airs, pages_aired, IsPending, IsChosen, IsNoLater}
+use Rattle.scheduler.specs.Air.{Air, airs, pages_aired, IsPending, IsChosen, IsServedBy}
 use Rattle.scheduler.specs.Message.{broadcast_at}
 use Rattle.scheduler.specs.Follows.{message_of, Counts}
 use Rattle.scheduler.specs.Kept.{IsFit, is_ready, IsServedFirst, IsChoice}
@@ -64,17 +64,17 @@ IsChosen-from_choice tracked air (Some used) fit counts choice =
         j,
         record {
           pending = IsPending-from_ready t air fit_t counts_t choice.4.0.ready;
-          first = All-map (λ other. (k : ℕ) → IsPending other k air (length air) → IsNoLater m j other k) message_of tracked (λ i d within. λ k pending. no_later t choice.4.0.first i d within k pending);
+          first = All-map (λ other. (k : ℕ) → IsPending other k air (length air) → IsServedBy m j other k) message_of tracked (λ i d within. λ k pending. no_later t choice.4.0.first i d within k pending);
         },
         choice.4.1 ∙ ap (λ n. (t.item.entry, n + 1)) counts_t.aired,
       ),
     )
   where
-    no_later : (t : Tracked) → All (λ other. is_ready other (length air) ≡ true → IsServedFirst (length air) t other) tracked → (i : ℕ) (d : Tracked) → i < length tracked → (k : ℕ) → IsPending (message_of (get_or tracked i d)) k air (length air) → IsNoLater (message_of t) (broadcast_at (message_of t) (length air)) (message_of (get_or tracked i d)) k
+    no_later : (t : Tracked) → All (λ other. is_ready other (length air) ≡ true → IsServedFirst (length air) t other) tracked → (i : ℕ) (d : Tracked) → i < length tracked → (k : ℕ) → IsPending (message_of (get_or tracked i d)) k air (length air) → IsServedBy (message_of t) (broadcast_at (message_of t) (length air)) (message_of (get_or tracked i d)) k
     no_later t first i d within k pending =
         let other = get_or tracked i d in
         let now = pending_is_now other air k (fit i d within) pending in
-        let P : ℕ → Type 0 = λ n. IsNoLater (message_of t) (broadcast_at (message_of t) (length air)) (message_of other) n in
+        let P : ℕ → Type 0 = λ n. IsServedBy (message_of t) (broadcast_at (message_of t) (length air)) (message_of other) n in
         subst P (sym now) (first i d within (ready_from_pending other air k (fit i d within) (counts i d within) pending))
 
 -- only a message that is ready is used

@@ -1,4 +1,5 @@
 pub mod Air
+pub mod Background
 pub mod Choice
 mod Chosen
 pub mod Completed

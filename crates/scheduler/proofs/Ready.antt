@@ -8,7 +8,7 @@ use Rattle.std.proofs.lemmas.Bool.{false≢true}
 use Rattle.std.proofs.lemmas.Option.{none-some}
 use Rattle.scheduler.specs.declared.tracked.Tracked.{Tracked}
 use Rattle.scheduler.specs.Message.{Message}
-use Rattle.scheduler.specs.Air.{IsNoLater, class}
+use Rattle.scheduler.specs.Air.{IsNoLater, IsServedBy, class}
 use Rattle.scheduler.specs.Follows.{message_of}
 use Rattle.scheduler.specs.Kept.{IsFit, HasStarted, IsServedFirst, IsFirstOf, IsEarlier, is_ready}
 use Rattle.scheduler.proofs.Counts.{is_ready-started}
@@ -41,6 +41,20 @@ IsNoLater-trans a b c i j k h g =
 pub IsNoLater-same : (a : Message) (i : ℕ) → IsNoLater a i a i
 IsNoLater-same a i = inr (refl, inr (refl, omega arith))
 
+-- the same across layers
+pub IsServedBy-trans : (a b c : Message) (i j k : ℕ) → IsServedBy a i b j → IsServedBy b j c k → IsServedBy a i c k
+IsServedBy-trans a b c i j k h g =
+    elim h [
+      | inl above ↦ elim g [ inl more ↦ inl (omega arith) | inr same ↦ inl (omega (arith, same.0)) ]
+      | inr same ↦ elim g [
+        | inl more ↦ inl (omega (arith, same.0))
+        | inr again ↦ inr (same.0 ∙ again.0, IsNoLater-trans a b c i j k same.1 again.1)
+      ]
+    ]
+
+pub IsServedBy-same : (a : Message) (i : ℕ) → IsServedBy a i a i
+IsServedBy-same a i = inr (refl, IsNoLater-same a i)
+
 -- one more that is not ready changes nothing
 pub IsFirstOf-push_not : (seen : List Tracked) (slot : ℕ) (first : Option Tracked) (x : Tracked) → is_ready x slot ≡ false → IsFirstOf seen slot first → IsFirstOf (seen ++ x ∷ []) slot first
 IsFirstOf-push_not seen slot None x not h = All-push (λ t. is_ready t slot ≡ false) seen x h not
@@ -60,7 +74,7 @@ IsFirstOf-push_ready seen slot None x t ready e h =
       Contains-push seen x,
       record {
         ready = ready;
-        first = All-push (λ other. is_ready other slot ≡ true → IsServedFirst slot x other) seen x (λ k d within. λ r. absurd (false≢true (sym (h k d within) ∙ r))) (λ r. IsNoLater-same (message_of x) _);
+        first = All-push (λ other. is_ready other slot ≡ true → IsServedFirst slot x other) seen x (λ k d within. λ r. absurd (false≢true (sym (h k d within) ∙ r))) (λ r. IsServedBy-same (message_of x) _);
       },
     )
 IsFirstOf-push_ready seen slot (Some a) x t ready e h =
@@ -80,7 +94,7 @@ IsFirstOf-push_ready seen slot (Some a) x t ready e h =
             Contains-push seen x,
             record {
               ready = ready;
-              first = All-push (λ other. is_ready other slot ≡ true → IsServedFirst slot x other) seen x (λ k d within. λ r. IsNoLater-trans (message_of x) (message_of a) (message_of (get_or seen k d)) _ _ _ goes.1 (h.1.first k d within r)) (λ r. IsNoLater-same (message_of x) _);
+              first = All-push (λ other. is_ready other slot ≡ true → IsServedFirst slot x other) seen x (λ k d within. λ r. IsServedBy-trans (message_of x) (message_of a) (message_of (get_or seen k d)) _ _ _ goes.1 (h.1.first k d within r)) (λ r. IsServedBy-same (message_of x) _);
             },
           )
     ]

@@ -6,7 +6,7 @@ use Rattle.std.proofs.lemmas.List.{get_or-map, length-map, take-map, drop-map}
 use Rattle.std.proofs.lemmas.List.Elements.{All-map}
 use Rattle.std.proofs.lemmas.List.Sums.{sum_by-cons}
 use Rattle.scheduler.specs.Message.{Message, release}
-use Rattle.scheduler.specs.Air.{Air, airs, pages_aired, class, IsPending, IsNoLater, IsChosen, IsAirOf}
+use Rattle.scheduler.specs.Air.{Air, airs, pages_aired, class, IsPending, IsNoLater, IsServedBy, IsChosen, IsAirOf}
 use Rattle.scheduler.specs.Renumbered.{KeepsOrder, renumbered, use_renumbered}
 
 -- such a numbering takes different numbers to different ones
@@ -87,6 +87,10 @@ no_later_renumbered f keeps a b i j h =
     in_class : ((class a < class b) ⊎ ((class a ≡ class b) × (a.number ≤ b.number))) → (class a < class b) ⊎ ((class a ≡ class b) × (f a.number ≤ f b.number))
     in_class x = elim x [ inl above ↦ inl above | inr same ↦ inr (same.0, keeps_no_later f keeps a.number b.number same.1) ]
 
+served_renumbered : (f : ℕ → ℕ) → KeepsOrder f → (a b : Message) (i j : ℕ) → IsServedBy a i b j → IsServedBy (renumbered f a) i (renumbered f b) j
+served_renumbered f keeps a b i j h =
+    elim h [ inl above ↦ inl above | inr same ↦ inr (same.0, no_later_renumbered f keeps a b i j same.1) ]
+
 chosen_renumbered : (f : ℕ → ℕ) → KeepsOrder f → (messages : List Message) (air : Air) (slot : ℕ) (used : Option (ℕ × ℕ)) → IsChosen messages air slot used → IsChosen (map (renumbered f) messages) (map (use_renumbered f) air) slot (use_renumbered f used)
 chosen_renumbered f keeps messages air slot None x =
     All-map (λ o. (j : ℕ) → ¬ IsPending o j (map (use_renumbered f) air) slot) (renumbered f) messages (λ k d within. λ j p. x k d within j (pending_as_before f keeps (get_or messages k d) j air slot p))
@@ -100,7 +104,7 @@ chosen_renumbered f keeps messages air slot (Some used) x =
         x.4.0,
         record {
           pending = pending_renumbered f keeps m x.4.0 air slot x.4.1.pending;
-          first = All-map (λ o. (k : ℕ) → IsPending o k (map (use_renumbered f) air) slot → IsNoLater (renumbered f m) x.4.0 o k) (renumbered f) messages (λ k d within. λ i p. no_later_renumbered f keeps m (get_or messages k d) x.4.0 i (x.4.1.first k d within i (pending_as_before f keeps (get_or messages k d) i air slot p)));
+          first = All-map (λ o. (k : ℕ) → IsPending o k (map (use_renumbered f) air) slot → IsServedBy (renumbered f m) x.4.0 o k) (renumbered f) messages (λ k d within. λ i p. served_renumbered f keeps m (get_or messages k d) x.4.0 i (x.4.1.first k d within i (pending_as_before f keeps (get_or messages k d) i air slot p)));
         },
         ap (λ (u : ℕ × ℕ). (f u.0, u.1)) x.4.2 ∙ ap (λ n. (f m.number, n + 1)) (sym (same_pages f keeps m.number air (release m x.4.0) slot)),
       ),

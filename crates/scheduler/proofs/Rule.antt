@@ -9,7 +9,7 @@ use Rattle.std.proofs.lemmas.List.Sums.{sum_by_push}
 use Rattle.std.proofs.Math.Nat.{le-mul_of_pos_right}
 use Rattle.scheduler.proofs.Completed.{one_if, is_whole-unreleased}
 use Rattle.scheduler.specs.Message.{Message, release, due, IsBeforeStop, stopped_if, stopped_at}
-use Rattle.scheduler.specs.Air.{Air, airs, pages_aired, IsPending, IsChosen, IsAirOf, IsNoLater, class, next_page}
+use Rattle.scheduler.specs.Air.{Air, airs, pages_aired, IsPending, IsChosen, IsAirOf, IsNoLater, IsServedBy, layer, class, next_page}
 use Rattle.scheduler.specs.Completed.{IsWhole, is_whole}
 use Rattle.scheduler.proofs.Air.{pages_aired-none, pages_aired-append, broadcast_at-only}
 use Rattle.scheduler.proofs.Message.{has_broadcast-says, has_broadcast-from, is_before_stop-says, is_before_stop-from}
@@ -53,6 +53,27 @@ IsNoLater-total a b i j =
       | inr apart ↦ elim apart [ inl sooner ↦ inl (inl sooner) | inr later ↦ inr (inl later) ]
     ]
 
+-- the same across layers
+pub IsServedBy-both : (a b : Message) (i j : ℕ) → IsServedBy a i b j → IsServedBy b j a i → a.number ≡ b.number
+IsServedBy-both a b i j h g =
+    elim h [
+      | inl above ↦ elim g [ inl below ↦ absurd (omega arith) | inr same ↦ absurd (omega (arith, same.0)) ]
+      | inr same ↦ elim g [
+        | inl below ↦ absurd (omega (arith, same.0))
+        | inr again ↦ IsNoLater-both a b i j same.1 again.1
+      ]
+    ]
+
+pub IsServedBy-total : (a b : Message) (i j : ℕ) → IsServedBy a i b j ⊎ IsServedBy b j a i
+IsServedBy-total a b i j =
+    elim (cases_order (layer a) (layer b)) [
+      | inl same ↦ elim (IsNoLater-total a b i j) [
+        | inl first ↦ inl (inr (same, first))
+        | inr second ↦ inr (inr (sym same, second))
+      ]
+      | inr apart ↦ elim apart [ inl above ↦ inl (inl above) | inr below ↦ inr (inl below) ]
+    ]
+
 -- a slot has one choice, where the numbers of the messages rise
 pub IsChosen-only : (messages : List Message) (air : Air) (slot : ℕ) (used other : Option (ℕ × ℕ)) → AllPairs (λ a b. a.number < b.number) messages → IsChosen messages air slot used → IsChosen messages air slot other → used ≡ other
 IsChosen-only messages air slot None None rising x y = refl
@@ -67,11 +88,11 @@ IsChosen-only messages air slot (Some used) (Some other) rising x y =
     let n = y.1 in
     let j = x.4.0 in
     let k = y.4.0 in
-    let P : Message → Type 0 = λ o. (i : ℕ) → IsPending o i air slot → IsNoLater m j o i in
-    let Q : Message → Type 0 = λ o. (i : ℕ) → IsPending o i air slot → IsNoLater n k o i in
+    let P : Message → Type 0 = λ o. (i : ℕ) → IsPending o i air slot → IsServedBy m j o i in
+    let Q : Message → Type 0 = λ o. (i : ℕ) → IsPending o i air slot → IsServedBy n k o i in
     let before = subst P y.3 (x.4.1.first y.0 n y.2) k y.4.1.pending in
     let after = subst Q x.3 (y.4.1.first x.0 m x.2) j x.4.1.pending in
-    let number = IsNoLater-both m n j k before after in
+    let number = IsServedBy-both m n j k before after in
     let here = x.3 in
     let there = sym (get_or_default messages y.0 n m y.2) ∙ y.3 in
     let place = rising-same (λ (o : Message). o.number) messages rising x.0 y.0 m x.2 y.2 (ap (λ (o : Message). o.number) here ∙ (number ∙ sym (ap (λ (o : Message). o.number) there))) in
@@ -142,7 +163,7 @@ IsChosen-add messages m air slot (Some used) later x = (
     x.4.0,
     record {
       pending = x.4.1.pending;
-      first = All-push (λ o. (j : ℕ) → IsPending o j air slot → IsNoLater x.1 x.4.0 o j) messages m x.4.1.first (λ j p. absurd (omega (arith, p.released)));
+      first = All-push (λ o. (j : ℕ) → IsPending o j air slot → IsServedBy x.1 x.4.0 o j) messages m x.4.1.first (λ j p. absurd (omega (arith, p.released)));
     },
     x.4.2,
   ),
@@ -187,7 +208,7 @@ IsChosen-stop messages number stop air slot (Some used) before free x =
         x.4.0,
         record {
           pending = IsPending-stopped x.1 (x.1.number == number) stop x.4.0 air slot before x.4.1.pending;
-          first = All-map (λ o. (j : ℕ) → IsPending o j air slot → IsNoLater (g x.1) x.4.0 o j) g messages (λ k d within. λ j p. x.4.1.first k d within j (IsPending-unstopped (get_or messages k d) _ stop j air slot (λ e. free k d within (eqb-true _ number e)) p));
+          first = All-map (λ o. (j : ℕ) → IsPending o j air slot → IsServedBy (g x.1) x.4.0 o j) g messages (λ k d within. λ j p. x.4.1.first k d within j (IsPending-unstopped (get_or messages k d) _ stop j air slot (λ e. free k d within (eqb-true _ number e)) p));
         },
         x.4.2,
       ),

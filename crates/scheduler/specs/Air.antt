@@ -1,5 +1,7 @@
 -- What a cell airs, slot by slot, and the rule by which each slot is used (own).
-use Rattle.std.specs.Prelude.{◌≡◌, ℕ, ◌+◌, ◌<◌, ◌≤◌, ◌==◌, ◌⊎◌, Bool, false, if◌then◌else◌, Option, Some, None, List, length, slice_range, slice_index_or, count_by, All, Any}
+use Rattle.std.specs.Prelude.{◌≡◌, ℕ, ◌+◌, ◌<◌, ◌≤◌, ◌==◌, ◌⊎◌, Bool, false, Option, Some, None, List, length, slice_range, slice_index_or, count_by, All, Any}
+use Rattle.scheduler.specs.declared.plan.Rank.{Rank}
+use Rattle.scheduler.specs.declared.plan.Rank.TheVariants.{High, Normal, Background}
 use Rattle.scheduler.specs.Message.{Message, release, due, HasBroadcast, IsBeforeStop}
 
 -- for each slot in order the number and the page that it airs, if it airs one
@@ -24,19 +26,38 @@ pub record IsPending (m : Message) (j : ℕ) (air : Air) (slot : ℕ) : Type 0 w
   pub standing : IsBeforeStop slot m.stop
   pub unfinished : pages_aired m.number air (release m j) slot < m.pages
 
--- high comes before normal
-abbrev pub class : Message → ℕ
-class m = if m.high then 0 else 1
+-- background comes after all others
+abbrev pub layer_of : Rank → ℕ
+layer_of High = 0
+layer_of Normal = 0
+layer_of Background = 1
 
--- broadcast i of a is served no later than broadcast j of b: by their due slots, then their classes, then their numbers
+abbrev pub layer : Message → ℕ
+layer m = layer_of m.rank
+
+-- within a layer, high comes before normal
+abbrev pub class_of : Rank → ℕ
+class_of High = 0
+class_of Normal = 1
+class_of Background = 1
+
+abbrev pub class : Message → ℕ
+class m = class_of m.rank
+
+-- within a layer, broadcast i of a comes no later than broadcast j of b: by their due slots, then their classes, then
+-- their numbers
 abbrev pub IsNoLater : Message → ℕ → Message → ℕ → Type 0
 IsNoLater a i b j =
     (due a i < due b j) ⊎ ((due a i ≡ due b j) × ((class a < class b) ⊎ ((class a ≡ class b) × (a.number ≤ b.number))))
 
+-- broadcast i of a is served no later than broadcast j of b: where it is of the lower layer, and within a layer as above
+abbrev pub IsServedBy : Message → ℕ → Message → ℕ → Type 0
+IsServedBy a i b j = (layer a < layer b) ⊎ ((layer a ≡ layer b) × IsNoLater a i b j)
+
 -- broadcast j of the message is pending, and served no later than any pending broadcast
 pub record IsFirst (messages : List Message) (air : Air) (slot : ℕ) (m : Message) (j : ℕ) : Type 0 where
   pub pending : IsPending m j air slot
-  pub first : All (λ other. (k : ℕ) → IsPending other k air slot → IsNoLater m j other k) messages
+  pub first : All (λ other. (k : ℕ) → IsPending other k air slot → IsServedBy m j other k) messages
 
 -- the message's number, with the page after those that were aired since the release of broadcast j
 abbrev pub next_page : Message → ℕ → Air → ℕ → ℕ × ℕ

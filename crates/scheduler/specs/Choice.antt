@@ -1,7 +1,7 @@
 -- The air rule as a function, by which air lists can be computed (own).
 use Rattle.std.specs.Prelude.{ℕ, zero, suc, ◌==◌, Bool, true, false, ◌&&◌, ◌||◌, nat_lt, nat_le, if◌then◌else◌, Option, Some, None, List, [], ◌∷◌, ◌++◌}
 use Rattle.scheduler.specs.Message.{Message, release, due, has_broadcast, is_before_stop}
-use Rattle.scheduler.specs.Air.{Air, pages_aired, class, next_page}
+use Rattle.scheduler.specs.Air.{Air, pages_aired, layer, class, next_page}
 use Rattle.scheduler.specs.Message.{broadcast_at}
 
 -- the broadcast in whose time the slot lies is pending
@@ -10,18 +10,22 @@ is_pending air slot m =
     let j = broadcast_at m slot in
     nat_le m.start slot && (has_broadcast m j && (is_before_stop slot m.stop && nat_lt (pages_aired m.number air (release m j) slot) m.pages))
 
--- the broadcast of a in whose time the slot lies is served no later than that of b
+-- within a layer, the broadcast of a in whose time the slot lies comes no later than that of b
 abbrev pub is_no_later : ℕ → Message → Message → Bool
 is_no_later slot a b =
     let mine = due a (broadcast_at a slot) in
     let other = due b (broadcast_at b slot) in
     nat_lt mine other || ((mine == other) && (nat_lt (class a) (class b) || ((class a == class b) && nat_le a.number b.number)))
 
+-- and it is served no later
+abbrev pub is_served_by : ℕ → Message → Message → Bool
+is_served_by slot a b = nat_lt (layer a) (layer b) || ((layer a == layer b) && is_no_later slot a b)
+
 -- of a message and the first of the others: itself, where it is pending and served no later
 abbrev pub first_of : ℕ → Bool → Message → Option Message → Option Message
 first_of slot false m other = other
 first_of slot true m None = Some m
-first_of slot true m (Some other) = if is_no_later slot m other then Some m else Some other
+first_of slot true m (Some other) = if is_served_by slot m other then Some m else Some other
 
 -- the message whose broadcast is the first of those pending
 abbrev pub first_pending : List Message → Air → ℕ → Option Message

@@ -20,7 +20,7 @@ message_from item = record {
   period = item.period;
   requested = item.broadcasts;
   stop = None;
-  high = item.high;
+  rank = item.rank;
 }
 
 -- the message that is kept, with its stop

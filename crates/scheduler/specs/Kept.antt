@@ -2,7 +2,7 @@
 use Rattle.std.specs.Prelude.{◌≡◌, ℕ, ◌+◌, ◌-◌, ◌%◌, ◌<◌, ◌≤◌, ◌==◌, ◌⊎◌, Bool, true, false, ◌&&◌, nat_le, nat_lt, if◌then◌else◌, Option, Some, None, List, All, Any, AllPairs, Contains}
 use Rattle.scheduler.specs.declared.tracked.Tracked.{Tracked}
 use Rattle.scheduler.specs.Message.{has_broadcast, is_before_stop, broadcast_at}
-use Rattle.scheduler.specs.Air.{airs, IsNoLater}
+use Rattle.scheduler.specs.Air.{airs, IsServedBy}
 use Rattle.scheduler.specs.Follows.{Kept, message_of}
 
 -- what is true of each kept message at the slot that is asked next
@@ -30,7 +30,7 @@ is_ready t slot =
 -- of two messages, a is served no later than b at the slot
 abbrev pub IsServedFirst : ℕ → Tracked → Tracked → Type 0
 IsServedFirst slot a b =
-    IsNoLater (message_of a) (broadcast_at (message_of a) slot) (message_of b) (broadcast_at (message_of b) slot)
+    IsServedBy (message_of a) (broadcast_at (message_of a) slot) (message_of b) (broadcast_at (message_of b) slot)
 
 -- no message is ready
 abbrev pub NoneReady : List Tracked → ℕ → Type 0

@@ -1,5 +1,7 @@
 pub mod Air
 pub mod AirLaws
+pub mod Background
+pub mod BackgroundLaws
 pub mod Choice
 pub mod Completed
 pub mod Follows

@@ -1,8 +1,9 @@
 -- A message as the schedule sees it, and its broadcasts (own).
 use Rattle.std.specs.Prelude.{◌≡◌, ℕ, ◌+◌, ◌-◌, ◌*◌, ◌/◌, ◌<◌, ◌==◌, ◌⊎◌, ⊤, Bool, true, ◌||◌, nat_lt, if◌then◌else◌, Option, Some, None, List, map}
+use Rattle.scheduler.specs.declared.plan.Rank.{Rank}
 
 -- a message: its number, the slot from which it stands, its pages, its period in slots, how many broadcasts were
--- requested (0 where it stands until it is stopped), the slot before which it was stopped, if it was, and its category
+-- requested (0 where it stands until it is stopped), the slot before which it was stopped, if it was, and its rank
 pub record Message : Type 0 where
   pub number : ℕ
   pub start : ℕ
@@ -10,7 +11,7 @@ pub record Message : Type 0 where
   pub period : ℕ
   pub requested : ℕ
   pub stop : Option ℕ
-  pub high : Bool
+  pub rank : Rank
 
 -- the slot from which broadcast j may be aired
 abbrev pub release : Message → ℕ → ℕ

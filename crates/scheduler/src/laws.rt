@@ -3,6 +3,7 @@
 ghost use Rattle.scheduler.specs.AirLaws.{OneChoice, SomeChoice, GrowsByTheChoice, FrontsAreByTheRule, OneAirList, NumbersOnlyOrder};
 ghost use Rattle.scheduler.specs.AirLaws.{LaterMessagesChangeNothing, LaterStopsChangeNothing, PagesComeInOrder, AtMostItsPages};
 ghost use Rattle.scheduler.specs.AirLaws.{PagesComeOnce, WholeIsEachPageOnce, LastPagesAreWholeBroadcasts, NoPageLessOften, AllAreCounted};
+ghost use Rattle.scheduler.specs.BackgroundLaws.{BackgroundCountsAsIdle, BackgroundChangesNothing, BlankingKeepsPages, BlankingKeepsCompleted};
 
 /// States, as its contract, what the air rule promises. It does nothing.
 pub fn air_laws()
@@ -40,4 +41,17 @@ pub fn air_laws()
 
     // The completed number leaves out no whole broadcast.
     ensures all_counted { AllAreCounted }
+{}
+
+/// States, as its contract, what the air rule promises the messages that aren't background: these air what they would air
+/// alone, however much background there is. It does nothing.
+pub fn background_laws()
+    // With the slots that air background idle, an air list by the rule is one of the other messages alone, which is the
+    // only one of its length.
+    ensures counts_as_idle { BackgroundCountsAsIdle }
+    ensures changes_nothing { BackgroundChangesNothing }
+
+    // Of each message that isn't background it has the same pages, and the same whole broadcasts.
+    ensures keeps_pages { BlankingKeepsPages }
+    ensures keeps_completed { BlankingKeepsCompleted }
 {}

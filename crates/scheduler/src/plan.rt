@@ -3,7 +3,7 @@
 ghost use Rattle.std.specs.Prelude.{◌≡◌, ◌≢◌, ℕ, ◌+◌, ◌<◌, ◌≤◌, ◌==◌, true, MatchBool, List, [], ◌∷◌, ◌++◌, length, map, codes, Some, All, AllPairs, Any, OnOk, OnErr};
 ghost use Rattle.std.specs.Option.{ForSome};
 ghost use Rattle.scheduler.specs.Message.{Message, stopped_at};
-ghost use Rattle.scheduler.specs.Air.{Air, airs, IsChosen};
+ghost use Rattle.scheduler.specs.Air.{Air, airs, layer_of, class_of, IsChosen};
 ghost use Rattle.scheduler.specs.Completed.{completed};
 ghost use Rattle.scheduler.specs.Follows.{Follows, next_slot, messages_of, message_of, message_from};
 ghost use Rattle.scheduler.specs.Kept.{IsFit, HasStarted, IsFirstOf, IsEarlier, IsChoice, after_slot, stopped_kept};
@@ -12,6 +12,39 @@ use crate::tracked::Tracked;
 use std::alloc::Global;
 use std::fmt;
 use std::marker::Model;
+
+/// Before which others the pages of a message are aired.
+#[derive(Clone, Copy, Debug, PartialEq, Eq)]
+pub enum Rank {
+    /// Of two broadcasts that are due at the same slot, before a normal one.
+    High,
+    /// Before all background broadcasts.
+    Normal,
+    /// Only in slots in which no high and no normal broadcast is pending.
+    Background,
+}
+
+impl Rank {
+    /// 1 for background, which comes after all others, and 0 for those.
+    pub(crate) fn layer(self) -> u8
+        ensures { result ≡ layer_of self }
+    {
+        match self {
+            Rank::High | Rank::Normal => 0,
+            Rank::Background => 1,
+        }
+    }
+
+    /// Within a layer: 0 for high, which comes before normal.
+    pub(crate) fn class(self) -> u8
+        ensures { result ≡ class_of self }
+    {
+        match self {
+            Rank::High => 0,
+            Rank::Normal | Rank::Background => 1,
+        }
+    }
+}
 
 /// A message that is added to a plan, and is broadcast from its start on: broadcast j, counted from 0, is released at
 /// `start + j * period`, and due at the release of the next one.
@@ -27,8 +60,8 @@ pub struct Item {
     pub period: u16,
     /// How many broadcasts are requested. With 0 it stands until it is stopped.
     pub broadcasts: u16,
-    /// Whether it is of the high category.
-    pub high: bool,
+    /// Before which others its pages are aired.
+    pub rank: Rank,
 }
 
 /// Out of memory: the plan is as it was.

@@ -75,12 +75,16 @@ impl Tracked {
         ensures { MatchBool result (IsServedFirst slot self.now other.now)
             (IsServedFirst slot other.now self.now) }
     {
+        let (rank, rank_of_other) = (self.item.rank, other.item.rank);
+        if rank.layer() != rank_of_other.layer() {
+            return rank.layer() < rank_of_other.layer();
+        }
         let (due, due_of_other) = (self.due(slot), other.due(slot));
         if due != due_of_other {
             return due < due_of_other;
         }
-        if self.item.high != other.item.high {
-            return self.item.high;
+        if rank.class() != rank_of_other.class() {
+            return rank.class() < rank_of_other.class();
         }
         self.item.entry <= other.item.entry
     }

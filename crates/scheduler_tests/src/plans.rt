@@ -1,6 +1,6 @@
 //! Worked air lists, and generated histories against the rule said once more, over the whole air list.
 
-use scheduler::{Item, Plan, Refused, air_laws};
+use scheduler::{Item, Plan, Rank, Refused, air_laws, background_laws};
 use std::alloc::Global;
 use std::process::Abort;
 use std::test::Fail;
@@ -12,7 +12,7 @@ fn add(
     pages: u8,
     period: u16,
     broadcasts: u16,
-    high: bool,
+    rank: Rank,
 ) -> Option<Item> {
     let item = Item {
         entry,
@@ -20,7 +20,7 @@ fn add(
         pages,
         period,
         broadcasts,
-        high,
+        rank,
     };
     add_item(plan, item)
 }
@@ -73,9 +73,9 @@ fn expect_added(
     pages: u8,
     period: u16,
     broadcasts: u16,
-    high: bool,
+    rank: Rank,
 ) {
-    assert!(rt; add(plan, entry, pages, period, broadcasts, high).is_some());
+    assert!(rt; add(plan, entry, pages, period, broadcasts, rank).is_some());
 }
 
 /// That the slot that is asked next airs this.
@@ -104,8 +104,8 @@ fn expect_done(rt: &impl Abort, plan: &Plan, entry: u16, completed: u16) {
 #[test]
 fn airs_by_due_slot(rt: HostRuntime) {
     let mut plan = Plan::new(rt.alloc());
-    expect_added(&rt, &mut plan, 0, 1, 2, 0, false);
-    expect_added(&rt, &mut plan, 1, 2, 4, 0, false);
+    expect_added(&rt, &mut plan, 0, 1, 2, 0, Rank::Normal);
+    expect_added(&rt, &mut plan, 1, 2, 4, 0, Rank::Normal);
     for used in [(0, 1), (1, 1), (0, 1), (1, 2)] {
         expect_done(&rt, &plan, 1, 0);
         expect_aired(&rt, &mut plan, Some(used));
@@ -117,8 +117,8 @@ fn airs_by_due_slot(rt: HostRuntime) {
 #[test]
 fn airs_high_first(rt: HostRuntime) {
     let mut plan = Plan::new(rt.alloc());
-    expect_added(&rt, &mut plan, 0, 1, 2, 0, false);
-    expect_added(&rt, &mut plan, 1, 1, 2, 0, true);
+    expect_added(&rt, &mut plan, 0, 1, 2, 0, Rank::Normal);
+    expect_added(&rt, &mut plan, 1, 1, 2, 0, Rank::High);
     expect_aired(&rt, &mut plan, Some((1, 1)));
     expect_aired(&rt, &mut plan, Some((0, 1)));
 }
@@ -126,9 +126,9 @@ fn airs_high_first(rt: HostRuntime) {
 #[test]
 fn fills_every_slot(rt: HostRuntime) {
     let mut plan = Plan::new(rt.alloc());
-    expect_added(&rt, &mut plan, 0, 1, 6, 0, false);
-    expect_added(&rt, &mut plan, 1, 1, 3, 0, false);
-    expect_added(&rt, &mut plan, 2, 1, 2, 0, false);
+    expect_added(&rt, &mut plan, 0, 1, 6, 0, Rank::Normal);
+    expect_added(&rt, &mut plan, 1, 1, 3, 0, Rank::Normal);
+    expect_added(&rt, &mut plan, 2, 1, 2, 0, Rank::Normal);
     for entry in [2, 1, 2, 0, 1, 2] {
         expect_aired(&rt, &mut plan, Some((entry, 1)));
     }
@@ -140,7 +140,7 @@ fn fills_every_slot(rt: HostRuntime) {
 #[test]
 fn runs_out(rt: HostRuntime) {
     let mut plan = Plan::new(rt.alloc());
-    expect_added(&rt, &mut plan, 0, 1, 3, 2, false);
+    expect_added(&rt, &mut plan, 0, 1, 3, 2, Rank::Normal);
     expect_two_of_nine(&rt, &mut plan, 0, 3);
     expect_done(&rt, &plan, 0, 2);
 }
@@ -149,14 +149,14 @@ fn runs_out(rt: HostRuntime) {
 #[test]
 fn drops_what_is_due(rt: HostRuntime) {
     let mut plan = Plan::new(rt.alloc());
-    expect_added(&rt, &mut plan, 4, 3, 2, 0, false);
+    expect_added(&rt, &mut plan, 4, 3, 2, 0, Rank::Normal);
     for page in [1, 2, 1, 2, 1] {
         expect_aired(&rt, &mut plan, Some((4, page)));
     }
     expect_stopped(&rt, &mut plan, 4, Some(0));
     expect_stopped(&rt, &mut plan, 4, None);
-    assert!(rt; add(&mut plan, 4, 1, 1, 0, false).is_none());
-    expect_added(&rt, &mut plan, 5, 1, 1, 0, true);
+    assert!(rt; add(&mut plan, 4, 1, 1, 0, Rank::Normal).is_none());
+    expect_added(&rt, &mut plan, 5, 1, 1, 0, Rank::High);
     expect_aired(&rt, &mut plan, Some((5, 1)));
     expect_stopped(&rt, &mut plan, 5, Some(1));
     expect_aired(&rt, &mut plan, None);
@@ -181,7 +181,7 @@ fn from_slot_3(entry: u16) -> Item {
         pages: 1,
         period: 2,
         broadcasts: 2,
-        high: false,
+        rank: Rank::Normal,
     }
 }
 
@@ -190,10 +190,10 @@ fn from_slot_3(entry: u16) -> Item {
 fn keeps_many(rt: HostRuntime) {
     let mut plan = Plan::new(rt.alloc());
     for entry in 0..299 {
-        expect_added(&rt, &mut plan, entry, 2, 1024, 1, false);
+        expect_added(&rt, &mut plan, entry, 2, 1024, 1, Rank::Normal);
         expect_stopped(&rt, &mut plan, entry, Some(0));
     }
-    expect_added(&rt, &mut plan, 299, 2, 1024, 1, false);
+    expect_added(&rt, &mut plan, 299, 2, 1024, 1, Rank::Normal);
     expect_aired(&rt, &mut plan, Some((299, 1)));
     expect_aired(&rt, &mut plan, Some((299, 2)));
     expect_aired(&rt, &mut plan, None);
@@ -201,9 +201,75 @@ fn keeps_many(rt: HostRuntime) {
     expect_done(&rt, &plan, 298, 0);
 }
 
+/// Background is aired in the slots that a normal message leaves.
+#[test]
+fn airs_background_where_nothing_else_is_pending(rt: HostRuntime) {
+    let mut plan = Plan::new(rt.alloc());
+    expect_added(&rt, &mut plan, 0, 1, 2, 0, Rank::Normal);
+    expect_added(&rt, &mut plan, 1, 2, 4, 0, Rank::Background);
+    for used in [
+        (0, 1),
+        (1, 1),
+        (0, 1),
+        (1, 2),
+        (0, 1),
+        (1, 1),
+        (0, 1),
+        (1, 2),
+    ] {
+        expect_aired(&rt, &mut plan, Some(used));
+    }
+    expect_done(&rt, &plan, 0, 4);
+    expect_done(&rt, &plan, 1, 2);
+}
+
+/// A message that needs every slot is stopped at slot 3. Of the background, the broadcast that is due at slot 4 is dropped with a
+/// page aired, and the next one begins with page 1.
+#[test]
+fn drops_background_that_is_due(rt: HostRuntime) {
+    let mut plan = Plan::new(rt.alloc());
+    expect_added(&rt, &mut plan, 0, 1, 1, 0, Rank::Normal);
+    expect_added(&rt, &mut plan, 1, 2, 4, 0, Rank::Background);
+    for _ in 0..3 {
+        expect_aired(&rt, &mut plan, Some((0, 1)));
+    }
+    expect_stopped(&rt, &mut plan, 0, Some(3));
+    for used in [Some((1, 1)), Some((1, 1)), Some((1, 2)), None, None] {
+        expect_aired(&rt, &mut plan, used);
+    }
+    expect_done(&rt, &plan, 0, 3);
+    expect_done(&rt, &plan, 1, 1);
+}
+
+/// A high message, too, is before all background, whenever that is due; and background is aired by due slot.
+#[test]
+fn airs_background_by_due_slot(rt: HostRuntime) {
+    let mut plan = Plan::new(rt.alloc());
+    expect_added(&rt, &mut plan, 0, 2, 4, 1, Rank::Background);
+    expect_added(&rt, &mut plan, 1, 1, 2, 1, Rank::Background);
+    expect_added(&rt, &mut plan, 2, 1, 8, 1, Rank::High);
+    for used in [(2, 1), (1, 1), (0, 1), (0, 2)] {
+        expect_aired(&rt, &mut plan, Some(used));
+    }
+}
+
+/// Background of three pages in periods of two slots is never whole, and takes no slot of a normal message.
+#[test]
+fn airs_background_that_is_never_whole(rt: HostRuntime) {
+    let mut plan = Plan::new(rt.alloc());
+    expect_added(&rt, &mut plan, 0, 3, 2, 0, Rank::Background);
+    expect_added(&rt, &mut plan, 1, 1, 4, 0, Rank::Normal);
+    for used in [(1, 1), (0, 1), (0, 1), (0, 2), (1, 1), (0, 1)] {
+        expect_aired(&rt, &mut plan, Some(used));
+    }
+    expect_done(&rt, &plan, 0, 0);
+    expect_done(&rt, &plan, 1, 2);
+}
+
 #[test]
 fn tells_the_fault(rt: HostRuntime) -> Result<(), Fail> {
     air_laws();
+    background_laws();
     assert_eq!(rt; Refused.to_string(rt.alloc())?.as_str(), "out of memory");
     Ok(())
 }
@@ -253,13 +319,13 @@ fn is_before_stop(told: &Told, slot: u32) -> bool {
     }
 }
 
-/// Due slot, whether it is normal, entry, and how many pages were aired.
-type Rank = (u32, bool, u16, u8);
+/// Whether it is background, due slot, whether it isn't high, entry, and how many pages were aired.
+type Turn = (bool, u32, bool, u16, u8);
 
 /// What a slot airs by the rule: each broadcast of each message is looked at.
 fn chosen(told: &[Told], air: &[Option<(u16, u8)>], slot: u16) -> Option<(u16, u8)> {
     let now = u32::from(slot);
-    let mut first: Option<Rank> = None;
+    let mut first: Option<Turn> = None;
     for one in told {
         for broadcast in 0..slot.saturating_add(1) {
             if let Some(released) = release(one, broadcast) {
@@ -267,31 +333,35 @@ fn chosen(told: &[Told], air: &[Option<(u16, u8)>], slot: u16) -> Option<(u16, u
                 let pages = pages_aired(air, one.item.entry, released, now);
                 let is_unfinished = pages < one.item.pages;
                 if released <= now && now < due && is_before_stop(one, now) && is_unfinished {
-                    let rank = (due, !one.item.high, one.item.entry, pages);
-                    first = Some(lesser(first, rank));
+                    let is_background = one.item.rank == Rank::Background;
+                    let is_below_high = one.item.rank != Rank::High;
+                    let turn = (is_background, due, is_below_high, one.item.entry, pages);
+                    first = Some(lesser(first, turn));
                 }
             }
         }
     }
     match first {
         None => None,
-        Some((_, _, entry, pages)) => Some((entry, pages.saturating_add(1))),
+        Some((_, _, _, entry, pages)) => Some((entry, pages.saturating_add(1))),
     }
 }
 
-/// The lesser of two ranks: by due slot, high before normal, entry.
-fn lesser(first: Option<Rank>, rank: Rank) -> Rank {
+/// The lesser of two turns: others before background, then by due slot, high before the rest, entry.
+fn lesser(first: Option<Turn>, turn: Turn) -> Turn {
     let Some(before) = first else {
-        return rank;
+        return turn;
     };
-    let is_before = if before.0 != rank.0 {
-        before.0 < rank.0
-    } else if before.1 != rank.1 {
-        rank.1
+    let is_before = if before.0 != turn.0 {
+        turn.0
+    } else if before.1 != turn.1 {
+        before.1 < turn.1
+    } else if before.2 != turn.2 {
+        turn.2
     } else {
-        before.2 < rank.2
+        before.3 < turn.3
     };
-    if is_before { before } else { rank }
+    if is_before { before } else { turn }
 }
 
 /// How many broadcasts of a message are whole before a slot.
@@ -341,8 +411,12 @@ fn add_some(plan: &mut Plan, numbers: &mut Numbers, told: &mut Vec<Told>) -> Res
         };
         let period = numbers.below(12).saturating_add(1);
         let broadcasts = numbers.below(5);
-        let high = numbers.below(3) == 0;
-        let item = add(plan, entry, pages, period, broadcasts, high).ok_or("not added")?;
+        let rank = match numbers.below(4) {
+            0 => Rank::High,
+            1 => Rank::Background,
+            _ => Rank::Normal,
+        };
+        let item = add(plan, entry, pages, period, broadcasts, rank).ok_or("not added")?;
         told.push(Told { item, stop: None })?;
     }
     Ok(())

@@ -1,5 +1,6 @@
-use Rattle.std.proofs.Common.{ℕ, List, ap, ◌∙◌}
+use Rattle.std.proofs.Common.{ℕ, Bool, List, cond, ap, sym, ◌∙◌}
 use Rattle.admission.specs.declared.budget.Held.{Held}
+use Rattle.admission.specs.Reservation.{end_of_stopped}
 use Rattle.admission.specs.Table.{ends_at, passed}
 use Rattle.bsc_table.proofs.book.release.Goals as goal
 
@@ -7,4 +8,8 @@ pub returns : goal.returns
 returns c =
     let number : ℕ = c.args.old.now.number in
     let lines : List Held = c.args.budget.now in
-    c.pass_slot.ensures ∙ ap (passed c.args.slot) (c.release_at.ensures ∙ ap (λ (n : ℕ). ends_at number n lines) c.end_if_stopped.ensures.end)
+    let slot : ℕ = c.args.slot in
+    let end : ℕ = end_of_stopped c.args.old.now.start c.args.old.now.period slot in
+    let front = sym c.is_background.ensures ∙ c.if-is_background.false in
+    let left = c.pass_slot.ensures ∙ ap (passed slot) (c.release_at.ensures ∙ ap (λ (n : ℕ). ends_at number n lines) c.end_if_stopped.ensures.end) in
+    left ∙ sym (ap (λ (b : Bool). cond b lines (passed slot (ends_at number end lines))) front)

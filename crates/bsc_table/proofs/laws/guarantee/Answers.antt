@@ -2,6 +2,7 @@ use Rattle.bsc_table.proofs.Demand.{demand_is_no_more_than_the_slots}
 use Rattle.bsc_table.proofs.Reserved.{reservations_cover_broadcasts}
 use Rattle.bsc_table.proofs.Busy.{lack_means_a_busy_period}
 use Rattle.bsc_table.proofs.Served.{admitted_load_is_a_guarantee, admitted_broadcasts_are_whole}
+use Rattle.bsc_table.proofs.Foreground.{foreground_is_served}
 use Rattle.bsc_table.proofs.laws.guarantee.Goals as goal
 
 pub returns : goal.returns
@@ -11,4 +12,5 @@ returns c = record {
   demand_is_no_more_than_the_slots = demand_is_no_more_than_the_slots;
   admitted_load_is_a_guarantee = admitted_load_is_a_guarantee;
   admitted_broadcasts_are_whole = admitted_broadcasts_are_whole;
+  foreground_is_served = foreground_is_served;
 }

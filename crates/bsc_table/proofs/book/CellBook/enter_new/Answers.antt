@@ -5,11 +5,12 @@ use Rattle.scheduler.specs.Message.{Message}
 use Rattle.scheduler.specs.Follows.{Follows, message_from}
 use Rattle.bsc_table.specs.declared.entry.Entry.{Entry}
 use Rattle.bsc_table.specs.declared.kept.Kept.{Kept}
-use Rattle.bsc_table.specs.Record.{Record, Accepted, accepted_in, messages_in, claim_of, claims_in}
+use Rattle.bsc_table.specs.Record.{Record, Accepted, accepted_in, messages_in, claim_of, claims_in, is_background}
 use Rattle.bsc_table.specs.Claim.{Claim}
-use Rattle.bsc_table.specs.Book.{accepted_of, record_of, line_of, lines_at, HasRoomFor, IsNext, IsStart}
+use Rattle.bsc_table.specs.Book.{accepted_of, record_of, lines_at, HasRoomFor, IsNext, IsStart}
 use Rattle.bsc_table.proofs.Begun.{room_for_new}
 use Rattle.bsc_table.proofs.Sound.{IsSound-legal}
+use Rattle.bsc_table.proofs.Ranks.{in_front, layer_tells}
 use Rattle.bsc_table.proofs.Entering.{book_with, messages_with, kept_more, planned_below, held_below, item_message, begun_lines, claims_with}
 use Rattle.bsc_table.proofs.book.CellBook.enter_new.Goals as goal
 
@@ -46,7 +47,7 @@ reserve_for-requires-clause-room c =
     let Starts : Record → Type 0 = λ x. IsStart x c.args.entry new in
     let start = subst Starts (sym c.self.view_is) c.requires.start in
     let Room : List Held → Type 0 = λ lines. HasRoomFor r.clock lines (claim_of new) new.behind in
-    subst Room (sym c.self.invariant.held) (room_for_new (length r.log) r.clock (accepted_in r.log) new (IsSound-legal r c.self.invariant.legal).order start.begun)
+    λ is. subst Room (sym c.self.invariant.held) (room_for_new (length r.log) r.clock (accepted_in r.log) new (IsSound-legal r c.self.invariant.legal).order start.begun (in_front c.args.new.category is))
 
 pub invariant_of-self-2 : goal.invariant_of-self-2
 invariant_of-self-2 c =
@@ -74,7 +75,7 @@ invariant_of-self-2 c =
     let follows = subst FollowsOne told (c.in_ok-add.ensures.follows before r.air book.follows) in
     -- the budget
     let claims = claims_with r.log e (accepted_in r.log) new adds in
-    let lines = c.reserve_for.ensures ∙ ap (λ (l : List Held). l ++ line_of r.clock (claim_of new) ∷ []) book.held ∙ sym (begun_lines (length r.log) r.clock None (accepted_in r.log) (claims_in r.log) new may) in
+    let lines = begun_lines (length r.log) r.clock None (accepted_in r.log) (claims_in r.log) new may c.self.inside.budget c.reserve_for.new.budget book.held (is_background c.args.new.category) (layer_tells c.args.new.category) c.reserve_for.ensures in
     let FollowsAll : List Message → Type 0 = λ all. Follows c.add.new.self all r.air in
     let HeldFor : List Claim → Type 0 = λ all. c.reserve_for.new.budget ≡ lines_at r.clock all in
     book_with c.self.inside e c.push_within-2.new.list c.push_within.new.list c.add.new.self c.reserve_for.new.budget book next grown more (subst FollowsAll (sym messages) follows) (subst HeldFor (sym claims) lines)

@@ -7,10 +7,11 @@ use Rattle.admission.specs.Waiting.{behind_of}
 use Rattle.scheduler.specs.Message.{Message}
 use Rattle.scheduler.specs.Follows.{Follows}
 use Rattle.bsc_table.specs.declared.entry.Entry.{Entry}
-use Rattle.bsc_table.specs.Record.{Record, Accepted, accepted_in, messages_in}
+use Rattle.bsc_table.specs.Record.{Record, Accepted, accepted_in, messages_in, is_background}
 use Rattle.bsc_table.specs.Claim.{Claim}
 use Rattle.bsc_table.specs.Book.{accepted_of, stop_numbered, record_of, lines_at, IsNext, IsStop}
 use Rattle.bsc_table.proofs.Sound.{HasLoad, IsSound-legal}
+use Rattle.bsc_table.proofs.Ranks.{in_front, layer_tells}
 use Rattle.bsc_table.proofs.Entering.{messages_without, claims_without, free_of, table_stopped, released_lines, book_with, standing_in, held_in}
 use Rattle.bsc_table.proofs.book.CellBook.enter_stop.Goals as goal
 
@@ -37,7 +38,7 @@ release-requires-clause-reserved c =
     let Stops : Record → Type 0 = λ x. IsStop x c.args.entry old in
     let Has : List Held → Type 0 = λ lines. Any (λ (h : Held). h.entry ≡ old.message.number) lines in
     let stop = subst Stops (sym c.self.view_is) c.requires.stop in
-    subst Has (sym c.self.invariant.held) (held_in r old c.self.invariant.legal stop.stops)
+    λ is. subst Has (sym c.self.invariant.held) (held_in r old c.self.invariant.legal stop.stops (in_front c.args.old.now.category is))
 
 pub release-requires-clause-free : goal.release-requires-clause-free
 release-requires-clause-free c =
@@ -46,7 +47,7 @@ release-requires-clause-free c =
     let Stops : Record → Type 0 = λ x. IsStop x c.args.entry old in
     let Free : List Held → Type 0 = λ lines. All (λ (h : Held). behind_of h ≢ Some old.message.number) lines in
     let stop = subst Stops (sym c.self.view_is) c.requires.stop in
-    subst Free (sym c.self.invariant.held) (free_of r old c.self.invariant.legal stop.stops)
+    λ is. subst Free (sym c.self.invariant.held) (free_of r old c.self.invariant.legal stop.stops (in_front c.args.old.now.category is))
 
 pub invariant_of-self-2 : goal.invariant_of-self-2
 invariant_of-self-2 c =
@@ -65,7 +66,7 @@ invariant_of-self-2 c =
     -- the plan and the budget
     let messages = messages_without r.log e number r.clock stop.after in
     let follows = c.stop-2.ensures.follows (messages_in r.log) r.air book.follows in
-    let lines = released_lines r old c.self.inside.budget c.release.new.budget book.legal stop.stops book.held c.release.ensures in
+    let lines = released_lines r old c.self.inside.budget c.release.new.budget book.legal stop.stops book.held (is_background c.args.old.now.category) (layer_tells c.args.old.now.category) c.release.ensures in
     let FollowsAll : List Message → Type 0 = λ all. Follows c.stop-2.new.self all r.air in
     let claims = claims_without r.log e number r.clock stop.after in
     let HeldFor : List Claim → Type 0 = λ all. c.release.new.budget ≡ lines_at r.clock all in

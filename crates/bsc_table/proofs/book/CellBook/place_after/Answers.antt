@@ -1,11 +1,12 @@
-use Rattle.std.proofs.Common.{◌≡◌, ◌<◌, ◌==◌, ℕ, Bool, Some, None, List, map, subst, sym, ap, ◌∙◌}
+use Rattle.std.proofs.Common.{◌≡◌, ◌<◌, ℕ, Bool, Some, None, List, map, subst, sym, ap, ◌∙◌}
 use Rattle.std.specs.List.{find}
 use Rattle.std.specs.Option.{option_map}
 use Rattle.bsc_table.specs.declared.kept.Kept.{Kept}
-use Rattle.bsc_table.specs.Record.{Record, Accepted, accepted_in, claim_of}
-use Rattle.bsc_table.specs.Handover.{ahead_of, place_before, handover}
+use Rattle.bsc_table.specs.Record.{Record, Accepted, accepted_in, claim_of, place_after}
+use Rattle.bsc_table.specs.Handover.{ahead_of, place_before}
 use Rattle.bsc_table.specs.Book.{accepted_of, record_of, stopped_end, place_of, left_by, IsLiveIn}
-use Rattle.bsc_table.proofs.Placed.{none_ahead, found_lasts, place_ahead}
+use Rattle.bsc_table.proofs.Placed.{is_reserved_as, none_ahead, found_lasts, place_ahead, place_in_front}
+use Rattle.bsc_table.proofs.Ranks.{in_front}
 use Rattle.bsc_table.proofs.book.CellBook.place_after.Goals as goal
 
 pub returns-in_err-ahead-clause-place : goal.returns-in_err-ahead-clause-place
@@ -13,20 +14,21 @@ returns-in_err-ahead-clause-place c =
     let r : Record = record_of c.self.inside in
     let old : Accepted = accepted_of c.args.old.now in
     let number : ℕ = c.in_ok-number.number in
-    let p : Accepted → Bool = λ a. a.message.number == number in
+    let p : Accepted → Bool = is_reserved_as number in
     let ahead : ahead_of r.clock (claim_of old) ≡ Some number = sym c.ahead_at.ensures ∙ c.in_ok-number.was in
     let table = ap (λ (l : List Kept). find p (map accepted_of l)) c.as_slice.ensures.value ∙ ap (find p) c.self.invariant.kept in
-    let found : find p (accepted_in r.log) ≡ None = sym table ∙ sym c.numbered.ensures ∙ ap (option_map accepted_of) c.in_err-ahead.was in
-    let Over : Record → Type 0 = λ x. None ≡ handover (left_by x old) x.clock (claim_of old) c.args.load in
-    ap (option_map place_of) c.from_residual-in_err-ahead.ensures ∙ subst Over c.self.view_is (sym (none_ahead r old number c.args.load ahead found))
+    let found : find p (accepted_in r.log) ≡ None = sym table ∙ sym c.reserved.ensures ∙ ap (option_map accepted_of) c.in_err-ahead.was in
+    let Over : Record → Type 0 = λ x. None ≡ place_after (left_by x old) x.clock old c.args.load in
+    let front = in_front c.args.old.now.category (sym c.is_background.ensures ∙ c.if-is_background.false) in
+    ap (option_map place_of) c.from_residual-in_err-ahead.ensures ∙ subst Over c.self.view_is (sym (place_in_front (left_by r old) r.clock c.args.load old front ∙ none_ahead r old number c.args.load ahead found))
 
 pub place_behind-requires : goal.place_behind-requires
 place_behind-requires c =
     let r : Record = record_of c.self.inside in
     let number : ℕ = c.in_ok-number.number in
-    let p : Accepted → Bool = λ a. a.message.number == number in
+    let p : Accepted → Bool = is_reserved_as number in
     let table = ap (λ (l : List Kept). find p (map accepted_of l)) c.as_slice.ensures.value ∙ ap (find p) c.self.invariant.kept in
-    let found : find p (accepted_in r.log) ≡ Some (accepted_of c.in_ok-ahead.ahead) = sym table ∙ sym c.numbered.ensures ∙ ap (option_map accepted_of) c.in_ok-ahead.was in
+    let found : find p (accepted_in r.log) ≡ Some (accepted_of c.in_ok-ahead.ahead) = sym table ∙ sym c.reserved.ensures ∙ ap (option_map accepted_of) c.in_ok-ahead.was in
     let lasts = found_lasts r number (accepted_of c.in_ok-ahead.ahead) c.self.invariant.legal found in
     subst (λ (k : Kept). 0 < k.period) (sym c.stopped_if-stopped.ensures) lasts
 
@@ -36,11 +38,12 @@ returns-clause-place c =
     let old : Accepted = accepted_of c.args.old.now in
     let k : Kept = c.in_ok-ahead.ahead in
     let number : ℕ = c.in_ok-number.number in
-    let p : Accepted → Bool = λ a. a.message.number == number in
+    let p : Accepted → Bool = is_reserved_as number in
     let ahead : ahead_of r.clock (claim_of old) ≡ Some number = sym c.ahead_at.ensures ∙ c.in_ok-number.was in
     let table = ap (λ (l : List Kept). find p (map accepted_of l)) c.as_slice.ensures.value ∙ ap (find p) c.self.invariant.kept in
-    let found : find p (accepted_in r.log) ≡ Some (accepted_of k) = sym table ∙ sym c.numbered.ensures ∙ ap (option_map accepted_of) c.in_ok-ahead.was in
+    let found : find p (accepted_in r.log) ≡ Some (accepted_of k) = sym table ∙ sym c.reserved.ensures ∙ ap (option_map accepted_of) c.in_ok-ahead.was in
     let live = subst (λ x. IsLiveIn x old) (sym c.self.view_is) c.requires in
-    let Over : Record → Type 0 = λ x. option_map place_of c.place_behind.result ≡ handover (left_by x old) x.clock (claim_of old) c.args.load in
+    let Over : Record → Type 0 = λ x. option_map place_of c.place_behind.result ≡ place_after (left_by x old) x.clock old c.args.load in
+    let front = in_front c.args.old.now.category (sym c.is_background.ensures ∙ c.if-is_background.false) in
     let same = ap (λ (s : Kept). place_before r.clock c.args.load (claim_of (accepted_of s)) (stopped_end s)) c.stopped_if-stopped.ensures in
-    subst Over c.self.view_is (c.place_behind.ensures.place ∙ same ∙ place_ahead r old number c.args.load k c.self.invariant.legal live ahead found)
+    subst Over c.self.view_is (c.place_behind.ensures.place ∙ same ∙ place_ahead r old number c.args.load k c.self.invariant.legal live front ahead found ∙ sym (place_in_front (left_by r old) r.clock c.args.load old front))

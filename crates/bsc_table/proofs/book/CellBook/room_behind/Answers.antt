@@ -4,10 +4,12 @@ use Rattle.std.proofs.lemmas.List.Elements.{All-contains}
 use Rattle.admission.specs.declared.budget.Held.{Held}
 use Rattle.admission.specs.Reservation.{end_of_stopped}
 use Rattle.admission.specs.Table.{answer_for, remaining_without, excess_over}
-use Rattle.bsc_table.specs.Record.{Record, Accepted, accepted_in, claim_of, claims_in}
-use Rattle.bsc_table.specs.Handover.{Place, handover}
+use Rattle.bsc_table.specs.Record.{Record, Accepted, accepted_in, claim_of, claims_in, place_after}
+use Rattle.bsc_table.specs.Handover.{Place}
 use Rattle.bsc_table.specs.Book.{accepted_of, record_of, lines_at, IsLiveIn, IsRoom, left_by, place_of}
-use Rattle.bsc_table.proofs.Sound.{HasLoad, IsSound-legal, its_claim}
+use Rattle.bsc_table.proofs.Outcome.{taken_after}
+use Rattle.bsc_table.proofs.Ranks.{its_claim}
+use Rattle.bsc_table.proofs.Sound.{HasLoad, IsSound-legal}
 use Rattle.bsc_table.proofs.Handed.{held_ahead}
 use Rattle.bsc_table.proofs.Booked.{room_after_stop}
 use Rattle.bsc_table.proofs.book.CellBook.room_behind.Goals as goal
@@ -24,9 +26,10 @@ fits_behind-requires c =
     let r : Record = record_of c.self.inside in
     let a : Accepted = accepted_of c.args.old.now in
     let live = subst (λ x. IsLiveIn x a) (sym c.self.view_is) c.requires.live in
-    let Over : Record → Type 0 = λ x. handover (left_by x a) x.clock (claim_of a) c.args.load ≡ Some (place_of c.args.place) in
-    let over = subst Over (sym c.self.view_is) c.requires.place in
-    let ahead = held_ahead r.clock c.args.load (claims_in r.log) (claim_of a) (place_of c.args.place) (IsSound-legal r c.self.invariant.legal).order (its_claim (accepted_in r.log) a live.there) live.live over in
+    let Over : Record → Type 0 = λ x. place_after (left_by x a) x.clock a c.args.load ≡ Some (place_of c.args.place) in
+    let taken = taken_after (left_by r a) r.clock c.args.load a (place_of c.args.place) (subst Over (sym c.self.view_is) c.requires.place) in
+    let over = taken.1 in
+    let ahead = held_ahead r.clock c.args.load (claims_in r.log) (claim_of a) (place_of c.args.place) (IsSound-legal r c.self.invariant.legal).order (its_claim (accepted_in r.log) a live.there taken.0) live.live over in
     let Started : List Held → Type 0 = λ lines. Any (λ (h : Held). (h.entry ≡ c.args.place.behind) × (h.waits ≡ None)) lines in
     subst Started (sym c.self.invariant.held) ahead.0
 
@@ -39,9 +42,10 @@ returns c =
     let lines : List Held = lines_at r.clock (claims_in r.log) in
     let end : ℕ = end_of_stopped a.message.start a.message.period r.clock in
     let live = subst (λ x. IsLiveIn x a) (sym c.self.view_is) c.requires.live in
-    let Over : Record → Type 0 = λ x. handover (left_by x a) x.clock (claim_of a) c.args.load ≡ Some place in
-    let over = subst Over (sym c.self.view_is) c.requires.place in
-    let ahead = held_ahead r.clock c.args.load (claims_in r.log) (claim_of a) place (IsSound-legal r book.legal).order (its_claim (accepted_in r.log) a live.there) live.live over in
+    let Over : Record → Type 0 = λ x. place_after (left_by x a) x.clock a c.args.load ≡ Some place in
+    let taken = taken_after (left_by r a) r.clock c.args.load a place (subst Over (sym c.self.view_is) c.requires.place) in
+    let over = taken.1 in
+    let ahead = held_ahead r.clock c.args.load (claims_in r.log) (claim_of a) place (IsSound-legal r book.legal).order (its_claim (accepted_in r.log) a live.there taken.0) live.live over in
     let asked = c.fits_behind.ensures
     ∙ ap (λ (leaving : Option ℕ). answer_for (remaining_without leaving c.self.inside.budget) (excess_over place.behind c.args.load c.self.inside.budget)) c.leaving_at.ensures
     ∙ ap (λ (l : List Held). answer_for (remaining_without (cond (end == r.clock) (Some a.message.number) None) l) (excess_over place.behind c.args.load l)) book.held

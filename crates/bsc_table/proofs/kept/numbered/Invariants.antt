@@ -1,8 +1,0 @@
-use Rattle.std.proofs.Common.{◌≡◌, ◌==◌, drop, map}
-use Rattle.std.specs.List.{find}
-use Rattle.bsc_table.specs.Book.{accepted_of}
-use Rattle.bsc_table.proofs.kept.numbered.Given as goal
-
-abbrev pub invariant-loop-kept : goal.invariant-loop-kept
-invariant-loop-kept l =
-    find (λ a. a.message.number == l.number) (map accepted_of (drop l.kept-index l.table)) ≡ find (λ a. a.message.number == l.number) (map accepted_of l.table)
