@@ -274,7 +274,7 @@ pub record IsLater (r : Record) (old : Accepted) (load : ℕ) (later : Option Ke
 -- holds what they have reserved at the clock, and there is room for what all slots will air
 pub record IsBook (b : Inside) : Type 0 where
   pub legal : IsLegal (record_of b)
-  pub short : b.slots ≤ 4096
+  pub short : b.slots ≤ 65535
   pub kept : map accepted_of b.accepted.items ≡ accepted_in b.log.items
   pub follows : Follows b.plan (messages_in b.log.items) (air_told b.air.items)
   pub held : b.budget ≡ lines_at b.clock (claims_in b.log.items)

@@ -80,13 +80,12 @@ impl Model for CellBook {
 }
 
 impl CellBook {
-    /// A book of `cell` for a run of `slots` slots, at most 4,096, with no entry and at slot 0.
+    /// A book of `cell` for a run of `slots` slots, at most 65,535, with no entry and at slot 0.
     ///
     /// # Errors
     ///
     /// `Refused` for want of memory, which a run of no slots doesn't take.
     pub fn open(alloc: Global, cell: Cell, slots: u16) -> Result<CellBook, Refused>
-        requires { slots ≤ 4096 }
         ensures opened { IfOk result (λ book. book ≡ record { cell = cell; slots = slots; clock = 0; log = []; air = [] }) }
         ensures refused { IfErr result (λ refused. 0 < slots) }
     {

@@ -14,4 +14,6 @@ mod orders_vectors;
 #[cfg(test)]
 mod refusals;
 #[cfg(test)]
+mod runs;
+#[cfg(test)]
 mod takeovers;

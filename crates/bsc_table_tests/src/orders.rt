@@ -228,7 +228,6 @@ fn expect_step(
 
 /// The book of a run of as many slots, after these steps.
 pub fn run(rt: &impl Abort, alloc: Global, slots: u16, steps: &[Step]) -> Result<CellBook, Fail> {
-    assert!(rt; slots <= 4096);
     let mut book = CellBook::open(alloc, Cell { lac: 1, ci: 1 }, slots)?;
     go_on(rt, alloc, &mut book, steps)?;
     Ok(book)
