@@ -48,16 +48,32 @@ has_room slot load claims order room fits =
     let yes : answer_by places (claimed_at claims slot) load ≡ Ok tt = rw (lt-ltb (length (filter (is_claimed_at slot) claims)) 64 room, le-leb (claimed_at claims slot + load) SCALE fits) refl in
     same_room slot load claims (lined slot claims order) ∙ yes
 
-room_now : (slot : ℕ) (before : List Accepted) (a : Accepted) → AreInOrder (claims_of before) slot → layer a.message ≡ 0 → length (filter (is_claimed_at slot) (claims_of before)) < 64 → StartsNow slot before a → HasRoomFor slot (lines_at slot (claims_of before)) (claim_of a) a.behind
+room_now : (slot : ℕ) (before : List Accepted) (a : Accepted)
+    → AreInOrder (claims_of before) slot
+    → layer a.message ≡ 0
+    → length (filter (is_claimed_at slot) (claims_of before)) < 64
+    → StartsNow slot before a
+    → HasRoomFor slot (lines_at slot (claims_of before)) (claim_of a) a.behind
 room_now slot before a order front room now =
     subst (HasRoomFor slot (lines_at slot (claims_of before)) (claim_of a)) (sym now.behind) (omega (arith, now.start), has_room slot (own_load a.message) (claims_of before) order room (now.fits front))
 
 -- a message in the place of none has room
-pub room_for_new : (number slot : ℕ) (before : List Accepted) (a : Accepted) → AreInOrder (claims_of before) slot → IsBegun number slot None before a → layer a.message ≡ 0 → HasRoomFor slot (lines_at slot (claims_of before)) (claim_of a) a.behind
+pub room_for_new : (number slot : ℕ) (before : List Accepted) (a : Accepted)
+    → AreInOrder (claims_of before) slot
+    → IsBegun number slot None before a
+    → layer a.message ≡ 0
+    → HasRoomFor slot (lines_at slot (claims_of before)) (claim_of a) a.behind
 room_for_new number slot before a order begun front = room_now slot before a order front (begun.room front) begun.starts
 
 -- and so has one in the place of a live one
-pub room_for_replacement : (number slot : ℕ) (all : List Accepted) (old a : Accepted) → AreInOrder (claims_of all) slot → AllPairs BelowIt all → Contains all old → is_live slot old.message ≡ true → IsBegun number slot (Some old) (map (stop_numbered old.message.number slot) all) a → layer a.message ≡ 0 → HasRoomFor slot (lines_at slot (stop_claims old.message.number slot (claims_of all))) (claim_of a) a.behind
+pub room_for_replacement : (number slot : ℕ) (all : List Accepted) (old a : Accepted)
+    → AreInOrder (claims_of all) slot
+    → AllPairs BelowIt all
+    → Contains all old
+    → is_live slot old.message ≡ true
+    → IsBegun number slot (Some old) (map (stop_numbered old.message.number slot) all) a
+    → layer a.message ≡ 0
+    → HasRoomFor slot (lines_at slot (stop_claims old.message.number slot (claims_of all))) (claim_of a) a.behind
 room_for_replacement number slot all old a order rising here live begun front =
     let of_old = old.message.number in
     let claims = claims_of all in

@@ -31,7 +31,11 @@ due_no_later a b i j one other h =
     ]
 
 -- a slot airs what is due by then, or nothing that is due by then is pending
-chosen_due : (messages : List Message) (air : Air) (to slot : ℕ) (used : Option (ℕ × ℕ)) → NoBackground messages → get_or air slot None ≡ used → IsChosen messages air slot used → AirsDue messages air to slot ⊎ NoneDue messages air to slot
+chosen_due : (messages : List Message) (air : Air) (to slot : ℕ) (used : Option (ℕ × ℕ))
+    → NoBackground messages
+    → get_or air slot None ≡ used
+    → IsChosen messages air slot used
+    → AirsDue messages air to slot ⊎ NoneDue messages air to slot
 chosen_due messages air to slot None alone same chosen =
     inr (λ k d within. λ j pending. absurd (chosen k d within j pending))
 chosen_due messages air to slot (Some used) alone same chosen =
@@ -53,7 +57,13 @@ record IsBusyFrom (messages : List Message) (air : Air) (at to from : ℕ) : Typ
   busy : (slot : ℕ) → from ≤ slot → slot < to → AirsDue messages air to slot
   begins : (slot : ℕ) → from ≡ slot + 1 → NoneDue messages air to slot
 
-busy_from : (messages : List Message) (air : Air) (to at : ℕ) → NoBackground messages → IsAirOf messages air → at ≤ to → to ≤ length air → ((slot : ℕ) → at ≤ slot → slot < to → AirsDue messages air to slot) → (from : ℕ) × IsBusyFrom messages air at to from
+busy_from : (messages : List Message) (air : Air) (to at : ℕ)
+    → NoBackground messages
+    → IsAirOf messages air
+    → at ≤ to
+    → to ≤ length air
+    → ((slot : ℕ) → at ≤ slot → slot < to → AirsDue messages air to slot)
+    → (from : ℕ) × IsBusyFrom messages air at to from
 busy_from messages air to zero alone rule before within busy =
     (0, record { early = omega arith; busy = busy; begins = λ slot e. absurd (omega arith) })
 busy_from messages air to (suc at) alone rule before within busy =

@@ -180,7 +180,11 @@ takes_over r old new place replaced completed legal live offered room front afte
     at_place : Accepted → Accepted
     at_place x = record x { behind = Some place.behind; excess = place.excess; message = record (x.message) { start = place.start } }
 
-    moved : (number slot : ℕ) → write_message new.number new.accepted new.start new.behind new.excess id serial (length contents) period broadcasts (rank_of category) ≡ accepted_of new → new.number ≡ number → new.accepted ≡ slot → write_message number slot place.start (Some place.behind) place.excess id serial (length contents) period broadcasts (rank_of category) ≡ accepted_of (waiting_at new place)
+    moved : (number slot : ℕ)
+        → write_message new.number new.accepted new.start new.behind new.excess id serial (length contents) period broadcasts (rank_of category) ≡ accepted_of new
+        → new.number ≡ number
+        → new.accepted ≡ slot
+        → write_message number slot place.start (Some place.behind) place.excess id serial (length contents) period broadcasts (rank_of category) ≡ accepted_of (waiting_at new place)
     moved number slot same_new same_number same_slot =
         ap (λ n. write_message n slot place.start (Some place.behind) place.excess id serial (length contents) period broadcasts (rank_of category)) (sym same_number)
         ∙ ap (λ n. write_message new.number n place.start (Some place.behind) place.excess id serial (length contents) period broadcasts (rank_of category)) (sym same_slot)

@@ -140,7 +140,11 @@ standing_beside plan slot log a told m same found =
     subst P (sym same) (there.0, found.1, there.1, there.2, found.4)
 
 -- its line is held
-pub held_in : (r : Record) (a : Accepted) → IsLegal r → IsLiveIn r a → layer a.message ≡ 0 → Any (λ h. h.entry ≡ a.message.number) (lines_at r.clock (claims_in r.log))
+pub held_in : (r : Record) (a : Accepted)
+    → IsLegal r
+    → IsLiveIn r a
+    → layer a.message ≡ 0
+    → Any (λ h. h.entry ≡ a.message.number) (lines_at r.clock (claims_in r.log))
 held_in r a legal live front =
     let order = (IsSound-legal r legal).order in
     let here = its_claim (accepted_in r.log) a live.there front in
@@ -150,7 +154,11 @@ held_in r a legal live front =
     (line.0, line_of r.clock (claim_of a), line.1, line.2, refl)
 
 -- and none waits behind it
-pub free_of : (r : Record) (a : Accepted) → IsLegal r → IsLiveIn r a → layer a.message ≡ 0 → All (λ h. behind_of h ≢ Some a.message.number) (lines_at r.clock (claims_in r.log))
+pub free_of : (r : Record) (a : Accepted)
+    → IsLegal r
+    → IsLiveIn r a
+    → layer a.message ≡ 0
+    → All (λ h. behind_of h ≢ Some a.message.number) (lines_at r.clock (claims_in r.log))
 free_of r a legal live front =
     none_behind_live r.clock (claims_in r.log) (claim_of a) (IsSound-legal r legal).order (its_claim (accepted_in r.log) a live.there front) live.live
 
@@ -196,7 +204,14 @@ pub lines_without : (r : Record) (a : Accepted)
 lines_without r a legal live =
     lines_at-stopped r.clock a.message.number (end_of_stopped a.message.start a.message.period r.clock) (claims_in r.log) (IsSound-legal r legal).order.accepted (ended_claims r a legal live)
 
-pub released_lines : (r : Record) (a : Accepted) (before after : List Held) → IsLegal r → IsLiveIn r a → before ≡ lines_at r.clock (claims_in r.log) → (back : Bool) → (layer a.message == 0) ≡ not back → after ≡ cond back before (passed r.clock (ends_at a.message.number (end_of_stopped a.message.start a.message.period r.clock) before)) → after ≡ lines_at r.clock (stop_claims a.message.number r.clock (claims_in r.log))
+pub released_lines : (r : Record) (a : Accepted) (before after : List Held)
+    → IsLegal r
+    → IsLiveIn r a
+    → before ≡ lines_at r.clock (claims_in r.log)
+    → (back : Bool)
+    → (layer a.message == 0) ≡ not back
+    → after ≡ cond back before (passed r.clock (ends_at a.message.number (end_of_stopped a.message.start a.message.period r.clock) before))
+    → after ≡ lines_at r.clock (stop_claims a.message.number r.clock (claims_in r.log))
 released_lines r a before after legal live held true back released =
     let sound = IsSound-legal r legal in
     let other : layer a.message ≡ 0 → ⊥ = λ front. false≢true (sym back ∙ eq-eqb (layer a.message) 0 front) in
@@ -211,11 +226,20 @@ pub claims_without : (log : List Entry) (e : Entry) (number slot : ℕ)
     → claims_in (log ++ e ∷ []) ≡ stop_claims number slot (claims_in log)
 claims_without log e number slot after = ap claims_of after ∙ claims_stopped number slot (accepted_in log)
 
-pub claims_with : (log : List Entry) (e : Entry) (all : List Accepted) (a : Accepted) → accepted_in (log ++ e ∷ []) ≡ all ++ a ∷ [] → claims_in (log ++ e ∷ []) ≡ claims_of all ++ filter reserves (claim_of a ∷ [])
+pub claims_with : (log : List Entry) (e : Entry) (all : List Accepted) (a : Accepted)
+    → accepted_in (log ++ e ∷ []) ≡ all ++ a ∷ []
+    → claims_in (log ++ e ∷ []) ≡ claims_of all ++ filter reserves (claim_of a ∷ [])
 claims_with log e all a after = ap claims_of after ∙ claims_more all a
 
 -- the lines with the one of a message that begins, if it isn't background
-pub begun_lines : (number slot : ℕ) (replaced : Option Accepted) (before : List Accepted) (claims : List Claim) (a : Accepted) → IsBegun number slot replaced before a → (held after : List Held) → held ≡ lines_at slot claims → (back : Bool) → (layer a.message == 0) ≡ not back → after ≡ cond back held (held ++ line_of slot (claim_of a) ∷ []) → after ≡ lines_at slot (claims ++ filter reserves (claim_of a ∷ []))
+pub begun_lines : (number slot : ℕ) (replaced : Option Accepted) (before : List Accepted) (claims : List Claim) (a : Accepted)
+    → IsBegun number slot replaced before a
+    → (held after : List Held)
+    → held ≡ lines_at slot claims
+    → (back : Bool)
+    → (layer a.message == 0) ≡ not back
+    → after ≡ cond back held (held ++ line_of slot (claim_of a) ∷ [])
+    → after ≡ lines_at slot (claims ++ filter reserves (claim_of a ∷ []))
 begun_lines number slot replaced before claims a begun held after same true back reserved =
     let none : filter reserves (claim_of a ∷ []) ≡ [] = ap (λ (b : Bool). cond b (claim_of a ∷ []) []) back in
     reserved ∙ same ∙ ap (lines_at slot) (sym (append-nil claims) ∙ ap (λ (l : List Claim). claims ++ l) (sym none))
@@ -223,7 +247,9 @@ begun_lines number slot replaced before claims a begun held after same false fro
     let one : filter reserves (claim_of a ∷ []) ≡ claim_of a ∷ [] = ap (λ (b : Bool). cond b (claim_of a ∷ []) []) front in
     reserved ∙ ap (λ (l : List Held). l ++ line_of slot (claim_of a) ∷ []) same ∙ sym (new_line number slot replaced before claims a begun) ∙ ap (λ (l : List Claim). lines_at slot (claims ++ l)) (sym one)
   where
-    new_line : (number slot : ℕ) (replaced : Option Accepted) (before : List Accepted) (claims : List Claim) (a : Accepted) → IsBegun number slot replaced before a → lines_at slot (claims ++ claim_of a ∷ []) ≡ lines_at slot claims ++ line_of slot (claim_of a) ∷ []
+    new_line : (number slot : ℕ) (replaced : Option Accepted) (before : List Accepted) (claims : List Claim) (a : Accepted)
+        → IsBegun number slot replaced before a
+        → lines_at slot (claims ++ claim_of a ∷ []) ≡ lines_at slot claims ++ line_of slot (claim_of a) ∷ []
     new_line number slot replaced before claims a begun =
         lines_at-new slot claims (claim_of a) (new_is_claimed slot (claim_of a) begun.accepted (starts_forward slot replaced before a begun.starts) begun.some_period begun.standing)
 

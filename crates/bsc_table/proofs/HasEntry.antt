@@ -21,12 +21,16 @@ use Rattle.bsc_table.specs.Book.{has_entry}
 abbrev HasOne : Answer → Type 0
 HasOne answer = has_entry answer ≡ true
 
-of_place : (claims : List Claim) (slot : ℕ) (accepts : ℕ → Answer) (place : Option Place) → ((start : ℕ) → HasOne (accepts start)) → HasOne (answer_at claims slot accepts place)
+of_place : (claims : List Claim) (slot : ℕ) (accepts : ℕ → Answer) (place : Option Place)
+    → ((start : ℕ) → HasOne (accepts start))
+    → HasOne (answer_at claims slot accepts place)
 of_place claims slot accepts None has = refl
 of_place claims slot accepts (Some p) has =
     cond_both (ltb SCALE (claimed_at claims slot + p.excess)) (answers.Cause 0x06) (accepts p.start) HasOne (λ _. refl) (λ _. has p.start)
 
-of_category : (category : Category) (claims : List Claim) (slot load : ℕ) (place : Option Place) (accepts : ℕ → Answer) → ((start : ℕ) → HasOne (accepts start)) → HasOne (answer_for category claims slot load place accepts)
+of_category : (category : Category) (claims : List Claim) (slot load : ℕ) (place : Option Place) (accepts : ℕ → Answer)
+    → ((start : ℕ) → HasOne (accepts start))
+    → HasOne (answer_for category claims slot load place accepts)
 of_category category claims slot load place accepts has =
     let later : Answer = answer_at claims slot accepts place in
     let now : Answer = cond (ltb SCALE (claimed_at claims slot + load)) later (accepts slot) in
@@ -38,12 +42,15 @@ of_pair : (named : Option Message) (answer : Answer) → HasOne answer → HasOn
 of_pair None answer has = has
 of_pair (Some m) answer has = refl
 
-of_one : (slot : ℕ) (found : Option Accepted) (answer : Accepted → Answer) → ((a : Accepted) → HasOne (answer a)) → HasOne (of_live slot found answer)
+of_one : (slot : ℕ) (found : Option Accepted) (answer : Accepted → Answer)
+    → ((a : Accepted) → HasOne (answer a))
+    → HasOne (of_live slot found answer)
 of_one slot None answer has = refl
 of_one slot (Some a) answer has =
     cond_both (is_live slot a.message) (answer a) (answers.Cause 0x02) HasOne (λ _. has a) (λ _. refl)
 
-of_write : (log : List Entry) (air : Air) (slot id serial : ℕ) (replaces : Option ℕ) (category : Category) (load : ℕ) → HasOne (answer_to_write log air slot id serial replaces category load)
+of_write : (log : List Entry) (air : Air) (slot id serial : ℕ) (replaces : Option ℕ) (category : Category) (load : ℕ)
+    → HasOne (answer_to_write log air slot id serial replaces category load)
 of_write log air slot id serial None category load =
     of_pair (message_named id serial log) (answer_to_new log slot category load) (of_category category (claims_in log) slot load None (λ start. answers.Started start) (λ start. refl))
 of_write log air slot id serial (Some replaced) category load =
@@ -55,7 +62,8 @@ of_status : (air : Air) (slot : ℕ) (named : Option Message) → HasOne (told_o
 of_status air slot None = refl
 of_status air slot (Some m) = refl
 
-pub has_entry-with_room : (slots : ℕ) (log : List Entry) (air : Air) (slot : ℕ) (command : Command) → HasOne (answer_with_room slots log air slot command)
+pub has_entry-with_room : (slots : ℕ) (log : List Entry) (air : Air) (slot : ℕ) (command : Command)
+    → HasOne (answer_with_room slots log air slot command)
 has_entry-with_room slots log air slot (commands.Status id serial) = of_status air slot (message_named id serial log)
 has_entry-with_room slots log air slot (commands.Kill id serial) =
     let kill = of_one slot (accepted_named id serial log) (λ a. answers.Stopped (completed a.message air slot)) (λ a. refl) in

@@ -16,7 +16,7 @@ use Rattle.scheduler.specs.Message.{Message}
 use Rattle.scheduler.proofs.Choice.{IsAirOf-air_of}
 use Rattle.admission.specs.declared.measure.TheConstants.{SCALE}
 use Rattle.bsc_table.specs.declared.command.Category.{Category}
-use Rattle.bsc_table.specs.declared.command.Category.TheVariants.{High, Normal}
+use Rattle.bsc_table.specs.declared.command.Category.TheVariants.{High, Normal, Background}
 use Rattle.bsc_table.specs.declared.command.Command.{Command}
 use Rattle.bsc_table.specs.declared.command.Command.TheVariants as commands
 use Rattle.bsc_table.specs.declared.entry.Answer.{Answer}
@@ -356,6 +356,25 @@ the_65th_has_no_place = refl
 -- in the place of one of them it has, since that one's load ends at once
 replacement_has_a_place : answer (many 64) 0 (write 64 (Some 63) Normal 1 1024 0) ≡ answers.Replaced 0 0
 replacement_has_a_place = refl
+
+-- a background message needs neither load nor place, takes none from others, and leaves nobody its slots
+abbrev beside_three : List Entry
+beside_three = three ++ entry (write 4 None Background 2 4 0) 0 (answers.Started 0) ∷ []
+
+background_needs_no_load : answer three 0 (write 4 None Background 2 4 0) ≡ answers.Started 0
+background_needs_no_load = refl
+
+background_needs_no_place : answer (many 64) 0 (write 64 None Background 1 1024 0) ≡ answers.Started 0
+background_needs_no_place = refl
+
+background_takes_no_load : claimed_at (claims_in beside_three) 0 ≡ SCALE
+background_takes_no_load = refl
+
+background_leaves_no_place : answer beside_three 1 (write 5 (Some 4) Normal 1 3 0) ≡ answers.Cause 0x06
+background_leaves_no_place = refl
+
+background_replaces_at_once : answer beside_three 1 (write 5 (Some 3) Background 1 3 0) ≡ answers.Replaced 1 0
+background_replaces_at_once = refl
 
 -- a log of 4,096 entries answers nothing else than that it is full
 full_log : (log : List Entry) (air : Air) (slots slot : ℕ) (command : Command) → 4096 ≤ length log → answer_of slots log air slot command ≡ answers.Cause 0x08

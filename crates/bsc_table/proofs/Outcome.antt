@@ -191,15 +191,24 @@ beside_cases P claims slot load place accepts refuses now later =
     cond_both (leb 64 places) (answers.Cause 0x07) (cond (ltb SCALE sum) (answer_at claims slot accepts place) (accepts slot)) P (λ _. refuses 0x07) (λ few. cond_both (ltb SCALE sum) (answer_at claims slot accepts place) (accepts slot) P (λ _. at_cases P claims slot accepts place refuses (later (room few))) (λ fits. now (room few) (ltb-false SCALE sum fits)))
 
 -- a background message is accepted at once; of the others there is a place of the table, and room
-pub for_cases : (P : Answer → Type 0) (category : Category) (claims : List Claim) (slot load : ℕ) (place : Option Place) (accepts : ℕ → Answer) → ((cause : ℕ) → P (answers.Cause cause)) → ((layer_of (rank_of category) ≡ 0 → length (filter (is_claimed_at slot) claims) < 64) → (layer_of (rank_of category) ≡ 0 → claimed_at claims slot + load ≤ SCALE) → P (accepts slot)) → (layer_of (rank_of category) ≡ 0 → length (filter (is_claimed_at slot) claims) < 64 → (p : Place) → place ≡ Some p → claimed_at claims slot + p.excess ≤ SCALE → P (accepts p.start)) → P (answer_for category claims slot load place accepts)
+pub for_cases : (P : Answer → Type 0) (category : Category) (claims : List Claim) (slot load : ℕ) (place : Option Place) (accepts : ℕ → Answer)
+    → ((cause : ℕ) → P (answers.Cause cause))
+    → ((layer_of (rank_of category) ≡ 0 → length (filter (is_claimed_at slot) claims) < 64) → (layer_of (rank_of category) ≡ 0 → claimed_at claims slot + load ≤ SCALE) → P (accepts slot))
+    → (layer_of (rank_of category) ≡ 0 → length (filter (is_claimed_at slot) claims) < 64 → (p : Place) → place ≡ Some p → claimed_at claims slot + p.excess ≤ SCALE → P (accepts p.start))
+    → P (answer_for category claims slot load place accepts)
 for_cases P category claims slot load place accepts refuses now later =
     cond_both (is_background category) (accepts slot) (answer_beside claims slot load place accepts) P (λ is. now (λ front. absurd (not_in_front category is front)) (λ front. absurd (not_in_front category is front))) (λ is. beside_cases P claims slot load place accepts refuses (λ room fits. now (λ _. room) (λ _. fits)) (later (in_front category is)))
 
 -- a place that is left is left by a message that isn't background
-pub taken_after : (claims : List Claim) (slot load : ℕ) (old : Accepted) (place : Place) → place_after claims slot old load ≡ Some place → (layer old.message ≡ 0) × (handover claims slot (claim_of old) load ≡ Some place)
+pub taken_after : (claims : List Claim) (slot load : ℕ) (old : Accepted) (place : Place)
+    → place_after claims slot old load ≡ Some place
+    → (layer old.message ≡ 0) × (handover claims slot (claim_of old) load ≡ Some place)
 taken_after claims slot load old place is = one (layer old.message == 0) refl is
   where
-    one : (says : Bool) → (layer old.message == 0) ≡ says → cond says (handover claims slot (claim_of old) load) None ≡ Some place → (layer old.message ≡ 0) × (handover claims slot (claim_of old) load ≡ Some place)
+    one : (says : Bool)
+        → (layer old.message == 0) ≡ says
+        → cond says (handover claims slot (claim_of old) load) None ≡ Some place
+        → (layer old.message ≡ 0) × (handover claims slot (claim_of old) load ≡ Some place)
     one true front over = (eqb-true (layer old.message) 0 front, over)
     one false back over = absurd (none-some place over)
 
@@ -220,7 +229,9 @@ pub claims_stopped : (number slot : ℕ) (all : List Accepted)
 claims_stopped number slot [] = refl
 claims_stopped number slot (a ∷ all) = one (reserves (claim_of a)) (claims_stopped number slot all)
   where
-    one : (says : Bool) → claims_of (map (stop_numbered number slot) all) ≡ stop_claims number slot (claims_of all) → cond says (claim_of (stop_numbered number slot a) ∷ claims_of (map (stop_numbered number slot) all)) (claims_of (map (stop_numbered number slot) all)) ≡ stop_claims number slot (cond says (claim_of a ∷ claims_of all) (claims_of all))
+    one : (says : Bool)
+        → claims_of (map (stop_numbered number slot) all) ≡ stop_claims number slot (claims_of all)
+        → cond says (claim_of (stop_numbered number slot a) ∷ claims_of (map (stop_numbered number slot) all)) (claims_of (map (stop_numbered number slot) all)) ≡ stop_claims number slot (cond says (claim_of a ∷ claims_of all) (claims_of all))
     one true rest = ap (λ (l : List Claim). claim_of (stop_numbered number slot a) ∷ l) rest
     one false rest = rest
 
@@ -240,7 +251,12 @@ kill_outcome log air slot id serial once =
     })
 
 -- the message that starts at once is such as may be accepted
-pub begun_now : (all before : List Accepted) (number slot : ℕ) (replaced : Option Accepted) (id serial : ℕ) (category : Category) (period broadcasts : ℕ) (dcs : Dcs) (contents : List Content) → IsBroadcastable period dcs contents → (StartsNow slot before (new_message all number slot slot None id serial category period broadcasts contents) → Starts slot replaced before (new_message all number slot slot None id serial category period broadcasts contents)) → (layer_of (rank_of category) ≡ 0 → length (filter (is_claimed_at slot) (claims_of before)) < 64) → (layer_of (rank_of category) ≡ 0 → claimed_at (claims_of before) slot + load_of (length contents) period ≤ SCALE) → IsBegun number slot replaced before (new_message all number slot slot None id serial category period broadcasts contents)
+pub begun_now : (all before : List Accepted) (number slot : ℕ) (replaced : Option Accepted) (id serial : ℕ) (category : Category) (period broadcasts : ℕ) (dcs : Dcs) (contents : List Content)
+    → IsBroadcastable period dcs contents
+    → (StartsNow slot before (new_message all number slot slot None id serial category period broadcasts contents) → Starts slot replaced before (new_message all number slot slot None id serial category period broadcasts contents))
+    → (layer_of (rank_of category) ≡ 0 → length (filter (is_claimed_at slot) (claims_of before)) < 64)
+    → (layer_of (rank_of category) ≡ 0 → claimed_at (claims_of before) slot + load_of (length contents) period ≤ SCALE)
+    → IsBegun number slot replaced before (new_message all number slot slot None id serial category period broadcasts contents)
 begun_now all before number slot replaced id serial category period broadcasts dcs contents formed either room fits = record {
   numbered = refl;
   accepted = refl;
@@ -251,7 +267,9 @@ begun_now all before number slot replaced id serial category period broadcasts d
   starts = either (record { start = refl; behind = refl; fits = fits });
 }
 
-new_outcome : (log : List Entry) (slot id serial : ℕ) (category : Category) (period broadcasts : ℕ) (dcs : Dcs) (contents : List Content) → IsBroadcastable period dcs contents → Outcome log (entry_with (commands.Write id serial None category period broadcasts dcs contents) slot (unless_accepted (message_named id serial log) (answer_to_new log slot category (load_of (length contents) period))))
+new_outcome : (log : List Entry) (slot id serial : ℕ) (category : Category) (period broadcasts : ℕ) (dcs : Dcs) (contents : List Content)
+    → IsBroadcastable period dcs contents
+    → Outcome log (entry_with (commands.Write id serial None category period broadcasts dcs contents) slot (unless_accepted (message_named id serial log) (answer_to_new log slot category (load_of (length contents) period))))
 new_outcome log slot id serial category period broadcasts dcs contents formed =
     let command = commands.Write id serial None category period broadcasts dcs contents in
     let P : Answer → Type 0 = λ answer. Outcome log (entry_with command slot answer) in
@@ -289,7 +307,11 @@ placed_at log slot load old place order over =
     ap (λ (o : Option ℕ). excess_over load (numbered o claims)) named ∙ ap (excess_over load) found in
     (took.later, behind, omega (arith, excess, took.excess, loads))
 
-replacement_outcome : (log : List Entry) (air : Air) (slot id serial old : ℕ) (category : Category) (period broadcasts : ℕ) (dcs : Dcs) (contents : List Content) → AllPairs OfAnotherPair (accepted_in log) → AreInOrder (claims_in log) slot → IsBroadcastable period dcs contents → Outcome log (entry_with (commands.Write id serial (Some old) category period broadcasts dcs contents) slot (answer_to_write log air slot id serial (Some old) category (load_of (length contents) period)))
+replacement_outcome : (log : List Entry) (air : Air) (slot id serial old : ℕ) (category : Category) (period broadcasts : ℕ) (dcs : Dcs) (contents : List Content)
+    → AllPairs OfAnotherPair (accepted_in log)
+    → AreInOrder (claims_in log) slot
+    → IsBroadcastable period dcs contents
+    → Outcome log (entry_with (commands.Write id serial (Some old) category period broadcasts dcs contents) slot (answer_to_write log air slot id serial (Some old) category (load_of (length contents) period)))
 replacement_outcome log air slot id serial old category period broadcasts dcs contents once order formed =
     let command = commands.Write id serial (Some old) category period broadcasts dcs contents in
     let P : Answer → Type 0 = λ answer. Outcome log (entry_with command slot answer) in

@@ -26,40 +26,63 @@ use Rattle.bsc_table.proofs.Entering.{left_in_order}
 abbrev pub is_reserved_as : ℕ → Accepted → Bool
 is_reserved_as number a = (a.message.number == number) && (layer a.message == 0)
 
-numbered_left : (of_old slot number : ℕ) (all : List Accepted) → numbered (Some number) (stop_claims of_old slot (claims_of all)) ≡ option_map (λ a. stop_claim of_old slot (claim_of a)) (find (is_reserved_as number) all)
+numbered_left : (of_old slot number : ℕ) (all : List Accepted)
+    → numbered (Some number) (stop_claims of_old slot (claims_of all)) ≡ option_map (λ a. stop_claim of_old slot (claim_of a)) (find (is_reserved_as number) all)
 numbered_left of_old slot number [] = refl
 numbered_left of_old slot number (a ∷ all) =
     one (a.message.number == number) refl (layer a.message == 0) (numbered_left of_old slot number all)
   where
-    one : (named : Bool) → (a.message.number == number) ≡ named → (front : Bool) → numbered (Some number) (stop_claims of_old slot (claims_of all)) ≡ option_map (λ x. stop_claim of_old slot (claim_of x)) (find (is_reserved_as number) all) → numbered (Some number) (stop_claims of_old slot (cond front (claim_of a ∷ claims_of all) (claims_of all))) ≡ option_map (λ x. stop_claim of_old slot (claim_of x)) (cond (named && front) (Some a) (find (is_reserved_as number) all))
+    one : (named : Bool)
+        → (a.message.number == number) ≡ named
+        → (front : Bool)
+        → numbered (Some number) (stop_claims of_old slot (claims_of all)) ≡ option_map (λ x. stop_claim of_old slot (claim_of x)) (find (is_reserved_as number) all)
+        → numbered (Some number) (stop_claims of_old slot (cond front (claim_of a ∷ claims_of all) (claims_of all))) ≡ option_map (λ x. stop_claim of_old slot (claim_of x)) (cond (named && front) (Some a) (find (is_reserved_as number) all))
     one true e true rest = ap (λ (b : Bool). cond b (Some (stop_claim of_old slot (claim_of a))) (numbered (Some number) (stop_claims of_old slot (claims_of all)))) e
     one true e false rest = rest
     one false e true rest = ap (λ (b : Bool). cond b (Some (stop_claim of_old slot (claim_of a))) (numbered (Some number) (stop_claims of_old slot (claims_of all)))) e ∙ rest
     one false e false rest = rest
 
 -- what is looked up, by the number of the message ahead
-ahead_in : (r : Record) (old : Accepted) (number load : ℕ) (found : Option Accepted) → ahead_of r.clock (claim_of old) ≡ Some number → find (is_reserved_as number) (accepted_in r.log) ≡ found → handover (left_by r old) r.clock (claim_of old) load ≡ place_behind r.clock load (option_map (λ a. stop_claim old.message.number r.clock (claim_of a)) found)
+ahead_in : (r : Record) (old : Accepted) (number load : ℕ) (found : Option Accepted)
+    → ahead_of r.clock (claim_of old) ≡ Some number
+    → find (is_reserved_as number) (accepted_in r.log) ≡ found
+    → handover (left_by r old) r.clock (claim_of old) load ≡ place_behind r.clock load (option_map (λ a. stop_claim old.message.number r.clock (claim_of a)) found)
 ahead_in r old number load found ahead e =
     ap (λ (o : Option ℕ). place_behind r.clock load (numbered o (left_by r old))) ahead
     ∙ ap (place_behind r.clock load) (numbered_left old.message.number r.clock number (accepted_in r.log) ∙ ap (option_map (λ (a : Accepted). stop_claim old.message.number r.clock (claim_of a))) e)
 
 -- where there is none, there is no place
-pub none_ahead : (r : Record) (old : Accepted) (number load : ℕ) → ahead_of r.clock (claim_of old) ≡ Some number → find (is_reserved_as number) (accepted_in r.log) ≡ None → handover (left_by r old) r.clock (claim_of old) load ≡ None
+pub none_ahead : (r : Record) (old : Accepted) (number load : ℕ)
+    → ahead_of r.clock (claim_of old) ≡ Some number
+    → find (is_reserved_as number) (accepted_in r.log) ≡ None
+    → handover (left_by r old) r.clock (claim_of old) load ≡ None
 none_ahead r old number load ahead e = ahead_in r old number load None ahead e
 
-number_found : (number : ℕ) (all : List Accepted) (a : Accepted) → find (is_reserved_as number) all ≡ Some a → Contains all a × (a.message.number ≡ number) × (layer a.message ≡ 0)
+number_found : (number : ℕ) (all : List Accepted) (a : Accepted)
+    → find (is_reserved_as number) all ≡ Some a
+    → Contains all a × (a.message.number ≡ number) × (layer a.message ≡ 0)
 number_found number all a found =
     let p : Accepted → Bool = is_reserved_as number in
     let passes = and_parts (a.message.number == number) (layer a.message == 0) (find_passes p all a found) in
     (Contains-find p all a found, eqb-true a.message.number number passes.0, eqb-true (layer a.message) 0 passes.1)
 
 -- a message that is found has a period
-pub found_lasts : (r : Record) (number : ℕ) (a : Accepted) → IsLegal r → find (is_reserved_as number) (accepted_in r.log) ≡ Some a → 0 < a.message.period
+pub found_lasts : (r : Record) (number : ℕ) (a : Accepted)
+    → IsLegal r
+    → find (is_reserved_as number) (accepted_in r.log) ≡ Some a
+    → 0 < a.message.period
 found_lasts r number a legal found =
     (All-contains HasLoad (accepted_in r.log) a (IsSound-legal r legal).loaded (number_found number (accepted_in r.log) a found).0).1
 
 -- the message ahead was stopped, if a place behind it can be taken over
-is_stopped_there : (r : Record) (old : Accepted) (number load : ℕ) (a : Accepted) (place : Place) → IsLegal r → IsLiveIn r old → layer old.message ≡ 0 → ahead_of r.clock (claim_of old) ≡ Some number → find (is_reserved_as number) (accepted_in r.log) ≡ Some a → handover (left_by r old) r.clock (claim_of old) load ≡ Some place → is_some (stop_claim old.message.number r.clock (claim_of a)).message.stop ≡ true
+is_stopped_there : (r : Record) (old : Accepted) (number load : ℕ) (a : Accepted) (place : Place)
+    → IsLegal r
+    → IsLiveIn r old
+    → layer old.message ≡ 0
+    → ahead_of r.clock (claim_of old) ≡ Some number
+    → find (is_reserved_as number) (accepted_in r.log) ≡ Some a
+    → handover (left_by r old) r.clock (claim_of old) load ≡ Some place
+    → is_some (stop_claim old.message.number r.clock (claim_of a)).message.stop ≡ true
 is_stopped_there r old number load a place legal live front ahead found over =
     let claims = claims_in r.log in
     let of_old = old.message.number in
@@ -75,7 +98,13 @@ is_stopped_there r old number load a place legal live front ahead found over =
     ap (λ (c : Claim). is_some c.message.stop) (sym is) ∙ free.ahead.stopped
 
 -- so the place is that behind it, by the end that its stop gives it
-pub place_ahead : (r : Record) (old : Accepted) (number load : ℕ) (k : Kept) → IsLegal r → IsLiveIn r old → layer old.message ≡ 0 → ahead_of r.clock (claim_of old) ≡ Some number → find (is_reserved_as number) (accepted_in r.log) ≡ Some (accepted_of k) → place_before r.clock load (claim_of (accepted_of (kept_stopped old.message.number r.clock k))) (stopped_end (kept_stopped old.message.number r.clock k)) ≡ handover (left_by r old) r.clock (claim_of old) load
+pub place_ahead : (r : Record) (old : Accepted) (number load : ℕ) (k : Kept)
+    → IsLegal r
+    → IsLiveIn r old
+    → layer old.message ≡ 0
+    → ahead_of r.clock (claim_of old) ≡ Some number
+    → find (is_reserved_as number) (accepted_in r.log) ≡ Some (accepted_of k)
+    → place_before r.clock load (claim_of (accepted_of (kept_stopped old.message.number r.clock k))) (stopped_end (kept_stopped old.message.number r.clock k)) ≡ handover (left_by r old) r.clock (claim_of old) load
 place_ahead r old number load k legal live front ahead found =
     let s : Kept = kept_stopped old.message.number r.clock k in
     let p : Claim = claim_of (accepted_of s) in
@@ -107,10 +136,14 @@ place_ahead r old number load k legal live front ahead found =
         first ∙ none_there (at_end (end_of p.message)) refl e
 
 -- of a message that isn't background the place is the one of the claims, and of one that is there is none
-pub place_in_front : (claims : List Claim) (slot load : ℕ) (old : Accepted) → layer old.message ≡ 0 → place_after claims slot old load ≡ handover claims slot (claim_of old) load
+pub place_in_front : (claims : List Claim) (slot load : ℕ) (old : Accepted)
+    → layer old.message ≡ 0
+    → place_after claims slot old load ≡ handover claims slot (claim_of old) load
 place_in_front claims slot load old front =
     ap (λ (b : Bool). cond b (handover claims slot (claim_of old) load) None) (eq-eqb (layer old.message) 0 front)
 
-pub no_place : (claims : List Claim) (slot load : ℕ) (old : Accepted) → (layer old.message ≡ 0 → ⊥) → place_after claims slot old load ≡ None
+pub no_place : (claims : List Claim) (slot load : ℕ) (old : Accepted)
+    → (layer old.message ≡ 0 → ⊥)
+    → place_after claims slot old load ≡ None
 no_place claims slot load old back =
     ap (λ (b : Bool). cond b (handover claims slot (claim_of old) load) None) (ne_eqb (layer old.message) 0 back)

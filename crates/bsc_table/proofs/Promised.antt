@@ -52,14 +52,19 @@ own-le-claim slot a forward =
           omega (arith, ap (λ (b : Bool). cond b (own_load a.message) 0) reserved, claimed, share_at-started slot (claim_of a) fact.0)
     ]
 
-own-le-claims : (slot : ℕ) (all : List Accepted) → All (λ c. c.accepted ≤ c.message.start) (claims_of all) → sum_by (λ m. load_at m slot) (foreground (messages_of all)) ≤ claimed_at (claims_of all) slot
+own-le-claims : (slot : ℕ) (all : List Accepted)
+    → All (λ c. c.accepted ≤ c.message.start) (claims_of all)
+    → sum_by (λ m. load_at m slot) (foreground (messages_of all)) ≤ claimed_at (claims_of all) slot
 own-le-claims slot [] forward = omega arith
 own-le-claims slot (a ∷ all) forward = one (layer a.message == 0) forward (own-le-claims slot all)
   where
     Forward : Claim → Type 0
     Forward c = c.accepted ≤ c.message.start
 
-    one : (says : Bool) → All Forward (cond says (claim_of a ∷ claims_of all) (claims_of all)) → (All Forward (claims_of all) → sum_by (λ m. load_at m slot) (foreground (messages_of all)) ≤ claimed_at (claims_of all) slot) → sum_by (λ m. load_at m slot) (cond says (a.message ∷ foreground (messages_of all)) (foreground (messages_of all))) ≤ claimed_at (cond says (claim_of a ∷ claims_of all) (claims_of all)) slot
+    one : (says : Bool)
+        → All Forward (cond says (claim_of a ∷ claims_of all) (claims_of all))
+        → (All Forward (claims_of all) → sum_by (λ m. load_at m slot) (foreground (messages_of all)) ≤ claimed_at (claims_of all) slot)
+        → sum_by (λ m. load_at m slot) (cond says (a.message ∷ foreground (messages_of all)) (foreground (messages_of all))) ≤ claimed_at (cond says (claim_of a ∷ claims_of all) (claims_of all)) slot
     one true forward rest =
         let others = rest (All-tail Forward (claim_of a) (claims_of all) forward) in
         let here = own-le-claim slot a (All-head Forward (claim_of a) (claims_of all) forward) in

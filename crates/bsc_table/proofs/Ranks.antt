@@ -34,7 +34,10 @@ layer_tells Normal = refl
 layer_tells Background = refl
 
 -- what passes a filter, and is there, is in what it leaves
-pub Contains-filter : {X : Type 0} (p : X → Bool) (xs : List X) (x : X) → Contains xs x → p x ≡ true → Contains (filter p xs) x
+pub Contains-filter : {X : Type 0} (p : X → Bool) (xs : List X) (x : X)
+    → Contains xs x
+    → p x ≡ true
+    → Contains (filter p xs) x
 Contains-filter p [] x here passes = absurd (omega (arith, here.1))
 Contains-filter p (y ∷ xs) x (zero, within, is) passes =
     let first : p y ≡ true = ap p is ∙ passes in
@@ -54,14 +57,19 @@ pub its_place : (all : List Accepted) (a : Accepted) → Contains all a → Cont
 its_place all a here =
     (here.0, omega (arith, here.1, length-map all claim_of), get_or-map claim_of all here.0 a (claim_of a) here.1 ∙ ap claim_of here.2)
 
-pub its_claim : (all : List Accepted) (a : Accepted) → Contains all a → layer a.message ≡ 0 → Contains (claims_of all) (claim_of a)
+pub its_claim : (all : List Accepted) (a : Accepted)
+    → Contains all a
+    → layer a.message ≡ 0
+    → Contains (claims_of all) (claim_of a)
 its_claim all a here front =
     Contains-filter reserves (all_claims all) (claim_of a) (its_place all a here) (eq-eqb (layer a.message) 0 front)
 
 pub its_place_of : (all : List Accepted) → All (Contains (all_claims all)) (claims_of all)
 its_place_of all = All-filter reserves (Contains (all_claims all)) (all_claims all) (All-contains_itself (all_claims all))
 
-pub claims_rise : (all : List Accepted) → AllPairs BelowIt all → AllPairs (λ x y. x.message.number < y.message.number) (all_claims all)
+pub claims_rise : (all : List Accepted)
+    → AllPairs BelowIt all
+    → AllPairs (λ x y. x.message.number < y.message.number) (all_claims all)
 claims_rise all rising = λ i j d before within.
     let default : Accepted = record { id = 0; serial = 0; accepted = 0; behind = d.behind; excess = 0; message = d.message } in
     let long = length-map all claim_of in
@@ -70,7 +78,10 @@ claims_rise all rising = λ i j d before within.
     omega (arith, first, second, rising i j default before (omega arith))
 
 -- the message of that number is this one
-pub same_claim : (all : List Accepted) (a : Accepted) → AllPairs BelowIt all → Contains all a → All (λ c. c.message.number ≡ a.message.number → c ≡ claim_of a) (claims_of all)
+pub same_claim : (all : List Accepted) (a : Accepted)
+    → AllPairs BelowIt all
+    → Contains all a
+    → All (λ c. c.message.number ≡ a.message.number → c ≡ claim_of a) (claims_of all)
 same_claim all a rising here = λ k d within. λ same.
     by_number (all_claims all) (get_or (claims_of all) k d) (claim_of a) (claims_rise all rising) (its_place_of all k d within) (its_place all a here) same
 
@@ -82,7 +93,12 @@ map_same f (c ∷ claims) all =
     ap (λ (x : Claim). x ∷ map f claims) (All-head Same c claims all) ∙ ap (λ (l : List Claim). c ∷ l) (map_same f claims (All-tail Same c claims all))
 
 -- a stop of a background message changes no claim
-pub same_claims : (number slot : ℕ) (all : List Accepted) (a : Accepted) → AllPairs BelowIt all → Contains all a → a.message.number ≡ number → (layer a.message ≡ 0 → ⊥) → stop_claims number slot (claims_of all) ≡ claims_of all
+pub same_claims : (number slot : ℕ) (all : List Accepted) (a : Accepted)
+    → AllPairs BelowIt all
+    → Contains all a
+    → a.message.number ≡ number
+    → (layer a.message ≡ 0 → ⊥)
+    → stop_claims number slot (claims_of all) ≡ claims_of all
 same_claims number slot all a rising here named back =
     map_same (stop_claim number slot) (claims_of all) (λ k d h.
     let c : Claim = get_or (claims_of all) k d in
@@ -99,14 +115,19 @@ same_claims number slot all a rising here named back =
     unstopped c false e = refl
 
 -- the claims with one more
-pub claims_more : (all : List Accepted) (a : Accepted) → claims_of (all ++ a ∷ []) ≡ claims_of all ++ filter reserves (claim_of a ∷ [])
+pub claims_more : (all : List Accepted) (a : Accepted)
+    → claims_of (all ++ a ∷ []) ≡ claims_of all ++ filter reserves (claim_of a ∷ [])
 claims_more all a =
     ap (filter reserves) (map-append claim_of all (a ∷ [])) ∙ filter-append reserves (all_claims all) (claim_of a ∷ [])
 
-pub claims_more_front : (all : List Accepted) (a : Accepted) → layer a.message ≡ 0 → claims_of (all ++ a ∷ []) ≡ claims_of all ++ claim_of a ∷ []
+pub claims_more_front : (all : List Accepted) (a : Accepted)
+    → layer a.message ≡ 0
+    → claims_of (all ++ a ∷ []) ≡ claims_of all ++ claim_of a ∷ []
 claims_more_front all a front =
     claims_more all a ∙ ap (λ (b : Bool). claims_of all ++ cond b (claim_of a ∷ []) []) (eq-eqb (layer a.message) 0 front)
 
-pub claims_more_back : (all : List Accepted) (a : Accepted) → (layer a.message ≡ 0 → ⊥) → claims_of (all ++ a ∷ []) ≡ claims_of all
+pub claims_more_back : (all : List Accepted) (a : Accepted)
+    → (layer a.message ≡ 0 → ⊥)
+    → claims_of (all ++ a ∷ []) ≡ claims_of all
 claims_more_back all a back =
     claims_more all a ∙ ap (λ (b : Bool). claims_of all ++ cond b (claim_of a ∷ []) []) (ne_eqb (layer a.message) 0 back) ∙ append-nil (claims_of all)

@@ -159,7 +159,10 @@ excess_alike f keeps load (Some number) (a ∷ front) =
     let here = ap (λ (b : Bool). excess_over load (cond b (Some renamed) (numbered (Some (f number)) all))) (same_number f keeps a.message.number number) ∙ one (a.message.number == number) rest in
     claimed (reserves (claim_of a)) here rest
   where
-    claimed : (says : Bool) → excess_over load (numbered (Some (f number)) (claim_of (accepted_renumbered f a) ∷ claims_of (map (accepted_renumbered f) front))) ≡ excess_over load (numbered (Some number) (claim_of a ∷ claims_of front)) → excess_over load (numbered (Some (f number)) (claims_of (map (accepted_renumbered f) front))) ≡ excess_over load (numbered (Some number) (claims_of front)) → excess_over load (numbered (Some (f number)) (cond says (claim_of (accepted_renumbered f a) ∷ claims_of (map (accepted_renumbered f) front)) (claims_of (map (accepted_renumbered f) front)))) ≡ excess_over load (numbered (Some number) (cond says (claim_of a ∷ claims_of front) (claims_of front)))
+    claimed : (says : Bool)
+        → excess_over load (numbered (Some (f number)) (claim_of (accepted_renumbered f a) ∷ claims_of (map (accepted_renumbered f) front))) ≡ excess_over load (numbered (Some number) (claim_of a ∷ claims_of front))
+        → excess_over load (numbered (Some (f number)) (claims_of (map (accepted_renumbered f) front))) ≡ excess_over load (numbered (Some number) (claims_of front))
+        → excess_over load (numbered (Some (f number)) (cond says (claim_of (accepted_renumbered f a) ∷ claims_of (map (accepted_renumbered f) front)) (claims_of (map (accepted_renumbered f) front)))) ≡ excess_over load (numbered (Some number) (cond says (claim_of a ∷ claims_of front) (claims_of front)))
     claimed true here rest = here
     claimed false here rest = rest
 
@@ -168,7 +171,11 @@ excess_alike f keeps load (Some number) (a ∷ front) =
     one false rest = rest
 
 -- so an entry does the same to messages under other numbers
-written_alike : (f : ℕ → ℕ) → KeepsOrder f → (front : List Accepted) (place among slot start : ℕ) (id serial : ℕ) (replaces : Option ℕ) (pages period broadcasts : ℕ) (rank : Rank) → f among ≡ place → written_behind (map (accepted_renumbered f) front) place slot start (behind_of slot start (replaced_in (map (accepted_renumbered f) front) id replaces)) id serial pages period broadcasts rank ≡ accepted_renumbered f (written_behind front among slot start (behind_of slot start (replaced_in front id replaces)) id serial pages period broadcasts rank)
+written_alike : (f : ℕ → ℕ)
+    → KeepsOrder f
+    → (front : List Accepted) (place among slot start : ℕ) (id serial : ℕ) (replaces : Option ℕ) (pages period broadcasts : ℕ) (rank : Rank)
+    → f among ≡ place
+    → written_behind (map (accepted_renumbered f) front) place slot start (behind_of slot start (replaced_in (map (accepted_renumbered f) front) id replaces)) id serial pages period broadcasts rank ≡ accepted_renumbered f (written_behind front among slot start (behind_of slot start (replaced_in front id replaces)) id serial pages period broadcasts rank)
 written_alike f keeps front place among slot start id serial replaces pages period broadcasts rank at =
     let all = map (accepted_renumbered f) front in
     let load = load_of pages period in

@@ -45,13 +45,21 @@ abbrev HasRoom : ℕ → List Claim → Type 0
 HasRoom slot claims = AreInOrder claims slot × ClaimsFit claims
 
 -- each claim of a live message is live, if it claims anything
-pub stops_live : (all : List Accepted) (slot : ℕ) (a : Accepted) → AllPairs BelowIt all → Contains all a → is_live slot a.message ≡ true → All (λ c. c.message.number ≡ a.message.number → is_live slot c.message ≡ true) (claims_of all)
+pub stops_live : (all : List Accepted) (slot : ℕ) (a : Accepted)
+    → AllPairs BelowIt all
+    → Contains all a
+    → is_live slot a.message ≡ true
+    → All (λ c. c.message.number ≡ a.message.number → is_live slot c.message ≡ true) (claims_of all)
 stops_live all slot a rising here live = λ k d within. λ same.
     let Live : Claim → Type 0 = λ c. is_live slot c.message ≡ true in
     subst Live (sym (same_claim all a rising here k d within same)) live
 
 -- the claims stay so where a live message is stopped
-room_without : (stopped : Option Accepted) (slot : ℕ) (all : List Accepted) → IfSome stopped (λ a. Contains all a × (is_live slot a.message ≡ true)) → AllPairs BelowIt all → HasRoom slot (claims_of all) → HasRoom slot (claims_of (without stopped slot all))
+room_without : (stopped : Option Accepted) (slot : ℕ) (all : List Accepted)
+    → IfSome stopped (λ a. Contains all a × (is_live slot a.message ≡ true))
+    → AllPairs BelowIt all
+    → HasRoom slot (claims_of all)
+    → HasRoom slot (claims_of (without stopped slot all))
 room_without None slot all live rising room = room
 room_without (Some a) slot all live rising room =
     let lives = stops_live all slot a rising live.0 live.1 in
@@ -268,7 +276,12 @@ empty_order slot = record {
   alone = λ i j d b w. absurd (omega arith);
 }
 
-pub sound_at : (r : Record) → IsLegal r → (k slot : ℕ) → k ≤ length r.log → All (λ e. e.slot ≤ slot) (take k r.log) → IsSound (accepted_in (take k r.log)) slot
+pub sound_at : (r : Record)
+    → IsLegal r
+    → (k slot : ℕ)
+    → k ≤ length r.log
+    → All (λ e. e.slot ≤ slot) (take k r.log)
+    → IsSound (accepted_in (take k r.log)) slot
 sound_at r legal zero slot within before = record { rising = λ i j d b w. absurd (omega arith); once = λ i j d b w. absurd (omega arith); loaded = All-nil HasLoad; order = empty_order slot; fit = λ t. omega arith }
 sound_at r legal (suc k) slot within before =
     let d : Entry = some_entry r.log (omega arith) in

@@ -72,7 +72,9 @@ kill_tells log air slot id serial =
     })
 
 -- a write in the place of none tells nothing, one in the place of another tells of that one
-write_tells : (log : List Entry) (air : Air) (slot load id serial : ℕ) (replaces : Option ℕ) (category : Category) (command : Command) → ((a : Accepted) → (id ≡ a.id) → replaces ≡ Some a.serial → IsAbout a.id a.serial command) → TellsTrue log air slot command (answer_to_write log air slot id serial replaces category load)
+write_tells : (log : List Entry) (air : Air) (slot load id serial : ℕ) (replaces : Option ℕ) (category : Category) (command : Command)
+    → ((a : Accepted) → (id ≡ a.id) → replaces ≡ Some a.serial → IsAbout a.id a.serial command)
+    → TellsTrue log air slot command (answer_to_write log air slot id serial replaces category load)
 write_tells log air slot load id serial None category command about =
     let P : Answer → Type 0 = TellsTrue log air slot command in
     let refuses : (cause : ℕ) → P (answers.Cause cause) = λ cause. tells_none log air slot command (answers.Cause cause) refl in

@@ -7,8 +7,8 @@
 -- 4. Cause 0D: a message of the same identifier and serial number was accepted before.
 -- 5. Cause 07: 64 messages are reserved, each from the slot at which it was accepted up to its end. Not for a background
 --    message, which reserves nothing and isn't counted.
--- 6. Cause 06, not for a background message: the load doesn't fit beside those that are reserved, and there is no place that it may take over, or what
---    it has over the load that stands there doesn't fit either.
+-- 6. Cause 06: the load doesn't fit beside those that are reserved, and there is no place that it may take over, or
+--    what it has over the load that stands there doesn't fit either. Not for a background message.
 --
 -- The definitions stand in the other direction, each below those that it asks next.
 use Rattle.std.specs.Prelude.{ℕ, ◌+◌, ◌==◌, nat_le, nat_lt, if◌then◌else◌, Option, Some, None, List, length, filter}
@@ -48,14 +48,16 @@ answer_for category claims slot load place accepts =
 
 -- a write in the place of no message: there is no place that it may take over
 abbrev pub answer_to_new : List Entry → ℕ → Category → ℕ → Answer
-answer_to_new log slot category load = answer_for category (claims_in log) slot load None (λ start. answers.Started start)
+answer_to_new log slot category load =
+    answer_for category (claims_in log) slot load None (λ start. answers.Started start)
 
--- a write in the place of an old one, whose stop counts as applied: it may take over from that one where it has started,
--- and from the one behind which that one waits where it hasn't
+-- a write in the place of an old one, whose stop counts as applied: it may take over from that one where it has
+-- started, and from the one behind which that one waits where it hasn't
 abbrev pub answer_to_replacement : List Entry → Air → ℕ → Category → ℕ → Accepted → Answer
 answer_to_replacement log air slot category load old =
     let left = stop_claims old.message.number slot (claims_in log) in
-    answer_for category left slot load (place_after left slot old load) (λ start. answers.Replaced start (completed old.message air slot))
+    answer_for category left slot load (place_after left slot old load)
+    (λ start. answers.Replaced start (completed old.message air slot))
 
 -- 4, where the pair of a write was accepted before
 abbrev pub unless_accepted : Option Message → Answer → Answer
@@ -71,7 +73,8 @@ abbrev pub answer_to_write : List Entry → Air → ℕ → ℕ → ℕ → Opti
 answer_to_write log air slot id serial None category load =
     unless_accepted (message_named id serial log) (answer_to_new log slot category load)
 answer_to_write log air slot id serial (Some replaced) category load =
-    of_live slot (accepted_named id replaced log) (λ old. unless_accepted (message_named id serial log) (answer_to_replacement log air slot category load old))
+    of_live slot (accepted_named id replaced log) (λ old.
+    unless_accepted (message_named id serial log) (answer_to_replacement log air slot category load old))
 
 abbrev pub answer_to_kill : List Entry → Air → ℕ → ℕ → ℕ → Answer
 answer_to_kill log air slot id serial =

@@ -169,7 +169,8 @@ pub record IsOffered (r : Record) (a : Accepted) : Type 0 where
 abbrev pub IsWriteOf : Accepted → Option ℕ → Command → Type 0
 IsWriteOf a replaced (commands.Write id serial replaces category period broadcasts dcs contents) =
     (replaces ≡ replaced)
-    × (write_message a.message.number a.accepted a.message.start a.behind a.excess id serial (length contents) period broadcasts (rank_of category) ≡ a)
+    × (write_message a.message.number a.accepted a.message.start a.behind a.excess id serial (length contents) period
+    broadcasts (rank_of category) ≡ a)
 IsWriteOf a replaced other = ⊥
 
 -- and with that of each such write
@@ -265,7 +266,8 @@ by_place (Some p) accepts = accepts p.start
 -- the place at which a message of that load may take over from a live one, if there is one with room: so is a write
 -- in its place answered, where that has no room now
 pub record IsLater (r : Record) (old : Accepted) (load : ℕ) (later : Option KeptPlace) : Type 0 where
-  pub answered : (accepts : ℕ → Answer) → answer_at (left_by r old) r.clock accepts (place_after (left_by r old) r.clock old load) ≡ by_place later accepts
+  pub answered : (accepts : ℕ → Answer)
+      → answer_at (left_by r old) r.clock accepts (place_after (left_by r old) r.clock old load) ≡ by_place later accepts
   pub there : IfSome later (λ p. place_after (left_by r old) r.clock old load ≡ Some (place_of p))
   pub fits : IfSome later (λ p. claimed_at (left_by r old) r.clock + p.excess ≤ SCALE)
   pub soon : IfSome later (λ p. p.start < LATEST_START)

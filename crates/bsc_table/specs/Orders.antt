@@ -38,7 +38,11 @@ IsWellFormed (commands.Status id serial) = ⊤
 -- the category: 0 high, 1 background, 2 normal, absent normal
 abbrev pub category_of : Option ℕ → Option Category
 category_of None = Some Normal
-category_of (Some n) = if n == 0 then Some High else if n == 1 then Some Background else if n == 2 then Some Normal else None
+category_of (Some n) =
+    if n == 0 then Some High
+    else if n == 1 then Some Background
+    else if n == 2 then Some Normal
+    else None
 
 -- the basic channel: 0, or absent
 abbrev pub is_basic : Option ℕ → Bool

@@ -25,8 +25,8 @@ LegalClaimsFit = (r : Record) → IsLegal r → AreInOrder (claims_in r.log) r.c
 abbrev pub LegalLoadsFit : Type 0
 LegalLoadsFit = (r : Record) → IsLegal r → LoadsFit (foreground (messages_in r.log))
 
--- each broadcast of an accepted message that isn't background, that was requested, that no stop cuts, and that is due by the clock was aired
--- whole: from its release up to its due slot the cell aired as many pages of the message as it has
+-- each broadcast of an accepted message that isn't background, that was requested, that no stop cuts, and that is due by
+-- the clock was aired whole: from its release up to its due slot the cell aired as many pages of the message as it has
 abbrev pub IsServed : Record → Type 0
 IsServed r =
     All (λ m. (j : ℕ) → IsUncut m j r.air → pages_aired m.number r.air (release m j) (due m j) ≡ m.pages) (foreground (messages_in r.log))

@@ -133,13 +133,15 @@ write_message place slot start behind excess id serial pages period broadcasts r
 -- the message that a write of the pair adds to those accepted before, by the message behind which it waits
 abbrev pub written_behind : List Accepted → ℕ → ℕ → ℕ → Option ℕ → ℕ → ℕ → ℕ → ℕ → ℕ → Rank → Accepted
 written_behind all place slot start behind id serial pages period broadcasts rank =
-    write_message place slot start behind (excess_over (load_of pages period) (numbered behind (claims_of all))) id serial pages period broadcasts rank
+    let excess = excess_over (load_of pages period) (numbered behind (claims_of all)) in
+    write_message place slot start behind excess id serial pages period broadcasts rank
 
 -- the message that an entry at this place of the log and at this slot adds to those accepted before, by its start and
 -- its command: a write's that was accepted
 abbrev pub added_by : List Accepted → ℕ → ℕ → Option ℕ → Command → List Accepted
 added_by all place slot (Some start) (commands.Write id serial replaces category period broadcasts dcs contents) =
-    written_behind all place slot start (behind_of slot start (replaced_in all id replaces)) id serial (length contents) period broadcasts (rank_of category) ∷ []
+    let behind = behind_of slot start (replaced_in all id replaces) in
+    written_behind all place slot start behind id serial (length contents) period broadcasts (rank_of category) ∷ []
 added_by all place slot start command = []
 
 -- the accepted messages after one more entry, at this place of the log: those before it, stopped where it stops them,

@@ -212,7 +212,8 @@ pub fn named(table: &[Kept], id: u16, serial: Serial) -> Option<Kept>
 
 /// The message of a number that reserves, if there is one: that isn't background.
 pub fn reserved(table: &[Kept], number: u16) -> Option<Kept>
-    ensures { option_map accepted_of result ≡ find (λ a. (a.message.number == number) && (layer a.message == 0)) (map accepted_of table.now) }
+    ensures { option_map accepted_of result
+        ≡ find (λ a. (a.message.number == number) && (layer a.message == 0)) (map accepted_of table.now) }
 {
     for kept in table {
         if kept.number == number && !kept.category.is_background() {

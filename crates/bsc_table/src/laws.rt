@@ -77,7 +77,8 @@ pub fn completed_bounds()
 /// centre can ask for, they came in the order of their slots, each was answered by the rules, and each slot aired what the air rule
 /// says. No other premise is made.
 ///
-/// Nothing is promised of the broadcast that was under way at a message's stop, or is at the clock. Own rules, of no standard.
+/// Nothing is promised of the broadcast that was under way at a message's stop, or is at the clock, nor that a background
+/// message is broadcast at all. Own rules, of no standard.
 ///
 /// Does nothing: its contract is the law.
 pub fn legal_histories()
@@ -102,13 +103,14 @@ pub fn legal_histories()
     ensures legal_claims_fit { LegalClaimsFit }
     ensures legal_loads_fit { LegalLoadsFit }
 
-    // Each broadcast that was requested, that is due by the clock and that no stop cut was aired whole, from its release up to the
-    // slot in which it was due, and each of its pages once.
+    // Each broadcast of a message that isn't background, that was requested, that is due by the clock and that no stop cut
+    // was aired whole, from its release up to the slot in which it was due, and each of its pages once.
     ensures legal_histories_are_served { LegalHistoriesAreServed }
     ensures legal_pages_are_aired_once { LegalPagesAreAiredOnce }
 
     // So before each slot up to the clock, the broadcasts of a message that are whole are at least those requested whose period was
-    // over while it stood, and at most those requested whose period had begun while it stood.
+    // over while it stood, and at most those requested whose period had begun while it stood. For a background message the
+    // least isn't promised.
     ensures legal_histories_are_bounded { LegalHistoriesAreBounded }
 
     // And each number that was told of a message, in answer to its kill, to its replacement or to a status, is the number of its

@@ -124,7 +124,10 @@ accepted_are_meant laws r slot legal by = λ k d within.
       );
     }
   where
-    bounded : (laws : Laws) (r : Record) (slot : ℕ) → IsLegal r → slot ≤ r.clock → All (λ a. (layer a.message ≡ 0 → least_completed a.message slot ≤ completed a.message r.air slot) × (completed a.message r.air slot ≤ most_completed a.message slot)) (accepted_in r.log)
+    bounded : (laws : Laws) (r : Record) (slot : ℕ)
+        → IsLegal r
+        → slot ≤ r.clock
+        → All (λ a. (layer a.message ≡ 0 → least_completed a.message slot ≤ completed a.message r.air slot) × (completed a.message r.air slot ≤ most_completed a.message slot)) (accepted_in r.log)
     bounded laws r slot legal by = λ k d within.
         let long = length-map (accepted_in r.log) message in
         let same = get_or-map message (accepted_in r.log) k d d.message within in

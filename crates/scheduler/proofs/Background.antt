@@ -19,11 +19,17 @@ use Rattle.scheduler.proofs.Lists.{rising-same, count_below_same}
 use Rattle.scheduler.proofs.OneAir.{IsAirOf-only}
 
 -- what is true of all that pass is true of all of the filter
-All-passing : (P : Message → Type 0) (p : Message → Bool) (xs : List Message) → All (λ x. p x ≡ true → P x) xs → All P (filter p xs)
+All-passing : (P : Message → Type 0) (p : Message → Bool) (xs : List Message)
+    → All (λ x. p x ≡ true → P x) xs
+    → All P (filter p xs)
 All-passing P p xs all = λ k d h. All-filter p (λ x. p x ≡ true → P x) xs all k d h (filter_passes p xs k d h)
 
 -- an element that passes is in the filter
-Any-passing : (P : Message → Type 0) (p : Message → Bool) (xs : List Message) (m : Message) → Contains xs m → p m ≡ true → P m → Any P (filter p xs)
+Any-passing : (P : Message → Type 0) (p : Message → Bool) (xs : List Message) (m : Message)
+    → Contains xs m
+    → p m ≡ true
+    → P m
+    → Any P (filter p xs)
 Any-passing P p [] m here passes holds = absurd (omega (arith, here.1))
 Any-passing P p (x ∷ xs) m (zero, within, is) passes holds =
     let first : p x ≡ true = ap p is ∙ passes in
@@ -37,7 +43,12 @@ Any-passing P p (x ∷ xs) m (suc k, within, is) passes holds =
     ]
 
 -- where numbers rise, two messages of one number are one
-one_number : (messages : List Message) (a b : Message) → AllPairs (λ x y. x.number < y.number) messages → Contains messages a → Contains messages b → a.number ≡ b.number → a ≡ b
+one_number : (messages : List Message) (a b : Message)
+    → AllPairs (λ x y. x.number < y.number) messages
+    → Contains messages a
+    → Contains messages b
+    → a.number ≡ b.number
+    → a ≡ b
 one_number messages a b rising here there same =
     let first : get_or messages here.0 a ≡ a = here.2 in
     let second : get_or messages there.0 a ≡ b = get_or_default messages there.0 a b there.1 ∙ there.2 in
@@ -46,7 +57,11 @@ one_number messages a b rising here there same =
     sym first ∙ ap (λ i. get_or messages i a) place ∙ second
 
 -- so the number of a message that isn't background is no background message's
-not_its_number : (messages : List Message) (m : Message) → AllPairs (λ a b. a.number < b.number) messages → Contains messages m → layer m ≡ 0 → has_background messages m.number ≡ false
+not_its_number : (messages : List Message) (m : Message)
+    → AllPairs (λ a b. a.number < b.number) messages
+    → Contains messages m
+    → layer m ≡ 0
+    → has_background messages m.number ≡ false
 not_its_number messages m rising here other =
     let test : Message → Bool = λ x. is_background x && (x.number == m.number) in
     elim (cases_Bool (has_background messages m.number)) [
@@ -58,13 +73,19 @@ not_its_number messages m rising here other =
           absurd (omega (arith, other, eqb-true (layer found.1) 1 parts.0, ap layer same))
     ]
 
-its_number : (messages : List Message) (m : Message) → Contains messages m → layer m ≡ 1 → has_background messages m.number ≡ true
+its_number : (messages : List Message) (m : Message)
+    → Contains messages m
+    → layer m ≡ 1
+    → has_background messages m.number ≡ true
 its_number messages m here is =
     let test : Message → Bool = λ x. is_background x && (x.number == m.number) in
     list_any-from_Any test messages (here.0, m, here.1, here.2, and_from (is_background m) (m.number == m.number) (eq-eqb (layer m) 1 is) (eq-eqb m.number m.number refl))
 
 -- a slot airs a page of a message that isn't background with and without the others
-airs_same : (messages : List Message) (m : Message) → has_background messages m.number ≡ false → (used : Option (ℕ × ℕ)) → airs m.number (blank_use messages used) ≡ airs m.number used
+airs_same : (messages : List Message) (m : Message)
+    → has_background messages m.number ≡ false
+    → (used : Option (ℕ × ℕ))
+    → airs m.number (blank_use messages used) ≡ airs m.number used
 airs_same messages m other None = refl
 airs_same messages m other (Some used) =
     elim (cases_Bool (has_background messages used.0)) [
@@ -79,7 +100,9 @@ airs_same messages m other (Some used) =
           ]
     ]
 
-count_same : (n : ℕ) (g : Option (ℕ × ℕ) → Option (ℕ × ℕ)) (air : Air) → ((used : Option (ℕ × ℕ)) → airs n (g used) ≡ airs n used) → count_by (airs n) (map g air) ≡ count_by (airs n) air
+count_same : (n : ℕ) (g : Option (ℕ × ℕ) → Option (ℕ × ℕ)) (air : Air)
+    → ((used : Option (ℕ × ℕ)) → airs n (g used) ≡ airs n used)
+    → count_by (airs n) (map g air) ≡ count_by (airs n) air
 count_same n g [] same = refl
 count_same n g (x ∷ air) same =
     let one = ap (λ (b : Bool). one_if b) (same x) in
@@ -99,7 +122,10 @@ blanking_keeps_completed messages air m slot rising here other =
     ap (λ n. has_broadcast m j && (is_before_stop (release m j) m.stop && leb m.pages n)) (blanking_keeps_pages messages air m (release m j) (min (due m j) slot) rising here other))
 
 -- what is pending is pending by any air list with the same pages
-IsPending-same_pages : (m : Message) (j : ℕ) (air other : Air) (slot : ℕ) → pages_aired m.number air (release m j) slot ≡ pages_aired m.number other (release m j) slot → IsPending m j air slot → IsPending m j other slot
+IsPending-same_pages : (m : Message) (j : ℕ) (air other : Air) (slot : ℕ)
+    → pages_aired m.number air (release m j) slot ≡ pages_aired m.number other (release m j) slot
+    → IsPending m j air slot
+    → IsPending m j other slot
 IsPending-same_pages m j air other slot same p = record {
   requested = p.requested;
   released = p.released;
@@ -113,7 +139,9 @@ alone_pending : (m o : Message) (j k : ℕ) → layer m ≡ 1 → layer o ≡ 0 
 alone_pending m o j k is other served =
     elim served [ inl sooner ↦ omega (arith, is, other, sooner) | inr tied ↦ omega (arith, is, other, tied.0) ]
 
-Contains_at : (messages : List Message) (k : ℕ) (d : Message) → k < length messages → Contains messages (get_or messages k d)
+Contains_at : (messages : List Message) (k : ℕ) (d : Message)
+    → k < length messages
+    → Contains messages (get_or messages k d)
 Contains_at messages k d within = (k, within, get_or_default messages k (get_or messages k d) d within)
 
 -- a message is of the one layer or of the other
@@ -126,7 +154,10 @@ cases_layer m = rank_of m.rank
     rank_of Background = inr refl
 
 -- nothing of the others is pending where nothing is, or where background is first
-none_without : (messages : List Message) (air : Air) (slot : ℕ) → AllPairs (λ a b. a.number < b.number) messages → All (λ o. layer o ≡ 0 → (k : ℕ) → ¬ IsPending o k air slot) messages → IsChosen (foreground messages) (blanked messages air) slot None
+none_without : (messages : List Message) (air : Air) (slot : ℕ)
+    → AllPairs (λ a b. a.number < b.number) messages
+    → All (λ o. layer o ≡ 0 → (k : ℕ) → ¬ IsPending o k air slot) messages
+    → IsChosen (foreground messages) (blanked messages air) slot None
 none_without messages air slot rising none =
     All-passing (λ o. (k : ℕ) → ¬ IsPending o k (blanked messages air) slot) (λ o. layer o == 0) messages (λ i d within. λ passes. λ k pending.
     let o : Message = get_or messages i d in
@@ -134,7 +165,10 @@ none_without messages air slot rising none =
     let same = blanking_keeps_pages messages air o (release o k) slot rising (Contains_at messages i d within) other in
     none i d within other k (IsPending-same_pages o k (blanked messages air) air slot same pending))
 
-chosen_without : (messages : List Message) (air : Air) (slot : ℕ) (used : Option (ℕ × ℕ)) → AllPairs (λ a b. a.number < b.number) messages → IsChosen messages air slot used → IsChosen (foreground messages) (blanked messages air) slot (blank_use messages used)
+chosen_without : (messages : List Message) (air : Air) (slot : ℕ) (used : Option (ℕ × ℕ))
+    → AllPairs (λ a b. a.number < b.number) messages
+    → IsChosen messages air slot used
+    → IsChosen (foreground messages) (blanked messages air) slot (blank_use messages used)
 chosen_without messages air slot None rising chosen =
     none_without messages air slot rising (λ i d within. λ other k. chosen i d within k)
 chosen_without messages air slot (Some used) rising chosen =

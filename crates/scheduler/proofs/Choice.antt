@@ -74,7 +74,9 @@ test_from_IsNoLater slot a b h =
       | inr same ↦ or_right _ _ (and_from _ _ (eq-eqb _ _ same.0) (le-leb _ _ same.1))
     ]
 
-IsServedBy-from_test : (slot : ℕ) (a b : Message) → is_served_by slot a b ≡ true → IsServedBy a (broadcast_at a slot) b (broadcast_at b slot)
+IsServedBy-from_test : (slot : ℕ) (a b : Message)
+    → is_served_by slot a b ≡ true
+    → IsServedBy a (broadcast_at a slot) b (broadcast_at b slot)
 IsServedBy-from_test slot a b h =
     elim (or_cases _ _ h) [
       | inl above ↦ inl (ltb-true _ _ above)
@@ -83,14 +85,18 @@ IsServedBy-from_test slot a b h =
           inr (eqb-true _ _ parts.0, IsNoLater-from_test slot a b parts.1)
     ]
 
-test_from_IsServedBy : (slot : ℕ) (a b : Message) → IsServedBy a (broadcast_at a slot) b (broadcast_at b slot) → is_served_by slot a b ≡ true
+test_from_IsServedBy : (slot : ℕ) (a b : Message)
+    → IsServedBy a (broadcast_at a slot) b (broadcast_at b slot)
+    → is_served_by slot a b ≡ true
 test_from_IsServedBy slot a b h =
     elim h [
       | inl above ↦ or_left _ _ (lt-ltb _ _ above)
       | inr same ↦ or_right _ _ (and_from _ _ (eq-eqb _ _ same.0) (test_from_IsNoLater slot a b same.1))
     ]
 
-IsServedBy-from_failed_test : (slot : ℕ) (a b : Message) → is_served_by slot a b ≡ false → IsServedBy b (broadcast_at b slot) a (broadcast_at a slot)
+IsServedBy-from_failed_test : (slot : ℕ) (a b : Message)
+    → is_served_by slot a b ≡ false
+    → IsServedBy b (broadcast_at b slot) a (broadcast_at a slot)
 IsServedBy-from_failed_test slot a b h =
     elim (IsServedBy-total a b (broadcast_at a slot) (broadcast_at b slot)) [
       | inl served ↦ absurd (false≢true (sym h ∙ test_from_IsServedBy slot a b served))
@@ -117,7 +123,9 @@ IsFirstIn-cons messages air slot m true None is h = (
 )
 IsFirstIn-cons messages air slot m true (Some first) is h = picked (is_served_by slot m first) refl
   where
-    picked : (says : Bool) → is_served_by slot m first ≡ says → IsFirstIn (m ∷ messages) air slot (cond says (Some m) (Some first))
+    picked : (says : Bool)
+        → is_served_by slot m first ≡ says
+        → IsFirstIn (m ∷ messages) air slot (cond says (Some m) (Some first))
     picked true test = (
       (0, omega arith, refl),
       is,
@@ -153,7 +161,12 @@ IsChosen-from_first messages air slot (Some first) periods h =
       ),
     )
   where
-    served : (m : Message) → (is_pending air slot m ≡ true → IsServedBy first (broadcast_at first slot) m (broadcast_at m slot)) → 0 < m.period → (j : ℕ) → IsPending m j air slot → IsServedBy first (broadcast_at first slot) m j
+    served : (m : Message)
+        → (is_pending air slot m ≡ true → IsServedBy first (broadcast_at first slot) m (broadcast_at m slot))
+        → 0 < m.period
+        → (j : ℕ)
+        → IsPending m j air slot
+        → IsServedBy first (broadcast_at first slot) m j
     served m known some j p =
         let Later : ℕ → Type 0 = λ i. IsServedBy first (broadcast_at first slot) m i in
         subst Later (sym (pending_now m j air slot some p)) (known (test_from_IsPending m j air slot some p))

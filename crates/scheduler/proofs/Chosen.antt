@@ -70,7 +70,13 @@ IsChosen-from_choice tracked air (Some used) fit counts choice =
       ),
     )
   where
-    no_later : (t : Tracked) → All (λ other. is_ready other (length air) ≡ true → IsServedFirst (length air) t other) tracked → (i : ℕ) (d : Tracked) → i < length tracked → (k : ℕ) → IsPending (message_of (get_or tracked i d)) k air (length air) → IsServedBy (message_of t) (broadcast_at (message_of t) (length air)) (message_of (get_or tracked i d)) k
+    no_later : (t : Tracked)
+        → All (λ other. is_ready other (length air) ≡ true → IsServedFirst (length air) t other) tracked
+        → (i : ℕ) (d : Tracked)
+        → i < length tracked
+        → (k : ℕ)
+        → IsPending (message_of (get_or tracked i d)) k air (length air)
+        → IsServedBy (message_of t) (broadcast_at (message_of t) (length air)) (message_of (get_or tracked i d)) k
     no_later t first i d within k pending =
         let other = get_or tracked i d in
         let now = pending_is_now other air k (fit i d within) pending in

@@ -87,7 +87,11 @@ no_later_renumbered f keeps a b i j h =
     in_class : ((class a < class b) ⊎ ((class a ≡ class b) × (a.number ≤ b.number))) → (class a < class b) ⊎ ((class a ≡ class b) × (f a.number ≤ f b.number))
     in_class x = elim x [ inl above ↦ inl above | inr same ↦ inr (same.0, keeps_no_later f keeps a.number b.number same.1) ]
 
-served_renumbered : (f : ℕ → ℕ) → KeepsOrder f → (a b : Message) (i j : ℕ) → IsServedBy a i b j → IsServedBy (renumbered f a) i (renumbered f b) j
+served_renumbered : (f : ℕ → ℕ)
+    → KeepsOrder f
+    → (a b : Message) (i j : ℕ)
+    → IsServedBy a i b j
+    → IsServedBy (renumbered f a) i (renumbered f b) j
 served_renumbered f keeps a b i j h =
     elim h [ inl above ↦ inl above | inr same ↦ inr (same.0, no_later_renumbered f keeps a b i j same.1) ]
 
