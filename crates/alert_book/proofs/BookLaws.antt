@@ -1,0 +1,57 @@
+-- The rows of a book, read one after the other.
+use Rattle.std.proofs.Common.{◌≡◌, ◌≢◌, ◌⊎◌, ◌≤◌, ◌+◌, ◌∙◌, ap, sym, ℕ, List, [], ◌∷◌, ◌++◌, Ok, Err, nat_lt, length, length-append, refl, inl, inr, append_assoc, append-nil, arith, rules}
+use Rattle.std.proofs.lemmas.Bool.{cases_Bool}
+use Rattle.csv.specs.Reading.{Reached, default_config, strip_bom}
+use Rattle.csv.specs.declared.parser.State.{State}
+use Rattle.csv.specs.declared.parser.State.TheVariants as st
+use Rattle.cbsp_wire.specs.declared.message.Cell.{Cell}
+use Rattle.alert_book.specs.declared.fault.BookFault.{BookFault}
+use Rattle.alert_book.specs.declared.fault.BookFaultKind.{BookFaultKind}
+use Rattle.alert_book.specs.declared.fault.BookFaultKind.TheVariants as fault
+use Rattle.alert_book.specs.declared.order.Order.{Order}
+use Rattle.alert_book.specs.declared.row.Row.{Row}
+use Rattle.alert_book.specs.declared.row.Row.TheVariants as rows
+use Rattle.alert_book.specs.Row.{row_of}
+use Rattle.alert_book.specs.Book.{Rows, IsRowFault, fault_at, refused, rows_of, rows_read, with_row}
+
+-- a row that is right is none too many
+pub row_fits : (row : ℕ) (declared : List Cell) (orders : List Order) (fields : List (List ℕ)) (meant : Row) →
+    row_of row declared orders fields ≡ Ok meant → row ≤ 4096
+row_fits row declared orders fields meant h = elim (cases_Bool (nat_lt 4096 row)) [
+  | inl over ↦ let no_row = rw over at h in cc
+  | inr fits ↦ search rules
+]
+
+-- each row gives one order at most
+pub orders_grow : (before : Rows) (meant : Row) (most : ℕ) → length before.orders ≤ most →
+    length (with_row before meant).orders ≤ most + 1
+orders_grow before (rows.Declare cell) most h = omega arith
+orders_grow before (rows.Give order) most h = simp length-append (omega arith)
+
+-- these rows, seen so far, leave these before the next
+abbrev pub Leave : List (List (List ℕ)) → ℕ → Rows → Type 0
+Leave seen row before = (more : List (List (List ℕ))) → rows_of (seen ++ more) ≡ rows_read (row + 1) before more
+
+pub leave_more : (seen : List (List (List ℕ))) (fields : List (List ℕ)) (row : ℕ) (before next : Rows) (meant : Row) →
+    Leave seen row before → row_of (row + 1) before.cells before.orders fields ≡ Ok meant → next ≡ with_row before meant →
+    Leave (seen ++ fields ∷ []) (row + 1) next
+leave_more seen fields row before next meant so right is more =
+    ap rows_of (append_assoc seen (fields ∷ []) more) ∙ so (fields ∷ more) ∙ rw (right, is) refl
+
+pub leave_all : (seen : List (List (List ℕ))) (row : ℕ) (before : Rows) → Leave seen row before → rows_of seen ≡ Ok before
+leave_all seen row before so = ap rows_of (sym (append-nil seen)) ∙ so []
+
+-- the fault of a row that is wrong after those
+pub wrong_row : (input : List ℕ) (seen : List (List (List ℕ))) (fields : List (List ℕ)) (row : ℕ) (before : Rows)
+    (kind : BookFaultKind) (f : BookFault) (state : State) (rest : List ℕ) →
+    Reached default_config st.StartRecord (strip_bom input) (seen ++ fields ∷ []) state rest → Leave seen row before →
+    (kind ≢ fault.Refused → row_of (row + 1) before.cells before.orders fields ≡ Err kind) →
+    ((f ≡ refused) ⊎ ((kind ≢ fault.Refused) × (f ≡ fault_at (row + 1) kind))) → (f ≡ refused) ⊎ IsRowFault input f
+wrong_row input seen fields row before kind f state rest read so wrong (inl none) = inl none
+wrong_row input seen fields row before kind f state rest read so wrong (inr told) = inr record {
+  records = seen ++ fields ∷ [];
+  state = state;
+  rest = rest;
+  read = read;
+  wrong = so (fields ∷ []) ∙ rw (wrong told.0, told.1) refl;
+}

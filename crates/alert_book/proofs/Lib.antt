@@ -1,0 +1,6 @@
+pub mod PartLaws
+pub mod TextLaws
+pub mod RowLaws
+pub mod PageLaws
+pub mod BookLaws
+mod Worked

@@ -1,0 +1,5 @@
+pub mod Number
+pub mod Cells
+pub mod Fields
+pub mod Row
+pub mod Book

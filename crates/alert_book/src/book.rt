@@ -1,0 +1,217 @@
+//! Books as they are read.
+
+ghost use Rattle.std.specs.Prelude.{◌≡◌, ◌≢◌, ◌⊎◌, ◌↔◌, ◌+◌, ◌≤◌, Some, None, false, true, length, IfErr, IfOk, IsErrOf, IsTrue, OnErr, OnOk};
+ghost use Rattle.device_ends.specs.Source.{reader_of, source_failed};
+ghost use Rattle.std.specs.Str.{chars};
+ghost use Rattle.cbs_page.specs.Text.{IsTextFault};
+ghost use Rattle.alert_book.specs.Book.{fault_at, refused, unread, sending_of, AreRowsOf, ArePagesOf, HavePages, IsBook, IsRowFault, HasWrongText, IsWrong, ReadsBook, RefusesBook};
+
+use crate::fault::{BookFault, BookFaultKind};
+use crate::order::{Action, Order, Sending};
+use crate::row::{Row, row_of};
+use cbs_page::{Paged, TextFault, paginate};
+use cbsp_wire::Cell;
+use csv::{ByteRecord, ReaderBuilder};
+use device_ends::{ReadFault, Source, read_up_to};
+use std::alloc::{AllocGlobal, Global};
+use std::io::Read;
+use std::marker::Model;
+
+/// The most octets of a book: 16 MiB.
+pub const MOST_OCTETS: usize = 0x100_0000;
+
+/// A book: the cells that its rows declare, and the orders that they give, in the order of the rows.
+#[derive(Debug, Drop)]
+pub struct Book {
+    cells: Vec<Cell>,
+    orders: Vec<Order>,
+    pages: Vec<Option<Paged>>,
+}
+
+impl Model for Book {
+    ghost use Rattle.alert_book.specs.Book.{Contents};
+
+    ghost Value = { Contents };
+
+    ghost view = { λ book. record { cells = book.cells.items; orders = book.orders.items; pages = book.pages.items } };
+}
+
+impl Book {
+    /// The cells that the book declares, in the order of its rows.
+    pub fn cells(&self) -> &[Cell]
+        ensures { result.now ≡ self.now.cells }
+    {
+        &self.cells
+    }
+}
+
+/// The rows of a book, as far as they are read.
+#[derive(Debug, Drop)]
+struct Known {
+    cells: Vec<Cell>,
+    orders: Vec<Order>,
+}
+
+impl Model for Known {
+    ghost use Rattle.alert_book.specs.Book.{Rows};
+
+    ghost Value = { Rows };
+
+    ghost view = { λ known. record { cells = known.cells.items; orders = known.orders.items } };
+}
+
+impl Known {
+    ghost use Rattle.std.specs.Prelude.{Ok, Err};
+    ghost use Rattle.csv.specs.Records.{fields_of};
+    ghost use Rattle.alert_book.specs.Book.{with_row};
+    ghost use Rattle.alert_book.specs.Row.{row_of};
+    ghost use Rattle.alert_book.specs.declared.row.Row.{Row};
+
+    /// Reads the row of this number.
+    fn read(&mut self, alloc: Global, row: u16, fields: ByteRecord) -> Result<(), BookFaultKind>
+        requires { length self.old.orders ≤ 4096 }
+        ensures right { OnOk result ((meant : Row) ×
+            (row_of row self.old.cells self.old.orders (fields_of fields) ≡ Ok meant) × (self.new ≡ with_row self.old meant)) }
+        ensures wrong { IfErr result (λ kind. kind ≢ BookFaultKind.Refused →
+            row_of row self.old.cells self.old.orders (fields_of fields) ≡ Err kind) }
+        ensures unread { IfErr result (λ kind. kind ≢ BookFaultKind.ReadFailed) }
+    {
+        match row_of(alloc, row, &self.cells, &self.orders, fields)? {
+            Row::Declare(cell) => self.cells.push(cell)?,
+            Row::Give(order) => self.orders.push(order)?,
+        }
+        Ok(())
+    }
+}
+
+/// The fault of a book whose row of this number is wrong.
+fn row_fault(row: u16, kind: BookFaultKind) -> BookFault
+    ensures { (result ≡ refused) ⊎ ((kind ≢ BookFaultKind.Refused) × (result ≡ fault_at row kind)) }
+{
+    match kind {
+        BookFaultKind::Refused => fault_of_book(BookFaultKind::Refused),
+        _ => BookFault { row, kind },
+    }
+}
+
+/// The rows of a book's octets.
+fn known_of(alloc: Global, octets: &[u8]) -> Result<Known, BookFault>
+    ensures right { IfOk result (λ known. AreRowsOf octets.now known) }
+    ensures wrong { IfErr result (λ fault. (fault ≡ refused) ⊎ IsRowFault octets.now fault) }
+    ensures unread { IfErr result (λ fault. fault ≢ unread) }
+{
+    let mut known = Known {
+        cells: Vec::new(alloc),
+        orders: Vec::new(alloc),
+    };
+    let mut row = 0;
+    let reader = ReaderBuilder::new()
+        .has_headers(false)
+        .flexible(true)
+        .from_reader(alloc, octets);
+    for record in reader.into_byte_records() {
+        let Ok(fields) = record else {
+            return Err(fault_of_book(BookFaultKind::Refused));
+        };
+        row += 1;
+        match known.read(alloc, row, fields) {
+            Ok(()) => {}
+            Err(kind) => return Err(row_fault(row, kind)),
+        }
+    }
+    Ok(known)
+}
+
+/// The pages of an order's text, if it has one.
+fn pages_of(alloc: Global, order: &Order) -> Result<Option<Paged>, TextFault>
+    ensures right { IfOk result (λ paged. ArePagesOf (sending_of order.now.action) paged) }
+    ensures wrong { IfErr result (λ why. (sending : Sending) × (sending_of order.now.action ≡ Some sending)
+        × IsTextFault sending.language (chars sending.text) why) }
+{
+    match &order.action {
+        Action::Write(sending) | Action::Update { sending, .. } => {
+            let paged = paginate(alloc, &sending.text.text, &sending.language.text)?;
+            Ok(Some(paged))
+        }
+        Action::Stop(_) => Ok(None),
+    }
+}
+
+/// The fault of a book in whose row of this number a text can't be sent.
+fn text_fault(row: u16, why: TextFault) -> BookFault
+    ensures { (result ≡ refused) ⊎ ((why ≢ TextFault.Refused) × (result ≡ fault_at row (BookFaultKind.Text why))) }
+{
+    match why {
+        TextFault::Refused => fault_of_book(BookFaultKind::Refused),
+        _ => BookFault {
+            row,
+            kind: BookFaultKind::Text(why),
+        },
+    }
+}
+
+/// The pages of all orders.
+fn all_pages(alloc: Global, orders: &[Order]) -> Result<Vec<Option<Paged>>, BookFault>
+    ensures right { IfOk result (λ pages. HavePages orders.now pages.items) }
+    ensures wrong { IfErr result (λ fault. (fault ≡ refused) ⊎ HasWrongText orders.now fault) }
+    ensures unread { IfErr result (λ fault. fault ≢ unread) }
+{
+    let mut pages = Vec::new(alloc);
+    for order in orders {
+        match pages_of(alloc, order) {
+            Ok(paged) => {
+                if pages.push(paged).is_err() {
+                    return Err(fault_of_book(BookFaultKind::Refused));
+                }
+            }
+            Err(why) => return Err(text_fault(order.row, why)),
+        }
+    }
+    Ok(pages)
+}
+
+/// The book that octets are, if they are one.
+fn book_of(alloc: Global, octets: &[u8]) -> Result<Book, BookFault>
+    requires { length octets.now ≤ 16777216 }
+    ensures right { IfOk result (λ book. IsBook octets.now book) }
+    ensures wrong { IfErr result (λ fault. (fault ≡ refused) ⊎ IsWrong octets.now fault) }
+    ensures unread { IfErr result (λ fault. fault ≢ unread) }
+{
+    let known = known_of(alloc, octets)?;
+    let pages = all_pages(alloc, &known.orders)?;
+    Ok(Book {
+        cells: known.cells,
+        orders: known.orders,
+        pages,
+    })
+}
+
+/// Reads a book to its end, or answers its first fault. Faults of rows come before those of texts, and want of memory may come at
+/// any point.
+pub fn read_book<T: AllocGlobal, R: Read>(rt: &T, source: &mut Source<R>) -> Result<Book, BookFault>
+    ensures right { IfOk result (λ book. ReadsBook (R.remaining (reader_of source.old)) (R.remaining (reader_of source.new)) book) }
+    ensures wrong { IfErr result (λ fault. RefusesBook (R.remaining (reader_of source.old)) (R.remaining (reader_of source.new)) fault) }
+
+    // The device, at any reader.
+    ensures device { IsErrOf result unread ↔ IsTrue (source_failed source.new) }
+    ensures sound { OnOk result (source_failed source.new ≡ false) }
+    ensures stays { source_failed source.old ≡ true → source.new ≡ source.old }
+{
+    let alloc = rt.alloc();
+    let octets = match read_up_to(source, alloc, MOST_OCTETS) {
+        Ok(octets) => octets,
+        Err(ReadFault::Device) => return Err(fault_of_book(BookFaultKind::ReadFailed)),
+        Err(ReadFault::Refused) => return Err(fault_of_book(BookFaultKind::Refused)),
+    };
+    if octets.len() > MOST_OCTETS {
+        return Err(fault_of_book(BookFaultKind::TooManyRows));
+    }
+    book_of(alloc, &octets)
+}
+
+/// A fault of no one row.
+fn fault_of_book(kind: BookFaultKind) -> BookFault
+    ensures { result ≡ fault_at 0 kind }
+{
+    BookFault { row: 0, kind }
+}

@@ -1,0 +1,121 @@
+//! The cells that a row is for.
+
+ghost use Rattle.std.specs.Prelude.{◌≡◌, ◌≢◌, Ok, Err, Some, None, IfErr, IfOk};
+ghost use Rattle.std.specs.List.{list_all, list_any};
+ghost use Rattle.cbsp_wire.specs.Range.{is_cell, are_distinct};
+ghost use Rattle.alert_book.specs.Cells.{all_of, cell_named, cells_listed, cells_of_field, is_among, judged};
+
+use crate::fault::BookFaultKind;
+use crate::number::number_within;
+use cbsp_wire::{Cell, Cells};
+use std::alloc::{AllocError, Global};
+
+/// Whether two cells are one.
+fn is_cell(cell: Cell, other: Cell) -> bool
+    ensures { result ≡ is_cell cell other }
+{
+    cell.lac == other.lac && cell.ci == other.ci
+}
+
+/// Whether a cell is among those declared.
+pub(crate) fn is_among(declared: &[Cell], cell: Cell) -> bool
+    ensures { result ≡ is_among declared.now cell }
+{
+    declared.iter().any(|other| is_cell(*other, cell))
+}
+
+/// Whether a cell stands in a list.
+fn stands_in(cell: Cell, cells: &[Cell]) -> bool
+    ensures { result ≡ list_any (is_cell cell) cells.now }
+{
+    cells.iter().any(|other| is_cell(cell, *other))
+}
+
+/// Whether no cell stands twice in a list.
+fn are_distinct(cells: &[Cell]) -> bool
+    ensures { result ≡ are_distinct cells.now }
+{
+    let mut left = cells;
+    while let Some((first, rest)) = left.split_first() {
+        if stands_in(*first, rest) {
+            return false;
+        }
+        left = rest;
+    }
+    true
+}
+
+/// The cell that a text names, if it names one.
+fn cell_named(text: &str) -> Option<Cell>
+    ensures { result ≡ cell_named text.now }
+{
+    let (lac, ci) = text.split_once('-')?;
+    let lac = number_within(lac, 0, u16::MAX)?;
+    let ci = number_within(ci, 0, u16::MAX)?;
+    Some(Cell { lac, ci })
+}
+
+/// The cells that a text names between its spaces, if each part names one.
+fn cells_listed(alloc: Global, text: &str) -> Result<Option<Cells>, AllocError>
+    ensures { IfOk result (λ cells. cells ≡ cells_listed text.now) }
+{
+    let mut cells = Vec::new(alloc);
+    let mut left = text;
+    while let Some((part, rest)) = left.split_once(' ') {
+        match cell_named(part) {
+            Some(cell) => cells.push(cell)?,
+            None => return Ok(None),
+        }
+        left = rest;
+    }
+    match cell_named(left) {
+        Some(cell) => cells.push(cell)?,
+        None => return Ok(None),
+    }
+    Ok(Some(Cells { list: cells }))
+}
+
+/// The cells of a row's field, if it is right where these are declared.
+pub(crate) fn cells_of_field(
+    alloc: Global,
+    declared: &[Cell],
+    field: &str,
+) -> Result<Cells, BookFaultKind>
+    ensures right { IfOk result (λ cells. cells_of_field declared.now field.now ≡ Ok cells) }
+    ensures wrong { IfErr result (λ kind. kind ≢ BookFaultKind.Refused → cells_of_field declared.now field.now ≡ Err kind) }
+    ensures unread { IfErr result (λ kind. kind ≢ BookFaultKind.ReadFailed) }
+{
+    if field == "*" {
+        return all_of(alloc, declared);
+    }
+    let Some(cells) = cells_listed(alloc, field)? else {
+        return Err(BookFaultKind::Number);
+    };
+    if !are_declared(declared, &cells.list) {
+        return Err(BookFaultKind::UnknownCell);
+    }
+    if !are_distinct(&cells.list) {
+        return Err(BookFaultKind::TwiceNamed);
+    }
+    Ok(cells)
+}
+
+/// All cells that are declared, if there are any.
+fn all_of(alloc: Global, declared: &[Cell]) -> Result<Cells, BookFaultKind>
+    ensures right { IfOk result (λ cells. all_of declared.now ≡ Ok cells) }
+    ensures wrong { IfErr result (λ kind. kind ≢ BookFaultKind.Refused → all_of declared.now ≡ Err kind) }
+    ensures unread { IfErr result (λ kind. kind ≢ BookFaultKind.ReadFailed) }
+{
+    if declared.is_empty() {
+        return Err(BookFaultKind::UnknownCell);
+    }
+    let list = Vec::from_slice(alloc, declared)?;
+    Ok(Cells { list })
+}
+
+/// Whether all of these cells are among those declared.
+fn are_declared(declared: &[Cell], cells: &[Cell]) -> bool
+    ensures { result ≡ list_all (is_among declared.now) cells.now }
+{
+    cells.iter().all(|cell| is_among(declared, *cell))
+}

@@ -1,0 +1,73 @@
+//! Why a book is refused.
+
+ghost use Rattle.std.specs.Prelude.{◌≡◌};
+ghost use Rattle.alert_book.specs.declared.fault.BookFaultKind.TheVariants.{Refused};
+
+use cbs_page::TextFault;
+use std::alloc::{AllocError, AllocFailed};
+use thiserror::Error;
+
+/// Why a row is refused. Where several apply to a row, docs/formats.md says which is told.
+#[derive(Clone, Copy, Debug, PartialEq, Eq, Error)]
+pub enum BookFaultKind {
+    /// The row has a wrong number of columns, or a column isn't UTF-8.
+    #[error("columns")]
+    Columns,
+    /// The first column is none of `cell`, `write`, `update` and `stop`.
+    #[error("verb")]
+    Verb,
+    /// A number, or a list of cells, isn't written as it has to be, or a number is out of its range.
+    #[error("number")]
+    Number,
+    /// A cell that no earlier row declares.
+    #[error("unknown cell")]
+    UnknownCell,
+    /// A cell or a name that was given before.
+    #[error("named twice")]
+    TwiceNamed,
+    /// No name, or one that no earlier row wrote.
+    #[error("unknown name")]
+    UnknownName,
+    /// The text can't be sent.
+    #[error("{0}")]
+    Text(TextFault),
+    /// The sixteenth update of a name.
+    #[error("too many updates")]
+    TooManyUpdates,
+    /// More than 4,096 rows, 64 cells or 16,777,216 octets.
+    #[error("too many rows")]
+    TooManyRows,
+    /// The reader failed.
+    #[error("read failed")]
+    ReadFailed,
+    /// There was no memory.
+    #[error("out of memory")]
+    Refused,
+}
+
+impl From<AllocError> for BookFaultKind {
+    ghost from_gives = { λ _ kind. kind ≡ Refused };
+
+    fn from(_refused: AllocError) -> BookFaultKind {
+        BookFaultKind::Refused
+    }
+}
+
+impl<T: Drop> From<AllocFailed<T>> for BookFaultKind {
+    ghost from_gives = { λ _ kind. kind ≡ Refused };
+
+    fn from(_refused: AllocFailed<T>) -> BookFaultKind {
+        BookFaultKind::Refused
+    }
+}
+
+/// Why a book is refused, and its row, from 1. The row is 0 where the reader failed, memory was refused, or the book has
+/// too many octets.
+#[derive(Clone, Copy, Debug, PartialEq, Eq, Error)]
+#[error("row {row}: {kind}")]
+pub struct BookFault {
+    /// The row, from 1 as CSV gives them.
+    pub row: u16,
+    /// What is wrong with it.
+    pub kind: BookFaultKind,
+}
