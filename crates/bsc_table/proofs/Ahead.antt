@@ -1,8 +1,11 @@
 -- The message behind which one waits that takes over: it has started, it is stopped, and no other waits behind it.
-use Rattle.std.proofs.Common.{◌≡◌, ℕ, zero, suc, ◌+◌, ◌-◌, ◌*◌, ◌<◌, ◌==◌, ◌||◌, Bool, true, false, cond, not, Option, Some, None, is_some, List, [], ◌∷◌, length, get_or, refl, sym, ap, subst, ◌∙◌, inl, inr, arith}
+use Rattle.std.proofs.Common.{◌≡◌, ℕ, zero, suc, ◌+◌, ◌-◌, ◌*◌, ◌<◌, ◌==◌, ◌||◌, Bool, true, false, cond, not, Option}
+use Rattle.std.proofs.Common.{Some, None, is_some, List, [], ◌∷◌, length, get_or, refl, sym, ap, subst, ◌∙◌, inl, inr}
+use Rattle.std.proofs.Common.{arith}
 use Rattle.std.specs.Prelude.{nat_lt}
 use Rattle.std.specs.List.{All, AllPairs, Contains, find}
-use Rattle.std.proofs.lemmas.Bool.{cases_lt, cases_Bool, cases_eq, and_parts, or_cases, eqb-true, eq-eqb, ne_eqb, ltb-true, lt-ltb, le-ltb}
+use Rattle.std.proofs.lemmas.Bool.{cases_lt, cases_Bool, cases_eq, and_parts, or_cases, eqb-true, eq-eqb, ne_eqb}
+use Rattle.std.proofs.lemmas.Bool.{ltb-true, lt-ltb, le-ltb}
 use Rattle.std.proofs.lemmas.Option.{none-some}
 use Rattle.std.proofs.lemmas.List.{get_or-map, length-map, get_or_default}
 use Rattle.admission.specs.Reservation.{IsBeforeEnd, natural_end, end_of_reservation}
@@ -14,7 +17,8 @@ use Rattle.bsc_table.specs.Handover.{Place, numbered, place_before, place_behind
 use Rattle.bsc_table.proofs.Stops.{standing_of}
 
 -- what a look-up finds
-pub find-says : (p : Claim → Bool) (claims : List Claim) (c : Claim) → find p claims ≡ Some c → Contains claims c × (p c ≡ true)
+pub find-says : (p : Claim → Bool) (claims : List Claim) (c : Claim) → find p claims ≡ Some c → Contains claims c
+    × (p c ≡ true)
 find-says p [] c e = absurd (none-some c e)
 find-says p (x ∷ claims) c e =
     elim (cases_Bool (p x)) [
@@ -50,17 +54,31 @@ pub record Taken (claims : List Claim) (now load : ℕ) (ahead : Option ℕ) (pl
   pub later : now < place.start
   pub excess : place.excess ≡ load - own_load p.message
 
-taken_before : (claims : List Claim) (now load : ℕ) (ahead : Option ℕ) (place : Place) (p : Claim) → Contains claims p → ahead ≡ Some p.message.number → (end : Option ℕ) → end_of p.message ≡ end → place_before now load p end ≡ Some place → Taken claims now load ahead place
+taken_before : (claims : List Claim) (now load : ℕ) (ahead : Option ℕ) (place : Place) (p : Claim) → Contains claims p
+    → ahead ≡ Some p.message.number → (end : Option ℕ) → end_of p.message ≡ end
+    → place_before now load p end ≡ Some place → Taken claims now load ahead place
 taken_before claims now load ahead place p there number None ends e = absurd (none-some place e)
 taken_before claims now load ahead place p there number (Some end) ends e =
     elim (cases_lt now end) [
       | inr over ↦
-          let gone = ap (λ (b : Bool). cond b (Some (record { behind = p.message.number; start = end; excess = load - own_load p.message })) None) (le-ltb now end over) in
+          let gone = ap (λ (b : Bool). cond b (Some (record {
+            behind = p.message.number;
+            start = end;
+            excess = load -
+                own_load p.message;
+          })) None) (le-ltb now end over) in
           absurd (none-some place (sym gone ∙ e))
       | inl before ↦
-          let kept = ap (λ (b : Bool). cond b (Some (record { behind = p.message.number; start = end; excess = load - own_load p.message })) None) (lt-ltb now end before) in
-          let same : Some (record { behind = p.message.number; start = end; excess = load - own_load p.message }) ≡ Some place = sym kept ∙ e in
-          let its : record { behind = p.message.number; start = end; excess = load - own_load p.message } ≡ place = cc in
+          let kept = ap (λ (b : Bool). cond b (Some (record {
+            behind = p.message.number;
+            start = end;
+            excess = load -
+                own_load p.message;
+          })) None) (lt-ltb now end before) in
+          let same : Some (record { behind = p.message.number; start = end; excess = load - own_load p.message }) ≡
+          Some place = sym kept ∙ e in
+          let its : record { behind = p.message.number; start = end; excess = load - own_load p.message } ≡ place = cc
+          in
           let start : end ≡ place.start = ap (λ (x : Place). x.start) its in
           record {
             p = p;
@@ -73,48 +91,62 @@ taken_before claims now load ahead place p there number (Some end) ends e =
           }
     ]
 
-taken_of : (claims : List Claim) (now load n : ℕ) (place : Place) (found : Option Claim) → find (λ c. c.message.number == n) claims ≡ found → place_behind now load found ≡ Some place → Taken claims now load (Some n) place
+taken_of : (claims : List Claim) (now load n : ℕ) (place : Place) (found : Option Claim)
+    → find (λ c. c.message.number == n) claims ≡ found → place_behind now load found ≡ Some place
+    → Taken claims now load (Some n) place
 taken_of claims now load n place None e taken = absurd (none-some place taken)
 taken_of claims now load n place (Some p) e taken =
     let says = find-says (λ c. c.message.number == n) claims p e in
     let same : p.message.number ≡ n = eqb-true p.message.number n says.1 in
-    taken_before claims now load (Some n) place p says.0 (ap (λ (k : ℕ). Some k) (sym same)) (end_of p.message) refl taken
+    taken_before claims now load (Some n) place p says.0 (ap (λ (k : ℕ). Some k) (sym same)) (end_of p.message) refl
+    taken
 
-pub taken : (claims : List Claim) (now load : ℕ) (ahead : Option ℕ) (place : Place) → place_behind now load (numbered ahead claims) ≡ Some place → Taken claims now load ahead place
+pub taken : (claims : List Claim) (now load : ℕ) (ahead : Option ℕ) (place : Place)
+    → place_behind now load (numbered ahead claims) ≡ Some place → Taken claims now load ahead place
 taken claims now load None place e = absurd (none-some place e)
 taken claims now load (Some n) place e =
     taken_of claims now load n place (find (λ c. c.message.number == n) claims) refl e
 
 -- one number, one claim
-pub by_number : (claims : List Claim) (a b : Claim) → AllPairs (λ x y. x.message.number < y.message.number) claims → Contains claims a → Contains claims b → a.message.number ≡ b.message.number → a ≡ b
+pub by_number : (claims : List Claim) (a b : Claim) → AllPairs (λ x y. x.message.number < y.message.number) claims
+    → Contains claims a → Contains claims b → a.message.number ≡ b.message.number → a ≡ b
 by_number claims a b rising here there same =
     let first : get_or claims here.0 a ≡ a = here.2 in
     let second : get_or claims there.0 a ≡ b = get_or_default claims there.0 a b there.1 ∙ there.2 in
-    let numbers = ap (λ (c : Claim). c.message.number) first ∙ same ∙ sym (ap (λ (c : Claim). c.message.number) second) in
+    let numbers = ap (λ (c : Claim). c.message.number) first ∙ same
+    ∙ sym (ap (λ (c : Claim). c.message.number) second) in
     let place = rising-same (λ (c : Claim). c.message.number) claims rising here.0 there.0 a here.1 there.1 numbers in
     sym first ∙ ap (λ i. get_or claims i a) place ∙ second
 
 -- what stands among the stopped ones was there before
-pub from_stopped : (claims : List Claim) (number now : ℕ) (p : Claim) → Contains (stop_claims number now claims) p → (c : Claim) × Contains claims c × (p ≡ stop_claim number now c)
+pub from_stopped : (claims : List Claim) (number now : ℕ) (p : Claim) → Contains (stop_claims number now claims) p
+    → (c : Claim) × Contains claims c × (p ≡ stop_claim number now c)
 from_stopped claims number now p there =
     let f = stop_claim number now in
     let within : there.0 < length claims = omega (arith, there.1, length-map claims f) in
-    let c : Claim = get_or claims there.0 p in
-    (c, (there.0, within, get_or_default claims there.0 c p within), sym there.2 ∙ get_or-map f claims there.0 p p within)
+    let c : Claim = get_or claims there.0 p in (
+      c,
+      (there.0, within, get_or_default claims there.0 c p within),
+      sym there.2
+          ∙ get_or-map f claims there.0 p p within,
+    )
 
 -- a live message is reserved
 pub live_before : (now : ℕ) (m : Message) → 0 < m.period → is_live now m ≡ true → IsBeforeEnd now (end_of m)
 live_before now m some live =
-    let parts = and_parts (not (is_some m.stop)) ((m.requested == 0) || nat_lt now (m.start + m.requested * m.period)) live in
+    let parts = and_parts (not (is_some m.stop)) ((m.requested == 0) || nat_lt now (m.start + m.requested * m.period))
+    live in
     let Stands : Option ℕ → Type 0 = λ stop. IsBeforeEnd now (end_of_reservation m.start m.period m.requested stop) in
     subst Stands (sym (standing_of now m live)) (runs parts.1)
   where
-    runs : ((m.requested == 0) || nat_lt now (m.start + m.requested * m.period)) ≡ true → IsBeforeEnd now (natural_end m.start m.period m.requested)
+    runs : ((m.requested == 0) || nat_lt now (m.start + m.requested * m.period)) ≡ true
+        → IsBeforeEnd now (natural_end m.start m.period m.requested)
     runs h =
         elim (cases_eq m.requested 0) [
           | inl always ↦ rw (eq-eqb m.requested 0 always) tt
           | inr few ↦
-              let stands : now < m.start + m.requested * m.period = elim (or_cases (m.requested == 0) (nat_lt now (m.start + m.requested * m.period)) h) [
+              let stands : now < m.start + m.requested * m.period = elim
+              (or_cases (m.requested == 0) (nat_lt now (m.start + m.requested * m.period)) h) [
                 | inl never ↦ absurd (few (eqb-true m.requested 0 never))
                 | inr below ↦ ltb-true now (m.start + m.requested * m.period) below
               ] in

@@ -1,5 +1,6 @@
 -- A message that begins: it starts no sooner than it is accepted, and there is room for it in the budget.
-use Rattle.std.proofs.Common.{◌≡◌, ℕ, ◌+◌, ◌≤◌, ◌<◌, true, Option, Some, None, Ok, List, length, map, filter, refl, sym, subst, ◌∙◌, inl, inr, arith}
+use Rattle.std.proofs.Common.{◌≡◌, ℕ, ◌+◌, ◌≤◌, ◌<◌, true, Option, Some, None, Ok, List, length, map, filter, refl, sym}
+use Rattle.std.proofs.Common.{subst, ◌∙◌, inl, inr, arith}
 use Rattle.std.specs.List.{AllPairs, Contains}
 use Rattle.std.proofs.lemmas.Bool.{lt-ltb, le-leb}
 use Rattle.scheduler.specs.Air.{layer}
@@ -45,7 +46,11 @@ has_room : (slot load : ℕ) (claims : List Claim)
     → answer_for (lines_at slot claims) load ≡ Ok tt
 has_room slot load claims order room fits =
     let places = length (filter (is_claimed_at slot) claims) in
-    let yes : answer_by places (claimed_at claims slot) load ≡ Ok tt = rw (lt-ltb (length (filter (is_claimed_at slot) claims)) 64 room, le-leb (claimed_at claims slot + load) SCALE fits) refl in
+    let yes : answer_by places (claimed_at claims slot) load ≡ Ok tt = rw (
+      lt-ltb (length (filter (is_claimed_at slot) claims)) 64 room,
+      le-leb (claimed_at claims slot + load) SCALE
+          fits,
+    ) refl in
     same_room slot load claims (lined slot claims order) ∙ yes
 
 room_now : (slot : ℕ) (before : List Accepted) (a : Accepted)
@@ -55,7 +60,8 @@ room_now : (slot : ℕ) (before : List Accepted) (a : Accepted)
     → StartsNow slot before a
     → HasRoomFor slot (lines_at slot (claims_of before)) (claim_of a) a.behind
 room_now slot before a order front room now =
-    subst (HasRoomFor slot (lines_at slot (claims_of before)) (claim_of a)) (sym now.behind) (omega (arith, now.start), has_room slot (own_load a.message) (claims_of before) order room (now.fits front))
+    subst (HasRoomFor slot (lines_at slot (claims_of before)) (claim_of a)) (sym now.behind)
+    (omega (arith, now.start), has_room slot (own_load a.message) (claims_of before) order room (now.fits front))
 
 -- a message in the place of none has room
 pub room_for_new : (number slot : ℕ) (before : List Accepted) (a : Accepted)
@@ -91,10 +97,16 @@ room_for_replacement number slot all old a order rising here live begun front =
           let its = its_claim all old here over.of_reserved in
           let Over : List Claim → Type 0 = λ l. handover l slot (claim_of old) (own_load a.message) ≡ Some place in
           let Fits : List Claim → Type 0 = λ l. claimed_at l slot + place.excess ≤ SCALE in
-          let held = handed_in slot (own_load a.message) claims (claim_of old) place order its live (subst Over same over.over) in
-          let fits = has_room slot place.excess left kept (subst Room same (begun.room front)) (subst Fits same over.fits) in
-          let Started : ℕ → Type 0 = λ start. (slot < start) × (answer_for (lines_at slot left) place.excess ≡ Ok tt) × IsHeldFor (lines_at slot left) (own_load a.message) place.behind start place.excess in
-          let Reserved : ℕ → Type 0 = λ excess. (slot < a.message.start) × (answer_for (lines_at slot left) excess ≡ Ok tt) × IsHeldFor (lines_at slot left) (own_load a.message) place.behind a.message.start excess in
+          let held = handed_in slot (own_load a.message) claims (claim_of old) place order its live
+          (subst Over same over.over) in
+          let fits = has_room slot place.excess left kept (subst Room same (begun.room front))
+          (subst Fits same over.fits) in
+          let Started : ℕ → Type 0 = λ start. (slot < start) × (answer_for (lines_at slot left) place.excess ≡ Ok tt)
+          × IsHeldFor (lines_at slot left) (own_load a.message) place.behind start place.excess in
+          let Reserved : ℕ → Type 0 = λ excess. (slot < a.message.start)
+          × (answer_for (lines_at slot left) excess ≡ Ok tt)
+          × IsHeldFor (lines_at slot left) (own_load a.message) place.behind a.message.start excess in
           let with_start = subst Started (sym over.placed.start) (held.0, fits, held.1) in
-          subst (HasRoomFor slot (lines_at slot left) (claim_of a)) (sym over.placed.behind) (subst Reserved (sym over.placed.excess) with_start)
+          subst (HasRoomFor slot (lines_at slot left) (claim_of a)) (sym over.placed.behind)
+          (subst Reserved (sym over.placed.excess) with_start)
     ]

@@ -1,5 +1,6 @@
 -- A book's plan and budget, asked of an accepted message.
-use Rattle.std.proofs.Common.{◌≡◌, ℕ, ◌+◌, ◌<◌, ◌==◌, Bool, true, cond, Result, Option, Some, None, Ok, Err, List, length, filter, refl, ap, sym, subst, ◌∙◌, inl, inr, ltb, leb}
+use Rattle.std.proofs.Common.{◌≡◌, ℕ, ◌+◌, ◌<◌, ◌==◌, Bool, true, cond, Result, Option, Some, None, Ok, Err, List}
+use Rattle.std.proofs.Common.{length, filter, refl, ap, sym, subst, ◌∙◌, inl, inr, ltb, leb}
 use Rattle.std.specs.List.{All, Any, Contains, find}
 use Rattle.std.specs.Option.{option_map}
 use Rattle.std.specs.Result.{OnOk}
@@ -56,10 +57,12 @@ pub found_is_there : (id serial : ℕ) (log : List Entry) (a : Accepted)
     → find (is_of_pair id serial) (accepted_in log) ≡ Some a
     → Contains (accepted_in log) a
 found_is_there id serial log a found =
-    All-find (Contains (accepted_in log)) (is_of_pair id serial) (accepted_in log) a (All-contains_itself (accepted_in log)) found
+    All-find (Contains (accepted_in log)) (is_of_pair id serial) (accepted_in log) a
+    (All-contains_itself (accepted_in log)) found
 
 -- the same where the result of looking is an option
-pub option_is_there : {K : Type 0} (view : K → Accepted) (id serial : ℕ) (log : List Entry) (found : Option K) (kept : K)
+pub option_is_there : {K : Type 0} (view : K → Accepted) (id serial : ℕ) (log : List Entry) (found : Option K)
+    (kept : K)
     → option_map view found ≡ find (is_of_pair id serial) (accepted_in log)
     → found ≡ Some kept
     → Contains (accepted_in log) (view kept)
@@ -68,7 +71,8 @@ option_is_there view id serial log found kept same is =
 
 -- what the refusals of a write for want of room are, by those of a budget
 room_told : (places all : ℕ) (now later : Answer)
-    → cond (leb 64 places) (answers.Cause 0x07) (cond (ltb SCALE all) later now) ≡ by_room (cond (ltb places 64) (cond (leb all SCALE) (Ok tt) (Err Load)) (Err Table)) now later
+    → cond (leb 64 places) (answers.Cause 0x07) (cond (ltb SCALE all) later now) ≡ by_room
+    (cond (ltb places 64) (cond (leb all SCALE) (Ok tt) (Err Load)) (Err Table)) now later
 room_told places all now later =
     elim (cases_lt places 64) [
       | inl few ↦ elim (cases_lt SCALE all) [
@@ -93,10 +97,13 @@ room_beside slot load claims room says =
       loads = leb-true all SCALE loads;
     } in
     let beside = cond fits (Ok tt) (Err Load) in
-    let fits_by : Fits (answer_by places (claimed_at claims slot) load) = cond_both few beside (Err Table) Fits (λ place. cond_both fits (Ok tt) (Err Load) Fits (has_room place) (λ _. tt)) (λ _. tt) in
+    let fits_by : Fits (answer_by places (claimed_at claims slot) load) = cond_both few beside (Err Table) Fits
+    (λ place. cond_both fits (Ok tt) (Err Load) Fits (has_room place) (λ _. tt)) (λ _. tt) in
     record {
       says = says;
-      answered = λ place accepts. room_told places all (accepts slot) (answer_at claims slot accepts place) ∙ ap (λ (x : Result (Unit {0}) NoRoom). by_room x (accepts slot) (answer_at claims slot accepts place)) (sym says);
+      answered = λ place accepts. room_told places all (accepts slot) (answer_at claims slot accepts place)
+          ∙ ap (λ (x : Result (Unit {0}) NoRoom). by_room x (accepts slot) (answer_at claims slot accepts place))
+          (sym says);
       fits = subst Fits (sym says) fits_by;
     }
 
@@ -110,7 +117,8 @@ few_places claims slot load room is full =
     elim (cases_lt places 64) [
       | inl few ↦ few
       | inr many ↦
-          let none = ap (λ (b : Bool). cond b (cond (leb (claimed_at claims slot + load) SCALE) (Ok tt) (Err Load)) (Err Table)) (le-ltb places 64 many) in
+          let none = ap (λ (b : Bool). cond b (cond (leb (claimed_at claims slot + load) SCALE) (Ok tt) (Err Load))
+          (Err Table)) (le-ltb places 64 many) in
           absurd (apart (Err Table) (is.says ∙ none) full refl)
     ]
   where
@@ -122,13 +130,16 @@ pub room_now : (r : Record) (load : ℕ)
     → IsLegal r
     → IsRoom (claims_in r.log) r.clock load (answer_for (lines_at r.clock (claims_in r.log)) load)
 room_now r load legal =
-    room_beside r.clock load (claims_in r.log) (answer_for (lines_at r.clock (claims_in r.log)) load) (same_room r.clock load (claims_in r.log) (lined r.clock (claims_in r.log) (IsSound-legal r legal).order))
+    room_beside r.clock load (claims_in r.log) (answer_for (lines_at r.clock (claims_in r.log)) load)
+    (same_room r.clock load (claims_in r.log) (lined r.clock (claims_in r.log) (IsSound-legal r legal).order))
 
 -- and where a live one of them is stopped: the budget is asked as if that one were gone, where its reservation ends now
 pub room_after_stop : (r : Record) (load : ℕ) (a : Accepted)
     → IsLegal r
     → IsLiveIn r a
-    → IsRoom (left_by r a) r.clock load (answer_for (remaining_without (cond (end_of_stopped a.message.start a.message.period r.clock == r.clock) (Some a.message.number) None) (lines_at r.clock (claims_in r.log))) load)
+    → IsRoom (left_by r a) r.clock load (answer_for (remaining_without
+    (cond (end_of_stopped a.message.start a.message.period r.clock == r.clock) (Some a.message.number) None)
+    (lines_at r.clock (claims_in r.log))) load)
 room_after_stop r load a legal live =
     let sound = IsSound-legal r legal in
     let slot : ℕ = r.clock in
@@ -138,5 +149,7 @@ room_after_stop r load a legal live =
     let left : List Claim = left_by r a in
     let lasts = (All-contains HasLoad (accepted_in r.log) a sound.loaded live.there).1 in
     let later = end_of_stopped-not_before a.message.start a.message.period slot lasts in
-    let asked = room_without slot number end load lines later (lines_are_current slot (claims_in r.log)) ∙ ap (λ (l : List Held). answer_for l load) (lines_without r a legal live) in
-    room_beside slot load left (answer_for (remaining_without (cond (end == slot) (Some number) None) lines) load) (asked ∙ same_room slot load left (lined slot left (left_in_order r a legal live)))
+    let asked = room_without slot number end load lines later (lines_are_current slot (claims_in r.log))
+    ∙ ap (λ (l : List Held). answer_for l load) (lines_without r a legal live) in
+    room_beside slot load left (answer_for (remaining_without (cond (end == slot) (Some number) None) lines) load)
+    (asked ∙ same_room slot load left (lined slot left (left_in_order r a legal live)))

@@ -1,5 +1,6 @@
 -- The bounds on the completed number: what counts as whole had begun, and what was over is whole.
-use Rattle.std.proofs.Common.{◌≡◌, ℕ, zero, suc, ◌+◌, ◌-◌, ◌*◌, ◌/◌, ◌%◌, ◌≤◌, ◌<◌, ◌⊎◌, min, Bool, true, cond, get_or, count_by, Option, Some, None, inl, inr, sym, ap, ◌∙◌, arith}
+use Rattle.std.proofs.Common.{◌≡◌, ℕ, zero, suc, ◌+◌, ◌-◌, ◌*◌, ◌/◌, ◌%◌, ◌≤◌, ◌<◌, ◌⊎◌, min, Bool, true, cond, get_or}
+use Rattle.std.proofs.Common.{count_by, Option, Some, None, inl, inr, sym, ap, ◌∙◌, arith}
 use Rattle.std.specs.Int.{div_ceil}
 use Rattle.std.specs.List.{range_with_len}
 use Rattle.std.proofs.lemmas.Bool.{cases_lt, cases_eq, cases_Bool, false≢true, eq-eqb, ne_eqb}
@@ -10,7 +11,8 @@ use Rattle.scheduler.specs.Completed.{is_whole}
 use Rattle.scheduler.proofs.Completed.{one_if, is_whole-unreleased}
 use Rattle.scheduler.proofs.Rule.{is_whole-says, is_whole-from}
 use Rattle.bsc_table.specs.Guarantee.{IsUpToStop}
-use Rattle.bsc_table.specs.Bounds.{sooner_of, stands_until, cut_at, least_completed, most_completed, CompletedIsAtMost, CompletedIsAtLeast, BoundsAreNear}
+use Rattle.bsc_table.specs.Bounds.{sooner_of, stands_until, cut_at, least_completed, most_completed, CompletedIsAtMost}
+use Rattle.bsc_table.specs.Bounds.{CompletedIsAtLeast, BoundsAreNear}
 use Rattle.scheduler.proofs.Lists.{count_below_more}
 use Rattle.bsc_table.proofs.Served.{admitted_broadcasts_are_whole}
 
@@ -24,7 +26,8 @@ count_below-le p (suc n) =
     ]
 
 -- what passes only below a number counts to that number at most
-count_below-at_most : (p : ℕ → Bool) (most n : ℕ) → ((j : ℕ) → p j ≡ true → j < most) → count_by p (range_with_len 0 n) ≤ most
+count_below-at_most : (p : ℕ → Bool) (most n : ℕ) → ((j : ℕ) → p j ≡ true → j < most)
+    → count_by p (range_with_len 0 n) ≤ most
 count_below-at_most p most zero below = omega arith
 count_below-at_most p most (suc n) below =
     elim (cases_Bool (p n)) [
@@ -33,7 +36,8 @@ count_below-at_most p most (suc n) below =
     ]
 
 -- and what passes everywhere below a number counts to at least that number
-count_below-at_least : (p : ℕ → Bool) (least n : ℕ) → least ≤ n → ((j : ℕ) → j < least → p j ≡ true) → least ≤ count_by p (range_with_len 0 n)
+count_below-at_least : (p : ℕ → Bool) (least n : ℕ) → least ≤ n → ((j : ℕ) → j < least → p j ≡ true)
+    → least ≤ count_by p (range_with_len 0 n)
 count_below-at_least p least zero within all = omega arith
 count_below-at_least p least (suc n) within all =
     elim (cases_lt n least) [
@@ -107,14 +111,17 @@ completed_is_at_most m air slot pages period =
       | inr later ↦ absurd (false≢true (sym (is_whole-unreleased m air slot j pages later) ∙ whole))
     ] in
     let stood = before_sooner (release m j) slot m.stop released fact.released in
-    cut_at-below m.requested (div_ceil (stands_until m slot - m.start) m.period) j (had_begun m.start m.period j (stands_until m slot) period stood) fact.requested)
+    cut_at-below m.requested (div_ceil (stands_until m slot - m.start) m.period) j
+    (had_begun m.start m.period j (stands_until m slot) period stood) fact.requested)
 
 pub completed_is_at_least : CompletedIsAtLeast
 completed_is_at_least messages air slot admitted rule played = λ k d within.
     let m = get_or messages k d in
     let period = admitted.periods k d within in
-    let over = λ (j : ℕ) (h : j < least_completed m slot). below_cut_at m.requested ((stands_until m slot - m.start) / m.period) j h in
-    let uncut = λ (j : ℕ) (h : j < least_completed m slot). upto_sooner (due m j) slot m.stop (was_over m.start m.period j (stands_until m slot) period (over j h).0) in
+    let over = λ (j : ℕ) (h : j < least_completed m slot). below_cut_at m.requested
+    ((stands_until m slot - m.start) / m.period) j h in
+    let uncut = λ (j : ℕ) (h : j < least_completed m slot). upto_sooner (due m j) slot m.stop
+    (was_over m.start m.period j (stands_until m slot) period (over j h).0) in
     let few : least_completed m slot ≤ slot + 1 = elim (cases_lt (slot + 1) (least_completed m slot)) [
       | inl more ↦ absurd (omega (arith, (uncut (slot + 1) more).0, le-mul_of_pos_right (slot + 1 + 1) period))
       | inr few ↦ few

@@ -1,5 +1,6 @@
 -- Broadcasts of one message, and the pages that are aired of it.
-use Rattle.std.proofs.Common.{◌≡◌, ℕ, zero, suc, ◌+◌, ◌-◌, ◌*◌, ◌≤◌, ◌<◌, Bool, true, cond, length, get_or, Option, Some, None, inl, inr, ap, subst, ◌∙◌, arith}
+use Rattle.std.proofs.Common.{◌≡◌, ℕ, zero, suc, ◌+◌, ◌-◌, ◌*◌, ◌≤◌, ◌<◌, Bool, true, cond, length, get_or, Option}
+use Rattle.std.proofs.Common.{Some, None, inl, inr, ap, subst, ◌∙◌, arith}
 use Rattle.std.proofs.lemmas.Bool.{cases_Bool}
 use Rattle.std.proofs.Math.Nat.{mul-le-mul_right, lt_of_mul-lt-mul_right}
 use Rattle.scheduler.specs.Message.{Message, release, due, IsBeforeStop}
@@ -37,7 +38,8 @@ abbrev pub uses : ℕ → Air → ℕ → ℕ
 uses n air slot = cond (airs n (get_or air slot None)) 1 0
 
 -- the pages that are aired from one slot up to another, by the sums before them
-pages_by_sums_on : (n : ℕ) (air : Air) (a k : ℕ) → a + k ≤ length air → pages_aired n air a (a + k) + total (uses n air) a ≡ total (uses n air) (a + k)
+pages_by_sums_on : (n : ℕ) (air : Air) (a k : ℕ) → a + k ≤ length air
+    → pages_aired n air a (a + k) + total (uses n air) a ≡ total (uses n air) (a + k)
 pages_by_sums_on n air a zero within =
     let same : a + 0 ≡ a = omega arith in
     omega (arith, pages_aired-none n air a (a + 0) (omega arith), ap (total (uses n air)) same)
@@ -48,14 +50,16 @@ pages_by_sums_on n air a (suc k) within =
     let more = ap (pages_aired n air a) plus ∙ pages_aired-more n air a (a + k) (omega arith) (omega arith) in
     omega (arith, before, more, ap (total (uses n air)) on)
 
-pub pages_by_sums : (n : ℕ) (air : Air) (a b : ℕ) → a ≤ b → b ≤ length air → pages_aired n air a b + total (uses n air) a ≡ total (uses n air) b
+pub pages_by_sums : (n : ℕ) (air : Air) (a b : ℕ) → a ≤ b → b ≤ length air
+    → pages_aired n air a b + total (uses n air) a ≡ total (uses n air) b
 pages_by_sums n air a b h within =
     let reach : a + (b - a) ≡ b = omega arith in
     let P : ℕ → Type 0 = λ c. pages_aired n air a c + total (uses n air) a ≡ total (uses n air) c in
     subst P reach (pages_by_sums_on n air a (b - a) (omega arith))
 
 -- where no slot airs the message, no page is aired
-pub none_aired : (n : ℕ) (air : Air) (a b : ℕ) → a ≤ b → ((t : ℕ) → a ≤ t → t < b → ¬ (airs n (get_or air t None) ≡ true)) → total (uses n air) b ≡ total (uses n air) a
+pub none_aired : (n : ℕ) (air : Air) (a b : ℕ) → a ≤ b → ((t : ℕ) → a ≤ t → t < b
+    → ¬ (airs n (get_or air t None) ≡ true)) → total (uses n air) b ≡ total (uses n air) a
 none_aired n air a b h none =
     total-none (uses n air) a b h (λ t low high. elim (cases_Bool (airs n (get_or air t None))) [
       | inl used ↦ absurd (none t low high used)

@@ -1,5 +1,6 @@
 -- The busy period before the due slot of a broadcast that lacks a page.
-use Rattle.std.proofs.Common.{◌≡◌, ℕ, zero, suc, ◌+◌, ◌-◌, ◌≤◌, ◌<◌, ◌⊎◌, List, length, get_or, Option, Some, None, inl, inr, refl, ap, subst, ◌∙◌, arith}
+use Rattle.std.proofs.Common.{◌≡◌, ℕ, zero, suc, ◌+◌, ◌-◌, ◌≤◌, ◌<◌, ◌⊎◌, List, length, get_or, Option, Some, None, inl}
+use Rattle.std.proofs.Common.{inr, refl, ap, subst, ◌∙◌, arith}
 use Rattle.std.specs.List.{All, Any}
 use Rattle.std.proofs.lemmas.Bool.{cases_lt}
 use Rattle.scheduler.specs.Message.{Message, release, due}
@@ -12,7 +13,8 @@ use Rattle.bsc_table.proofs.Broadcasts.{uses, pages_by_sums, before_stop-sooner,
 -- the slot airs a page of a broadcast that is due at `to` or sooner
 abbrev AirsDue : List Message → Air → ℕ → ℕ → Type 0
 AirsDue messages air to slot =
-    Any (λ m. (j : ℕ) × IsPending m j air slot × (get_or air slot None ≡ Some (next_page m j air slot)) × (due m j ≤ to)) messages
+    Any (λ m. (j : ℕ) × IsPending m j air slot × (get_or air slot None ≡ Some (next_page m j air slot))
+    × (due m j ≤ to)) messages
 
 -- whatever is pending at the slot is due later
 abbrev NoneDue : List Message → Air → ℕ → ℕ → Type 0
@@ -45,7 +47,8 @@ chosen_due messages air to slot (Some used) alone same chosen =
     let its = subst Alone chosen.3 (alone chosen.0 m chosen.2) in
     elim (cases_lt to (due m j)) [
       | inl later ↦ inr (λ k d within. λ i pending.
-          let no_later = due_no_later m (get_or messages k d) j i its (alone k d within) (chosen.4.1.first k d within i pending) in
+          let no_later = due_no_later m (get_or messages k d) j i its (alone k d within)
+          (chosen.4.1.first k d within i pending) in
           omega (arith, no_later, later))
       | inr by ↦ inl (chosen.0, m, chosen.2, chosen.3, (j, chosen.4.1.pending, same ∙ ap Some chosen.4.2, by))
     ]
@@ -70,7 +73,8 @@ busy_from messages air to (suc at) alone rule before within busy =
     elim (chosen_due messages air to at (get_or air at None) alone refl (rule at (omega arith))) [
       | inl due_by ↦
           let Aired : ℕ → Type 0 = λ s. AirsDue messages air to s in
-          let more = busy_from messages air to at alone rule (omega arith) within (λ slot low high. elim (cases_lt at slot) [
+          let more = busy_from messages air to at alone rule (omega arith) within
+          (λ slot low high. elim (cases_lt at slot) [
             | inl later ↦ busy slot (omega arith) high
             | inr here ↦
                 let same : at ≡ slot = omega arith in
@@ -91,7 +95,8 @@ busy_from messages air to (suc at) alone rule before within busy =
     ]
 
 -- no more pages are aired by an earlier slot
-pages_aired-sooner : (n : ℕ) (air : Air) (from s t : ℕ) → s ≤ t → t ≤ length air → pages_aired n air from s ≤ pages_aired n air from t
+pages_aired-sooner : (n : ℕ) (air : Air) (from s t : ℕ) → s ≤ t → t ≤ length air
+    → pages_aired n air from s ≤ pages_aired n air from t
 pages_aired-sooner n air from s t h within =
     elim (cases_lt s from) [
       | inl early ↦ omega (arith, pages_aired-none n air from s (omega arith))
@@ -103,7 +108,8 @@ pages_aired-sooner n air from s t h within =
     ]
 
 -- what is pending at a slot was pending since its release
-pending_since : (m : Message) (j : ℕ) (air : Air) (s t : ℕ) → s ≤ t → t ≤ length air → release m j ≤ s → IsPending m j air t → IsPending m j air s
+pending_since : (m : Message) (j : ℕ) (air : Air) (s t : ℕ) → s ≤ t → t ≤ length air → release m j ≤ s
+    → IsPending m j air t → IsPending m j air s
 pending_since m j air s t h within released pending = record {
   requested = pending.requested;
   released = released;
@@ -113,13 +119,19 @@ pending_since m j air s t h within released pending = record {
 }
 
 -- an uncut broadcast that lacks a page by its due slot is pending at each slot up to it
-pending_throughout : (m : Message) (j : ℕ) (air : Air) (t : ℕ) → IsUncut m j air → pages_aired m.number air (release m j) (due m j) < m.pages → release m j ≤ t → t < due m j → IsPending m j air t
+pending_throughout : (m : Message) (j : ℕ) (air : Air) (t : ℕ) → IsUncut m j air
+    → pages_aired m.number air (release m j) (due m j) < m.pages → release m j ≤ t → t < due m j → IsPending m j air t
 pending_throughout m j air t uncut lacks low high = record {
   requested = uncut.requested;
   released = low;
   not_due = high;
   standing = before_stop-up_to t (due m j) m.stop high uncut.standing;
-  unfinished = omega (arith, lacks, pages_aired-sooner m.number air (release m j) t (due m j) (omega arith) uncut.aired_by);
+  unfinished = omega (
+    arith,
+    lacks,
+    pages_aired-sooner m.number air (release m j) t (due m j) (omega arith)
+        uncut.aired_by,
+  );
 }
 
 pub lack_means_a_busy_period : LackMeansABusyPeriod
@@ -127,18 +139,25 @@ lack_means_a_busy_period messages air alone rule = λ k d inside. λ j uncut lac
     let m = get_or messages k d in
     let to = due m j in
     let busy_after : (slot : ℕ) → release m j ≤ slot → slot < to → AirsDue messages air to slot = λ slot low high.
-    (elim (chosen_due messages air to slot (get_or air slot None) alone refl (rule slot (omega (arith, uncut.aired_by)))) [
+    (elim (chosen_due messages air to slot (get_or air slot None) alone refl
+    (rule slot (omega (arith, uncut.aired_by)))) [
       | inl due_by ↦ due_by
       | inr none ↦ absurd (omega (arith, none k d inside j (pending_throughout m j air slot uncut lacks low high)))
     ]) in
     elim (cases_lt (release m j) to) [
       | inl ahead ↦
-          let busy = busy_from messages air to (release m j) alone rule (omega arith) uncut.aired_by busy_after in
-          (busy.0, busy.1.early, λ slot low high. within_since messages air to slot busy.0 (omega (arith, uncut.aired_by)) low busy.1.begins (busy.1.busy slot low high))
+          let busy = busy_from messages air to (release m j) alone rule (omega arith) uncut.aired_by busy_after in (
+            busy.0,
+            busy.1.early,
+            λ slot low high. within_since messages air to slot busy.0
+                (omega (arith, uncut.aired_by)) low busy.1.begins (busy.1.busy slot low high),
+          )
       | inr never ↦ (release m j, omega arith, λ slot low high. absurd (omega arith))
     ]
   where
-    within_since : (messages : List Message) (air : Air) (to slot from : ℕ) → slot < length air → from ≤ slot → ((s : ℕ) → from ≡ s + 1 → NoneDue messages air to s) → AirsDue messages air to slot → AirsOneWithin messages air from to slot
+    within_since : (messages : List Message) (air : Air) (to slot from : ℕ) → slot < length air → from ≤ slot
+        → ((s : ℕ) → from ≡ s + 1 → NoneDue messages air to s) → AirsDue messages air to slot
+        → AirsOneWithin messages air from to slot
     within_since messages air to slot from within low before airs =
         let m = airs.1 in
         let j = airs.4.0 in (
@@ -154,7 +173,8 @@ lack_means_a_busy_period messages air alone rule = λ k d inside. λ j uncut lac
               | inr after ↦ after
               | inl sooner ↦
                   let at : from ≡ (from - 1) + 1 = omega arith in
-                  let pending = pending_since m j air (from - 1) slot (omega arith) (omega arith) (omega arith) airs.4.1 in
+                  let pending = pending_since m j air (from - 1) slot (omega arith) (omega arith) (omega arith)
+                  airs.4.1 in
                   let Later : Message → Type 0 = λ o. (i : ℕ) → IsPending o i air (from - 1) → to < due o i in
                   let later = subst Later airs.3 (before (from - 1) at airs.0 m airs.2) j pending in
                   absurd (omega (arith, later, airs.4.3))

@@ -1,5 +1,6 @@
 -- Claims, slot by slot.
-use Rattle.std.proofs.Common.{◌≡◌, ℕ, ◌≤◌, ◌<◌, Bool, true, false, cond, ◌&&◌, Option, Some, None, refl, ap, ◌∙◌, inl, inr, arith}
+use Rattle.std.proofs.Common.{◌≡◌, ℕ, ◌≤◌, ◌<◌, Bool, true, false, cond, ◌&&◌, Option, Some, None, refl, ap, ◌∙◌, inl}
+use Rattle.std.proofs.Common.{inr, arith}
 use Rattle.std.specs.Prelude.{nat_lt, nat_le}
 use Rattle.std.proofs.lemmas.Bool.{cases_Bool, and_parts, and_from, leb-true, le-leb, lt-ltb, le-ltb}
 use Rattle.admission.specs.Reservation.{IsBeforeEnd, is_before_end}
@@ -13,9 +14,11 @@ is_claimed_at-says slot c h =
 
 pub is_claimed_at-from : (slot : ℕ) (c : Claim) → IsClaimedAt c slot → is_claimed_at slot c ≡ true
 is_claimed_at-from slot c h =
-    and_from (nat_le c.accepted slot) (is_before_end slot (end_of c.message)) (le-leb c.accepted slot h.0) (is_before_end-from slot (end_of c.message) h.1)
+    and_from (nat_le c.accepted slot) (is_before_end slot (end_of c.message)) (le-leb c.accepted slot h.0)
+    (is_before_end-from slot (end_of c.message) h.1)
 
-pub IsBeforeEnd-sooner : (sooner slot : ℕ) (end : Option ℕ) → sooner ≤ slot → IsBeforeEnd slot end → IsBeforeEnd sooner end
+pub IsBeforeEnd-sooner : (sooner slot : ℕ) (end : Option ℕ) → sooner ≤ slot → IsBeforeEnd slot end
+    → IsBeforeEnd sooner end
 IsBeforeEnd-sooner sooner slot None le h = tt
 IsBeforeEnd-sooner sooner slot (Some end) le h = omega arith
 

@@ -1,5 +1,6 @@
 -- What a decision says of the messages is what its entry does to them.
-use Rattle.std.proofs.Common.{◌≡◌, ℕ, ◌+◌, ◌≤◌, ◌<◌, false, cond, Option, Some, None, List, length, map, filter, refl, ap, sym, subst, ◌∙◌, inl, inr, arith}
+use Rattle.std.proofs.Common.{◌≡◌, ℕ, ◌+◌, ◌≤◌, ◌<◌, false, cond, Option, Some, None, List, length, map, filter, refl}
+use Rattle.std.proofs.Common.{ap, sym, subst, ◌∙◌, inl, inr, arith}
 use Rattle.std.specs.List.{find}
 use Rattle.std.proofs.lemmas.Bool.{eq-eqb}
 use Rattle.admission.specs.declared.measure.TheConstants.{SCALE}
@@ -12,12 +13,15 @@ use Rattle.bsc_table.specs.declared.kept.Place.{Place as KeptPlace}
 use Rattle.bsc_table.specs.declared.kept.TheConstants.{LATEST_START}
 use Rattle.bsc_table.specs.Claim.{Claim, is_claimed_at, claimed_at}
 use Rattle.bsc_table.specs.Handover.{ahead_of, numbered, handover}
-use Rattle.bsc_table.specs.Record.{Record, Accepted, accepted_in, is_of_pair, rank_of, claim_of, claims_of, claims_in, is_background, place_after, behind_of, excess_over, write_message}
+use Rattle.bsc_table.specs.Record.{Record, Accepted, accepted_in, is_of_pair, rank_of, claim_of, claims_of, claims_in}
+use Rattle.bsc_table.specs.Record.{is_background, place_after, behind_of, excess_over, write_message}
 use Rattle.bsc_table.specs.Legal.{IsLegal}
 use Rattle.bsc_table.specs.Begun.{StartsNow, Starts, IsBegun}
-use Rattle.bsc_table.specs.Book.{accepted_of, stop_numbered, IsLiveIn, IsLiveAs, IsOffered, HasRoom, Decides, DecidesWrites, place_of, left_by}
+use Rattle.bsc_table.specs.Book.{accepted_of, stop_numbered, IsLiveIn, IsLiveAs, IsOffered, HasRoom, Decides}
+use Rattle.bsc_table.specs.Book.{DecidesWrites, place_of, left_by}
 use Rattle.bsc_table.proofs.Named.{live_is_standing}
-use Rattle.bsc_table.proofs.Outcome.{new_message, stops_one, starts_one, replaces_one, placed_at, taken_after, claims_stopped}
+use Rattle.bsc_table.proofs.Outcome.{new_message, stops_one, starts_one, replaces_one, placed_at, taken_after}
+use Rattle.bsc_table.proofs.Outcome.{claims_stopped}
 use Rattle.bsc_table.proofs.Ranks.{in_front, is_front}
 use Rattle.bsc_table.proofs.Sound.{IsSound-legal}
 use Rattle.bsc_table.proofs.Booked.{found_is_there}
@@ -64,7 +68,8 @@ pub starts : (r : Record) (new : Kept)
 starts r new offered room (commands.Write id serial None category period broadcasts dcs contents) same =
     let after = starts_one r.log r.clock id serial category period broadcasts dcs contents in
     record {
-      begun = begins r None (accepted_in r.log) (accepted_of new) offered (λ front. room (is_front new.category front)) (λ now. now);
+      begun = begins r None (accepted_in r.log) (accepted_of new) offered (λ front. room (is_front new.category front))
+          (λ now. now);
       after = cc;
     }
 starts r new offered room (commands.Write id serial (Some old) category period broadcasts dcs contents) same = cc
@@ -77,7 +82,8 @@ pub replaces : (r : Record) (old new : Kept) (replaced completed : ℕ)
     → IsLiveAs r.clock new.id replaced r.log (accepted_of old)
     → IsOffered r (accepted_of new)
     → r.clock < LATEST_START
-    → (is_background new.category ≡ false → HasRoom (left_by r (accepted_of old)) r.clock (load_of new.pages new.period))
+    → (is_background new.category ≡ false → HasRoom (left_by r (accepted_of old)) r.clock
+    (load_of new.pages new.period))
     → DecidesWrites r (accepted_of new) (Some replaced) (decisions.Replaces old new completed)
 replaces r old new replaced completed legal live offered soon room
     (commands.Write id serial (Some named) category period broadcasts dcs contents) same =
@@ -91,10 +97,12 @@ replaces r old new replaced completed legal live offered soon room
     let at_once : behind_of r.clock r.clock (Some a) ≡ None =
     ap (λ b. cond b None (ahead_of r.clock (claim_of a))) (eq-eqb r.clock r.clock refl) in
     let after =
-    replaces_one r.log r.clock r.clock id serial named completed category period broadcasts dcs contents a None once found standing at_once in
+    replaces_one r.log r.clock r.clock id serial named completed category period broadcasts dcs contents a None once
+    found standing at_once in
     let left : List Accepted = map (stop_numbered old.number r.clock) (accepted_in r.log) in
     let Room : List Claim → Type 0 = λ claims. HasRoom claims r.clock (load_of new.pages new.period) in
-    let room_left = λ (front : layer_of (rank_of new.category) ≡ 0). subst Room (sym (claims_stopped old.number r.clock (accepted_in r.log))) (room (is_front new.category front)) in (
+    let room_left = λ (front : layer_of (rank_of new.category) ≡ 0). subst Room
+    (sym (claims_stopped old.number r.clock (accepted_in r.log))) (room (is_front new.category front)) in (
       record {
         stops = live_in r new.id replaced a live;
         begun = begins r (Some a) left (accepted_of new) offered room_left (λ now. inl now);
@@ -118,7 +126,8 @@ pub takes_over : (r : Record) (old new : Kept) (place : KeptPlace) (replaced com
     → IsOffered r (accepted_of new)
     → length (filter (is_claimed_at r.clock) (left_by r (accepted_of old))) < 64
     → is_background new.category ≡ false
-    → place_after (left_by r (accepted_of old)) r.clock (accepted_of old) (load_of new.pages new.period) ≡ Some (place_of place)
+    → place_after (left_by r (accepted_of old)) r.clock (accepted_of old) (load_of new.pages new.period) ≡ Some
+    (place_of place)
     → claimed_at (left_by r (accepted_of old)) r.clock + place.excess ≤ SCALE
     → place.start < LATEST_START
     → DecidesWrites r (accepted_of new) (Some replaced) (decisions.Replaces old (waiting_at new place) completed)
@@ -139,20 +148,26 @@ takes_over r old new place replaced completed legal live offered room front afte
     let load : load_of (length contents) period ≡ load_of new.pages new.period =
     ap (λ n. load_of n period) same_pages ∙ ap (λ n. load_of new.pages n) same_period in
     let placed = placed_at r.log r.clock (load_of new.pages new.period) a (place_of place) sound.order over in
-    let excess : excess_over (load_of (length contents) period) (numbered (Some place.behind) (claims_in r.log)) ≡ place.excess =
+    let excess : excess_over (load_of (length contents) period) (numbered (Some place.behind) (claims_in r.log)) ≡
+    place.excess =
     ap (λ n. excess_over n (numbered (Some place.behind) (claims_in r.log))) load ∙ placed.2 in
     let after =
-    replaces_one r.log r.clock place.start id serial named completed category period broadcasts dcs contents a (Some place.behind) sound.once found standing placed.1 in
+    replaces_one r.log r.clock place.start id serial named completed category period broadcasts dcs contents a
+    (Some place.behind) sound.once found standing placed.1 in
     let left : List Accepted = map (stop_numbered old.number r.clock) all in
     let same_left = sym (claims_stopped old.number r.clock all) in
     let Room : List Claim → Type 0 = λ claims. length (filter (is_claimed_at r.clock) claims) < 64 in
-    let Over : List Claim → Type 0 = λ claims. handover claims r.clock (claim_of a) (load_of new.pages new.period) ≡ Some (place_of place) in
+    let Over : List Claim → Type 0 = λ claims. handover claims r.clock (claim_of a) (load_of new.pages new.period) ≡
+    Some (place_of place) in
     let Fits : List Claim → Type 0 = λ claims. claimed_at claims r.clock + place.excess ≤ SCALE in
     let waits : Accepted = accepted_of (waiting_at new place) in
-    let it : write_message (length r.log) r.clock place.start (Some place.behind) place.excess id serial (length contents) period broadcasts (rank_of category) ≡ waits =
+    let it : write_message (length r.log) r.clock place.start (Some place.behind) place.excess id serial
+    (length contents) period broadcasts (rank_of category) ≡ waits =
     moved (length r.log) r.clock same.1 offered.numbered offered.accepted in
-    let its : new_message all (length r.log) r.clock place.start (Some place.behind) id serial category period broadcasts contents ≡ waits =
-    ap (λ n. write_message (length r.log) r.clock place.start (Some place.behind) n id serial (length contents) period broadcasts (rank_of category)) excess ∙ it in (
+    let its : new_message all (length r.log) r.clock place.start (Some place.behind) id serial category period
+    broadcasts contents ≡ waits =
+    ap (λ n. write_message (length r.log) r.clock place.start (Some place.behind) n id serial (length contents) period
+    broadcasts (rank_of category)) excess ∙ it in (
       record {
         stops = live_in r new.id replaced a live;
         begun = record {
@@ -178,18 +193,29 @@ takes_over r old new place replaced completed legal live offered room front afte
   where
     -- what is offered, at another start and place
     at_place : Accepted → Accepted
-    at_place x = record x { behind = Some place.behind; excess = place.excess; message = record (x.message) { start = place.start } }
+    at_place x = record x {
+      behind = Some place.behind;
+      excess = place.excess;
+      message = record (x.message)
+          { start = place.start };
+    }
 
     moved : (number slot : ℕ)
-        → write_message new.number new.accepted new.start new.behind new.excess id serial (length contents) period broadcasts (rank_of category) ≡ accepted_of new
+        → write_message new.number new.accepted new.start new.behind new.excess id serial (length contents) period
+        broadcasts (rank_of category) ≡ accepted_of new
         → new.number ≡ number
         → new.accepted ≡ slot
-        → write_message number slot place.start (Some place.behind) place.excess id serial (length contents) period broadcasts (rank_of category) ≡ accepted_of (waiting_at new place)
+        → write_message number slot place.start (Some place.behind) place.excess id serial (length contents) period
+        broadcasts (rank_of category) ≡ accepted_of (waiting_at new place)
     moved number slot same_new same_number same_slot =
-        ap (λ n. write_message n slot place.start (Some place.behind) place.excess id serial (length contents) period broadcasts (rank_of category)) (sym same_number)
-        ∙ ap (λ n. write_message new.number n place.start (Some place.behind) place.excess id serial (length contents) period broadcasts (rank_of category)) (sym same_slot)
+        ap (λ n. write_message n slot place.start (Some place.behind) place.excess id serial (length contents) period
+        broadcasts (rank_of category)) (sym same_number)
+        ∙ ap (λ n. write_message new.number n place.start (Some place.behind) place.excess id serial (length contents)
+        period broadcasts (rank_of category)) (sym same_slot)
         ∙ ap at_place same_new
 takes_over r old new place replaced completed legal live offered room front after_old fits soon
     (commands.Write id serial None category period broadcasts dcs contents) same = cc
-takes_over r old new place replaced completed legal live offered room front after_old fits soon (commands.Kill id serial) same = absurd same
-takes_over r old new place replaced completed legal live offered room front after_old fits soon (commands.Status id serial) same = absurd same
+takes_over r old new place replaced completed legal live offered room front after_old fits soon
+    (commands.Kill id serial) same = absurd same
+takes_over r old new place replaced completed legal live offered room front after_old fits soon
+    (commands.Status id serial) same = absurd same

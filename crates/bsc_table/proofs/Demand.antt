@@ -1,5 +1,6 @@
 -- The demand of a range of slots.
-use Rattle.std.proofs.Common.{◌≡◌, ℕ, zero, suc, ◌+◌, ◌-◌, ◌*◌, ◌≤◌, ◌<◌, ◌⊎◌, Bool, true, false, ◌&&◌, leb, cond, get_or, sum_by, count_by, inl, inr, refl, ap, ◌∙◌, arith}
+use Rattle.std.proofs.Common.{◌≡◌, ℕ, zero, suc, ◌+◌, ◌-◌, ◌*◌, ◌≤◌, ◌<◌, ◌⊎◌, Bool, true, false, ◌&&◌, leb, cond}
+use Rattle.std.proofs.Common.{get_or, sum_by, count_by, inl, inr, refl, ap, ◌∙◌, arith}
 use Rattle.std.specs.List.{range_with_len}
 use Rattle.std.proofs.lemmas.Bool.{cases_lt, cases_Bool, and_parts, and_from, leb-true, le-leb}
 use Rattle.std.proofs.Math.Nat.{le_of_mul-le-mul_left}
@@ -33,11 +34,13 @@ count_inside m from to n = count_by (is_inside m from to) (range_with_len 0 n)
 pub count_inside-le : (m : Message) (from to k n : ℕ) → k ≤ n → count_inside m from to k ≤ count_inside m from to n
 count_inside-le m from to k n h = count_below-le (is_inside m from to) k n h
 
-pub count_inside-one : (m : Message) (from to n : ℕ) → is_inside m from to n ≡ true → count_inside m from to (suc n) ≡ count_inside m from to n + 1
+pub count_inside-one : (m : Message) (from to n : ℕ) → is_inside m from to n ≡ true
+    → count_inside m from to (suc n) ≡ count_inside m from to n + 1
 count_inside-one m from to n one =
     count_below_more (is_inside m from to) n ∙ ap (λ (x : Bool). count_inside m from to n + cond x 1 0) one
 
-pub count_inside-none : (m : Message) (from to n : ℕ) → is_inside m from to n ≡ false → count_inside m from to (suc n) ≡ count_inside m from to n
+pub count_inside-none : (m : Message) (from to n : ℕ) → is_inside m from to n ≡ false
+    → count_inside m from to (suc n) ≡ count_inside m from to n
 count_inside-none m from to n none =
     let nothing : count_inside m from to n + 0 ≡ count_inside m from to n = omega arith in
     count_below_more (is_inside m from to) n ∙ (ap (λ (x : Bool). count_inside m from to n + cond x 1 0) none ∙ nothing)
@@ -51,7 +54,8 @@ pub record IsInside (m : Message) (from to j : ℕ) : Type 0 where
 
 pub is_inside-says : (m : Message) (from to j : ℕ) → is_inside m from to j ≡ true → IsInside m from to j
 is_inside-says m from to j h =
-    let first = and_parts (has_broadcast m j) (is_before_stop (release m j) m.stop && (leb from (release m j) && leb (due m j) to)) h in
+    let first = and_parts (has_broadcast m j) (is_before_stop (release m j) m.stop &&
+    (leb from (release m j) && leb (due m j) to)) h in
     let second = and_parts (is_before_stop (release m j) m.stop) (leb from (release m j) && leb (due m j) to) first.1 in
     let third = and_parts (leb from (release m j)) (leb (due m j) to) second.1 in
     record {
@@ -63,17 +67,23 @@ is_inside-says m from to j h =
 
 pub is_inside-from : (m : Message) (from to j : ℕ) → IsInside m from to j → is_inside m from to j ≡ true
 is_inside-from m from to j fact =
-    let third = and_from (leb from (release m j)) (leb (due m j) to) (le-leb from (release m j) fact.released) (le-leb (due m j) to fact.due_by) in
-    let second = and_from (is_before_stop (release m j) m.stop) (leb from (release m j) && leb (due m j) to) (is_before_stop-from (release m j) m.stop fact.standing) third in
-    and_from (has_broadcast m j) (is_before_stop (release m j) m.stop && (leb from (release m j) && leb (due m j) to)) (has_broadcast-from m j fact.requested) second
+    let third = and_from (leb from (release m j)) (leb (due m j) to) (le-leb from (release m j) fact.released)
+    (le-leb (due m j) to fact.due_by) in
+    let second = and_from (is_before_stop (release m j) m.stop) (leb from (release m j) && leb (due m j) to)
+    (is_before_stop-from (release m j) m.stop fact.standing) third in
+    and_from (has_broadcast m j) (is_before_stop (release m j) m.stop && (leb from (release m j) && leb (due m j) to))
+    (has_broadcast-from m j fact.requested) second
 
 -- one more of the same, by numbers alone
-one_more : (scale pages count load period before upto high : ℕ) → scale * pages ≤ load * period → scale * (pages * count) + before ≤ upto → upto + load * period ≤ high → scale * (pages * (count + 1)) + before ≤ high
+one_more : (scale pages count load period before upto high : ℕ) → scale * pages ≤ load * period
+    → scale * (pages * count) + before ≤ upto → upto + load * period ≤ high
+    → scale * (pages * (count + 1)) + before ≤ high
 one_more scale pages count load period before upto high enough taken reserved = omega arith
 
 -- the broadcasts below n inside the range have reserved, up to the release of broadcast n or the end of the range, what
 -- their pages take
-inside_below : (m : Message) (from to n b : ℕ) → 0 < m.period → from ≤ b → (release m n ≤ b) ⊎ (to ≤ b) → SCALE * (m.pages * count_inside m from to n) + total (load_at m) from ≤ total (load_at m) b
+inside_below : (m : Message) (from to n b : ℕ) → 0 < m.period → from ≤ b → (release m n ≤ b) ⊎ (to ≤ b)
+    → SCALE * (m.pages * count_inside m from to n) + total (load_at m) from ≤ total (load_at m) b
 inside_below m from to zero b period ahead upto =
     let none : SCALE * (m.pages * count_inside m from to 0) ≡ 0 = omega arith in
     let more = total-le (load_at m) from b ahead in
@@ -86,12 +96,15 @@ inside_below m from to (suc n) b period ahead upto =
           let before = inside_below m from to n (release m n) period fact.released (inl (omega arith)) in
           let reserved = reserved_over m n fact.requested fact.standing in
           let more = total-le (load_at m) (due m n) b by in
-          let all = one_more SCALE m.pages (count_inside m from to n) (load_of m.pages m.period) m.period (total (load_at m) from) (total (load_at m) (release m n)) (total (load_at m) (due m n)) (load_of-enough m.pages m.period period) before reserved in
+          let all = one_more SCALE m.pages (count_inside m from to n) (load_of m.pages m.period) m.period
+          (total (load_at m) from) (total (load_at m) (release m n)) (total (load_at m) (due m n))
+          (load_of-enough m.pages m.period period) before reserved in
           let counted = count_inside-one m from to n one in
           let times = ap (λ (k : ℕ). SCALE * (m.pages * k)) counted in
           omega arith
       | inr none ↦
-          let before = inside_below m from to n b period ahead (elim upto [ inl next ↦ inl (omega arith) | inr over ↦ inr over ]) in
+          let before = inside_below m from to n b period ahead
+          (elim upto [ inl next ↦ inl (omega arith) | inr over ↦ inr over ]) in
           let counted = count_inside-none m from to n none in
           let times = ap (λ (k : ℕ). SCALE * (m.pages * k)) counted in
           omega arith
@@ -116,12 +129,15 @@ demand_is_no_more_than_the_slots messages from to periods fit =
     let count = λ (m : Message). m.pages * count_inside m from to to in
     elim (cases_lt to from) [
       | inl behind ↦
-          let none = sum_by-le_all count (λ m. 0 * 0) messages (λ k d h. no_pages (get_or messages k d).pages _ (none_inside (get_or messages k d) from to to behind)) in
+          let none = sum_by-le_all count (λ m. 0 * 0) messages
+          (λ k d h. no_pages (get_or messages k d).pages _ (none_inside (get_or messages k d) from to to behind)) in
           omega (arith, none, sum_by-times 0 (λ (m : Message). 0) messages)
       | inr forward ↦
           let taken = λ (m : Message). SCALE * count m + total (load_at m) from in
-          let each = sum_by-le_all taken (λ m. total (load_at m) to) messages (λ k d h. inside_below (get_or messages k d) from to to to (periods k d h) forward (inr (omega arith))) in
-          let parts = sum_by-plus (λ (m : Message). SCALE * count m) (λ (m : Message). total (load_at m) from) messages in
+          let each = sum_by-le_all taken (λ m. total (load_at m) to) messages
+          (λ k d h. inside_below (get_or messages k d) from to to to (periods k d h) forward (inr (omega arith))) in
+          let parts = sum_by-plus (λ (m : Message). SCALE * count m) (λ (m : Message). total (load_at m) from) messages
+          in
           let times = sum_by-times SCALE count messages in
           let grown = loads_grow SCALE messages from to forward (fits_by_message messages fit) in
           let whole : SCALE * sum_by count messages ≤ SCALE * (to - from) = omega arith in

@@ -1,9 +1,11 @@
 -- A legal history stays one where a command is entered with its right answer.
-use Rattle.std.proofs.Common.{◌≡◌, ℕ, ◌≤◌, ◌<◌, true, Option, Some, None, List, [], ◌∷◌, ◌++◌, length, take, map, get_or, ap, sym, subst, ◌∙◌, inl, inr, arith}
+use Rattle.std.proofs.Common.{◌≡◌, ℕ, ◌≤◌, ◌<◌, true, Option, Some, None, List, [], ◌∷◌, ◌++◌, length, take, map}
+use Rattle.std.proofs.Common.{get_or, ap, sym, subst, ◌∙◌, inl, inr, arith}
 use Rattle.std.specs.List.{All, AllPairs, Contains}
 use Rattle.std.specs.Option.{IfSome}
 use Rattle.std.proofs.lemmas.Bool.{cases_lt}
-use Rattle.std.proofs.lemmas.List.{get_or-map, length-map, take_all, take_at, take-append-le, get_or_append_left, get_or_default, get_or_push, length_push, map-append}
+use Rattle.std.proofs.lemmas.List.{get_or-map, length-map, take_all, take_at, take-append-le, get_or_append_left}
+use Rattle.std.proofs.lemmas.List.{get_or_default, get_or_push, length_push, map-append}
 use Rattle.std.proofs.lemmas.List.Elements.{All-push, All-map}
 use Rattle.std.proofs.lemmas.List.Quantifiers.{all_pairs_push}
 use Rattle.scheduler.specs.Message.{Message}
@@ -24,44 +26,67 @@ use Rattle.bsc_table.proofs.Outcome.{Outcome, entry_with, with, without, outcome
 use Rattle.bsc_table.proofs.Sound.{IsSound-legal}
 
 -- in a list whose numbers rise, one number is that of one message
-pub same_number : (all : List Accepted) (a : Accepted) → AllPairs BelowIt all → Contains all a → All (λ x. x.message.number ≡ a.message.number → x ≡ a) all
+pub same_number : (all : List Accepted) (a : Accepted) → AllPairs BelowIt all → Contains all a
+    → All (λ x. x.message.number ≡ a.message.number → x ≡ a) all
 same_number all a rising there = λ i d within same.
     let here : get_or all there.0 d ≡ a = get_or_default all there.0 d a there.1 ∙ there.2 in
     let its : (get_or all there.0 d).message.number ≡ a.message.number = ap (λ (x : Accepted). x.message.number) here in
-    ap (λ (k : ℕ). get_or all k d) (rising-same (λ (x : Accepted). x.message.number) all rising i there.0 d within there.1 (same ∙ sym its)) ∙ here
+    ap (λ (k : ℕ). get_or all k d) (rising-same (λ (x : Accepted). x.message.number) all rising i there.0 d within
+    there.1 (same ∙ sym its)) ∙ here
 
 -- an accepted message's message is among the messages
-pub Contains-message : (log : List Entry) (a : Accepted) → Contains (accepted_in log) a → Contains (messages_in log) a.message
-Contains-message log a there =
-    (there.0, omega (arith, length-map (accepted_in log) (λ (x : Accepted). x.message), there.1), get_or-map (λ (x : Accepted). x.message) (accepted_in log) there.0 a a.message there.1 ∙ ap (λ (x : Accepted). x.message) there.2)
+pub Contains-message : (log : List Entry) (a : Accepted) → Contains (accepted_in log) a
+    → Contains (messages_in log) a.message
+Contains-message log a there = (
+  there.0,
+  omega (arith, length-map (accepted_in log) (λ (x : Accepted). x.message), there.1),
+  get_or-map
+      (λ (x : Accepted). x.message) (accepted_in log) there.0 a a.message there.1
+      ∙ ap (λ (x : Accepted). x.message) there.2,
+)
 
 -- a live message and no other one is stopped
-pub standing_number : (all : List Accepted) (slot : ℕ) (a : Accepted) → AllPairs BelowIt all → Contains all a → is_live slot a.message ≡ true → All (λ m. m.number ≡ a.message.number → m.stop ≡ None) (map (λ x. x.message) all)
+pub standing_number : (all : List Accepted) (slot : ℕ) (a : Accepted) → AllPairs BelowIt all → Contains all a
+    → is_live slot a.message ≡ true → All (λ m. m.number ≡ a.message.number → m.stop ≡ None) (map (λ x. x.message) all)
 standing_number all slot a rising there live =
-    All-map (λ (m : Message). m.number ≡ a.message.number → m.stop ≡ None) (λ (x : Accepted). x.message) all (λ i d within same.
-    ap (λ (x : Accepted). x.message.stop) (same_number all a rising there i d within same) ∙ live_is_standing slot a.message live)
+    All-map (λ (m : Message). m.number ≡ a.message.number → m.stop ≡ None) (λ (x : Accepted). x.message) all
+    (λ i d within same.
+    ap (λ (x : Accepted). x.message.stop) (same_number all a rising there i d within same)
+    ∙ live_is_standing slot a.message live)
 
 -- what was aired before an entry stays by the rule
-air_without : (stopped : Option Accepted) (slot : ℕ) (all : List Accepted) (air : Air) → AllPairs BelowIt all → IfSome stopped (λ a. Contains all a × (is_live slot a.message ≡ true)) → length air ≤ slot → IsAirOf (map (λ a. a.message) all) air → IsAirOf (map (λ a. a.message) (without stopped slot all)) air
+air_without : (stopped : Option Accepted) (slot : ℕ) (all : List Accepted) (air : Air) → AllPairs BelowIt all
+    → IfSome stopped (λ a. Contains all a × (is_live slot a.message ≡ true)) → length air ≤ slot
+    → IsAirOf (map (λ a. a.message) all) air → IsAirOf (map (λ a. a.message) (without stopped slot all)) air
 air_without None slot all air rising live before airs = airs
 air_without (Some a) slot all air rising live before airs =
     let Airs : List Message → Type 0 = λ messages. IsAirOf messages air in
-    subst Airs (sym (messages_stopped a.message.number slot all)) (IsAirOf-stop (map (λ (x : Accepted). x.message) all) a.message.number slot air before (standing_number all slot a rising live.0 live.1) airs)
+    subst Airs (sym (messages_stopped a.message.number slot all))
+    (IsAirOf-stop (map (λ (x : Accepted). x.message) all) a.message.number slot air before
+    (standing_number all slot a rising live.0 live.1) airs)
 
-air_with : (started replaced : Option Accepted) (number slot : ℕ) (all : List Accepted) (air : Air) → IfSome started (λ a. IsBegun number slot replaced all a) → length air ≤ slot → IsAirOf (map (λ a. a.message) all) air → IsAirOf (map (λ a. a.message) (with started all)) air
+air_with : (started replaced : Option Accepted) (number slot : ℕ) (all : List Accepted) (air : Air)
+    → IfSome started (λ a. IsBegun number slot replaced all a) → length air ≤ slot
+    → IsAirOf (map (λ a. a.message) all) air → IsAirOf (map (λ a. a.message) (with started all)) air
 air_with None replaced number slot all air begun before airs = airs
 air_with (Some a) replaced number slot all air begun before airs =
     let Airs : List Message → Type 0 = λ messages. IsAirOf messages air in
-    subst Airs (sym (map-append (λ (x : Accepted). x.message) all (a ∷ []))) (IsAirOf-add (map (λ (x : Accepted). x.message) all) a.message air (omega (arith, before, starts_forward slot replaced all a begun.starts)) airs)
+    subst Airs (sym (map-append (λ (x : Accepted). x.message) all (a ∷ [])))
+    (IsAirOf-add (map (λ (x : Accepted). x.message) all) a.message air
+    (omega (arith, before, starts_forward slot replaced all a begun.starts)) airs)
 
-pub IsAirOf-entry : (log : List Entry) (e : Entry) (air : Air) → Outcome log e → length air ≤ e.slot → IsAirOf (messages_in log) air → IsAirOf (messages_in (log ++ e ∷ [])) air
+pub IsAirOf-entry : (log : List Entry) (e : Entry) (air : Air) → Outcome log e → length air ≤ e.slot
+    → IsAirOf (messages_in log) air → IsAirOf (messages_in (log ++ e ∷ [])) air
 IsAirOf-entry log e air outcome before airs =
     let rest : List Accepted = without outcome.stopped e.slot (accepted_in log) in
     let Airs : List Accepted → Type 0 = λ all. IsAirOf (map (λ (a : Accepted). a.message) all) air in
-    subst Airs (sym outcome.after) (air_with outcome.started outcome.stopped (length log) e.slot rest air outcome.begun before (air_without outcome.stopped e.slot (accepted_in log) air (numbers_rise log) outcome.live before airs))
+    subst Airs (sym outcome.after) (air_with outcome.started outcome.stopped (length log) e.slot rest air outcome.begun
+    before (air_without outcome.stopped e.slot (accepted_in log) air (numbers_rise log) outcome.live before airs))
 
 -- the answers of a log with one more
-answered_with : (r : Record) (command : Command) → IsLegal r → (let e = entry_with command r.clock (answer_of r.slots r.log r.air r.clock command) in (i : ℕ) (d : Entry) → i < length (r.log ++ e ∷ []) → IsAnswered r.slots (take i (r.log ++ e ∷ [])) r.air (get_or (r.log ++ e ∷ []) i d))
+answered_with : (r : Record) (command : Command) → IsLegal r →
+    (let e = entry_with command r.clock (answer_of r.slots r.log r.air r.clock command) in (i : ℕ) (d : Entry)
+    → i < length (r.log ++ e ∷ []) → IsAnswered r.slots (take i (r.log ++ e ∷ [])) r.air (get_or (r.log ++ e ∷ []) i d))
 answered_with r command legal i d within =
     let e : Entry = entry_with command r.clock (answer_of r.slots r.log r.air r.clock command) in
     let long = length_push r.log e in
@@ -70,7 +95,8 @@ answered_with r command legal i d within =
       | inl earlier ↦
           let front : take i (r.log ++ e ∷ []) ≡ take i r.log = take-append-le i r.log (e ∷ []) (omega arith) in
           let one : get_or (r.log ++ e ∷ []) i d ≡ get_or r.log i d = get_or_append_left r.log (e ∷ []) d i earlier in
-          subst (λ before. P before (get_or (r.log ++ e ∷ []) i d)) (sym front) (subst (P (take i r.log)) (sym one) (legal.answered i d earlier))
+          subst (λ before. P before (get_or (r.log ++ e ∷ []) i d)) (sym front)
+          (subst (P (take i r.log)) (sym one) (legal.answered i d earlier))
       | inr last ↦
           let at : length r.log ≡ i = omega arith in
           let front : take i (r.log ++ e ∷ []) ≡ r.log = take_at r.log (e ∷ []) i at in
@@ -80,11 +106,16 @@ answered_with r command legal i d within =
           subst (λ before. P before (get_or (r.log ++ e ∷ []) i d)) (sym front) (subst (P r.log) (sym one) right)
     ]
 
-pub outcome_now : (r : Record) (command : Command) → IsLegal r → IsWellFormed command → Outcome r.log (entry_with command r.clock (answer_of r.slots r.log r.air r.clock command))
+pub outcome_now : (r : Record) (command : Command) → IsLegal r → IsWellFormed command
+    → Outcome r.log (entry_with command r.clock (answer_of r.slots r.log r.air r.clock command))
 outcome_now r command legal formed =
     outcome_of r.slots r.log r.air r.clock command (IsSound-legal r legal).once (IsSound-legal r legal).order formed
 
-pub IsLegal-entry : (r : Record) (command : Command) → IsLegal r → length r.log < 4096 → IsWellFormed command → IsLegal (record r { log = r.log ++ entry_with command r.clock (answer_of r.slots r.log r.air r.clock command) ∷ [] })
+pub IsLegal-entry : (r : Record) (command : Command) → IsLegal r → length r.log < 4096 → IsWellFormed command
+    → IsLegal (record r {
+      log = r.log ++ entry_with command r.clock (answer_of r.slots r.log r.air r.clock command) ∷
+          [];
+    })
 IsLegal-entry r command legal room formed =
     let e : Entry = entry_with command r.clock (answer_of r.slots r.log r.air r.clock command) in
     record {
@@ -95,5 +126,6 @@ IsLegal-entry r command legal room formed =
       formed = All-push (λ (x : Entry). IsWellFormed x.command) r.log e legal.formed formed;
       answered = answered_with r command legal;
       played = legal.played;
-      aired = IsAirOf-entry r.log e r.air (outcome_now r command legal formed) (omega (arith, legal.played)) legal.aired;
+      aired = IsAirOf-entry r.log e r.air (outcome_now r command legal formed) (omega (arith, legal.played))
+          legal.aired;
     }

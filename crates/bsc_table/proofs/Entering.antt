@@ -1,5 +1,6 @@
 -- A book with one more entry: its record, its messages, and what its plan and budget hold of them.
-use Rattle.std.proofs.Common.{◌≡◌, ◌≢◌, ℕ, ◌≤◌, ◌<◌, ◌==◌, Bool, true, false, not, cond, Option, Some, None, List, [], ◌∷◌, ◌++◌, length, map, filter, get_or, refl, ap, sym, subst, ◌∙◌}
+use Rattle.std.proofs.Common.{◌≡◌, ◌≢◌, ℕ, ◌≤◌, ◌<◌, ◌==◌, Bool, true, false, not, cond, Option, Some, None, List, []}
+use Rattle.std.proofs.Common.{◌∷◌, ◌++◌, length, map, filter, get_or, refl, ap, sym, subst, ◌∙◌}
 use Rattle.std.specs.List.{All, Any, Contains}
 use Rattle.std.specs.Global.{Vec}
 use Rattle.std.specs.Vec.{vec_len, with_items}
@@ -23,7 +24,8 @@ use Rattle.bsc_table.specs.Answer.{answer_with_room, answer_of}
 use Rattle.bsc_table.specs.Legal.{IsLegal}
 use Rattle.bsc_table.specs.Room.{AreInOrder}
 use Rattle.bsc_table.specs.Begun.{IsBegun}
-use Rattle.bsc_table.specs.Book.{accepted_of, air_told, record_of, kept_stopped, stop_numbered, IsLiveIn, IsNext, IsBook, with_entry, line_of, lines_at, left_by}
+use Rattle.bsc_table.specs.Book.{accepted_of, air_told, record_of, kept_stopped, stop_numbered, IsLiveIn, IsNext}
+use Rattle.bsc_table.specs.Book.{IsBook, with_entry, line_of, lines_at, left_by}
 use Rattle.bsc_table.proofs.Named.{live_is_standing}
 use Rattle.bsc_table.proofs.Numbers.{numbers_below}
 use Rattle.bsc_table.proofs.Outcome.{entry_with, messages_stopped, claims_stopped}
@@ -46,7 +48,8 @@ answer-with_room r e room =
 pub IsLegal-with : (r : Record) (e : Entry) → IsLegal r → IsNext r e → IsLegal (with_entry e r)
 IsLegal-with r e legal next =
     let same : entry_with e.command r.clock (answer_of r.slots r.log r.air r.clock e.command) ≡ e =
-    ap (λ (answer : Answer). entry_with e.command r.clock answer) (answer-with_room r e next.room ∙ sym next.right) ∙ ap (λ (slot : ℕ). entry_with e.command slot e.answer) (sym next.now) in
+    ap (λ (answer : Answer). entry_with e.command r.clock answer) (answer-with_room r e next.room ∙ sym next.right)
+    ∙ ap (λ (slot : ℕ). entry_with e.command slot e.answer) (sym next.now) in
     let P : Entry → Type 0 = λ x. IsLegal (with_entry x r) in
     subst P same (IsLegal-entry r e.command legal next.room next.formed)
 
@@ -83,18 +86,21 @@ pub planned_below : (plan : Planned) (log : List Entry) (air : Air)
     → All (λ m. m.number < length log) (messages_of plan)
 planned_below plan log air follows =
     let Below : List Message → Type 0 = λ messages. All (λ (m : Message). m.number < length log) messages in
-    subst Below (sym follows.told) (All-map (λ (m : Message). m.number < length log) (λ (a : Accepted). a.message) (accepted_in log) (numbers_below log))
+    subst Below (sym follows.told) (All-map (λ (m : Message). m.number < length log) (λ (a : Accepted). a.message)
+    (accepted_in log) (numbers_below log))
 
 -- so are those of a budget
 lines_below : (slot n : ℕ) (claims : List Claim)
     → All (λ c. c.message.number < n) claims
     → All (λ h. h.entry < n) (lines_at slot claims)
 lines_below slot n claims below =
-    All-map (λ (h : Held). h.entry < n) (line_of slot) (filter (is_claimed_at slot) claims) (All-filter (is_claimed_at slot) (λ (c : Claim). c.message.number < n) claims below)
+    All-map (λ (h : Held). h.entry < n) (line_of slot) (filter (is_claimed_at slot) claims)
+    (All-filter (is_claimed_at slot) (λ (c : Claim). c.message.number < n) claims below)
 
 claims_below : (log : List Entry) → All (λ c. c.message.number < length log) (claims_in log)
 claims_below log =
-    All-filter reserves (λ (c : Claim). c.message.number < length log) (all_claims (accepted_in log)) (All-map (λ (c : Claim). c.message.number < length log) claim_of (accepted_in log) (numbers_below log))
+    All-filter reserves (λ (c : Claim). c.message.number < length log) (all_claims (accepted_in log))
+    (All-map (λ (c : Claim). c.message.number < length log) claim_of (accepted_in log) (numbers_below log))
 
 pub held_below : (slot : ℕ) (log : List Entry) → All (λ h. h.entry < length log) (lines_at slot (claims_in log))
 held_below slot log = lines_below slot (length log) (claims_in log) (claims_below log)
@@ -102,7 +108,9 @@ held_below slot log = lines_below slot (length log) (claims_in log) (claims_belo
 pub held_below_without : (slot number : ℕ) (log : List Entry)
     → All (λ h. h.entry < length log) (lines_at slot (stop_claims number slot (claims_in log)))
 held_below_without slot number log =
-    lines_below slot (length log) (stop_claims number slot (claims_in log)) (All-map (λ (c : Claim). c.message.number < length log) (stop_claim number slot) (claims_in log) (claims_below log))
+    lines_below slot (length log) (stop_claims number slot (claims_in log))
+    (All-map (λ (c : Claim). c.message.number < length log) (stop_claim number slot) (claims_in log)
+    (claims_below log))
 
 -- a message with another number stays as it is where one is stopped
 pub stopped_beside : (number slot : ℕ) (messages : List Message) (m : Message)
@@ -124,7 +132,8 @@ pub standing_in : (plan : Planned) (slot : ℕ) (log : List Entry) (air : Air) (
     → is_live slot a.message ≡ true
     → Any (λ m. (m.number ≡ a.message.number) × (m.stop ≡ None)) (messages_of plan)
 standing_in plan slot log air a follows there live =
-    let P : List Message → Type 0 = λ messages. Any (λ (m : Message). (m.number ≡ a.message.number) × (m.stop ≡ None)) messages in
+    let P : List Message → Type 0 = λ messages. Any (λ (m : Message). (m.number ≡ a.message.number) × (m.stop ≡ None))
+    messages in
     let found = Contains-message log a there in
     subst P (sym follows.told) (found.0, a.message, found.1, found.2, (refl, live_is_standing slot a.message live))
 
@@ -134,7 +143,8 @@ pub standing_beside : (plan : Planned) (slot : ℕ) (log : List Entry) (a : Acce
     → Any (λ x. (x.number ≡ a.message.number) × (x.stop ≡ None)) told
     → Any (λ x. (x.number ≡ a.message.number) × (x.stop ≡ None)) (messages_of plan)
 standing_beside plan slot log a told m same found =
-    let P : List Message → Type 0 = λ messages. Any (λ (x : Message). (x.number ≡ a.message.number) × (x.stop ≡ None)) messages in
+    let P : List Message → Type 0 = λ messages. Any (λ (x : Message). (x.number ≡ a.message.number) × (x.stop ≡ None))
+    messages in
     let there : Contains (told ++ m ∷ []) found.1 =
     Contains-append_left told (m ∷ []) found.1 (found.0, found.2, found.3) in
     subst P (sym same) (there.0, found.1, there.1, there.2, found.4)
@@ -149,8 +159,10 @@ held_in r a legal live front =
     let order = (IsSound-legal r legal).order in
     let here = its_claim (accepted_in r.log) a live.there front in
     let Stands : Claim → Type 0 = λ c. (c.accepted ≤ r.clock) × (0 < c.message.period) in
-    let its = subst Stands here.2 (order.accepted here.0 (claim_of a) here.1, order.periods here.0 (claim_of a) here.1) in
-    let line = its_line r.clock (claims_in r.log) (claim_of a) here (live_is_claimed r.clock (claim_of a) its.0 its.1 live.live) in
+    let its = subst Stands here.2 (order.accepted here.0 (claim_of a) here.1, order.periods here.0 (claim_of a) here.1)
+    in
+    let line = its_line r.clock (claims_in r.log) (claim_of a) here
+    (live_is_claimed r.clock (claim_of a) its.0 its.1 live.live) in
     (line.0, line_of r.clock (claim_of a), line.1, line.2, refl)
 
 -- and none waits behind it
@@ -160,7 +172,8 @@ pub free_of : (r : Record) (a : Accepted)
     → layer a.message ≡ 0
     → All (λ h. behind_of h ≢ Some a.message.number) (lines_at r.clock (claims_in r.log))
 free_of r a legal live front =
-    none_behind_live r.clock (claims_in r.log) (claim_of a) (IsSound-legal r legal).order (its_claim (accepted_in r.log) a live.there front) live.live
+    none_behind_live r.clock (claims_in r.log) (claim_of a) (IsSound-legal r legal).order
+    (its_claim (accepted_in r.log) a live.there front) live.live
 
 -- the message of a plan's item
 pub item_message : (m : Message) (told : Message) → told ≡ record m { stop = None } → m.stop ≡ None → told ≡ m
@@ -174,7 +187,8 @@ pub table_stopped : (table : Vec Kept) (seen after : List Kept) (number slot : �
     → after ≡ map (kept_stopped number slot) seen
     → map accepted_of (with_items table after).items ≡ map (stop_numbered number slot) (map accepted_of table.items)
 table_stopped table seen after number slot same long stopped =
-    let length_is : length after ≡ vec_len table = ap length stopped ∙ length-map seen (kept_stopped number slot) ∙ long in
+    let length_is : length after ≡ vec_len table = ap length stopped ∙ length-map seen (kept_stopped number slot)
+    ∙ long in
     let items = with_items_is table after length_is ∙ stopped ∙ ap (map (kept_stopped number slot)) same in
     ap (map accepted_of) items ∙ kept_stop number slot table.items
 
@@ -182,27 +196,36 @@ table_stopped table seen after number slot same long stopped =
 pub left_in_order : (r : Record) (a : Accepted) → IsLegal r → IsLiveIn r a → AreInOrder (left_by r a) r.clock
 left_in_order r a legal live =
     let sound = IsSound-legal r legal in
-    in_order-stop (claims_in r.log) a.message.number r.clock sound.order (stops_live (accepted_in r.log) r.clock a sound.rising live.there live.live)
+    in_order-stop (claims_in r.log) a.message.number r.clock sound.order
+    (stops_live (accepted_in r.log) r.clock a sound.rising live.there live.live)
 
 -- the lines that are left of a budget where a live message was released
 ended_claims : (r : Record) (a : Accepted)
     → IsLegal r
     → IsLiveIn r a
-    → All (λ c. c.message.number ≡ a.message.number → (is_claimed_at r.clock c ≡ true) × (end_of_stopped c.message.start c.message.period r.clock ≡ end_of_stopped a.message.start a.message.period r.clock)) (claims_in r.log)
+    → All (λ c. c.message.number ≡ a.message.number → (is_claimed_at r.clock c ≡ true)
+    × (end_of_stopped c.message.start c.message.period r.clock ≡ end_of_stopped a.message.start a.message.period
+    r.clock)) (claims_in r.log)
 ended_claims r a legal live = λ k d within. λ same.
     let claims = claims_in r.log in
     let order = (IsSound-legal r legal).order in
     let c : Claim = get_or claims k d in
-    let is : get_or claims k d ≡ claim_of a = same_claim (accepted_in r.log) a (IsSound-legal r legal).rising live.there k d within same in
-    let Live : Claim → Type 0 = λ x. is_live r.clock x.message ≡ true in
-    (live_is_claimed r.clock c (order.accepted k d within) (order.periods k d within) (subst Live (sym is) live.live), ap (λ (x : Claim). end_of_stopped x.message.start x.message.period r.clock) is)
+    let is : get_or claims k d ≡ claim_of a = same_claim (accepted_in r.log) a (IsSound-legal r legal).rising
+    live.there k d within same in
+    let Live : Claim → Type 0 = λ x. is_live r.clock x.message ≡ true in (
+      live_is_claimed r.clock c (order.accepted k d within) (order.periods k d within) (subst Live (sym is) live.live),
+      ap (λ (x : Claim). end_of_stopped x.message.start x.message.period r.clock) is,
+    )
 
 pub lines_without : (r : Record) (a : Accepted)
     → IsLegal r
     → IsLiveIn r a
-    → passed r.clock (ends_at a.message.number (end_of_stopped a.message.start a.message.period r.clock) (lines_at r.clock (claims_in r.log))) ≡ lines_at r.clock (stop_claims a.message.number r.clock (claims_in r.log))
+    → passed r.clock (ends_at a.message.number (end_of_stopped a.message.start a.message.period r.clock)
+    (lines_at r.clock (claims_in r.log))) ≡ lines_at r.clock
+    (stop_claims a.message.number r.clock (claims_in r.log))
 lines_without r a legal live =
-    lines_at-stopped r.clock a.message.number (end_of_stopped a.message.start a.message.period r.clock) (claims_in r.log) (IsSound-legal r legal).order.accepted (ended_claims r a legal live)
+    lines_at-stopped r.clock a.message.number (end_of_stopped a.message.start a.message.period r.clock)
+    (claims_in r.log) (IsSound-legal r legal).order.accepted (ended_claims r a legal live)
 
 pub released_lines : (r : Record) (a : Accepted) (before after : List Held)
     → IsLegal r
@@ -210,14 +233,17 @@ pub released_lines : (r : Record) (a : Accepted) (before after : List Held)
     → before ≡ lines_at r.clock (claims_in r.log)
     → (back : Bool)
     → (layer a.message == 0) ≡ not back
-    → after ≡ cond back before (passed r.clock (ends_at a.message.number (end_of_stopped a.message.start a.message.period r.clock) before))
+    → after ≡ cond back before (passed r.clock (ends_at a.message.number
+    (end_of_stopped a.message.start a.message.period r.clock) before))
     → after ≡ lines_at r.clock (stop_claims a.message.number r.clock (claims_in r.log))
 released_lines r a before after legal live held true back released =
     let sound = IsSound-legal r legal in
     let other : layer a.message ≡ 0 → ⊥ = λ front. false≢true (sym back ∙ eq-eqb (layer a.message) 0 front) in
-    released ∙ held ∙ ap (lines_at r.clock) (sym (same_claims a.message.number r.clock (accepted_in r.log) a sound.rising live.there refl other))
+    released ∙ held ∙ ap (lines_at r.clock) (sym (same_claims a.message.number r.clock (accepted_in r.log) a
+    sound.rising live.there refl other))
 released_lines r a before after legal live held false front released =
-    let left : List Held → List Held = λ lines. passed r.clock (ends_at a.message.number (end_of_stopped a.message.start a.message.period r.clock) lines) in
+    let left : List Held → List Held = λ lines. passed r.clock
+    (ends_at a.message.number (end_of_stopped a.message.start a.message.period r.clock) lines) in
     released ∙ ap left held ∙ lines_without r a legal live
 
 -- the claims of a log with an entry that stops a message, and that starts one
@@ -232,7 +258,8 @@ pub claims_with : (log : List Entry) (e : Entry) (all : List Accepted) (a : Acce
 claims_with log e all a after = ap claims_of after ∙ claims_more all a
 
 -- the lines with the one of a message that begins, if it isn't background
-pub begun_lines : (number slot : ℕ) (replaced : Option Accepted) (before : List Accepted) (claims : List Claim) (a : Accepted)
+pub begun_lines : (number slot : ℕ) (replaced : Option Accepted) (before : List Accepted) (claims : List Claim)
+    (a : Accepted)
     → IsBegun number slot replaced before a
     → (held after : List Held)
     → held ≡ lines_at slot claims
@@ -244,16 +271,22 @@ begun_lines number slot replaced before claims a begun held after same true back
     let none : filter reserves (claim_of a ∷ []) ≡ [] = ap (λ (b : Bool). cond b (claim_of a ∷ []) []) back in
     reserved ∙ same ∙ ap (lines_at slot) (sym (append-nil claims) ∙ ap (λ (l : List Claim). claims ++ l) (sym none))
 begun_lines number slot replaced before claims a begun held after same false front reserved =
-    let one : filter reserves (claim_of a ∷ []) ≡ claim_of a ∷ [] = ap (λ (b : Bool). cond b (claim_of a ∷ []) []) front in
-    reserved ∙ ap (λ (l : List Held). l ++ line_of slot (claim_of a) ∷ []) same ∙ sym (new_line number slot replaced before claims a begun) ∙ ap (λ (l : List Claim). lines_at slot (claims ++ l)) (sym one)
+    let one : filter reserves (claim_of a ∷ []) ≡ claim_of a ∷ [] = ap (λ (b : Bool). cond b (claim_of a ∷ []) [])
+    front in
+    reserved ∙ ap (λ (l : List Held). l ++ line_of slot (claim_of a) ∷ []) same
+    ∙ sym (new_line number slot replaced before claims a begun)
+    ∙ ap (λ (l : List Claim). lines_at slot (claims ++ l)) (sym one)
   where
-    new_line : (number slot : ℕ) (replaced : Option Accepted) (before : List Accepted) (claims : List Claim) (a : Accepted)
+    new_line : (number slot : ℕ) (replaced : Option Accepted) (before : List Accepted) (claims : List Claim)
+        (a : Accepted)
         → IsBegun number slot replaced before a
         → lines_at slot (claims ++ claim_of a ∷ []) ≡ lines_at slot claims ++ line_of slot (claim_of a) ∷ []
     new_line number slot replaced before claims a begun =
-        lines_at-new slot claims (claim_of a) (new_is_claimed slot (claim_of a) begun.accepted (starts_forward slot replaced before a begun.starts) begun.some_period begun.standing)
+        lines_at-new slot claims (claim_of a) (new_is_claimed slot (claim_of a) begun.accepted
+        (starts_forward slot replaced before a begun.starts) begun.some_period begun.standing)
 
--- a book whose log has the entry that was to come next, and whose table, plan and budget are those of the messages with it
+-- a book whose log has the entry that was to come next, and whose table, plan and budget are those of the messages with
+-- it
 pub book_with : (b : Inside) (e : Entry) (log : Vec Entry) (accepted : Vec Kept) (plan : Planned) (budget : List Held)
     → IsBook b
     → IsNext (record_of b) e

@@ -21,16 +21,24 @@ foreground_is_served messages air rising admitted rule = λ k d within. λ j unc
     let m : Message = get_or (foreground messages) k d in
     let blank : Air = blanked messages air in
     let long = length-map air (blank_use messages) in
-    let alone = admitted_load_is_a_guarantee (foreground messages) blank admitted (background_counts_as_idle messages air rising rule) k d within j (record {
+    let alone = admitted_load_is_a_guarantee (foreground messages) blank admitted
+    (background_counts_as_idle messages air rising rule) k d within j (record {
       requested = uncut.requested;
       standing = uncut.standing;
       aired_by = omega (arith, uncut.aired_by, long);
     }) in
-    sym (blanking_keeps_pages messages air m (release m j) (due m j) rising (there messages k d within) (admitted.foreground k d within)) ∙ alone
+    sym (blanking_keeps_pages messages air m (release m j) (due m j) rising (there messages k d within)
+    (admitted.foreground k d within)) ∙ alone
 
 pub foreground_is_at_least : ForegroundIsAtLeast
 foreground_is_at_least messages air slot rising admitted rule played = λ k d within.
     let m : Message = get_or (foreground messages) k d in
     let long = length-map air (blank_use messages) in
-    let least = completed_is_at_least (foreground messages) (blanked messages air) slot admitted (background_counts_as_idle messages air rising rule) (omega (arith, played, long)) k d within in
-    omega (arith, least, blanking_keeps_completed messages air m slot rising (there messages k d within) (admitted.foreground k d within))
+    let least = completed_is_at_least (foreground messages) (blanked messages air) slot admitted
+    (background_counts_as_idle messages air rising rule) (omega (arith, played, long)) k d within in
+    omega (
+      arith,
+      least,
+      blanking_keeps_completed messages air m slot rising (there messages k d within)
+          (admitted.foreground k d within),
+    )

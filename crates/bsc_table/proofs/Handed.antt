@@ -1,12 +1,14 @@
--- What a budget holds of the message behind which one is to wait: its line has started and ends where that one starts, and
--- no other waits behind it.
-use Rattle.std.proofs.Common.{◌≡◌, ◌≢◌, ℕ, zero, suc, ◌-◌, ◌≤◌, ◌<◌, ◌==◌, Bool, true, false, cond, Option, Some, None, List, [], ◌∷◌, filter, get_or, refl, ap, sym, subst, ◌∙◌, inl, inr, arith}
+-- What a budget holds of the message behind which one is to wait: its line has started and ends where that one starts,
+-- and no other waits behind it.
+use Rattle.std.proofs.Common.{◌≡◌, ◌≢◌, ℕ, zero, suc, ◌-◌, ◌≤◌, ◌<◌, ◌==◌, Bool, true, false, cond, Option, Some, None}
+use Rattle.std.proofs.Common.{List, [], ◌∷◌, filter, get_or, refl, ap, sym, subst, ◌∙◌, inl, inr, arith}
 use Rattle.std.specs.List.{All, Any, Contains, find}
 use Rattle.std.specs.Option.{option_map}
 use Rattle.std.proofs.lemmas.Bool.{cases_Bool, cases_eq, cases_lt, eqb-true, eq-eqb, lt-ltb, false≢true}
 use Rattle.std.proofs.lemmas.Option.{none-some, same_Some}
 use Rattle.std.proofs.lemmas.List.{length-map, get_or-map, get_or_default}
-use Rattle.std.proofs.lemmas.List.Elements.{All-nil, All-cons, All-head, All-tail, All-map, All-filter, All-weaker, All-contains, Contains-append_right, filter_passes}
+use Rattle.std.proofs.lemmas.List.Elements.{All-nil, All-cons, All-head, All-tail, All-map, All-filter, All-weaker}
+use Rattle.std.proofs.lemmas.List.Elements.{All-contains, Contains-append_right, filter_passes}
 use Rattle.admission.specs.declared.budget.Held.{Held}
 use Rattle.admission.specs.declared.budget.Waits.{Waits}
 use Rattle.admission.specs.Reservation.{IsBeforeEnd}
@@ -90,7 +92,8 @@ all_that_pass {X = X} p [] = All-nil (λ (x : X). p x ≡ true → Contains (fil
 all_that_pass {X = X} p (x ∷ xs) =
     let Passes : X → Type 0 = λ y. p y ≡ true → Contains (filter p (x ∷ xs)) y in
     let here : Passes x = λ passes. rw passes (0, omega arith, refl) in
-    All-cons Passes x xs here (All-weaker (λ y. p y ≡ true → Contains (filter p xs) y) Passes (λ y kept passes. more_there (p x) x (filter p xs) y (kept passes)) xs (all_that_pass p xs))
+    All-cons Passes x xs here (All-weaker (λ y. p y ≡ true → Contains (filter p xs) y) Passes
+    (λ y kept passes. more_there (p x) x (filter p xs) y (kept passes)) xs (all_that_pass p xs))
 
 -- the line of a claim that is reserved
 pub its_line : (slot : ℕ) (claims : List Claim) (c : Claim)
@@ -99,8 +102,12 @@ pub its_line : (slot : ℕ) (claims : List Claim) (c : Claim)
     → Contains (lines_at slot claims) (line_of slot c)
 its_line slot claims c here claimed =
     let Claimed : Claim → Type 0 = λ x. is_claimed_at slot x ≡ true → Contains (filter (is_claimed_at slot) claims) x in
-    let kept = All-contains Claimed claims c (all_that_pass (is_claimed_at slot) claims) here claimed in
-    (kept.0, omega (arith, kept.1, length-map (filter (is_claimed_at slot) claims) (line_of slot)), get_or-map (line_of slot) (filter (is_claimed_at slot) claims) kept.0 c (line_of slot c) kept.1 ∙ ap (line_of slot) kept.2)
+    let kept = All-contains Claimed claims c (all_that_pass (is_claimed_at slot) claims) here claimed in (
+      kept.0,
+      omega (arith, kept.1, length-map (filter (is_claimed_at slot) claims) (line_of slot)),
+      get_or-map
+          (line_of slot) (filter (is_claimed_at slot) claims) kept.0 c (line_of slot c) kept.1 ∙ ap (line_of slot) kept.2,
+    )
 
 -- the load that is held for an entry
 load_of_entry : (number load : ℕ) (lines : List Held)
@@ -111,12 +118,15 @@ load_of_entry number load [] all found = absurd (omega (arith, found.2))
 load_of_entry number load (h ∷ lines) all found =
     let Says : Held → Type 0 = λ x. x.entry ≡ number → x.load ≡ load in
     elim (cases_Bool (h.entry == number)) [
-      | inl same ↦ ap (λ (b : Bool). load_in (cond b (Some h) (find (λ (x : Held). x.entry == number) lines))) same ∙ All-head Says h lines all (eqb-true h.entry number same)
-      | inr other ↦ ap (λ (b : Bool). load_in (cond b (Some h) (find (λ (x : Held). x.entry == number) lines))) other ∙ load_of_entry number load lines (All-tail Says h lines all) (later other found)
+      | inl same ↦ ap (λ (b : Bool). load_in (cond b (Some h) (find (λ (x : Held). x.entry == number) lines))) same
+          ∙ All-head Says h lines all (eqb-true h.entry number same)
+      | inr other ↦ ap (λ (b : Bool). load_in (cond b (Some h) (find (λ (x : Held). x.entry == number) lines))) other
+          ∙ load_of_entry number load lines (All-tail Says h lines all) (later other found)
     ]
   where
     later : (h.entry == number) ≡ false → Any (λ x. x.entry ≡ number) (h ∷ lines) → Any (λ x. x.entry ≡ number) lines
-    later other (zero, x, within, is, same) = absurd (false≢true (sym other ∙ eq-eqb h.entry number (ap (λ (y : Held). y.entry) is ∙ same)))
+    later other (zero, x, within, is, same) = absurd (false≢true
+        (sym other ∙ eq-eqb h.entry number (ap (λ (y : Held). y.entry) is ∙ same)))
     later other (suc k, x, within, is, same) = (k, x, omega (arith, within), is, same)
 
 -- what a budget holds of the place that a message takes over
@@ -125,7 +135,8 @@ pub handed_in : (slot load : ℕ) (claims : List Claim) (old : Claim) (place : P
     → Contains claims old
     → is_live slot old.message ≡ true
     → handover (stop_claims old.message.number slot claims) slot old load ≡ Some place
-    → (slot < place.start) × IsHeldFor (lines_at slot (stop_claims old.message.number slot claims)) load place.behind place.start place.excess
+    → (slot < place.start) × IsHeldFor (lines_at slot (stop_claims old.message.number slot claims)) load place.behind
+    place.start place.excess
 handed_in slot load claims old place order here live over =
     let number = old.message.number in
     let left = stop_claims number slot claims in
@@ -139,11 +150,14 @@ handed_in slot load claims old place order here live over =
     let line = its_line slot left p its.there claimed in
     let behind : p.message.number ≡ place.behind = sym its.named in
     let Free : ℕ → Type 0 = λ n. All (λ h. behind_of h ≢ Some n) (lines_at slot left) in
-    let loads = all_lines (λ (h : Held). h.entry ≡ place.behind → h.load ≡ own_load p.message) slot left (λ k d within. λ counted same.
+    let loads = all_lines (λ (h : Held). h.entry ≡ place.behind → h.load ≡ own_load p.message) slot left
+    (λ k d within. λ counted same.
     let c : Claim = get_or left k d in
-    let is : get_or left k d ≡ p = by_number left (get_or left k d) p kept.rising (k, within, get_or_default left k (get_or left k d) d within) its.there (same ∙ sym behind) in
+    let is : get_or left k d ≡ p = by_number left (get_or left k d) p kept.rising
+    (k, within, get_or_default left k (get_or left k d) d within) its.there (same ∙ sym behind) in
     ap (λ (x : Claim). own_load x.message) is) in
-    let held = load_of_entry place.behind (own_load p.message) (lines_at slot left) loads (line.0, line_of slot p, line.1, line.2, behind) in (
+    let held = load_of_entry place.behind (own_load p.message) (lines_at slot left) loads
+    (line.0, line_of slot p, line.1, line.2, behind) in (
       its.later,
       record {
         ends = (line.0, line_of slot p, line.1, line.2, (behind, waits_of-started slot p its.ahead.started, its.ends));
@@ -158,7 +172,8 @@ pub held_ahead : (slot load : ℕ) (claims : List Claim) (old : Claim) (place : 
     → Contains claims old
     → is_live slot old.message ≡ true
     → handover (stop_claims old.message.number slot claims) slot old load ≡ Some place
-    → Any (λ h. (h.entry ≡ place.behind) × (h.waits ≡ None)) (lines_at slot claims) × (excess_over place.behind load (lines_at slot claims) ≡ place.excess)
+    → Any (λ h. (h.entry ≡ place.behind) × (h.waits ≡ None)) (lines_at slot claims)
+    × (excess_over place.behind load (lines_at slot claims) ≡ place.excess)
 held_ahead slot load claims old place order here live over =
     let number = old.message.number in
     let its = is_free claims slot load old place order here live over in
@@ -167,7 +182,8 @@ held_ahead slot load claims old place order here live over =
     let c : Claim = from.0 in
     let numbers : p.message.number ≡ c.message.number = ap (λ (x : Claim). x.message.number) from.2 in
     let behind : c.message.number ≡ place.behind = sym numbers ∙ sym its.named in
-    let started : c.message.start ≤ slot = omega (arith, its.ahead.started, ap (λ (x : Claim). x.message.start) from.2) in
+    let started : c.message.start ≤ slot = omega (arith, its.ahead.started, ap (λ (x : Claim). x.message.start) from.2)
+    in
     let Stands : Claim → Type 0 = λ x. (x.accepted ≤ slot) × (0 < x.message.period) in
     let stands = subst Stands from.1.2 (order.accepted from.1.0 c from.1.1, order.periods from.1.0 c from.1.1) in
     let Before : Option ℕ → Type 0 = λ end. IsBeforeEnd slot end in
@@ -181,9 +197,15 @@ held_ahead slot load claims old place order here live over =
           is_claimed_at-from slot c (stands.0, subst Before (sym ends) its.later)
     ] in
     let line = its_line slot claims c from.1 claimed in
-    let loads = all_lines (λ (h : Held). h.entry ≡ place.behind → h.load ≡ own_load p.message) slot claims (λ k d within. λ counted same.
+    let loads = all_lines (λ (h : Held). h.entry ≡ place.behind → h.load ≡ own_load p.message) slot claims
+    (λ k d within. λ counted same.
     let x : Claim = get_or claims k d in
-    let is : get_or claims k d ≡ c = by_number claims (get_or claims k d) c order.rising (k, within, get_or_default claims k (get_or claims k d) d within) from.1 (same ∙ sym behind) in
+    let is : get_or claims k d ≡ c = by_number claims (get_or claims k d) c order.rising
+    (k, within, get_or_default claims k (get_or claims k d) d within) from.1 (same ∙ sym behind) in
     ap (λ (y : Claim). own_load y.message) is ∙ sym (ap (λ (y : Claim). own_load y.message) from.2)) in
-    let held = load_of_entry place.behind (own_load p.message) (lines_at slot claims) loads (line.0, line_of slot c, line.1, line.2, behind) in
-    ((line.0, line_of slot c, line.1, line.2, (behind, waits_of-started slot c started)), ap (λ (n : ℕ). load - n) held ∙ sym its.excess)
+    let held = load_of_entry place.behind (own_load p.message) (lines_at slot claims) loads
+    (line.0, line_of slot c, line.1, line.2, behind) in (
+      (line.0, line_of slot c, line.1, line.2, (behind, waits_of-started slot c started)),
+      ap (λ (n : ℕ). load - n) held
+          ∙ sym its.excess,
+    )

@@ -1,5 +1,6 @@
 -- Legal histories worked by hand: answers, and what is aired.
-use Rattle.std.proofs.Common.{◌≡◌, ℕ, zero, suc, ◌≤◌, ◌<◌, Bool, true, ◌&&◌, inl, refl, Option, Some, None, List, [], ◌∷◌, replicate, ◌++◌, length, take, get_or, arith}
+use Rattle.std.proofs.Common.{◌≡◌, ℕ, zero, suc, ◌≤◌, ◌<◌, Bool, true, ◌&&◌, inl, refl, Option, Some, None, List, []}
+use Rattle.std.proofs.Common.{◌∷◌, replicate, ◌++◌, length, take, get_or, arith}
 use Rattle.std.specs.Prelude.{nat_le, nat_lt}
 use Rattle.std.specs.List.{All, AllPairs, Any, list_all}
 use Rattle.std.proofs.lemmas.Bool.{and_parts, leb-true, le-leb, ltb-true, eqb-true}
@@ -39,7 +40,8 @@ contents (suc n) = record { used = 0; octets = replicate 82 0 } ∷ contents n
 
 -- a write of message 4370 that asks for so many pages in each period
 abbrev pub write : ℕ → Option ℕ → Category → ℕ → ℕ → ℕ → Command
-write serial replaces category pages period broadcasts = commands.Write 4370 serial replaces category period broadcasts (record { 0 = 1 }) (contents pages)
+write serial replaces category pages period broadcasts = commands.Write 4370 serial replaces category period broadcasts
+    (record { 0 = 1 }) (contents pages)
 
 abbrev pub kill : ℕ → Command
 kill serial = commands.Kill 4370 serial
@@ -105,7 +107,8 @@ b_is_not_taken_again = refl
 abbrev whole : List Entry
 whole = killed ++ entry c 3 (answers.Cause 0x06) ∷ entry c 4 (answers.Started 4) ∷ []
 
-whole_aired : aired whole 8 ≡ Some (0, 1) ∷ Some (1, 1) ∷ Some (0, 1) ∷ None ∷ Some (0, 1) ∷ Some (4, 1) ∷ Some (0, 1) ∷ Some (4, 2) ∷ []
+whole_aired : aired whole 8 ≡ Some (0, 1) ∷ Some (1, 1) ∷ Some (0, 1) ∷ None ∷ Some (0, 1) ∷ Some (4, 1) ∷ Some (0, 1)
+    ∷ Some (4, 2) ∷ []
 whole_aired = refl
 
 -- after slot 8 the run is over: for a write or a kill, not for a status
@@ -126,9 +129,11 @@ abbrev high : ℕ → Command
 high serial = write serial None High 1 2 0
 
 abbrev killed_high : List Entry
-killed_high = entry b 0 (answers.Started 0) ∷ entry (high 5) 0 (answers.Started 0) ∷ entry (kill 5) 1 (answers.Stopped 1) ∷ []
+killed_high = entry b 0 (answers.Started 0) ∷ entry (high 5) 0 (answers.Started 0) ∷ entry (kill 5) 1
+    (answers.Stopped 1) ∷ []
 
-high_is_first : answer (entry b 0 (answers.Started 0) ∷ entry (high 5) 0 (answers.Started 0) ∷ []) 1 (kill 5) ≡ answers.Stopped 1
+high_is_first : answer (entry b 0 (answers.Started 0) ∷ entry (high 5) 0 (answers.Started 0) ∷ []) 1 (kill 5) ≡
+    answers.Stopped 1
 high_is_first = refl
 
 high_has_no_room : answer killed_high 1 (high 6) ≡ answers.Cause 0x06
@@ -148,7 +153,8 @@ new_waits = refl
 new_has_no_room : answer begun 3 (write 3 (Some 2) Normal 3 4 0) ≡ answers.Cause 0x06
 new_has_no_room = refl
 
-old_stays : answer (begun ++ entry (write 3 (Some 2) Normal 3 4 0) 3 (answers.Cause 0x06) ∷ []) 3 (status 2) ≡ answers.Told 0 states.Standing
+old_stays : answer (begun ++ entry (write 3 (Some 2) Normal 3 4 0) 3 (answers.Cause 0x06) ∷ []) 3 (status 2) ≡
+    answers.Told 0 states.Standing
 old_stays = refl
 
 none_to_replace : answer begun 3 (write 3 (Some 9) Normal 2 4 0) ≡ answers.Cause 0x02
@@ -200,15 +206,19 @@ slots_rise-from from [] to rise = All-nil (λ (e : Entry). from ≤ e.slot)
 slots_rise-from from (e ∷ log) to rise =
     let parts = and_parts (nat_le from e.slot) (slots_rise e.slot log to) rise in
     let here = leb-true from e.slot parts.0 in
-    All-cons (λ (x : Entry). from ≤ x.slot) e log here (All-weaker (λ (x : Entry). e.slot ≤ x.slot) (λ (x : Entry). from ≤ x.slot) (λ x h. omega arith) log (slots_rise-from e.slot log to parts.1))
+    All-cons (λ (x : Entry). from ≤ x.slot) e log here (All-weaker (λ (x : Entry). e.slot ≤ x.slot)
+    (λ (x : Entry). from ≤ x.slot) (λ x h. omega arith) log (slots_rise-from e.slot log to parts.1))
 
-slots_rise-all : (from : ℕ) (log : List Entry) (to : ℕ) → slots_rise from log to ≡ true → AllPairs (λ a b. a.slot ≤ b.slot) log
+slots_rise-all : (from : ℕ) (log : List Entry) (to : ℕ) → slots_rise from log to ≡ true
+    → AllPairs (λ a b. a.slot ≤ b.slot) log
 slots_rise-all from [] to rise = λ i j d before within. absurd (omega arith)
 slots_rise-all from (e ∷ log) to rise =
     let parts = and_parts (nat_le from e.slot) (slots_rise e.slot log to) rise in
-    AllPairs-cons (λ (a : Entry) (b : Entry). a.slot ≤ b.slot) e log (slots_rise-from e.slot log to parts.1) (slots_rise-all e.slot log to parts.1)
+    AllPairs-cons (λ (a : Entry) (b : Entry). a.slot ≤ b.slot) e log (slots_rise-from e.slot log to parts.1)
+    (slots_rise-all e.slot log to parts.1)
 
-slots_rise-upto : (from : ℕ) (log : List Entry) (to : ℕ) → slots_rise from log to ≡ true → (from ≤ to) × All (λ e. e.slot ≤ to) log
+slots_rise-upto : (from : ℕ) (log : List Entry) (to : ℕ) → slots_rise from log to ≡ true → (from ≤ to)
+    × All (λ e. e.slot ≤ to) log
 slots_rise-upto from [] to rise = (leb-true from to rise, All-nil (λ (e : Entry). e.slot ≤ to))
 slots_rise-upto from (e ∷ log) to rise =
     let parts = and_parts (nat_le from e.slot) (slots_rise e.slot log to) rise in
@@ -219,7 +229,9 @@ slots_rise-upto from (e ∷ log) to rise =
 -- well-formed commands, as a test
 abbrev is_formed : Command → Bool
 is_formed (commands.Write id serial replaces category period broadcasts dcs contents) =
-    (nat_le 1 (length contents) && nat_le (length contents) 15) && (list_all (λ c. nat_le c.used 82) contents && ((nat_le 1 period && nat_le period 1024) && (is_coding dcs.0 && list_all is_full contents)))
+    (nat_le 1 (length contents) && nat_le (length contents) 15) &&
+    (list_all (λ c. nat_le c.used 82) contents && ((nat_le 1 period && nat_le period 1024) &&
+    (is_coding dcs.0 && list_all is_full contents)))
 is_formed (commands.Kill id serial) = true
 is_formed (commands.Status id serial) = true
 
@@ -233,23 +245,31 @@ is_formed-says (commands.Write id serial replaces category period broadcasts dcs
     record {
       some_pages = leb-true 1 (length contents) pages.0;
       few_pages = leb-true (length contents) 15 pages.1;
-      used = All-weaker (λ (c : Content). nat_le c.used 82 ≡ true) (λ (c : Content). c.used ≤ 82) (λ c h. leb-true c.used 82 h) contents (AllPass-from_list_all (λ (c : Content). nat_le c.used 82) contents second.0);
+      used = All-weaker (λ (c : Content). nat_le c.used 82 ≡ true) (λ (c : Content). c.used ≤ 82)
+          (λ c h. leb-true c.used 82 h) contents (AllPass-from_list_all (λ (c : Content). nat_le c.used 82) contents
+          second.0);
       some_period = leb-true 1 period periods.0;
       short_period = leb-true period 1024 periods.1;
       coded = (and_parts _ _ third.1).0;
-      full = All-weaker (λ (c : Content). is_full c ≡ true) (λ (c : Content). length c.octets ≡ 82) (λ c h. eqb-true (length c.octets) 82 h) contents (AllPass-from_list_all is_full contents (and_parts _ _ third.1).1);
+      full = All-weaker (λ (c : Content). is_full c ≡ true) (λ (c : Content). length c.octets ≡ 82)
+          (λ c h. eqb-true (length c.octets) 82 h) contents (AllPass-from_list_all is_full contents
+          (and_parts _ _ third.1).1);
     }
 is_formed-says (commands.Kill id serial) formed = tt
 is_formed-says (commands.Status id serial) formed = tt
 
--- R, Q and P have one page each, in every sixth, third and second slot, and fill the cell: there is no room for a fourth
+-- R, Q and P have one page each, in every sixth, third and second slot, and fill the cell: there is no room for a
+-- fourth
 abbrev filled : List Entry
-filled = entry (write 1 None Normal 1 6 0) 0 (answers.Started 0) ∷ entry (write 2 None Normal 1 3 0) 0 (answers.Started 0) ∷ entry (write 3 None Normal 1 2 0) 0 (answers.Started 0) ∷ entry (write 4 None Normal 1 1024 0) 0 (answers.Cause 0x06) ∷ []
+filled = entry (write 1 None Normal 1 6 0) 0 (answers.Started 0) ∷ entry (write 2 None Normal 1 3 0) 0
+    (answers.Started 0) ∷ entry (write 3 None Normal 1 2 0) 0 (answers.Started 0) ∷ entry
+    (write 4 None Normal 1 1024 0) 0 (answers.Cause 0x06) ∷ []
 
 filled_aired : aired filled 6 ≡ Some (2, 1) ∷ Some (1, 1) ∷ Some (2, 1) ∷ Some (0, 1) ∷ Some (1, 1) ∷ Some (2, 1) ∷ []
 filled_aired = refl
 
-filled_answered : (i : ℕ) (d : Entry) → i < length filled → IsAnswered 8 (take i filled) (aired filled 6) (get_or filled i d)
+filled_answered : (i : ℕ) (d : Entry) → i < length filled → IsAnswered 8 (take i filled) (aired filled 6)
+    (get_or filled i d)
 filled_answered zero d within = refl
 filled_answered (suc zero) d within = refl
 filled_answered (suc (suc zero)) d within = refl
@@ -257,16 +277,22 @@ filled_answered (suc (suc (suc zero))) d within = refl
 filled_answered (suc (suc (suc (suc i)))) d within = absurd (omega arith)
 
 -- what is left to show of a run whose air list is computed
-pub legal_run : (log : List Entry) (clock : ℕ) → length log ≤ 4096 → clock ≤ 8 → slots_rise 0 log clock ≡ true → list_all (λ e. is_formed e.command) log ≡ true → list_all (λ m. nat_lt 0 m.period) (messages_in log) ≡ true → ((i : ℕ) (d : Entry) → i < length log → IsAnswered 8 (take i log) (aired log clock) (get_or log i d)) → length (aired log clock) ≡ clock → IsLegal (run log clock)
+pub legal_run : (log : List Entry) (clock : ℕ) → length log ≤ 4096 → clock ≤ 8 → slots_rise 0 log clock ≡ true
+    → list_all (λ e. is_formed e.command) log ≡ true → list_all (λ m. nat_lt 0 m.period) (messages_in log) ≡ true
+    → ((i : ℕ) (d : Entry) → i < length log → IsAnswered 8 (take i log) (aired log clock) (get_or log i d))
+    → length (aired log clock) ≡ clock → IsLegal (run log clock)
 legal_run log clock few within rise formed periods answered played = record {
   within = within;
   few = few;
   rising = slots_rise-all 0 log clock rise;
   known = (slots_rise-upto 0 log clock rise).1;
-  formed = All-weaker (λ (e : Entry). is_formed e.command ≡ true) (λ (e : Entry). IsWellFormed e.command) (λ e. is_formed-says e.command) log (AllPass-from_list_all (λ (e : Entry). is_formed e.command) log formed);
+  formed = All-weaker (λ (e : Entry). is_formed e.command ≡ true) (λ (e : Entry). IsWellFormed e.command)
+      (λ e. is_formed-says e.command) log (AllPass-from_list_all (λ (e : Entry). is_formed e.command) log formed);
   answered = answered;
   played = played;
-  aired = IsAirOf-air_of (messages_in log) clock (All-weaker (λ (m : Message). nat_lt 0 m.period ≡ true) (λ (m : Message). 0 < m.period) (λ m. ltb-true 0 m.period) (messages_in log) (AllPass-from_list_all (λ (m : Message). nat_lt 0 m.period) (messages_in log) periods));
+  aired = IsAirOf-air_of (messages_in log) clock (All-weaker (λ (m : Message). nat_lt 0 m.period ≡ true)
+      (λ (m : Message). 0 < m.period) (λ m. ltb-true 0 m.period) (messages_in log)
+      (AllPass-from_list_all (λ (m : Message). nat_lt 0 m.period) (messages_in log) periods));
 }
 
 filled_is_legal : IsLegal (run filled 6)
@@ -279,7 +305,16 @@ half = record { number = 2; start = 0; pages = 1; period = 2; requested = 0; sto
 abbrev third : Message
 third = record { number = 1; start = 0; pages = 1; period = 3; requested = 0; stop = None; rank = ranks.Normal }
 
-filled_messages : messages_in filled ≡ record { number = 0; start = 0; pages = 1; period = 6; requested = 0; stop = None; rank = ranks.Normal } ∷ third ∷ half ∷ []
+filled_messages : messages_in filled ≡ record {
+  number = 0;
+  start = 0;
+  pages = 1;
+  period = 6;
+  requested = 0;
+  stop =
+      None;
+  rank = ranks.Normal;
+} ∷ third ∷ half ∷ []
 filled_messages = refl
 
 half_least : least_completed half 5 ≡ 2
@@ -301,7 +336,8 @@ third_most : most_completed third 5 ≡ 2
 third_most = refl
 
 -- so it is at each slot up to the clock
-half_is_bounded : (slot : ℕ) → slot ≤ 6 → (least_completed half slot ≤ completed half (aired filled 6) slot) × (completed half (aired filled 6) slot ≤ most_completed half slot)
+half_is_bounded : (slot : ℕ) → slot ≤ 6 → (least_completed half slot ≤ completed half (aired filled 6) slot)
+    × (completed half (aired filled 6) slot ≤ most_completed half slot)
 half_is_bounded slot by =
     let bounds = legal_histories_are_bounded (run filled 6) filled_is_legal 2 half (omega arith) slot by in
     (bounds.0 refl, bounds.1)
@@ -320,20 +356,24 @@ whole_is_legal = legal_run whole 8 (omega arith) (omega arith) refl refl refl wh
 
 c_is_served : pages_aired 4 (aired whole 8) 4 8 ≡ 2
 c_is_served =
-    legal_histories_are_served (run whole 8) whole_is_legal 2 half (omega arith) 0 (record { requested = inl refl; standing = tt; aired_by = omega arith })
+    legal_histories_are_served (run whole 8) whole_is_legal 2 half (omega arith) 0
+    (record { requested = inl refl; standing = tt; aired_by = omega arith })
 
 -- and the number that B's kill told is true, of B as it was accepted first
 kill_was_true : Any (IsTrulyTold (aired whole 8) (entry (kill 2) 3 (answers.Stopped 0)) 0) (accepted_in whole)
-kill_was_true = legal_answers_are_true (run whole 8) whole_is_legal 2 (entry (kill 2) 3 (answers.Stopped 0)) (omega arith) 0 refl
+kill_was_true = legal_answers_are_true (run whole 8) whole_is_legal 2 (entry (kill 2) 3 (answers.Stopped 0))
+    (omega arith) 0 refl
 
 -- three messages of one page in every third slot take the whole, and no load fits beside them
 abbrev of_third : ℕ → Command
 of_third serial = write serial None Normal 1 3 0
 
 abbrev three : List Entry
-three = entry (of_third 1) 0 (answers.Started 0) ∷ entry (of_third 2) 0 (answers.Started 0) ∷ entry (of_third 3) 0 (answers.Started 0) ∷ []
+three = entry (of_third 1) 0 (answers.Started 0) ∷ entry (of_third 2) 0 (answers.Started 0) ∷ entry (of_third 3) 0
+    (answers.Started 0) ∷ []
 
-third_starts : answer (entry (of_third 1) 0 (answers.Started 0) ∷ entry (of_third 2) 0 (answers.Started 0) ∷ []) 0 (of_third 3) ≡ answers.Started 0
+third_starts : answer (entry (of_third 1) 0 (answers.Started 0) ∷ entry (of_third 2) 0 (answers.Started 0) ∷ []) 0
+    (of_third 3) ≡ answers.Started 0
 third_starts = refl
 
 thirds_are_the_whole : claimed_at (claims_in three) 0 ≡ SCALE
@@ -377,5 +417,6 @@ background_replaces_at_once : answer beside_three 1 (write 5 (Some 3) Background
 background_replaces_at_once = refl
 
 -- a log of 4,096 entries answers nothing else than that it is full
-full_log : (log : List Entry) (air : Air) (slots slot : ℕ) (command : Command) → 4096 ≤ length log → answer_of slots log air slot command ≡ answers.Cause 0x08
+full_log : (log : List Entry) (air : Air) (slots slot : ℕ) (command : Command) → 4096 ≤ length log
+    → answer_of slots log air slot command ≡ answers.Cause 0x08
 full_log log air slots slot command full = rw (le-leb 4096 (length log) full) refl

@@ -1,6 +1,7 @@
--- What is aired of a message in a range of slots, where all of it belongs to broadcasts that are released and due inside
--- the range: no more than the pages of these.
-use Rattle.std.proofs.Common.{◌≡◌, ℕ, zero, suc, ◌+◌, ◌*◌, ◌≤◌, ◌<◌, true, List, length, get_or, None, inl, inr, sym, ap, subst, ◌∙◌, arith}
+-- What is aired of a message in a range of slots, where all of it belongs to broadcasts that are released and due
+-- inside the range: no more than the pages of these.
+use Rattle.std.proofs.Common.{◌≡◌, ℕ, zero, suc, ◌+◌, ◌*◌, ◌≤◌, ◌<◌, true, List, length, get_or, None, inl, inr, sym}
+use Rattle.std.proofs.Common.{ap, subst, ◌∙◌, arith}
 use Rattle.std.specs.List.{AllPairs, Contains}
 use Rattle.std.proofs.lemmas.Bool.{cases_lt, cases_Bool, false≢true}
 use Rattle.std.proofs.Math.Nat.{mul-le-mul_left, le-mul_of_pos_right}
@@ -9,8 +10,10 @@ use Rattle.scheduler.specs.Air.{Air, airs, pages_aired, IsPending, IsAirOf}
 use Rattle.scheduler.proofs.Air.{broadcast_at-released, broadcast_at-not_due, broadcast_at-only}
 use Rattle.scheduler.proofs.Rule.{pages_aired-at_most}
 use Rattle.bsc_table.specs.Guarantee.{is_inside}
-use Rattle.bsc_table.proofs.Broadcasts.{pages_before, due-le-release, release-lt, pages_by_sums, none_aired, before_stop-sooner}
-use Rattle.bsc_table.proofs.Demand.{IsInside, is_inside-from, count_inside, count_inside-le, count_inside-one, count_inside-none}
+use Rattle.bsc_table.proofs.Broadcasts.{pages_before, due-le-release, release-lt, pages_by_sums, none_aired}
+use Rattle.bsc_table.proofs.Broadcasts.{before_stop-sooner}
+use Rattle.bsc_table.proofs.Demand.{IsInside, is_inside-from, count_inside, count_inside-le, count_inside-one}
+use Rattle.bsc_table.proofs.Demand.{count_inside-none}
 
 -- the message has a period and stands in a list with rising numbers, and the air list is by the rule
 pub record IsServed (messages : List Message) (air : Air) (m : Message) : Type 0 where
@@ -21,16 +24,19 @@ pub record IsServed (messages : List Message) (air : Air) (m : Message) : Type 0
 
 -- what is aired of the message in the range belongs to a broadcast that is released and due inside it
 abbrev pub AiredInside : Message → Air → ℕ → ℕ → Type 0
-AiredInside m air from to = (t : ℕ) → from ≤ t → t < to → airs m.number (get_or air t None) ≡ true → (j : ℕ) × IsPending m j air t × (from ≤ release m j) × (due m j ≤ to)
+AiredInside m air from to = (t : ℕ) → from ≤ t → t < to → airs m.number (get_or air t None) ≡ true → (j : ℕ)
+    × IsPending m j air t × (from ≤ release m j) × (due m j ≤ to)
 
 -- at a slot of a broadcast's time no other broadcast of the message is pending
-same_broadcast : (m : Message) (i j : ℕ) (air : Air) (t : ℕ) → 0 < m.period → IsPending m i air t → release m j ≤ t → t < due m j → i ≡ j
+same_broadcast : (m : Message) (i j : ℕ) (air : Air) (t : ℕ) → 0 < m.period → IsPending m i air t → release m j ≤ t
+    → t < due m j → i ≡ j
 same_broadcast m i j air t period p low high =
     let started : m.start ≤ t = omega arith in
     broadcast_at-only m t i period started p.released p.not_due ∙ sym (broadcast_at-only m t j period started low high)
 
 -- a broadcast of which a page is aired is inside
-aired_is_inside : (m : Message) (air : Air) (from to k t : ℕ) → 0 < m.period → AiredInside m air from to → from ≤ t → t < to → release m k ≤ t → t < due m k → airs m.number (get_or air t None) ≡ true → IsInside m from to k
+aired_is_inside : (m : Message) (air : Air) (from to k t : ℕ) → 0 < m.period → AiredInside m air from to → from ≤ t
+    → t < to → release m k ≤ t → t < due m k → airs m.number (get_or air t None) ≡ true → IsInside m from to k
 aired_is_inside m air from to k t period inside low high released not_due used =
     let found = inside t low high used in
     let same = same_broadcast m found.0 k air t period found.1 released not_due in
@@ -43,11 +49,14 @@ aired_is_inside m air from to k t period inside low high released not_due used =
     })
 
 -- one more broadcast, by numbers alone
-one_more : (pages count first before upto aired more : ℕ) → before ≤ first + pages * count → aired + before ≡ upto → aired + more ≤ pages → upto + more ≤ first + pages * (count + 1)
+one_more : (pages count first before upto aired more : ℕ) → before ≤ first + pages * count → aired + before ≡ upto
+    → aired + more ≤ pages → upto + more ≤ first + pages * (count + 1)
 one_more pages count first before upto aired more taken sums few = omega arith
 
 -- from the range's begin up to a release
-aired_upto_release : (messages : List Message) (air : Air) (m : Message) (from to k : ℕ) → IsServed messages air m → from ≤ release m k → release m k ≤ to → to ≤ length air → AiredInside m air from to → pages_before m air (release m k) ≤ pages_before m air from + m.pages * count_inside m from to k
+aired_upto_release : (messages : List Message) (air : Air) (m : Message) (from to k : ℕ) → IsServed messages air m
+    → from ≤ release m k → release m k ≤ to → to ≤ length air → AiredInside m air from to
+    → pages_before m air (release m k) ≤ pages_before m air from + m.pages * count_inside m from to k
 aired_upto_release messages air m from to zero served ahead upto within inside =
     let none = none_aired m.number air from (release m 0) ahead (λ t low high used.
     let found = inside t low (omega arith) used in
@@ -69,14 +78,18 @@ aired_upto_release messages air m from to (suc k) served ahead upto within insid
           let last = ap (λ n. pages_before m air n) next in
           elim (cases_Bool (is_inside m from to k)) [
             | inl one ↦
-                let few = pages_aired-at_most messages air m k (due m k) served.rising served.here served.rule (omega arith) (omega arith) in
+                let few = pages_aired-at_most messages air m k (due m k) served.rising served.here served.rule
+                (omega arith) (omega arith) in
                 let sums = pages_by_sums m.number air (release m k) (due m k) step (omega arith) in
-                let all = one_more m.pages (count_inside m from to k) (pages_before m air from) (pages_before m air (release m k)) (pages_before m air (due m k)) (pages_aired m.number air (release m k) (due m k)) 0 front sums (omega arith) in
+                let all = one_more m.pages (count_inside m from to k) (pages_before m air from)
+                (pages_before m air (release m k)) (pages_before m air (due m k))
+                (pages_aired m.number air (release m k) (due m k)) 0 front sums (omega arith) in
                 let times = ap (λ n. m.pages * n) (count_inside-one m from to k one) in
                 omega arith
             | inr cut ↦
                 let none = none_aired m.number air (release m k) (due m k) step (λ t low high used.
-                let fact = aired_is_inside m air from to k t served.period inside (omega arith) (omega arith) low high used in
+                let fact = aired_is_inside m air from to k t served.period inside (omega arith) (omega arith) low high
+                used in
                 false≢true (sym cut ∙ is_inside-from m from to k fact)) in
                 let times = ap (λ n. m.pages * n) (count_inside-none m from to k cut) in
                 omega arith
@@ -84,7 +97,9 @@ aired_upto_release messages air m from to (suc k) served ahead upto within insid
     ]
 
 -- over the whole range
-pub aired_inside : (messages : List Message) (air : Air) (m : Message) (from to : ℕ) → IsServed messages air m → from ≤ to → to ≤ length air → AiredInside m air from to → pages_before m air to ≤ pages_before m air from + m.pages * count_inside m from to to
+pub aired_inside : (messages : List Message) (air : Air) (m : Message) (from to : ℕ) → IsServed messages air m
+    → from ≤ to → to ≤ length air → AiredInside m air from to
+    → pages_before m air to ≤ pages_before m air from + m.pages * count_inside m from to to
 aired_inside messages air m from to served ahead within inside =
     elim (cases_lt to m.start) [
       | inl early ↦
@@ -121,13 +136,23 @@ aired_inside messages air m from to served ahead within inside =
     due_sooner m i k b sooner later = omega arith
 
 -- and one page less, where the broadcast that is due at the range's end lacks one
-pub aired_short : (messages : List Message) (air : Air) (m : Message) (from j : ℕ) → IsServed messages air m → from ≤ release m j → due m j ≤ length air → HasBroadcast m j → IsBeforeStop (release m j) m.stop → pages_aired m.number air (release m j) (due m j) < m.pages → AiredInside m air from (due m j) → pages_before m air (due m j) + 1 ≤ pages_before m air from + m.pages * count_inside m from (due m j) (due m j)
+pub aired_short : (messages : List Message) (air : Air) (m : Message) (from j : ℕ) → IsServed messages air m
+    → from ≤ release m j → due m j ≤ length air → HasBroadcast m j → IsBeforeStop (release m j) m.stop
+    → pages_aired m.number air (release m j) (due m j) < m.pages → AiredInside m air from (due m j)
+    → pages_before m air (due m j) + 1 ≤ pages_before m air from + m.pages * count_inside m from (due m j) (due m j)
 aired_short messages air m from j served ahead within has standing lacks inside =
     let step : release m j ≤ due m j = omega (arith, served.period) in
     let front = aired_upto_release messages air m from (due m j) j served ahead step within inside in
     let sums = pages_by_sums m.number air (release m j) (due m j) step within in
-    let all = one_more m.pages (count_inside m from (due m j) j) (pages_before m air from) (pages_before m air (release m j)) (pages_before m air (due m j)) (pages_aired m.number air (release m j) (due m j)) 1 front sums (omega arith) in
-    let fact = is_inside-from m from (due m j) j (record { requested = has; standing = standing; released = ahead; due_by = omega arith }) in
+    let all = one_more m.pages (count_inside m from (due m j) j) (pages_before m air from)
+    (pages_before m air (release m j)) (pages_before m air (due m j))
+    (pages_aired m.number air (release m j) (due m j)) 1 front sums (omega arith) in
+    let fact = is_inside-from m from (due m j) j (record {
+      requested = has;
+      standing = standing;
+      released = ahead;
+      due_by = omega arith;
+    }) in
     let one = count_inside-one m from (due m j) j fact in
     let few : suc j ≤ due m j = omega (arith, le-mul_of_pos_right (j + 1) served.period) in
     let times = mul-le-mul_left m.pages (count_inside-le m from (due m j) (suc j) (due m j) few) in

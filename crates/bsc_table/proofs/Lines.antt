@@ -1,9 +1,12 @@
 -- What a budget holds at a slot, against the claims of the accepted messages.
-use Rattle.std.proofs.Common.{◌≡◌, ℕ, ◌+◌, ◌*◌, ◌≤◌, ◌<◌, ◌==◌, Bool, true, false, cond, not, ◌&&◌, Option, Some, None, List, [], ◌∷◌, ◌++◌, length, map, filter, sum_by, refl, ap, sym, subst, ◌∙◌, inl, inr, arith}
+use Rattle.std.proofs.Common.{◌≡◌, ℕ, ◌+◌, ◌*◌, ◌≤◌, ◌<◌, ◌==◌, Bool, true, false, cond, not, ◌&&◌, Option, Some, None}
+use Rattle.std.proofs.Common.{List, [], ◌∷◌, ◌++◌, length, map, filter, sum_by, refl, ap, sym, subst, ◌∙◌, inl, inr}
+use Rattle.std.proofs.Common.{arith}
 use Rattle.std.specs.Prelude.{nat_le, nat_lt}
 use Rattle.std.specs.List.{All}
 use Rattle.std.specs.Option.{option_map}
-use Rattle.std.proofs.lemmas.Bool.{cases_Bool, cases_lt, cases_eq, and_parts, eq-eqb, ne_eqb, eqb-true, le-leb, le-ltb, lt-ltb, false≢true, true≢false}
+use Rattle.std.proofs.lemmas.Bool.{cases_Bool, cases_lt, cases_eq, and_parts, eq-eqb, ne_eqb, eqb-true, le-leb, le-ltb}
+use Rattle.std.proofs.lemmas.Bool.{lt-ltb, false≢true, true≢false}
 use Rattle.std.proofs.lemmas.List.{map-append, length-map}
 use Rattle.std.proofs.lemmas.List.Elements.{All-head, All-tail, All-map, All-weaker, filter-append, filter_passes}
 use Rattle.std.proofs.lemmas.List.Sums.{sum_by-cons}
@@ -15,7 +18,8 @@ use Rattle.admission.specs.Waiting.{held_now, share_now, waits_at, started_at}
 use Rattle.admission.specs.Table.{answer_of as answer_by, answer_for, remaining_without, ends_if, ends_at, passed}
 use Rattle.scheduler.specs.Message.{stopped_if}
 use Rattle.bsc_table.specs.Record.{is_live}
-use Rattle.bsc_table.specs.Claim.{Claim, end_of, own_load, is_claimed_at, share_at, claim_at, claimed_at, IsWaiting, stop_claim, stop_claims}
+use Rattle.bsc_table.specs.Claim.{Claim, end_of, own_load, is_claimed_at, share_at, claim_at, claimed_at, IsWaiting}
+use Rattle.bsc_table.specs.Claim.{stop_claim, stop_claims}
 use Rattle.bsc_table.specs.Room.{AreInOrder}
 use Rattle.bsc_table.specs.Book.{waits_of, line_of, lines_at}
 use Rattle.bsc_table.proofs.Claims.{is_claimed_at-says, is_claimed_at-from, share_at-started, share_at-waiting}
@@ -33,14 +37,17 @@ lined slot claims order = λ k d within. λ waiting.
 
 pub waits_of-started : (slot : ℕ) (c : Claim) → c.message.start ≤ slot → waits_of slot c ≡ None
 waits_of-started slot c started =
-    ap (λ (b : Bool). cond b (option_map (λ (behind : ℕ). record { behind = behind; start = c.message.start; excess = c.excess }) c.behind) None) (le-ltb slot c.message.start started)
+    ap (λ (b : Bool). cond b (option_map (λ (behind : ℕ). record
+    { behind = behind; start = c.message.start; excess = c.excess }) c.behind) None)
+    (le-ltb slot c.message.start started)
 
 pub waits_of-waiting : (slot : ℕ) (c : Claim) (number : ℕ)
     → slot < c.message.start
     → c.behind ≡ Some number
     → waits_of slot c ≡ Some (record { behind = number; start = c.message.start; excess = c.excess })
 waits_of-waiting slot c number waits behind =
-    let waiting : Option ℕ → Option Waits = λ o. option_map (λ (n : ℕ). record { behind = n; start = c.message.start; excess = c.excess }) o in
+    let waiting : Option ℕ → Option Waits = λ o. option_map (λ (n : ℕ). record
+    { behind = n; start = c.message.start; excess = c.excess }) o in
     ap (λ (b : Bool). cond b (waiting c.behind) None) (lt-ltb slot c.message.start waits) ∙ ap waiting behind
 
 -- a claim's line holds now what the claim reserves
@@ -54,7 +61,8 @@ line_holds slot c claimed lines =
           let behind = lines (waits, (is_claimed_at-says slot c claimed).1) in
           ap (share_now (own_load c.message)) (waits_of-waiting slot c behind.0 waits behind.1)
           ∙ sym (share_at-waiting slot c waits)
-      | inr started ↦ ap (share_now (own_load c.message)) (waits_of-started slot c started) ∙ sym (share_at-started slot c started)
+      | inr started ↦ ap (share_now (own_load c.message)) (waits_of-started slot c started)
+          ∙ sym (share_at-started slot c started)
     ]
 
 same_loads : (slot : ℕ) (claims : List Claim)
@@ -69,20 +77,24 @@ same_loads slot (c ∷ claims) lines =
       | inl claimed ↦
           let holds = line_holds slot c claimed here in
           let its = ap (λ (b : Bool). cond b (share_at slot c) 0) claimed in
-          let left = ap (λ (b : Bool). sum_by held_now (map (line_of slot) (cond b (c ∷ filter (is_claimed_at slot) claims) (filter (is_claimed_at slot) claims)))) claimed in
+          let left = ap (λ (b : Bool). sum_by held_now (map (line_of slot)
+          (cond b (c ∷ filter (is_claimed_at slot) claims) (filter (is_claimed_at slot) claims)))) claimed in
           omega (arith, rest, more, holds, its, left, sum_by-cons held_now (line_of slot c) (lines_at slot claims))
       | inr free ↦
           let its = ap (λ (b : Bool). cond b (share_at slot c) 0) free in
-          let left = ap (λ (b : Bool). sum_by held_now (map (line_of slot) (cond b (c ∷ filter (is_claimed_at slot) claims) (filter (is_claimed_at slot) claims)))) free in
+          let left = ap (λ (b : Bool). sum_by held_now (map (line_of slot)
+          (cond b (c ∷ filter (is_claimed_at slot) claims) (filter (is_claimed_at slot) claims)))) free in
           omega (arith, rest, more, its, left)
     ]
 
 -- so a load has room beside the lines where it has room beside the claims
 pub same_room : (slot load : ℕ) (claims : List Claim)
     → All (IsLined slot) claims
-    → answer_for (lines_at slot claims) load ≡ answer_by (length (filter (is_claimed_at slot) claims)) (claimed_at claims slot) load
+    → answer_for (lines_at slot claims) load ≡ answer_by (length (filter (is_claimed_at slot) claims))
+    (claimed_at claims slot) load
 same_room slot load claims lines =
-    ap (λ (n : ℕ). answer_by n (sum_by held_now (lines_at slot claims)) load) (length-map (filter (is_claimed_at slot) claims) (line_of slot))
+    ap (λ (n : ℕ). answer_by n (sum_by held_now (lines_at slot claims)) load)
+    (length-map (filter (is_claimed_at slot) claims) (line_of slot))
     ∙ ap (λ (n : ℕ). answer_by (length (filter (is_claimed_at slot) claims)) n load) (same_loads slot claims lines)
 
 -- the line of a later slot
@@ -90,7 +102,8 @@ waits_of-later : (slot later : ℕ) (c : Claim) → slot ≤ later → waits_at 
 waits_of-later slot later c after =
     elim (cases_lt slot c.message.start) [
       | inl waits ↦ ap (waits_at later) (before waits) ∙ onward c.behind
-      | inr started ↦ ap (waits_at later) (waits_of-started slot c started) ∙ sym (waits_of-started later c (omega (arith, started, after)))
+      | inr started ↦ ap (waits_at later) (waits_of-started slot c started)
+          ∙ sym (waits_of-started later c (omega (arith, started, after)))
     ]
   where
     waiting : Option ℕ → Option Waits
@@ -109,7 +122,12 @@ waits_of-later slot later c after =
 
 line_later : (slot later : ℕ) (c : Claim) → slot ≤ later → started_at later (line_of slot c) ≡ line_of later c
 line_later slot later c after =
-    ap (λ (w : Option Waits). record { entry = c.message.number; load = own_load c.message; until = end_of c.message; waits = w }) (waits_of-later slot later c after)
+    ap (λ (w : Option Waits). record {
+      entry = c.message.number;
+      load = own_load c.message;
+      until = end_of c.message;
+      waits = w;
+    }) (waits_of-later slot later c after)
 
 before_end-sooner : (slot later : ℕ) (end : Option ℕ)
     → slot ≤ later
@@ -136,11 +154,13 @@ one_later : (b d : Bool) (later : ℕ) (h after : Held) (lines rest : List Held)
     → passed later lines ≡ rest
     → passed later (cond b (h ∷ lines) lines) ≡ cond d (after ∷ rest) rest
 one_later true true later h after lines rest within stands same more =
-    ap (λ (b : Bool). map (started_at later) (cond b (h ∷ filter (λ (x : Held). is_before_end later x.until) lines) (filter (λ (x : Held). is_before_end later x.until) lines))) stands
+    ap (λ (b : Bool). map (started_at later) (cond b (h ∷ filter (λ (x : Held). is_before_end later x.until) lines)
+    (filter (λ (x : Held). is_before_end later x.until) lines))) stands
     ∙ ap (λ (x : Held). x ∷ passed later lines) same
     ∙ ap (λ (l : List Held). after ∷ l) more
 one_later true false later h after lines rest within stands same more =
-    ap (λ (b : Bool). map (started_at later) (cond b (h ∷ filter (λ (x : Held). is_before_end later x.until) lines) (filter (λ (x : Held). is_before_end later x.until) lines))) stands
+    ap (λ (b : Bool). map (started_at later) (cond b (h ∷ filter (λ (x : Held). is_before_end later x.until) lines)
+    (filter (λ (x : Held). is_before_end later x.until) lines))) stands
     ∙ more
 one_later false true later h after lines rest within stands same more = absurd (false≢true (within refl))
 one_later false false later h after lines rest within stands same more = more
@@ -160,10 +180,13 @@ lines_at-later slot later (c ∷ claims) after accepted =
     let by : c.accepted ≤ slot = All-head Accepted c claims accepted in
     let rest = lines_at-later slot later claims after (All-tail Accepted c claims accepted) in
     let now : is_claimed_at slot c ≡ is_before_end slot (end_of c.message) = claimed_by_end slot c by in
-    let then : is_claimed_at later c ≡ is_before_end later (end_of c.message) = claimed_by_end later c (omega (arith, by, after)) in
-    let within : is_claimed_at later c ≡ true → is_claimed_at slot c ≡ true = λ h. now ∙ before_end-sooner slot later (end_of c.message) after (sym then ∙ h) in
+    let then : is_claimed_at later c ≡ is_before_end later (end_of c.message) = claimed_by_end later c
+    (omega (arith, by, after)) in
+    let within : is_claimed_at later c ≡ true → is_claimed_at slot c ≡ true = λ h. now
+    ∙ before_end-sooner slot later (end_of c.message) after (sym then ∙ h) in
     ap (passed later) (map_cond (line_of slot) (is_claimed_at slot c) c (filter (is_claimed_at slot) claims))
-    ∙ one_later (is_claimed_at slot c) (is_claimed_at later c) later (line_of slot c) (line_of later c) (lines_at slot claims) (lines_at later claims) within (sym then) (line_later slot later c after) rest
+    ∙ one_later (is_claimed_at slot c) (is_claimed_at later c) later (line_of slot c) (line_of later c)
+    (lines_at slot claims) (lines_at later claims) within (sym then) (line_later slot later c after) rest
     ∙ sym (map_cond (line_of later) (is_claimed_at later c) c (filter (is_claimed_at later) claims))
 
 -- the line of the message that is stopped now
@@ -171,35 +194,52 @@ ended_line : (b : Bool) (slot end : ℕ) (c : Claim)
     → (b ≡ true → end_of_stopped c.message.start c.message.period slot ≡ end)
     → ends_if b end (line_of slot c) ≡ line_of slot (record c { message = stopped_if b slot c.message })
 ended_line true slot end c same =
-    ap (λ (n : ℕ). record { entry = c.message.number; load = own_load c.message; until = Some n; waits = waits_of slot c }) (sym (same refl))
+    ap (λ (n : ℕ). record {
+      entry = c.message.number;
+      load = own_load c.message;
+      until = Some n;
+      waits = waits_of slot
+          c;
+    }) (sym (same refl))
 ended_line false slot end c same = refl
 
 -- the lines with one message stopped now
 pub lines_at-stopped : (slot number end : ℕ) (claims : List Claim)
     → All (λ c. c.accepted ≤ slot) claims
-    → All (λ c. c.message.number ≡ number → (is_claimed_at slot c ≡ true) × (end_of_stopped c.message.start c.message.period slot ≡ end)) claims
+    → All (λ c. c.message.number ≡ number → (is_claimed_at slot c ≡ true)
+    × (end_of_stopped c.message.start c.message.period slot ≡ end)) claims
     → passed slot (ends_at number end (lines_at slot claims)) ≡ lines_at slot (stop_claims number slot claims)
 lines_at-stopped slot number end [] accepted fit = refl
 lines_at-stopped slot number end (c ∷ claims) accepted fit =
     let Accepted : Claim → Type 0 = λ x. x.accepted ≤ slot in
-    let Fit : Claim → Type 0 = λ x. x.message.number ≡ number → (is_claimed_at slot x ≡ true) × (end_of_stopped x.message.start x.message.period slot ≡ end) in
+    let Fit : Claim → Type 0 = λ x. x.message.number ≡ number → (is_claimed_at slot x ≡ true)
+    × (end_of_stopped x.message.start x.message.period slot ≡ end) in
     let by : c.accepted ≤ slot = All-head Accepted c claims accepted in
     let its : Fit c = All-head Fit c claims fit in
-    let rest = lines_at-stopped slot number end claims (All-tail Accepted c claims accepted) (All-tail Fit c claims fit) in
+    let rest = lines_at-stopped slot number end claims (All-tail Accepted c claims accepted)
+    (All-tail Fit c claims fit) in
     let ends : Held → Held = λ h. ends_if (h.entry == number) end h in
     let s : Claim = stop_claim number slot c in
-    let line : ends (line_of slot c) ≡ line_of slot s = ended_line (c.message.number == number) slot end c (λ same. (its (eqb-true c.message.number number same)).1) in
+    let line : ends (line_of slot c) ≡ line_of slot s = ended_line (c.message.number == number) slot end c
+    (λ same. (its (eqb-true c.message.number number same)).1) in
     let then : is_claimed_at slot s ≡ is_before_end slot (end_of s.message) = claimed_by_end slot s by in
-    let until : is_before_end slot (ends (line_of slot c)).until ≡ is_claimed_at slot s = ap (λ (h : Held). is_before_end slot h.until) line ∙ sym then in
-    let same : started_at slot (ends (line_of slot c)) ≡ line_of slot s = ap (started_at slot) line ∙ line_later slot slot s (omega arith) in
-    let within : is_claimed_at slot s ≡ true → is_claimed_at slot c ≡ true = λ h. elim (cases_eq c.message.number number) [
+    let until : is_before_end slot (ends (line_of slot c)).until ≡ is_claimed_at slot s = ap
+    (λ (h : Held). is_before_end slot h.until) line ∙ sym then in
+    let same : started_at slot (ends (line_of slot c)) ≡ line_of slot s = ap (started_at slot) line
+    ∙ line_later slot slot s (omega arith) in
+    let within : is_claimed_at slot s ≡ true → is_claimed_at slot c ≡ true = λ h. elim
+    (cases_eq c.message.number number) [
       | inl it ↦ (its it).0
       | inr other ↦ ap (is_claimed_at slot) (sym (stop_claim-other number slot c other)) ∙ h
     ] in
-    ap (λ (l : List Held). passed slot (ends_at number end l)) (map_cond (line_of slot) (is_claimed_at slot c) c (filter (is_claimed_at slot) claims))
+    ap (λ (l : List Held). passed slot (ends_at number end l))
+    (map_cond (line_of slot) (is_claimed_at slot c) c (filter (is_claimed_at slot) claims))
     ∙ ap (passed slot) (map_cond ends (is_claimed_at slot c) (line_of slot c) (lines_at slot claims))
-    ∙ one_later (is_claimed_at slot c) (is_claimed_at slot s) slot (ends (line_of slot c)) (line_of slot s) (ends_at number end (lines_at slot claims)) (lines_at slot (stop_claims number slot claims)) within until same rest
-    ∙ sym (map_cond (line_of slot) (is_claimed_at slot s) s (filter (is_claimed_at slot) (stop_claims number slot claims)))
+    ∙ one_later (is_claimed_at slot c) (is_claimed_at slot s) slot (ends (line_of slot c)) (line_of slot s)
+    (ends_at number end (lines_at slot claims)) (lines_at slot (stop_claims number slot claims)) within until same
+    rest
+    ∙ sym (map_cond (line_of slot) (is_claimed_at slot s) s (filter (is_claimed_at slot)
+    (stop_claims number slot claims)))
 
 -- a live message is reserved, and so is one that is accepted now
 pub live_is_claimed : (slot : ℕ) (c : Claim)
@@ -218,7 +258,8 @@ stands_from slot start period requested forward some =
     elim (cases_eq requested 0) [
       | inl always ↦ rw (eq-eqb requested 0 always) tt
       | inr few ↦
-          let past : slot < start + requested * period = let more : 0 < requested * period = mul-pos (omega (arith, few)) some in omega (arith, more, forward) in
+          let past : slot < start + requested * period = let more : 0 < requested * period = mul-pos
+          (omega (arith, few)) some in omega (arith, more, forward) in
           rw (ne_eqb requested 0 few) past
     ]
 
@@ -229,8 +270,13 @@ pub new_is_claimed : (slot : ℕ) (c : Claim)
     → c.message.stop ≡ None
     → is_claimed_at slot c ≡ true
 new_is_claimed slot c accepted forward some standing =
-    let Stands : Option ℕ → Type 0 = λ stop. IsBeforeEnd slot (end_of_reservation c.message.start c.message.period c.message.requested stop) in
-    is_claimed_at-from slot c (omega (arith, accepted), subst Stands (sym standing) (stands_from slot c.message.start c.message.period c.message.requested forward some))
+    let Stands : Option ℕ → Type 0 = λ stop. IsBeforeEnd slot
+    (end_of_reservation c.message.start c.message.period c.message.requested stop) in
+    is_claimed_at-from slot c (
+      omega (arith, accepted),
+      subst Stands (sym standing)
+          (stands_from slot c.message.start c.message.period c.message.requested forward some),
+    )
 
 -- the lines with one claim more
 pub lines_at-new : (slot : ℕ) (claims : List Claim) (c : Claim)
@@ -238,7 +284,8 @@ pub lines_at-new : (slot : ℕ) (claims : List Claim) (c : Claim)
     → lines_at slot (claims ++ c ∷ []) ≡ lines_at slot claims ++ line_of slot c ∷ []
 lines_at-new slot claims c claimed =
     let counted = filter (is_claimed_at slot) claims in
-    ap (map (line_of slot)) (filter-append (is_claimed_at slot) claims (c ∷ []) ∙ ap (λ (b : Bool). counted ++ cond b (c ∷ []) []) claimed)
+    ap (map (line_of slot)) (filter-append (is_claimed_at slot) claims (c ∷ [])
+    ∙ ap (λ (b : Bool). counted ++ cond b (c ∷ []) []) claimed)
     ∙ map-append (line_of slot) counted (c ∷ [])
 
 -- a line as it is at the slot: it counts, and what it waits for is still to come
@@ -247,7 +294,13 @@ IsCurrent slot h = (is_before_end slot h.until ≡ true) × (started_at slot h �
 
 pub lines_are_current : (slot : ℕ) (claims : List Claim) → All (IsCurrent slot) (lines_at slot claims)
 lines_are_current slot claims =
-    All-map (IsCurrent slot) (line_of slot) (filter (is_claimed_at slot) claims) (All-weaker (λ (c : Claim). is_claimed_at slot c ≡ true) (λ (c : Claim). IsCurrent slot (line_of slot c)) (λ c claimed. ((and_parts (nat_le c.accepted slot) (is_before_end slot (end_of c.message)) claimed).1, line_later slot slot c (omega arith))) (filter (is_claimed_at slot) claims) (filter_passes (is_claimed_at slot) claims))
+    All-map (IsCurrent slot) (line_of slot) (filter (is_claimed_at slot) claims)
+    (All-weaker (λ (c : Claim). is_claimed_at slot c ≡ true) (λ (c : Claim). IsCurrent slot (line_of slot c))
+    (λ c claimed. (
+      (and_parts (nat_le c.accepted slot) (is_before_end slot (end_of c.message)) claimed).1,
+      line_later slot slot c (omega arith),
+    )) (filter (is_claimed_at slot) claims)
+    (filter_passes (is_claimed_at slot) claims))
 
 -- what leaves a budget where a reservation ends now: its line
 ends_now : (slot number : ℕ) (lines : List Held)
@@ -260,14 +313,16 @@ ends_now slot number (h ∷ lines) current =
     let left = ends_at number slot lines in
     let ended = ends_if (h.entry == number) slot h in
     let others = remaining_without (Some number) lines in
-    one_later true (not (h.entry == number)) slot ended (started_at slot ended) left others (λ _. refl) (counts (h.entry == number) here.0) refl rest
+    one_later true (not (h.entry == number)) slot ended (started_at slot ended) left others (λ _. refl)
+    (counts (h.entry == number) here.0) refl rest
     ∙ stays (h.entry == number) others here.1
   where
     counts : (b : Bool) → is_before_end slot h.until ≡ true → is_before_end slot (ends_if b slot h).until ≡ not b
     counts true here = le-ltb slot slot (omega arith)
     counts false here = here
 
-    stays : (b : Bool) (others : List Held) → started_at slot h ≡ h → cond (not b) (started_at slot (ends_if b slot h) ∷ others) others ≡ cond (not b) (h ∷ others) others
+    stays : (b : Bool) (others : List Held) → started_at slot h ≡ h
+        → cond (not b) (started_at slot (ends_if b slot h) ∷ others) others ≡ cond (not b) (h ∷ others) others
     stays true others same = refl
     stays false others same = ap (λ (x : Held). x ∷ others) same
 
@@ -281,7 +336,8 @@ ends_later slot number end (h ∷ lines) later current =
     let rest = ends_later slot number end lines later (All-tail (IsCurrent slot) h lines current) in
     let here = All-head (IsCurrent slot) h lines current in
     let ended = ends_if (h.entry == number) end h in
-    one_later true true slot ended ended (ends_at number end lines) (ends_at number end lines) (λ _. refl) (counts (h.entry == number) here.0) (stays (h.entry == number) here.1) rest
+    one_later true true slot ended ended (ends_at number end lines) (ends_at number end lines) (λ _. refl)
+    (counts (h.entry == number) here.0) (stays (h.entry == number) here.1) rest
   where
     counts : (b : Bool) → is_before_end slot h.until ≡ true → is_before_end slot (ends_if b end h).until ≡ true
     counts true here = lt-ltb slot end later
@@ -294,19 +350,31 @@ ends_later slot number end (h ∷ lines) later current =
 ended_holds : (number end : ℕ) (lines : List Held) → sum_by held_now (ends_at number end lines) ≡ sum_by held_now lines
 ended_holds number end [] = refl
 ended_holds number end (h ∷ lines) =
-    omega (arith, ended_holds number end lines, sum_by-cons held_now h lines, sum_by-cons held_now (ends_if (h.entry == number) end h) (ends_at number end lines))
+    omega (
+      arith,
+      ended_holds number end lines,
+      sum_by-cons held_now h lines,
+      sum_by-cons held_now
+          (ends_if (h.entry == number) end h) (ends_at number end lines),
+    )
 
 -- the answer about room beside what stays when a reservation is given an end
 pub room_without : (slot number end load : ℕ) (lines : List Held)
     → slot ≤ end
     → All (IsCurrent slot) lines
-    → answer_for (remaining_without (cond (end == slot) (Some number) None) lines) load ≡ answer_for (passed slot (ends_at number end lines)) load
+    → answer_for (remaining_without (cond (end == slot) (Some number) None) lines) load ≡ answer_for
+    (passed slot (ends_at number end lines)) load
 room_without slot number end load lines after current =
     elim (cases_eq end slot) [
       | inl now ↦
-          let P : ℕ → Type 0 = λ n. answer_for (remaining_without (Some number) lines) load ≡ answer_for (passed slot (ends_at number n lines)) load in
-          rw (eq-eqb end slot now) (subst P (sym now) (ap (λ (l : List Held). answer_for l load) (sym (ends_now slot number lines current))))
+          let P : ℕ → Type 0 = λ n. answer_for (remaining_without (Some number) lines) load ≡ answer_for
+          (passed slot (ends_at number n lines)) load in
+          rw (eq-eqb end slot now) (subst P (sym now) (ap (λ (l : List Held). answer_for l load)
+          (sym (ends_now slot number lines current))))
       | inr later ↦
           let same = ends_later slot number end lines (omega (arith, later, after)) current in
-          rw (ne_eqb end slot later) (sym (ap (λ (l : List Held). answer_for l load) same ∙ ap (λ (n : ℕ). answer_by n (sum_by held_now (ends_at number end lines)) load) (length-map lines (λ (h : Held). ends_if (h.entry == number) end h)) ∙ ap (λ (n : ℕ). answer_by (length lines) n load) (ended_holds number end lines)))
+          rw (ne_eqb end slot later) (sym (ap (λ (l : List Held). answer_for l load) same
+          ∙ ap (λ (n : ℕ). answer_by n (sum_by held_now (ends_at number end lines)) load)
+          (length-map lines (λ (h : Held). ends_if (h.entry == number) end h))
+          ∙ ap (λ (n : ℕ). answer_by (length lines) n load) (ended_holds number end lines)))
     ]

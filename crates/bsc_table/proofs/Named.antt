@@ -1,5 +1,6 @@
 -- Accepted messages found by their pair, and stopped.
-use Rattle.std.proofs.Common.{◌≡◌, ℕ, suc, ◌<◌, ◌==◌, Bool, true, false, not, Option, Some, None, is_some, ◌||◌, ◌+◌, ◌*◌, get_or, List, [], ◌∷◌, map, refl, ap, sym, subst, ◌∙◌, inl, inr, arith}
+use Rattle.std.proofs.Common.{◌≡◌, ℕ, suc, ◌<◌, ◌==◌, Bool, true, false, not, Option, Some, None, is_some, ◌||◌, ◌+◌}
+use Rattle.std.proofs.Common.{◌*◌, get_or, List, [], ◌∷◌, map, refl, ap, sym, subst, ◌∙◌, inl, inr, arith}
 use Rattle.std.specs.List.{All, AllPairs, find}
 use Rattle.std.proofs.lemmas.Bool.{cases_Bool, and_parts, eqb-true, eq-eqb, ne_eqb, false≢true}
 use Rattle.std.proofs.lemmas.Option.{none-some}
@@ -64,17 +65,21 @@ stopped_once-false says slot a fails =
     let same = subst Kept (sym fails) (stop_after-false a.message.stop slot) in
     ap (λ (stop : Option ℕ). record a { message = record (a.message) { stop = stop } }) same
 
-stop_numbered-other : (number slot : ℕ) (a : Accepted) → (a.message.number ≡ number → ⊥) → stop_numbered number slot a ≡ a
+stop_numbered-other : (number slot : ℕ) (a : Accepted) → (a.message.number ≡ number → ⊥)
+    → stop_numbered number slot a ≡ a
 stop_numbered-other number slot a other =
     ap (λ (says : Bool). record a { message = stopped_if says slot a.message }) (ne_eqb a.message.number number other)
 
-stop_numbered-same : (slot : ℕ) (a : Accepted) → a.message.stop ≡ None → stopped_once true slot a ≡ stop_numbered a.message.number slot a
+stop_numbered-same : (slot : ℕ) (a : Accepted) → a.message.stop ≡ None
+    → stopped_once true slot a ≡ stop_numbered a.message.number slot a
 stop_numbered-same slot a standing =
     let says : (a.message.number == a.message.number) ≡ true = eq-eqb a.message.number a.message.number refl in
-    ap (λ (stop : Option ℕ). record a { message = record (a.message) { stop = stop_after stop true slot } }) standing ∙ sym (ap (λ (b : Bool). record a { message = stopped_if b slot a.message }) says)
+    ap (λ (stop : Option ℕ). record a { message = record (a.message) { stop = stop_after stop true slot } }) standing
+    ∙ sym (ap (λ (b : Bool). record a { message = stopped_if b slot a.message }) says)
 
 -- of those after the message of a pair none has that pair
-others : (id serial : ℕ) (a : Accepted) → is_of_pair id serial a ≡ true → (b : Accepted) → OfAnotherPair a b → is_of_pair id serial b ≡ false
+others : (id serial : ℕ) (a : Accepted) → is_of_pair id serial a ≡ true → (b : Accepted) → OfAnotherPair a b
+    → is_of_pair id serial b ≡ false
 others id serial a mine b other =
     let parts = and_parts (a.id == id) (a.serial == serial) mine in
     let same_id : a.id ≡ id = eqb-true a.id id parts.0 in
@@ -83,7 +88,9 @@ others id serial a mine b other =
     subst (λ i. P i serial) same_id (subst (λ s. P a.id s) same_serial other)
 
 -- to stop the message of a pair is to stop that of its number
-pub stopped_by_pair : (id serial slot : ℕ) (all : List Accepted) (a : Accepted) → AllPairs OfAnotherPair all → AllPairs BelowIt all → find (is_of_pair id serial) all ≡ Some a → a.message.stop ≡ None → map (λ x. stopped_once (is_of_pair id serial x) slot x) all ≡ map (stop_numbered a.message.number slot) all
+pub stopped_by_pair : (id serial slot : ℕ) (all : List Accepted) (a : Accepted) → AllPairs OfAnotherPair all
+    → AllPairs BelowIt all → find (is_of_pair id serial) all ≡ Some a → a.message.stop ≡ None
+    → map (λ x. stopped_once (is_of_pair id serial x) slot x) all ≡ map (stop_numbered a.message.number slot) all
 stopped_by_pair id serial slot [] a once rising e standing = refl
 stopped_by_pair id serial slot (x ∷ xs) a once rising e standing =
     let p : Accepted → Bool = is_of_pair id serial in
@@ -102,13 +109,18 @@ stopped_by_pair id serial slot (x ∷ xs) a once rising e standing =
           let kept = stop_numbered-other a.message.number slot y (λ same. omega (arith, above k d h)) in
           alone ∙ sym kept) in
           let first : by_pair x ≡ by_number x =
-          ap (λ (b : Bool). stopped_once b slot x) passes ∙ (let P : Accepted → Type 0 = λ y. stopped_once true slot y ≡ by_number y in subst P (sym here) (stop_numbered-same slot a standing)) in
+          ap (λ (b : Bool). stopped_once b slot x) passes ∙ (let P : Accepted
+          → Type 0 = λ y. stopped_once true slot y ≡ by_number y in subst P (sym here)
+          (stop_numbered-same slot a standing)) in
           cc
       | inr fails ↦
           let found : find p xs ≡ Some a = rw fails at e in
-          let above : x.message.number < a.message.number = All-find (BelowIt x) p xs a (AllPairs-head BelowIt x xs rising) found in
-          let rest = stopped_by_pair id serial slot xs a (AllPairs-tail OfAnotherPair x xs once) (AllPairs-tail BelowIt x xs rising) found standing in
-          let first : by_pair x ≡ by_number x = stopped_once-false (p x) slot x fails ∙ sym (stop_numbered-other a.message.number slot x (λ same. omega arith)) in
+          let above : x.message.number < a.message.number = All-find (BelowIt x) p xs a
+          (AllPairs-head BelowIt x xs rising) found in
+          let rest = stopped_by_pair id serial slot xs a (AllPairs-tail OfAnotherPair x xs once)
+          (AllPairs-tail BelowIt x xs rising) found standing in
+          let first : by_pair x ≡ by_number x = stopped_once-false (p x) slot x fails
+          ∙ sym (stop_numbered-other a.message.number slot x (λ same. omega arith)) in
           cc
     ]
 
@@ -119,5 +131,6 @@ standing_of (Some s) h = absurd (false≢true h)
 
 pub live_is_standing : (slot : ℕ) (m : Message) → is_live slot m ≡ true → m.stop ≡ None
 live_is_standing slot m live =
-    let parts = and_parts (not (is_some m.stop)) ((m.requested == 0) || nat_lt slot (m.start + m.requested * m.period)) live in
+    let parts = and_parts (not (is_some m.stop)) ((m.requested == 0) || nat_lt slot (m.start + m.requested * m.period))
+    live in
     standing_of m.stop parts.0

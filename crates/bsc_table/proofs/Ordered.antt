@@ -9,7 +9,8 @@ use Rattle.cbsp_wire.specs.declared.message.Cell.{Cell}
 use Rattle.cbsp_wire.specs.declared.message.Message.{Message}
 use Rattle.cbsp_wire.specs.declared.message.Message.TheVariants as messages
 use Rattle.cbsp_wire.specs.Meaning.{IsMessage}
-use Rattle.cbsp_wire.specs.Range.{is_writable, are_values, are_contents, are_numbers, are_all_cells, is_page_count, is_period, is_coding, is_there_if, is_full, passes}
+use Rattle.cbsp_wire.specs.Range.{is_writable, are_values, are_contents, are_numbers, are_all_cells, is_page_count}
+use Rattle.cbsp_wire.specs.Range.{is_period, is_coding, is_there_if, is_full, passes}
 use Rattle.cbsp_wire.specs.Table.{need_of}
 use Rattle.cbsp_wire.specs.Value.{Fields, fields_of}
 use Rattle.cbsp_wire.specs.declared.kind.Kind.TheVariants as kinds
@@ -23,7 +24,10 @@ second_of_four : (a b c d : Bool) → (a && b && c && d) ≡ true → b ≡ true
 second_of_four a b c d all = (and_parts a b ((and_parts (a && b) c ((and_parts (a && b && c) d all).0)).0)).1
 
 -- what its values are
-pub broadcastable : (id new : ℕ) (old : Option ℕ) (cells : List Cell) (channel category : Option ℕ) (period broadcasts : ℕ) (dcs : Dcs) (contents : List Content) → is_writable (messages.Write id new old cells channel category period broadcasts dcs contents) ≡ true → IsBroadcastable period dcs contents
+pub broadcastable : (id new : ℕ) (old : Option ℕ) (cells : List Cell) (channel category : Option ℕ)
+    (period broadcasts : ℕ) (dcs : Dcs) (contents : List Content)
+    → is_writable (messages.Write id new old cells channel category period broadcasts dcs contents) ≡ true
+    → IsBroadcastable period dcs contents
 broadcastable id new old cells channel category period broadcasts dcs contents writable =
     let f : Fields = fields_of (messages.Write id new old cells channel category period broadcasts dcs contents) in
     let n : ℕ = length contents in
@@ -47,15 +51,22 @@ broadcastable id new old cells channel category period broadcasts dcs contents w
     record {
       some_pages = leb-true 1 n range.0;
       few_pages = leb-true n 15 range.1;
-      used = λ k d h. leb-true (get_or contents k d).used 82 (AllPass-from_list_all (λ (c : Content). leb c.used 82) contents said.1 k d h);
+      used = λ k d h. leb-true (get_or contents k d).used 82 (AllPass-from_list_all (λ (c : Content). leb c.used 82)
+          contents said.1 k d h);
       some_period = leb-true 1 period times.0;
       short_period = leb-true period 1024 times.1;
       coded = second_of_four (is_period period) coded in_category in_channel numbers;
-      full = λ k d h. eqb-true (length (get_or contents k d).octets) 82 (AllPass-from_list_all is_full contents (and_parts (are_values f && has_cells && has_failures) all_full writable).1 k d h);
+      full = λ k d h. eqb-true (length (get_or contents k d).octets) 82
+          (AllPass-from_list_all is_full contents (and_parts (are_values f && has_cells && has_failures) all_full
+          writable).1 k d h);
     }
 
 -- of a message that octets mean
-pub meant_broadcastable : (octets : List ℕ) (m : Message) (id new : ℕ) (old : Option ℕ) (cells : List Cell) (channel category : Option ℕ) (period broadcasts : ℕ) (dcs : Dcs) (contents : List Content) → m ≡ messages.Write id new old cells channel category period broadcasts dcs contents → IsMessage octets m → IsBroadcastable period dcs contents
+pub meant_broadcastable : (octets : List ℕ) (m : Message) (id new : ℕ) (old : Option ℕ) (cells : List Cell)
+    (channel category : Option ℕ) (period broadcasts : ℕ) (dcs : Dcs) (contents : List Content)
+    → m ≡ messages.Write id new old cells channel category period broadcasts dcs contents → IsMessage octets m
+    → IsBroadcastable period dcs contents
 meant_broadcastable octets m id new old cells channel category period broadcasts dcs contents same meant =
     let Writable : Message → Type 0 = λ x. is_writable x ≡ true in
-    broadcastable id new old cells channel category period broadcasts dcs contents (subst Writable same (IsMessage-writable octets m meant))
+    broadcastable id new old cells channel category period broadcasts dcs contents
+    (subst Writable same (IsMessage-writable octets m meant))

@@ -1,5 +1,6 @@
 -- The place at which a message may take over from a live one, as it is looked up among the messages that are kept.
-use Rattle.std.proofs.Common.{◌≡◌, ℕ, ◌<◌, ◌==◌, ◌&&◌, Bool, true, false, cond, Option, Some, None, is_some, List, [], ◌∷◌, refl, ap, sym, ◌∙◌, arith}
+use Rattle.std.proofs.Common.{◌≡◌, ℕ, ◌<◌, ◌==◌, ◌&&◌, Bool, true, false, cond, Option, Some, None, is_some, List, []}
+use Rattle.std.proofs.Common.{◌∷◌, refl, ap, sym, ◌∙◌, arith}
 use Rattle.std.specs.List.{Contains, find}
 use Rattle.std.specs.Option.{option_map}
 use Rattle.std.proofs.lemmas.Bool.{false≢true, and_parts, eqb-true, eq-eqb, ne_eqb}
@@ -27,7 +28,8 @@ abbrev pub is_reserved_as : ℕ → Accepted → Bool
 is_reserved_as number a = (a.message.number == number) && (layer a.message == 0)
 
 numbered_left : (of_old slot number : ℕ) (all : List Accepted)
-    → numbered (Some number) (stop_claims of_old slot (claims_of all)) ≡ option_map (λ a. stop_claim of_old slot (claim_of a)) (find (is_reserved_as number) all)
+    → numbered (Some number) (stop_claims of_old slot (claims_of all)) ≡ option_map
+    (λ a. stop_claim of_old slot (claim_of a)) (find (is_reserved_as number) all)
 numbered_left of_old slot number [] = refl
 numbered_left of_old slot number (a ∷ all) =
     one (a.message.number == number) refl (layer a.message == 0) (numbered_left of_old slot number all)
@@ -35,21 +37,28 @@ numbered_left of_old slot number (a ∷ all) =
     one : (named : Bool)
         → (a.message.number == number) ≡ named
         → (front : Bool)
-        → numbered (Some number) (stop_claims of_old slot (claims_of all)) ≡ option_map (λ x. stop_claim of_old slot (claim_of x)) (find (is_reserved_as number) all)
-        → numbered (Some number) (stop_claims of_old slot (cond front (claim_of a ∷ claims_of all) (claims_of all))) ≡ option_map (λ x. stop_claim of_old slot (claim_of x)) (cond (named && front) (Some a) (find (is_reserved_as number) all))
-    one true e true rest = ap (λ (b : Bool). cond b (Some (stop_claim of_old slot (claim_of a))) (numbered (Some number) (stop_claims of_old slot (claims_of all)))) e
+        → numbered (Some number) (stop_claims of_old slot (claims_of all)) ≡ option_map
+        (λ x. stop_claim of_old slot (claim_of x)) (find (is_reserved_as number) all)
+        → numbered (Some number) (stop_claims of_old slot (cond front (claim_of a ∷ claims_of all) (claims_of all))) ≡
+        option_map (λ x. stop_claim of_old slot (claim_of x))
+        (cond (named && front) (Some a) (find (is_reserved_as number) all))
+    one true e true rest = ap (λ (b : Bool). cond b (Some (stop_claim of_old slot (claim_of a)))
+        (numbered (Some number) (stop_claims of_old slot (claims_of all)))) e
     one true e false rest = rest
-    one false e true rest = ap (λ (b : Bool). cond b (Some (stop_claim of_old slot (claim_of a))) (numbered (Some number) (stop_claims of_old slot (claims_of all)))) e ∙ rest
+    one false e true rest = ap (λ (b : Bool). cond b (Some (stop_claim of_old slot (claim_of a)))
+        (numbered (Some number) (stop_claims of_old slot (claims_of all)))) e ∙ rest
     one false e false rest = rest
 
 -- what is looked up, by the number of the message ahead
 ahead_in : (r : Record) (old : Accepted) (number load : ℕ) (found : Option Accepted)
     → ahead_of r.clock (claim_of old) ≡ Some number
     → find (is_reserved_as number) (accepted_in r.log) ≡ found
-    → handover (left_by r old) r.clock (claim_of old) load ≡ place_behind r.clock load (option_map (λ a. stop_claim old.message.number r.clock (claim_of a)) found)
+    → handover (left_by r old) r.clock (claim_of old) load ≡ place_behind r.clock load
+    (option_map (λ a. stop_claim old.message.number r.clock (claim_of a)) found)
 ahead_in r old number load found ahead e =
     ap (λ (o : Option ℕ). place_behind r.clock load (numbered o (left_by r old))) ahead
-    ∙ ap (place_behind r.clock load) (numbered_left old.message.number r.clock number (accepted_in r.log) ∙ ap (option_map (λ (a : Accepted). stop_claim old.message.number r.clock (claim_of a))) e)
+    ∙ ap (place_behind r.clock load) (numbered_left old.message.number r.clock number (accepted_in r.log)
+    ∙ ap (option_map (λ (a : Accepted). stop_claim old.message.number r.clock (claim_of a))) e)
 
 -- where there is none, there is no place
 pub none_ahead : (r : Record) (old : Accepted) (number load : ℕ)
@@ -72,7 +81,8 @@ pub found_lasts : (r : Record) (number : ℕ) (a : Accepted)
     → find (is_reserved_as number) (accepted_in r.log) ≡ Some a
     → 0 < a.message.period
 found_lasts r number a legal found =
-    (All-contains HasLoad (accepted_in r.log) a (IsSound-legal r legal).loaded (number_found number (accepted_in r.log) a found).0).1
+    (All-contains HasLoad (accepted_in r.log) a (IsSound-legal r legal).loaded
+    (number_found number (accepted_in r.log) a found).0).1
 
 -- the message ahead was stopped, if a place behind it can be taken over
 is_stopped_there : (r : Record) (old : Accepted) (number load : ℕ) (a : Accepted) (place : Place)
@@ -90,11 +100,17 @@ is_stopped_there r old number load a place legal live front ahead found over =
     let p : Claim = f (claim_of a) in
     let its = number_found number (accepted_in r.log) a found in
     let here = its_claim (accepted_in r.log) a its.0 its.2 in
-    let there : Contains (left_by r old) (f (claim_of a)) = (here.0, omega (arith, here.1, length-map claims f), get_or-map f claims here.0 (claim_of a) (f (claim_of a)) here.1 ∙ ap f here.2) in
+    let there : Contains (left_by r old) (f (claim_of a)) = (
+      here.0,
+      omega (arith, here.1, length-map claims f),
+      get_or-map f claims here.0 (claim_of a) (f (claim_of a)) here.1 ∙ ap f here.2,
+    ) in
     let took = taken (left_by r old) r.clock load (ahead_of r.clock (claim_of old)) place over in
-    let free = is_free claims r.clock load (claim_of old) place (IsSound-legal r legal).order (its_claim (accepted_in r.log) old live.there front) live.live over in
+    let free = is_free claims r.clock load (claim_of old) place (IsSound-legal r legal).order
+    (its_claim (accepted_in r.log) old live.there front) live.live over in
     let same : number ≡ took.p.message.number = same_Some number took.p.message.number (sym ahead ∙ took.number) in
-    let is : free.p ≡ f (claim_of a) = by_number (left_by r old) free.p (f (claim_of a)) (left_in_order r old legal live).rising free.there there (sym free.named ∙ took.named ∙ sym same ∙ sym its.1) in
+    let is : free.p ≡ f (claim_of a) = by_number (left_by r old) free.p (f (claim_of a))
+    (left_in_order r old legal live).rising free.there there (sym free.named ∙ took.named ∙ sym same ∙ sym its.1) in
     ap (λ (c : Claim). is_some c.message.stop) (sym is) ∙ free.ahead.stopped
 
 -- so the place is that behind it, by the end that its stop gives it
@@ -104,7 +120,8 @@ pub place_ahead : (r : Record) (old : Accepted) (number load : ℕ) (k : Kept)
     → layer old.message ≡ 0
     → ahead_of r.clock (claim_of old) ≡ Some number
     → find (is_reserved_as number) (accepted_in r.log) ≡ Some (accepted_of k)
-    → place_before r.clock load (claim_of (accepted_of (kept_stopped old.message.number r.clock k))) (stopped_end (kept_stopped old.message.number r.clock k)) ≡ handover (left_by r old) r.clock (claim_of old) load
+    → place_before r.clock load (claim_of (accepted_of (kept_stopped old.message.number r.clock k)))
+    (stopped_end (kept_stopped old.message.number r.clock k)) ≡ handover (left_by r old) r.clock (claim_of old) load
 place_ahead r old number load k legal live front ahead found =
     let s : Kept = kept_stopped old.message.number r.clock k in
     let p : Claim = claim_of (accepted_of s) in
@@ -123,16 +140,19 @@ place_ahead r old number load k legal live front ahead found =
     none_there : (o : Option Place) → at_end (end_of p.message) ≡ o → s.stop ≡ None → None ≡ o
     none_there None e stands = refl
     none_there (Some place) e stands =
-        let stopped = is_stopped_there r old number load (accepted_of k) place legal live front ahead found (ahead_in r old number load (Some (accepted_of k)) ahead found ∙ e) in
+        let stopped = is_stopped_there r old number load (accepted_of k) place legal live front ahead found
+        (ahead_in r old number load (Some (accepted_of k)) ahead found ∙ e) in
         absurd (false≢true (sym (ap (λ (o : Option ℕ). is_some o) stands) ∙ stopped))
 
     by_stop : (stop : Option ℕ) → s.stop ≡ stop → at_end (stopped_end s) ≡ at_end (end_of p.message)
     by_stop (Some t) e =
-        let first = ap (λ (o : Option ℕ). at_end (option_map (λ (stop : ℕ). end_of_stopped s.start s.period stop) o)) e in
+        let first = ap (λ (o : Option ℕ). at_end (option_map (λ (stop : ℕ). end_of_stopped s.start s.period stop) o)) e
+        in
         let second = ap (λ (o : Option ℕ). at_end (end_of_reservation s.start s.period s.broadcasts o)) e in
         first ∙ sym second
     by_stop None e =
-        let first = ap (λ (o : Option ℕ). at_end (option_map (λ (stop : ℕ). end_of_stopped s.start s.period stop) o)) e in
+        let first = ap (λ (o : Option ℕ). at_end (option_map (λ (stop : ℕ). end_of_stopped s.start s.period stop) o)) e
+        in
         first ∙ none_there (at_end (end_of p.message)) refl e
 
 -- of a message that isn't background the place is the one of the claims, and of one that is there is none

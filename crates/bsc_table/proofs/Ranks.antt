@@ -1,9 +1,11 @@
 -- Background messages and the others: what their categories say of their layers, and which of them claim something.
-use Rattle.std.proofs.Common.{◌≡◌, ℕ, zero, suc, ◌<◌, ◌==◌, Bool, true, false, cond, not, List, [], ◌∷◌, ◌++◌, map, filter, get_or, Some, refl, ap, sym, subst, ◌∙◌, inl, inr, arith}
+use Rattle.std.proofs.Common.{◌≡◌, ℕ, zero, suc, ◌<◌, ◌==◌, Bool, true, false, cond, not, List, [], ◌∷◌, ◌++◌, map}
+use Rattle.std.proofs.Common.{filter, get_or, Some, refl, ap, sym, subst, ◌∙◌, inl, inr, arith}
 use Rattle.std.specs.List.{All, AllPairs, Contains}
 use Rattle.std.proofs.lemmas.Bool.{cases_Bool, eqb-true, eq-eqb, ne_eqb, false≢true}
 use Rattle.std.proofs.lemmas.List.{append-nil, map-append, get_or-map, length-map}
-use Rattle.std.proofs.lemmas.List.Elements.{All-filter, All-head, All-tail, All-contains_itself, filter-append, filter_passes}
+use Rattle.std.proofs.lemmas.List.Elements.{All-filter, All-head, All-tail, All-contains_itself, filter-append}
+use Rattle.std.proofs.lemmas.List.Elements.{filter_passes}
 use Rattle.scheduler.specs.Air.{layer, layer_of}
 use Rattle.bsc_table.specs.declared.command.Category.{Category}
 use Rattle.bsc_table.specs.declared.command.Category.TheVariants.{High, Normal, Background}
@@ -45,7 +47,8 @@ Contains-filter p (y ∷ xs) x (zero, within, is) passes =
 Contains-filter p (y ∷ xs) x (suc k, within, is) passes =
     let rest = Contains-filter p xs x (k, omega arith, is) passes in
     elim (cases_Bool (p y)) [
-      | inl first ↦ subst (λ (b : Bool). Contains (cond b (y ∷ filter p xs) (filter p xs)) x) (sym first) (suc rest.0, omega (arith, rest.1), rest.2)
+      | inl first ↦ subst (λ (b : Bool). Contains (cond b (y ∷ filter p xs) (filter p xs)) x) (sym first)
+          (suc rest.0, omega (arith, rest.1), rest.2)
       | inr fails ↦ subst (λ (b : Bool). Contains (cond b (y ∷ filter p xs) (filter p xs)) x) (sym fails) rest
     ]
 
@@ -54,8 +57,12 @@ abbrev pub all_claims : List Accepted → List Claim
 all_claims all = map claim_of all
 
 pub its_place : (all : List Accepted) (a : Accepted) → Contains all a → Contains (all_claims all) (claim_of a)
-its_place all a here =
-    (here.0, omega (arith, here.1, length-map all claim_of), get_or-map claim_of all here.0 a (claim_of a) here.1 ∙ ap claim_of here.2)
+its_place all a here = (
+  here.0,
+  omega (arith, here.1, length-map all claim_of),
+  get_or-map claim_of all here.0 a (claim_of a) here.1
+      ∙ ap claim_of here.2,
+)
 
 pub its_claim : (all : List Accepted) (a : Accepted)
     → Contains all a
@@ -65,13 +72,22 @@ its_claim all a here front =
     Contains-filter reserves (all_claims all) (claim_of a) (its_place all a here) (eq-eqb (layer a.message) 0 front)
 
 pub its_place_of : (all : List Accepted) → All (Contains (all_claims all)) (claims_of all)
-its_place_of all = All-filter reserves (Contains (all_claims all)) (all_claims all) (All-contains_itself (all_claims all))
+its_place_of all = All-filter reserves (Contains (all_claims all)) (all_claims all)
+    (All-contains_itself (all_claims all))
 
 pub claims_rise : (all : List Accepted)
     → AllPairs BelowIt all
     → AllPairs (λ x y. x.message.number < y.message.number) (all_claims all)
 claims_rise all rising = λ i j d before within.
-    let default : Accepted = record { id = 0; serial = 0; accepted = 0; behind = d.behind; excess = 0; message = d.message } in
+    let default : Accepted = record {
+      id = 0;
+      serial = 0;
+      accepted = 0;
+      behind = d.behind;
+      excess = 0;
+      message =
+          d.message;
+    } in
     let long = length-map all claim_of in
     let first = ap (λ (c : Claim). c.message.number) (get_or-map claim_of all i default d (omega arith)) in
     let second = ap (λ (c : Claim). c.message.number) (get_or-map claim_of all j default d (omega arith)) in
@@ -83,14 +99,16 @@ pub same_claim : (all : List Accepted) (a : Accepted)
     → Contains all a
     → All (λ c. c.message.number ≡ a.message.number → c ≡ claim_of a) (claims_of all)
 same_claim all a rising here = λ k d within. λ same.
-    by_number (all_claims all) (get_or (claims_of all) k d) (claim_of a) (claims_rise all rising) (its_place_of all k d within) (its_place all a here) same
+    by_number (all_claims all) (get_or (claims_of all) k d) (claim_of a) (claims_rise all rising)
+    (its_place_of all k d within) (its_place all a here) same
 
 -- what changes no claim changes no list of them
 map_same : (f : Claim → Claim) (claims : List Claim) → All (λ c. f c ≡ c) claims → map f claims ≡ claims
 map_same f [] all = refl
 map_same f (c ∷ claims) all =
     let Same : Claim → Type 0 = λ x. f x ≡ x in
-    ap (λ (x : Claim). x ∷ map f claims) (All-head Same c claims all) ∙ ap (λ (l : List Claim). c ∷ l) (map_same f claims (All-tail Same c claims all))
+    ap (λ (x : Claim). x ∷ map f claims) (All-head Same c claims all)
+    ∙ ap (λ (l : List Claim). c ∷ l) (map_same f claims (All-tail Same c claims all))
 
 -- a stop of a background message changes no claim
 pub same_claims : (number slot : ℕ) (all : List Accepted) (a : Accepted)
@@ -110,7 +128,8 @@ same_claims number slot all a rising here named back =
       | inr other ↦ unstopped c (c.message.number == number) other
     ])
   where
-    unstopped : (c : Claim) (says : Bool) → says ≡ false → (record c { message = record (c.message) { stop = cond says (Some slot) c.message.stop } }) ≡ c
+    unstopped : (c : Claim) (says : Bool) → says ≡ false → (record c
+        { message = record (c.message) { stop = cond says (Some slot) c.message.stop } }) ≡ c
     unstopped c true e = absurd (false≢true (sym e))
     unstopped c false e = refl
 
@@ -124,10 +143,12 @@ pub claims_more_front : (all : List Accepted) (a : Accepted)
     → layer a.message ≡ 0
     → claims_of (all ++ a ∷ []) ≡ claims_of all ++ claim_of a ∷ []
 claims_more_front all a front =
-    claims_more all a ∙ ap (λ (b : Bool). claims_of all ++ cond b (claim_of a ∷ []) []) (eq-eqb (layer a.message) 0 front)
+    claims_more all a ∙ ap (λ (b : Bool). claims_of all ++ cond b (claim_of a ∷ []) [])
+    (eq-eqb (layer a.message) 0 front)
 
 pub claims_more_back : (all : List Accepted) (a : Accepted)
     → (layer a.message ≡ 0 → ⊥)
     → claims_of (all ++ a ∷ []) ≡ claims_of all
 claims_more_back all a back =
-    claims_more all a ∙ ap (λ (b : Bool). claims_of all ++ cond b (claim_of a ∷ []) []) (ne_eqb (layer a.message) 0 back) ∙ append-nil (claims_of all)
+    claims_more all a ∙ ap (λ (b : Bool). claims_of all ++ cond b (claim_of a ∷ []) [])
+    (ne_eqb (layer a.message) 0 back) ∙ append-nil (claims_of all)

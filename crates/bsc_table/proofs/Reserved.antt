@@ -1,18 +1,21 @@
 -- Reservations of messages, slot by slot.
-use Rattle.std.proofs.Common.{◌≡◌, ℕ, ◌+◌, ◌-◌, ◌*◌, ◌≤◌, ◌<◌, Bool, true, false, cond, List, [], ◌∷◌, map, filter, sum_by, Option, Some, None, inl, inr, ◌⊎◌, refl, ap, subst, arith}
+use Rattle.std.proofs.Common.{◌≡◌, ℕ, ◌+◌, ◌-◌, ◌*◌, ◌≤◌, ◌<◌, Bool, true, false, cond, List, [], ◌∷◌, map, filter}
+use Rattle.std.proofs.Common.{sum_by, Option, Some, None, inl, inr, ◌⊎◌, refl, ap, subst, arith}
 use Rattle.std.proofs.lemmas.List.Sums.{sum_by-cons}
 use Rattle.std.proofs.lemmas.Bool.{eq-eqb, cases_eq, ne_eqb}
 use Rattle.std.proofs.Math.Nat.{mul-le-mul_right}
 use Rattle.admission.specs.declared.measure.TheConstants.{SCALE}
 use Rattle.admission.specs.Load.{load_of}
-use Rattle.admission.specs.Reservation.{Reservation, IsBeforeEnd, IsReservedAt, is_reserved_at, loads_at, natural_end, end_of_reservation}
+use Rattle.admission.specs.Reservation.{Reservation, IsBeforeEnd, IsReservedAt, is_reserved_at, loads_at, natural_end}
+use Rattle.admission.specs.Reservation.{end_of_reservation}
 use Rattle.admission.proofs.Reservations.{is_reserved_at-from, end_of_stopped-covers}
 use Rattle.scheduler.specs.Message.{Message, release, due, HasBroadcast, IsBeforeStop}
 use Rattle.bsc_table.proofs.Sums.{total, total-at_least, total-at_most, exchange}
 use Rattle.bsc_table.specs.Guarantee.{reservation_of, LoadsFit, ReservationsCoverBroadcasts}
 
 -- a broadcast that was requested is due by the end of what runs out
-before_natural_end : (start period requested j slot : ℕ) → (requested ≡ 0) ⊎ (j < requested) → slot < start + (j + 1) * period → IsBeforeEnd slot (natural_end start period requested)
+before_natural_end : (start period requested j slot : ℕ) → (requested ≡ 0) ⊎ (j < requested)
+    → slot < start + (j + 1) * period → IsBeforeEnd slot (natural_end start period requested)
 before_natural_end start period requested j slot has before =
     elim (cases_eq requested 0) [
       | inl always ↦ rw (eq-eqb requested 0 always) tt
@@ -23,7 +26,9 @@ before_natural_end start period requested j slot has before =
     ]
 
 -- the same where it may have been stopped
-before_end : (start period requested j slot : ℕ) (stop : Option ℕ) → (requested ≡ 0) ⊎ (j < requested) → IsBeforeStop (start + j * period) stop → start + j * period ≤ slot → slot < start + (j + 1) * period → IsBeforeEnd slot (end_of_reservation start period requested stop)
+before_end : (start period requested j slot : ℕ) (stop : Option ℕ) → (requested ≡ 0) ⊎ (j < requested)
+    → IsBeforeStop (start + j * period) stop → start + j * period ≤ slot → slot < start + (j + 1) * period
+    → IsBeforeEnd slot (end_of_reservation start period requested stop)
 before_end start period requested j slot None has standing released before =
     before_natural_end start period requested j slot has before
 before_end start period requested j slot (Some stop) has standing released before =
@@ -39,12 +44,14 @@ reservations_cover_broadcasts m j slot has standing released before =
 abbrev pub load_at : Message → ℕ → ℕ
 load_at m slot = cond (is_reserved_at slot (reservation_of m)) (load_of m.pages m.period) 0
 
-pub load_at-reserved : (m : Message) (slot : ℕ) → IsReservedAt (reservation_of m) slot → load_at m slot ≡ load_of m.pages m.period
+pub load_at-reserved : (m : Message) (slot : ℕ) → IsReservedAt (reservation_of m) slot
+    → load_at m slot ≡ load_of m.pages m.period
 load_at-reserved m slot reserved =
     ap (λ (b : Bool). cond b (load_of m.pages m.period) 0) (is_reserved_at-from slot (reservation_of m) reserved)
 
 -- over a broadcast that was released before its message's stop, the load is reserved in each slot
-pub reserved_over : (m : Message) (j : ℕ) → HasBroadcast m j → IsBeforeStop (release m j) m.stop → total (load_at m) (release m j) + load_of m.pages m.period * m.period ≤ total (load_at m) (due m j)
+pub reserved_over : (m : Message) (j : ℕ) → HasBroadcast m j → IsBeforeStop (release m j) m.stop
+    → total (load_at m) (release m j) + load_of m.pages m.period * m.period ≤ total (load_at m) (due m j)
 reserved_over m j has standing =
     let reach : release m j + m.period ≡ due m j = omega arith in
     let load : ℕ = load_of m.pages m.period in
@@ -57,18 +64,29 @@ reserved_over m j has standing =
     at_least x y e = omega arith
 
 -- an element that is kept adds its own
-sum_by-kept : {X : Type 0} (f : X → ℕ) (b : Bool) (x : X) (xs : List X) → sum_by f (cond b (x ∷ xs) xs) ≡ cond b (f x) 0 + sum_by f xs
+sum_by-kept : {X : Type 0} (f : X → ℕ) (b : Bool) (x : X) (xs : List X)
+    → sum_by f (cond b (x ∷ xs) xs) ≡ cond b (f x) 0 + sum_by f xs
 sum_by-kept f true x xs = sum_by-cons f x xs
 sum_by-kept f false x xs = omega arith
 
 -- the loads reserved at a slot, message by message
-pub loads_by_message : (messages : List Message) (slot : ℕ) → loads_at (map reservation_of messages) slot ≡ sum_by (λ m. load_at m slot) messages
+pub loads_by_message : (messages : List Message) (slot : ℕ) → loads_at (map reservation_of messages) slot ≡ sum_by
+    (λ m. load_at m slot) messages
 loads_by_message [] slot = refl
 loads_by_message (m ∷ messages) slot =
-    omega (arith, loads_by_message messages slot, sum_by-cons (λ o. load_at o slot) m messages, sum_by-kept (λ (r : Reservation). r.load) (is_reserved_at slot (reservation_of m)) (reservation_of m) (filter (is_reserved_at slot) (map reservation_of messages)))
+    omega (
+      arith,
+      loads_by_message messages slot,
+      sum_by-cons (λ o. load_at o slot) m messages,
+      sum_by-kept
+          (λ (r : Reservation). r.load) (is_reserved_at slot (reservation_of m)) (reservation_of m)
+          (filter (is_reserved_at slot) (map reservation_of messages)),
+    )
 
 -- where the loads of each slot sum to at most scale, those of a range do to at most so many times that
-pub loads_grow : (scale : ℕ) (messages : List Message) (from to : ℕ) → from ≤ to → ((slot : ℕ) → sum_by (λ m. load_at m slot) messages ≤ scale) → sum_by (λ o. total (load_at o) to) messages ≤ sum_by (λ o. total (load_at o) from) messages + scale * (to - from)
+pub loads_grow : (scale : ℕ) (messages : List Message) (from to : ℕ) → from ≤ to
+    → ((slot : ℕ) → sum_by (λ m. load_at m slot) messages ≤ scale)
+    → sum_by (λ o. total (load_at o) to) messages ≤ sum_by (λ o. total (load_at o) from) messages + scale * (to - from)
 loads_grow scale messages from to forward fits =
     let f = λ (t : ℕ). sum_by (λ (o : Message). load_at o t) messages in
     let reach : from + (to - from) ≡ to = omega arith in
@@ -79,5 +97,6 @@ loads_grow scale messages from to forward fits =
     omega arith
 
 -- what fits at each slot, message by message
-pub fits_by_message : (messages : List Message) → LoadsFit messages → (slot : ℕ) → sum_by (λ m. load_at m slot) messages ≤ SCALE
+pub fits_by_message : (messages : List Message) → LoadsFit messages → (slot : ℕ)
+    → sum_by (λ m. load_at m slot) messages ≤ SCALE
 fits_by_message messages fit slot = omega (arith, fit slot, loads_by_message messages slot)

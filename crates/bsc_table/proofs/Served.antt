@@ -1,6 +1,7 @@
 -- Admitted load is a guarantee: a broadcast that lacks a page would leave more demand in its busy period than the loads
 -- that are reserved there allow.
-use Rattle.std.proofs.Common.{◌≡◌, ℕ, ◌+◌, ◌-◌, ◌*◌, ◌≤◌, ◌<◌, Bool, true, cond, List, length, get_or, min, sum_by, Option, inl, inr, refl, sym, ap, subst, ◌∙◌, arith}
+use Rattle.std.proofs.Common.{◌≡◌, ℕ, ◌+◌, ◌-◌, ◌*◌, ◌≤◌, ◌<◌, Bool, true, cond, List, length, get_or, min, sum_by}
+use Rattle.std.proofs.Common.{Option, inl, inr, refl, sym, ap, subst, ◌∙◌, arith}
 use Rattle.std.specs.List.{All, AllPairs}
 use Rattle.std.proofs.lemmas.Bool.{cases_lt, eq-eqb, eqb-true}
 use Rattle.std.proofs.lemmas.List.{get_or_default}
@@ -9,7 +10,8 @@ use Rattle.std.proofs.lemmas.List.Sums.{get_or-le-sum_by}
 use Rattle.scheduler.specs.Message.{Message, release, due}
 use Rattle.scheduler.specs.Air.{Air, airs, pages_aired, IsPending}
 use Rattle.scheduler.proofs.Rule.{pages_aired-at_most}
-use Rattle.bsc_table.specs.Guarantee.{LoadsFit, IsUncut, AirsOneWithin, AdmittedLoadIsAGuarantee, AdmittedBroadcastsAreWhole}
+use Rattle.bsc_table.specs.Guarantee.{LoadsFit, IsUncut, AirsOneWithin, AdmittedLoadIsAGuarantee}
+use Rattle.bsc_table.specs.Guarantee.{AdmittedBroadcastsAreWhole}
 use Rattle.bsc_table.proofs.Sums.{total, total-at_least, sum_by-plus, exchange, sum_by-le_more}
 use Rattle.bsc_table.proofs.Broadcasts.{uses, pages_before, before_stop-up_to}
 use Rattle.bsc_table.proofs.Inside.{IsServed, AiredInside, aired_inside, aired_short}
@@ -18,18 +20,24 @@ use Rattle.bsc_table.proofs.Demand.{count_inside, demand_is_no_more_than_the_slo
 use Rattle.bsc_table.proofs.Busy.{lack_means_a_busy_period}
 
 -- in a list with rising numbers, one number is one message
-same_message : (messages : List Message) (i k : ℕ) (d e : Message) → AllPairs (λ a b. a.number < b.number) messages → i < length messages → k < length messages → (get_or messages i d).number ≡ (get_or messages k e).number → get_or messages i d ≡ get_or messages k e
+same_message : (messages : List Message) (i k : ℕ) (d e : Message) → AllPairs (λ a b. a.number < b.number) messages
+    → i < length messages → k < length messages → (get_or messages i d).number ≡ (get_or messages k e).number
+    → get_or messages i d ≡ get_or messages k e
 same_message messages i k d e rising here there same =
     let other = get_or_default messages k e d there in
-    let number : (get_or messages i d).number ≡ (get_or messages k d).number = same ∙ ap (λ (m : Message). m.number) other in
-    ap (λ n. get_or messages n d) (rising-same (λ (m : Message). m.number) messages rising i k d here there number) ∙ sym other
+    let number : (get_or messages i d).number ≡ (get_or messages k d).number = same
+    ∙ ap (λ (m : Message). m.number) other in
+    ap (λ n. get_or messages n d) (rising-same (λ (m : Message). m.number) messages rising i k d here there number)
+    ∙ sym other
 
 -- each slot of the range airs a page of a broadcast inside it
 abbrev IsBusy : List Message → Air → ℕ → ℕ → Type 0
 IsBusy messages air from to = (slot : ℕ) → from ≤ slot → slot < to → AirsOneWithin messages air from to slot
 
 -- so what is aired of each message there belongs to its broadcasts inside
-inside_of_busy : (messages : List Message) (air : Air) (from to i : ℕ) (e : Message) → AllPairs (λ a b. a.number < b.number) messages → i < length messages → IsBusy messages air from to → AiredInside (get_or messages i e) air from to
+inside_of_busy : (messages : List Message) (air : Air) (from to i : ℕ) (e : Message)
+    → AllPairs (λ a b. a.number < b.number) messages → i < length messages → IsBusy messages air from to
+    → AiredInside (get_or messages i e) air from to
 inside_of_busy messages air from to i e rising here busy = λ slot low high used.
     let one = busy slot low high in
     let Airs : Option (ℕ × ℕ) → Type 0 = λ u. airs (get_or messages i e).number u ≡ true in
@@ -40,20 +48,25 @@ inside_of_busy messages air from to i e rising here busy = λ slot low high used
     subst P same (one.4.0, one.4.1, one.4.3, one.4.4)
 
 -- and each of its slots airs a page of one message at least
-one_each : (messages : List Message) (air : Air) (from to slot : ℕ) → AirsOneWithin messages air from to slot → 1 ≤ sum_by (λ m. uses m.number air slot) messages
+one_each : (messages : List Message) (air : Air) (from to slot : ℕ) → AirsOneWithin messages air from to slot
+    → 1 ≤ sum_by (λ m. uses m.number air slot) messages
 one_each messages air from to slot one =
     let used : uses one.1.number air slot ≡ 1 =
-    ap (λ (u : Option (ℕ × ℕ)). cond (airs one.1.number u) 1 0) one.4.2 ∙ ap (λ (b : Bool). cond b 1 0) (eq-eqb one.1.number one.1.number refl) in
+    ap (λ (u : Option (ℕ × ℕ)). cond (airs one.1.number u) 1 0) one.4.2
+    ∙ ap (λ (b : Bool). cond b 1 0) (eq-eqb one.1.number one.1.number refl) in
     let here = ap (λ (m : Message). uses m.number air slot) one.3 in
     let part = get_or-le-sum_by (λ (m : Message). uses m.number air slot) messages one.0 one.1 one.2 in
     omega arith
 
 -- so that over the range as many pages are aired as it has slots
-pages_grow : (messages : List Message) (air : Air) (from to : ℕ) → from ≤ to → IsBusy messages air from to → sum_by (λ (m : Message). pages_before m air from) messages + (to - from) ≤ sum_by (λ (m : Message). pages_before m air to) messages
+pages_grow : (messages : List Message) (air : Air) (from to : ℕ) → from ≤ to → IsBusy messages air from to
+    → sum_by (λ (m : Message). pages_before m air from) messages + (to - from) ≤ sum_by
+    (λ (m : Message). pages_before m air to) messages
 pages_grow messages air from to forward busy =
     let f = λ (t : ℕ). sum_by (λ (m : Message). uses m.number air t) messages in
     let reach : from + (to - from) ≡ to = omega arith in
-    let grown = total-at_least f 1 from (to - from) (λ t low high. one_each messages air from to t (busy t low (omega arith))) in
+    let grown = total-at_least f 1 from (to - from) (λ t low high. one_each messages air from to t
+    (busy t low (omega arith))) in
     let at_from = exchange (λ (m : Message). uses m.number air) messages from in
     let at_to = exchange (λ (m : Message). uses m.number air) messages to in
     let moved = ap (total f) reach in
@@ -61,7 +74,11 @@ pages_grow messages air from to forward busy =
 
 -- a broadcast that is due at the end of a busy period lacks no page: else fewer pages would be aired in it than it has
 -- slots
-no_lack : (messages : List Message) (air : Air) (k : ℕ) (d : Message) (j from : ℕ) → k < length messages → All (λ m. IsServed messages air m) messages → LoadsFit messages → from ≤ release (get_or messages k d) j → IsUncut (get_or messages k d) j air → IsBusy messages air from (due (get_or messages k d) j) → ¬ (pages_aired (get_or messages k d).number air (release (get_or messages k d) j) (due (get_or messages k d) j) < (get_or messages k d).pages)
+no_lack : (messages : List Message) (air : Air) (k : ℕ) (d : Message) (j from : ℕ) → k < length messages
+    → All (λ m. IsServed messages air m) messages → LoadsFit messages → from ≤ release (get_or messages k d) j
+    → IsUncut (get_or messages k d) j air → IsBusy messages air from (due (get_or messages k d) j)
+    → ¬ (pages_aired (get_or messages k d).number air (release (get_or messages k d) j) (due (get_or messages k d) j) <
+    (get_or messages k d).pages)
 no_lack messages air k d j from within served fit early uncut busy lacks =
     let m = get_or messages k d in
     let to = due m j in
@@ -72,9 +89,12 @@ no_lack messages air k d j from within served fit early uncut busy lacks =
     let aired = λ (o : Message). pages_before o air to in
     let before = λ (o : Message). pages_before o air from in
     let wanted = λ (o : Message). o.pages * count_inside o from to to in
-    let inside = λ (i : ℕ) (e : Message) (h : i < length messages). inside_of_busy messages air from to i e mine.rising h busy in
-    let each : All (λ o. aired o ≤ before o + wanted o) messages = λ i e h. aired_inside messages air (get_or messages i e) from to (served i e h) forward uncut.aired_by (inside i e h) in
-    let short = aired_short messages air m from j mine early uncut.aired_by uncut.requested (before_stop-up_to (release m j) to m.stop ahead uncut.standing) lacks (inside k d within) in
+    let inside = λ (i : ℕ) (e : Message) (h : i < length messages). inside_of_busy messages air from to i e mine.rising
+    h busy in
+    let each : All (λ o. aired o ≤ before o + wanted o) messages = λ i e h. aired_inside messages air
+    (get_or messages i e) from to (served i e h) forward uncut.aired_by (inside i e h) in
+    let short = aired_short messages air m from j mine early uncut.aired_by uncut.requested
+    (before_stop-up_to (release m j) to m.stop ahead uncut.standing) lacks (inside k d within) in
     let fewer = sum_by-le_more aired (λ (o : Message). before o + wanted o) 1 messages k d within each short in
     let parts = sum_by-plus before wanted messages in
     let most = demand_is_no_more_than_the_slots messages from to (λ i e h. (served i e h).period) fit in
@@ -84,7 +104,8 @@ no_lack messages air k d j from within served fit early uncut busy lacks =
 pub admitted_load_is_a_guarantee : AdmittedLoadIsAGuarantee
 admitted_load_is_a_guarantee messages air admitted rule = λ k d within. λ j uncut.
     let m = get_or messages k d in
-    let most = pages_aired-at_most messages air m j (due m j) admitted.rising (Contains-get_or messages k d within) rule uncut.aired_by (omega arith) in
+    let most = pages_aired-at_most messages air m j (due m j) admitted.rising (Contains-get_or messages k d within)
+    rule uncut.aired_by (omega arith) in
     elim (cases_lt (pages_aired m.number air (release m j) (due m j)) m.pages) [
       | inr enough ↦ omega arith
       | inl lacks ↦

@@ -1,5 +1,7 @@
--- Of a legal history: each pair was accepted once, each message has pages and a period, and the claims are in order and fit.
-use Rattle.std.proofs.Common.{◌≡◌, ℕ, zero, suc, ◌+◌, ◌≤◌, ◌<◌, ◌==◌, Bool, true, false, ◌&&◌, Option, Some, None, List, [], ◌∷◌, ◌++◌, length, take, map, get_or, refl, ap, sym, subst, ◌∙◌, inl, inr, arith}
+-- Of a legal history: each pair was accepted once, each message has pages and a period, and the claims are in order and
+-- fit.
+use Rattle.std.proofs.Common.{◌≡◌, ℕ, zero, suc, ◌+◌, ◌≤◌, ◌<◌, ◌==◌, Bool, true, false, ◌&&◌, Option, Some, None, List}
+use Rattle.std.proofs.Common.{[], ◌∷◌, ◌++◌, length, take, map, get_or, refl, ap, sym, subst, ◌∙◌, inl, inr, arith}
 use Rattle.std.specs.List.{All, AllPairs, Contains, find}
 use Rattle.std.specs.Option.{IfSome}
 use Rattle.std.proofs.lemmas.Bool.{cases_Bool, cases_eq, eq-eqb, ne_eqb}
@@ -63,7 +65,8 @@ room_without : (stopped : Option Accepted) (slot : ℕ) (all : List Accepted)
 room_without None slot all live rising room = room
 room_without (Some a) slot all live rising room =
     let lives = stops_live all slot a rising live.0 live.1 in
-    subst (HasRoom slot) (sym (claims_stopped a.message.number slot all)) (stop_keeps_room (claims_of all) a.message.number slot room.0 lives room.1)
+    subst (HasRoom slot) (sym (claims_stopped a.message.number slot all))
+    (stop_keeps_room (claims_of all) a.message.number slot room.0 lives room.1)
 
 -- stopping a message changes neither pairs nor starts
 without_sound : (stopped : Option Accepted) (slot : ℕ) (all : List Accepted)
@@ -101,9 +104,11 @@ others_are_apart : (new : Accepted) (all : List Accepted)
     → find (is_of_pair new.id new.serial) all ≡ None
     → All (λ a. OfAnotherPair a new) all
 others_are_apart new all none =
-    All-weaker (λ (a : Accepted). is_of_pair new.id new.serial a ≡ false) (λ (a : Accepted). OfAnotherPair a new) (λ a apart.
+    All-weaker (λ (a : Accepted). is_of_pair new.id new.serial a ≡ false) (λ (a : Accepted). OfAnotherPair a new)
+    (λ a apart.
     let turned : is_of_pair a.id a.serial new ≡ is_of_pair new.id new.serial a =
-    ap (λ (b : Bool). b && (new.serial == a.serial)) (same_test new.id a.id) ∙ ap (λ (b : Bool). (a.id == new.id) && b) (same_test new.serial a.serial) in
+    ap (λ (b : Bool). b && (new.serial == a.serial)) (same_test new.id a.id)
+    ∙ ap (λ (b : Bool). (a.id == new.id) && b) (same_test new.serial a.serial) in
     turned ∙ apart) all (not_found (is_of_pair new.id new.serial) all none)
 
 -- pairs stay as they are where a message is stopped
@@ -113,7 +118,8 @@ find_without : (stopped : Option Accepted) (at id serial : ℕ) (all : List Acce
 find_without None at id serial all none = none
 find_without (Some a) at id serial all none = stays all none
   where
-    stays : (xs : List Accepted) → find (is_of_pair id serial) xs ≡ None → find (is_of_pair id serial) (map (stop_numbered a.message.number at) xs) ≡ None
+    stays : (xs : List Accepted) → find (is_of_pair id serial) xs ≡ None
+        → find (is_of_pair id serial) (map (stop_numbered a.message.number at) xs) ≡ None
     stays [] e = refl
     stays (x ∷ xs) e =
         elim (cases_Bool (is_of_pair id serial x)) [
@@ -128,7 +134,11 @@ is_new : (number slot : ℕ) (replaced : Option Accepted) (before : List Accepte
     → IsNew (claims_of before) slot (claim_of new)
 is_new number slot replaced before new below begun = record {
   accepted = begun.accepted;
-  greatest = All-filter reserves (λ (c : Claim). c.message.number < new.message.number) (all_claims before) (All-map (λ (c : Claim). c.message.number < new.message.number) claim_of before (All-weaker (λ (a : Accepted). a.message.number < number) (λ (a : Accepted). a.message.number < new.message.number) (λ a h. omega (arith, h, begun.numbered)) before below));
+  greatest = All-filter reserves (λ (c : Claim). c.message.number < new.message.number) (all_claims before)
+      (All-map (λ (c : Claim). c.message.number < new.message.number) claim_of before
+      (All-weaker (λ (a : Accepted). a.message.number < number)
+      (λ (a : Accepted). a.message.number < new.message.number) (λ a h. omega (arith, h, begun.numbered)) before
+      below));
   period = begun.some_period;
   standing = begun.standing;
 }
@@ -141,7 +151,8 @@ room_now : (slot : ℕ) (before : List Accepted) (new : Accepted)
     → HasRoom slot (claims_of (before ++ new ∷ []))
 room_now slot before new is now room =
     elim (cases_eq (layer new.message) 0) [
-      | inl front ↦ subst (HasRoom slot) (sym (claims_more_front before new front)) (start_keeps_room (claims_of before) slot (claim_of new) room.0 room.1 is now.start (now.fits front))
+      | inl front ↦ subst (HasRoom slot) (sym (claims_more_front before new front))
+          (start_keeps_room (claims_of before) slot (claim_of new) room.0 room.1 is now.start (now.fits front))
       | inr back ↦ subst (HasRoom slot) (sym (claims_more_back before new back)) room
     ]
 
@@ -157,10 +168,13 @@ room_over slot all old new live is over room =
     let before = map (stop_numbered number slot) all in
     let same = claims_stopped number slot all in
     let New : List Claim → Type 0 = λ claims. IsNew claims slot (claim_of new) in
-    let Over : List Claim → Type 0 = λ claims. handover claims slot (claim_of old) (own_load new.message) ≡ Some over.place in
+    let Over : List Claim → Type 0 = λ claims. handover claims slot (claim_of old) (own_load new.message) ≡ Some
+    over.place in
     let Fits : List Claim → Type 0 = λ claims. claimed_at claims slot + over.place.excess ≤ SCALE in
     let Room : List Claim → Type 0 = λ claims. HasRoom slot (claims ++ claim_of new ∷ []) in
-    let kept = takeover_keeps_room (claims_of all) slot (claim_of old) (claim_of new) over.place room.0 room.1 (its_claim all old live.0 over.of_reserved) live.1 (subst Over same over.over) (subst New same is) over.placed (subst Fits same over.fits) in
+    let kept = takeover_keeps_room (claims_of all) slot (claim_of old) (claim_of new) over.place room.0 room.1
+    (its_claim all old live.0 over.of_reserved) live.1 (subst Over same over.over) (subst New same is) over.placed
+    (subst Fits same over.fits) in
     subst (HasRoom slot) (sym (claims_more_front before new over.reserved)) (subst Room (sym same) kept)
 
 room_with : (number slot : ℕ) (replaced : Option Accepted) (all : List Accepted) (new : Accepted)
@@ -191,7 +205,8 @@ with_sound : (started replaced : Option Accepted) (number slot : ℕ) (all : Lis
 with_sound None replaced number slot all below live fresh begun sound left = left
 with_sound (Some new) replaced number slot all below live fresh begun sound left =
     let before = without replaced slot all in
-    let room = room_with number slot replaced all new below live begun (sound.order, sound.fit) (left.order, left.fit) in
+    let room = room_with number slot replaced all new below live begun (sound.order, sound.fit) (left.order, left.fit)
+    in
     record {
       rising = all_pairs_push BelowIt before new left.rising (λ k d h. omega (arith, below k d h, begun.numbered));
       once = all_pairs_push OfAnotherPair before new left.once (others_are_apart new before fresh);
@@ -224,7 +239,8 @@ IsSound-push log e outcome sound =
     let fresh = fresh_without outcome.started outcome.stopped e.slot all outcome.fresh in
     let left = without_sound outcome.stopped e.slot all outcome.live sound in
     let Sound : List Accepted → Type 0 = λ l. IsSound l e.slot in
-    subst Sound (sym outcome.after) (with_sound outcome.started outcome.stopped (length log) e.slot all below outcome.live fresh outcome.begun sound left)
+    subst Sound (sym outcome.after) (with_sound outcome.started outcome.stopped (length log) e.slot all below
+    outcome.live fresh outcome.begun sound left)
 
 IsSound-later : (all : List Accepted) (slot later : ℕ) → slot ≤ later → IsSound all slot → IsSound all later
 IsSound-later all slot later after sound = record {
@@ -246,7 +262,8 @@ pub outcome_at : (r : Record)
 outcome_at r legal k d within once order =
     let e : Entry = get_or r.log k d in
     let P : Answer → Type 0 = λ answer. Outcome (take k r.log) (entry_with e.command e.slot answer) in
-    subst P (sym (legal.answered k d within)) (outcome_of r.slots (take k r.log) (take e.slot r.air) e.slot e.command once order (legal.formed k d within))
+    subst P (sym (legal.answered k d within)) (outcome_of r.slots (take k r.log) (take e.slot r.air) e.slot e.command
+    once order (legal.formed k d within))
 
 -- an entry of a log that has one
 pub some_entry : (log : List Entry) → 0 < length log → Entry
@@ -282,7 +299,14 @@ pub sound_at : (r : Record)
     → k ≤ length r.log
     → All (λ e. e.slot ≤ slot) (take k r.log)
     → IsSound (accepted_in (take k r.log)) slot
-sound_at r legal zero slot within before = record { rising = λ i j d b w. absurd (omega arith); once = λ i j d b w. absurd (omega arith); loaded = All-nil HasLoad; order = empty_order slot; fit = λ t. omega arith }
+sound_at r legal zero slot within before = record {
+  rising = λ i j d b w. absurd (omega arith);
+  once = λ i j d b w.
+      absurd (omega arith);
+  loaded = All-nil HasLoad;
+  order = empty_order slot;
+  fit = λ t. omega arith;
+}
 sound_at r legal (suc k) slot within before =
     let d : Entry = some_entry r.log (omega arith) in
     let e : Entry = get_or r.log k d in
@@ -293,11 +317,13 @@ sound_at r legal (suc k) slot within before =
     let last : get_or (take (suc k) r.log) k d ≡ e = get_or-take (suc k) r.log k d (omega arith) in
     let at_e : e.slot ≤ slot =
     omega (arith, ap (λ (y : Entry). y.slot) last, before k d (omega (arith, length-take-le (suc k) r.log within))) in
-    subst Sound (sym grown) (IsSound-later (accepted_in (take k r.log ++ e ∷ [])) e.slot slot at_e (IsSound-push (take k r.log) e outcome sound))
+    subst Sound (sym grown) (IsSound-later (accepted_in (take k r.log ++ e ∷ [])) e.slot slot at_e
+    (IsSound-push (take k r.log) e outcome sound))
 
 -- of the whole history, at the clock
 pub IsSound-legal : (r : Record) → IsLegal r → IsSound (accepted_in r.log) r.clock
 IsSound-legal r legal =
     let all : take (length r.log) r.log ≡ r.log = take_all (length r.log) r.log (omega arith) in
     let Sound : List Entry → Type 0 = λ log. IsSound (accepted_in log) r.clock in
-    subst Sound all (sound_at r legal (length r.log) r.clock (omega arith) (All-take (λ (e : Entry). e.slot ≤ r.clock) (length r.log) r.log legal.known))
+    subst Sound all (sound_at r legal (length r.log) r.clock (omega arith)
+    (All-take (λ (e : Entry). e.slot ≤ r.clock) (length r.log) r.log legal.known))

@@ -1,5 +1,6 @@
 -- Claims stay in order where a live message is stopped.
-use Rattle.std.proofs.Common.{◌≡◌, ◌≢◌, ℕ, ◌≤◌, ◌<◌, true, Option, is_some, List, length, map, get_or, sym, ap, subst, ◌∙◌, arith}
+use Rattle.std.proofs.Common.{◌≡◌, ◌≢◌, ℕ, ◌≤◌, ◌<◌, true, Option, is_some, List, length, map, get_or, sym, ap, subst}
+use Rattle.std.proofs.Common.{◌∙◌, arith}
 use Rattle.std.specs.List.{All, AllPairs, Any}
 use Rattle.std.proofs.lemmas.Bool.{false≢true}
 use Rattle.std.proofs.lemmas.List.{get_or-map, length-map}
@@ -10,7 +11,9 @@ use Rattle.bsc_table.specs.Room.{HandsOver, AreInOrder, StopKeepsRoom}
 use Rattle.bsc_table.proofs.Stops.{standing_of, waits_on, stop_claim-other, ClaimsFit-stop}
 
 -- a relation between what a map gives
-pub pairs_map : (R : Claim → Claim → Type 0) (f : Claim → Claim) (claims : List Claim) → ((i j : ℕ) (d : Claim) → i < j → j < length claims → R (f (get_or claims i d)) (f (get_or claims j d))) → AllPairs R (map f claims)
+pub pairs_map : (R : Claim → Claim → Type 0) (f : Claim → Claim) (claims : List Claim)
+    → ((i j : ℕ) (d : Claim) → i < j → j < length claims → R (f (get_or claims i d)) (f (get_or claims j d)))
+    → AllPairs R (map f claims)
 pairs_map R f claims each = λ i j d before within.
     let long = length-map claims f in
     let first = get_or-map f claims i d d (omega arith) in
@@ -20,7 +23,9 @@ pairs_map R f claims each = λ i j d before within.
     subst First (sym first) (subst Second (sym second) (each i j d before (omega arith)))
 
 -- one that hands over is stopped, so that it isn't live
-pub not_live : (claims : List Claim) (number now k : ℕ) (p w : Claim) → All (λ c. c.message.number ≡ number → is_live now c.message ≡ true) claims → k < length claims → get_or claims k p ≡ p → HandsOver p w → p.message.number ≢ number
+pub not_live : (claims : List Claim) (number now k : ℕ) (p w : Claim)
+    → All (λ c. c.message.number ≡ number → is_live now c.message ≡ true) claims → k < length claims
+    → get_or claims k p ≡ p → HandsOver p w → p.message.number ≢ number
 not_live claims number now k p w live within there over =
     λ same.
     let Named : Claim → Type 0 = λ c. c.message.number ≡ number → is_live now c.message ≡ true in
@@ -28,7 +33,10 @@ not_live claims number now k p w live within there over =
     let standing = standing_of now p.message its in
     false≢true (sym (ap (λ (o : Option ℕ). is_some o) standing) ∙ over.stopped)
 
-handed_on : (claims : List Claim) (number now : ℕ) (w : Claim) → All (λ c. c.message.number ≡ number → is_live now c.message ≡ true) claims → 0 < w.message.period → (IsWaiting now w → Any (λ p. HandsOver p w) claims) → IsWaiting now (stop_claim number now w) → Any (λ p. HandsOver p (stop_claim number now w)) (map (stop_claim number now) claims)
+handed_on : (claims : List Claim) (number now : ℕ) (w : Claim)
+    → All (λ c. c.message.number ≡ number → is_live now c.message ≡ true) claims → 0 < w.message.period
+    → (IsWaiting now w → Any (λ p. HandsOver p w) claims) → IsWaiting now (stop_claim number now w)
+    → Any (λ p. HandsOver p (stop_claim number now w)) (map (stop_claim number now) claims)
 handed_on claims number now w live some handed waiting =
     let f = stop_claim number now in
     let others = waits_on now number w some waiting in
@@ -37,10 +45,18 @@ handed_on claims number now w live some handed waiting =
     let over : HandsOver p w = found.4 in
     let stays = stop_claim-other number now p (not_live claims number now found.0 p w live found.2 found.3 over) in
     let there : get_or (map f claims) found.0 p ≡ p = get_or-map f claims found.0 p p found.2 ∙ ap f found.3 ∙ stays in
-    let Over : Claim → Type 0 = λ x. HandsOver p x in
-    (found.0, p, omega (arith, found.2, length-map claims f), there, subst Over (sym (stop_claim-other number now w others.0)) over)
+    let Over : Claim → Type 0 = λ x. HandsOver p x in (
+      found.0,
+      p,
+      omega (arith, found.2, length-map claims f),
+      there,
+      subst Over
+          (sym (stop_claim-other number now w others.0)) over,
+    )
 
-pub in_order-stop : (claims : List Claim) (number now : ℕ) → AreInOrder claims now → All (λ c. c.message.number ≡ number → is_live now c.message ≡ true) claims → AreInOrder (stop_claims number now claims) now
+pub in_order-stop : (claims : List Claim) (number now : ℕ) → AreInOrder claims now
+    → All (λ c. c.message.number ≡ number → is_live now c.message ≡ true) claims
+    → AreInOrder (stop_claims number now claims) now
 in_order-stop claims number now order live =
     let f = stop_claim number now in
     record {
@@ -48,8 +64,13 @@ in_order-stop claims number now order live =
       accepted = All-map (λ (c : Claim). c.accepted ≤ now) f claims order.accepted;
       forward = All-map (λ (c : Claim). c.accepted ≤ c.message.start) f claims order.forward;
       periods = All-map (λ (c : Claim). 0 < c.message.period) f claims order.periods;
-      handed = All-map (λ (w : Claim). IsWaiting now w → Any (λ p. HandsOver p w) (map f claims)) f claims (λ k d within. λ waiting. handed_on claims number now (get_or claims k d) live (order.periods k d within) (order.handed k d within) waiting);
-      alone = pairs_map (λ v w. IsWaiting now v → IsWaiting now w → v.behind ≢ w.behind) f claims (λ i j d b w. λ first second. order.alone i j d b w (waits_on now number (get_or claims i d) (order.periods i d (omega arith)) first).1 (waits_on now number (get_or claims j d) (order.periods j d w) second).1);
+      handed = All-map (λ (w : Claim). IsWaiting now w → Any (λ p. HandsOver p w) (map f claims)) f claims
+          (λ k d within. λ waiting. handed_on claims number now (get_or claims k d) live (order.periods k d within)
+          (order.handed k d within) waiting);
+      alone = pairs_map (λ v w. IsWaiting now v → IsWaiting now w → v.behind ≢ w.behind) f claims
+          (λ i j d b w. λ first second. order.alone i j d b w
+          (waits_on now number (get_or claims i d) (order.periods i d (omega arith)) first).1
+          (waits_on now number (get_or claims j d) (order.periods j d w) second).1);
     }
 
 pub stop_keeps_room : StopKeepsRoom

@@ -1,8 +1,10 @@
 -- A live message is stopped: the claims stay in order, and none reserves more.
-use Rattle.std.proofs.Common.{◌≡◌, ◌≢◌, ℕ, ◌+◌, ◌*◌, ◌≤◌, ◌<◌, ◌==◌, ◌||◌, ◌&&◌, Bool, true, false, not, Option, Some, None, is_some, List, [], ◌∷◌, map, get_or, sum_by, refl, sym, ap, ◌∙◌, inl, inr, arith}
+use Rattle.std.proofs.Common.{◌≡◌, ◌≢◌, ℕ, ◌+◌, ◌*◌, ◌≤◌, ◌<◌, ◌==◌, ◌||◌, ◌&&◌, Bool, true, false, not, Option, Some}
+use Rattle.std.proofs.Common.{None, is_some, List, [], ◌∷◌, map, get_or, sum_by, refl, sym, ap, ◌∙◌, inl, inr, arith}
 use Rattle.std.specs.Prelude.{nat_lt}
 use Rattle.std.specs.List.{All}
-use Rattle.std.proofs.lemmas.Bool.{cases_Bool, cases_eq, or_cases, and_parts, ltb-true, eqb-true, eq-eqb, ne_eqb, false≢true}
+use Rattle.std.proofs.lemmas.Bool.{cases_Bool, cases_eq, or_cases, and_parts, ltb-true, eqb-true, eq-eqb, ne_eqb}
+use Rattle.std.proofs.lemmas.Bool.{false≢true}
 use Rattle.std.proofs.lemmas.List.Sums.{sum_by-cons}
 use Rattle.admission.specs.Reservation.{IsBeforeEnd, natural_end, end_of_stopped, end_of_reservation}
 use Rattle.admission.proofs.Reservations.{end_of_stopped-no_later, end_of_stopped-early}
@@ -14,34 +16,41 @@ use Rattle.bsc_table.proofs.Sums.{sum_by-le_all}
 use Rattle.bsc_table.proofs.Claims.{is_claimed_at-says, IsBeforeEnd-sooner, claim_at-reserved, claim_at-free}
 
 -- later on, claims stay in order
-pub in_order-later : (claims : List Claim) (now later : ℕ) → now ≤ later → AreInOrder claims now → AreInOrder claims later
+pub in_order-later : (claims : List Claim) (now later : ℕ) → now ≤ later → AreInOrder claims now
+    → AreInOrder claims later
 in_order-later claims now later le order =
-    let sooner : (w : Claim) → IsWaiting later w → IsWaiting now w = λ w waiting. (omega (arith, waiting.0), IsBeforeEnd-sooner now later (end_of w.message) le waiting.1) in
+    let sooner : (w : Claim) → IsWaiting later w → IsWaiting now w = λ w waiting.
+    (omega (arith, waiting.0), IsBeforeEnd-sooner now later (end_of w.message) le waiting.1) in
     record {
       rising = order.rising;
       accepted = λ k d h. omega (arith, order.accepted k d h);
       forward = order.forward;
       periods = order.periods;
       handed = λ k d h. λ waiting. order.handed k d h (sooner (get_or claims k d) waiting);
-      alone = λ i j d b w. λ first second. order.alone i j d b w (sooner (get_or claims i d) first) (sooner (get_or claims j d) second);
+      alone = λ i j d b w. λ first second. order.alone i j d b w (sooner (get_or claims i d) first)
+          (sooner (get_or claims j d) second);
     }
 
 -- what a live message is
 pub standing_of : (slot : ℕ) (m : Message) → is_live slot m ≡ true → m.stop ≡ None
 standing_of slot m live =
-    none m.stop (and_parts (not (is_some m.stop)) ((m.requested == 0) || nat_lt slot (m.start + m.requested * m.period)) live).0
+    none m.stop (and_parts (not (is_some m.stop)) ((m.requested == 0) || nat_lt slot
+    (m.start + m.requested * m.period)) live).0
   where
     none : (stop : Option ℕ) → not (is_some stop) ≡ true → stop ≡ None
     none None h = refl
     none (Some s) h = absurd (false≢true h)
 
 -- what has a stop within the time that it stands is reserved no longer than without
-unstopped : (start period requested stop slot : ℕ) → 0 < period → ((requested == 0) || nat_lt stop (start + requested * period)) ≡ true → slot < end_of_stopped start period stop → IsBeforeEnd slot (natural_end start period requested)
+unstopped : (start period requested stop slot : ℕ) → 0 < period
+    → ((requested == 0) || nat_lt stop (start + requested * period)) ≡ true → slot < end_of_stopped start period stop
+    → IsBeforeEnd slot (natural_end start period requested)
 unstopped start period requested stop slot some live before =
     elim (cases_eq requested 0) [
       | inl always ↦ rw (eq-eqb requested 0 always) tt
       | inr few ↦
-          let stands : stop < start + requested * period = elim (or_cases (requested == 0) (nat_lt stop (start + requested * period)) live) [
+          let stands : stop < start + requested * period = elim
+          (or_cases (requested == 0) (nat_lt stop (start + requested * period)) live) [
             | inl never ↦ absurd (few (eqb-true requested 0 never))
             | inr below ↦ ltb-true stop (start + requested * period) below
           ] in
@@ -49,25 +58,31 @@ unstopped start period requested stop slot some live before =
           rw (ne_eqb requested 0 few) (omega arith)
     ]
 
-unstopped_live : (start period requested now slot : ℕ) (stop : Option ℕ) → 0 < period → (not (is_some stop) && ((requested == 0) || nat_lt now (start + requested * period))) ≡ true → slot < end_of_stopped start period now → IsBeforeEnd slot (end_of_reservation start period requested stop)
+unstopped_live : (start period requested now slot : ℕ) (stop : Option ℕ) → 0 < period
+    → (not (is_some stop) && ((requested == 0) || nat_lt now (start + requested * period))) ≡ true
+    → slot < end_of_stopped start period now → IsBeforeEnd slot (end_of_reservation start period requested stop)
 unstopped_live start period requested now slot None some live before =
     unstopped start period requested now slot some live before
 unstopped_live start period requested now slot (Some stop) some live before = absurd (false≢true live)
 
 -- the stop of a live message never makes its reservation end later
-stopped_sooner : (m : Message) (says : Bool) (now slot : ℕ) → 0 < m.period → (says ≡ true → is_live now m ≡ true) → IsBeforeEnd slot (end_of (stopped_if says now m)) → IsBeforeEnd slot (end_of m)
+stopped_sooner : (m : Message) (says : Bool) (now slot : ℕ) → 0 < m.period → (says ≡ true → is_live now m ≡ true)
+    → IsBeforeEnd slot (end_of (stopped_if says now m)) → IsBeforeEnd slot (end_of m)
 stopped_sooner m false now slot some live before = before
 stopped_sooner m true now slot some live before =
     unstopped_live m.start m.period m.requested now slot m.stop some (live refl) before
 
-claim_at-stopped : (c : Claim) (number now slot : ℕ) → 0 < c.message.period → (c.message.number ≡ number → is_live now c.message ≡ true) → claim_at slot (stop_claim number now c) ≤ claim_at slot c
+claim_at-stopped : (c : Claim) (number now slot : ℕ) → 0 < c.message.period
+    → (c.message.number ≡ number → is_live now c.message ≡ true)
+    → claim_at slot (stop_claim number now c) ≤ claim_at slot c
 claim_at-stopped c number now slot some live =
     let after : Claim = stop_claim number now c in
     elim (cases_Bool (is_claimed_at slot after)) [
       | inr free ↦ omega (arith, claim_at-free slot after free)
       | inl reserved ↦
           let fact = is_claimed_at-says slot after reserved in
-          let stands = stopped_sooner c.message (c.message.number == number) now slot some (λ same. live (eqb-true c.message.number number same)) fact.1 in
+          let stands = stopped_sooner c.message (c.message.number == number) now slot some
+          (λ same. live (eqb-true c.message.number number same)) fact.1 in
           let first = claim_at-reserved slot after fact in
           let second = claim_at-reserved slot c (fact.0, stands) in
           omega (arith, first, second)
@@ -78,13 +93,17 @@ sum_by-map f g [] = refl
 sum_by-map f g (x ∷ xs) =
     sum_by-cons f (g x) (map g xs) ∙ (ap (λ n. f (g x) + n) (sum_by-map f g xs) ∙ sym (sum_by-cons (λ y. f (g y)) x xs))
 
-pub ClaimsFit-stop : (claims : List Claim) (number now : ℕ) → All (λ c. 0 < c.message.period) claims → All (λ c. c.message.number ≡ number → is_live now c.message ≡ true) claims → ClaimsFit claims → ClaimsFit (stop_claims number now claims)
+pub ClaimsFit-stop : (claims : List Claim) (number now : ℕ) → All (λ c. 0 < c.message.period) claims
+    → All (λ c. c.message.number ≡ number → is_live now c.message ≡ true) claims → ClaimsFit claims
+    → ClaimsFit (stop_claims number now claims)
 ClaimsFit-stop claims number now periods live fit = λ slot.
-    let less = sum_by-le_all (λ c. claim_at slot (stop_claim number now c)) (claim_at slot) claims (λ k d h. claim_at-stopped (get_or claims k d) number now slot (periods k d h) (live k d h)) in
+    let less = sum_by-le_all (λ c. claim_at slot (stop_claim number now c)) (claim_at slot) claims
+    (λ k d h. claim_at-stopped (get_or claims k d) number now slot (periods k d h) (live k d h)) in
     omega (arith, less, sum_by-map (claim_at slot) (stop_claim number now) claims, fit slot)
 
 -- of the stopped message nothing is reserved where it waits
-pub waits_on : (now number : ℕ) (c : Claim) → 0 < c.message.period → IsWaiting now (stop_claim number now c) → (c.message.number ≢ number) × IsWaiting now c
+pub waits_on : (now number : ℕ) (c : Claim) → 0 < c.message.period → IsWaiting now (stop_claim number now c)
+    → (c.message.number ≢ number) × IsWaiting now c
 waits_on now number c some waiting =
     elim (cases_eq c.message.number number) [
       | inl same ↦ absurd (stopped_one (c.message.number == number) (eq-eqb c.message.number number same) waiting)
@@ -97,7 +116,8 @@ waits_on now number c some waiting =
         omega (arith, ends, waits.1)
     stopped_one false says waits = false≢true says
 
-    as_it_was : (says : Bool) → says ≡ false → IsWaiting now (record c { message = stopped_if says now c.message }) → IsWaiting now c
+    as_it_was : (says : Bool) → says ≡ false → IsWaiting now (record c { message = stopped_if says now c.message })
+        → IsWaiting now c
     as_it_was true says waits = absurd (false≢true (sym says))
     as_it_was false says waits = waits
 

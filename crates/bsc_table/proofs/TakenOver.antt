@@ -1,5 +1,6 @@
 -- A replacement that takes over keeps the order and the room.
-use Rattle.std.proofs.Common.{◌≡◌, ◌≢◌, ℕ, ◌-◌, ◌≤◌, ◌<◌, ◌==◌, Bool, true, false, cond, Option, Some, None, is_some, List, length, map, get_or, refl, sym, ap, subst, ◌∙◌, inl, inr, arith}
+use Rattle.std.proofs.Common.{◌≡◌, ◌≢◌, ℕ, ◌-◌, ◌≤◌, ◌<◌, ◌==◌, Bool, true, false, cond, Option, Some, None, is_some}
+use Rattle.std.proofs.Common.{List, length, map, get_or, refl, sym, ap, subst, ◌∙◌, inl, inr, arith}
 use Rattle.std.specs.List.{All, AllPairs, Any, Contains, find}
 use Rattle.std.proofs.lemmas.Bool.{cases_lt, cases_order, eqb-true, eq-eqb, lt-ltb, le-leb, lt-leb, false≢true}
 use Rattle.std.proofs.lemmas.List.{get_or-map, length-map, get_or_default}
@@ -13,7 +14,10 @@ use Rattle.bsc_table.proofs.Added.{in_order-add, ClaimsFit-add, claim_at-waits}
 use Rattle.bsc_table.proofs.Ahead.{taken, by_number, from_stopped, live_before, find-says, find-none}
 
 -- where numbers rise, the one message of a number is live
-pub only_live : (claims : List Claim) (now : ℕ) (old : Claim) → AllPairs (λ x y. x.message.number < y.message.number) claims → Contains claims old → is_live now old.message ≡ true → All (λ c. c.message.number ≡ old.message.number → is_live now c.message ≡ true) claims
+pub only_live : (claims : List Claim) (now : ℕ) (old : Claim)
+    → AllPairs (λ x y. x.message.number < y.message.number) claims → Contains claims old
+    → is_live now old.message ≡ true → All (λ c. c.message.number ≡ old.message.number → is_live now c.message ≡ true)
+    claims
 only_live claims now old rising here live = λ k d within. λ same.
     let c : Claim = get_or claims k d in
     let there : Contains claims c = (k, within, get_or_default claims k c d within) in
@@ -34,7 +38,9 @@ record WasWaiting (claims : List Claim) (now number : ℕ) (v c : Claim) : Type 
   pub waiting : IsWaiting now c
   pub same : v.behind ≡ c.behind
 
-was_waiting : (claims : List Claim) (now number k : ℕ) (d : Claim) → AreInOrder claims now → k < length (stop_claims number now claims) → IsWaiting now (get_or (stop_claims number now claims) k d) → WasWaiting claims now number (get_or (stop_claims number now claims) k d) (get_or claims k d)
+was_waiting : (claims : List Claim) (now number k : ℕ) (d : Claim) → AreInOrder claims now
+    → k < length (stop_claims number now claims) → IsWaiting now (get_or (stop_claims number now claims) k d)
+    → WasWaiting claims now number (get_or (stop_claims number now claims) k d) (get_or claims k d)
 was_waiting claims now number k d order within waiting =
     let f = stop_claim number now in
     let inside : k < length claims = omega (arith, within, length-map claims f) in
@@ -49,12 +55,14 @@ was_waiting claims now number k d order within waiting =
       same = ap (λ (x : Claim). x.behind) is;
     }
 
-handed_to : (claims : List Claim) (now : ℕ) (w : Claim) → AreInOrder claims now → Contains claims w → IsWaiting now w → Any (λ p. HandsOver p w) claims
+handed_to : (claims : List Claim) (now : ℕ) (w : Claim) → AreInOrder claims now → Contains claims w → IsWaiting now w
+    → Any (λ p. HandsOver p w) claims
 handed_to claims now w order here waiting =
     let P : Claim → Type 0 = λ x. IsWaiting now x → Any (λ p. HandsOver p x) claims in
     subst P here.2 (order.handed here.0 w here.1) waiting
 
-not_both : (claims : List Claim) (now : ℕ) (v w : Claim) → AreInOrder claims now → Contains claims v → Contains claims w → IsWaiting now v → IsWaiting now w → v.message.number ≢ w.message.number → v.behind ≢ w.behind
+not_both : (claims : List Claim) (now : ℕ) (v w : Claim) → AreInOrder claims now → Contains claims v
+    → Contains claims w → IsWaiting now v → IsWaiting now w → v.message.number ≢ w.message.number → v.behind ≢ w.behind
 not_both claims now v w order first second waits_v waits_w apart =
     let at_v : get_or claims first.0 v ≡ v = first.2 in
     let at_w : get_or claims second.0 v ≡ w = get_or_default claims second.0 v w second.1 ∙ second.2 in
@@ -64,11 +72,13 @@ not_both claims now v w order first second waits_v waits_w apart =
           absurd (apart (ap (λ (c : Claim). c.message.number) is))
       | inr other ↦ elim other [
         | inl before ↦
-            let P : Claim → Type 0 = λ x. IsWaiting now x → IsWaiting now (get_or claims second.0 v) → x.behind ≢ (get_or claims second.0 v).behind in
+            let P : Claim → Type 0 = λ x. IsWaiting now x → IsWaiting now (get_or claims second.0 v)
+            → x.behind ≢ (get_or claims second.0 v).behind in
             let Q : Claim → Type 0 = λ y. IsWaiting now v → IsWaiting now y → v.behind ≢ y.behind in
             subst Q at_w (subst P at_v (order.alone first.0 second.0 v before second.1)) waits_v waits_w
         | inr after ↦
-            let P : Claim → Type 0 = λ y. IsWaiting now y → IsWaiting now (get_or claims first.0 v) → y.behind ≢ (get_or claims first.0 v).behind in
+            let P : Claim → Type 0 = λ y. IsWaiting now y → IsWaiting now (get_or claims first.0 v)
+            → y.behind ≢ (get_or claims first.0 v).behind in
             let Q : Claim → Type 0 = λ x. IsWaiting now w → IsWaiting now x → w.behind ≢ x.behind in
             let turned = subst Q at_v (subst P at_w (order.alone second.0 first.0 v after first.1)) waits_w waits_v in
             λ same. turned (sym same)
@@ -76,7 +86,9 @@ not_both claims now v w order first second waits_v waits_w apart =
     ]
 
 -- the old one itself, where it has started
-ahead_started : (claims : List Claim) (now : ℕ) (old p : Claim) → AreInOrder claims now → Contains claims old → is_live now old.message ≡ true → old.message.start ≤ now → Contains (stop_claims old.message.number now claims) p → p.message.number ≡ old.message.number → IsAhead claims now old.message.number p
+ahead_started : (claims : List Claim) (now : ℕ) (old p : Claim) → AreInOrder claims now → Contains claims old
+    → is_live now old.message ≡ true → old.message.start ≤ now → Contains (stop_claims old.message.number now claims) p
+    → p.message.number ≡ old.message.number → IsAhead claims now old.message.number p
 ahead_started claims now old p order here live started there same =
     let number = old.message.number in
     let only = only_live claims now old order.rising here live in
@@ -86,7 +98,8 @@ ahead_started claims now old p order here live started there same =
     let become : p ≡ stop_claim number now old = from.2 ∙ ap (stop_claim number now) is in
     record {
       started = omega (arith, ap (λ (c : Claim). c.message.start) become, started);
-      stopped = ap (λ (c : Claim). is_some c.message.stop) become ∙ ap (λ (b : Bool). is_some (cond b (Some now) old.message.stop)) (eq-eqb number number refl);
+      stopped = ap (λ (c : Claim). is_some c.message.stop) become
+          ∙ ap (λ (b : Bool). is_some (cond b (Some now) old.message.stop)) (eq-eqb number number refl);
       free = λ k d within. λ waiting. λ behind.
           let was = was_waiting claims now number k d order within waiting in
           let found = handed_to claims now (get_or claims k d) order was.there was.waiting in
@@ -98,7 +111,10 @@ ahead_started claims now old p order here live started there same =
     }
 
 -- the one behind which the old one waits
-ahead_waiting : (claims : List Claim) (now : ℕ) (old p : Claim) → AreInOrder claims now → Contains claims old → is_live now old.message ≡ true → 0 < old.message.period → now < old.message.start → Contains (stop_claims old.message.number now claims) p → old.behind ≡ Some p.message.number → IsAhead claims now old.message.number p × HandsOver p old
+ahead_waiting : (claims : List Claim) (now : ℕ) (old p : Claim) → AreInOrder claims now → Contains claims old
+    → is_live now old.message ≡ true → 0 < old.message.period → now < old.message.start
+    → Contains (stop_claims old.message.number now claims) p → old.behind ≡ Some p.message.number
+    → IsAhead claims now old.message.number p × HandsOver p old
 ahead_waiting claims now old p order here live some waits there behind =
     let number = old.message.number in
     let only = only_live claims now old order.rising here live in
@@ -109,7 +125,8 @@ ahead_waiting claims now old p order here live some waits there behind =
     let from = from_stopped claims number now p there in
     let both : Some p.message.number ≡ Some q.message.number = sym behind ∙ over.named in
     let equal : p.message.number ≡ q.message.number = cc in
-    let numbers : from.0.message.number ≡ q.message.number = sym (ap (λ (c : Claim). c.message.number) from.2) ∙ equal in
+    let numbers : from.0.message.number ≡ q.message.number = sym (ap (λ (c : Claim). c.message.number) from.2)
+    ∙ equal in
     let is : from.0 ≡ q = by_number claims from.0 q order.rising from.1 (found.0, found.2, found.3) numbers in
     let apart = not_live claims number now found.0 q old only found.2 found.3 over in
     let become : p ≡ q = from.2 ∙ ap (stop_claim number now) is ∙ stop_claim-other number now q apart in
@@ -121,7 +138,8 @@ ahead_waiting claims now old p order here live some waits there behind =
         stopped = its.stopped;
         free = λ k d within. λ waits_too. λ too.
             let was = was_waiting claims now number k d order within waits_too in
-            not_both claims now (get_or claims k d) old order was.there here was.waiting waiting was.other (sym was.same ∙ too ∙ sym behind);
+            not_both claims now (get_or claims k d) old order was.there here was.waiting waiting was.other
+            (sym was.same ∙ too ∙ sym behind);
       },
       its,
     )
@@ -136,7 +154,9 @@ pub record IsFree (claims : List Claim) (now load number : ℕ) (place : Place) 
   pub later : now < place.start
   pub excess : place.excess ≡ load - own_load p.message
 
-pub is_free : (claims : List Claim) (now load : ℕ) (old : Claim) (place : Place) → AreInOrder claims now → Contains claims old → is_live now old.message ≡ true → handover (stop_claims old.message.number now claims) now old load ≡ Some place → IsFree claims now load old.message.number place
+pub is_free : (claims : List Claim) (now load : ℕ) (old : Claim) (place : Place) → AreInOrder claims now
+    → Contains claims old → is_live now old.message ≡ true → handover (stop_claims old.message.number now claims) now
+    old load ≡ Some place → IsFree claims now load old.message.number place
 is_free claims now load old place order here live over =
     let left = stop_claims old.message.number now claims in
     let took = taken left now load (ahead_of now old) place over in
@@ -144,15 +164,25 @@ is_free claims now load old place order here live over =
     let some = subst Some_period here.2 (order.periods here.0 old here.1) in
     let ahead : IsAhead claims now old.message.number took.p = elim (cases_lt now old.message.start) [
       | inl waits ↦
-          let behind = ap (λ (b : Bool). cond b (Some old.message.number) old.behind) (lt-leb old.message.start now waits) in
+          let behind = ap (λ (b : Bool). cond b (Some old.message.number) old.behind)
+          (lt-leb old.message.start now waits) in
           (ahead_waiting claims now old took.p order here live some waits took.there (sym behind ∙ took.number)).0
       | inr started ↦
-          let itself = ap (λ (b : Bool). cond b (Some old.message.number) old.behind) (le-leb old.message.start now started) in
+          let itself = ap (λ (b : Bool). cond b (Some old.message.number) old.behind)
+          (le-leb old.message.start now started) in
           let both : Some old.message.number ≡ Some took.p.message.number = sym itself ∙ took.number in
           let same : took.p.message.number ≡ old.message.number = cc in
           ahead_started claims now old took.p order here live started took.there same
     ] in
-    record { p = took.p; there = took.there; ahead = ahead; named = took.named; ends = took.ends; later = took.later; excess = took.excess }
+    record {
+      p = took.p;
+      there = took.there;
+      ahead = ahead;
+      named = took.named;
+      ends = took.ends;
+      later = took.later;
+      excess = took.excess;
+    }
 
 pub takeover_keeps_room : TakeoverKeepsRoom
 takeover_keeps_room claims now old c place order fit here live over new placed room =
@@ -173,18 +203,26 @@ takeover_keeps_room claims now old c place order fit here live over new placed r
       ends = free.ends ∙ ap (λ (n : ℕ). Some n) (sym placed.start);
       covered = omega (arith, placed.excess, free.excess);
     } in
-    let added = in_order-add left now c stopped.0 new (omega (arith, new.accepted, placed.start, free.later)) (λ waiting. (free.there.0, p, free.there.1, free.there.2, hands)) (λ k d h. λ first second. λ same. free.ahead.free k d h first (same ∙ behind)) in
-    (added, ClaimsFit-add left now c added new.accepted (omega (arith, room, placed.excess, claim_at-waits now c (omega (arith, placed.start, free.later)))) stopped.1)
+    let added = in_order-add left now c stopped.0 new (omega (arith, new.accepted, placed.start, free.later))
+    (λ waiting. (free.there.0, p, free.there.1, free.there.2, hands))
+    (λ k d h. λ first second. λ same. free.ahead.free k d h first (same ∙ behind)) in (
+      added,
+      ClaimsFit-add left now c added new.accepted (omega
+          (arith, room, placed.excess, claim_at-waits now c (omega (arith, placed.start, free.later)))) stopped.1,
+    )
 
 -- a look-up by number finds the one of that number
-pub find_number : (claims : List Claim) (p : Claim) (found : Option Claim) → AllPairs (λ x y. x.message.number < y.message.number) claims → Contains claims p → find (λ c. c.message.number == p.message.number) claims ≡ found → found ≡ Some p
+pub find_number : (claims : List Claim) (p : Claim) (found : Option Claim)
+    → AllPairs (λ x y. x.message.number < y.message.number) claims → Contains claims p
+    → find (λ c. c.message.number == p.message.number) claims ≡ found → found ≡ Some p
 find_number claims p None rising here e =
     let None_of : Claim → Type 0 = λ x. (x.message.number == p.message.number) ≡ false in
     let none = subst None_of here.2 (find-none (λ c. c.message.number == p.message.number) claims e here.0 p here.1) in
     absurd (false≢true (sym none ∙ eq-eqb p.message.number p.message.number refl))
 find_number claims p (Some c) rising here e =
     let says = find-says (λ x. x.message.number == p.message.number) claims c e in
-    ap (λ (x : Claim). Some x) (by_number claims c p rising says.0 here (eqb-true c.message.number p.message.number says.1))
+    ap (λ (x : Claim). Some x) (by_number claims c p rising says.0 here
+    (eqb-true c.message.number p.message.number says.1))
 
 pub waiting_passes_its_start : WaitingPassesItsStart
 waiting_passes_its_start claims now load old order here live waits =
@@ -198,11 +236,23 @@ waiting_passes_its_start claims now load old order here live waits =
     let q : Claim = found.1 in
     let over : HandsOver q old = found.4 in
     let stays = stop_claim-other number now q (not_live claims number now found.0 q old only found.2 found.3 over) in
-    let there : Contains left q = (found.0, omega (arith, found.2, length-map claims f), get_or-map f claims found.0 q q found.2 ∙ ap f found.3 ∙ stays) in
+    let there : Contains left q = (
+      found.0,
+      omega (arith, found.2, length-map claims f),
+      get_or-map f claims found.0 q
+          q found.2 ∙ ap f found.3 ∙ stays,
+    ) in
     let rising = (in_order-stop claims number now order only).rising in
-    let finds : find (λ c. c.message.number == q.message.number) left ≡ Some q = find_number left q (find (λ c. c.message.number == q.message.number) left) rising there refl in
-    let behind : ahead_of now old ≡ Some q.message.number = ap (λ (b : Bool). cond b (Some number) old.behind) (lt-leb old.message.start now waits) ∙ over.named in
-    let place : Place = record { behind = q.message.number; start = old.message.start; excess = load - own_load q.message } in
+    let finds : find (λ c. c.message.number == q.message.number) left ≡ Some q = find_number left q
+    (find (λ c. c.message.number == q.message.number) left) rising there refl in
+    let behind : ahead_of now old ≡ Some q.message.number = ap (λ (b : Bool). cond b (Some number) old.behind)
+    (lt-leb old.message.start now waits) ∙ over.named in
+    let place : Place = record {
+      behind = q.message.number;
+      start = old.message.start;
+      excess = load - own_load
+          q.message;
+    } in
     let first = ap (λ (o : Option ℕ). place_behind now load (numbered o left)) behind in
     let second = ap (place_behind now load) finds in
     let third = ap (place_before now load q) over.ends in

@@ -1,5 +1,6 @@
 -- Histories in which a replacement takes over, worked by hand: answers, what is reserved, and what is aired.
-use Rattle.std.proofs.Common.{◌≡◌, ℕ, zero, suc, ◌<◌, inl, refl, Some, None, List, [], ◌∷◌, ◌++◌, length, take, get_or, arith}
+use Rattle.std.proofs.Common.{◌≡◌, ℕ, zero, suc, ◌<◌, inl, refl, Some, None, List, [], ◌∷◌, ◌++◌, length, take, get_or}
+use Rattle.std.proofs.Common.{arith}
 use Rattle.scheduler.specs.declared.plan.Rank.TheVariants as ranks
 use Rattle.scheduler.specs.Air.{pages_aired}
 use Rattle.scheduler.specs.Message.{Message}
@@ -48,9 +49,11 @@ k_passes_n : answer waiting 3 (standing_for 3 5 1 4) ≡ answers.Replaced 4 0
 k_passes_n = refl
 
 abbrev passed : List Entry
-passed = waiting ++ entry (standing_for 3 4 1 2) 2 (answers.Cause 0x06) ∷ entry (standing_for 3 5 1 4) 3 (answers.Replaced 4 0) ∷ []
+passed = waiting ++ entry (standing_for 3 4 1 2) 2 (answers.Cause 0x06) ∷ entry (standing_for 3 5 1 4) 3
+    (answers.Replaced 4 0) ∷ []
 
-passed_aired : aired passed 8 ≡ Some (0, 1) ∷ Some (1, 1) ∷ Some (1, 2) ∷ Some (1, 3) ∷ Some (1, 1) ∷ Some (1, 2) ∷ Some (1, 3) ∷ Some (4, 1) ∷ []
+passed_aired : aired passed 8 ≡ Some (0, 1) ∷ Some (1, 1) ∷ Some (1, 2) ∷ Some (1, 3) ∷ Some (1, 1) ∷ Some (1, 2) ∷
+    Some (1, 3) ∷ Some (4, 1) ∷ []
 passed_aired = refl
 
 passed_o : answer passed 8 (status 1) ≡ answers.Told 1 (states.Stopped 1)
@@ -96,7 +99,8 @@ free_at_4 = refl
 killed_at_its_start : answer waiting 4 (kill 3) ≡ answers.Stopped 0
 killed_at_its_start = refl
 
-freed_at_its_start : answer (waiting ++ entry (kill 3) 4 (answers.Stopped 0) ∷ []) 4 (standing 6 1 4) ≡ answers.Started 4
+freed_at_its_start : answer (waiting ++ entry (kill 3) 4 (answers.Stopped 0) ∷ []) 4 (standing 6 1 4) ≡ answers.Started
+    4
 freed_at_its_start = refl
 
 -- replaced at its start it has started, and its reservation ends at once: there is no later slot to wait for
@@ -126,7 +130,8 @@ more_stays_the_whole = refl
 none_beside : answer more 2 (standing 4 1 4) ≡ answers.Cause 0x06
 none_beside = refl
 
-more_aired : aired more 8 ≡ Some (1, 1) ∷ None ∷ Some (1, 1) ∷ None ∷ Some (1, 1) ∷ Some (2, 1) ∷ Some (1, 1) ∷ Some (2, 1) ∷ []
+more_aired : aired more 8 ≡ Some (1, 1) ∷ None ∷ Some (1, 1) ∷ None ∷ Some (1, 1) ∷ Some (2, 1) ∷ Some (1, 1) ∷ Some
+    (2, 1) ∷ []
 more_aired = refl
 
 -- one that fits now, once N's excess is freed, starts now, though O is reserved up to slot 4
@@ -159,15 +164,17 @@ handed_second = refl
 handed_third : answer handed 4 (status 3) ≡ answers.Told 1 states.Standing
 handed_third = refl
 
--- R, Q and P have one page each, in every sixth, third and second slot. Q, replaced at slot 4 by one like it, hands over
--- at slot 6
+-- R, Q and P have one page each, in every sixth, third and second slot. Q, replaced at slot 4 by one like it, hands
+-- over at slot 6
 abbrev filled : List Entry
-filled = entry (standing 1 1 6) 0 (answers.Started 0) ∷ entry (standing 2 1 3) 0 (answers.Started 0) ∷ entry (standing 3 1 2) 0 (answers.Started 0) ∷ []
+filled = entry (standing 1 1 6) 0 (answers.Started 0) ∷ entry (standing 2 1 3) 0 (answers.Started 0) ∷ entry
+    (standing 3 1 2) 0 (answers.Started 0) ∷ []
 
 third_waits : answer filled 4 (standing_for 2 4 1 3) ≡ answers.Replaced 6 1
 third_waits = refl
 
-filled_aired : aired (filled ++ entry (standing_for 2 4 1 3) 4 (answers.Replaced 6 1) ∷ []) 6 ≡ Some (2, 1) ∷ Some (1, 1) ∷ Some (2, 1) ∷ Some (0, 1) ∷ Some (2, 1) ∷ None ∷ []
+filled_aired : aired (filled ++ entry (standing_for 2 4 1 3) 4 (answers.Replaced 6 1) ∷ []) 6 ≡ Some (2, 1) ∷ Some
+    (1, 1) ∷ Some (2, 1) ∷ Some (0, 1) ∷ Some (2, 1) ∷ None ∷ []
 filled_aired = refl
 
 -- a message that waits is one of the 64, beside the one behind which it waits; and where 64 are reserved, no place is
@@ -188,7 +195,8 @@ in_place_of_the_waiting : answer many_and_waiting 1 (standing_for 101 102 1 2) �
 in_place_of_the_waiting = refl
 
 -- the first of these histories is legal, so that K, which had to wait, is whole in its first period
-passed_answered : (i : ℕ) (d : Entry) → i < length passed → IsAnswered 8 (take i passed) (aired passed 8) (get_or passed i d)
+passed_answered : (i : ℕ) (d : Entry) → i < length passed → IsAnswered 8 (take i passed) (aired passed 8)
+    (get_or passed i d)
 passed_answered zero d within = refl
 passed_answered (suc zero) d within = refl
 passed_answered (suc (suc zero)) d within = refl
@@ -204,4 +212,5 @@ of_k = record { number = 4; start = 4; pages = 1; period = 4; requested = 0; sto
 
 k_is_served : pages_aired 4 (aired passed 8) 4 8 ≡ 1
 k_is_served =
-    legal_histories_are_served (run passed 8) passed_is_legal 3 of_k (omega arith) 0 (record { requested = inl refl; standing = tt; aired_by = omega arith })
+    legal_histories_are_served (run passed 8) passed_is_legal 3 of_k (omega arith) 0
+    (record { requested = inl refl; standing = tt; aired_by = omega arith })

@@ -1,5 +1,6 @@
 -- The guarantee on worked runs: its premises hold of them, and matter.
-use Rattle.std.proofs.Common.{◌≡◌, ℕ, zero, suc, ◌≤◌, ◌<◌, refl, Option, Some, None, List, [], ◌∷◌, map, sum_by, inl, arith}
+use Rattle.std.proofs.Common.{◌≡◌, ℕ, zero, suc, ◌≤◌, ◌<◌, refl, Option, Some, None, List, [], ◌∷◌, map, sum_by, inl}
+use Rattle.std.proofs.Common.{arith}
 use Rattle.std.specs.List.{All, AllPairs}
 use Rattle.std.proofs.lemmas.List.Elements.{All-cons}
 use Rattle.std.proofs.lemmas.List.Kept.{AllPairs-cons}
@@ -46,7 +47,8 @@ none_rising : Rising []
 none_rising = λ i j d before within. absurd (omega arith)
 
 -- a list without a stop in the way fits where all its loads together do
-fit_together : (messages : List Message) → sum_by (λ (r : Reservation). r.load) (map reservation_of messages) ≤ SCALE → LoadsFit messages
+fit_together : (messages : List Message) → sum_by (λ (r : Reservation). r.load) (map reservation_of messages) ≤ SCALE
+    → LoadsFit messages
 fit_together messages all = λ slot. omega (arith, loads_at-le (map reservation_of messages) slot, all)
 
 -- A: two pages in every fourth slot. B, C, D: one high page in every second, each until the next one is written
@@ -71,7 +73,10 @@ by_the_rules_aired = refl
 
 by_the_rules_rise : Rising by_the_rules
 by_the_rules_rise =
-    AllPairs-cons (λ (x : Message) (y : Message). x.number < y.number) a (b ∷ []) (All-cons (λ (y : Message). a.number < y.number) b [] (omega arith) (none_of (λ y. a.number < y.number))) (AllPairs-cons (λ (x : Message) (y : Message). x.number < y.number) b [] (none_of (λ y. b.number < y.number)) none_rising)
+    AllPairs-cons (λ (x : Message) (y : Message). x.number < y.number) a (b ∷ [])
+    (All-cons (λ (y : Message). a.number < y.number) b [] (omega arith) (none_of (λ y. a.number < y.number)))
+    (AllPairs-cons (λ (x : Message) (y : Message). x.number < y.number) b [] (none_of (λ y. b.number < y.number))
+    none_rising)
 
 by_the_rules_foreground : NoBackground by_the_rules
 by_the_rules_foreground =
@@ -80,7 +85,8 @@ by_the_rules_foreground =
 
 by_the_rules_have_periods : HavePeriods by_the_rules
 by_the_rules_have_periods =
-    All-cons (λ (m : Message). 0 < m.period) a (b ∷ []) (omega arith) (All-cons (λ (m : Message). 0 < m.period) b [] (omega arith) (none_of (λ m. 0 < m.period)))
+    All-cons (λ (m : Message). 0 < m.period) a (b ∷ []) (omega arith)
+    (All-cons (λ (m : Message). 0 < m.period) b [] (omega arith) (none_of (λ m. 0 < m.period)))
 
 by_the_rules_sum : sum_by (λ (r : Reservation). r.load) (map reservation_of by_the_rules) ≡ SCALE
 by_the_rules_sum = refl
@@ -91,7 +97,15 @@ by_the_rules_fit = fit_together by_the_rules (omega (arith, by_the_rules_sum))
 -- so A's broadcast, due at slot 4, is aired whole
 a_is_whole : pages_aired 0 (air_of by_the_rules 4) 0 4 ≡ 2
 a_is_whole =
-    admitted_load_is_a_guarantee by_the_rules (air_of by_the_rules 4) (record { rising = by_the_rules_rise; periods = by_the_rules_have_periods; foreground = by_the_rules_foreground; fit = by_the_rules_fit }) (IsAirOf-air_of by_the_rules 4 by_the_rules_have_periods) 0 a (omega arith) 0 (record { requested = inl refl; standing = tt; aired_by = omega arith })
+    admitted_load_is_a_guarantee by_the_rules (air_of by_the_rules 4)
+    (record {
+      rising = by_the_rules_rise;
+      periods = by_the_rules_have_periods;
+      foreground =
+          by_the_rules_foreground;
+      fit = by_the_rules_fit;
+    }) (IsAirOf-air_of by_the_rules 4 by_the_rules_have_periods) 0
+    a (omega arith) 0 (record { requested = inl refl; standing = tt; aired_by = omega arith })
 
 by_the_rules_demand : demand by_the_rules 0 4 ≡ 3
 by_the_rules_demand = refl
@@ -125,12 +139,18 @@ a_lacks_a_page = refl
 all_four_rise : Rising all_four
 all_four_rise =
     let Below : Message → Message → Type 0 = λ x y. x.number < y.number in
-    AllPairs-cons Below a (b ∷ c ∷ d ∷ []) (All-cons (Below a) b (c ∷ d ∷ []) (omega arith) (All-cons (Below a) c (d ∷ []) (omega arith) (All-cons (Below a) d [] (omega arith) (none_of (Below a))))) (AllPairs-cons Below b (c ∷ d ∷ []) (All-cons (Below b) c (d ∷ []) (omega arith) (All-cons (Below b) d [] (omega arith) (none_of (Below b)))) (AllPairs-cons Below c (d ∷ []) (All-cons (Below c) d [] (omega arith) (none_of (Below c))) (AllPairs-cons Below d [] (none_of (Below d)) none_rising)))
+    AllPairs-cons Below a (b ∷ c ∷ d ∷ []) (All-cons (Below a) b (c ∷ d ∷ []) (omega arith)
+    (All-cons (Below a) c (d ∷ []) (omega arith) (All-cons (Below a) d [] (omega arith) (none_of (Below a)))))
+    (AllPairs-cons Below b (c ∷ d ∷ []) (All-cons (Below b) c (d ∷ []) (omega arith)
+    (All-cons (Below b) d [] (omega arith) (none_of (Below b))))
+    (AllPairs-cons Below c (d ∷ []) (All-cons (Below c) d [] (omega arith) (none_of (Below c)))
+    (AllPairs-cons Below d [] (none_of (Below d)) none_rising)))
 
 all_four_have_periods : HavePeriods all_four
 all_four_have_periods =
     let Has : Message → Type 0 = λ m. 0 < m.period in
-    All-cons Has a (b ∷ c ∷ d ∷ []) (omega arith) (All-cons Has b (c ∷ d ∷ []) (omega arith) (All-cons Has c (d ∷ []) (omega arith) (All-cons Has d [] (omega arith) (none_of Has))))
+    All-cons Has a (b ∷ c ∷ d ∷ []) (omega arith) (All-cons Has b (c ∷ d ∷ []) (omega arith)
+    (All-cons Has c (d ∷ []) (omega arith) (All-cons Has d [] (omega arith) (none_of Has))))
 
 freed_at_once_rest : sum_by (λ (x : Reservation). x.load) (map freed_at_once (a ∷ d ∷ [])) ≡ SCALE
 freed_at_once_rest = refl
@@ -139,7 +159,11 @@ freed_at_once_fit : (slot : ℕ) → loads_at (map freed_at_once all_four) slot 
 freed_at_once_fit zero = omega arith
 freed_at_once_fit (suc zero) = omega arith
 freed_at_once_fit (suc (suc slot)) =
-    omega (arith, loads_at-le_standing (map freed_at_once all_four) 2 (suc (suc slot)) (omega arith), freed_at_once_rest)
+    omega (
+      arith,
+      loads_at-le_standing (map freed_at_once all_four) 2 (suc (suc slot)) (omega arith),
+      freed_at_once_rest,
+    )
 
 abbrev FreedAtOnceIsAGuarantee : Type 0
 FreedAtOnceIsAGuarantee = (messages : List Message) (air : Air)
@@ -152,7 +176,9 @@ FreedAtOnceIsAGuarantee = (messages : List Message) (air : Air)
 freed_at_once_is_no_guarantee : ¬ FreedAtOnceIsAGuarantee
 freed_at_once_is_no_guarantee claim =
     let whole : pages_aired 0 (air_of all_four 4) 0 4 ≡ 2 =
-    claim all_four (air_of all_four 4) all_four_rise all_four_have_periods freed_at_once_fit (IsAirOf-air_of all_four 4 all_four_have_periods) 0 a (omega arith) 0 (record { requested = inl refl; standing = tt; aired_by = omega arith }) in
+    claim all_four (air_of all_four 4) all_four_rise all_four_have_periods freed_at_once_fit
+    (IsAirOf-air_of all_four 4 all_four_have_periods) 0 a (omega arith) 0
+    (record { requested = inl refl; standing = tt; aired_by = omega arith }) in
     omega (arith, whole, a_lacks_a_page)
 
 -- by the rules slot 1 would have half as much again as there is
@@ -185,7 +211,10 @@ three_rise : Rising three
 three_rise =
     let Below : Message → Message → Type 0 = λ x y. x.number < y.number in
     let q = message 1 0 1 3 None Normal in
-    AllPairs-cons Below r (q ∷ p ∷ []) (All-cons (Below r) q (p ∷ []) (omega arith) (All-cons (Below r) p [] (omega arith) (none_of (Below r)))) (AllPairs-cons Below q (p ∷ []) (All-cons (Below q) p [] (omega arith) (none_of (Below q))) (AllPairs-cons Below p [] (none_of (Below p)) none_rising))
+    AllPairs-cons Below r (q ∷ p ∷ []) (All-cons (Below r) q (p ∷ []) (omega arith)
+    (All-cons (Below r) p [] (omega arith) (none_of (Below r))))
+    (AllPairs-cons Below q (p ∷ []) (All-cons (Below q) p [] (omega arith) (none_of (Below q)))
+    (AllPairs-cons Below p [] (none_of (Below p)) none_rising))
 
 three_foreground : NoBackground three
 three_foreground =
@@ -197,24 +226,30 @@ three_have_periods : HavePeriods three
 three_have_periods =
     let Has : Message → Type 0 = λ m. 0 < m.period in
     let q = message 1 0 1 3 None Normal in
-    All-cons Has r (q ∷ p ∷ []) (omega arith) (All-cons Has q (p ∷ []) (omega arith) (All-cons Has p [] (omega arith) (none_of Has)))
+    All-cons Has r (q ∷ p ∷ []) (omega arith) (All-cons Has q (p ∷ []) (omega arith)
+    (All-cons Has p [] (omega arith) (none_of Has)))
 
 -- so R's one broadcast is aired by slot 6
 r_is_whole : pages_aired 0 (air_of three 6) 0 6 ≡ 1
 r_is_whole =
-    admitted_load_is_a_guarantee three (air_of three 6) (record { rising = three_rise; periods = three_have_periods; foreground = three_foreground; fit = three_fit }) (IsAirOf-air_of three 6 three_have_periods) 0 r (omega arith) 0 (record { requested = inl refl; standing = tt; aired_by = omega arith })
+    admitted_load_is_a_guarantee three (air_of three 6) (record
+    { rising = three_rise; periods = three_have_periods; foreground = three_foreground; fit = three_fit })
+    (IsAirOf-air_of three 6 three_have_periods) 0 r (omega arith) 0
+    (record { requested = inl refl; standing = tt; aired_by = omega arith })
 
 -- Q is replaced at slot 3, on the boundary of its period, by one with the same load
 abbrev replaced : List Message
 replaced = r ∷ message 1 0 1 3 (Some 3) Normal ∷ p ∷ message 3 3 1 3 None Normal ∷ []
 
-replaced_aired : air_of replaced 6 ≡ Some (2, 1) ∷ Some (1, 1) ∷ Some (2, 1) ∷ Some (0, 1) ∷ Some (2, 1) ∷ Some (3, 1) ∷ []
+replaced_aired : air_of replaced 6 ≡ Some (2, 1) ∷ Some (1, 1) ∷ Some (2, 1) ∷ Some (0, 1) ∷ Some (2, 1) ∷ Some (3, 1)
+    ∷ []
 replaced_aired = refl
 
 replaced_completed : completed (message 1 0 1 3 (Some 3) Normal) (air_of replaced 6) 3 ≡ 1
 replaced_completed = refl
 
-replaced_rest : sum_by (λ (x : Reservation). x.load) (map reservation_of (r ∷ p ∷ message 3 3 1 3 None Normal ∷ [])) ≡ SCALE
+replaced_rest : sum_by (λ (x : Reservation). x.load) (map reservation_of (r ∷ p ∷ message 3 3 1 3 None Normal ∷ [])) ≡
+    SCALE
 replaced_rest = refl
 
 replaced_fit : LoadsFit replaced
@@ -222,36 +257,56 @@ replaced_fit zero = omega arith
 replaced_fit (suc zero) = omega arith
 replaced_fit (suc (suc zero)) = omega arith
 replaced_fit (suc (suc (suc slot))) =
-    omega (arith, loads_at-le_standing (map reservation_of replaced) 3 (suc (suc (suc slot))) (omega arith), replaced_rest)
+    omega (
+      arith,
+      loads_at-le_standing (map reservation_of replaced) 3 (suc (suc (suc slot))) (omega arith),
+      replaced_rest,
+    )
 
 replaced_rise : Rising replaced
 replaced_rise =
     let Below : Message → Message → Type 0 = λ x y. x.number < y.number in
     let q = message 1 0 1 3 (Some 3) Normal in
     let n = message 3 3 1 3 None Normal in
-    AllPairs-cons Below r (q ∷ p ∷ n ∷ []) (All-cons (Below r) q (p ∷ n ∷ []) (omega arith) (All-cons (Below r) p (n ∷ []) (omega arith) (All-cons (Below r) n [] (omega arith) (none_of (Below r))))) (AllPairs-cons Below q (p ∷ n ∷ []) (All-cons (Below q) p (n ∷ []) (omega arith) (All-cons (Below q) n [] (omega arith) (none_of (Below q)))) (AllPairs-cons Below p (n ∷ []) (All-cons (Below p) n [] (omega arith) (none_of (Below p))) (AllPairs-cons Below n [] (none_of (Below n)) none_rising)))
+    AllPairs-cons Below r (q ∷ p ∷ n ∷ []) (All-cons (Below r) q (p ∷ n ∷ []) (omega arith)
+    (All-cons (Below r) p (n ∷ []) (omega arith) (All-cons (Below r) n [] (omega arith) (none_of (Below r)))))
+    (AllPairs-cons Below q (p ∷ n ∷ []) (All-cons (Below q) p (n ∷ []) (omega arith)
+    (All-cons (Below q) n [] (omega arith) (none_of (Below q))))
+    (AllPairs-cons Below p (n ∷ []) (All-cons (Below p) n [] (omega arith) (none_of (Below p)))
+    (AllPairs-cons Below n [] (none_of (Below n)) none_rising)))
 
 replaced_foreground : NoBackground replaced
 replaced_foreground =
     let Alone : Message → Type 0 = λ m. layer m ≡ 0 in
     let q = message 1 0 1 3 (Some 3) Normal in
     let n = message 3 3 1 3 None Normal in
-    All-cons Alone r (q ∷ p ∷ n ∷ []) refl (All-cons Alone q (p ∷ n ∷ []) refl (All-cons Alone p (n ∷ []) refl (All-cons Alone n [] refl (none_of Alone))))
+    All-cons Alone r (q ∷ p ∷ n ∷ []) refl (All-cons Alone q (p ∷ n ∷ []) refl
+    (All-cons Alone p (n ∷ []) refl (All-cons Alone n [] refl (none_of Alone))))
 
 replaced_have_periods : HavePeriods replaced
 replaced_have_periods =
     let Has : Message → Type 0 = λ m. 0 < m.period in
     let q = message 1 0 1 3 (Some 3) Normal in
     let n = message 3 3 1 3 None Normal in
-    All-cons Has r (q ∷ p ∷ n ∷ []) (omega arith) (All-cons Has q (p ∷ n ∷ []) (omega arith) (All-cons Has p (n ∷ []) (omega arith) (All-cons Has n [] (omega arith) (none_of Has))))
+    All-cons Has r (q ∷ p ∷ n ∷ []) (omega arith) (All-cons Has q (p ∷ n ∷ []) (omega arith)
+    (All-cons Has p (n ∷ []) (omega arith) (All-cons Has n [] (omega arith) (none_of Has))))
 
 -- so the new one's first broadcast is whole by slot 6
 replacement_is_whole : pages_aired 3 (air_of replaced 6) 3 6 ≡ 1
 replacement_is_whole =
-    admitted_load_is_a_guarantee replaced (air_of replaced 6) (record { rising = replaced_rise; periods = replaced_have_periods; foreground = replaced_foreground; fit = replaced_fit }) (IsAirOf-air_of replaced 6 replaced_have_periods) 3 r (omega arith) 0 (record { requested = inl refl; standing = tt; aired_by = omega arith })
+    admitted_load_is_a_guarantee replaced (air_of replaced 6)
+    (record {
+      rising = replaced_rise;
+      periods = replaced_have_periods;
+      foreground = replaced_foreground;
+      fit =
+          replaced_fit;
+    }) (IsAirOf-air_of replaced 6 replaced_have_periods) 3 r (omega arith) 0
+    (record { requested = inl refl; standing = tt; aired_by = omega arith })
 
 -- replaced at slot 4, within its period, it would leave no room for the new one
-replaced_late_over : loads_at (map reservation_of (r ∷ message 1 0 1 3 (Some 4) Normal ∷ p ∷ message 3 4 1 3 None Normal ∷ [])) 4 ≡ 310390080
+replaced_late_over : loads_at (map reservation_of (r ∷ message 1 0 1 3 (Some 4) Normal ∷ p ∷ message 3 4 1 3 None
+    Normal ∷ [])) 4 ≡ 310390080
 replaced_late_over = refl
 
 -- two broadcasts, in the slots 0 to 2 and 3 to 5: by slot 10 both are whole, and by slot 4 the first is

@@ -1,11 +1,10 @@
--- The answer to a command, by what the cell's log and air list hold: of the refusals the first that applies (own; the causes
--- are those of 3GPP TS 48.049, clause 8.2).
+-- The answer to a command, by what the cell's log and air list hold: of the refusals the first that applies (own; the
+-- causes are those of 3GPP TS 48.049, clause 8.2).
 --
--- 1. Cause 08: the log has 4,096 entries. For any command; such an answer has no entry.
--- 2. Cause 0A: all slots of the run are played. Not for a status.
--- 3. Cause 02: the message to replace or to stop isn't live.
--- 4. Cause 0D: a message of the same identifier and serial number was accepted before.
--- 5. Cause 07: 64 messages are reserved, each from the slot at which it was accepted up to its end. Not for a background
+-- 1. Cause 08: the log has 4,096 entries. For any command; such an answer has no entry. 2. Cause 0A: all slots of the
+-- run are played. Not for a status. 3. Cause 02: the message to replace or to stop isn't live. 4. Cause 0D: a message
+-- of the same identifier and serial number was accepted before. 5. Cause 07: 64 messages are reserved, each from the
+-- slot at which it was accepted up to its end. Not for a background
 --    message, which reserves nothing and isn't counted.
 -- 6. Cause 06: the load doesn't fit beside those that are reserved, and there is no place that it may take over, or
 --    what it has over the load that stands there doesn't fit either. Not for a background message.
@@ -25,7 +24,8 @@ use Rattle.bsc_table.specs.declared.entry.Answer.TheVariants as answers
 use Rattle.bsc_table.specs.declared.entry.Entry.{Entry}
 use Rattle.bsc_table.specs.Claim.{Claim, is_claimed_at, claimed_at, stop_claims}
 use Rattle.bsc_table.specs.Handover.{Place}
-use Rattle.bsc_table.specs.Record.{Accepted, accepted_named, message_named, claims_in, is_background, place_after, is_live, state_at}
+use Rattle.bsc_table.specs.Record.{Accepted, accepted_named, message_named, claims_in, is_background, place_after}
+use Rattle.bsc_table.specs.Record.{is_live, state_at}
 
 -- 6, where the load doesn't fit now: it starts later, at the place that it may take over, where its excess fits now;
 -- from then on no more is reserved at any slot
@@ -91,7 +91,8 @@ before_end slots slot answer = if slot == slots then answers.Cause 0x0A else ans
 
 abbrev pub answer_with_room : ℕ → List Entry → Air → ℕ → Command → Answer
 answer_with_room slots log air slot (commands.Status id serial) = told_of air slot (message_named id serial log)
-answer_with_room slots log air slot (commands.Kill id serial) = before_end slots slot (answer_to_kill log air slot id serial)
+answer_with_room slots log air slot (commands.Kill id serial) = before_end slots slot
+    (answer_to_kill log air slot id serial)
 answer_with_room slots log air slot (commands.Write id serial replaces category period broadcasts dcs contents) =
     before_end slots slot (answer_to_write log air slot id serial replaces category (load_of (length contents) period))
 

@@ -12,8 +12,8 @@ pub record StartsNow (slot : ℕ) (before : List Accepted) (a : Accepted) : Type
   pub behind : a.behind ≡ None
   pub fits : layer a.message ≡ 0 → claimed_at (claims_of before) slot + own_load a.message ≤ SCALE
 
--- it starts later, at the place that the old message leaves it, beside claims, that one's stopped, that leave its excess
--- room. Neither is background
+-- it starts later, at the place that the old message leaves it, beside claims, that one's stopped, that leave its
+-- excess room. Neither is background
 pub record TakesOver (slot : ℕ) (old : Accepted) (before : List Accepted) (a : Accepted) : Type 0 where
   pub place : Place
   pub over : handover (claims_of before) slot (claim_of old) (own_load a.message) ≡ Some place

@@ -1,5 +1,7 @@
 -- What a cell's book keeps beside its record (own).
-use Rattle.std.specs.Prelude.{◌≡◌, ◌≢◌, ℕ, ◌+◌, ◌<◌, ⊤, Bool, true, false, not, is_some, ◌||◌, find, nat_lt, ◌≤◌, ◌==◌, if◌then◌else◌, Option, Some, None, Result, Ok, Err, OnOk, IfSome, List, [], ◌∷◌, ◌++◌, length, map, filter, All, Any, Contains, vec_len, vec_capacity}
+use Rattle.std.specs.Prelude.{◌≡◌, ◌≢◌, ℕ, ◌+◌, ◌<◌, ⊤, Bool, true, false, not, is_some, ◌||◌, find, nat_lt, ◌≤◌, ◌==◌}
+use Rattle.std.specs.Prelude.{if◌then◌else◌, Option, Some, None, Result, Ok, Err, OnOk, IfSome, List, [], ◌∷◌, ◌++◌}
+use Rattle.std.specs.Prelude.{length, map, filter, All, Any, Contains, vec_len, vec_capacity}
 use Rattle.admission.specs.declared.budget.Held.{Held}
 use Rattle.admission.specs.declared.budget.Waits.{Waits}
 use Rattle.admission.specs.declared.budget.NoRoom.{NoRoom}
@@ -25,7 +27,8 @@ use Rattle.bsc_table.specs.declared.kept.Place.{Place as KeptPlace}
 use Rattle.bsc_table.specs.declared.kept.TheConstants.{LATEST_START}
 use Rattle.bsc_table.specs.declared.book.CellBook.TheInside.{Inside}
 use Rattle.bsc_table.specs.declared.record.CellRecord.TheInside as kept
-use Rattle.bsc_table.specs.Record.{Record, Accepted, start_of, write_message, accepted_in, messages_in, claims_in, rank_of, place_after, is_of_pair, is_live}
+use Rattle.bsc_table.specs.Record.{Record, Accepted, start_of, write_message, accepted_in, messages_in, claims_in}
+use Rattle.bsc_table.specs.Record.{rank_of, place_after, is_of_pair, is_live}
 use Rattle.bsc_table.specs.Begun.{IsBegun}
 use Rattle.bsc_table.specs.Claim.{Claim, own_load, end_of, is_claimed_at, claimed_at, stop_claims}
 use Rattle.bsc_table.specs.Handover.{Place}
@@ -104,7 +107,8 @@ pub record IsReplacement (r : Record) (e : Entry) (old new : Accepted) : Type 0 
   pub stops : IsLiveIn r old
   pub begun : IsBegun (length r.log) r.clock (Some old)
       (map (stop_numbered old.message.number r.clock) (accepted_in r.log)) new
-  pub after : accepted_in (r.log ++ e ∷ []) ≡ map (stop_numbered old.message.number r.clock) (accepted_in r.log) ++ new ∷ []
+  pub after : accepted_in (r.log ++ e ∷ []) ≡ map (stop_numbered old.message.number r.clock) (accepted_in r.log) ++ new
+      ∷ []
 
 -- a record with one more entry
 abbrev pub with_entry : Entry → Record → Record
@@ -267,13 +271,14 @@ by_place (Some p) accepts = accepts p.start
 -- in its place answered, where that has no room now
 pub record IsLater (r : Record) (old : Accepted) (load : ℕ) (later : Option KeptPlace) : Type 0 where
   pub answered : (accepts : ℕ → Answer)
-      → answer_at (left_by r old) r.clock accepts (place_after (left_by r old) r.clock old load) ≡ by_place later accepts
+      → answer_at (left_by r old) r.clock accepts (place_after (left_by r old) r.clock old load) ≡ by_place later
+      accepts
   pub there : IfSome later (λ p. place_after (left_by r old) r.clock old load ≡ Some (place_of p))
   pub fits : IfSome later (λ p. claimed_at (left_by r old) r.clock + p.excess ≤ SCALE)
   pub soon : IfSome later (λ p. p.start < LATEST_START)
 
--- a book: its record is a legal history, it keeps the accepted messages, its plan follows them and what was aired, its budget
--- holds what they have reserved at the clock, and there is room for what all slots will air
+-- a book: its record is a legal history, it keeps the accepted messages, its plan follows them and what was aired, its
+-- budget holds what they have reserved at the clock, and there is room for what all slots will air
 pub record IsBook (b : Inside) : Type 0 where
   pub legal : IsLegal (record_of b)
   pub short : b.slots ≤ 65535
@@ -283,8 +288,8 @@ pub record IsBook (b : Inside) : Type 0 where
   pub places : vec_len b.air ≡ b.clock
   pub room : b.slots ≤ vec_capacity b.air
 
--- a book after some of its slots were played: the clock stands at the slot after them, what was aired is added to, and nothing
--- else has changed
+-- a book after some of its slots were played: the clock stands at the slot after them, what was aired is added to, and
+-- nothing else has changed
 pub record IsPlayedUpTo (slot : ℕ) (before after : Record) : Type 0 where
   pub same_cell : after.cell ≡ before.cell
   pub same_slots : after.slots ≡ before.slots

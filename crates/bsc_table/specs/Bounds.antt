@@ -1,5 +1,6 @@
 -- How many broadcasts of a message are whole before a slot, at least and at most, by the message alone (own).
-use Rattle.std.specs.Prelude.{ℕ, ◌+◌, ◌-◌, ◌/◌, ◌<◌, ◌≤◌, ◌==◌, min, if◌then◌else◌, Option, Some, None, List, length, All}
+use Rattle.std.specs.Prelude.{ℕ, ◌+◌, ◌-◌, ◌/◌, ◌<◌, ◌≤◌, ◌==◌, min, if◌then◌else◌, Option, Some, None, List, length}
+use Rattle.std.specs.Prelude.{All}
 use Rattle.std.specs.Int.{div_ceil}
 use Rattle.scheduler.specs.Message.{Message}
 use Rattle.scheduler.specs.Air.{Air, IsAirOf}

@@ -1,5 +1,6 @@
 -- What admission promises of the air (own): over messages, their reservations and an air list alone.
-use Rattle.std.specs.Prelude.{◌≡◌, ℕ, ◌-◌, ◌*◌, ◌<◌, ◌≤◌, ⊤, Bool, ◌&&◌, nat_le, Option, Some, None, List, length, map, sum_by, count_by, slice_index_or, All, AllPairs, Any}
+use Rattle.std.specs.Prelude.{◌≡◌, ℕ, ◌-◌, ◌*◌, ◌<◌, ◌≤◌, ⊤, Bool, ◌&&◌, nat_le, Option, Some, None, List, length, map}
+use Rattle.std.specs.Prelude.{sum_by, count_by, slice_index_or, All, AllPairs, Any}
 use Rattle.std.specs.List.{range_with_len}
 use Rattle.admission.specs.declared.measure.TheConstants.{SCALE}
 use Rattle.admission.specs.Load.{load_of}
@@ -46,7 +47,8 @@ pub record IsUncut (m : Message) (j : ℕ) (air : Air) : Type 0 where
 -- the slot airs the next page of a broadcast that was released at `from` or later and is due at `to` or sooner
 abbrev pub AirsOneWithin : List Message → Air → ℕ → ℕ → ℕ → Type 0
 AirsOneWithin messages air from to slot =
-    Any (λ m. (j : ℕ) × IsPending m j air slot × (slice_index_or air slot None ≡ Some (next_page m j air slot)) × (from ≤ release m j) × (due m j ≤ to)) messages
+    Any (λ m. (j : ℕ) × IsPending m j air slot × (slice_index_or air slot None ≡ Some (next_page m j air slot))
+    × (from ≤ release m j) × (due m j ≤ to)) messages
 
 -- a message is reserved at each slot of each of its broadcasts that was released before its stop, stopped later or not
 abbrev pub ReservationsCoverBroadcasts : Type 0
@@ -62,33 +64,36 @@ abbrev pub is_inside : Message → ℕ → ℕ → ℕ → Bool
 is_inside m from to j =
     has_broadcast m j && (is_before_stop (release m j) m.stop && (nat_le from (release m j) && nat_le (due m j) to))
 
--- the pages of all broadcasts inside the slots from `from` up to, and without, `to`. Broadcast j is due later than slot j,
--- so that those below `to` are all
+-- the pages of all broadcasts inside the slots from `from` up to, and without, `to`. Broadcast j is due later than slot
+-- j, so that those below `to` are all
 abbrev pub demand : List Message → ℕ → ℕ → ℕ
 demand messages from to = sum_by (λ m. m.pages * count_by (is_inside m from to) (range_with_len 0 to)) messages
 
--- where the reserved loads fit at each slot, the broadcasts inside a range of slots have no more pages than it has slots
+-- where the reserved loads fit at each slot, the broadcasts inside a range of slots have no more pages than it has
+-- slots
 abbrev pub DemandIsNoMoreThanTheSlots : Type 0
 DemandIsNoMoreThanTheSlots = (messages : List Message) (from to : ℕ)
     → All (λ m. 0 < m.period) messages
     → LoadsFit messages
     → demand messages from to ≤ to - from
 
--- from some slot on, no later than the release of broadcast j of the message, each slot up to its due slot airs a page of
--- a broadcast that was released since then and is due no later
+-- from some slot on, no later than the release of broadcast j of the message, each slot up to its due slot airs a page
+-- of a broadcast that was released since then and is due no later
 abbrev pub HasBusyPeriod : List Message → Air → Message → ℕ → Type 0
 HasBusyPeriod messages air m j =
-    (from : ℕ) × (from ≤ release m j) × ((slot : ℕ) → from ≤ slot → slot < due m j → AirsOneWithin messages air from (due m j) slot)
+    (from : ℕ) × (from ≤ release m j) × ((slot : ℕ) → from ≤ slot → slot < due m j
+    → AirsOneWithin messages air from (due m j) slot)
 
 -- where none is background, an uncut broadcast that lacks a page by its due slot has such a busy period
 abbrev pub LackMeansABusyPeriod : Type 0
 LackMeansABusyPeriod = (messages : List Message) (air : Air)
     → All (λ m. layer m ≡ 0) messages
     → IsAirOf messages air
-    → All (λ m. (j : ℕ) → IsUncut m j air → pages_aired m.number air (release m j) (due m j) < m.pages → HasBusyPeriod messages air m j) messages
+    → All (λ m. (j : ℕ) → IsUncut m j air → pages_aired m.number air (release m j) (due m j) < m.pages
+    → HasBusyPeriod messages air m j) messages
 
--- where the reserved loads fit at each slot, and the air list is by the rule, each uncut broadcast has all its pages aired
--- between its release and its due slot
+-- where the reserved loads fit at each slot, and the air list is by the rule, each uncut broadcast has all its pages
+-- aired between its release and its due slot
 abbrev pub AdmittedLoadIsAGuarantee : Type 0
 AdmittedLoadIsAGuarantee = (messages : List Message) (air : Air)
     → AreAdmitted messages
@@ -102,11 +107,12 @@ AdmittedBroadcastsAreWhole = (messages : List Message) (air : Air) (slot : ℕ)
     → IsAirOf messages air
     → All (λ m. (j : ℕ) → IsUncut m j air → due m j ≤ slot → IsWhole m j air slot) messages
 
--- among background messages, which reserve nothing: where those that aren't background are admitted, each uncut broadcast
--- of these has all its pages aired between its release and its due slot
+-- among background messages, which reserve nothing: where those that aren't background are admitted, each uncut
+-- broadcast of these has all its pages aired between its release and its due slot
 abbrev pub ForegroundIsServed : Type 0
 ForegroundIsServed = (messages : List Message) (air : Air)
     → NumbersRise messages
     → AreAdmitted (foreground messages)
     → IsAirOf messages air
-    → All (λ m. (j : ℕ) → IsUncut m j air → pages_aired m.number air (release m j) (due m j) ≡ m.pages) (foreground messages)
+    → All (λ m. (j : ℕ) → IsUncut m j air → pages_aired m.number air (release m j) (due m j) ≡ m.pages)
+    (foreground messages)

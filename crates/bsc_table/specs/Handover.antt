@@ -21,7 +21,11 @@ numbered (Some number) claims = find (λ c. c.message.number == number) claims
 abbrev pub place_before : ℕ → ℕ → Claim → Option ℕ → Option Place
 place_before slot load p None = None
 place_before slot load p (Some end) =
-    if nat_lt slot end then Some (record { behind = p.message.number; start = end; excess = load - own_load p.message }) else None
+    if nat_lt slot end then Some (record {
+      behind = p.message.number;
+      start = end;
+      excess = load - own_load p.message;
+    }) else None
 
 abbrev pub place_behind : ℕ → ℕ → Option Claim → Option Place
 place_behind slot load None = None

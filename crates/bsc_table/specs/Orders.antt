@@ -1,6 +1,7 @@
--- The command that a message of the warning centre is. 3GPP TS 48.049, clauses 8.1 and 8.2; which categories and channels are
--- taken is own.
-use Rattle.std.specs.Prelude.{◌≡◌, ℕ, ◌≤◌, ⊤, Bool, true, ◌==◌, if◌then◌else◌, Option, Some, None, Result, Ok, Err, List, length, All}
+-- The command that a message of the warning centre is. 3GPP TS 48.049, clauses 8.1 and 8.2; which categories and
+-- channels are taken is own.
+use Rattle.std.specs.Prelude.{◌≡◌, ℕ, ◌≤◌, ⊤, Bool, true, ◌==◌, if◌then◌else◌, Option, Some, None, Result, Ok, Err}
+use Rattle.std.specs.Prelude.{List, length, All}
 use Rattle.cbs_page.specs.declared.content.Content.{Content}
 use Rattle.cbs_page.specs.declared.Dcs.{Dcs}
 use Rattle.cbsp_wire.specs.Range.{is_coding}
@@ -18,8 +19,8 @@ IsWrite (commands.Write id serial replaces category period broadcasts dcs conten
 IsWrite (commands.Kill id serial) = ⊥
 IsWrite (commands.Status id serial) = ⊥
 
--- what a message of the warning centre can ask to be broadcast: from 1 to 15 pages with at most 82 octets used, a period from 1 to
--- 1,024 slots, and a data coding that tells an alphabet
+-- what a message of the warning centre can ask to be broadcast: from 1 to 15 pages with at most 82 octets used, a
+-- period from 1 to 1,024 slots, and a data coding that tells an alphabet
 pub record IsBroadcastable (period : ℕ) (dcs : Dcs) (contents : List Content) : Type 0 where
   pub some_pages : 1 ≤ length contents
   pub few_pages : length contents ≤ 15
@@ -31,7 +32,8 @@ pub record IsBroadcastable (period : ℕ) (dcs : Dcs) (contents : List Content) 
 
 -- a command that such a message can ask for
 abbrev pub IsWellFormed : Command → Type 0
-IsWellFormed (commands.Write id serial replaces category period broadcasts dcs contents) = IsBroadcastable period dcs contents
+IsWellFormed (commands.Write id serial replaces category period broadcasts dcs contents) = IsBroadcastable period dcs
+    contents
 IsWellFormed (commands.Kill id serial) = ⊤
 IsWellFormed (commands.Status id serial) = ⊤
 
@@ -54,7 +56,8 @@ abbrev pub on_basic : Option ℕ → List Cell → Command → Result (List Cell
 on_basic channel cells command = if is_basic channel then Ok (cells, command) else Err 0x0C
 
 -- a write with the category that it has, if any; else cause 01
-abbrev pub with_category : Option Category → (Category → Result (List Cell × Command) ℕ) → Result (List Cell × Command) ℕ
+abbrev pub with_category : Option Category → (Category → Result (List Cell × Command) ℕ)
+    → Result (List Cell × Command) ℕ
 with_category None order = Err 0x01
 with_category (Some category) order = order category
 
@@ -62,6 +65,7 @@ with_category (Some category) order = order category
 -- category, 0C for the channel
 abbrev pub order_of : Message → Result (List Cell × Command) ℕ
 order_of (messages.Write id new_serial old_serial cells channel category period broadcasts dcs contents) =
-    with_category (category_of category) (λ known. on_basic channel cells (commands.Write id new_serial old_serial known period broadcasts dcs contents))
+    with_category (category_of category) (λ known. on_basic channel cells
+    (commands.Write id new_serial old_serial known period broadcasts dcs contents))
 order_of (messages.Kill id old_serial cells channel) = on_basic channel cells (commands.Kill id old_serial)
 order_of reply = Err 0x04

@@ -20,23 +20,26 @@ LegalPairsComeOnce = (r : Record) → IsLegal r → AllPairs (λ a b. is_of_pair
 abbrev pub LegalClaimsFit : Type 0
 LegalClaimsFit = (r : Record) → IsLegal r → AreInOrder (claims_in r.log) r.clock × ClaimsFit (claims_in r.log)
 
--- so the loads that the accepted messages but those of background have reserved from their starts on sum to at most SCALE
--- at each slot
+-- so the loads that the accepted messages but those of background have reserved from their starts on sum to at most
+-- SCALE at each slot
 abbrev pub LegalLoadsFit : Type 0
 LegalLoadsFit = (r : Record) → IsLegal r → LoadsFit (foreground (messages_in r.log))
 
--- each broadcast of an accepted message that isn't background, that was requested, that no stop cuts, and that is due by
--- the clock was aired whole: from its release up to its due slot the cell aired as many pages of the message as it has
+-- each broadcast of an accepted message that isn't background, that was requested, that no stop cuts, and that is due
+-- by the clock was aired whole: from its release up to its due slot the cell aired as many pages of the message as it
+-- has
 abbrev pub IsServed : Record → Type 0
 IsServed r =
-    All (λ m. (j : ℕ) → IsUncut m j r.air → pages_aired m.number r.air (release m j) (due m j) ≡ m.pages) (foreground (messages_in r.log))
+    All (λ m. (j : ℕ) → IsUncut m j r.air → pages_aired m.number r.air (release m j) (due m j) ≡ m.pages)
+    (foreground (messages_in r.log))
 
 -- before each slot up to the clock, the number of whole broadcasts of an accepted message lies between its bounds; of a
 -- background message it may be less
 abbrev pub IsBounded : Record → Type 0
 IsBounded r =
     All (λ m. (slot : ℕ) → slot ≤ r.clock
-    → (layer m ≡ 0 → least_completed m slot ≤ completed m r.air slot) × (completed m r.air slot ≤ most_completed m slot)) (messages_in r.log)
+    → (layer m ≡ 0 → least_completed m slot ≤ completed m r.air slot)
+    × (completed m r.air slot ≤ most_completed m slot)) (messages_in r.log)
 
 -- both are true of each legal history
 abbrev pub LegalHistoriesAreServed : Type 0

@@ -1,5 +1,6 @@
 -- A cell's record, and the messages that its log accepted (own).
-use Rattle.std.specs.Prelude.{ℕ, ◌+◌, ◌-◌, ◌*◌, Bool, true, false, ◌==◌, ◌&&◌, ◌||◌, not, nat_lt, if◌then◌else◌, Option, Some, None, is_some, List, [], ◌∷◌, ◌++◌, length, map, filter, find}
+use Rattle.std.specs.Prelude.{ℕ, ◌+◌, ◌-◌, ◌*◌, Bool, true, false, ◌==◌, ◌&&◌, ◌||◌, not, nat_lt, if◌then◌else◌, Option}
+use Rattle.std.specs.Prelude.{Some, None, is_some, List, [], ◌∷◌, ◌++◌, length, map, filter, find}
 use Rattle.admission.specs.Load.{load_of}
 use Rattle.cbsp_wire.specs.declared.message.Cell.{Cell}
 use Rattle.scheduler.specs.declared.plan.Rank.{Rank}
@@ -18,8 +19,8 @@ use Rattle.bsc_table.specs.declared.entry.Entry.{Entry}
 use Rattle.bsc_table.specs.Claim.{Claim, own_load, reserves}
 use Rattle.bsc_table.specs.Handover.{Place, ahead_of, numbered, handover}
 
--- a cell's record: how many slots its run has, how many of them were played, the commands that were answered, in order, and
--- what each played slot aired
+-- a cell's record: how many slots its run has, how many of them were played, the commands that were answered, in order,
+-- and what each played slot aired
 pub record Record : Type 0 where
   pub cell : Cell
   pub slots : ℕ
@@ -64,11 +65,13 @@ is_background High = false
 is_background Normal = false
 is_background Background = true
 
--- whether an entry stopped the message of this pair: a kill of it that was answered `Stopped`, or a write in its place that
--- was answered `Replaced`
+-- whether an entry stopped the message of this pair: a kill of it that was answered `Stopped`, or a write in its place
+-- that was answered `Replaced`
 abbrev pub is_stop_by : ℕ → ℕ → Command → Answer → Bool
-is_stop_by id serial (commands.Kill of_id of_serial) (answers.Stopped completed) = (id == of_id) && (serial == of_serial)
-is_stop_by id serial (commands.Write of_id new (Some of_serial) category period broadcasts dcs contents) (answers.Replaced slot completed) =
+is_stop_by id serial (commands.Kill of_id of_serial) (answers.Stopped completed) = (id == of_id) &&
+    (serial == of_serial)
+is_stop_by id serial (commands.Write of_id new (Some of_serial) category period broadcasts dcs contents)
+    (answers.Replaced slot completed) =
     (id == of_id) && (serial == of_serial)
 is_stop_by id serial command answer = false
 
@@ -83,7 +86,12 @@ stop_after None false now = None
 
 -- an accepted message after one more entry
 abbrev pub stopped_by : Entry → Accepted → Accepted
-stopped_by e a = record a { message = record (a.message) { stop = stop_after a.message.stop (is_stop_of a.id a.serial e) e.slot } }
+stopped_by e a = record a {
+  message = record (a.message) {
+    stop = stop_after a.message.stop
+        (is_stop_of a.id a.serial e) e.slot;
+  };
+}
 
 -- the message of a pair is this one
 abbrev pub is_of_pair : ℕ → ℕ → Accepted → Bool
@@ -172,7 +180,8 @@ message_told (Some a) = Some a.message
 abbrev pub message_named : ℕ → ℕ → List Entry → Option Message
 message_named id serial log = message_told (accepted_named id serial log)
 
--- a message that wasn't stopped by now is live up to the end of the periods of its requested broadcasts, if they have an end
+-- a message that wasn't stopped by now is live up to the end of the periods of its requested broadcasts, if they have
+-- an end
 abbrev pub is_live : ℕ → Message → Bool
 is_live slot m = not (is_some m.stop) && ((m.requested == 0) || nat_lt slot (m.start + m.requested * m.period))
 

@@ -18,7 +18,8 @@ accepted_entries log = filter is_accepted log
 -- an entry that was not accepted leaves each accepted message as it was: its number, its start, its stop and so its
 -- reservation
 abbrev pub RefusalsChangeNothing : Type 0
-RefusalsChangeNothing = (log : List Entry) (e : Entry) → is_accepted e ≡ false → accepted_in (log ++ e ∷ []) ≡ accepted_in log
+RefusalsChangeNothing = (log : List Entry) (e : Entry) → is_accepted e ≡ false
+    → accepted_in (log ++ e ∷ []) ≡ accepted_in log
 
 -- an accepted message under another number, where the one behind which it waits has another, too
 abbrev pub accepted_renumbered : (ℕ → ℕ) → Accepted → Accepted

@@ -1,5 +1,6 @@
 -- Room at every slot, where messages may wait behind others (own).
-use Rattle.std.specs.Prelude.{◌≡◌, ◌≢◌, ℕ, ◌+◌, ◌<◌, ◌≤◌, true, Some, None, is_some, List, [], ◌∷◌, ◌++◌, All, Any, AllPairs, Contains}
+use Rattle.std.specs.Prelude.{◌≡◌, ◌≢◌, ℕ, ◌+◌, ◌<◌, ◌≤◌, true, Some, None, is_some, List, [], ◌∷◌, ◌++◌, All, Any}
+use Rattle.std.specs.Prelude.{AllPairs, Contains}
 use Rattle.admission.specs.declared.measure.TheConstants.{SCALE}
 use Rattle.bsc_table.specs.Claim.{Claim, end_of, own_load, claimed_at, IsWaiting, stop_claims}
 use Rattle.bsc_table.specs.Record.{is_live}
@@ -73,7 +74,8 @@ TakeoverKeepsRoom = (claims : List Claim) (now : ℕ) (old c : Claim) (place : P
     → IsNew (stop_claims old.message.number now claims) now c
     → IsPlacedAt place c
     → claimed_at (stop_claims old.message.number now claims) now + place.excess ≤ SCALE
-    → AreInOrder (stop_claims old.message.number now claims ++ c ∷ []) now × ClaimsFit (stop_claims old.message.number now claims ++ c ∷ [])
+    → AreInOrder (stop_claims old.message.number now claims ++ c ∷ []) now
+    × ClaimsFit (stop_claims old.message.number now claims ++ c ∷ [])
 
 -- one that takes over from a waiting message can do so, and starts where that one would have
 abbrev pub WaitingPassesItsStart : Type 0
@@ -82,4 +84,5 @@ WaitingPassesItsStart = (claims : List Claim) (now load : ℕ) (old : Claim)
     → Contains claims old
     → is_live now old.message ≡ true
     → now < old.message.start
-    → (place : Place) × (handover (stop_claims old.message.number now claims) now old load ≡ Some place) × (place.start ≡ old.message.start)
+    → (place : Place) × (handover (stop_claims old.message.number now claims) now old load ≡ Some place)
+    × (place.start ≡ old.message.start)

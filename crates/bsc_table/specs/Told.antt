@@ -1,4 +1,5 @@
--- The numbers of whole broadcasts that a cell tells (own): each is that of the message that was asked about, in the end too.
+-- The numbers of whole broadcasts that a cell tells (own): each is that of the message that was asked about, in the end
+-- too.
 use Rattle.std.specs.Prelude.{◌≡◌, ℕ, ◌≤◌, Option, Some, None, All, Any}
 use Rattle.scheduler.specs.Air.{Air, layer}
 use Rattle.scheduler.specs.Completed.{completed}
@@ -20,12 +21,13 @@ completed_told other = None
 
 -- the command is about the message of this pair: a write that replaces it, a kill of it, or a status of it
 abbrev pub IsAbout : ℕ → ℕ → Command → Type 0
-IsAbout id serial (commands.Write of_id new replaces category period broadcasts dcs contents) = (of_id ≡ id) × (replaces ≡ Some serial)
+IsAbout id serial (commands.Write of_id new replaces category period broadcasts dcs contents) = (of_id ≡ id)
+    × (replaces ≡ Some serial)
 IsAbout id serial (commands.Kill of_id of_serial) = (of_id ≡ id) × (of_serial ≡ serial)
 IsAbout id serial (commands.Status of_id of_serial) = (of_id ≡ id) × (of_serial ≡ serial)
 
--- the number that an entry tells is that of the message's broadcasts that are whole before its slot, and lies between its
--- bounds; of a background message it may be less
+-- the number that an entry tells is that of the message's broadcasts that are whole before its slot, and lies between
+-- its bounds; of a background message it may be less
 pub record IsTrulyTold (air : Air) (e : Entry) (told : ℕ) (a : Accepted) : Type 0 where
   pub about : IsAbout a.id a.serial e.command
   pub exact : told ≡ completed a.message air e.slot
@@ -36,4 +38,5 @@ pub record IsTrulyTold (air : Air) (e : Entry) (told : ℕ) (a : Accepted) : Typ
 abbrev pub LegalAnswersAreTrue : Type 0
 LegalAnswersAreTrue = (r : Record)
     → IsLegal r
-    → All (λ e. (told : ℕ) → completed_told e.answer ≡ Some told → Any (IsTrulyTold r.air e told) (accepted_in r.log)) r.log
+    → All (λ e. (told : ℕ) → completed_told e.answer ≡ Some told → Any (IsTrulyTold r.air e told) (accepted_in r.log))
+    r.log

@@ -1,5 +1,6 @@
 -- Which write of the log an accepted message is, and of which writes a cell airs pages (own).
-use Rattle.std.specs.Prelude.{◌≡◌, ℕ, ◌<◌, ◌≤◌, true, Option, Some, None, is_some, List, length, slice_index_or, All, AllPairs}
+use Rattle.std.specs.Prelude.{◌≡◌, ℕ, ◌<◌, ◌≤◌, true, Option, Some, None, is_some, List, length, slice_index_or, All}
+use Rattle.std.specs.Prelude.{AllPairs}
 use Rattle.bsc_table.specs.declared.command.Command.{Command}
 use Rattle.bsc_table.specs.declared.command.Command.TheVariants as commands
 use Rattle.bsc_table.specs.declared.entry.Entry.{Entry}
@@ -17,7 +18,8 @@ IsWriteBy a (commands.Status id serial) start = ⊥
 abbrev pub AcceptedAreWrites : Type 0
 AcceptedAreWrites = (log : List Entry) (d : Entry)
     → All (λ a. (a.message.number < length log)
-    × IsWriteBy a (slice_index_or log a.message.number d).command (start_of (slice_index_or log a.message.number d).answer)
+    × IsWriteBy a (slice_index_or log a.message.number d).command
+    (start_of (slice_index_or log a.message.number d).answer)
     × (a.accepted ≡ (slice_index_or log a.message.number d).slot)) (accepted_in log)
 
 -- a write, with a page of this number, whose answer starts a message
@@ -42,4 +44,5 @@ AcceptedRise = (log : List Entry) → AllPairs (λ a b. a.message.number < b.mes
 
 -- and each has a page and a period
 abbrev pub AcceptedHaveLoads : Type 0
-AcceptedHaveLoads = (r : Record) → IsLegal r → All (λ a. (0 < a.message.pages) × (0 < a.message.period)) (accepted_in r.log)
+AcceptedHaveLoads = (r : Record) → IsLegal r → All (λ a. (0 < a.message.pages) × (0 < a.message.period))
+    (accepted_in r.log)

@@ -1,6 +1,8 @@
 //! The book of a cell: a legal history at all times.
 
-ghost use Rattle.std.specs.Prelude.{◌≡◌, ◌≢◌, ◌⊎◌, ℕ, Some, None, IfSome, true, false, ◌+◌, ◌<◌, ◌≤◌, ◌==◌, [], ◌∷◌, ◌++◌, length, map, filter, if◌then◌else◌, IfOk, IfErr, OnOk, OnErr, min, vec_len, vec_capacity};
+ghost use Rattle.std.specs.Prelude.{◌≡◌, ◌≢◌, ◌⊎◌, ℕ, Some, None, IfSome, true, false, ◌+◌, ◌<◌, ◌≤◌, ◌==◌, [], ◌∷◌};
+ghost use Rattle.std.specs.Prelude.{◌++◌, length, map, filter, if◌then◌else◌, IfOk, IfErr, OnOk, OnErr, min, vec_len};
+ghost use Rattle.std.specs.Prelude.{vec_capacity};
 ghost use Rattle.std.specs.List.{All, Any, Contains, find};
 ghost use Rattle.std.specs.Option.{MatchOption, option_map};
 ghost use Rattle.scheduler.specs.Completed.{completed};
@@ -9,12 +11,17 @@ ghost use Rattle.bsc_table.specs.declared.command.Command.TheVariants as command
 ghost use Rattle.bsc_table.specs.declared.kept.TheConstants.{LATEST_START};
 ghost use Rattle.bsc_table.specs.Claim.{stop_claims, is_claimed_at};
 ghost use Rattle.admission.specs.Load.{load_of};
-ghost use Rattle.bsc_table.specs.Record.{Record, accepted_in, is_of_pair, is_background, place_after, message_named, claim_of, claims_in};
-ghost use Rattle.bsc_table.specs.Answer.{told_of, answer_to_kill, answer_to_write, before_end, answer_with_room, answer_of};
+ghost use Rattle.bsc_table.specs.Record.{Record, accepted_in, is_of_pair, is_background, place_after, message_named};
+ghost use Rattle.bsc_table.specs.Record.{claim_of, claims_in};
+ghost use Rattle.bsc_table.specs.Answer.{told_of, answer_to_kill, answer_to_write, before_end, answer_with_room};
+ghost use Rattle.bsc_table.specs.Answer.{answer_of};
 ghost use Rattle.bsc_table.specs.Orders.{IsWellFormed};
 ghost use Rattle.bsc_table.specs.Legal.{IsLegal};
 ghost use Rattle.bsc_table.specs.Promised.{IsServed, IsBounded};
-ghost use Rattle.bsc_table.specs.Book.{accepted_of, air_told, IsPlayedUpTo, IsNotLive, IsLiveAs, IsLiveIn, IsNext, IsStop, IsStart, IsReplacement, IsOffered, IsRoom, IsLater, Decides, DecidesWrites, decided_answer, is_accepting, entry_by, with_entry, answered_with, cause_of, left_by, place_of, line_of, HasRoomFor};
+ghost use Rattle.bsc_table.specs.Book.{accepted_of, air_told, IsPlayedUpTo, IsNotLive, IsLiveAs, IsLiveIn, IsNext};
+ghost use Rattle.bsc_table.specs.Book.{IsStop, IsStart, IsReplacement, IsOffered, IsRoom, IsLater, Decides};
+ghost use Rattle.bsc_table.specs.Book.{DecidesWrites, decided_answer, is_accepting, entry_by, with_entry};
+ghost use Rattle.bsc_table.specs.Book.{answered_with, cause_of, left_by, place_of, line_of, HasRoomFor};
 ghost use Rattle.admission.specs.Reservation.{end_of_stopped};
 ghost use Rattle.admission.specs.Waiting.{behind_of};
 ghost use Rattle.admission.specs.Table.{ends_at, passed};
@@ -31,7 +38,8 @@ use scheduler::Plan;
 use std::alloc::Global;
 use std::marker::Model;
 
-/// The causes of refusals, as they are checked (3GPP TS 48.049, 8.2, Cause; which applies when is own). The log is full.
+/// The causes of refusals, as they are checked (3GPP TS 48.049, 8.2, Cause; which applies when is own). The log is
+/// full.
 const LOG_IS_FULL: u8 = 0x08;
 
 /// The run is over.
@@ -86,7 +94,13 @@ impl CellBook {
     ///
     /// `Refused` for want of memory, which a run of no slots doesn't take.
     pub fn open(alloc: Global, cell: Cell, slots: u16) -> Result<CellBook, Refused>
-        ensures opened { IfOk result (λ book. book ≡ record { cell = cell; slots = slots; clock = 0; log = []; air = [] }) }
+        ensures opened { IfOk result (λ book. book ≡ record {
+          cell = cell;
+          slots = slots;
+          clock = 0;
+          log = [];
+          air = [];
+        }) }
         ensures refused { IfErr result (λ refused. 0 < slots) }
     {
         let air = Vec::with_capacity(alloc, usize::from(slots))?;
@@ -141,19 +155,20 @@ impl CellBook {
         self.air.as_slice()
     }
 
-    /// How many broadcasts of a message were whole before the clock's slot, and how it stands there. None where the message was
-    /// never accepted. No memory is taken, and there is no entry.
+    /// How many broadcasts of a message were whole before the clock's slot, and how it stands there. None where the
+    /// message was never accepted. No memory is taken, and there is no entry.
     pub fn status(&self, id: u16, serial: Serial) -> Option<(u16, State)>
         ensures { MatchOption result
             (told_of self.now.air self.now.clock (message_named id serial self.now.log) ≡ answers.Unknown)
-            (λ told. told_of self.now.air self.now.clock (message_named id serial self.now.log) ≡ answers.Told told.0 told.1) }
+            (λ told. told_of self.now.air self.now.clock (message_named id serial self.now.log) ≡ answers.Told told.0
+            told.1) }
     {
         let message = self.named(id, serial)?;
         Some((self.completed(&message), message.state(self.clock)))
     }
 
-    /// Answers a command at the slot that is aired next, and enters it with its answer. The first of these that applies is the
-    /// answer (the causes are those of 3GPP TS 48.049, 8.2, Cause; when each applies is own):
+    /// Answers a command at the slot that is aired next, and enters it with its answer. The first of these that applies
+    /// is the answer (the causes are those of 3GPP TS 48.049, 8.2, Cause; when each applies is own):
     ///
     /// - cause 08 where the log has 4,096 entries;
     /// - to a status, `Told` where the message was accepted, else `Unknown`;
@@ -164,14 +179,15 @@ impl CellBook {
     /// - `Started`, or `Replaced`, where the new message is background, which reserves nothing;
     /// - cause 07 where 64 messages are reserved, the one to replace being stopped;
     /// - `Started`, or `Replaced` where one is replaced, where the load fits beside those that are then reserved;
-    /// - `Replaced` at a later slot where the message takes over: it starts where the reservation of the message ahead of
+    /// - `Replaced` at a later slot where the message takes over: it starts where the reservation of the message ahead
+    /// of
     ///   it ends (of the one that it replaces, or of the one behind which that one waits), and what its load has over
     ///   that one's fits until then;
     /// - else cause 06.
     ///
-    /// Each answer but cause 08 has an entry, which is the only trace of a refusal. Where there is no memory for what an answer
-    /// takes, the answer is `Refused` instead, and the book is as it was. The command is one that `orders_of` gives of a message
-    /// that was read, or a status.
+    /// Each answer but cause 08 has an entry, which is the only trace of a refusal. Where there is no memory for what
+    /// an answer takes, the answer is `Refused` instead, and the book is as it was. The command is one that `orders_of`
+    /// gives of a message that was read, or a status.
     pub fn apply(&mut self, command: &Command) -> Answer
         requires { IsWellFormed command.now }
         ensures answered { (result ≡ answers.Refused)
@@ -596,8 +612,8 @@ fn release(budget: &mut Budget, old: &Kept, slot: u16)
     budget.pass_slot(slot);
 }
 
-/// Reserves what a message takes that was accepted at `slot`: its load from now on, or, where it waits behind another one,
-/// its excess up to its start and its load from there on; nothing where it is background.
+/// Reserves what a message takes that was accepted at `slot`: its load from now on, or, where it waits behind another
+/// one, its excess up to its start and its load from there on; nothing where it is background.
 fn reserve_for(budget: &mut Budget, new: &Kept, slot: u16)
     requires period { 0 < new.now.period }
     requires soon { new.now.start < LATEST_START }

@@ -27,8 +27,8 @@ impl From<scheduler::Refused> for Refused {
     }
 }
 
-/// The category of a message (3GPP TS 48.049, 8.2, Category). Of two broadcasts that are due at the same slot, the one of
-/// the high category is aired before the normal one. What background does is an own rule.
+/// The category of a message (3GPP TS 48.049, 8.2, Category). Of two broadcasts that are due at the same slot, the one
+/// of the high category is aired before the normal one. What background does is an own rule.
 #[derive(Clone, Copy, Debug, PartialEq, Eq)]
 pub enum Category {
     /// High priority.

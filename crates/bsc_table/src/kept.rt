@@ -111,7 +111,8 @@ impl Kept {
     /// Its number, where a stop at `slot` would end its reservation there and then: on the boundary of its period.
     pub fn leaving_at(&self, slot: u16) -> Option<u16>
         requires { 0 < self.now.period }
-        ensures { result ≡ (if end_of_stopped self.now.start self.now.period slot == slot then Some self.now.number else None) }
+        ensures { result ≡ (if end_of_stopped self.now.start self.now.period slot == slot then Some self.now.number
+            else None) }
     {
         if self.end_if_stopped(slot) == u32::from(slot) {
             Some(self.number)

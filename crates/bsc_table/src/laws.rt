@@ -1,18 +1,22 @@
-//! The guarantee and the laws that it stands on, over the definitions of load and air alone; and what it comes to for a cell's
-//! legal history.
+//! The guarantee and the laws that it stands on, over the definitions of load and air alone; and what it comes to for a
+//! cell's legal history.
 
-ghost use Rattle.bsc_table.specs.Guarantee.{ReservationsCoverBroadcasts, DemandIsNoMoreThanTheSlots, LackMeansABusyPeriod, AdmittedLoadIsAGuarantee, AdmittedBroadcastsAreWhole, ForegroundIsServed};
-ghost use Rattle.bsc_table.specs.Room.{ReservedNeverRises, StopKeepsRoom, StartKeepsRoom, TakeoverKeepsRoom, WaitingPassesItsStart};
+ghost use Rattle.bsc_table.specs.Guarantee.{ReservationsCoverBroadcasts, DemandIsNoMoreThanTheSlots};
+ghost use Rattle.bsc_table.specs.Guarantee.{LackMeansABusyPeriod, AdmittedLoadIsAGuarantee, AdmittedBroadcastsAreWhole};
+ghost use Rattle.bsc_table.specs.Guarantee.{ForegroundIsServed};
+ghost use Rattle.bsc_table.specs.Room.{ReservedNeverRises, StopKeepsRoom, StartKeepsRoom, TakeoverKeepsRoom};
+ghost use Rattle.bsc_table.specs.Room.{WaitingPassesItsStart};
 ghost use Rattle.bsc_table.specs.Bounds.{CompletedIsAtMost, CompletedIsAtLeast, ForegroundIsAtLeast, BoundsAreNear};
-ghost use Rattle.bsc_table.specs.Promised.{LegalPairsComeOnce, LegalClaimsFit, LegalLoadsFit, LegalHistoriesAreServed, LegalHistoriesAreBounded, LegalPagesAreAiredOnce};
+ghost use Rattle.bsc_table.specs.Promised.{LegalPairsComeOnce, LegalClaimsFit, LegalLoadsFit, LegalHistoriesAreServed};
+ghost use Rattle.bsc_table.specs.Promised.{LegalHistoriesAreBounded, LegalPagesAreAiredOnce};
 ghost use Rattle.bsc_table.specs.Refusals.{RefusalsChangeNothing, AcceptedEntriesAreAll};
 ghost use Rattle.bsc_table.specs.Written.{AcceptedAreWrites, UsesAreOfWrites, AcceptedRise, AcceptedHaveLoads};
 ghost use Rattle.bsc_table.specs.Told.{LegalAnswersAreTrue};
 
-/// Admitted load is a guarantee: where the loads that are reserved at each slot sum to at most `SCALE`, and each slot airs
-/// what the air rule says, each broadcast is aired whole within its own period, from its release up to its due slot.
-/// Nothing is promised of a broadcast that its message's stop or the end of the run cuts, nor of messages whose loads were
-/// freed sooner than at the end of the period in which they were stopped. Own rules, of no standard.
+/// Admitted load is a guarantee: where the loads that are reserved at each slot sum to at most `SCALE`, and each slot
+/// airs what the air rule says, each broadcast is aired whole within its own period, from its release up to its due
+/// slot. Nothing is promised of a broadcast that its message's stop or the end of the run cuts, nor of messages whose
+/// loads were freed sooner than at the end of the period in which they were stopped. Own rules, of no standard.
 ///
 /// Does nothing: its contract is the law, and the three laws that carry it.
 pub fn guarantee()
@@ -54,16 +58,17 @@ pub fn room_laws()
     ensures waiting_passes_its_start { WaitingPassesItsStart }
 {}
 
-/// What the completed number of a message can be, before any slot that was played: at most as many as its requested broadcasts
-/// whose period had begun while it stood, and, where what is aired was admitted, at least as many as those whose period was over.
-/// Own rules, of no standard.
+/// What the completed number of a message can be, before any slot that was played: at most as many as its requested
+/// broadcasts whose period had begun while it stood, and, where what is aired was admitted, at least as many as those
+/// whose period was over. Own rules, of no standard.
 ///
 /// Does nothing: its contract is the law.
 pub fn completed_bounds()
     // No broadcast counts that had not begun, whatever the cell airs.
     ensures completed_is_at_most { CompletedIsAtMost }
 
-    // Each broadcast counts whose period was over, where the reserved loads fit and each slot airs what the air rule says.
+    // Each broadcast counts whose period was over, where the reserved loads fit and each slot airs what the air rule
+    // says.
     ensures completed_is_at_least { CompletedIsAtLeast }
 
     // Of messages that aren't background, that is so also among background messages, of which nothing is admitted.
@@ -73,12 +78,12 @@ pub fn completed_bounds()
     ensures bounds_are_near { BoundsAreNear }
 {}
 
-/// What a cell promises of each message that it accepted. Its history is legal: the commands are such as a message of the warning
-/// centre can ask for, they came in the order of their slots, each was answered by the rules, and each slot aired what the air rule
-/// says. No other premise is made.
+/// What a cell promises of each message that it accepted. Its history is legal: the commands are such as a message of
+/// the warning centre can ask for, they came in the order of their slots, each was answered by the rules, and each slot
+/// aired what the air rule says. No other premise is made.
 ///
-/// Nothing is promised of the broadcast that was under way at a message's stop, or is at the clock, nor that a background
-/// message is broadcast at all. Own rules, of no standard.
+/// Nothing is promised of the broadcast that was under way at a message's stop, or is at the clock, nor that a
+/// background message is broadcast at all. Own rules, of no standard.
 ///
 /// Does nothing: its contract is the law.
 pub fn legal_histories()
@@ -99,22 +104,23 @@ pub fn legal_histories()
     // A message is known by its identifier and serial number: no two that were accepted have the same.
     ensures legal_pairs_come_once { LegalPairsComeOnce }
 
-    // However messages were accepted, replaced and killed, the loads that are reserved sum to at most `SCALE` at each slot.
+    // However messages were accepted, replaced and killed, the loads that are reserved sum to at most `SCALE` at each
+    // slot.
     ensures legal_claims_fit { LegalClaimsFit }
     ensures legal_loads_fit { LegalLoadsFit }
 
-    // Each broadcast of a message that isn't background, that was requested, that is due by the clock and that no stop cut
-    // was aired whole, from its release up to the slot in which it was due, and each of its pages once.
+    // Each broadcast of a message that isn't background, that was requested, that is due by the clock and that no stop
+    // cut was aired whole, from its release up to the slot in which it was due, and each of its pages once.
     ensures legal_histories_are_served { LegalHistoriesAreServed }
     ensures legal_pages_are_aired_once { LegalPagesAreAiredOnce }
 
-    // So before each slot up to the clock, the broadcasts of a message that are whole are at least those requested whose period was
-    // over while it stood, and at most those requested whose period had begun while it stood. For a background message the
-    // least isn't promised.
+    // So before each slot up to the clock, the broadcasts of a message that are whole are at least those requested
+    // whose period was over while it stood, and at most those requested whose period had begun while it stood. For a
+    // background message the least isn't promised.
     ensures legal_histories_are_bounded { LegalHistoriesAreBounded }
 
-    // And each number that was told of a message, in answer to its kill, to its replacement or to a status, is the number of its
-    // broadcasts that were whole by then, and lies between these bounds.
+    // And each number that was told of a message, in answer to its kill, to its replacement or to a status, is the
+    // number of its broadcasts that were whole by then, and lies between these bounds.
     ensures legal_answers_are_true { LegalAnswersAreTrue }
 {
     scheduler::air_laws();

@@ -7,8 +7,8 @@ ghost use Rattle.bsc_table.specs.Orders.{IsWellFormed, order_of, category_of, is
 use crate::command::{Category, Command};
 use cbsp_wire::{Cell, Message};
 
-/// The category that a value stands for: 0 high, 1 background, 2 normal, and normal where it is absent. None for any other
-/// value.
+/// The category that a value stands for: 0 high, 1 background, 2 normal, and normal where it is absent. None for any
+/// other value.
 fn category_of(value: Option<u8>) -> Option<Category>
     ensures { result ≡ category_of value }
 {
@@ -30,16 +30,18 @@ fn is_basic(channel: Option<u8>) -> bool
     }
 }
 
-/// The cells that a message of the warning centre names, in its order, and the command to each of them. No memory is taken.
+/// The cells that a message of the warning centre names, in its order, and the command to each of them. No memory is
+/// taken.
 ///
 /// # Errors
 ///
-/// The first of these causes (3GPP TS 48.049, 8.2, Cause) that applies: 04 for a reply, which is no order; 01 for a category
-/// other than high, background and normal; 0C for a channel other than the basic one.
+/// The first of these causes (3GPP TS 48.049, 8.2, Cause) that applies: 04 for a reply, which is no order; 01 for a
+/// category other than high, background and normal; 0C for a channel other than the basic one.
 //
 // Longer than others for the fields of a write, which it names twice.
 pub fn orders_of(message: Message) -> Result<(Vec<Cell>, Command), u8>
-    ensures order { MatchResult result (λ order. order_of message ≡ Ok (order.0.items, order.1)) (λ cause. order_of message ≡ Err cause) }
+    ensures order { MatchResult result (λ order. order_of message ≡ Ok (order.0.items, order.1))
+        (λ cause. order_of message ≡ Err cause) }
 
     // Of a message that octets mean, which is what is read, the command is well-formed.
     ensures formed { (octets : List ℕ) → IsMessage octets message → IfOk result (λ order. IsWellFormed order.1) }

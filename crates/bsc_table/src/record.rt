@@ -34,8 +34,22 @@ impl Model for CellRecord {
 impl CellRecord {
     /// The record of a run of which all slots were played.
     pub(crate) fn of(cell: Cell, slots: u16, log: Vec<Entry>, air: Vec<Option<Aired>>) -> CellRecord
-        requires { IsLegal (record { cell = cell; slots = slots; clock = slots; log = log.items; air = air_told air.items }) }
-        ensures same { result ≡ record { cell = cell; slots = slots; clock = slots; log = log.items; air = air_told air.items } }
+        requires { IsLegal (record {
+          cell = cell;
+          slots = slots;
+          clock = slots;
+          log = log.items;
+          air = air_told
+              air.items;
+        }) }
+        ensures same { result ≡ record {
+          cell = cell;
+          slots = slots;
+          clock = slots;
+          log = log.items;
+          air = air_told
+              air.items;
+        } }
         ensures served { IsServed result }
         ensures bounded { IsBounded result }
     {

@@ -1,4 +1,5 @@
-//! Tests of `bsc_table`'s book: worked runs with their answers and airs, each refusal in its place, and both sides of each limit.
+//! Tests of `bsc_table`'s book: worked runs with their answers and airs, each refusal in its place, and both sides of
+//! each limit.
 #![tactic(auto)]
 
 #[cfg(test)]

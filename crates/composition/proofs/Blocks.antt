@@ -1,5 +1,6 @@
 -- The pages in the blocks of slots are those that the slots send, in order.
-use Rattle.std.proofs.Common.{◌≡◌, ℕ, zero, suc, ◌+◌, ◌*◌, ◌/◌, ◌%◌, ◌≤◌, true, Option, Some, None, List, [], ◌∷◌, ◌++◌, length, take, drop, filter, refl, sym, ap, ◌∙◌, append-nil, arith}
+use Rattle.std.proofs.Common.{◌≡◌, ℕ, zero, suc, ◌+◌, ◌*◌, ◌/◌, ◌%◌, ◌≤◌, true, Option, Some, None, List, [], ◌∷◌, ◌++◌}
+use Rattle.std.proofs.Common.{length, take, drop, filter, refl, sym, ap, ◌∙◌, append-nil, arith}
 use Rattle.std.specs.Prelude.{⊤}
 use Rattle.std.specs.Option.{option_to_list}
 use Rattle.std.proofs.lemmas.Bool.{ne_eqb}
@@ -44,7 +45,12 @@ pub record IsSendable (page : PageView) : Type 0 where
   pub readable : is_readable page ≡ true
 
 view_back : (page : PageView) → IsSendable page → view_of (octets_of_view page) ≡ page
-view_back page is = rw (two_octets page.serial, two_octets page.id, place_back page.number page.total is.first is.some is.few) refl
+view_back page is = rw (
+  two_octets page.serial,
+  two_octets page.id,
+  place_back page.number page.total is.first is.some
+      is.few,
+) refl
 
 pub octets_long : (page : PageView) → IsSendable page → length (octets_of_view page) ≡ 88
 octets_long page is = ap (λ n. suc (suc (suc (suc (suc (suc n)))))) is.full
@@ -54,34 +60,43 @@ abbrev pub CanSend : Option PageView → Type 0
 CanSend None = ⊤
 CanSend (Some page) = IsSendable page
 
-pub pages_of_slots : (slots : List (Option PageView)) → AllByRecursion CanSend slots → pages_read (flat_map blocks_of_slot slots) ≡ flat_map option_to_list slots
+pub pages_of_slots : (slots : List (Option PageView)) → AllByRecursion CanSend slots
+    → pages_read (flat_map blocks_of_slot slots) ≡ flat_map option_to_list slots
 pages_of_slots [] all = refl
 pages_of_slots (None ∷ slots) all = pages_of_slots slots all.1
 pages_of_slots (Some page ∷ slots) all =
-    ap (λ octets. view_of octets ∷ pages_read (flat_map blocks_of_slot slots)) (quarters (octets_of_view page) (octets_long page all.0))
+    ap (λ octets. view_of octets ∷ pages_read (flat_map blocks_of_slot slots))
+    (quarters (octets_of_view page) (octets_long page all.0))
     ∙ ap (λ view. view ∷ pages_read (flat_map blocks_of_slot slots)) (view_back page all.0)
     ∙ ap (λ views. page ∷ views) (pages_of_slots slots all.1)
 
-pub all_readable : (slots : List (Option PageView)) → AllByRecursion CanSend slots → filter is_readable (flat_map option_to_list slots) ≡ flat_map option_to_list slots
+pub all_readable : (slots : List (Option PageView)) → AllByRecursion CanSend slots
+    → filter is_readable (flat_map option_to_list slots) ≡ flat_map option_to_list slots
 all_readable [] all = refl
 all_readable (None ∷ slots) all = all_readable slots all.1
 all_readable (Some page ∷ slots) all = rw (all.0.readable) (ap (λ views. page ∷ views) (all_readable slots all.1))
 
-pub readable_of_slots : (slots : List (Option PageView)) → AllByRecursion CanSend slots → readable_pages (flat_map blocks_of_slot slots) ≡ flat_map option_to_list slots
+pub readable_of_slots : (slots : List (Option PageView)) → AllByRecursion CanSend slots
+    → readable_pages (flat_map blocks_of_slot slots) ≡ flat_map option_to_list slots
 readable_of_slots slots all = ap (filter is_readable) (pages_of_slots slots all) ∙ all_readable slots all
 
 -- four blocks are a slot
-slot_in_front : (n : ℕ) (slot : Option PageView) (rest : List (List ℕ)) → take (4 * suc n) (blocks_of_slot slot ++ rest) ≡ blocks_of_slot slot ++ take (4 * n) rest
-slot_in_front n None rest = let e : 4 * suc n ≡ suc (suc (suc (suc (4 * n)))) = omega arith in ap (λ k. take k (blocks_of_slot None ++ rest)) e
-slot_in_front n (Some page) rest = let e : 4 * suc n ≡ suc (suc (suc (suc (4 * n)))) = omega arith in ap (λ k. take k (blocks_of_slot (Some page) ++ rest)) e
+slot_in_front : (n : ℕ) (slot : Option PageView) (rest : List (List ℕ))
+    → take (4 * suc n) (blocks_of_slot slot ++ rest) ≡ blocks_of_slot slot ++ take (4 * n) rest
+slot_in_front n None rest = let e : 4 * suc n ≡ suc (suc (suc (suc (4 * n)))) = omega arith in ap
+    (λ k. take k (blocks_of_slot None ++ rest)) e
+slot_in_front n (Some page) rest = let e : 4 * suc n ≡ suc (suc (suc (suc (4 * n)))) = omega arith in ap
+    (λ k. take k (blocks_of_slot (Some page) ++ rest)) e
 
 none_taken : {X : Type 0} (n : ℕ) (xs : List X) → xs ≡ [] → take n xs ≡ []
 none_taken zero xs e = refl
 none_taken (suc n) [] e = refl
 none_taken (suc n) (x ∷ xs) e = absurd (cc)
 
-pub first_slots : (n : ℕ) (slots : List (Option PageView)) → take (4 * n) (flat_map blocks_of_slot slots) ≡ flat_map blocks_of_slot (take n slots)
+pub first_slots : (n : ℕ) (slots : List (Option PageView)) → take (4 * n) (flat_map blocks_of_slot slots) ≡ flat_map
+    blocks_of_slot (take n slots)
 first_slots zero slots = refl
 first_slots (suc n) [] = none_taken (4 * suc n) [] refl
 first_slots (suc n) (slot ∷ slots) =
-    slot_in_front n slot (flat_map blocks_of_slot slots) ∙ ap (λ rest. blocks_of_slot slot ++ rest) (first_slots n slots)
+    slot_in_front n slot (flat_map blocks_of_slot slots) ∙ ap (λ rest. blocks_of_slot slot ++ rest)
+    (first_slots n slots)

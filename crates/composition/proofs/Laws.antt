@@ -1,6 +1,7 @@
 -- What the crates below promise, as clauses of their public laws: all that the proofs here know of them.
 use Rattle.std.specs.Prelude.{◌≡◌, ◌<◌, false}
-use Rattle.scheduler.specs.AirLaws.{OneAirList, NumbersOnlyOrder, SomeChoice, GrowsByTheChoice, PagesComeInOrder, LastPagesAreWholeBroadcasts, NoPageLessOften}
+use Rattle.scheduler.specs.AirLaws.{OneAirList, NumbersOnlyOrder, SomeChoice, GrowsByTheChoice, PagesComeInOrder}
+use Rattle.scheduler.specs.AirLaws.{LastPagesAreWholeBroadcasts, NoPageLessOften}
 use Rattle.handset.specs.Showing.{ShownAreTheComplete, OnePageShowsOne}
 use Rattle.handset.specs.OneMessage.{CompleteIsWhole, WholeIsTheLeastCount, TextIsTheMessages}
 use Rattle.handset.specs.Tape.{MadeAreTapes}

@@ -1,5 +1,6 @@
 -- The pages of an accepted message: those of its write, in order.
-use Rattle.std.proofs.Common.{◌≡◌, ℕ, zero, suc, ◌+◌, ◌≤◌, ◌<◌, true, Option, is_some, List, [], ◌∷◌, length, get_or, eqb, leb, refl, sym, ap, subst, ◌∙◌, arith}
+use Rattle.std.proofs.Common.{◌≡◌, ℕ, zero, suc, ◌+◌, ◌≤◌, ◌<◌, true, Option, is_some, List, [], ◌∷◌, length, get_or}
+use Rattle.std.proofs.Common.{eqb, leb, refl, sym, ap, subst, ◌∙◌, arith}
 use Rattle.std.specs.Prelude.{◌&&◌}
 use Rattle.std.specs.List.{All, slice_get}
 use Rattle.std.proofs.lemmas.Bool.{eq-eqb, le-leb}
@@ -31,11 +32,15 @@ pub record IsPageOf (id serial dcs total number : ℕ) (page : PageView) : Type 
   pub numbered : page.number ≡ number
   pub full : length page.content ≡ 82
 
-length-pages_from : (id serial dcs total number : ℕ) (contents : List Content) → length (pages_from id serial dcs total number contents) ≡ length contents
+length-pages_from : (id serial dcs total number : ℕ) (contents : List Content)
+    → length (pages_from id serial dcs total number contents) ≡ length contents
 length-pages_from id serial dcs total number [] = refl
-length-pages_from id serial dcs total number (content ∷ rest) = ap suc (length-pages_from id serial dcs total (number + 1) rest)
+length-pages_from id serial dcs total number (content ∷ rest) = ap suc
+    (length-pages_from id serial dcs total (number + 1) rest)
 
-pages_from-at : (id serial dcs total number : ℕ) (contents : List Content) → All (λ c. length c.octets ≡ 82) contents → (i : ℕ) (d : PageView) → i < length contents → IsPageOf id serial dcs total (number + i) (get_or (pages_from id serial dcs total number contents) i d)
+pages_from-at : (id serial dcs total number : ℕ) (contents : List Content) → All (λ c. length c.octets ≡ 82) contents
+    → (i : ℕ) (d : PageView) → i < length contents → IsPageOf id serial dcs total (number + i)
+    (get_or (pages_from id serial dcs total number contents) i d)
 pages_from-at id serial dcs total number [] full i d within = absurd (omega (arith, within))
 pages_from-at id serial dcs total number (content ∷ rest) full zero d within =
     record {
@@ -50,7 +55,8 @@ pages_from-at id serial dcs total number (content ∷ rest) full (suc i) d withi
     let next : number + 1 + i ≡ number + suc i = omega arith in
     let page : PageView = get_or (pages_from id serial dcs total (number + 1) rest) i d in
     subst (λ n. IsPageOf id serial dcs total n (get_or (pages_from id serial dcs total (number + 1) rest) i d)) next
-    (pages_from-at id serial dcs total (number + 1) rest (All-tail (λ (c : Content). length c.octets ≡ 82) content rest full) i d (omega (arith, within)))
+    (pages_from-at id serial dcs total (number + 1) rest (All-tail (λ (c : Content). length c.octets ≡ 82) content rest
+    full) i d (omega (arith, within)))
 
 -- the pages of an accepted message
 pub record IsSentMessage (a : Accepted) (pages : List PageView) : Type 0 where
@@ -59,9 +65,11 @@ pub record IsSentMessage (a : Accepted) (pages : List PageView) : Type 0 where
   pub long : length pages ≡ a.message.pages
   pub some : 1 ≤ length pages
   pub few : length pages ≤ 15
-  pub at : (i : ℕ) (d : PageView) → i < length pages → IsPageOf a.id a.serial coding (length pages) (1 + i) (get_or pages i d)
+  pub at : (i : ℕ) (d : PageView) → i < length pages → IsPageOf a.id a.serial coding (length pages) (1 + i)
+      (get_or pages i d)
 
-sent_by_command : (a : Accepted) (command : Command) (start : Option ℕ) → IsWriteBy a command start → IsWellFormed command → IsSentMessage a (pages_of_command command)
+sent_by_command : (a : Accepted) (command : Command) (start : Option ℕ) → IsWriteBy a command start
+    → IsWellFormed command → IsSentMessage a (pages_of_command command)
 sent_by_command a (commands.Write id serial replaces category period broadcasts dcs contents) start write formed =
     let pages : List PageView = pages_from id serial dcs.0 (length contents) 1 contents in
     let long = length-pages_from id serial dcs.0 (length contents) 1 contents in
@@ -72,7 +80,8 @@ sent_by_command a (commands.Write id serial replaces category period broadcasts 
       some = omega (arith, long, formed.some_pages);
       few = omega (arith, long, formed.few_pages);
       at = λ i d within.
-          let Page : ℕ → ℕ → ℕ → Type 0 = λ x s t. IsPageOf x s dcs.0 t (1 + i) (get_or (pages_from id serial dcs.0 (length contents) 1 contents) i d) in
+          let Page : ℕ → ℕ → ℕ → Type 0 = λ x s t. IsPageOf x s dcs.0 t (1 + i)
+          (get_or (pages_from id serial dcs.0 (length contents) 1 contents) i d) in
           subst (λ x. Page x a.serial (length (pages_from id serial dcs.0 (length contents) 1 contents))) (sym write.0)
           (subst (λ s. Page id s (length (pages_from id serial dcs.0 (length contents) 1 contents))) (sym write.1)
           (subst (λ t. Page id serial t) (sym long)
@@ -94,8 +103,10 @@ all_sent laws r legal = λ k d within.
     let write = laws.accepted_are_writes r.log no_entry k d within in
     let e : Entry = get_or r.log (get_or (accepted_in r.log) k d).message.number no_entry in
     let found = slice_get-get_or r.log (get_or (accepted_in r.log) k d).message.number no_entry write.0 in
-    let formed : IsWellFormed e.command = legal.formed (get_or (accepted_in r.log) k d).message.number no_entry write.0 in
-    subst (λ o. IsSentMessage (get_or (accepted_in r.log) k d) (pages_of_entry o)) (sym found) (sent_by_command (get_or (accepted_in r.log) k d) e.command (start_of e.answer) write.1 formed)
+    let formed : IsWellFormed e.command = legal.formed (get_or (accepted_in r.log) k d).message.number no_entry write.0
+    in
+    subst (λ o. IsSentMessage (get_or (accepted_in r.log) k d) (pages_of_entry o)) (sym found)
+    (sent_by_command (get_or (accepted_in r.log) k d) e.command (start_of e.answer) write.1 formed)
 
 -- such pages are a message, and can be sent
 pub is_message : (a : Accepted) (pages : List PageView) → IsSentMessage a pages → IsMessage (name_accepted a) pages
@@ -104,16 +115,19 @@ is_message a pages is = record {
   some = is.some;
   each = λ place d within.
       let page : PageView = get_or pages place d in
-      let at : IsPageOf a.id a.serial is.coding (length pages) (1 + place) (get_or pages place d) = is.at place d within in
+      let at : IsPageOf a.id a.serial is.coding (length pages) (1 + place) (get_or pages place d) = is.at place d
+      within in
       record {
-        named = ap (λ b. b && eqb page.serial a.serial) (eq-eqb page.id a.id at.id_is) ∙ eq-eqb page.serial a.serial at.serial_is;
+        named = ap (λ b. b && eqb page.serial a.serial) (eq-eqb page.id a.id at.id_is)
+            ∙ eq-eqb page.serial a.serial at.serial_is;
         numbered = let n = at.numbered in omega (arith, n);
         total_is = at.total_is;
         coded = at.coded;
       };
 }
 
-pub can_send : (a : Accepted) (pages : List PageView) → IsSentMessage a pages → (i : ℕ) (d : PageView) → i < length pages → IsSendable (get_or pages i d)
+pub can_send : (a : Accepted) (pages : List PageView) → IsSentMessage a pages → (i : ℕ) (d : PageView)
+    → i < length pages → IsSendable (get_or pages i d)
 can_send a pages is i d within =
     let page : PageView = get_or pages i d in
     let at : IsPageOf a.id a.serial is.coding (length pages) (1 + i) (get_or pages i d) = is.at i d within in
@@ -125,5 +139,6 @@ can_send a pages is i d within =
       some = omega (arith, total, is.some);
       few = omega (arith, total, is.few);
       full = at.full;
-      readable = ap (λ b. b && leb page.number page.total) known ∙ le-leb page.number page.total (omega (arith, number, total, within));
+      readable = ap (λ b. b && leb page.number page.total) known
+          ∙ le-leb page.number page.total (omega (arith, number, total, within));
     }

@@ -10,7 +10,12 @@ use Rattle.handset.specs.Counting.{whole_in}
 use Rattle.composition.specs.Sent.{blocks_of_uses}
 
 abbrev log : List Entry
-log = record { command = commands.Write 4370 16 None Normal 2 0 (record { 0 = 1 }) (record { used = 1; octets = replicate 82 13 } ∷ []); slot = 0; answer = answers.Started 0 } ∷ []
+log = record {
+  command = commands.Write 4370 16 None Normal 2 0 (record { 0 = 1 })
+      (record { used = 1; octets = replicate 82 13 } ∷ []);
+  slot = 0;
+  answer = answers.Started 0;
+} ∷ []
 
 abbrev air : Air
 air = Some (0, 1) ∷ None ∷ Some (0, 1) ∷ None ∷ []

@@ -1,6 +1,7 @@
 -- What the blocks of a cell's legal history show (own): the messages that it accepted, as far as they were broadcast
 -- whole.
-use Rattle.std.specs.Prelude.{◌≡◌, ◌≢◌, ℕ, ◌+◌, ◌*◌, ◌<◌, ◌≤◌, Option, List, ◌++◌, take, All, AllPairs, Any, Contains, encode_utf8_all}
+use Rattle.std.specs.Prelude.{◌≡◌, ◌≢◌, ℕ, ◌+◌, ◌*◌, ◌<◌, ◌≤◌, Option, List, ◌++◌, take, All, AllPairs, Any, Contains}
+use Rattle.std.specs.Prelude.{encode_utf8_all}
 use Rattle.std.specs.Option.{option_to_list}
 use Rattle.std.specs.List.{flat_map, slice_get}
 use Rattle.cbs_page.specs.Text.{text_of_page}
@@ -39,8 +40,10 @@ CompletedIsWholeInBlocks = (r : Record)
 
 -- what is shown before a slot: the accepted messages of which a broadcast is whole by then, each once, and nothing else
 pub record AreTheBroadcast (r : Record) (slot : ℕ) (shown : List Message) : Type 0 where
-  pub each : All (λ m. Any (λ a. (1 ≤ completed a.message r.air slot) × (m ≡ message_accepted r.log a)) (accepted_in r.log)) shown
-  pub all : All (λ a. 1 ≤ completed a.message r.air slot → Contains shown (message_accepted r.log a)) (accepted_in r.log)
+  pub each : All (λ m. Any (λ a. (1 ≤ completed a.message r.air slot) × (m ≡ message_accepted r.log a))
+      (accepted_in r.log)) shown
+  pub all : All (λ a. 1 ≤ completed a.message r.air slot → Contains shown (message_accepted r.log a))
+      (accepted_in r.log)
   pub once : AllPairs (λ a b. name_shown a ≢ name_shown b) shown
 
 abbrev pub ShownAreTheBroadcast : Type 0
@@ -54,4 +57,5 @@ abbrev pub ShownGrowByOne : Type 0
 ShownGrowByOne = (r : Record) (slot : ℕ)
     → IsLegal r
     → slot < r.clock
-    → (more : Option Message) × (shown_in (blocks_before (slot + 1) r) ≡ shown_in (blocks_before slot r) ++ option_to_list more)
+    → (more : Option Message) × (shown_in (blocks_before (slot + 1) r) ≡ shown_in (blocks_before slot r) ++
+    option_to_list more)

@@ -56,7 +56,8 @@ abbrev pub NoneAfterTheStop : Type 0
 NoneAfterTheStop = (r : Record) (slot : ℕ)
     → IsLegal r
     → slot < r.clock
-    → All (λ a. airs a.message.number (slice_index_or r.air slot None) ≡ true → IsBeforeStop slot a.message.stop) (accepted_in r.log)
+    → All (λ a. airs a.message.number (slice_index_or r.air slot None) ≡ true → IsBeforeStop slot a.message.stop)
+    (accepted_in r.log)
 
 -- the octets of a record whose run is over are a tape, and its reading is what the blocks show
 abbrev pub RecordsAreTapes : Type 0
@@ -64,4 +65,5 @@ RecordsAreTapes = (r : Record)
     → IsLegal r
     → r.clock ≡ r.slots
     → r.slots ≤ most_slots
-    → IsTape (tape_octets r.cell r.slots (blocks_of r)) (record { cell = r.cell; slots = r.slots; shown = shown_in (blocks_of r) })
+    → IsTape (tape_octets r.cell r.slots (blocks_of r)) (record
+    { cell = r.cell; slots = r.slots; shown = shown_in (blocks_of r) })

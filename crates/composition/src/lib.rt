@@ -7,7 +7,8 @@
 #![tactic(auto)]
 
 ghost use Rattle.composition.specs.Composition.{CompletedIsWholeInBlocks, ShownAreTheBroadcast, ShownGrowByOne};
-ghost use Rattle.composition.specs.Meaning.{PagesReadAreThoseAired, ToldIsWholeInBlocks, AcceptedAreMeant, NoneAfterTheStop};
+ghost use Rattle.composition.specs.Meaning.{PagesReadAreThoseAired, ToldIsWholeInBlocks, AcceptedAreMeant};
+ghost use Rattle.composition.specs.Meaning.{NoneAfterTheStop};
 ghost use Rattle.composition.specs.Meaning.{RecordsAreTapes, TextsAreThoseOfContents};
 ghost use Rattle.composition.specs.Same.{SameAcceptedSameBlocks};
 

@@ -1,5 +1,6 @@
 -- Lemmas on air lists, and on the broadcast in whose time a slot lies.
-use Rattle.std.proofs.Common.{◌≡◌, ◌≢◌, ℕ, ◌+◌, ◌-◌, ◌*◌, ◌%◌, ◌≤◌, ◌<◌, ◌⊎◌, cond, [], ◌∷◌, ◌++◌, length, take, drop, count_by, Option, inl, inr, sym, ap, ◌∙◌, arith}
+use Rattle.std.proofs.Common.{◌≡◌, ◌≢◌, ℕ, ◌+◌, ◌-◌, ◌*◌, ◌%◌, ◌≤◌, ◌<◌, ◌⊎◌, cond, [], ◌∷◌, ◌++◌, length, take, drop}
+use Rattle.std.proofs.Common.{count_by, Option, inl, inr, sym, ap, ◌∙◌, arith}
 use Rattle.std.proofs.lemmas.List.{drop-append-le, take-append-le, take_all, length-append, length-drop, length-take}
 use Rattle.std.proofs.lemmas.List.Sums.{sum_by_push, count_by-le-length}
 use Rattle.std.proofs.lemmas.Bool.{cases_lt}
@@ -17,10 +18,16 @@ pages_aired-none n air from to h =
 -- no more pages are aired than there are slots
 pub pages_aired-le : (n : ℕ) (air : Air) (from to : ℕ) → pages_aired n air from to ≤ to - from
 pages_aired-le n air from to =
-    omega (arith, count_by-le-length (airs n) (take (to - from) (drop from air)), length-take (to - from) (drop from air))
+    omega (
+      arith,
+      count_by-le-length (airs n) (take (to - from) (drop from air)),
+      length-take (to - from)
+          (drop from air),
+    )
 
 -- what is aired later changes nothing before
-pub pages_aired-append : (n : ℕ) (air more : Air) (from to : ℕ) → to ≤ length air → pages_aired n (air ++ more) from to ≡ pages_aired n air from to
+pub pages_aired-append : (n : ℕ) (air more : Air) (from to : ℕ) → to ≤ length air
+    → pages_aired n (air ++ more) from to ≡ pages_aired n air from to
 pages_aired-append n air more from to h =
     elim (cases_lt from to) [
       | inl before ↦
@@ -32,7 +39,9 @@ pages_aired-append n air more from to h =
     ]
 
 -- the slot after the list adds its own
-pub pages_aired-push : (n : ℕ) (air : Air) (used : Option (ℕ × ℕ)) (from : ℕ) → from ≤ length air → pages_aired n (air ++ used ∷ []) from (length air + 1) ≡ pages_aired n air from (length air) + cond (airs n used) 1 0
+pub pages_aired-push : (n : ℕ) (air : Air) (used : Option (ℕ × ℕ)) (from : ℕ) → from ≤ length air
+    → pages_aired n (air ++ used ∷ []) from (length air + 1) ≡ pages_aired n air from (length air) + cond (airs n used)
+    1 0
 pages_aired-push n air used from h =
     let cut = drop-append-le from air (used ∷ []) h in
     let long = length-drop from air in
@@ -40,17 +49,21 @@ pages_aired-push n air used from h =
     let whole = take_all (length air + 1 - from) (drop from air ++ used ∷ []) (omega arith) in
     let before = take_all (length air - from) (drop from air) (omega arith) in
     let counted = sum_by_push (λ x. cond (airs n x) 1 0) (drop from air) used in
-    ap (λ xs. count_by (airs n) (take (length air + 1 - from) xs)) cut ∙ (ap (count_by (airs n)) whole ∙ (counted ∙ ap (λ xs. count_by (airs n) xs + cond (airs n used) 1 0) (sym before)))
+    ap (λ xs. count_by (airs n) (take (length air + 1 - from) xs)) cut
+    ∙ (ap (count_by (airs n)) whole ∙ (counted ∙ ap (λ xs. count_by (airs n) xs + cond (airs n used) 1 0)
+    (sym before)))
 
 -- the broadcast in whose time a slot lies was released by then, and is not due
-pub broadcast_at-released : (m : Message) (slot : ℕ) → 0 < m.period → m.start ≤ slot → release m (broadcast_at m slot) ≤ slot
+pub broadcast_at-released : (m : Message) (slot : ℕ) → 0 < m.period → m.start ≤ slot
+    → release m (broadcast_at m slot) ≤ slot
 broadcast_at-released m slot h started = omega arith
 
 pub broadcast_at-not_due : (m : Message) (slot : ℕ) → 0 < m.period → m.start ≤ slot → slot < due m (broadcast_at m slot)
 broadcast_at-not_due m slot h started = omega arith
 
 -- and no other is
-pub broadcast_at-only : (m : Message) (slot j : ℕ) → 0 < m.period → m.start ≤ slot → release m j ≤ slot → slot < due m j → j ≡ broadcast_at m slot
+pub broadcast_at-only : (m : Message) (slot j : ℕ) → 0 < m.period → m.start ≤ slot → release m j ≤ slot
+    → slot < due m j → j ≡ broadcast_at m slot
 broadcast_at-only m slot j h started released not_due =
     let mine = broadcast_at-released m slot h started in
     let yours = broadcast_at-not_due m slot h started in
@@ -61,7 +74,8 @@ broadcast_at-only m slot j h started released not_due =
     omega arith
 
 -- a broadcast other than that is due by the slot, or released after it
-pub other_broadcast : (m : Message) (slot j : ℕ) → 0 < m.period → m.start ≤ slot → j ≢ broadcast_at m slot → (due m j ≤ slot) ⊎ (slot < release m j)
+pub other_broadcast : (m : Message) (slot j : ℕ) → 0 < m.period → m.start ≤ slot → j ≢ broadcast_at m slot
+    → (due m j ≤ slot) ⊎ (slot < release m j)
 other_broadcast m slot j h started other =
     elim (cases_lt slot (release m j)) [
       | inl later ↦ inr later
@@ -72,10 +86,12 @@ other_broadcast m slot j h started other =
     ]
 
 -- where a whole number of periods is over at the next slot, the next broadcast is released there; else the same goes on
-pub next_release : (m : Message) (slot : ℕ) → 0 < m.period → m.start ≤ slot → (slot + 1 - m.start) % m.period ≡ 0 → release m (broadcast_at m (slot + 1)) ≡ slot + 1
+pub next_release : (m : Message) (slot : ℕ) → 0 < m.period → m.start ≤ slot → (slot + 1 - m.start) % m.period ≡ 0
+    → release m (broadcast_at m (slot + 1)) ≡ slot + 1
 next_release m slot h started over = omega arith
 
-pub same_broadcast : (m : Message) (slot : ℕ) → 0 < m.period → m.start ≤ slot → (slot + 1 - m.start) % m.period ≢ 0 → broadcast_at m (slot + 1) ≡ broadcast_at m slot
+pub same_broadcast : (m : Message) (slot : ℕ) → 0 < m.period → m.start ≤ slot → (slot + 1 - m.start) % m.period ≢ 0
+    → broadcast_at m (slot + 1) ≡ broadcast_at m slot
 same_broadcast m slot h started goes_on =
     let released : release m (broadcast_at m (slot + 1)) ≤ slot = omega arith in
     let not_due : slot < due m (broadcast_at m (slot + 1)) = omega arith in

@@ -1,5 +1,7 @@
 -- An air list with its background idle.
-use Rattle.std.proofs.Common.{◌≡◌, ℕ, zero, suc, ◌+◌, ◌-◌, ◌<◌, ◌==◌, ◌⊎◌, ◌&&◌, min, Bool, true, false, cond, leb, Option, Some, None, List, [], ◌∷◌, length, take, drop, map, filter, get_or, count_by, refl, sym, ap, subst, ◌∙◌, inl, inr, arith}
+use Rattle.std.proofs.Common.{◌≡◌, ℕ, zero, suc, ◌+◌, ◌-◌, ◌<◌, ◌==◌, ◌⊎◌, ◌&&◌, min, Bool, true, false, cond, leb}
+use Rattle.std.proofs.Common.{Option, Some, None, List, [], ◌∷◌, length, take, drop, map, filter, get_or, count_by}
+use Rattle.std.proofs.Common.{refl, sym, ap, subst, ◌∙◌, inl, inr, arith}
 use Rattle.std.specs.List.{All, AllPairs, Any, Contains}
 use Rattle.std.proofs.lemmas.Bool.{cases_Bool, and_parts, and_from, eqb-true, eq-eqb, false≢true}
 use Rattle.std.proofs.lemmas.List.{get_or-map, length-map, get_or_default, take-map, drop-map}
@@ -10,9 +12,11 @@ use Rattle.std.proofs.lemmas.List.Sums.{sum_by-cons}
 use Rattle.scheduler.specs.declared.plan.Rank.{Rank}
 use Rattle.scheduler.specs.declared.plan.Rank.TheVariants.{High, Normal, Background}
 use Rattle.scheduler.specs.Message.{Message, release, due, has_broadcast, is_before_stop}
-use Rattle.scheduler.specs.Air.{Air, airs, layer, layer_of, pages_aired, IsPending, IsFirst, IsChosen, IsServedBy, next_page}
+use Rattle.scheduler.specs.Air.{Air, airs, layer, layer_of, pages_aired, IsPending, IsFirst, IsChosen, IsServedBy}
+use Rattle.scheduler.specs.Air.{next_page}
 use Rattle.scheduler.specs.Background.{is_background, foreground, has_background, blank_use, blanked}
-use Rattle.scheduler.specs.BackgroundLaws.{BackgroundCountsAsIdle, BackgroundChangesNothing, BlankingKeepsPages, BlankingKeepsCompleted}
+use Rattle.scheduler.specs.BackgroundLaws.{BackgroundCountsAsIdle, BackgroundChangesNothing, BlankingKeepsPages}
+use Rattle.scheduler.specs.BackgroundLaws.{BlankingKeepsCompleted}
 use Rattle.scheduler.specs.Completed.{is_whole}
 use Rattle.scheduler.proofs.Completed.{one_if}
 use Rattle.scheduler.proofs.Lists.{rising-same, count_below_same}
@@ -38,7 +42,8 @@ Any-passing P p (x ∷ xs) m (zero, within, is) passes holds =
 Any-passing P p (x ∷ xs) m (suc k, within, is) passes holds =
     let rest = Any-passing P p xs m (k, omega arith, is) passes holds in
     elim (cases_Bool (p x)) [
-      | inl first ↦ subst (λ (b : Bool). Any P (cond b (x ∷ filter p xs) (filter p xs))) (sym first) (suc rest.0, rest.1, omega (arith, rest.2), rest.3, rest.4)
+      | inl first ↦ subst (λ (b : Bool). Any P (cond b (x ∷ filter p xs) (filter p xs))) (sym first)
+          (suc rest.0, rest.1, omega (arith, rest.2), rest.3, rest.4)
       | inr fails ↦ subst (λ (b : Bool). Any P (cond b (x ∷ filter p xs) (filter p xs))) (sym fails) rest
     ]
 
@@ -69,7 +74,8 @@ not_its_number messages m rising here other =
       | inl passes ↦
           let found = Any-from_list_any test messages passes in
           let parts = and_parts (is_background found.1) (found.1.number == m.number) found.4 in
-          let same = one_number messages found.1 m rising (found.0, found.2, found.3) here (eqb-true found.1.number m.number parts.1) in
+          let same = one_number messages found.1 m rising (found.0, found.2, found.3) here
+          (eqb-true found.1.number m.number parts.1) in
           absurd (omega (arith, other, eqb-true (layer found.1) 1 parts.0, ap layer same))
     ]
 
@@ -79,7 +85,14 @@ its_number : (messages : List Message) (m : Message)
     → has_background messages m.number ≡ true
 its_number messages m here is =
     let test : Message → Bool = λ x. is_background x && (x.number == m.number) in
-    list_any-from_Any test messages (here.0, m, here.1, here.2, and_from (is_background m) (m.number == m.number) (eq-eqb (layer m) 1 is) (eq-eqb m.number m.number refl))
+    list_any-from_Any test messages (
+      here.0,
+      m,
+      here.1,
+      here.2,
+      and_from (is_background m) (m.number == m.number)
+          (eq-eqb (layer m) 1 is) (eq-eqb m.number m.number refl),
+    )
 
 -- a slot airs a page of a message that isn't background with and without the others
 airs_same : (messages : List Message) (m : Message)
@@ -106,7 +119,14 @@ count_same : (n : ℕ) (g : Option (ℕ × ℕ) → Option (ℕ × ℕ)) (air : 
 count_same n g [] same = refl
 count_same n g (x ∷ air) same =
     let one = ap (λ (b : Bool). one_if b) (same x) in
-    omega (arith, sum_by-cons (λ u. cond (airs n u) 1 0) (g x) (map g air), sum_by-cons (λ u. cond (airs n u) 1 0) x air, one, count_same n g air same)
+    omega (
+      arith,
+      sum_by-cons (λ u. cond (airs n u) 1 0) (g x) (map g air),
+      sum_by-cons (λ u. cond (airs n u) 1 0) x
+          air,
+      one,
+      count_same n g air same,
+    )
 
 pub blanking_keeps_pages : BlankingKeepsPages
 blanking_keeps_pages messages air m from to rising here other =
@@ -119,7 +139,8 @@ blanking_keeps_pages messages air m from to rising here other =
 pub blanking_keeps_completed : BlankingKeepsCompleted
 blanking_keeps_completed messages air m slot rising here other =
     count_below_same (is_whole m (blanked messages air) slot) (is_whole m air slot) (slot + 1) (λ j h.
-    ap (λ n. has_broadcast m j && (is_before_stop (release m j) m.stop && leb m.pages n)) (blanking_keeps_pages messages air m (release m j) (min (due m j) slot) rising here other))
+    ap (λ n. has_broadcast m j && (is_before_stop (release m j) m.stop && leb m.pages n))
+    (blanking_keeps_pages messages air m (release m j) (min (due m j) slot) rising here other))
 
 -- what is pending is pending by any air list with the same pages
 IsPending-same_pages : (m : Message) (j : ℕ) (air other : Air) (slot : ℕ)
@@ -159,7 +180,8 @@ none_without : (messages : List Message) (air : Air) (slot : ℕ)
     → All (λ o. layer o ≡ 0 → (k : ℕ) → ¬ IsPending o k air slot) messages
     → IsChosen (foreground messages) (blanked messages air) slot None
 none_without messages air slot rising none =
-    All-passing (λ o. (k : ℕ) → ¬ IsPending o k (blanked messages air) slot) (λ o. layer o == 0) messages (λ i d within. λ passes. λ k pending.
+    All-passing (λ o. (k : ℕ) → ¬ IsPending o k (blanked messages air) slot) (λ o. layer o == 0) messages
+    (λ i d within. λ passes. λ k pending.
     let o : Message = get_or messages i d in
     let other = eqb-true (layer o) 0 passes in
     let same = blanking_keeps_pages messages air o (release o k) slot rising (Contains_at messages i d within) other in
@@ -181,22 +203,29 @@ chosen_without messages air slot (Some used) rising chosen =
     let number = ap (λ (u : ℕ × ℕ). has_background messages u.0) page in
     elim (cases_layer m) [
       | inr is ↦
-          let gone : blank_use messages (Some used) ≡ None = ap (λ (b : Bool). cond b None (Some used)) (number ∙ its_number messages m here is) in
-          let none = none_without messages air slot rising (λ i d within. λ other k pending. alone_pending m (get_or messages i d) j k is other (first.first i d within k pending)) in
+          let gone : blank_use messages (Some used) ≡ None = ap (λ (b : Bool). cond b None (Some used))
+          (number ∙ its_number messages m here is) in
+          let none = none_without messages air slot rising (λ i d within. λ other k pending. alone_pending m
+          (get_or messages i d) j k is other (first.first i d within k pending)) in
           subst (IsChosen (foreground messages) blank slot) (sym gone) none
       | inl other ↦
-          let kept : blank_use messages (Some used) ≡ Some used = ap (λ (b : Bool). cond b None (Some used)) (number ∙ not_its_number messages m rising here other) in
+          let kept : blank_use messages (Some used) ≡ Some used = ap (λ (b : Bool). cond b None (Some used))
+          (number ∙ not_its_number messages m rising here other) in
           let same = blanking_keeps_pages messages air m (release m j) slot rising here other in
           let its_page : used ≡ next_page m j blank slot = page ∙ ap (λ (n : ℕ). (m.number, n + 1)) (sym same) in
           let its_first : IsFirst (foreground messages) blank slot m j = record {
             pending = IsPending-same_pages m j air blank slot (sym same) first.pending;
-            first = All-passing (λ o. (k : ℕ) → IsPending o k blank slot → IsServedBy m j o k) (λ o. layer o == 0) messages (λ i d within. λ passes. λ k pending.
+            first = All-passing (λ o. (k : ℕ) → IsPending o k blank slot → IsServedBy m j o k) (λ o. layer o == 0)
+                messages (λ i d within. λ passes. λ k pending.
                 let o : Message = get_or messages i d in
-                let pages = blanking_keeps_pages messages air o (release o k) slot rising (Contains_at messages i d within) (eqb-true (layer o) 0 passes) in
+                let pages = blanking_keeps_pages messages air o (release o k) slot rising
+                (Contains_at messages i d within) (eqb-true (layer o) 0 passes) in
                 first.first i d within k (IsPending-same_pages o k blank air slot pages pending));
           } in
-          let P : Message → Type 0 = λ x. (i : ℕ) × IsFirst (foreground messages) blank slot x i × (used ≡ next_page x i blank slot) in
-          let found : IsChosen (foreground messages) blank slot (Some used) = Any-passing P (λ o. layer o == 0) messages m here (eq-eqb (layer m) 0 other) (j, its_first, its_page) in
+          let P : Message → Type 0 = λ x. (i : ℕ) × IsFirst (foreground messages) blank slot x i
+          × (used ≡ next_page x i blank slot) in
+          let found : IsChosen (foreground messages) blank slot (Some used) = Any-passing P (λ o. layer o == 0)
+          messages m here (eq-eqb (layer m) 0 other) (j, its_first, its_page) in
           subst (IsChosen (foreground messages) blank slot) (sym kept) found
     ]
 
@@ -205,8 +234,11 @@ background_counts_as_idle messages air rising rule = λ slot within.
     let g = blank_use messages in
     let inside : slot < length air = omega (arith, within, length-map air g) in
     let at : get_or (map g air) slot None ≡ g (get_or air slot None) = get_or-map g air slot None None inside in
-    subst (IsChosen (foreground messages) (blanked messages air) slot) (sym at) (chosen_without messages air slot (get_or air slot None) rising (rule slot inside))
+    subst (IsChosen (foreground messages) (blanked messages air) slot) (sym at)
+    (chosen_without messages air slot (get_or air slot None) rising (rule slot inside))
 
 pub background_changes_nothing : BackgroundChangesNothing
 background_changes_nothing messages air alone rising rule others same =
-    IsAirOf-only (foreground messages) (blanked messages air) alone (AllPairs-filter (λ a b. a.number < b.number) (λ o. layer o == 0) messages rising) (background_counts_as_idle messages air rising rule) others (length-map air (blank_use messages) ∙ sym same)
+    IsAirOf-only (foreground messages) (blanked messages air) alone
+    (AllPairs-filter (λ a b. a.number < b.number) (λ o. layer o == 0) messages rising)
+    (background_counts_as_idle messages air rising rule) others (length-map air (blank_use messages) ∙ sym same)

@@ -1,5 +1,6 @@
 -- Lemmas on lists.
-use Rattle.std.proofs.Common.{◌≡◌, ◌≢◌, ℕ, zero, suc, ◌+◌, ◌-◌, ◌<◌, Bool, true, false, cond, List, [], ◌∷◌, ◌++◌, length, get_or, take, drop, map, count_by, inl, inr, refl, sym, ap, ◌∙◌, arith}
+use Rattle.std.proofs.Common.{◌≡◌, ◌≢◌, ℕ, zero, suc, ◌+◌, ◌-◌, ◌<◌, Bool, true, false, cond, List, [], ◌∷◌, ◌++◌}
+use Rattle.std.proofs.Common.{length, get_or, take, drop, map, count_by, inl, inr, refl, sym, ap, ◌∙◌, arith}
 use Rattle.std.proofs.Math.Nat.{add-zero}
 use Rattle.std.specs.Bool.{MatchBool}
 use Rattle.std.specs.List.{All, AllPairs, range_with_len, Any}
@@ -9,7 +10,8 @@ use Rattle.std.proofs.lemmas.List.Sums.{sum_by_push}
 use Rattle.std.proofs.lemmas.Bool.{cases_order, cases_eq}
 
 -- a loop that writes over each element reads at its place what stood there
-pub map_over-read : {X : Type 0} (f : X → X) (xs ys : List X) (i : ℕ) (d : X) → i < length xs → ys ≡ map f (take i xs) ++ drop i xs → get_or ys i d ≡ get_or xs i d
+pub map_over-read : {X : Type 0} (f : X → X) (xs ys : List X) (i : ℕ) (d : X) → i < length xs
+    → ys ≡ map f (take i xs) ++ drop i xs → get_or ys i d ≡ get_or xs i d
 map_over-read f xs ys i d h e =
     let front : length (map f (take i xs)) ≡ i = length-map (take i xs) f ∙ length-take-le i xs (omega arith) in
     let read = get_or-append_right (map f (take i xs)) (drop i xs) i i d front (omega arith) in
@@ -18,7 +20,8 @@ map_over-read f xs ys i d h e =
     ap (λ zs. get_or zs i d) e ∙ (read ∙ (behind ∙ ap (λ k. get_or xs k d) here))
 
 -- in a list whose numbers rise, equal numbers are at one place
-pub rising-same : {X : Type 0} (f : X → ℕ) (xs : List X) → AllPairs (λ a b. f a < f b) xs → (i j : ℕ) (d : X) → i < length xs → j < length xs → f (get_or xs i d) ≡ f (get_or xs j d) → i ≡ j
+pub rising-same : {X : Type 0} (f : X → ℕ) (xs : List X) → AllPairs (λ a b. f a < f b) xs → (i j : ℕ) (d : X)
+    → i < length xs → j < length xs → f (get_or xs i d) ≡ f (get_or xs j d) → i ≡ j
 rising-same f xs rising i j d hi hj e =
     elim (cases_order i j) [
       | inl same ↦ same
@@ -40,13 +43,16 @@ range_push a (suc n) =
     ap (λ xs. a ∷ xs) (range_push (a + 1) n ∙ ap (λ x. range_with_len (a + 1) n ++ x ∷ []) here)
 
 -- a count over the numbers below suc n
-pub count_below_more : (p : ℕ → Bool) (n : ℕ) → count_by p (range_with_len 0 (suc n)) ≡ count_by p (range_with_len 0 n) + cond (p n) 1 0
+pub count_below_more : (p : ℕ → Bool) (n : ℕ) → count_by p (range_with_len 0 (suc n)) ≡ count_by p (range_with_len 0 n)
+    + cond (p n) 1 0
 count_below_more p n =
     let here : 0 + n ≡ n = omega arith in
-    ap (count_by p) (range_push 0 n) ∙ (sum_by_push (λ j. cond (p j) 1 0) (range_with_len 0 n) (0 + n) ∙ ap (λ j. count_by p (range_with_len 0 n) + cond (p j) 1 0) here)
+    ap (count_by p) (range_push 0 n) ∙ (sum_by_push (λ j. cond (p j) 1 0) (range_with_len 0 n) (0 + n)
+    ∙ ap (λ j. count_by p (range_with_len 0 n) + cond (p j) 1 0) here)
 
 -- tests that agree below n count the same
-pub count_below_same : (p q : ℕ → Bool) (n : ℕ) → ((j : ℕ) → j < n → p j ≡ q j) → count_by p (range_with_len 0 n) ≡ count_by q (range_with_len 0 n)
+pub count_below_same : (p q : ℕ → Bool) (n : ℕ) → ((j : ℕ) → j < n → p j ≡ q j)
+    → count_by p (range_with_len 0 n) ≡ count_by q (range_with_len 0 n)
 count_below_same p q zero same = refl
 count_below_same p q (suc n) same =
     let before = count_below_same p q n (λ j h. same j (omega arith)) in
@@ -54,7 +60,8 @@ count_below_same p q (suc n) same =
     omega (arith, before, last, count_below_more p n, count_below_more q n)
 
 -- tests that agree below n but at one place differ in their counts by that place
-pub count_below_but_one : (p q : ℕ → Bool) (at n : ℕ) → at < n → ((j : ℕ) → j < n → j ≢ at → p j ≡ q j) → count_by p (range_with_len 0 n) + cond (q at) 1 0 ≡ count_by q (range_with_len 0 n) + cond (p at) 1 0
+pub count_below_but_one : (p q : ℕ → Bool) (at n : ℕ) → at < n → ((j : ℕ) → j < n → j ≢ at → p j ≡ q j)
+    → count_by p (range_with_len 0 n) + cond (q at) 1 0 ≡ count_by q (range_with_len 0 n) + cond (p at) 1 0
 count_below_but_one p q at zero within same = absurd (omega arith)
 count_below_but_one p q at (suc n) within same =
     elim (cases_eq at n) [
@@ -78,7 +85,8 @@ count_below_none p (suc n) never =
     omega (arith, before, last, count_below_more p n)
 
 -- numbers that rise stay so where each element's number stays
-pub rising-map : {X : Type 0} (f : X → ℕ) (g : X → X) → ((x : X) → f (g x) ≡ f x) → (xs : List X) → AllPairs (λ a b. f a < f b) xs → AllPairs (λ a b. f a < f b) (map g xs)
+pub rising-map : {X : Type 0} (f : X → ℕ) (g : X → X) → ((x : X) → f (g x) ≡ f x) → (xs : List X)
+    → AllPairs (λ a b. f a < f b) xs → AllPairs (λ a b. f a < f b) (map g xs)
 rising-map f g same xs rising = λ i j d before within.
     let long = length-map xs g in
     let first = ap f (get_or-map g xs i d d (omega arith)) ∙ same (get_or xs i d) in
@@ -87,7 +95,8 @@ rising-map f g same xs rising = λ i j d before within.
     omega (arith, first, second, old)
 
 -- and where an element with a greater number follows
-pub rising-push : {X : Type 0} (f : X → ℕ) (xs : List X) (x : X) → AllPairs (λ a b. f a < f b) xs → All (λ a. f a < f x) xs → AllPairs (λ a b. f a < f b) (xs ++ x ∷ [])
+pub rising-push : {X : Type 0} (f : X → ℕ) (xs : List X) (x : X) → AllPairs (λ a b. f a < f b) xs
+    → All (λ a. f a < f x) xs → AllPairs (λ a b. f a < f b) (xs ++ x ∷ [])
 rising-push f xs x rising below = all_pairs_push (λ a b. f a < f b) xs x rising below
 
 -- what is true of some element is true of what it is mapped to

@@ -1,5 +1,7 @@
 -- By the rule, the last page of a message is aired as often as a broadcast is whole, and no page of it less often.
-use Rattle.std.proofs.Common.{◌≡◌, ℕ, zero, suc, ◌+◌, ◌-◌, ◌%◌, ◌≤◌, ◌<◌, ◌⊎◌, Bool, true, false, ◌&&◌, cond, leb, eqb, min, List, [], ◌∷◌, ◌++◌, length, take, drop, get_or, count_by, Option, Some, None, inl, inr, refl, sym, ap, subst, ◌∙◌, arith}
+use Rattle.std.proofs.Common.{◌≡◌, ℕ, zero, suc, ◌+◌, ◌-◌, ◌%◌, ◌≤◌, ◌<◌, ◌⊎◌, Bool, true, false, ◌&&◌, cond, leb, eqb}
+use Rattle.std.proofs.Common.{min, List, [], ◌∷◌, ◌++◌, length, take, drop, get_or, count_by, Option, Some, None, inl}
+use Rattle.std.proofs.Common.{inr, refl, sym, ap, subst, ◌∙◌, arith}
 use Rattle.std.specs.List.{AllPairs, Contains}
 use Rattle.std.proofs.Math.Seq.{take-suc}
 use Rattle.std.proofs.lemmas.Bool.{cases_lt, cases_eq, cases_Bool, eq-eqb, ne_eqb, false≢true}
@@ -9,7 +11,8 @@ use Rattle.scheduler.specs.Message.{Message, release, due, has_broadcast, is_bef
 use Rattle.scheduler.specs.Air.{Air, airs, pages_aired, IsAirOf}
 use Rattle.scheduler.specs.Completed.{completed, is_whole}
 use Rattle.scheduler.specs.Pages.{airs_page, times_aired}
-use Rattle.scheduler.proofs.Air.{pages_aired-none, pages_aired-append, pages_aired-push, broadcast_at-only, broadcast_at-released, next_release, same_broadcast}
+use Rattle.scheduler.proofs.Air.{pages_aired-none, pages_aired-append, pages_aired-push, broadcast_at-only}
+use Rattle.scheduler.proofs.Air.{broadcast_at-released, next_release, same_broadcast}
 use Rattle.scheduler.proofs.Lists.{count_below_none, count_below_same}
 use Rattle.scheduler.proofs.Message.{has_broadcast-from, is_before_stop-from}
 use Rattle.scheduler.proofs.Completed.{is_whole-unreleased, completed-push, so_far}
@@ -24,7 +27,8 @@ one_where b = cond b 1 0
 abbrev times : Message → ℕ → Air → ℕ
 times m page air = count_by (airs_page m.number page) air
 
-times-push : (m : Message) (page : ℕ) (air : Air) (used : Option (ℕ × ℕ)) → times m page (air ++ used ∷ []) ≡ times m page air + one_where (airs_page m.number page used)
+times-push : (m : Message) (page : ℕ) (air : Air) (used : Option (ℕ × ℕ))
+    → times m page (air ++ used ∷ []) ≡ times m page air + one_where (airs_page m.number page used)
 times-push m page air used = sum_by_push (λ x. cond (airs_page m.number page x) 1 0) air used
 
 -- the slot after the list airs the next page of the broadcast under way
@@ -35,21 +39,26 @@ record IsNextOf (m : Message) (air : Air) (used : Option (ℕ × ℕ)) : Type 0 
   few : so_far m air < m.pages
   page : used ≡ Some (m.number, so_far m air + 1)
 
-used_is_next : (messages : List Message) (m : Message) (air : Air) (used : Option (ℕ × ℕ)) → AllPairs (λ a b. a.number < b.number) messages → Contains messages m → IsAirOf messages (air ++ used ∷ []) → airs m.number used ≡ true → IsNextOf m air used
+used_is_next : (messages : List Message) (m : Message) (air : Air) (used : Option (ℕ × ℕ))
+    → AllPairs (λ a b. a.number < b.number) messages → Contains messages m → IsAirOf messages (air ++ used ∷ [])
+    → airs m.number used ≡ true → IsNextOf m air used
 used_is_next messages m air used rising here rule named =
     let slot = length air in
     let long = length_push air used in
     let read = get_or_push air used None slot refl in
     let Named : Option (ℕ × ℕ) → Type 0 = λ u. airs m.number u ≡ true in
-    let found = aired_is_pending messages (air ++ used ∷ []) slot m rising here rule (omega (arith, long)) (subst Named (sym read) named) in
+    let found = aired_is_pending messages (air ++ used ∷ []) slot m rising here rule (omega (arith, long))
+    (subst Named (sym read) named) in
     let j = found.0 in
     let p = IsPending-unappend m j air (used ∷ []) slot (omega arith) found.1 in
     let period : 0 < m.period = omega (arith, p.released, p.not_due) in
     let started : m.start ≤ slot = omega (arith, p.released) in
     let now = broadcast_at-only m slot j period started p.released p.not_due in
     let Page : ℕ → Option (ℕ × ℕ) = λ n. Some (m.number, n + 1) in
-    let told : used ≡ Page (pages_aired m.number air (release m j) slot) = sym read ∙ (found.2 ∙ ap Page (pages_aired-append m.number air (used ∷ []) (release m j) slot (omega arith))) in
-    let At : ℕ → Type 0 = λ i. (has_broadcast m i ≡ true) × (pages_aired m.number air (release m i) slot < m.pages) × (used ≡ Page (pages_aired m.number air (release m i) slot)) in
+    let told : used ≡ Page (pages_aired m.number air (release m j) slot) = sym read
+    ∙ (found.2 ∙ ap Page (pages_aired-append m.number air (used ∷ []) (release m j) slot (omega arith))) in
+    let At : ℕ → Type 0 = λ i. (has_broadcast m i ≡ true) × (pages_aired m.number air (release m i) slot < m.pages)
+    × (used ≡ Page (pages_aired m.number air (release m i) slot)) in
     let at = subst At now (has_broadcast-from m j p.requested, p.unfinished, told) in
     record {
       started = started;
@@ -60,7 +69,8 @@ used_is_next messages m air used rising here rule named =
     }
 
 -- which page that is
-pub page_of_next : (m : Message) (page n : ℕ) (used : Option (ℕ × ℕ)) → used ≡ Some (m.number, n) → one_where (airs_page m.number page used) ≡ one_where (eqb n page)
+pub page_of_next : (m : Message) (page n : ℕ) (used : Option (ℕ × ℕ)) → used ≡ Some (m.number, n)
+    → one_where (airs_page m.number page used) ≡ one_where (eqb n page)
 page_of_next m page n used e =
     let One : Option (ℕ × ℕ) → ℕ = λ u. one_where (airs_page m.number page u) in
     ap One e ∙ ap (λ (b : Bool). one_where (b && eqb n page)) (eq-eqb m.number m.number refl)
@@ -79,7 +89,8 @@ so_far_early m air early =
     pages_aired-none m.number air (release m (broadcast_at m (length air))) (length air) (omega arith)
 
 -- the pages so far after the slot: none where a new broadcast begins, else with the one that was aired
-so_far-push : (m : Message) (air : Air) (used : Option (ℕ × ℕ)) → 0 < m.period → m.start ≤ length air → (so_far m (air ++ used ∷ []) ≡ 0) ⊎ (so_far m (air ++ used ∷ []) ≡ so_far m air + one_where (airs m.number used))
+so_far-push : (m : Message) (air : Air) (used : Option (ℕ × ℕ)) → 0 < m.period → m.start ≤ length air
+    → (so_far m (air ++ used ∷ []) ≡ 0) ⊎ (so_far m (air ++ used ∷ []) ≡ so_far m air + one_where (airs m.number used))
 so_far-push m air used period started =
     let slot = length air in
     let long = length_push air used in
@@ -88,11 +99,13 @@ so_far-push m air used period started =
     elim (cases_eq ((slot + 1 - m.start) % m.period) 0) [
       | inl over ↦
           let at_end = next_release m slot period started over in
-          inl (ap After long ∙ pages_aired-none m.number (air ++ used ∷ []) (release m (broadcast_at m (slot + 1))) (slot + 1) (omega arith))
+          inl (ap After long ∙ pages_aired-none m.number (air ++ used ∷ []) (release m (broadcast_at m (slot + 1)))
+          (slot + 1) (omega arith))
       | inr goes_on ↦
           let same = same_broadcast m slot period started goes_on in
           let pushed = pages_aired-push m.number air used (release m (broadcast_at m slot)) released in
-          inr (ap After long ∙ (ap (λ i. pages_aired m.number (air ++ used ∷ []) (release m i) (slot + 1)) same ∙ pushed))
+          inr (ap After long ∙ (ap (λ i. pages_aired m.number (air ++ used ∷ []) (release m i) (slot + 1)) same
+          ∙ pushed))
     ]
 
 -- the counts of a page, after some slots
@@ -101,7 +114,10 @@ record AreCounted (m : Message) (page : ℕ) (air : Air) : Type 0 where
   whole : completed m air (length air) ≤ times m page air
   under_way : page ≤ so_far m air → so_far m air < m.pages → completed m air (length air) + 1 ≤ times m page air
 
-counted_next : (messages : List Message) (m : Message) (page : ℕ) (air : Air) (used : Option (ℕ × ℕ)) → AllPairs (λ a b. a.number < b.number) messages → Contains messages m → 0 < m.pages → 0 < m.period → 1 ≤ page → page ≤ m.pages → IsAirOf messages (air ++ used ∷ []) → AreCounted m page air → AreCounted m page (air ++ used ∷ [])
+counted_next : (messages : List Message) (m : Message) (page : ℕ) (air : Air) (used : Option (ℕ × ℕ))
+    → AllPairs (λ a b. a.number < b.number) messages → Contains messages m → 0 < m.pages → 0 < m.period → 1 ≤ page
+    → page ≤ m.pages → IsAirOf messages (air ++ used ∷ []) → AreCounted m page air
+    → AreCounted m page (air ++ used ∷ [])
 counted_next messages m page air used rising here pages period some few rule before =
     let slot = length air in
     let long = length_push air used in
@@ -112,8 +128,10 @@ counted_next messages m page air used rising here pages period some few rule bef
       | inl named ↦
           let next = used_is_next messages m air used rising here rule named in
           let s = so_far m air in
-          let pushed = completed-push m air used pages period next.started (λ u. (next.requested, next.standing, next.few)) in
-          let more : one_where (airs m.number used && eqb (s + one_where (airs m.number used)) m.pages) ≡ one_where (eqb (s + 1) m.pages) = ap (λ (b : Bool). one_where (b && eqb (s + one_where b) m.pages)) named in
+          let pushed = completed-push m air used pages period next.started
+          (λ u. (next.requested, next.standing, next.few)) in
+          let more : one_where (airs m.number used && eqb (s + one_where (airs m.number used)) m.pages) ≡ one_where
+          (eqb (s + 1) m.pages) = ap (λ (b : Bool). one_where (b && eqb (s + one_where b) m.pages)) named in
           let mine = page_of_next m page (s + 1) used next.page in
           let last = page_of_next m m.pages (s + 1) used next.page in
           let one = ap one_where named in
@@ -127,7 +145,11 @@ counted_next messages m page air used rising here pages period some few rule bef
                       record {
                         last = omega (arith, lasts, last, at, pushed, more, before.last);
                         whole = omega (arith, ours, mine, p, at, pushed, more, it, before.whole);
-                        under_way = λ h k. elim after [ inl none ↦ absurd (omega (arith, none)) | inr on ↦ absurd (omega (arith, on, one)) ];
+                        under_way = λ h k. elim after [
+                          | inl none ↦ absurd (omega (arith, none))
+                          | inr on ↦ absurd
+                              (omega (arith, on, one))
+                        ];
                       }
                   | inr isnt ↦
                       let p = ap one_where (ne_eqb (s + 1) page isnt) in
@@ -135,7 +157,11 @@ counted_next messages m page air used rising here pages period some few rule bef
                       record {
                         last = omega (arith, lasts, last, at, pushed, more, before.last);
                         whole = omega (arith, ours, mine, p, at, pushed, more, it, under);
-                        under_way = λ h k. elim after [ inl none ↦ absurd (omega (arith, none)) | inr on ↦ absurd (omega (arith, on, one)) ];
+                        under_way = λ h k. elim after [
+                          | inl none ↦ absurd (omega (arith, none))
+                          | inr on ↦ absurd
+                              (omega (arith, on, one))
+                        ];
                       }
                 ]
             | inr goes_on ↦
@@ -178,8 +204,10 @@ counted_next messages m page air used rising here pages period some few rule bef
                 }
             | inr started ↦
                 let s = so_far m air in
-                let pushed = completed-push m air used pages period started (λ u. absurd (false≢true (sym other ∙ u))) in
-                let more : one_where (airs m.number used && eqb (s + one_where (airs m.number used)) m.pages) ≡ 0 = ap (λ (b : Bool). one_where (b && eqb (s + one_where b) m.pages)) other in
+                let pushed = completed-push m air used pages period started (λ u. absurd (false≢true (sym other ∙ u)))
+                in
+                let more : one_where (airs m.number used && eqb (s + one_where (airs m.number used)) m.pages) ≡ 0 = ap
+                (λ (b : Bool). one_where (b && eqb (s + one_where b) m.pages)) other in
                 let after = so_far-push m air used period started in
                 record {
                   last = omega (arith, lasts, last, at, pushed, more, before.last);
@@ -194,7 +222,9 @@ counted_next messages m page air used rising here pages period some few rule bef
           ]
     ]
 
-counted_front : (messages : List Message) (m : Message) (page : ℕ) (air : Air) (n : ℕ) → AllPairs (λ a b. a.number < b.number) messages → Contains messages m → 0 < m.pages → 0 < m.period → 1 ≤ page → page ≤ m.pages → IsAirOf messages air → n ≤ length air → AreCounted m page (take n air)
+counted_front : (messages : List Message) (m : Message) (page : ℕ) (air : Air) (n : ℕ)
+    → AllPairs (λ a b. a.number < b.number) messages → Contains messages m → 0 < m.pages → 0 < m.period → 1 ≤ page
+    → page ≤ m.pages → IsAirOf messages air → n ≤ length air → AreCounted m page (take n air)
 counted_front messages m page air zero rising here pages period some few rule within =
     let none = completed_early m [] 0 pages (omega arith) in
     let early = so_far_early m [] (omega arith) in
@@ -208,11 +238,14 @@ counted_front messages m page air (suc n) rising here pages period some few rule
     let before = counted_front messages m page air n rising here pages period some few rule (omega arith) in
     let Rule : Air → Type 0 = λ a. IsAirOf messages a in
     let Counted : Air → Type 0 = λ a. AreCounted m page a in
-    let front = IsAirOf-front messages (take (suc n) air) (drop (suc n) air) (subst Rule (sym (take-append-drop (suc n) air)) rule) in
-    subst Counted (sym grown) (counted_next messages m page (take n air) (get_or air n None) rising here pages period some few (subst Rule grown front) before)
+    let front = IsAirOf-front messages (take (suc n) air) (drop (suc n) air)
+    (subst Rule (sym (take-append-drop (suc n) air)) rule) in
+    subst Counted (sym grown) (counted_next messages m page (take n air) (get_or air n None) rising here pages period
+    some few (subst Rule grown front) before)
 
 -- what is whole before a slot is so by the slots before it
-is_whole-front : (m : Message) (air : Air) (slot j : ℕ) → slot ≤ length air → is_whole m (take slot air) slot j ≡ is_whole m air slot j
+is_whole-front : (m : Message) (air : Air) (slot j : ℕ) → slot ≤ length air
+    → is_whole m (take slot air) slot j ≡ is_whole m air slot j
 is_whole-front m air slot j within =
     let long = length-take-le slot air within in
     let to = min (due m j) slot in
@@ -220,15 +253,23 @@ is_whole-front m air slot j within =
     let front = pages_aired-append m.number (take slot air) (drop slot air) (release m j) to (omega (arith, long)) in
     ap (λ n. has_broadcast m j && (is_before_stop (release m j) m.stop && leb m.pages n)) (sym front ∙ whole)
 
-completed-front : (m : Message) (air : Air) (slot : ℕ) → slot ≤ length air → completed m (take slot air) (length (take slot air)) ≡ completed m air slot
+completed-front : (m : Message) (air : Air) (slot : ℕ) → slot ≤ length air
+    → completed m (take slot air) (length (take slot air)) ≡ completed m air slot
 completed-front m air slot within =
-    ap (λ n. completed m (take slot air) n) (length-take-le slot air within) ∙ count_below_same (is_whole m (take slot air) slot) (is_whole m air slot) (slot + 1) (λ j h. is_whole-front m air slot j within)
+    ap (λ n. completed m (take slot air) n) (length-take-le slot air within)
+    ∙ count_below_same (is_whole m (take slot air) slot) (is_whole m air slot) (slot + 1)
+    (λ j h. is_whole-front m air slot j within)
 
-pub last_page_counts : (messages : List Message) (air : Air) (m : Message) (slot : ℕ) → AllPairs (λ a b. a.number < b.number) messages → Contains messages m → 0 < m.pages → 0 < m.period → IsAirOf messages air → slot ≤ length air → times_aired m.number m.pages air slot ≡ completed m air slot
+pub last_page_counts : (messages : List Message) (air : Air) (m : Message) (slot : ℕ)
+    → AllPairs (λ a b. a.number < b.number) messages → Contains messages m → 0 < m.pages → 0 < m.period
+    → IsAirOf messages air → slot ≤ length air → times_aired m.number m.pages air slot ≡ completed m air slot
 last_page_counts messages air m slot rising here pages period rule within =
-    (counted_front messages m m.pages air slot rising here pages period pages (omega arith) rule within).last ∙ completed-front m air slot within
+    (counted_front messages m m.pages air slot rising here pages period pages (omega arith) rule within).last
+    ∙ completed-front m air slot within
 
-pub no_page_less : (messages : List Message) (air : Air) (m : Message) (page slot : ℕ) → AllPairs (λ a b. a.number < b.number) messages → Contains messages m → 1 ≤ page → page ≤ m.pages → 0 < m.period → IsAirOf messages air → slot ≤ length air → completed m air slot ≤ times_aired m.number page air slot
+pub no_page_less : (messages : List Message) (air : Air) (m : Message) (page slot : ℕ)
+    → AllPairs (λ a b. a.number < b.number) messages → Contains messages m → 1 ≤ page → page ≤ m.pages → 0 < m.period
+    → IsAirOf messages air → slot ≤ length air → completed m air slot ≤ times_aired m.number page air slot
 no_page_less messages air m page slot rising here some few period rule within =
     let counted = counted_front messages m page air slot rising here (omega arith) period some few rule within in
     omega (arith, counted.whole, completed-front m air slot within)

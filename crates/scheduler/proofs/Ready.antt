@@ -1,5 +1,6 @@
 -- Lemmas on the message that is ready first.
-use Rattle.std.proofs.Common.{◌≡◌, ℕ, ◌+◌, ◌≤◌, ◌<◌, ◌⊎◌, true, false, List, [], ◌∷◌, ◌++◌, length, get_or, take, Option, Some, None, inl, inr, refl, sym, ap, subst, ◌∙◌, arith}
+use Rattle.std.proofs.Common.{◌≡◌, ℕ, ◌+◌, ◌≤◌, ◌<◌, ◌⊎◌, true, false, List, [], ◌∷◌, ◌++◌, length, get_or, take}
+use Rattle.std.proofs.Common.{Option, Some, None, inl, inr, refl, sym, ap, subst, ◌∙◌, arith}
 use Rattle.std.specs.List.{All, AllPairs}
 use Rattle.std.specs.Option.{ForSome}
 use Rattle.std.proofs.lemmas.List.{get_or_default, take_more}
@@ -15,9 +16,12 @@ use Rattle.scheduler.proofs.Counts.{is_ready-started}
 use Rattle.scheduler.proofs.Lists.{rising-same}
 
 -- the message of a number is at one place, so what is found first is the only one
-pub found_completed : (tracked : List Tracked) (i n : ℕ) (d : Tracked) → AllPairs (λ a b. a.item.entry < b.item.entry) tracked → i < length tracked → (get_or tracked i d).item.entry ≡ n → All (λ t. t.item.entry ≡ n → (get_or tracked i d).completed ≡ t.completed) tracked
+pub found_completed : (tracked : List Tracked) (i n : ℕ) (d : Tracked)
+    → AllPairs (λ a b. a.item.entry < b.item.entry) tracked → i < length tracked → (get_or tracked i d).item.entry ≡ n
+    → All (λ t. t.item.entry ≡ n → (get_or tracked i d).completed ≡ t.completed) tracked
 found_completed tracked i n d rising h named = λ k other within. λ e.
-    let same = rising-same (λ (t : Tracked). t.item.entry) tracked rising i k d h within (named ∙ (sym e ∙ ap (λ (t : Tracked). t.item.entry) (get_or_default tracked k other d within))) in
+    let same = rising-same (λ (t : Tracked). t.item.entry) tracked rising i k d h within
+    (named ∙ (sym e ∙ ap (λ (t : Tracked). t.item.entry) (get_or_default tracked k other d within))) in
     ap (λ (t : Tracked). t.completed) (ap (λ j. get_or tracked j d) same ∙ get_or_default tracked k d other within)
 
 -- to be served no later is transitive
@@ -31,7 +35,9 @@ IsNoLater-trans a b c i j k h g =
       ]
     ]
   where
-    in_class : ((class a < class b) ⊎ ((class a ≡ class b) × (a.number ≤ b.number))) → ((class b < class c) ⊎ ((class b ≡ class c) × (b.number ≤ c.number))) → (class a < class c) ⊎ ((class a ≡ class c) × (a.number ≤ c.number))
+    in_class : ((class a < class b) ⊎ ((class a ≡ class b) × (a.number ≤ b.number)))
+        → ((class b < class c) ⊎ ((class b ≡ class c) × (b.number ≤ c.number)))
+        → (class a < class c) ⊎ ((class a ≡ class c) × (a.number ≤ c.number))
     in_class x y = elim x [
       | inl above ↦ elim y [ inl more ↦ inl (omega arith) | inr tied ↦ inl (omega arith) ]
       | inr tied ↦ elim y [ inl more ↦ inl (omega arith) | inr again ↦ inr (omega arith, omega arith) ]
@@ -56,25 +62,30 @@ pub IsServedBy-same : (a : Message) (i : ℕ) → IsServedBy a i a i
 IsServedBy-same a i = inr (refl, IsNoLater-same a i)
 
 -- one more that is not ready changes nothing
-pub IsFirstOf-push_not : (seen : List Tracked) (slot : ℕ) (first : Option Tracked) (x : Tracked) → is_ready x slot ≡ false → IsFirstOf seen slot first → IsFirstOf (seen ++ x ∷ []) slot first
+pub IsFirstOf-push_not : (seen : List Tracked) (slot : ℕ) (first : Option Tracked) (x : Tracked)
+    → is_ready x slot ≡ false → IsFirstOf seen slot first → IsFirstOf (seen ++ x ∷ []) slot first
 IsFirstOf-push_not seen slot None x not h = All-push (λ t. is_ready t slot ≡ false) seen x h not
 IsFirstOf-push_not seen slot (Some t) x not h = (
   Contains-append_left seen (x ∷ []) t h.0,
   record {
     ready = h.1.ready;
-    first = All-push (λ other. is_ready other slot ≡ true → IsServedFirst slot t other) seen x h.1.first (λ e. absurd (false≢true (sym not ∙ e)));
+    first = All-push (λ other. is_ready other slot ≡ true → IsServedFirst slot t other) seen x h.1.first
+        (λ e. absurd (false≢true (sym not ∙ e)));
   },
 )
 
 -- of one more that is ready and the first so far, the one that is served no later is first
-pub IsFirstOf-push_ready : (seen : List Tracked) (slot : ℕ) (first : Option Tracked) (x t : Tracked) → is_ready x slot ≡ true → IsEarlier slot first x t → IsFirstOf seen slot first → IsFirstOf (seen ++ x ∷ []) slot (Some t)
+pub IsFirstOf-push_ready : (seen : List Tracked) (slot : ℕ) (first : Option Tracked) (x t : Tracked)
+    → is_ready x slot ≡ true → IsEarlier slot first x t → IsFirstOf seen slot first
+    → IsFirstOf (seen ++ x ∷ []) slot (Some t)
 IsFirstOf-push_ready seen slot None x t ready e h =
     let P : Tracked → Type 0 = λ y. IsFirstOf (seen ++ x ∷ []) slot (Some y) in
     subst P (sym e) (
       Contains-push seen x,
       record {
         ready = ready;
-        first = All-push (λ other. is_ready other slot ≡ true → IsServedFirst slot x other) seen x (λ k d within. λ r. absurd (false≢true (sym (h k d within) ∙ r))) (λ r. IsServedBy-same (message_of x) _);
+        first = All-push (λ other. is_ready other slot ≡ true → IsServedFirst slot x other) seen x
+            (λ k d within. λ r. absurd (false≢true (sym (h k d within) ∙ r))) (λ r. IsServedBy-same (message_of x) _);
       },
     )
 IsFirstOf-push_ready seen slot (Some a) x t ready e h =
@@ -85,7 +96,8 @@ IsFirstOf-push_ready seen slot (Some a) x t ready e h =
             Contains-append_left seen (x ∷ []) a h.0,
             record {
               ready = h.1.ready;
-              first = All-push (λ other. is_ready other slot ≡ true → IsServedFirst slot a other) seen x h.1.first (λ r. stays.1);
+              first = All-push (λ other. is_ready other slot ≡ true → IsServedFirst slot a other) seen x h.1.first
+                  (λ r. stays.1);
             },
           )
       | inr goes ↦
@@ -94,22 +106,30 @@ IsFirstOf-push_ready seen slot (Some a) x t ready e h =
             Contains-push seen x,
             record {
               ready = ready;
-              first = All-push (λ other. is_ready other slot ≡ true → IsServedFirst slot x other) seen x (λ k d within. λ r. IsServedBy-trans (message_of x) (message_of a) (message_of (get_or seen k d)) _ _ _ goes.1 (h.1.first k d within r)) (λ r. IsServedBy-same (message_of x) _);
+              first = All-push (λ other. is_ready other slot ≡ true → IsServedFirst slot x other) seen x
+                  (λ k d within. λ r. IsServedBy-trans (message_of x) (message_of a) (message_of (get_or seen k d)) _ _
+                  _ goes.1 (h.1.first k d within r)) (λ r. IsServedBy-same (message_of x) _);
             },
           )
     ]
 
 -- the same for the next element of a list that is gone through
-pub IsFirstOf-more_not : (tracked : List Tracked) (slot i : ℕ) (first : Option Tracked) (d : Tracked) → i < length tracked → is_ready (get_or tracked i d) slot ≡ false → IsFirstOf (take i tracked) slot first → IsFirstOf (take (i + 1) tracked) slot first
+pub IsFirstOf-more_not : (tracked : List Tracked) (slot i : ℕ) (first : Option Tracked) (d : Tracked)
+    → i < length tracked → is_ready (get_or tracked i d) slot ≡ false → IsFirstOf (take i tracked) slot first
+    → IsFirstOf (take (i + 1) tracked) slot first
 IsFirstOf-more_not tracked slot i first d h not seen =
     rw (take_more tracked i d h) (IsFirstOf-push_not (take i tracked) slot first (get_or tracked i d) not seen)
 
-pub IsFirstOf-more_ready : (tracked : List Tracked) (slot i : ℕ) (first : Option Tracked) (d t : Tracked) → i < length tracked → is_ready (get_or tracked i d) slot ≡ true → IsEarlier slot first (get_or tracked i d) t → IsFirstOf (take i tracked) slot first → IsFirstOf (take (i + 1) tracked) slot (Some t)
+pub IsFirstOf-more_ready : (tracked : List Tracked) (slot i : ℕ) (first : Option Tracked) (d t : Tracked)
+    → i < length tracked → is_ready (get_or tracked i d) slot ≡ true → IsEarlier slot first (get_or tracked i d) t
+    → IsFirstOf (take i tracked) slot first → IsFirstOf (take (i + 1) tracked) slot (Some t)
 IsFirstOf-more_ready tracked slot i first d t h ready earlier seen =
-    rw (take_more tracked i d h) (IsFirstOf-push_ready (take i tracked) slot first (get_or tracked i d) t ready earlier seen)
+    rw (take_more tracked i d h) (IsFirstOf-push_ready (take i tracked) slot first (get_or tracked i d) t ready earlier
+    seen)
 
 -- the first so far is fit, and has started
-pub first_started : (tracked : List Tracked) (slot i : ℕ) (first : Option Tracked) → All (λ t. IsFit t slot) tracked → IsFirstOf (take i tracked) slot first → ForSome first (λ t. HasStarted t slot)
+pub first_started : (tracked : List Tracked) (slot i : ℕ) (first : Option Tracked) → All (λ t. IsFit t slot) tracked
+    → IsFirstOf (take i tracked) slot first → ForSome first (λ t. HasStarted t slot)
 first_started tracked slot i None fit h = λ x is. absurd (none-some x is)
 first_started tracked slot i (Some t) fit h = λ x is.
     let Fit : Tracked → Type 0 = λ y. IsFit y slot in

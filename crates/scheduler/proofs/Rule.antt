@@ -1,29 +1,35 @@
 -- Laws of air lists, over their definitions alone.
-use Rattle.std.proofs.Common.{◌≡◌, ◌==◌, ℕ, zero, suc, count_by, ◌+◌, ◌≤◌, ◌<◌, ◌⊎◌, Bool, true, false, cond, List, [], ◌∷◌, ◌++◌, length, get_or, Option, Some, None, inl, inr, refl, sym, ap, subst, ◌∙◌, arith}
+use Rattle.std.proofs.Common.{◌≡◌, ◌==◌, ℕ, zero, suc, count_by, ◌+◌, ◌≤◌, ◌<◌, ◌⊎◌, Bool, true, false, cond, List, []}
+use Rattle.std.proofs.Common.{◌∷◌, ◌++◌, length, get_or, Option, Some, None, inl, inr, refl, sym, ap, subst, ◌∙◌, arith}
 use Rattle.std.specs.List.{All, AllPairs, Contains, between}
 use Rattle.std.proofs.lemmas.List.{length-map, get_or-map, get_or_default, length_push, get_or_push, get_or_append_left}
 use Rattle.std.proofs.lemmas.List.Elements.{All-map, All-push}
-use Rattle.std.proofs.lemmas.Bool.{cases_lt, cases_order, cases_Bool, and_parts, and_from, leb-true, le-leb, eqb-true, false≢true}
+use Rattle.std.proofs.lemmas.Bool.{cases_lt, cases_order, cases_Bool, and_parts, and_from, leb-true, le-leb, eqb-true}
+use Rattle.std.proofs.lemmas.Bool.{false≢true}
 use Rattle.std.proofs.lemmas.List.Edits.{between_more}
 use Rattle.std.proofs.lemmas.List.Sums.{sum_by_push}
 use Rattle.std.proofs.Math.Nat.{le-mul_of_pos_right}
 use Rattle.scheduler.proofs.Completed.{one_if, is_whole-unreleased}
 use Rattle.scheduler.specs.Message.{Message, release, due, IsBeforeStop, stopped_if, stopped_at}
-use Rattle.scheduler.specs.Air.{Air, airs, pages_aired, IsPending, IsChosen, IsAirOf, IsNoLater, IsServedBy, layer, class, next_page}
+use Rattle.scheduler.specs.Air.{Air, airs, pages_aired, IsPending, IsChosen, IsAirOf, IsNoLater, IsServedBy, layer}
+use Rattle.scheduler.specs.Air.{class, next_page}
 use Rattle.scheduler.specs.Completed.{IsWhole, is_whole}
 use Rattle.scheduler.proofs.Air.{pages_aired-none, pages_aired-append, broadcast_at-only}
 use Rattle.scheduler.proofs.Message.{has_broadcast-says, has_broadcast-from, is_before_stop-says, is_before_stop-from}
 use Rattle.scheduler.proofs.Lists.{rising-same}
 
 -- a message with a pending broadcast has a period, and has started
-pending_has_period : (m : Message) (j : ℕ) (air : Air) (slot : ℕ) → IsPending m j air slot → (0 < m.period) × (m.start ≤ slot)
+pending_has_period : (m : Message) (j : ℕ) (air : Air) (slot : ℕ) → IsPending m j air slot → (0 < m.period)
+    × (m.start ≤ slot)
 pending_has_period m j air slot p = (omega (arith, p.released, p.not_due), omega (arith, p.released))
 
 -- at a slot at most one broadcast of a message is pending
-pub IsPending-only : (m : Message) (i j : ℕ) (air : Air) (slot : ℕ) → IsPending m i air slot → IsPending m j air slot → i ≡ j
+pub IsPending-only : (m : Message) (i j : ℕ) (air : Air) (slot : ℕ) → IsPending m i air slot → IsPending m j air slot
+    → i ≡ j
 IsPending-only m i j air slot p q =
     let known = pending_has_period m i air slot p in
-    broadcast_at-only m slot i known.0 known.1 p.released p.not_due ∙ sym (broadcast_at-only m slot j known.0 known.1 q.released q.not_due)
+    broadcast_at-only m slot i known.0 known.1 p.released p.not_due
+    ∙ sym (broadcast_at-only m slot j known.0 known.1 q.released q.not_due)
 
 -- what is no later both ways has one number
 pub IsNoLater-both : (a b : Message) (i j : ℕ) → IsNoLater a i b j → IsNoLater b j a i → a.number ≡ b.number
@@ -33,7 +39,8 @@ IsNoLater-both a b i j h g =
       | inr tied ↦ elim g [ inl later ↦ absurd (omega arith) | inr again ↦ in_class tied.1 again.1 ]
     ]
   where
-    in_class : ((class a < class b) ⊎ ((class a ≡ class b) × (a.number ≤ b.number))) → ((class b < class a) ⊎ ((class b ≡ class a) × (b.number ≤ a.number))) → a.number ≡ b.number
+    in_class : ((class a < class b) ⊎ ((class a ≡ class b) × (a.number ≤ b.number)))
+        → ((class b < class a) ⊎ ((class b ≡ class a) × (b.number ≤ a.number))) → a.number ≡ b.number
     in_class x y = elim x [
       | inl above ↦ elim y [ inl below ↦ absurd (omega arith) | inr same ↦ absurd (omega arith) ]
       | inr same ↦ elim y [ inl below ↦ absurd (omega arith) | inr again ↦ omega arith ]
@@ -48,7 +55,11 @@ IsNoLater-total a b i j =
           | inl below ↦ inl (inr (tied, inr (same, omega arith)))
           | inr above ↦ inr (inr (sym tied, inr (sym same, above)))
         ]
-        | inr apart ↦ elim apart [ inl above ↦ inl (inr (tied, inl above)) | inr below ↦ inr (inr (sym tied, inl below)) ]
+        | inr apart ↦ elim apart [
+          | inl above ↦ inl (inr (tied, inl above))
+          | inr below ↦ inr
+              (inr (sym tied, inl below))
+        ]
       ]
       | inr apart ↦ elim apart [ inl sooner ↦ inl (inl sooner) | inr later ↦ inr (inl later) ]
     ]
@@ -75,7 +86,9 @@ IsServedBy-total a b i j =
     ]
 
 -- a slot has one choice, where the numbers of the messages rise
-pub IsChosen-only : (messages : List Message) (air : Air) (slot : ℕ) (used other : Option (ℕ × ℕ)) → AllPairs (λ a b. a.number < b.number) messages → IsChosen messages air slot used → IsChosen messages air slot other → used ≡ other
+pub IsChosen-only : (messages : List Message) (air : Air) (slot : ℕ) (used other : Option (ℕ × ℕ))
+    → AllPairs (λ a b. a.number < b.number) messages → IsChosen messages air slot used
+    → IsChosen messages air slot other → used ≡ other
 IsChosen-only messages air slot None None rising x y = refl
 IsChosen-only messages air slot None (Some other) rising x y =
     let P : Message → Type 0 = λ m. (j : ℕ) → ¬ IsPending m j air slot in
@@ -95,14 +108,16 @@ IsChosen-only messages air slot (Some used) (Some other) rising x y =
     let number = IsServedBy-both m n j k before after in
     let here = x.3 in
     let there = sym (get_or_default messages y.0 n m y.2) ∙ y.3 in
-    let place = rising-same (λ (o : Message). o.number) messages rising x.0 y.0 m x.2 y.2 (ap (λ (o : Message). o.number) here ∙ (number ∙ sym (ap (λ (o : Message). o.number) there))) in
+    let place = rising-same (λ (o : Message). o.number) messages rising x.0 y.0 m x.2 y.2
+    (ap (λ (o : Message). o.number) here ∙ (number ∙ sym (ap (λ (o : Message). o.number) there))) in
     let same : m ≡ n = sym here ∙ (ap (λ i. get_or messages i m) place ∙ there) in
     let Pending : Message → Type 0 = λ o. IsPending o j air slot in
     let broadcast = IsPending-only n j k air slot (subst Pending same x.4.1.pending) y.4.1.pending in
     ap Some (x.4.2 ∙ (ap (λ o. next_page o j air slot) same ∙ (ap (λ i. next_page n i air slot) broadcast ∙ sym y.4.2)))
 
 -- what is aired later changes nothing of what was pending, or chosen
-pub IsPending-append : (m : Message) (j : ℕ) (air more : Air) (slot : ℕ) → slot ≤ length air → IsPending m j air slot → IsPending m j (air ++ more) slot
+pub IsPending-append : (m : Message) (j : ℕ) (air more : Air) (slot : ℕ) → slot ≤ length air → IsPending m j air slot
+    → IsPending m j (air ++ more) slot
 IsPending-append m j air more slot h p = record {
   requested = p.requested;
   released = p.released;
@@ -111,7 +126,8 @@ IsPending-append m j air more slot h p = record {
   unfinished = rw (pages_aired-append m.number air more (release m j) slot h) p.unfinished;
 }
 
-pub IsPending-unappend : (m : Message) (j : ℕ) (air more : Air) (slot : ℕ) → slot ≤ length air → IsPending m j (air ++ more) slot → IsPending m j air slot
+pub IsPending-unappend : (m : Message) (j : ℕ) (air more : Air) (slot : ℕ) → slot ≤ length air
+    → IsPending m j (air ++ more) slot → IsPending m j air slot
 IsPending-unappend m j air more slot h p = record {
   requested = p.requested;
   released = p.released;
@@ -120,8 +136,10 @@ IsPending-unappend m j air more slot h p = record {
   unfinished = rw (← pages_aired-append m.number air more (release m j) slot h) p.unfinished;
 }
 
-pub IsChosen-append : (messages : List Message) (air more : Air) (slot : ℕ) (used : Option (ℕ × ℕ)) → slot ≤ length air → IsChosen messages air slot used → IsChosen messages (air ++ more) slot used
-IsChosen-append messages air more slot None h x = λ k d within. λ j p. x k d within j (IsPending-unappend (get_or messages k d) j air more slot h p)
+pub IsChosen-append : (messages : List Message) (air more : Air) (slot : ℕ) (used : Option (ℕ × ℕ)) → slot ≤ length air
+    → IsChosen messages air slot used → IsChosen messages (air ++ more) slot used
+IsChosen-append messages air more slot None h x = λ k d within. λ j p. x k d within j
+    (IsPending-unappend (get_or messages k d) j air more slot h p)
 IsChosen-append messages air more slot (Some used) h x = (
   x.0,
   x.1,
@@ -131,27 +149,32 @@ IsChosen-append messages air more slot (Some used) h x = (
     x.4.0,
     record {
       pending = IsPending-append x.1 x.4.0 air more slot h x.4.1.pending;
-      first = λ k d within. λ i p. x.4.1.first k d within i (IsPending-unappend (get_or messages k d) i air more slot h p);
+      first = λ k d within. λ i p. x.4.1.first k d within i (IsPending-unappend (get_or messages k d) i air more slot h
+          p);
     },
     x.4.2 ∙ ap (λ n. (x.1.number, n + 1)) (sym (pages_aired-append x.1.number air more (release x.1 x.4.0) slot h)),
   ),
 )
 
 -- an air list by the rule stays one with what is chosen next
-pub IsAirOf-next : (messages : List Message) (air : Air) (used : Option (ℕ × ℕ)) → IsAirOf messages air → IsChosen messages air (length air) used → IsAirOf messages (air ++ used ∷ [])
+pub IsAirOf-next : (messages : List Message) (air : Air) (used : Option (ℕ × ℕ)) → IsAirOf messages air
+    → IsChosen messages air (length air) used → IsAirOf messages (air ++ used ∷ [])
 IsAirOf-next messages air used rule chosen = λ slot within.
     let P : Option (ℕ × ℕ) → Type 0 = λ u. IsChosen messages (air ++ used ∷ []) slot u in
     let Q : ℕ → Type 0 = λ n. IsChosen messages (air ++ used ∷ []) n used in
     let long = length_push air used in
     elim (cases_lt slot (length air)) [
-      | inl before ↦ subst P (sym (get_or_append_left air (used ∷ []) None slot before)) (IsChosen-append messages air (used ∷ []) slot (get_or air slot None) (omega arith) (rule slot before))
+      | inl before ↦ subst P (sym (get_or_append_left air (used ∷ []) None slot before))
+          (IsChosen-append messages air (used ∷ []) slot (get_or air slot None) (omega arith) (rule slot before))
       | inr last ↦
           let at : length air ≡ slot = omega arith in
-          subst P (sym (get_or_push air used None slot at)) (subst Q at (IsChosen-append messages air (used ∷ []) (length air) used (omega arith) chosen))
+          subst P (sym (get_or_push air used None slot at)) (subst Q at
+          (IsChosen-append messages air (used ∷ []) (length air) used (omega arith) chosen))
     ]
 
 -- a message that starts later changes nothing of what was chosen
-pub IsChosen-add : (messages : List Message) (m : Message) (air : Air) (slot : ℕ) (used : Option (ℕ × ℕ)) → slot < m.start → IsChosen messages air slot used → IsChosen (messages ++ m ∷ []) air slot used
+pub IsChosen-add : (messages : List Message) (m : Message) (air : Air) (slot : ℕ) (used : Option (ℕ × ℕ))
+    → slot < m.start → IsChosen messages air slot used → IsChosen (messages ++ m ∷ []) air slot used
 IsChosen-add messages m air slot None later x =
     All-push (λ o. (j : ℕ) → ¬ IsPending o j air slot) messages m x (λ j p. omega (arith, p.released))
 IsChosen-add messages m air slot (Some used) later x = (
@@ -163,17 +186,21 @@ IsChosen-add messages m air slot (Some used) later x = (
     x.4.0,
     record {
       pending = x.4.1.pending;
-      first = All-push (λ o. (j : ℕ) → IsPending o j air slot → IsServedBy x.1 x.4.0 o j) messages m x.4.1.first (λ j p. absurd (omega (arith, p.released)));
+      first = All-push (λ o. (j : ℕ) → IsPending o j air slot → IsServedBy x.1 x.4.0 o j) messages m x.4.1.first
+          (λ j p. absurd (omega (arith, p.released)));
     },
     x.4.2,
   ),
 )
 
-pub IsAirOf-add : (messages : List Message) (m : Message) (air : Air) → length air ≤ m.start → IsAirOf messages air → IsAirOf (messages ++ m ∷ []) air
-IsAirOf-add messages m air later rule = λ slot within. IsChosen-add messages m air slot (get_or air slot None) (omega arith) (rule slot within)
+pub IsAirOf-add : (messages : List Message) (m : Message) (air : Air) → length air ≤ m.start → IsAirOf messages air
+    → IsAirOf (messages ++ m ∷ []) air
+IsAirOf-add messages m air later rule = λ slot within. IsChosen-add messages m air slot (get_or air slot None)
+    (omega arith) (rule slot within)
 
 -- nor does a later stop
-pub IsPending-stopped : (m : Message) (says : Bool) (stop j : ℕ) (air : Air) (slot : ℕ) → slot < stop → IsPending m j air slot → IsPending (stopped_if says stop m) j air slot
+pub IsPending-stopped : (m : Message) (says : Bool) (stop j : ℕ) (air : Air) (slot : ℕ) → slot < stop
+    → IsPending m j air slot → IsPending (stopped_if says stop m) j air slot
 IsPending-stopped m true stop j air slot before p = record {
   requested = p.requested;
   released = p.released;
@@ -183,7 +210,8 @@ IsPending-stopped m true stop j air slot before p = record {
 }
 IsPending-stopped m false stop j air slot before p = p
 
-pub IsPending-unstopped : (m : Message) (says : Bool) (stop j : ℕ) (air : Air) (slot : ℕ) → (says ≡ true → m.stop ≡ None) → IsPending (stopped_if says stop m) j air slot → IsPending m j air slot
+pub IsPending-unstopped : (m : Message) (says : Bool) (stop j : ℕ) (air : Air) (slot : ℕ)
+    → (says ≡ true → m.stop ≡ None) → IsPending (stopped_if says stop m) j air slot → IsPending m j air slot
 IsPending-unstopped m true stop j air slot free p =
     let Standing : Option ℕ → Type 0 = λ s. IsBeforeStop slot s in
     record {
@@ -195,9 +223,13 @@ IsPending-unstopped m true stop j air slot free p =
     }
 IsPending-unstopped m false stop j air slot free p = p
 
-pub IsChosen-stop : (messages : List Message) (number stop : ℕ) (air : Air) (slot : ℕ) (used : Option (ℕ × ℕ)) → slot < stop → All (λ m. m.number ≡ number → m.stop ≡ None) messages → IsChosen messages air slot used → IsChosen (stopped_at number stop messages) air slot used
+pub IsChosen-stop : (messages : List Message) (number stop : ℕ) (air : Air) (slot : ℕ) (used : Option (ℕ × ℕ))
+    → slot < stop → All (λ m. m.number ≡ number → m.stop ≡ None) messages → IsChosen messages air slot used
+    → IsChosen (stopped_at number stop messages) air slot used
 IsChosen-stop messages number stop air slot None before free x =
-    All-map (λ o. (j : ℕ) → ¬ IsPending o j air slot) (λ (m : Message). stopped_if (m.number == number) stop m) messages (λ k d within. λ j p. x k d within j (IsPending-unstopped (get_or messages k d) _ stop j air slot (λ e. free k d within (eqb-true _ number e)) p))
+    All-map (λ o. (j : ℕ) → ¬ IsPending o j air slot) (λ (m : Message). stopped_if (m.number == number) stop m)
+    messages (λ k d within. λ j p. x k d within j (IsPending-unstopped (get_or messages k d) _ stop j air slot
+    (λ e. free k d within (eqb-true _ number e)) p))
 IsChosen-stop messages number stop air slot (Some used) before free x =
     let g : Message → Message = λ m. stopped_if (m.number == number) stop m in (
       x.0,
@@ -208,40 +240,55 @@ IsChosen-stop messages number stop air slot (Some used) before free x =
         x.4.0,
         record {
           pending = IsPending-stopped x.1 (x.1.number == number) stop x.4.0 air slot before x.4.1.pending;
-          first = All-map (λ o. (j : ℕ) → IsPending o j air slot → IsServedBy (g x.1) x.4.0 o j) g messages (λ k d within. λ j p. x.4.1.first k d within j (IsPending-unstopped (get_or messages k d) _ stop j air slot (λ e. free k d within (eqb-true _ number e)) p));
+          first = All-map (λ o. (j : ℕ) → IsPending o j air slot → IsServedBy (g x.1) x.4.0 o j) g messages
+              (λ k d within. λ j p. x.4.1.first k d within j (IsPending-unstopped (get_or messages k d) _ stop j air
+              slot (λ e. free k d within (eqb-true _ number e)) p));
         },
         x.4.2,
       ),
     )
 
-pub IsAirOf-stop : (messages : List Message) (number stop : ℕ) (air : Air) → length air ≤ stop → All (λ m. m.number ≡ number → m.stop ≡ None) messages → IsAirOf messages air → IsAirOf (stopped_at number stop messages) air
-IsAirOf-stop messages number stop air later free rule = λ slot within. IsChosen-stop messages number stop air slot (get_or air slot None) (omega arith) free (rule slot within)
+pub IsAirOf-stop : (messages : List Message) (number stop : ℕ) (air : Air) → length air ≤ stop
+    → All (λ m. m.number ≡ number → m.stop ≡ None) messages → IsAirOf messages air
+    → IsAirOf (stopped_at number stop messages) air
+IsAirOf-stop messages number stop air later free rule = λ slot within. IsChosen-stop messages number stop air slot
+    (get_or air slot None) (omega arith) free (rule slot within)
 
 -- the slot `to` adds its own to the pages that are aired up to it
-pub pages_aired-more : (n : ℕ) (air : Air) (from to : ℕ) → from ≤ to → to < length air → pages_aired n air from (to + 1) ≡ pages_aired n air from to + cond (airs n (get_or air to None)) 1 0
+pub pages_aired-more : (n : ℕ) (air : Air) (from to : ℕ) → from ≤ to → to < length air
+    → pages_aired n air from (to + 1) ≡ pages_aired n air from to + cond (airs n (get_or air to None)) 1 0
 pages_aired-more n air from to after within =
-    ap (count_by (airs n)) (between_more air from to None after within) ∙ sum_by_push (λ x. cond (airs n x) 1 0) (between from to air) (get_or air to None)
+    ap (count_by (airs n)) (between_more air from to None after within)
+    ∙ sum_by_push (λ x. cond (airs n x) 1 0) (between from to air) (get_or air to None)
 
 -- a slot that airs a page of a message airs the next page of its pending broadcast
-chosen_is_pending : (messages : List Message) (air : Air) (slot : ℕ) (m : Message) (used : Option (ℕ × ℕ)) → AllPairs (λ a b. a.number < b.number) messages → Contains messages m → IsChosen messages air slot used → airs m.number used ≡ true → (j : ℕ) × IsPending m j air slot × (used ≡ Some (next_page m j air slot))
+chosen_is_pending : (messages : List Message) (air : Air) (slot : ℕ) (m : Message) (used : Option (ℕ × ℕ))
+    → AllPairs (λ a b. a.number < b.number) messages → Contains messages m → IsChosen messages air slot used
+    → airs m.number used ≡ true → (j : ℕ) × IsPending m j air slot × (used ≡ Some (next_page m j air slot))
 chosen_is_pending messages air slot m None rising here chosen named = absurd (false≢true named)
 chosen_is_pending messages air slot m (Some used) rising here chosen named =
     let n = chosen.1 in
     let j = chosen.4.0 in
     let mine = sym (eqb-true used.0 m.number named) in
     let there = sym (get_or_default messages chosen.0 n m chosen.2) ∙ chosen.3 in
-    let numbers = ap (λ (o : Message). o.number) here.2 ∙ (mine ∙ (ap (λ (u : ℕ × ℕ). u.0) chosen.4.2 ∙ sym (ap (λ (o : Message). o.number) there))) in
+    let numbers = ap (λ (o : Message). o.number) here.2 ∙ (mine
+    ∙ (ap (λ (u : ℕ × ℕ). u.0) chosen.4.2 ∙ sym (ap (λ (o : Message). o.number) there))) in
     let place = rising-same (λ (o : Message). o.number) messages rising here.0 chosen.0 m here.1 chosen.2 numbers in
     let same : n ≡ m = sym there ∙ (sym (ap (λ i. get_or messages i m) place) ∙ here.2) in
     let Pending : Message → Type 0 = λ o. IsPending o j air slot in
     (j, subst Pending same chosen.4.1.pending, ap Some (chosen.4.2 ∙ ap (λ o. next_page o j air slot) same))
 
-pub aired_is_pending : (messages : List Message) (air : Air) (slot : ℕ) (m : Message) → AllPairs (λ a b. a.number < b.number) messages → Contains messages m → IsAirOf messages air → slot < length air → airs m.number (get_or air slot None) ≡ true → (j : ℕ) × IsPending m j air slot × (get_or air slot None ≡ Some (next_page m j air slot))
+pub aired_is_pending : (messages : List Message) (air : Air) (slot : ℕ) (m : Message)
+    → AllPairs (λ a b. a.number < b.number) messages → Contains messages m → IsAirOf messages air → slot < length air
+    → airs m.number (get_or air slot None) ≡ true → (j : ℕ) × IsPending m j air slot
+    × (get_or air slot None ≡ Some (next_page m j air slot))
 aired_is_pending messages air slot m rising here rule within named =
     chosen_is_pending messages air slot m (get_or air slot None) rising here (rule slot within) named
 
 -- no broadcast has more pages aired than its message has
-pub pages_aired-at_most : (messages : List Message) (air : Air) (m : Message) (j to : ℕ) → AllPairs (λ a b. a.number < b.number) messages → Contains messages m → IsAirOf messages air → to ≤ length air → to ≤ due m j → pages_aired m.number air (release m j) to ≤ m.pages
+pub pages_aired-at_most : (messages : List Message) (air : Air) (m : Message) (j to : ℕ)
+    → AllPairs (λ a b. a.number < b.number) messages → Contains messages m → IsAirOf messages air → to ≤ length air
+    → to ≤ due m j → pages_aired m.number air (release m j) to ≤ m.pages
 pages_aired-at_most messages air m j zero rising here rule within by_due =
     omega (arith, pages_aired-none m.number air (release m j) 0 (omega arith))
 pages_aired-at_most messages air m j (suc to) rising here rule within by_due =
@@ -250,12 +297,14 @@ pages_aired-at_most messages air m j (suc to) rising here rule within by_due =
       | inr released ↦
           let before = pages_aired-at_most messages air m j to rising here rule (omega arith) (omega arith) in
           let upto : suc to ≡ to + 1 = omega arith in
-          let more = ap (λ k. pages_aired m.number air (release m j) k) upto ∙ pages_aired-more m.number air (release m j) to released (omega arith) in
+          let more = ap (λ k. pages_aired m.number air (release m j) k) upto
+          ∙ pages_aired-more m.number air (release m j) to released (omega arith) in
           elim (cases_Bool (airs m.number (get_or air to None))) [
             | inl used ↦
                 let found = aired_is_pending messages air to m rising here rule (omega arith) used in
                 let known = pending_has_period m found.0 air to found.1 in
-                let only = broadcast_at-only m to found.0 known.0 known.1 found.1.released found.1.not_due ∙ sym (broadcast_at-only m to j known.0 known.1 released (omega arith)) in
+                let only = broadcast_at-only m to found.0 known.0 known.1 found.1.released found.1.not_due
+                ∙ sym (broadcast_at-only m to j known.0 known.1 released (omega arith)) in
                 let Few : ℕ → Type 0 = λ i. pages_aired m.number air (release m i) to < m.pages in
                 let few = subst Few only found.1.unfinished in
                 let one = ap (λ (b : Bool). one_if b) used in
@@ -279,13 +328,16 @@ is_whole-says m air slot j h =
 
 pub is_whole-from : (m : Message) (air : Air) (slot j : ℕ) → IsWhole m j air slot → is_whole m air slot j ≡ true
 is_whole-from m air slot j w =
-    and_from _ _ (has_broadcast-from m j w.requested) (and_from _ _ (is_before_stop-from (release m j) m.stop w.released) (le-leb _ _ w.aired))
+    and_from _ _ (has_broadcast-from m j w.requested) (and_from _ _
+    (is_before_stop-from (release m j) m.stop w.released) (le-leb _ _ w.aired))
 
 -- a broadcast that is whole before a slot was released before it, so its number is no greater than the slot's
-pub IsWhole-below : (m : Message) (air : Air) (slot j : ℕ) → 0 < m.pages → 0 < m.period → IsWhole m j air slot → j < slot + 1
+pub IsWhole-below : (m : Message) (air : Air) (slot j : ℕ) → 0 < m.pages → 0 < m.period → IsWhole m j air slot
+    → j < slot + 1
 IsWhole-below m air slot j pages period w =
     let grows = le-mul_of_pos_right j period in
     elim (cases_lt (release m j) slot) [
       | inl released ↦ omega arith
-      | inr later ↦ absurd (false≢true (sym (is_whole-unreleased m air slot j pages later) ∙ is_whole-from m air slot j w))
+      | inr later ↦ absurd (false≢true (sym (is_whole-unreleased m air slot j pages later)
+          ∙ is_whole-from m air slot j w))
     ]

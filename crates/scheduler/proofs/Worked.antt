@@ -46,11 +46,13 @@ three_completed : map (λ m. completed m (air_of three 6) 6) three ≡ 1 ∷ 2 �
 three_completed = refl
 
 -- two broadcasts in periods of three slots
-runs_out : air_of (message 0 1 3 2 Normal ∷ []) 9 ≡ Some (0, 1) ∷ None ∷ None ∷ Some (0, 1) ∷ None ∷ None ∷ None ∷ None ∷ None ∷ []
+runs_out : air_of (message 0 1 3 2 Normal ∷ []) 9 ≡ Some (0, 1) ∷ None ∷ None ∷ Some (0, 1) ∷ None ∷ None ∷ None ∷ None
+    ∷ None ∷ []
 runs_out = refl
 
 -- three pages in periods of two slots: what is not whole is dropped, and the next broadcast begins with page 1
-dropped : air_of (message 4 3 2 0 Normal ∷ []) 5 ≡ Some (4, 1) ∷ Some (4, 2) ∷ Some (4, 1) ∷ Some (4, 2) ∷ Some (4, 1) ∷ []
+dropped : air_of (message 4 3 2 0 Normal ∷ []) 5 ≡ Some (4, 1) ∷ Some (4, 2) ∷ Some (4, 1) ∷ Some (4, 2) ∷ Some (4, 1)
+    ∷ []
 dropped = refl
 
 dropped_completed : completed (message 4 3 2 0 Normal) (air_of (message 4 3 2 0 Normal ∷ []) 5) 5 ≡ 0
@@ -60,7 +62,8 @@ dropped_completed = refl
 abbrev beside_normal : List Message
 beside_normal = message 0 1 2 0 Normal ∷ message 1 2 4 0 Background ∷ []
 
-beside_normal_aired : air_of beside_normal 8 ≡ Some (0, 1) ∷ Some (1, 1) ∷ Some (0, 1) ∷ Some (1, 2) ∷ Some (0, 1) ∷ Some (1, 1) ∷ Some (0, 1) ∷ Some (1, 2) ∷ []
+beside_normal_aired : air_of beside_normal 8 ≡ Some (0, 1) ∷ Some (1, 1) ∷ Some (0, 1) ∷ Some (1, 2) ∷ Some (0, 1) ∷
+    Some (1, 1) ∷ Some (0, 1) ∷ Some (1, 2) ∷ []
 beside_normal_aired = refl
 
 beside_normal_completed : map (λ m. completed m (air_of beside_normal 8) 8) beside_normal ≡ 4 ∷ 2 ∷ []
@@ -71,7 +74,8 @@ beside_normal_completed = refl
 abbrev after_full : List Message
 after_full = record (message 0 1 1 0 Normal) { stop = Some 3 } ∷ message 1 2 4 0 Background ∷ []
 
-after_full_aired : air_of after_full 8 ≡ Some (0, 1) ∷ Some (0, 1) ∷ Some (0, 1) ∷ Some (1, 1) ∷ Some (1, 1) ∷ Some (1, 2) ∷ None ∷ None ∷ []
+after_full_aired : air_of after_full 8 ≡ Some (0, 1) ∷ Some (0, 1) ∷ Some (0, 1) ∷ Some (1, 1) ∷ Some (1, 1) ∷ Some
+    (1, 2) ∷ None ∷ None ∷ []
 after_full_aired = refl
 
 after_full_completed : map (λ m. completed m (air_of after_full 8) 8) after_full ≡ 3 ∷ 1 ∷ []
@@ -82,9 +86,11 @@ after_full_blanked : blanked after_full (air_of after_full 8) ≡ air_of (foregr
 after_full_blanked = refl
 
 -- background that is due sooner waits all the same, and of two such the one that is due first is aired
-due_sooner : air_of (message 0 2 4 1 Background ∷ message 1 1 2 1 Background ∷ message 2 1 8 1 Normal ∷ []) 4 ≡ Some (2, 1) ∷ Some (1, 1) ∷ Some (0, 1) ∷ Some (0, 2) ∷ []
+due_sooner : air_of (message 0 2 4 1 Background ∷ message 1 1 2 1 Background ∷ message 2 1 8 1 Normal ∷ []) 4 ≡ Some
+    (2, 1) ∷ Some (1, 1) ∷ Some (0, 1) ∷ Some (0, 2) ∷ []
 due_sooner = refl
 
 -- background of three pages in periods of two slots is never whole, and takes no slot of a normal message
-never_whole : air_of (message 0 3 2 0 Background ∷ message 1 1 4 0 Normal ∷ []) 6 ≡ Some (1, 1) ∷ Some (0, 1) ∷ Some (0, 1) ∷ Some (0, 2) ∷ Some (1, 1) ∷ Some (0, 1) ∷ []
+never_whole : air_of (message 0 3 2 0 Background ∷ message 1 1 4 0 Normal ∷ []) 6 ≡ Some (1, 1) ∷ Some (0, 1) ∷ Some
+    (0, 1) ∷ Some (0, 2) ∷ Some (1, 1) ∷ Some (0, 1) ∷ []
 never_whole = refl

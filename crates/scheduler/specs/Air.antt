@@ -1,5 +1,6 @@
 -- What a cell airs, slot by slot, and the rule by which each slot is used (own).
-use Rattle.std.specs.Prelude.{◌≡◌, ℕ, ◌+◌, ◌<◌, ◌≤◌, ◌==◌, ◌⊎◌, Bool, false, Option, Some, None, List, length, slice_range, slice_index_or, count_by, All, Any}
+use Rattle.std.specs.Prelude.{◌≡◌, ℕ, ◌+◌, ◌<◌, ◌≤◌, ◌==◌, ◌⊎◌, Bool, false, Option, Some, None, List, length}
+use Rattle.std.specs.Prelude.{slice_range, slice_index_or, count_by, All, Any}
 use Rattle.scheduler.specs.declared.plan.Rank.{Rank}
 use Rattle.scheduler.specs.declared.plan.Rank.TheVariants.{High, Normal, Background}
 use Rattle.scheduler.specs.Message.{Message, release, due, HasBroadcast, IsBeforeStop}
@@ -50,7 +51,8 @@ abbrev pub IsNoLater : Message → ℕ → Message → ℕ → Type 0
 IsNoLater a i b j =
     (due a i < due b j) ⊎ ((due a i ≡ due b j) × ((class a < class b) ⊎ ((class a ≡ class b) × (a.number ≤ b.number))))
 
--- broadcast i of a is served no later than broadcast j of b: where it is of the lower layer, and within a layer as above
+-- broadcast i of a is served no later than broadcast j of b: where it is of the lower layer, and within a layer as
+-- above
 abbrev pub IsServedBy : Message → ℕ → Message → ℕ → Type 0
 IsServedBy a i b j = (layer a < layer b) ⊎ ((layer a ≡ layer b) × IsNoLater a i b j)
 

@@ -1,5 +1,6 @@
 -- What the air rule promises (own), over messages and air lists alone.
-use Rattle.std.specs.Prelude.{◌≡◌, ℕ, ◌+◌, ◌<◌, ◌≤◌, min, true, Option, Some, None, slice_index_or, List, [], ◌∷◌, ◌++◌, length, map, All, AllPairs, Contains}
+use Rattle.std.specs.Prelude.{◌≡◌, ℕ, ◌+◌, ◌<◌, ◌≤◌, min, true, Option, Some, None, slice_index_or, List, [], ◌∷◌, ◌++◌}
+use Rattle.std.specs.Prelude.{length, map, All, AllPairs, Contains}
 use Rattle.scheduler.specs.Message.{Message, release, due, stopped_at}
 use Rattle.scheduler.specs.Air.{Air, airs, pages_aired, next_page, IsPending, IsChosen, IsAirOf}
 use Rattle.scheduler.specs.Completed.{IsWhole, completed}

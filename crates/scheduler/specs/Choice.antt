@@ -1,5 +1,6 @@
 -- The air rule as a function, by which air lists can be computed (own).
-use Rattle.std.specs.Prelude.{ℕ, zero, suc, ◌==◌, Bool, true, false, ◌&&◌, ◌||◌, nat_lt, nat_le, if◌then◌else◌, Option, Some, None, List, [], ◌∷◌, ◌++◌}
+use Rattle.std.specs.Prelude.{ℕ, zero, suc, ◌==◌, Bool, true, false, ◌&&◌, ◌||◌, nat_lt, nat_le, if◌then◌else◌, Option}
+use Rattle.std.specs.Prelude.{Some, None, List, [], ◌∷◌, ◌++◌}
 use Rattle.scheduler.specs.Message.{Message, release, due, has_broadcast, is_before_stop}
 use Rattle.scheduler.specs.Air.{Air, pages_aired, layer, class, next_page}
 use Rattle.scheduler.specs.Message.{broadcast_at}
@@ -8,14 +9,16 @@ use Rattle.scheduler.specs.Message.{broadcast_at}
 abbrev pub is_pending : Air → ℕ → Message → Bool
 is_pending air slot m =
     let j = broadcast_at m slot in
-    nat_le m.start slot && (has_broadcast m j && (is_before_stop slot m.stop && nat_lt (pages_aired m.number air (release m j) slot) m.pages))
+    nat_le m.start slot && (has_broadcast m j && (is_before_stop slot m.stop && nat_lt
+    (pages_aired m.number air (release m j) slot) m.pages))
 
 -- within a layer, the broadcast of a in whose time the slot lies comes no later than that of b
 abbrev pub is_no_later : ℕ → Message → Message → Bool
 is_no_later slot a b =
     let mine = due a (broadcast_at a slot) in
     let other = due b (broadcast_at b slot) in
-    nat_lt mine other || ((mine == other) && (nat_lt (class a) (class b) || ((class a == class b) && nat_le a.number b.number)))
+    nat_lt mine other || ((mine == other) && (nat_lt (class a) (class b) ||
+    ((class a == class b) && nat_le a.number b.number)))
 
 -- and it is served no later
 abbrev pub is_served_by : ℕ → Message → Message → Bool

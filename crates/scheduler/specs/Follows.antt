@@ -38,7 +38,8 @@ messages_of plan = map message_of plan.tracked
 -- the counts of a message are those of the air list: the pages of the broadcast that is under way, and the broadcasts
 -- that are whole
 pub record Counts (t : Tracked) (air : Air) : Type 0 where
-  pub aired : t.aired ≡ pages_aired t.item.entry air (release (message_of t) (broadcast_at (message_of t) (length air))) (length air)
+  pub aired : t.aired ≡ pages_aired t.item.entry air (release (message_of t)
+      (broadcast_at (message_of t) (length air))) (length air)
   pub completed : t.completed ≡ completed (message_of t) air (length air)
 
 -- the plan follows the messages and their air list: it was told of these messages, each slot of the list was asked, and

@@ -1,5 +1,6 @@
 -- What a plan keeps of its messages. No public contract speaks of it.
-use Rattle.std.specs.Prelude.{◌≡◌, ℕ, ◌+◌, ◌-◌, ◌%◌, ◌<◌, ◌≤◌, ◌==◌, ◌⊎◌, Bool, true, false, ◌&&◌, nat_le, nat_lt, if◌then◌else◌, Option, Some, None, List, All, Any, AllPairs, Contains}
+use Rattle.std.specs.Prelude.{◌≡◌, ℕ, ◌+◌, ◌-◌, ◌%◌, ◌<◌, ◌≤◌, ◌==◌, ◌⊎◌, Bool, true, false, ◌&&◌, nat_le, nat_lt}
+use Rattle.std.specs.Prelude.{if◌then◌else◌, Option, Some, None, List, All, Any, AllPairs, Contains}
 use Rattle.scheduler.specs.declared.tracked.Tracked.{Tracked}
 use Rattle.scheduler.specs.Message.{has_broadcast, is_before_stop, broadcast_at}
 use Rattle.scheduler.specs.Air.{airs, IsServedBy}
@@ -25,7 +26,8 @@ pub record IsSound (plan : Kept) : Type 0 where
 -- the message has started, and has a page to air at the slot
 abbrev pub is_ready : Tracked → ℕ → Bool
 is_ready t slot =
-    nat_le t.item.start slot && (has_broadcast (message_of t) (broadcast_at (message_of t) slot) && (is_before_stop slot t.stop && nat_lt t.aired t.item.pages))
+    nat_le t.item.start slot && (has_broadcast (message_of t) (broadcast_at (message_of t) slot) &&
+    (is_before_stop slot t.stop && nat_lt t.aired t.item.pages))
 
 -- of two messages, a is served no later than b at the slot
 abbrev pub IsServedFirst : ℕ → Tracked → Tracked → Type 0

@@ -1,5 +1,6 @@
 -- A message as the schedule sees it, and its broadcasts (own).
-use Rattle.std.specs.Prelude.{◌≡◌, ℕ, ◌+◌, ◌-◌, ◌*◌, ◌/◌, ◌<◌, ◌==◌, ◌⊎◌, ⊤, Bool, true, ◌||◌, nat_lt, if◌then◌else◌, Option, Some, None, List, map}
+use Rattle.std.specs.Prelude.{◌≡◌, ℕ, ◌+◌, ◌-◌, ◌*◌, ◌/◌, ◌<◌, ◌==◌, ◌⊎◌, ⊤, Bool, true, ◌||◌, nat_lt, if◌then◌else◌}
+use Rattle.std.specs.Prelude.{Option, Some, None, List, map}
 use Rattle.scheduler.specs.declared.plan.Rank.{Rank}
 
 -- a message: its number, the slot from which it stands, its pages, its period in slots, how many broadcasts were

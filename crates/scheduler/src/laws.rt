@@ -1,9 +1,13 @@
 //! Laws of air lists, over their definitions alone.
 
-ghost use Rattle.scheduler.specs.AirLaws.{OneChoice, SomeChoice, GrowsByTheChoice, FrontsAreByTheRule, OneAirList, NumbersOnlyOrder};
-ghost use Rattle.scheduler.specs.AirLaws.{LaterMessagesChangeNothing, LaterStopsChangeNothing, PagesComeInOrder, AtMostItsPages};
-ghost use Rattle.scheduler.specs.AirLaws.{PagesComeOnce, WholeIsEachPageOnce, LastPagesAreWholeBroadcasts, NoPageLessOften, AllAreCounted};
-ghost use Rattle.scheduler.specs.BackgroundLaws.{BackgroundCountsAsIdle, BackgroundChangesNothing, BlankingKeepsPages, BlankingKeepsCompleted};
+ghost use Rattle.scheduler.specs.AirLaws.{OneChoice, SomeChoice, GrowsByTheChoice, FrontsAreByTheRule, OneAirList};
+ghost use Rattle.scheduler.specs.AirLaws.{NumbersOnlyOrder};
+ghost use Rattle.scheduler.specs.AirLaws.{LaterMessagesChangeNothing, LaterStopsChangeNothing, PagesComeInOrder};
+ghost use Rattle.scheduler.specs.AirLaws.{AtMostItsPages};
+ghost use Rattle.scheduler.specs.AirLaws.{PagesComeOnce, WholeIsEachPageOnce, LastPagesAreWholeBroadcasts};
+ghost use Rattle.scheduler.specs.AirLaws.{NoPageLessOften, AllAreCounted};
+ghost use Rattle.scheduler.specs.BackgroundLaws.{BackgroundCountsAsIdle, BackgroundChangesNothing, BlankingKeepsPages};
+ghost use Rattle.scheduler.specs.BackgroundLaws.{BlankingKeepsCompleted};
 
 /// States, as its contract, what the air rule promises. It does nothing.
 pub fn air_laws()
@@ -43,8 +47,8 @@ pub fn air_laws()
     ensures all_counted { AllAreCounted }
 {}
 
-/// States, as its contract, what the air rule promises the messages that aren't background: these air what they would air
-/// alone, however much background there is. It does nothing.
+/// States, as its contract, what the air rule promises the messages that aren't background: these air what they would
+/// air alone, however much background there is. It does nothing.
 pub fn background_laws()
     // With the slots that air background idle, an air list by the rule is one of the other messages alone, which is the
     // only one of its length.

@@ -1,6 +1,7 @@
 //! The plan of a cell.
 
-ghost use Rattle.std.specs.Prelude.{◌≡◌, ◌≢◌, ℕ, ◌+◌, ◌<◌, ◌≤◌, ◌==◌, true, MatchBool, List, [], ◌∷◌, ◌++◌, length, map, codes, Some, All, AllPairs, Any, OnOk, OnErr};
+ghost use Rattle.std.specs.Prelude.{◌≡◌, ◌≢◌, ℕ, ◌+◌, ◌<◌, ◌≤◌, ◌==◌, true, MatchBool, List, [], ◌∷◌, ◌++◌, length};
+ghost use Rattle.std.specs.Prelude.{map, codes, Some, All, AllPairs, Any, OnOk, OnErr};
 ghost use Rattle.std.specs.Option.{ForSome};
 ghost use Rattle.scheduler.specs.Message.{Message, stopped_at};
 ghost use Rattle.scheduler.specs.Air.{Air, airs, layer_of, class_of, IsChosen};
@@ -83,8 +84,8 @@ impl std::error::Error for Refused {}
 /// With one message of one page and a period of 2 slots, added at slot 0 as entry 0, `next(0)` is `Some((0, 1))`,
 /// `next(1)` is `None` and `done(0)` is 1.
 ///
-/// `Follows plan messages air` says, in a contract, that a plan stands for these messages and their air list so far. What
-/// is not whole at its due slot is dropped, also where more is asked of the cell than it has slots for.
+/// `Follows plan messages air` says, in a contract, that a plan stands for these messages and their air list so far.
+/// What is not whole at its due slot is dropped, also where more is asked of the cell than it has slots for.
 #[derive(Drop)]
 pub struct Plan {
     slot: u16,
@@ -136,8 +137,8 @@ impl Plan {
         }
     }
 
-    /// What `slot` airs: an entry and its page, counted from 1, or nothing. Each slot is asked once, from 0, in order, and
-    /// there are at most 65,535.
+    /// What `slot` airs: an entry and its page, counted from 1, or nothing. Each slot is asked once, from 0, in order,
+    /// and there are at most 65,535.
     pub fn next(&mut self, slot: u16) -> Option<(u16, u8)>
         requires at_next { slot ≡ next_slot self.old }
         requires within { slot < 65535 }
@@ -222,14 +223,16 @@ impl Plan {
 
 /// Whether all numbers of what is kept are below `entry`.
 fn are_below(tracked: &[Tracked], entry: u16) -> bool
-    ensures { MatchBool result (All (λ t. t.item.entry < entry) tracked.now) (Any (λ t. entry ≤ t.item.entry) tracked.now) }
+    ensures { MatchBool result (All (λ t. t.item.entry < entry) tracked.now)
+        (Any (λ t. entry ≤ t.item.entry) tracked.now) }
 {
     tracked.iter().all(|one| one.item.entry < entry)
 }
 
 /// Whether a message of `entry` is kept.
 fn has_entry(tracked: &[Tracked], entry: u16) -> bool
-    ensures { MatchBool result (Any (λ t. t.item.entry ≡ entry) tracked.now) (All (λ t. t.item.entry ≢ entry) tracked.now) }
+    ensures { MatchBool result (Any (λ t. t.item.entry ≡ entry) tracked.now)
+        (All (λ t. t.item.entry ≢ entry) tracked.now) }
 {
     tracked.iter().any(|one| one.item.entry == entry)
 }

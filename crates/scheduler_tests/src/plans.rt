@@ -223,8 +223,8 @@ fn airs_background_where_nothing_else_is_pending(rt: HostRuntime) {
     expect_done(&rt, &plan, 1, 2);
 }
 
-/// A message that needs every slot is stopped at slot 3. Of the background, the broadcast that is due at slot 4 is dropped with a
-/// page aired, and the next one begins with page 1.
+/// A message that needs every slot is stopped at slot 3. Of the background, the broadcast that is due at slot 4 is
+/// dropped with a page aired, and the next one begins with page 1.
 #[test]
 fn drops_background_that_is_due(rt: HostRuntime) {
     let mut plan = Plan::new(rt.alloc());

@@ -1,6 +1,8 @@
 use Rattle.composition.proofs.Composed.{completed_is_whole_in_blocks, shown_are_the_broadcast}
 use Rattle.composition.proofs.Same.{same_accepted_same_blocks}
-use Rattle.composition.proofs.Meaning.{accepted_are_meant, none_after_the_stop, pages_read_are_those_aired, told_is_whole_in_blocks, shown_grow_by_one, records_are_tapes, texts_are_those_of_contents}
+use Rattle.composition.proofs.Meaning.{accepted_are_meant, none_after_the_stop, pages_read_are_those_aired}
+use Rattle.composition.proofs.Meaning.{told_is_whole_in_blocks, shown_grow_by_one, records_are_tapes}
+use Rattle.composition.proofs.Meaning.{texts_are_those_of_contents}
 use Rattle.composition.proofs.Laws.{Laws}
 use Rattle.composition.proofs.composition_laws.Goals as goal
 

@@ -6,4 +6,5 @@ use Rattle.bsc_table.proofs.kept.named.Given as goal
 
 abbrev pub invariant-loop-kept : goal.invariant-loop-kept
 invariant-loop-kept l =
-    find (is_of_pair l.id l.serial) (map accepted_of (drop l.kept-index l.table)) ≡ find (is_of_pair l.id l.serial) (map accepted_of l.table)
+    find (is_of_pair l.id l.serial) (map accepted_of (drop l.kept-index l.table)) ≡ find (is_of_pair l.id l.serial)
+    (map accepted_of l.table)

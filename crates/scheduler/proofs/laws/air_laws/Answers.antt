@@ -1,5 +1,6 @@
 use Rattle.scheduler.proofs.Choice.{IsChosen-choice}
-use Rattle.scheduler.proofs.Rule.{IsChosen-only, IsAirOf-next, IsAirOf-add, IsAirOf-stop, aired_is_pending, pages_aired-at_most, IsWhole-below}
+use Rattle.scheduler.proofs.Rule.{IsChosen-only, IsAirOf-next, IsAirOf-add, IsAirOf-stop, aired_is_pending}
+use Rattle.scheduler.proofs.Rule.{pages_aired-at_most, IsWhole-below}
 use Rattle.scheduler.proofs.OneAir.{IsAirOf-front, IsAirOf-only}
 use Rattle.scheduler.proofs.Renumbering.{IsAirOf-renumbered}
 use Rattle.scheduler.proofs.PagesOnce.{pages_come_once, whole_is_each_page_once}

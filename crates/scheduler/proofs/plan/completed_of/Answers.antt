@@ -11,7 +11,8 @@ returns-then-one-entry c =
 
 pub loop-one-preserved : goal.loop-one-preserved
 loop-one-preserved c =
-    All-more (λ (t : Tracked). t.item.entry ≢ c.args.entry) c.args.tracked.now c.loop-one.one-index _ (omega arith) c.loop-one.invariant c.if-one-entry.false
+    All-more (λ (t : Tracked). t.item.entry ≢ c.args.entry) c.args.tracked.now c.loop-one.one-index _ (omega arith)
+    c.loop-one.invariant c.if-one-entry.false
 
 pub returns : goal.returns
 returns c =

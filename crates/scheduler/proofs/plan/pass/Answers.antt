@@ -7,13 +7,16 @@ use Rattle.scheduler.proofs.plan.pass.Goals as goal
 
 pub after_slot-requires-clause-fit : goal.after_slot-requires-clause-fit
 after_slot-requires-clause-fit c =
-    rw (map_over-read (after_slot c.args.slot c.args.used) c.args.tracked.now c.loop-one.tracked c.loop-one.one-index _ (omega arith) c.loop-one.invariant) (c.requires.fit _ _ (omega arith))
+    rw (map_over-read (after_slot c.args.slot c.args.used) c.args.tracked.now c.loop-one.tracked c.loop-one.one-index _
+    (omega arith) c.loop-one.invariant) (c.requires.fit _ _ (omega arith))
 
 pub after_slot-requires-clause-ready : goal.after_slot-requires-clause-ready
 after_slot-requires-clause-ready c =
-    rw (map_over-read (after_slot c.args.slot c.args.used) c.args.tracked.now c.loop-one.tracked c.loop-one.one-index _ (omega arith) c.loop-one.invariant) (c.requires.ready _ _ (omega arith))
+    rw (map_over-read (after_slot c.args.slot c.args.used) c.args.tracked.now c.loop-one.tracked c.loop-one.one-index _
+    (omega arith) c.loop-one.invariant) (c.requires.ready _ _ (omega arith))
 
 pub loop-one-preserved : goal.loop-one-preserved
 loop-one-preserved c =
     let inside : c.loop-one.one-index < length c.loop-one.tracked = omega arith in
-    rw c.after_slot.ensures (map_over_more (after_slot c.args.slot c.args.used) c.args.tracked.now c.loop-one.tracked c.loop-one.one-index _ (omega arith) c.loop-one.invariant (get_or_default _ _ _ _ inside))
+    rw c.after_slot.ensures (map_over_more (after_slot c.args.slot c.args.used) c.args.tracked.now c.loop-one.tracked
+    c.loop-one.one-index _ (omega arith) c.loop-one.invariant (get_or_default _ _ _ _ inside))

@@ -5,4 +5,5 @@ use Rattle.scheduler.proofs.plan.stop_at.Given as goal
 
 abbrev pub invariant-loop-one : goal.invariant-loop-one
 invariant-loop-one l =
-    l.tracked ≡ map (λ (t : Tracked). stopped_kept (t.item.entry == l.entry) l.slot t) (take l.one-index l.initial.tracked) ++ drop l.one-index l.initial.tracked
+    l.tracked ≡ map (λ (t : Tracked). stopped_kept (t.item.entry == l.entry) l.slot t)
+    (take l.one-index l.initial.tracked) ++ drop l.one-index l.initial.tracked

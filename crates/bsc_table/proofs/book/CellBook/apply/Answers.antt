@@ -24,7 +24,8 @@ returns-in-Ok-clause-legal c =
       right = subst Right (sym c.self.view_is) c.decide-decision.ensures.right;
     } in
     let Legal : Record → Type 0 = λ x. IsLegal (with_entry (entry_with command x.clock answer) x) in
-    subst IsLegal (sym c.in-Ok.ensures.entered) (subst Legal c.self.view_is (IsLegal-with r e c.self.invariant.legal next))
+    subst IsLegal (sym c.in-Ok.ensures.entered) (subst Legal c.self.view_is
+    (IsLegal-with r e c.self.invariant.legal next))
 
 pub returns-in-Ok-clause-entered : goal.returns-in-Ok-clause-entered
 returns-in-Ok-clause-entered c =
@@ -32,6 +33,7 @@ returns-in-Ok-clause-entered c =
     let command = c.args.command.now in
     let answer : Answer = decided_answer c.decide-decision.result in
     let entered : Record = with_entry (entry_with command r.clock answer) r in
-    let has : has_entry answer ≡ true = ap has_entry c.decide-decision.ensures.right ∙ has_entry-with_room r.slots r.log r.air r.clock command in
+    let has : has_entry answer ≡ true = ap has_entry c.decide-decision.ensures.right
+    ∙ has_entry-with_room r.slots r.log r.air r.clock command in
     let here : answered_with command answer r ≡ entered = ap (λ (b : Bool). cond b entered r) has in
     c.in-Ok.ensures.entered ∙ sym here ∙ ap (λ (a : Answer). answered_with command a r) (sym c.answer-answer.ensures)

@@ -22,4 +22,5 @@ returns c =
     let There : Record → Type 0 = λ x. Contains (accepted_in x.log) a in
     let Told : Record → Type 0 = λ x. c.done.result ≡ completed a.message x.air x.clock in
     let says = c.done.ensures (messages_in r.log) r.air book.follows in
-    subst Told c.self.view_is (completed_of_it r.log r.air r.clock c.done.result a book.legal.played (subst There (sym c.self.view_is) c.requires) says)
+    subst Told c.self.view_is (completed_of_it r.log r.air r.clock c.done.result a book.legal.played
+    (subst There (sym c.self.view_is) c.requires) says)

@@ -12,5 +12,6 @@ returns-in-Write-clause-decides c =
     let Decide : Command → Type 0 = λ x. Decides c.args.self.now x c.decide_write.result in
     let pages : c.len-in-Write.result ≡ length w.contents =
     omega (arith, c.len-in-Write.ensures, c.contents.inside.list.ok.0, ap length c.contents.view_is) in
-    let same = ap (λ (n : ℕ). write_message c.len.result c.self.inside.clock c.from.result None 0 w.id w.serial n w.period w.broadcasts (rank_of w.category)) (sym pages) in
+    let same = ap (λ (n : ℕ). write_message c.len.result c.self.inside.clock c.from.result None 0 w.id w.serial n
+    w.period w.broadcasts (rank_of w.category)) (sym pages) in
     subst Decide (sym w.is) (c.decide_write.ensures.decides write (refl, same))

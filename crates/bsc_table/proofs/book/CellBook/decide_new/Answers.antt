@@ -7,7 +7,8 @@ use Rattle.bsc_table.proofs.book.CellBook.decide_new.Goals as goal
 
 pub returns-in-Ok-clause-decides : goal.returns-in-Ok-clause-decides
 returns-in-Ok-clause-decides c =
-    let room = subst (HasRoom (claims_in c.args.self.now.log) c.args.self.now.clock) c.load.ensures c.in-Ok.ensures.fits in
+    let room = subst (HasRoom (claims_in c.args.self.now.log) c.args.self.now.clock) c.load.ensures
+    c.in-Ok.ensures.fits in
     starts c.args.self.now c.args.new c.requires (λ _. room)
 
 pub returns-then-is_background-clause-decides : goal.returns-then-is_background-clause-decides

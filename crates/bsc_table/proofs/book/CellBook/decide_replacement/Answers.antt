@@ -25,7 +25,8 @@ returns-in-Ok-clause-decides c =
     let old = c.in-Some.field-0 in
     let room = subst (HasRoom (left_by r (accepted_of old)) r.clock) c.load.ensures c.in-Ok.ensures.fits in
     let soon : r.clock < LATEST_START = omega (arith, c.requires.offered.accepted) in
-    replaces r old c.args.new c.args.replaced c.completed-in-Ok.result c.requires.legal c.in-Some.ensures c.requires.offered soon (λ _. room)
+    replaces r old c.args.new c.args.replaced c.completed-in-Ok.result c.requires.legal c.in-Some.ensures
+    c.requires.offered soon (λ _. room)
 
 pub completed-requires-in-Ok : goal.completed-requires-in-Ok
 completed-requires-in-Ok c =
@@ -36,7 +37,8 @@ returns-in-Some-2-clause-decides c =
     let r = c.args.self.now in
     let soon : r.clock < LATEST_START = omega (arith, c.requires.offered.accepted) in
     let back = sym c.is_background.ensures ∙ c.if-is_background.true in
-    replaces r c.in-Some.field-0 c.args.new c.args.replaced c.completed.result c.requires.legal c.in-Some.ensures c.requires.offered soon (λ front. absurd (false≢true (sym front ∙ back)))
+    replaces r c.in-Some.field-0 c.args.new c.args.replaced c.completed.result c.requires.legal c.in-Some.ensures
+    c.requires.offered soon (λ front. absurd (false≢true (sym front ∙ back)))
 
 pub later_place-requires-clause-live : goal.later_place-requires-clause-live
 later_place-requires-clause-live c =
@@ -53,11 +55,15 @@ returns-in-Some-later_place-clause-decides c =
     let new : Kept = c.args.new in
     let place : Place = c.in-Some-later_place.place in
     let left = left_by r (accepted_of old) in
-    let later : IsLater r (accepted_of old) c.load-in-Err-Load.result (Some place) = subst (IsLater r (accepted_of old) c.load-in-Err-Load.result) c.in-Some-later_place.is c.later_place.ensures in
+    let later : IsLater r (accepted_of old) c.load-in-Err-Load.result (Some place) = subst
+    (IsLater r (accepted_of old) c.load-in-Err-Load.result) c.in-Some-later_place.is c.later_place.ensures in
     let Over : ℕ → Type 0 = λ load. place_after left r.clock (accepted_of old) load ≡ Some (place_of place) in
     let over = subst Over c.load-in-Err-Load.ensures later.there in
     let full = c.in-Err-Load.is ∙ ap (λ (x : NoRoom). Err x) c.in-Err-Load.field-0-is in
     let room = few_places left r.clock c.load.result c.room_without.result c.room_without.ensures full in
     let front = sym c.is_background.ensures ∙ c.if-is_background.false in
-    let Decide : Kept → Type 0 = λ k. DecidesWrites r (accepted_of new) (Some c.args.replaced) (decisions.Replaces old k c.completed-in-Some-later_place.result) in
-    subst Decide (sym c.waiting_at.ensures) (takes_over r old new place c.args.replaced c.completed-in-Some-later_place.result c.requires.legal c.in-Some.ensures c.requires.offered room front over later.fits later.soon)
+    let Decide : Kept → Type 0 = λ k. DecidesWrites r (accepted_of new) (Some c.args.replaced)
+    (decisions.Replaces old k c.completed-in-Some-later_place.result) in
+    subst Decide (sym c.waiting_at.ensures) (takes_over r old new place c.args.replaced
+    c.completed-in-Some-later_place.result c.requires.legal c.in-Some.ensures c.requires.offered room front over
+    later.fits later.soon)

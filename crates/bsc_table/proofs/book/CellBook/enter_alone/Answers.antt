@@ -20,7 +20,8 @@ invariant_of-self-2 c =
     let grown = sym (c.push_within.ensures.items ∙ ap (λ (l : List Entry). l ++ e ∷ []) c.reserve.ensures.items) in
     let Legal : List Entry → Type 0 = λ log. IsLegal (record r { log = log }) in
     let Kept : List Accepted → Type 0 = λ all. map accepted_of c.self.inside.accepted.items ≡ all in
-    let FollowsThem : List Accepted → Type 0 = λ all. Follows c.self.inside.plan (map (λ (a : Accepted). a.message) all) r.air in
+    let FollowsThem : List Accepted → Type 0 = λ all. Follows c.self.inside.plan
+    (map (λ (a : Accepted). a.message) all) r.air in
     let Holds : List Accepted → Type 0 = λ all. c.self.inside.budget ≡ lines_at r.clock (claims_of all) in
     let after = sym same ∙ ap accepted_in grown in
     record {

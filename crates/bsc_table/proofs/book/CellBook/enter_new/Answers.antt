@@ -11,7 +11,8 @@ use Rattle.bsc_table.specs.Book.{accepted_of, record_of, lines_at, HasRoomFor, I
 use Rattle.bsc_table.proofs.Begun.{room_for_new}
 use Rattle.bsc_table.proofs.Sound.{IsSound-legal}
 use Rattle.bsc_table.proofs.Ranks.{in_front, layer_tells}
-use Rattle.bsc_table.proofs.Entering.{book_with, messages_with, kept_more, planned_below, held_below, item_message, begun_lines, claims_with}
+use Rattle.bsc_table.proofs.Entering.{book_with, messages_with, kept_more, planned_below, held_below, item_message}
+use Rattle.bsc_table.proofs.Entering.{begun_lines, claims_with}
 use Rattle.bsc_table.proofs.book.CellBook.enter_new.Goals as goal
 
 pub add-requires-clause-rising : goal.add-requires-clause-rising
@@ -47,7 +48,8 @@ reserve_for-requires-clause-room c =
     let Starts : Record → Type 0 = λ x. IsStart x c.args.entry new in
     let start = subst Starts (sym c.self.view_is) c.requires.start in
     let Room : List Held → Type 0 = λ lines. HasRoomFor r.clock lines (claim_of new) new.behind in
-    λ is. subst Room (sym c.self.invariant.held) (room_for_new (length r.log) r.clock (accepted_in r.log) new (IsSound-legal r c.self.invariant.legal).order start.begun (in_front c.args.new.category is))
+    λ is. subst Room (sym c.self.invariant.held) (room_for_new (length r.log) r.clock (accepted_in r.log) new
+    (IsSound-legal r c.self.invariant.legal).order start.begun (in_front c.args.new.category is))
 
 pub invariant_of-self-2 : goal.invariant_of-self-2
 invariant_of-self-2 c =
@@ -67,7 +69,8 @@ invariant_of-self-2 c =
     -- the log and what is kept
     let grown = c.push_within-2.ensures.items ∙ ap (λ (l : List Entry). l ++ e ∷ []) c.reserve.ensures.items in
     let kept = c.push_within.ensures.items ∙ ap (λ (l : List Kept). l ++ c.args.new ∷ []) c.reserve-2.ensures.items in
-    let more = ap (map accepted_of) kept ∙ kept_more c.self.inside.accepted.items c.args.new (accepted_in r.log) book.kept ∙ sym adds in
+    let more = ap (map accepted_of) kept ∙ kept_more c.self.inside.accepted.items c.args.new (accepted_in r.log)
+    book.kept ∙ sym adds in
     -- the plan
     let told = item_message new.message (message_from c.item.result) c.item.ensures may.standing in
     let messages = messages_with r.log e (accepted_in r.log) new adds in
@@ -75,7 +78,10 @@ invariant_of-self-2 c =
     let follows = subst FollowsOne told (c.in_ok-add.ensures.follows before r.air book.follows) in
     -- the budget
     let claims = claims_with r.log e (accepted_in r.log) new adds in
-    let lines = begun_lines (length r.log) r.clock None (accepted_in r.log) (claims_in r.log) new may c.self.inside.budget c.reserve_for.new.budget book.held (is_background c.args.new.category) (layer_tells c.args.new.category) c.reserve_for.ensures in
+    let lines = begun_lines (length r.log) r.clock None (accepted_in r.log) (claims_in r.log) new may
+    c.self.inside.budget c.reserve_for.new.budget book.held (is_background c.args.new.category)
+    (layer_tells c.args.new.category) c.reserve_for.ensures in
     let FollowsAll : List Message → Type 0 = λ all. Follows c.add.new.self all r.air in
     let HeldFor : List Claim → Type 0 = λ all. c.reserve_for.new.budget ≡ lines_at r.clock all in
-    book_with c.self.inside e c.push_within-2.new.list c.push_within.new.list c.add.new.self c.reserve_for.new.budget book next grown more (subst FollowsAll (sym messages) follows) (subst HeldFor (sym claims) lines)
+    book_with c.self.inside e c.push_within-2.new.list c.push_within.new.list c.add.new.self c.reserve_for.new.budget
+    book next grown more (subst FollowsAll (sym messages) follows) (subst HeldFor (sym claims) lines)

@@ -1,4 +1,5 @@
-use Rattle.std.proofs.Common.{◌≡◌, ◌≢◌, ◌<◌, ℕ, Some, List, [], ◌∷◌, ◌++◌, length, map, filter, subst, sym, ap, ◌∙◌, arith}
+use Rattle.std.proofs.Common.{◌≡◌, ◌≢◌, ◌<◌, ℕ, Some, List, [], ◌∷◌, ◌++◌, length, map, filter, subst, sym, ap, ◌∙◌}
+use Rattle.std.proofs.Common.{arith}
 use Rattle.std.specs.Vec.{with_items}
 use Rattle.std.specs.List.{All, Any}
 use Rattle.std.proofs.lemmas.List.Elements.{All-contains}
@@ -15,7 +16,9 @@ use Rattle.bsc_table.proofs.Outcome.{messages_stopped, claims_stopped}
 use Rattle.bsc_table.proofs.Begun.{room_for_replacement}
 use Rattle.bsc_table.proofs.Sound.{HasLoad, IsSound-legal}
 use Rattle.bsc_table.proofs.Ranks.{in_front, layer_tells}
-use Rattle.bsc_table.proofs.Entering.{free_of, book_with, table_stopped, released_lines, messages_with, kept_more, planned_below, held_below_without, number_below, standing_in, standing_beside, held_in, item_message, begun_lines, claims_with, stopped_beside}
+use Rattle.bsc_table.proofs.Entering.{free_of, book_with, table_stopped, released_lines, messages_with, kept_more}
+use Rattle.bsc_table.proofs.Entering.{planned_below, held_below_without, number_below, standing_in, standing_beside}
+use Rattle.bsc_table.proofs.Entering.{held_in, item_message, begun_lines, claims_with, stopped_beside}
 use Rattle.bsc_table.proofs.book.CellBook.enter_replacement.Goals as goal
 
 pub add-requires-clause-rising : goal.add-requires-clause-rising
@@ -35,8 +38,10 @@ stop-requires-2-clause-standing c =
     let old : Accepted = accepted_of c.args.old.now in
     let Replaces : Record → Type 0 = λ x. IsReplacement x c.args.entry old (accepted_of c.args.new) in
     let change = subst Replaces (sym c.self.view_is) c.requires.replacement in
-    let found = standing_in c.self.inside.plan r.clock r.log r.air old c.self.invariant.follows change.stops.there change.stops.live in
-    standing_beside c.add.new.self r.clock r.log old (messages_of c.self.inside.plan) (message_from c.item.result) c.in_ok-add.ensures.told found
+    let found = standing_in c.self.inside.plan r.clock r.log r.air old c.self.invariant.follows change.stops.there
+    change.stops.live in
+    standing_beside c.add.new.self r.clock r.log old (messages_of c.self.inside.plan) (message_from c.item.result)
+    c.in_ok-add.ensures.told found
 
 pub release-requires-clause-period : goal.release-requires-clause-period
 release-requires-clause-period c =
@@ -44,7 +49,8 @@ release-requires-clause-period c =
     let old : Accepted = accepted_of c.args.old.now in
     let Replaces : Record → Type 0 = λ x. IsReplacement x c.args.entry old (accepted_of c.args.new) in
     let change = subst Replaces (sym c.self.view_is) c.requires.replacement in
-    (All-contains HasLoad (accepted_in r.log) old ((IsSound-legal r c.self.invariant.legal).loaded) change.stops.there).1
+    (All-contains HasLoad (accepted_in r.log) old ((IsSound-legal r c.self.invariant.legal).loaded)
+    change.stops.there).1
 
 pub release-requires-clause-reserved : goal.release-requires-clause-reserved
 release-requires-clause-reserved c =
@@ -53,7 +59,8 @@ release-requires-clause-reserved c =
     let Replaces : Record → Type 0 = λ x. IsReplacement x c.args.entry old (accepted_of c.args.new) in
     let change = subst Replaces (sym c.self.view_is) c.requires.replacement in
     let Has : List Held → Type 0 = λ lines. Any (λ (h : Held). h.entry ≡ old.message.number) lines in
-    λ is. subst Has (sym c.self.invariant.held) (held_in r old c.self.invariant.legal change.stops (in_front c.args.old.now.category is))
+    λ is. subst Has (sym c.self.invariant.held) (held_in r old c.self.invariant.legal change.stops
+    (in_front c.args.old.now.category is))
 
 pub reserve_for-requires-clause-unreserved : goal.reserve_for-requires-clause-unreserved
 reserve_for-requires-clause-unreserved c =
@@ -62,7 +69,9 @@ reserve_for-requires-clause-unreserved c =
     let number : ℕ = old.message.number in
     let Replaces : Record → Type 0 = λ x. IsReplacement x c.args.entry old (accepted_of c.args.new) in
     let change = subst Replaces (sym c.self.view_is) c.requires.replacement in
-    let lines = released_lines r old c.self.inside.budget c.release.new.budget c.self.invariant.legal change.stops c.self.invariant.held (is_background c.args.old.now.category) (layer_tells c.args.old.now.category) c.release.ensures in
+    let lines = released_lines r old c.self.inside.budget c.release.new.budget c.self.invariant.legal change.stops
+    c.self.invariant.held (is_background c.args.old.now.category) (layer_tells c.args.old.now.category)
+    c.release.ensures in
     let Below : List Held → Type 0 = λ l. All (λ (h : Held). h.entry < length r.log) l in
     let below = subst Below (sym lines) (held_below_without r.clock number r.log) in
     λ k d h same. omega (arith, below k d h, change.begun.numbered, same)
@@ -74,10 +83,13 @@ reserve_for-requires-clause-room c =
     let new : Accepted = accepted_of c.args.new in
     let Replaces : Record → Type 0 = λ x. IsReplacement x c.args.entry old new in
     let change = subst Replaces (sym c.self.view_is) c.requires.replacement in
-    let lines = released_lines r old c.self.inside.budget c.release.new.budget c.self.invariant.legal change.stops c.self.invariant.held (is_background c.args.old.now.category) (layer_tells c.args.old.now.category) c.release.ensures in
+    let lines = released_lines r old c.self.inside.budget c.release.new.budget c.self.invariant.legal change.stops
+    c.self.invariant.held (is_background c.args.old.now.category) (layer_tells c.args.old.now.category)
+    c.release.ensures in
     let Room : List Held → Type 0 = λ l. HasRoomFor r.clock l (claim_of new) new.behind in
     let sound = IsSound-legal r c.self.invariant.legal in
-    λ is. subst Room (sym lines) (room_for_replacement (length r.log) r.clock (accepted_in r.log) old new sound.order sound.rising change.stops.there change.stops.live change.begun (in_front c.args.new.category is))
+    λ is. subst Room (sym lines) (room_for_replacement (length r.log) r.clock (accepted_in r.log) old new sound.order
+    sound.rising change.stops.there change.stops.live change.begun (in_front c.args.new.category is))
 
 pub release-requires-clause-free : goal.release-requires-clause-free
 release-requires-clause-free c =
@@ -86,7 +98,8 @@ release-requires-clause-free c =
     let Replaces : Record → Type 0 = λ x. IsReplacement x c.args.entry old (accepted_of c.args.new) in
     let Free : List Held → Type 0 = λ lines. All (λ (h : Held). behind_of h ≢ Some old.message.number) lines in
     let change = subst Replaces (sym c.self.view_is) c.requires.replacement in
-    λ is. subst Free (sym c.self.invariant.held) (free_of r old c.self.invariant.legal change.stops (in_front c.args.old.now.category is))
+    λ is. subst Free (sym c.self.invariant.held) (free_of r old c.self.invariant.legal change.stops
+    (in_front c.args.old.now.category is))
 
 pub invariant_of-self-2 : goal.invariant_of-self-2
 invariant_of-self-2 c =
@@ -110,11 +123,16 @@ invariant_of-self-2 c =
     -- the log and what is kept
     let grown = c.push_within-2.ensures.items ∙ ap (λ (l : List Entry). l ++ e ∷ []) c.reserve.ensures.items in
     let room = c.reserve-2.new.self in
-    let stopped = table_stopped room c.as_mut_slice.result.now c.stop.new.table number r.clock c.as_mut_slice.ensures.value c.as_mut_slice.ensures.len c.stop.ensures ∙ ap (λ (l : List Kept). map (stop_numbered number r.clock) (map accepted_of l)) c.reserve-2.ensures.items ∙ ap (map (stop_numbered number r.clock)) book.kept in
-    let kept = ap (map accepted_of) c.push_within.ensures.items ∙ kept_more (with_items room c.stop.new.table).items c.args.new rest stopped ∙ sym change.after in
+    let stopped = table_stopped room c.as_mut_slice.result.now c.stop.new.table number r.clock
+    c.as_mut_slice.ensures.value c.as_mut_slice.ensures.len c.stop.ensures
+    ∙ ap (λ (l : List Kept). map (stop_numbered number r.clock) (map accepted_of l)) c.reserve-2.ensures.items
+    ∙ ap (map (stop_numbered number r.clock)) book.kept in
+    let kept = ap (map accepted_of) c.push_within.ensures.items
+    ∙ kept_more (with_items room c.stop.new.table).items c.args.new rest stopped ∙ sym change.after in
     -- the plan
     let told = item_message new.message (message_from c.item.result) c.item.ensures may.standing in
-    let messages = messages_with r.log e rest new change.after ∙ ap (λ (l : List Message). l ++ new.message ∷ []) same in
+    let messages = messages_with r.log e rest new change.after
+    ∙ ap (λ (l : List Message). l ++ new.message ∷ []) same in
     let FollowsOne : Message → Type 0 = λ m. Follows c.add.new.self (before ++ m ∷ []) r.air in
     let added = subst FollowsOne told (c.in_ok-add.ensures.follows before r.air book.follows) in
     let FollowsThese : List Message → Type 0 = λ all. Follows c.stop-2.new.self all r.air in
@@ -123,8 +141,15 @@ invariant_of-self-2 c =
     let follows = subst FollowsThese apart (c.stop-2.ensures.follows (before ++ new.message ∷ []) r.air added) in
     -- the budget
     let left : List Claim = stop_claims number r.clock (claims_in r.log) in
-    let released = released_lines r old c.self.inside.budget c.release.new.budget book.legal change.stops book.held (is_background c.args.old.now.category) (layer_tells c.args.old.now.category) c.release.ensures in
-    let claims = claims_with r.log e rest new change.after ∙ ap (λ (l : List Claim). l ++ filter reserves (claim_of new ∷ [])) (claims_stopped number r.clock (accepted_in r.log)) in
-    let lines = begun_lines (length r.log) r.clock (Some old) rest left new may c.release.new.budget c.reserve_for.new.budget released (is_background c.args.new.category) (layer_tells c.args.new.category) c.reserve_for.ensures in
+    let released = released_lines r old c.self.inside.budget c.release.new.budget book.legal change.stops book.held
+    (is_background c.args.old.now.category) (layer_tells c.args.old.now.category) c.release.ensures in
+    let claims = claims_with r.log e rest new change.after ∙ ap
+    (λ (l : List Claim). l ++ filter reserves (claim_of new ∷ []))
+    (claims_stopped number r.clock (accepted_in r.log)) in
+    let lines = begun_lines (length r.log) r.clock (Some old) rest left new may c.release.new.budget
+    c.reserve_for.new.budget released (is_background c.args.new.category) (layer_tells c.args.new.category)
+    c.reserve_for.ensures in
     let HeldFor : List Claim → Type 0 = λ all. c.reserve_for.new.budget ≡ lines_at r.clock all in
-    book_with c.self.inside e c.push_within-2.new.list c.push_within.new.list c.stop-2.new.self c.reserve_for.new.budget book next grown kept (subst FollowsThese (sym messages) follows) (subst HeldFor (sym claims) lines)
+    book_with c.self.inside e c.push_within-2.new.list c.push_within.new.list c.stop-2.new.self
+    c.reserve_for.new.budget book next grown kept (subst FollowsThese (sym messages) follows)
+    (subst HeldFor (sym claims) lines)

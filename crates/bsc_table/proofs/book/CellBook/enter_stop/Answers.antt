@@ -12,7 +12,8 @@ use Rattle.bsc_table.specs.Claim.{Claim}
 use Rattle.bsc_table.specs.Book.{accepted_of, stop_numbered, record_of, lines_at, IsNext, IsStop}
 use Rattle.bsc_table.proofs.Sound.{HasLoad, IsSound-legal}
 use Rattle.bsc_table.proofs.Ranks.{in_front, layer_tells}
-use Rattle.bsc_table.proofs.Entering.{messages_without, claims_without, free_of, table_stopped, released_lines, book_with, standing_in, held_in}
+use Rattle.bsc_table.proofs.Entering.{messages_without, claims_without, free_of, table_stopped, released_lines}
+use Rattle.bsc_table.proofs.Entering.{book_with, standing_in, held_in}
 use Rattle.bsc_table.proofs.book.CellBook.enter_stop.Goals as goal
 
 pub stop-requires-2-clause-standing : goal.stop-requires-2-clause-standing
@@ -38,7 +39,8 @@ release-requires-clause-reserved c =
     let Stops : Record → Type 0 = λ x. IsStop x c.args.entry old in
     let Has : List Held → Type 0 = λ lines. Any (λ (h : Held). h.entry ≡ old.message.number) lines in
     let stop = subst Stops (sym c.self.view_is) c.requires.stop in
-    λ is. subst Has (sym c.self.invariant.held) (held_in r old c.self.invariant.legal stop.stops (in_front c.args.old.now.category is))
+    λ is. subst Has (sym c.self.invariant.held) (held_in r old c.self.invariant.legal stop.stops
+    (in_front c.args.old.now.category is))
 
 pub release-requires-clause-free : goal.release-requires-clause-free
 release-requires-clause-free c =
@@ -47,7 +49,8 @@ release-requires-clause-free c =
     let Stops : Record → Type 0 = λ x. IsStop x c.args.entry old in
     let Free : List Held → Type 0 = λ lines. All (λ (h : Held). behind_of h ≢ Some old.message.number) lines in
     let stop = subst Stops (sym c.self.view_is) c.requires.stop in
-    λ is. subst Free (sym c.self.invariant.held) (free_of r old c.self.invariant.legal stop.stops (in_front c.args.old.now.category is))
+    λ is. subst Free (sym c.self.invariant.held) (free_of r old c.self.invariant.legal stop.stops
+    (in_front c.args.old.now.category is))
 
 pub invariant_of-self-2 : goal.invariant_of-self-2
 invariant_of-self-2 c =
@@ -62,12 +65,17 @@ invariant_of-self-2 c =
     let stop = subst Stops (sym c.self.view_is) c.requires.stop in
     -- the log and what is kept
     let grown = c.push_within.ensures.items ∙ ap (λ (l : List Entry). l ++ e ∷ []) c.reserve.ensures.items in
-    let fewer = table_stopped c.self.inside.accepted c.as_mut_slice.result.now c.stop.new.table number r.clock c.as_mut_slice.ensures.value c.as_mut_slice.ensures.len c.stop.ensures ∙ ap (map (stop_numbered number r.clock)) book.kept ∙ sym stop.after in
+    let fewer = table_stopped c.self.inside.accepted c.as_mut_slice.result.now c.stop.new.table number r.clock
+    c.as_mut_slice.ensures.value c.as_mut_slice.ensures.len c.stop.ensures
+    ∙ ap (map (stop_numbered number r.clock)) book.kept ∙ sym stop.after in
     -- the plan and the budget
     let messages = messages_without r.log e number r.clock stop.after in
     let follows = c.stop-2.ensures.follows (messages_in r.log) r.air book.follows in
-    let lines = released_lines r old c.self.inside.budget c.release.new.budget book.legal stop.stops book.held (is_background c.args.old.now.category) (layer_tells c.args.old.now.category) c.release.ensures in
+    let lines = released_lines r old c.self.inside.budget c.release.new.budget book.legal stop.stops book.held
+    (is_background c.args.old.now.category) (layer_tells c.args.old.now.category) c.release.ensures in
     let FollowsAll : List Message → Type 0 = λ all. Follows c.stop-2.new.self all r.air in
     let claims = claims_without r.log e number r.clock stop.after in
     let HeldFor : List Claim → Type 0 = λ all. c.release.new.budget ≡ lines_at r.clock all in
-    book_with c.self.inside e c.push_within.new.list (with_items c.self.inside.accepted c.stop.new.table) c.stop-2.new.self c.release.new.budget book next grown fewer (subst FollowsAll (sym messages) follows) (subst HeldFor (sym claims) lines)
+    book_with c.self.inside e c.push_within.new.list (with_items c.self.inside.accepted c.stop.new.table)
+    c.stop-2.new.self c.release.new.budget book next grown fewer (subst FollowsAll (sym messages) follows)
+    (subst HeldFor (sym claims) lines)

@@ -24,7 +24,8 @@ invariant_of-self c =
     let chosen = subst ChosenAt (sym book.legal.played) (c.next-used.ensures.chosen messages r.air book.follows) in
     let Legal : Air → Type 0 = λ air. IsLegal (record r { clock = r.clock + 1; air = air }) in
     let FollowsTo : Air → Type 0 = λ air. Follows c.next-used.new.self messages air in
-    let accepted : All (λ (k : Claim). k.accepted ≤ r.clock) (claims_in r.log) = (IsSound-legal r book.legal).order.accepted in
+    let accepted : All (λ (k : Claim). k.accepted ≤ r.clock) (claims_in r.log) =
+    (IsSound-legal r book.legal).order.accepted in
     let later = lines_at-later r.clock (r.clock + 1) (claims_in r.log) (omega arith) accepted in
     record {
       legal = subst Legal (sym c.put.ensures.aired) (IsLegal-next r used ahead chosen book.legal);
@@ -38,7 +39,8 @@ invariant_of-self c =
 
 pub returns : goal.returns
 returns c =
-    let P : Record → Type 0 = λ before. IsPlayedUpTo (before.clock + 1) before (record (record_of c.self.inside) { clock = c.self.inside.clock + 1; air = air_told c.put.new.air.items }) in
+    let P : Record → Type 0 = λ before. IsPlayedUpTo (before.clock + 1) before
+    (record (record_of c.self.inside) { clock = c.self.inside.clock + 1; air = air_told c.put.new.air.items }) in
     subst P c.self.view_is (record {
       same_cell = refl;
       same_slots = refl;

@@ -27,10 +27,14 @@ fits_behind-requires c =
     let a : Accepted = accepted_of c.args.old.now in
     let live = subst (λ x. IsLiveIn x a) (sym c.self.view_is) c.requires.live in
     let Over : Record → Type 0 = λ x. place_after (left_by x a) x.clock a c.args.load ≡ Some (place_of c.args.place) in
-    let taken = taken_after (left_by r a) r.clock c.args.load a (place_of c.args.place) (subst Over (sym c.self.view_is) c.requires.place) in
+    let taken = taken_after (left_by r a) r.clock c.args.load a (place_of c.args.place)
+    (subst Over (sym c.self.view_is) c.requires.place) in
     let over = taken.1 in
-    let ahead = held_ahead r.clock c.args.load (claims_in r.log) (claim_of a) (place_of c.args.place) (IsSound-legal r c.self.invariant.legal).order (its_claim (accepted_in r.log) a live.there taken.0) live.live over in
-    let Started : List Held → Type 0 = λ lines. Any (λ (h : Held). (h.entry ≡ c.args.place.behind) × (h.waits ≡ None)) lines in
+    let ahead = held_ahead r.clock c.args.load (claims_in r.log) (claim_of a) (place_of c.args.place)
+    (IsSound-legal r c.self.invariant.legal).order (its_claim (accepted_in r.log) a live.there taken.0) live.live
+    over in
+    let Started : List Held → Type 0 = λ lines. Any (λ (h : Held). (h.entry ≡ c.args.place.behind) × (h.waits ≡ None))
+    lines in
     subst Started (sym c.self.invariant.held) ahead.0
 
 pub returns : goal.returns
@@ -43,12 +47,18 @@ returns c =
     let end : ℕ = end_of_stopped a.message.start a.message.period r.clock in
     let live = subst (λ x. IsLiveIn x a) (sym c.self.view_is) c.requires.live in
     let Over : Record → Type 0 = λ x. place_after (left_by x a) x.clock a c.args.load ≡ Some place in
-    let taken = taken_after (left_by r a) r.clock c.args.load a place (subst Over (sym c.self.view_is) c.requires.place) in
+    let taken = taken_after (left_by r a) r.clock c.args.load a place
+    (subst Over (sym c.self.view_is) c.requires.place) in
     let over = taken.1 in
-    let ahead = held_ahead r.clock c.args.load (claims_in r.log) (claim_of a) place (IsSound-legal r book.legal).order (its_claim (accepted_in r.log) a live.there taken.0) live.live over in
+    let ahead = held_ahead r.clock c.args.load (claims_in r.log) (claim_of a) place (IsSound-legal r book.legal).order
+    (its_claim (accepted_in r.log) a live.there taken.0) live.live over in
     let asked = c.fits_behind.ensures
-    ∙ ap (λ (leaving : Option ℕ). answer_for (remaining_without leaving c.self.inside.budget) (excess_over place.behind c.args.load c.self.inside.budget)) c.leaving_at.ensures
-    ∙ ap (λ (l : List Held). answer_for (remaining_without (cond (end == r.clock) (Some a.message.number) None) l) (excess_over place.behind c.args.load l)) book.held
-    ∙ ap (λ (n : ℕ). answer_for (remaining_without (cond (end == r.clock) (Some a.message.number) None) lines) n) ahead.1 in
+    ∙ ap (λ (leaving : Option ℕ). answer_for (remaining_without leaving c.self.inside.budget)
+    (excess_over place.behind c.args.load c.self.inside.budget)) c.leaving_at.ensures
+    ∙ ap (λ (l : List Held). answer_for (remaining_without (cond (end == r.clock) (Some a.message.number) None) l)
+    (excess_over place.behind c.args.load l)) book.held
+    ∙ ap (λ (n : ℕ). answer_for (remaining_without (cond (end == r.clock) (Some a.message.number) None) lines) n)
+    ahead.1 in
     let Room : Record → Type 0 = λ x. IsRoom (left_by x a) x.clock place.excess c.fits_behind.result in
-    subst Room c.self.view_is (subst (IsRoom (left_by r a) r.clock place.excess) (sym asked) (room_after_stop r place.excess a book.legal live))
+    subst Room c.self.view_is (subst (IsRoom (left_by r a) r.clock place.excess) (sym asked)
+    (room_after_stop r place.excess a book.legal live))

@@ -14,8 +14,11 @@ invariant_of-self c =
     let back = sym c.self.view_is in
     let Above : Kept → Type 0 = λ p. All (λ m. m.number < c.args.item.entry) (messages_of p) in
     let From : Kept → Type 0 = λ p. next_slot p ≤ c.args.item.start in
-    let items = c.push.ensures.items ∙ ap (λ x. cond (is_ok c.push.result) (c.self.inside.tracked.items ++ x ∷ []) c.self.inside.tracked.items) c.new.ensures in
-    IsSound-add_if plan c.args.item (is_ok c.push.result) c.push.new.self.items items (subst Above back c.requires.rising) (subst From back c.requires.from_next) c.requires.some_pages c.requires.some_period c.self.invariant
+    let items = c.push.ensures.items ∙ ap (λ x. cond (is_ok c.push.result) (c.self.inside.tracked.items ++ x ∷ [])
+    c.self.inside.tracked.items) c.new.ensures in
+    IsSound-add_if plan c.args.item (is_ok c.push.result) c.push.new.self.items items
+    (subst Above back c.requires.rising) (subst From back c.requires.from_next) c.requires.some_pages
+    c.requires.some_period c.self.invariant
 
 pub returns-clause-follows : goal.returns-clause-follows
 returns-clause-follows c =
@@ -26,8 +29,10 @@ returns-clause-follows c =
           let Same : Kept → Type 0 = λ p. Follows p messages air in
           let From : Kept → Type 0 = λ p. next_slot p ≤ c.args.item.start in
           let items = w.in-Ok.ensures.items ∙ ap (λ x. c.self.inside.tracked.items ++ x ∷ []) c.new.ensures in
-          let P : List Tracked → Type 0 = λ ts. Follows (record { slot = c.self.inside.slot; tracked = ts }) (messages ++ message_from c.args.item ∷ []) air in
-          subst P (sym items) (Follows-add plan c.args.item messages air (subst From back c.requires.from_next) c.requires.some_pages c.requires.some_period (subst Same back follows)))
+          let P : List Tracked → Type 0 = λ ts. Follows (record { slot = c.self.inside.slot; tracked = ts })
+          (messages ++ message_from c.args.item ∷ []) air in
+          subst P (sym items) (Follows-add plan c.args.item messages air (subst From back c.requires.from_next)
+          c.requires.some_pages c.requires.some_period (subst Same back follows)))
       | in-Err w ↦ rw w.result-is tt
     ]
 
@@ -36,7 +41,8 @@ returns-clause-told c =
     elim c.match-push.branch [
       | in-Ok w ↦ rw w.result-is (
           let items = w.in-Ok.ensures.items ∙ ap (λ x. c.self.inside.tracked.items ++ x ∷ []) c.new.ensures in
-          ap (map message_of) items ∙ (map_push message_of c.self.inside.tracked.items (kept_new c.args.item) ∙ ap (λ p. messages_of p ++ message_from c.args.item ∷ []) c.self.view_is)
+          ap (map message_of) items ∙ (map_push message_of c.self.inside.tracked.items (kept_new c.args.item)
+          ∙ ap (λ p. messages_of p ++ message_from c.args.item ∷ []) c.self.view_is)
           )
       | in-Err w ↦ rw w.result-is tt
     ]

@@ -8,6 +8,8 @@ use Rattle.scheduler.proofs.plan.Plan.done.Goals as goal
 pub returns : goal.returns
 returns c = λ messages air follows.
     let plan : Kept = record { slot = c.self.inside.slot; tracked = c.self.inside.tracked.items } in
-    let Found : List Tracked → Type 0 = λ ts. All (λ t. t.item.entry ≡ c.args.entry → c.completed_of.result ≡ t.completed) ts in
+    let Found : List Tracked → Type 0 = λ ts. All (λ t. t.item.entry ≡ c.args.entry
+    → c.completed_of.result ≡ t.completed) ts in
     let Same : Kept → Type 0 = λ p. Follows p messages air in
-    completed-told plan c.args.entry c.completed_of.result messages air (subst Found c.as_slice.ensures.value c.completed_of.ensures) (subst Same (sym c.self.view_is) follows)
+    completed-told plan c.args.entry c.completed_of.result messages air
+    (subst Found c.as_slice.ensures.value c.completed_of.ensures) (subst Same (sym c.self.view_is) follows)

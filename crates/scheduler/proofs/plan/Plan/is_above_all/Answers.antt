@@ -13,4 +13,5 @@ returns c =
     let Q : Message → Type 0 = λ (m : Message). c.args.entry ≤ m.number in
     let Says : List Message → Type 0 = λ ms. MatchBool c.are_below.result (All P ms) (Any Q ms) in
     let kept = ap (map message_of) c.as_slice.ensures.value ∙ ap messages_of c.self.view_is in
-    subst Says kept (MatchBool-both c.are_below.result _ _ _ _ (All-map P message_of c.as_slice.result.now) (Any-map Q message_of c.as_slice.result.now) c.are_below.ensures)
+    subst Says kept (MatchBool-both c.are_below.result _ _ _ _ (All-map P message_of c.as_slice.result.now)
+    (Any-map Q message_of c.as_slice.result.now) c.are_below.ensures)

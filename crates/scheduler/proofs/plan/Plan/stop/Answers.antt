@@ -11,35 +11,45 @@ use Rattle.scheduler.proofs.plan.Plan.stop.Goals as goal
 pub invariant_of-self : goal.invariant_of-self
 invariant_of-self c =
     let plan : Kept = record { slot = c.self.inside.slot; tracked = c.self.inside.tracked.items } in
-    let over = written_over c.self.inside.tracked (λ (t : Tracked). stopped_kept (t.item.entry == c.args.entry) c.args.slot t) _ _ c.as_mut_slice.ensures.value c.stop_at.ensures in
+    let over = written_over c.self.inside.tracked (λ (t : Tracked). stopped_kept (t.item.entry == c.args.entry)
+    c.args.slot t) _ _ c.as_mut_slice.ensures.value c.stop_at.ensures in
     let P : List Tracked → Type 0 = λ ts. IsSound (record { slot = c.self.inside.slot; tracked = ts }) in
     subst P (sym over) (IsSound-stop plan c.args.entry c.args.slot c.self.invariant)
 
 pub returns-clause-completed : goal.returns-clause-completed
 returns-clause-completed c = λ messages air follows.
     let plan : Kept = record { slot = c.self.inside.slot; tracked = c.self.inside.tracked.items } in
-    let Found : List Tracked → Type 0 = λ ts. All (λ t. t.item.entry ≡ c.args.entry → c.completed_of-completed.result ≡ t.completed) ts in
+    let Found : List Tracked → Type 0 = λ ts. All (λ t. t.item.entry ≡ c.args.entry
+    → c.completed_of-completed.result ≡ t.completed) ts in
     let Same : Kept → Type 0 = λ p. Follows p messages air in
     let at = c.requires.at_next ∙ follows.asked in
-    let Told : ℕ → Type 0 = λ n. All (λ m. m.number ≡ c.args.entry → c.completed_of-completed.result ≡ completed m air n) messages in
-    subst Told (sym at) (completed-told plan c.args.entry c.completed_of-completed.result messages air (subst Found c.as_slice.ensures.value c.completed_of-completed.ensures) (subst Same (sym c.self.view_is) follows))
+    let Told : ℕ → Type 0 = λ n. All (λ m. m.number ≡ c.args.entry
+    → c.completed_of-completed.result ≡ completed m air n) messages in
+    subst Told (sym at) (completed-told plan c.args.entry c.completed_of-completed.result messages air
+    (subst Found c.as_slice.ensures.value c.completed_of-completed.ensures)
+    (subst Same (sym c.self.view_is) follows))
 
 pub returns-clause-follows : goal.returns-clause-follows
 returns-clause-follows c = λ messages air follows.
     let plan : Kept = record { slot = c.self.inside.slot; tracked = c.self.inside.tracked.items } in
-    let over = written_over c.self.inside.tracked (λ (t : Tracked). stopped_kept (t.item.entry == c.args.entry) c.args.slot t) _ _ c.as_mut_slice.ensures.value c.stop_at.ensures in
+    let over = written_over c.self.inside.tracked (λ (t : Tracked). stopped_kept (t.item.entry == c.args.entry)
+    c.args.slot t) _ _ c.as_mut_slice.ensures.value c.stop_at.ensures in
     let Same : Kept → Type 0 = λ p. Follows p messages air in
     let Standing : Kept → Type 0 = λ p. Any (λ m. (m.number ≡ c.args.entry) × (m.stop ≡ None)) (messages_of p) in
     let Next : Kept → Type 0 = λ p. c.args.slot ≡ next_slot p in
-    let P : List Tracked → Type 0 = λ ts. Follows (record { slot = c.self.inside.slot; tracked = ts }) (stopped_at c.args.entry c.args.slot messages) air in
+    let P : List Tracked → Type 0 = λ ts. Follows (record { slot = c.self.inside.slot; tracked = ts })
+    (stopped_at c.args.entry c.args.slot messages) air in
     let back = sym c.self.view_is in
-    subst P (sym over) (Follows-stop plan c.args.entry c.args.slot messages air (subst Next back c.requires.at_next) (subst Standing back c.requires.standing) c.self.invariant (subst Same back follows))
+    subst P (sym over) (Follows-stop plan c.args.entry c.args.slot messages air (subst Next back c.requires.at_next)
+    (subst Standing back c.requires.standing) c.self.invariant (subst Same back follows))
 
 pub returns-clause-told : goal.returns-clause-told
 returns-clause-told c =
     let plan : Kept = record { slot = c.self.inside.slot; tracked = c.self.inside.tracked.items } in
-    let over = written_over c.self.inside.tracked (λ (t : Tracked). stopped_kept (t.item.entry == c.args.entry) c.args.slot t) _ _ c.as_mut_slice.ensures.value c.stop_at.ensures in
-    ap (map message_of) over ∙ (messages_of-stopped plan c.args.entry c.args.slot ∙ ap (λ p. stopped_at c.args.entry c.args.slot (messages_of p)) c.self.view_is)
+    let over = written_over c.self.inside.tracked (λ (t : Tracked). stopped_kept (t.item.entry == c.args.entry)
+    c.args.slot t) _ _ c.as_mut_slice.ensures.value c.stop_at.ensures in
+    ap (map message_of) over ∙ (messages_of-stopped plan c.args.entry c.args.slot
+    ∙ ap (λ p. stopped_at c.args.entry c.args.slot (messages_of p)) c.self.view_is)
 
 pub returns-clause-asked : goal.returns-clause-asked
 returns-clause-asked c = ap next_slot c.self.view_is ∙ sym c.requires.at_next
