@@ -2,10 +2,10 @@
 
 ghost use Rattle.std.specs.Prelude.{◌<◌};
 
-use alert_book::{BookFault, BookFaultKind, read_book};
+use alert_book::{BookFault, BookFaultKind, MOST_OCTETS, read_book};
 use device_ends::Source;
 use device_ends::memory::MemoryReader;
-use std::alloc::Global;
+use std::alloc::{AllocError, Global};
 use std::process::Abort;
 use std::test::Fail;
 
@@ -36,9 +36,14 @@ fn a_failed_reader_is_reported(rt: HostRuntime) -> Result<(), Fail> {
     Ok(())
 }
 
+/// This many empty lines.
+fn empty_lines(alloc: Global, length: usize) -> Result<Vec<u8>, AllocError> {
+    vec![in alloc; b'\n'; length]
+}
+
 #[test]
 fn one_octet_past_the_bound_is_read(rt: HostRuntime) -> Result<(), Fail> {
-    let octets = vec![in rt.alloc(); b'\n'; 0x100_0002]?;
+    let octets = empty_lines(rt.alloc(), MOST_OCTETS + 2)?;
     let mut reader = MemoryReader::new(&octets, 0x1_0000, None);
     match read_book(&rt, &mut Source::new(&mut reader)) {
         Ok(_) => assert!(&rt; false, "a long book was read"),
@@ -51,8 +56,14 @@ fn one_octet_past_the_bound_is_read(rt: HostRuntime) -> Result<(), Fail> {
         ),
     }
     assert_eq!(&rt; reader.rest().len(), 1);
-    let mut whole = MemoryReader::new(&octets[..0x100_0000], 0x1_0000, None);
-    let read = read_book(&rt, &mut Source::new(&mut whole));
+    Ok(())
+}
+
+#[test]
+fn the_longest_book_is_read(rt: HostRuntime) -> Result<(), Fail> {
+    let octets = empty_lines(rt.alloc(), MOST_OCTETS)?;
+    let mut reader = MemoryReader::new(&octets, 0x1_0000, None);
+    let read = read_book(&rt, &mut Source::new(&mut reader));
     assert!(&rt; read.is_ok());
     Ok(())
 }
