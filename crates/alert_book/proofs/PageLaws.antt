@@ -36,9 +36,11 @@ pub have_next : (orders : List Order) (pages : List (Option Paged)) (i : ℕ) (o
 have_next orders pages i order paged h is had p =
     rw (take_more orders i order h, ← is) (have_more (take i orders) pages order paged had p)
 
-pub wrong_next : (orders : List Order) (pages : List (Option Paged)) (i : ℕ) (order : Order) (why : TextFault) (f : BookFault) →
+pub wrong_next : (orders : List Order) (pages : List (Option Paged)) (i : ℕ) (order : Order) (why : TextFault)
+    (f : BookFault) →
     i < length orders → order ≡ get_or orders i order → HavePages (take i orders) pages →
-    ((sending : Sending) × (sending_of order.action ≡ Some sending) × IsTextFault sending.language (chars sending.text) why) →
+    ((sending : Sending) × (sending_of order.action ≡ Some sending)
+    × IsTextFault sending.language (chars sending.text) why) →
     ((f ≡ refused) ⊎ ((why ≢ text.Refused) × (f ≡ fault_at order.row (fault.Text why)))) →
     (f ≡ refused) ⊎ HasWrongText orders f
 wrong_next orders pages i order why f h is had wrong (inl none) = inl none

@@ -68,7 +68,14 @@ alert_at fields place =
 
 abbrev pub sending_with : (language : List ℕ) (category period broadcasts : ℕ) → List Cell → List ℕ → Sending
 sending_with language category period broadcasts cells text =
-    record { language = language; category = category; period = period; broadcasts = broadcasts; cells = cells; text = text }
+    record {
+      language = language;
+      category = category;
+      period = period;
+      broadcasts = broadcasts;
+      cells = cells;
+      text = text;
+    }
 
 -- LANG, CATEGORY, PERIOD, BROADCASTS, CELLS and TEXT, from this place on, where earlier rows declare these cells
 abbrev pub sending_at : List Cell → List (List ℕ) → ℕ → Result Sending BookFaultKind

@@ -129,7 +129,8 @@ pub(crate) fn sending_at(
 ) -> Result<Sending, BookFaultKind>
     requires { place ≤ 100 }
     ensures right { IfOk result (λ sending. sending_at declared.now (fields_of fields.now) place ≡ Ok sending) }
-    ensures wrong { IfErr result (λ kind. kind ≢ BookFaultKind.Refused → sending_at declared.now (fields_of fields.now) place ≡ Err kind) }
+    ensures wrong { IfErr result (λ kind. kind ≢ BookFaultKind.Refused →
+        sending_at declared.now (fields_of fields.now) place ≡ Err kind) }
     ensures unread { IfErr result (λ kind. kind ≢ BookFaultKind.ReadFailed) }
 {
     let category = category(column(fields, place + 1))?;

@@ -103,9 +103,11 @@ fn row_after_verb(
 ) -> Result<Row, BookFaultKind>
     requires { length orders.now ≤ 4096 }
     ensures right { IfOk result (λ meant.
-        row_after_verb (verb_of (column (fields_of fields.now) 0)) row declared.now orders.now (fields_of fields.now) ≡ Ok meant) }
+        row_after_verb (verb_of (column (fields_of fields.now) 0)) row declared.now orders.now (fields_of fields.now)
+        ≡ Ok meant) }
     ensures wrong { IfErr result (λ kind. kind ≢ BookFaultKind.Refused →
-        row_after_verb (verb_of (column (fields_of fields.now) 0)) row declared.now orders.now (fields_of fields.now) ≡ Err kind) }
+        row_after_verb (verb_of (column (fields_of fields.now) 0)) row declared.now orders.now (fields_of fields.now)
+        ≡ Err kind) }
     ensures unread { IfErr result (λ kind. kind ≢ BookFaultKind.ReadFailed) }
 {
     let Some(verb) = verb_of(column(fields, 0)) else {
