@@ -44,11 +44,14 @@ period_over = refl
 category_high : category (codes "0") ≡ Ok 0
 category_high = refl
 
-category_background : category (codes "1") ≡ Err fault.Number
+category_background : category (codes "1") ≡ Ok 1
 category_background = refl
 
 category_normal : category (codes "2") ≡ Ok 2
 category_normal = refl
+
+category_of_none : category (codes "3") ≡ Err fault.Number
+category_of_none = refl
 
 -- cells: a LAC, a dash, a CI, and one space between two
 cell_plain : cell_named (codes "1-02") ≡ Some (cell_with 1 2)
@@ -150,10 +153,10 @@ write_of_period_1025 :
 unfolding verb_of field_at is_utf8 chars encode
 write_of_period_1025 = refl
 
-write_of_category_1 :
-    rows_of (cell_1 ∷ write_with (codes "1") (codes "2") (codes "*") ∷ []) ≡ Err (fault_at 2 fault.Number)
+write_of_category_3 :
+    rows_of (cell_1 ∷ write_with (codes "3") (codes "2") (codes "*") ∷ []) ≡ Err (fault_at 2 fault.Number)
 unfolding verb_of field_at is_utf8 chars encode
-write_of_category_1 = refl
+write_of_category_3 = refl
 
 -- a write and a stop
 abbrev the_cell : Cell

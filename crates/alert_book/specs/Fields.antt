@@ -28,13 +28,9 @@ are_texts fields = list_all is_utf8 fields
 abbrev pub number : (least most : ℕ) → List ℕ → Result ℕ BookFaultKind
 number least most field = ok_or (number_within least most field) fault.Number
 
--- a category is 0, high, or 2, normal
-abbrev pub category_of : Option ℕ → Result ℕ BookFaultKind
-category_of None = Err fault.Number
-category_of (Some value) = if value == 1 then Err fault.Number else Ok value
-
+-- a category is 0, high, 1, background, or 2, normal
 abbrev pub category : List ℕ → Result ℕ BookFaultKind
-category field = category_of (number_within 0 2 field)
+category field = number 0 2 field
 
 -- whether an order is for the alert of this name
 abbrev pub is_named : List ℕ → Order → Bool

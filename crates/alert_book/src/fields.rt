@@ -61,9 +61,6 @@ fn category(field: &str) -> Result<u8, BookFaultKind>
     ensures unread { IfErr result (λ kind. kind ≢ BookFaultKind.ReadFailed) }
 {
     let value = number(field, 0, 2)?;
-    if value == 1 {
-        return Err(BookFaultKind::Number);
-    }
     Ok(value as u8)
 }
 

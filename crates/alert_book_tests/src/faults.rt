@@ -95,7 +95,7 @@ fn the_fields_of_a_write_are_judged(rt: HostRuntime) -> Result<(), Fail> {
             "write,0,a,4370,0,1,en,2,1025,0,*,One",
             BookFaultKind::Number,
         ),
-        ("write,0,a,4370,0,1,en,1,2,0,*,One", BookFaultKind::Number),
+        ("write,0,a,4370,0,1,en,3,2,0,*,One", BookFaultKind::Number),
         ("write,0,a,4370,4,1,en,2,2,0,*,One", BookFaultKind::Number),
         (
             "write,0,a,4370,0,1024,en,2,2,0,*,One",
