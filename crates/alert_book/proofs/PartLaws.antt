@@ -1,5 +1,6 @@
 -- The parts of a text between its spaces, one after the other.
-use Rattle.std.proofs.Common.{◌≡◌, ◌≢◌, ◌<◌, ◌∙◌, ap, sym, ℕ, suc, Option, Some, None, List, [], ◌∷◌, ◌++◌, length, get_or, arith, rules, Bor, append_assoc, append-nil, refl, false}
+use Rattle.std.proofs.Common.{◌≡◌, ◌≢◌, ◌<◌, ◌∙◌, ap, sym, ℕ, suc, Option, Some, None, List, [], ◌∷◌, ◌++◌, length}
+use Rattle.std.proofs.Common.{get_or, arith, rules, Bor, append_assoc, append-nil, refl, false}
 use Rattle.std.proofs.lemmas.Str.Pattern.{IsSplitOnceResult, split_parts}
 use Rattle.cbsp_wire.specs.declared.message.Cell.{Cell}
 use Rattle.alert_book.specs.Cells.{is_space, parts_after, parts_of, all_named, cells_listed, cell_named, before_all}

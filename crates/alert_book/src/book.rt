@@ -1,10 +1,12 @@
 //! Books as they are read.
 
-ghost use Rattle.std.specs.Prelude.{◌≡◌, ◌≢◌, ◌⊎◌, ◌↔◌, ◌+◌, ◌≤◌, Some, None, false, true, length, IfErr, IfOk, IsErrOf, IsTrue, OnErr, OnOk};
+ghost use Rattle.std.specs.Prelude.{◌≡◌, ◌≢◌, ◌⊎◌, ◌↔◌, ◌+◌, ◌≤◌, Some, None, false, true, length, IfErr, IfOk};
+ghost use Rattle.std.specs.Prelude.{IsErrOf, IsTrue, OnErr, OnOk};
 ghost use Rattle.device_ends.specs.Source.{reader_of, source_failed};
 ghost use Rattle.std.specs.Str.{chars};
 ghost use Rattle.cbs_page.specs.Text.{IsTextFault};
-ghost use Rattle.alert_book.specs.Book.{fault_at, refused, unread, sending_of, AreRowsOf, ArePagesOf, HavePages, IsBook, IsRowFault, HasWrongText, IsWrong, ReadsBook, RefusesBook};
+ghost use Rattle.alert_book.specs.Book.{fault_at, refused, unread, sending_of, AreRowsOf, ArePagesOf, HavePages};
+ghost use Rattle.alert_book.specs.Book.{IsBook, IsRowFault, HasWrongText, IsWrong, ReadsBook, RefusesBook};
 
 use crate::fault::{BookFault, BookFaultKind};
 use crate::order::{Action, Order, Sending};

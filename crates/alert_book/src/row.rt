@@ -3,7 +3,8 @@
 ghost use Rattle.std.specs.Prelude.{◌≡◌, ◌≢◌, ◌≤◌, Ok, Err, IfErr, IfOk, count_by, length};
 ghost use Rattle.csv.specs.Records.{fields_of};
 ghost use Rattle.alert_book.specs.Fields.{column};
-ghost use Rattle.alert_book.specs.Row.{cell_row, columns_of, is_update_of, is_write, row_after_verb, row_of, row_of_verb, stop_row, update_row, update_with, verb_of, write_row};
+ghost use Rattle.alert_book.specs.Row.{cell_row, columns_of, is_update_of, is_write, row_after_verb, row_of};
+ghost use Rattle.alert_book.specs.Row.{row_of_verb, stop_row, update_row, update_with, verb_of, write_row};
 
 use crate::cells::{cells_of_field, is_among};
 use crate::fault::BookFaultKind;
