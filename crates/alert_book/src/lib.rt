@@ -8,9 +8,11 @@ pub mod book;
 mod cells;
 pub mod fault;
 mod fields;
+mod law;
 mod number;
 pub mod order;
 mod row;
 
 pub use book::{Book, MOST_OCTETS, read_book};
 pub use fault::{BookFault, BookFaultKind};
+pub use law::book_law;
