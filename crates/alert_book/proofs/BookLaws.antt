@@ -1,5 +1,6 @@
 -- The rows of a book, read one after the other.
-use Rattle.std.proofs.Common.{◌≡◌, ◌≢◌, ◌⊎◌, ◌≤◌, ◌+◌, ◌∙◌, ap, sym, ℕ, List, [], ◌∷◌, ◌++◌, Ok, Err, nat_lt, length, length-append, refl, inl, inr, append_assoc, append-nil, arith, rules}
+use Rattle.std.proofs.Common.{◌≡◌, ◌≢◌, ◌⊎◌, ◌≤◌, ◌+◌, ◌∙◌, ap, sym, ℕ, List, [], ◌∷◌, ◌++◌, Ok, Err, nat_lt, length}
+use Rattle.std.proofs.Common.{length-append, refl, inl, inr, append_assoc, append-nil, arith, rules}
 use Rattle.std.proofs.lemmas.Bool.{cases_Bool}
 use Rattle.csv.specs.Reading.{Reached, default_config, strip_bom}
 use Rattle.csv.specs.declared.parser.State.{State}
@@ -33,12 +34,14 @@ abbrev pub Leave : List (List (List ℕ)) → ℕ → Rows → Type 0
 Leave seen row before = (more : List (List (List ℕ))) → rows_of (seen ++ more) ≡ rows_read (row + 1) before more
 
 pub leave_more : (seen : List (List (List ℕ))) (fields : List (List ℕ)) (row : ℕ) (before next : Rows) (meant : Row) →
-    Leave seen row before → row_of (row + 1) before.cells before.orders fields ≡ Ok meant → next ≡ with_row before meant →
+    Leave seen row before → row_of (row + 1) before.cells before.orders fields ≡ Ok meant →
+    next ≡ with_row before meant →
     Leave (seen ++ fields ∷ []) (row + 1) next
 leave_more seen fields row before next meant so right is more =
     ap rows_of (append_assoc seen (fields ∷ []) more) ∙ so (fields ∷ more) ∙ rw (right, is) refl
 
-pub leave_all : (seen : List (List (List ℕ))) (row : ℕ) (before : Rows) → Leave seen row before → rows_of seen ≡ Ok before
+pub leave_all : (seen : List (List (List ℕ))) (row : ℕ) (before : Rows) → Leave seen row before →
+    rows_of seen ≡ Ok before
 leave_all seen row before so = ap rows_of (sym (append-nil seen)) ∙ so []
 
 -- the fault of a row that is wrong after those

@@ -4,3 +4,4 @@ pub mod RowLaws
 pub mod PageLaws
 pub mod BookLaws
 mod Worked
+pub mod OneAnswer

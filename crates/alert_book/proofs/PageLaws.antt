@@ -1,5 +1,6 @@
 -- The pages of orders, one after the other.
-use Rattle.std.proofs.Common.{◌≡◌, ◌≢◌, ◌⊎◌, ◌<◌, ◌+◌, ◌∙◌, sym, ap, ℕ, List, [], ◌∷◌, ◌++◌, Option, Some, length, get_or, take, drop, inl, inr, append_assoc}
+use Rattle.std.proofs.Common.{◌≡◌, ◌≢◌, ◌⊎◌, ◌<◌, ◌+◌, ◌∙◌, sym, ap, ℕ, List, [], ◌∷◌, ◌++◌, Option, Some, length}
+use Rattle.std.proofs.Common.{get_or, take, drop, inl, inr, append_assoc}
 use Rattle.std.specs.Str.{chars}
 use Rattle.std.proofs.lemmas.List.{take-append-drop, take_more}
 use Rattle.cbs_page.specs.Text.{IsTextFault}
@@ -36,9 +37,11 @@ pub have_next : (orders : List Order) (pages : List (Option Paged)) (i : ℕ) (o
 have_next orders pages i order paged h is had p =
     rw (take_more orders i order h, ← is) (have_more (take i orders) pages order paged had p)
 
-pub wrong_next : (orders : List Order) (pages : List (Option Paged)) (i : ℕ) (order : Order) (why : TextFault) (f : BookFault) →
+pub wrong_next : (orders : List Order) (pages : List (Option Paged)) (i : ℕ) (order : Order) (why : TextFault)
+    (f : BookFault) →
     i < length orders → order ≡ get_or orders i order → HavePages (take i orders) pages →
-    ((sending : Sending) × (sending_of order.action ≡ Some sending) × IsTextFault sending.language (chars sending.text) why) →
+    ((sending : Sending) × (sending_of order.action ≡ Some sending)
+    × IsTextFault sending.language (chars sending.text) why) →
     ((f ≡ refused) ⊎ ((why ≢ text.Refused) × (f ≡ fault_at order.row (fault.Text why)))) →
     (f ≡ refused) ⊎ HasWrongText orders f
 wrong_next orders pages i order why f h is had wrong (inl none) = inl none

@@ -1,5 +1,6 @@
 -- The parts of a text between its spaces, one after the other.
-use Rattle.std.proofs.Common.{◌≡◌, ◌≢◌, ◌<◌, ◌∙◌, ap, sym, ℕ, suc, Option, Some, None, List, [], ◌∷◌, ◌++◌, length, get_or, arith, rules, Bor, append_assoc, append-nil, refl, false}
+use Rattle.std.proofs.Common.{◌≡◌, ◌≢◌, ◌<◌, ◌∙◌, ap, sym, ℕ, suc, Option, Some, None, List, [], ◌∷◌, ◌++◌, length}
+use Rattle.std.proofs.Common.{get_or, arith, rules, Bor, append_assoc, append-nil, refl, false}
 use Rattle.std.proofs.lemmas.Str.Pattern.{IsSplitOnceResult, split_parts}
 use Rattle.cbsp_wire.specs.declared.message.Cell.{Cell}
 use Rattle.alert_book.specs.Cells.{is_space, parts_after, parts_of, all_named, cells_listed, cell_named, before_all}
@@ -30,7 +31,8 @@ pub parts_cut : (part text rest : List ℕ) → IsSpaceless text →
     parts_after part (text ++ 32 ∷ rest) ≡ (part ++ text) ∷ parts_of rest
 parts_cut part [] rest free = rw (append-nil part) refl
 parts_cut part (x ∷ xs) rest free =
-    rw (first_spaceless x xs free) (parts_cut (part ++ x ∷ []) xs rest (rest_spaceless x xs free) ∙ rw append_assoc refl)
+    rw (first_spaceless x xs free)
+    (parts_cut (part ++ x ∷ []) xs rest (rest_spaceless x xs free) ∙ rw append_assoc refl)
 
 -- a cell before those after these, and a part that names none
 pub one_more : (front : List Cell) (cell : Cell) (cells : Option (List Cell)) →
@@ -61,6 +63,7 @@ pub more_after : (front : List Cell) (text left part : List ℕ) (cells : Option
 more_after front text left part cells cell so cut one = so ∙ rw (cut, one) (one_more front cell cells)
 
 pub last_after : (front : List Cell) (text left part : List ℕ) (cell : Cell) →
-    cells_listed text ≡ after_cells front (cells_listed left) → cells_listed left ≡ before_all (cell_named part) (Some []) →
+    cells_listed text ≡ after_cells front (cells_listed left) →
+    cells_listed left ≡ before_all (cell_named part) (Some []) →
     cell_named part ≡ Some cell → Some (front ++ cell ∷ []) ≡ cells_listed text
 last_after front text left part cell so cut one = sym (so ∙ rw (cut, one) refl)

@@ -6,8 +6,9 @@ use Rattle.alert_book.specs.declared.order.Sending.{Sending}
 use Rattle.alert_book.specs.Fields.{column, known_name, number, sending_at}
 use Rattle.alert_book.specs.Row.{is_update_of, update_row, update_with}
 
-pub update_is : (row : ℕ) (declared : List Cell) (orders : List Order) (fields : List (List ℕ)) (at : ℕ) (first : Order) (sending : Sending)
-    (name : List ℕ) (earlier : ℕ) → name ≡ column fields 2 → earlier ≡ count_by (is_update_of name) orders →
+pub update_is : (row : ℕ) (declared : List Cell) (orders : List Order) (fields : List (List ℕ)) (at : ℕ)
+    (first : Order) (sending : Sending) (name : List ℕ) (earlier : ℕ) →
+    name ≡ column fields 2 → earlier ≡ count_by (is_update_of name) orders →
     number 0 65535 (column fields 1) ≡ Ok at → known_name orders name ≡ Ok first →
     sending_at declared fields 3 ≡ Ok sending →
     update_row row declared orders fields ≡ update_with row at name first earlier sending

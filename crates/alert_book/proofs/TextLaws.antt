@@ -16,4 +16,7 @@ passing_texts [] h = tt
 passing_texts (field ∷ fields) h = (IsUtf8-from_is_utf8 field (search rules), passing_texts fields (search rules))
 
 pub others_fail : (fields : List (List ℕ)) → ¬ (AllText fields) → are_texts fields ≡ false
-others_fail fields not = elim (cases_Bool (are_texts fields)) [ inl pass ↦ absurd (not (passing_texts fields pass)) | inr fail ↦ fail ]
+others_fail fields not = elim (cases_Bool (are_texts fields)) [
+  | inl pass ↦ absurd (not (passing_texts fields pass))
+  | inr fail ↦ fail
+]

@@ -1,6 +1,7 @@
--- What a book's octets mean: the rows that CSV has them be, read one after the other, and the pages of their texts; or why they
--- are refused. Own.
-use Rattle.std.specs.Prelude.{◌≡◌, ◌≢◌, ◌⊎◌, ℕ, ◌+◌, ◌≤◌, Option, Some, None, List, [], ◌∷◌, ◌++◌, length, Result, Ok, Err}
+-- What a book's octets mean: the rows that CSV has them be, read one after the other, and the pages of their texts; or
+-- why they are refused. Own.
+use Rattle.std.specs.Prelude.{◌≡◌, ◌≢◌, ◌⊎◌, ℕ, ◌+◌, ◌≤◌, Option, Some, None, List, [], ◌∷◌, ◌++◌, length, Result, Ok}
+use Rattle.std.specs.Prelude.{Err}
 use Rattle.std.specs.Io.KnownBytes.{Consumes, IsAtEnd}
 use Rattle.std.specs.Str.{chars}
 use Rattle.csv.specs.Reading.{AreRecords, Reached, default_config, strip_bom}
@@ -131,7 +132,7 @@ unread = fault_at 0 fault.ReadFailed
 abbrev pub too_long : BookFault
 too_long = fault_at 0 fault.TooManyRows
 
--- why octets are no book, want of memory aside: the first of these that applies
+-- why octets within the bound are no book, want of memory aside: a row's fault, or else a text's
 abbrev pub IsWrong : List ℕ → BookFault → Type 0
 IsWrong input f = (length input ≤ most_octets) × (IsRowFault input f ⊎ HasTextFault input f)
 
@@ -142,10 +143,11 @@ pub record ReadsBook (old new : Option (List ℕ)) (book : Contents) : Type 0 wh
   pub ended : IsAtEnd new
   pub meant : IsBook input book
 
--- a book was refused: some octets are gone from the reader. Memory or the device can fail before all of them are; one octet past
--- the bound is one too many; any other fault is one of the whole input
+-- a book was refused: some octets are gone from the reader. Memory or the device can fail before all of them are; one
+-- octet past the bound is one too many; any other fault is one of the whole input
 pub record RefusesBook (old new : Option (List ℕ)) (f : BookFault) : Type 0 where
   pub input : List ℕ
   pub consumed : Consumes old new input
   pub bounded : length input ≤ most_octets + 1
-  pub why : (f ≡ refused) ⊎ (f ≡ unread) ⊎ ((f ≡ too_long) × (length input ≡ most_octets + 1)) ⊎ (IsAtEnd new × IsWrong input f)
+  pub why : (f ≡ refused) ⊎ (f ≡ unread) ⊎ ((f ≡ too_long) × (length input ≡ most_octets + 1))
+      ⊎ (IsAtEnd new × IsWrong input f)

@@ -1,5 +1,6 @@
 -- The cells that a row is for. Own: `*` for all that earlier rows declare, or LAC-CI names with one space between them.
-use Rattle.std.specs.Prelude.{ℕ, ◌==◌, Bool, if◌then◌else◌, Option, Some, None, List, [], ◌∷◌, ◌++◌, codes, Result, Ok, Err}
+use Rattle.std.specs.Prelude.{ℕ, ◌==◌, Bool, if◌then◌else◌, Option, Some, None, List, [], ◌∷◌, ◌++◌, codes, Result, Ok}
+use Rattle.std.specs.Prelude.{Err}
 use Rattle.std.specs.List.{before_first, after_first, list_all, list_any}
 use Rattle.std.specs.Str.{bytes_eq}
 use Rattle.cbsp_wire.specs.declared.message.Cell.{Cell}

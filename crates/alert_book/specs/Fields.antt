@@ -1,5 +1,6 @@
 -- The fields of a row, judged from left to right. Own.
-use Rattle.std.specs.Prelude.{ℕ, ◌+◌, ◌==◌, Bool, if◌then◌else◌, Option, Some, None, is_some, unwrap_or, List, [], length, find, Result, Ok, Err}
+use Rattle.std.specs.Prelude.{ℕ, ◌+◌, ◌==◌, Bool, if◌then◌else◌, Option, Some, None, is_some, unwrap_or, List, []}
+use Rattle.std.specs.Prelude.{length, find, Result, Ok, Err}
 use Rattle.std.specs.List.{list_all}
 use Rattle.std.specs.Option.{ok_or}
 use Rattle.std.specs.Str.{bytes_eq, is_utf8}
@@ -28,13 +29,9 @@ are_texts fields = list_all is_utf8 fields
 abbrev pub number : (least most : ℕ) → List ℕ → Result ℕ BookFaultKind
 number least most field = ok_or (number_within least most field) fault.Number
 
--- a category is 0, high, or 2, normal
-abbrev pub category_of : Option ℕ → Result ℕ BookFaultKind
-category_of None = Err fault.Number
-category_of (Some value) = if value == 1 then Err fault.Number else Ok value
-
+-- a category is 0, high, 1, background, or 2, normal
 abbrev pub category : List ℕ → Result ℕ BookFaultKind
-category field = category_of (number_within 0 2 field)
+category field = number 0 2 field
 
 -- whether an order is for the alert of this name
 abbrev pub is_named : List ℕ → Order → Bool
@@ -68,7 +65,14 @@ alert_at fields place =
 
 abbrev pub sending_with : (language : List ℕ) (category period broadcasts : ℕ) → List Cell → List ℕ → Sending
 sending_with language category period broadcasts cells text =
-    record { language = language; category = category; period = period; broadcasts = broadcasts; cells = cells; text = text }
+    record {
+      language = language;
+      category = category;
+      period = period;
+      broadcasts = broadcasts;
+      cells = cells;
+      text = text;
+    }
 
 -- LANG, CATEGORY, PERIOD, BROADCASTS, CELLS and TEXT, from this place on, where earlier rows declare these cells
 abbrev pub sending_at : List Cell → List (List ℕ) → ℕ → Result Sending BookFaultKind

@@ -3,3 +3,4 @@ pub mod Cells
 pub mod Fields
 pub mod Row
 pub mod Book
+pub mod BookLaw

@@ -1,5 +1,6 @@
 -- What a row means after earlier rows, or its fault: of several, the first in the order that stands here. Own.
-use Rattle.std.specs.Prelude.{ℕ, ◌+◌, ◌==◌, ◌&&◌, not, nat_le, nat_lt, Bool, true, false, if◌then◌else◌, Option, Some, None, List, length, count_by, codes, Result, Ok, Err}
+use Rattle.std.specs.Prelude.{ℕ, ◌+◌, ◌==◌, ◌&&◌, not, nat_le, nat_lt, Bool, true, false, if◌then◌else◌, Option, Some}
+use Rattle.std.specs.Prelude.{None, List, length, count_by, codes, Result, Ok, Err}
 use Rattle.std.specs.Str.{bytes_eq}
 use Rattle.cbsp_wire.specs.declared.message.Cell.{Cell}
 use Rattle.alert_book.specs.declared.fault.BookFaultKind.{BookFaultKind}
@@ -14,7 +15,8 @@ use Rattle.alert_book.specs.declared.row.Row.TheVariants as rows
 use Rattle.alert_book.specs.declared.row.Verb.{Verb}
 use Rattle.alert_book.specs.declared.row.Verb.TheVariants as verbs
 use Rattle.alert_book.specs.Cells.{cell_with, cells_of_field, is_among}
-use Rattle.alert_book.specs.Fields.{alert_at, are_texts, column, if_right, is_named, known_name, new_name, number, sending_at}
+use Rattle.alert_book.specs.Fields.{alert_at, are_texts, column, if_right, is_named, known_name, new_name, number}
+use Rattle.alert_book.specs.Fields.{sending_at}
 
 -- the most rows of a book, and the most of them that declare cells
 abbrev pub most_rows : ℕ

@@ -1,10 +1,12 @@
 //! Books as they are read.
 
-ghost use Rattle.std.specs.Prelude.{◌≡◌, ◌≢◌, ◌⊎◌, ◌↔◌, ◌+◌, ◌≤◌, Some, None, false, true, length, IfErr, IfOk, IsErrOf, IsTrue, OnErr, OnOk};
+ghost use Rattle.std.specs.Prelude.{◌≡◌, ◌≢◌, ◌⊎◌, ◌↔◌, ◌+◌, ◌≤◌, Some, None, false, true, length, IfErr, IfOk};
+ghost use Rattle.std.specs.Prelude.{IsErrOf, IsTrue, OnErr, OnOk};
 ghost use Rattle.device_ends.specs.Source.{reader_of, source_failed};
 ghost use Rattle.std.specs.Str.{chars};
 ghost use Rattle.cbs_page.specs.Text.{IsTextFault};
-ghost use Rattle.alert_book.specs.Book.{fault_at, refused, unread, sending_of, AreRowsOf, ArePagesOf, HavePages, IsBook, IsRowFault, HasWrongText, IsWrong, ReadsBook, RefusesBook};
+ghost use Rattle.alert_book.specs.Book.{fault_at, refused, unread, sending_of, AreRowsOf, ArePagesOf, HavePages};
+ghost use Rattle.alert_book.specs.Book.{IsBook, IsRowFault, HasWrongText, IsWrong, ReadsBook, RefusesBook};
 
 use crate::fault::{BookFault, BookFaultKind};
 use crate::order::{Action, Order, Sending};
@@ -33,7 +35,8 @@ impl Model for Book {
 
     ghost Value = { Contents };
 
-    ghost view = { λ book. record { cells = book.cells.items; orders = book.orders.items; pages = book.pages.items } };
+    ghost view = { λ book.
+        record { cells = book.cells.items; orders = book.orders.items; pages = book.pages.items } };
 }
 
 impl Book {
@@ -71,7 +74,8 @@ impl Known {
     fn read(&mut self, alloc: Global, row: u16, fields: ByteRecord) -> Result<(), BookFaultKind>
         requires { length self.old.orders ≤ 4096 }
         ensures right { OnOk result ((meant : Row) ×
-            (row_of row self.old.cells self.old.orders (fields_of fields) ≡ Ok meant) × (self.new ≡ with_row self.old meant)) }
+            (row_of row self.old.cells self.old.orders (fields_of fields) ≡ Ok meant)
+            × (self.new ≡ with_row self.old meant)) }
         ensures wrong { IfErr result (λ kind. kind ≢ BookFaultKind.Refused →
             row_of row self.old.cells self.old.orders (fields_of fields) ≡ Err kind) }
         ensures unread { IfErr result (λ kind. kind ≢ BookFaultKind.ReadFailed) }
@@ -186,11 +190,16 @@ fn book_of(alloc: Global, octets: &[u8]) -> Result<Book, BookFault>
     })
 }
 
-/// Reads a book to its end, or answers its first fault. Faults of rows come before those of texts, and want of memory may come at
-/// any point.
+/// Reads a book to its end, or answers its first fault. Faults of rows come before those of texts, and want of memory
+/// may come at any point.
+///
+/// `cell,1,1` and then `write,0,a,4370,0,1,en,2,2,0,*,One` is a book of one cell and one order; `cell,1` alone answers
+/// `BookFault { row: 1, kind: BookFaultKind::Columns }`. docs/formats.md has all verbs and columns.
 pub fn read_book<T: AllocGlobal, R: Read>(rt: &T, source: &mut Source<R>) -> Result<Book, BookFault>
-    ensures right { IfOk result (λ book. ReadsBook (R.remaining (reader_of source.old)) (R.remaining (reader_of source.new)) book) }
-    ensures wrong { IfErr result (λ fault. RefusesBook (R.remaining (reader_of source.old)) (R.remaining (reader_of source.new)) fault) }
+    ensures right { IfOk result (λ book.
+        ReadsBook (R.remaining (reader_of source.old)) (R.remaining (reader_of source.new)) book) }
+    ensures wrong { IfErr result (λ fault.
+        RefusesBook (R.remaining (reader_of source.old)) (R.remaining (reader_of source.new)) fault) }
 
     // The device, at any reader.
     ensures device { IsErrOf result unread ↔ IsTrue (source_failed source.new) }

@@ -82,7 +82,8 @@ pub(crate) fn cells_of_field(
     field: &str,
 ) -> Result<Cells, BookFaultKind>
     ensures right { IfOk result (λ cells. cells_of_field declared.now field.now ≡ Ok cells) }
-    ensures wrong { IfErr result (λ kind. kind ≢ BookFaultKind.Refused → cells_of_field declared.now field.now ≡ Err kind) }
+    ensures wrong { IfErr result (λ kind. kind ≢ BookFaultKind.Refused →
+        cells_of_field declared.now field.now ≡ Err kind) }
     ensures unread { IfErr result (λ kind. kind ≢ BookFaultKind.ReadFailed) }
 {
     if field == "*" {

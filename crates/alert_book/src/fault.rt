@@ -61,7 +61,7 @@ impl<T: Drop> From<AllocFailed<T>> for BookFaultKind {
     }
 }
 
-/// Why a book is refused, and its row, from 1. The row is 0 where the reader failed, memory was refused, or the book has
+/// Why a book is refused, and its row, from 1. The row is 0 if the reader failed, memory was refused, or the book has
 /// too many octets.
 #[derive(Clone, Copy, Debug, PartialEq, Eq, Error)]
 #[error("row {row}: {kind}")]

@@ -3,7 +3,8 @@
 ghost use Rattle.std.specs.Prelude.{◌≡◌, ◌≢◌, ◌+◌, ◌≤◌, Ok, Err, true, false, IfErr, IfOk};
 ghost use Rattle.std.specs.Option.{option_copied};
 ghost use Rattle.csv.specs.Records.{fields_of};
-ghost use Rattle.alert_book.specs.Fields.{alert_at, are_texts, category, column, first_order, is_named, known_name, new_name, number, sending_at};
+ghost use Rattle.alert_book.specs.Fields.{alert_at, are_texts, category, column, first_order, is_named, known_name};
+ghost use Rattle.alert_book.specs.Fields.{new_name, number, sending_at};
 
 use crate::cells::cells_of_field;
 use crate::fault::BookFaultKind;
@@ -61,9 +62,6 @@ fn category(field: &str) -> Result<u8, BookFaultKind>
     ensures unread { IfErr result (λ kind. kind ≢ BookFaultKind.ReadFailed) }
 {
     let value = number(field, 0, 2)?;
-    if value == 1 {
-        return Err(BookFaultKind::Number);
-    }
     Ok(value as u8)
 }
 
@@ -129,7 +127,8 @@ pub(crate) fn sending_at(
 ) -> Result<Sending, BookFaultKind>
     requires { place ≤ 100 }
     ensures right { IfOk result (λ sending. sending_at declared.now (fields_of fields.now) place ≡ Ok sending) }
-    ensures wrong { IfErr result (λ kind. kind ≢ BookFaultKind.Refused → sending_at declared.now (fields_of fields.now) place ≡ Err kind) }
+    ensures wrong { IfErr result (λ kind. kind ≢ BookFaultKind.Refused →
+        sending_at declared.now (fields_of fields.now) place ≡ Err kind) }
     ensures unread { IfErr result (λ kind. kind ≢ BookFaultKind.ReadFailed) }
 {
     let category = category(column(fields, place + 1))?;

@@ -34,7 +34,7 @@ pub struct Alert {
 pub struct Sending {
     /// The word of the text's language.
     pub language: Text,
-    /// 0 high, 2 normal.
+    /// 0 high, 1 background, 2 normal.
     pub category: u8,
     /// The repetition period in slots, 1 to 1,024.
     pub period: u16,

@@ -3,7 +3,8 @@
 ghost use Rattle.std.specs.Prelude.{◌≡◌, ◌≢◌, ◌≤◌, Ok, Err, IfErr, IfOk, count_by, length};
 ghost use Rattle.csv.specs.Records.{fields_of};
 ghost use Rattle.alert_book.specs.Fields.{column};
-ghost use Rattle.alert_book.specs.Row.{cell_row, columns_of, is_update_of, is_write, row_after_verb, row_of, row_of_verb, stop_row, update_row, update_with, verb_of, write_row};
+ghost use Rattle.alert_book.specs.Row.{cell_row, columns_of, is_update_of, is_write, row_after_verb, row_of};
+ghost use Rattle.alert_book.specs.Row.{row_of_verb, stop_row, update_row, update_with, verb_of, write_row};
 
 use crate::cells::{cells_of_field, is_among};
 use crate::fault::BookFaultKind;
@@ -103,9 +104,11 @@ fn row_after_verb(
 ) -> Result<Row, BookFaultKind>
     requires { length orders.now ≤ 4096 }
     ensures right { IfOk result (λ meant.
-        row_after_verb (verb_of (column (fields_of fields.now) 0)) row declared.now orders.now (fields_of fields.now) ≡ Ok meant) }
+        row_after_verb (verb_of (column (fields_of fields.now) 0)) row declared.now orders.now (fields_of fields.now)
+        ≡ Ok meant) }
     ensures wrong { IfErr result (λ kind. kind ≢ BookFaultKind.Refused →
-        row_after_verb (verb_of (column (fields_of fields.now) 0)) row declared.now orders.now (fields_of fields.now) ≡ Err kind) }
+        row_after_verb (verb_of (column (fields_of fields.now) 0)) row declared.now orders.now (fields_of fields.now)
+        ≡ Err kind) }
     ensures unread { IfErr result (λ kind. kind ≢ BookFaultKind.ReadFailed) }
 {
     let Some(verb) = verb_of(column(fields, 0)) else {

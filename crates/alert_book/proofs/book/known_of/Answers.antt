@@ -33,8 +33,9 @@ pub loop-record-preserved : goal.loop-record-preserved
 loop-record-preserved c =
     let inv = c.loop-record.invariant in
     let s = rw (c.in-Some.is, c.in-Ok.is) at ((c.next.ensures.steps inv.turns inv.trim).0 inv.ready) in
-    let m = rows-more (λ (s : Bor (List ℕ)). Some s.now) c.loop-record.record-iterator.rdr c.next.new.self.rdr (fields_of c.in-Ok.fields)
-    default_config st.StartRecord (strip_bom c.args.octets.now) inv.left inv.seen inv.config inv.source inv.reached s.0 in
+    let m = rows-more (λ (s : Bor (List ℕ)). Some s.now) c.loop-record.record-iterator.rdr c.next.new.self.rdr
+    (fields_of c.in-Ok.fields) default_config st.StartRecord (strip_bom c.args.octets.now) inv.left inv.seen
+    inv.config inv.source inv.reached s.0 in
     let read = c.in-Ok-read.ensures.right in
     record {
       trim = s.0.3 ∙ inv.trim;
@@ -47,16 +48,19 @@ loop-record-preserved c =
       reached = m.2;
       few = row_fits _ _ _ _ _ read.1;
       orders = rw read.2 (orders_grow c.loop-record.known read.0 c.loop-record.row inv.orders);
-      meant = leave_more inv.seen (fields_of c.in-Ok.fields) c.loop-record.row c.loop-record.known _ read.0 inv.meant read.1 read.2;
+      meant = leave_more inv.seen (fields_of c.in-Ok.fields) c.loop-record.row c.loop-record.known _ read.0
+          inv.meant read.1 read.2;
     }
 
 pub returns-in-Err-clause-wrong : goal.returns-in-Err-clause-wrong
 returns-in-Err-clause-wrong c =
     let inv = c.loop-record.invariant in
     let s = rw (c.in-Some.is, c.in-Ok.is) at ((c.next.ensures.steps inv.turns inv.trim).0 inv.ready) in
-    let m = rows-more (λ (s : Bor (List ℕ)). Some s.now) c.loop-record.record-iterator.rdr c.next.new.self.rdr (fields_of c.in-Ok.fields)
-    default_config st.StartRecord (strip_bom c.args.octets.now) inv.left inv.seen inv.config inv.source inv.reached s.0 in
-    wrong_row c.args.octets.now inv.seen (fields_of c.in-Ok.fields) c.loop-record.row c.loop-record.known c.in-Err.kind _ _ m.0
+    let m = rows-more (λ (s : Bor (List ℕ)). Some s.now) c.loop-record.record-iterator.rdr c.next.new.self.rdr
+    (fields_of c.in-Ok.fields) default_config st.StartRecord (strip_bom c.args.octets.now) inv.left inv.seen
+    inv.config inv.source inv.reached s.0 in
+    wrong_row c.args.octets.now inv.seen (fields_of c.in-Ok.fields) c.loop-record.row c.loop-record.known
+    c.in-Err.kind _ _ m.0
     m.2 inv.meant c.in-Err.ensures.wrong c.row_fault.ensures
 
 pub returns-clause-right : goal.returns-clause-right
@@ -69,7 +73,8 @@ returns-clause-right c =
         c.loop-record.record-iterator.rdr.state,
         inv.left,
         inv.reached,
-        rows-end (λ (s : Bor (List ℕ)). Some s.now) c.loop-record.record-iterator.rdr c.next.new.self.rdr [] default_config inv.left inv.config
+        rows-end (λ (s : Bor (List ℕ)). Some s.now) c.loop-record.record-iterator.rdr c.next.new.self.rdr []
+            default_config inv.left inv.config
             inv.source s,
       );
       meant = leave_all inv.seen c.loop-record.row c.loop-record.known inv.meant;

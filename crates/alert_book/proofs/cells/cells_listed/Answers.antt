@@ -6,7 +6,8 @@ use Rattle.alert_book.proofs.cells.cells_listed.Goals as goal
 pub returns-in-None : goal.returns-in-None
 returns-in-None c =
     let cut = listed_cut _ c.in-Some.part c.in-Some.rest c.in-Some.ensures.cases in
-    none_after c.loop-part.cells.items c.args.text.now c.loop-part.left.now c.in-Some.part.now (cells_listed c.in-Some.rest.now)
+    none_after c.loop-part.cells.items c.args.text.now c.loop-part.left.now c.in-Some.part.now
+    (cells_listed c.in-Some.rest.now)
     c.loop-part.invariant.0 cut (sym c.cell_named.ensures ∙ c.in-None.is)
 
 pub loop-part-preserved : goal.loop-part-preserved
@@ -14,7 +15,8 @@ loop-part-preserved c =
     let cut = listed_cut _ c.in-Some.part c.in-Some.rest c.in-Some.ensures.cases in (
       rw (c.in_ok-push-in-Some-cell_named.ensures.items)
           (more_after c.loop-part.cells.items c.args.text.now c.loop-part.left.now c.in-Some.part.now
-          (cells_listed c.in-Some.rest.now) _ c.loop-part.invariant.0 cut (sym c.cell_named.ensures ∙ c.in-Some-cell_named.is)),
+          (cells_listed c.in-Some.rest.now) _ c.loop-part.invariant.0 cut
+          (sym c.cell_named.ensures ∙ c.in-Some-cell_named.is)),
       search rules,
     )
 

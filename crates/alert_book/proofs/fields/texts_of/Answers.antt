@@ -7,4 +7,5 @@ pub returns-in-Ok-clause-right : goal.returns-in-Ok-clause-right
 returns-in-Ok-clause-right c = texts_pass _ (rw c.in-Ok.ensures.same at c.in-Ok.ensures.text)
 
 pub returns-clause-wrong : goal.returns-clause-wrong
-returns-clause-wrong c = (refl, others_fail _ (λ (texts : AllText (fields_of c.args.fields)). cc (c.in-Err.ensures.refused texts)))
+returns-clause-wrong c =
+    (refl, others_fail _ (λ (texts : AllText (fields_of c.args.fields)). cc (c.in-Err.ensures.refused texts)))

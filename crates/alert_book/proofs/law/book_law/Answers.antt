@@ -1,0 +1,8 @@
+use Rattle.alert_book.proofs.OneAnswer.{one_meaning, right_or_wrong}
+use Rattle.alert_book.proofs.law.book_law.Goals as goal
+
+pub returns-clause-one : goal.returns-clause-one
+returns-clause-one c = one_meaning
+
+pub returns-clause-right_or_wrong : goal.returns-clause-right_or_wrong
+returns-clause-right_or_wrong c = right_or_wrong

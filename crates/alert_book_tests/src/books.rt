@@ -1,0 +1,42 @@
+//! Books that are read.
+
+ghost use Rattle.std.specs.Prelude.{◌<◌};
+
+use alert_book::read_book;
+use cbsp_wire::Cell;
+use device_ends::Source;
+use device_ends::memory::MemoryReader;
+use std::process::Abort;
+use std::test::Fail;
+
+/// A book with two alerts, one of which is updated and stopped.
+const WORKED: &str =
+    "cell,1,1\ncell,1,2\nwrite,0,a,4370,0,1,en,2,2,0,*,One\nwrite,0,b,4371,0,2,en,0,2,65535,1-2,Two\n\
+     update,1,a,en,2,2,0,1-2 1-1,Three\nstop,2,b,1-2\n";
+
+/// Expects that a book declares these cells.
+fn expect_cells<T: AllocGlobal + Abort>(rt: &T, book: &str, cells: &[Cell]) {
+    let mut reader = MemoryReader::new(book.as_bytes(), 5, None);
+    match read_book(rt, &mut Source::new(&mut reader)) {
+        Ok(book) => assert_eq!(rt; book.cells(), cells),
+        Err(fault) => assert!(rt; false, "{}", fault),
+    }
+}
+
+#[test]
+fn worked_books_are_read(rt: HostRuntime) -> Result<(), Fail> {
+    let both = [Cell { lac: 1, ci: 1 }, Cell { lac: 1, ci: 2 }];
+    expect_cells(&rt, WORKED, &both);
+    expect_cells(&rt, "cell,1,1\n\ncell,00001,2", &both);
+    expect_cells(&rt, "", &[]);
+    expect_cells(&rt, "cell,65535,0\r\n", &[Cell { lac: 65535, ci: 0 }]);
+    Ok(())
+}
+
+#[test]
+fn texts_have_quotes_and_line_ends(rt: HostRuntime) -> Result<(), Fail> {
+    let book =
+        "cell,1,1\nwrite,0,\"a,b\",4370,0,1,en,2,2,0,*,\"He said \"\"go\"\",\nand went\"\nstop,0,\"a,b\",*\n";
+    expect_cells(&rt, book, &[Cell { lac: 1, ci: 1 }]);
+    Ok(())
+}

@@ -1,0 +1,9 @@
+//! Tests of `alert_book` by its public calls: worked books, each fault, readers that fail, and refused memory.
+#![tactic(auto)]
+
+#[cfg(test)]
+mod books;
+#[cfg(test)]
+mod ends;
+#[cfg(test)]
+mod faults;
