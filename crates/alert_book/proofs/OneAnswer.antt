@@ -1,5 +1,6 @@
 -- The rows of a book are right, or one of them is wrong, and never both.
-use Rattle.std.proofs.Common.{◌≡◌, ◌+◌, ◌∙◌, ap, subst, sym, ℕ, List, [], ◌∷◌, ◌++◌, Option, Some, None, Result, Ok, Err, refl}
+use Rattle.std.proofs.Common.{◌≡◌, ◌+◌, ◌∙◌, ap, subst, sym, ℕ, List, [], ◌∷◌, ◌++◌, Option, Some, None, Result, Ok}
+use Rattle.std.proofs.Common.{Err, refl}
 use Rattle.csv.specs.Machine.{Read, next_record}
 use Rattle.csv.specs.Reading.{Reached}
 use Rattle.csv.specs.declared.parser.Config.{Config}
@@ -53,7 +54,8 @@ right_or_wrong input rows f right wrong =
 
 -- a text has one list of records
 pub reached_same : (cfg : Config) (s : State) (xs : List ℕ) (all others : List (List (List ℕ)))
-    (s1 : State) (y1 : List ℕ) (s2 : State) (y2 : List ℕ) → Reached cfg s xs all s1 y1 → next_record cfg s1 [] [] y1 ≡ None →
+    (s1 : State) (y1 : List ℕ) (s2 : State) (y2 : List ℕ) → Reached cfg s xs all s1 y1
+    → next_record cfg s1 [] [] y1 ≡ None →
     Reached cfg s xs others s2 y2 → next_record cfg s2 [] [] y2 ≡ None → all ≡ others
 unfolding Reached
 reached_same cfg s xs [] [] s1 y1 s2 y2 h last k none = refl

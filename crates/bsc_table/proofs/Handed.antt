@@ -105,8 +105,8 @@ its_line slot claims c here claimed =
     let kept = All-contains Claimed claims c (all_that_pass (is_claimed_at slot) claims) here claimed in (
       kept.0,
       omega (arith, kept.1, length-map (filter (is_claimed_at slot) claims) (line_of slot)),
-      get_or-map
-          (line_of slot) (filter (is_claimed_at slot) claims) kept.0 c (line_of slot c) kept.1 ∙ ap (line_of slot) kept.2,
+      get_or-map (line_of slot) (filter (is_claimed_at slot) claims) kept.0 c (line_of slot c) kept.1
+          ∙ ap (line_of slot) kept.2,
     )
 
 -- the load that is held for an entry
