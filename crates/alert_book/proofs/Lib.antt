@@ -5,3 +5,6 @@ pub mod PageLaws
 pub mod BookLaws
 mod Worked
 pub mod OneAnswer
+mod VersionLaws
+mod SessionLaws
+mod StandsLaws

@@ -1,6 +1,6 @@
 -- The pages of orders, one after the other.
 use Rattle.std.proofs.Common.{◌≡◌, ◌≢◌, ◌⊎◌, ◌<◌, ◌+◌, ◌∙◌, sym, ap, ℕ, List, [], ◌∷◌, ◌++◌, Option, Some, length}
-use Rattle.std.proofs.Common.{get_or, take, drop, inl, inr, append_assoc}
+use Rattle.std.proofs.Common.{get_or, take, drop, inl, inr, append_assoc, suc, refl}
 use Rattle.std.specs.Str.{chars}
 use Rattle.std.proofs.lemmas.List.{take-append-drop, take_more}
 use Rattle.cbs_page.specs.Text.{IsTextFault}
@@ -59,3 +59,11 @@ wrong_next orders pages i order why f h is had wrong (inr told) = inr record {
   told = told.0;
   named = told.1;
 }
+
+-- there are as many pages as orders
+pub pages_length : (orders : List Order) (pages : List (Option Paged)) → HavePages orders pages →
+    length pages ≡ length orders
+pages_length [] [] have = refl
+pages_length [] (paged ∷ pages) have = absurd have
+pages_length (order ∷ orders) [] have = absurd have
+pages_length (order ∷ orders) (paged ∷ pages) have = ap suc (pages_length orders pages have.1)

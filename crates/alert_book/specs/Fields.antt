@@ -1,5 +1,5 @@
 -- The fields of a row, judged from left to right. Own.
-use Rattle.std.specs.Prelude.{ℕ, ◌+◌, ◌==◌, Bool, if◌then◌else◌, Option, Some, None, is_some, unwrap_or, List, []}
+use Rattle.std.specs.Prelude.{ℕ, ◌+◌, ◌==◌, Bool, if◌then◌else◌, Option, is_some, unwrap_or, List, []}
 use Rattle.std.specs.Prelude.{length, find, Result, Ok, Err}
 use Rattle.std.specs.List.{list_all}
 use Rattle.std.specs.Option.{ok_or}

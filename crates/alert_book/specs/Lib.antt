@@ -4,3 +4,10 @@ pub mod Fields
 pub mod Row
 pub mod Book
 pub mod BookLaw
+pub mod Session
+pub mod Sendable
+pub mod Fine
+pub mod SessionSteps
+pub mod VersionSteps
+pub mod Stands
+pub mod Advancing

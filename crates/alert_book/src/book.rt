@@ -1,11 +1,12 @@
 //! Books as they are read.
 
 ghost use Rattle.std.specs.Prelude.{◌≡◌, ◌≢◌, ◌⊎◌, ◌↔◌, ◌+◌, ◌≤◌, Some, None, false, true, length, IfErr, IfOk};
-ghost use Rattle.std.specs.Prelude.{IsErrOf, IsTrue, OnErr, OnOk};
+ghost use Rattle.std.specs.Prelude.{All, IsErrOf, IsTrue, OnErr, OnOk};
 ghost use Rattle.device_ends.specs.Source.{reader_of, source_failed};
 ghost use Rattle.std.specs.Str.{chars};
 ghost use Rattle.cbs_page.specs.Text.{IsTextFault};
 ghost use Rattle.alert_book.specs.Book.{fault_at, refused, unread, sending_of, AreRowsOf, ArePagesOf, HavePages};
+ghost use Rattle.alert_book.specs.Sendable.{IsSendable};
 ghost use Rattle.alert_book.specs.Book.{IsBook, IsRowFault, HasWrongText, IsWrong, ReadsBook, RefusesBook};
 
 use crate::fault::{BookFault, BookFaultKind};
@@ -37,6 +38,12 @@ impl Model for Book {
 
     ghost view = { λ book.
         record { cells = book.cells.items; orders = book.orders.items; pages = book.pages.items } };
+
+    ghost use Rattle.std.specs.Prelude.{◌≡◌, All, length};
+    ghost use Rattle.alert_book.specs.Sendable.{IsSendable};
+
+    ghost invariant = { λ book. All IsSendable book.orders.items
+        × (length book.pages.items ≡ length book.orders.items) };
 }
 
 impl Book {
@@ -45,6 +52,22 @@ impl Book {
         ensures { result.now ≡ self.now.cells }
     {
         &self.cells
+    }
+
+    /// The orders that its rows give, in their order.
+    pub(crate) fn orders(&self) -> &[Order]
+        ensures orders { result.now ≡ self.now.orders }
+        ensures sendable { All IsSendable result.now }
+        ensures paged { length self.now.pages ≡ length result.now }
+    {
+        &self.orders
+    }
+
+    /// The pages of each order's text.
+    pub(crate) fn pages(&self) -> &[Option<Paged>]
+        ensures { result.now ≡ self.now.pages }
+    {
+        &self.pages
     }
 }
 
@@ -61,6 +84,11 @@ impl Model for Known {
     ghost Value = { Rows };
 
     ghost view = { λ known. record { cells = known.cells.items; orders = known.orders.items } };
+
+    ghost use Rattle.std.specs.Prelude.{All};
+    ghost use Rattle.alert_book.specs.Sendable.{IsSendable};
+
+    ghost invariant = { λ known. All IsSendable known.orders.items };
 }
 
 impl Known {

@@ -11,10 +11,17 @@ use cbsp_wire::{Cell, Cells};
 use std::alloc::{AllocError, Global};
 
 /// Whether two cells are one.
-fn is_cell(cell: Cell, other: Cell) -> bool
+pub(crate) fn is_cell(cell: Cell, other: Cell) -> bool
     ensures { result ≡ is_cell cell other }
 {
     cell.lac == other.lac && cell.ci == other.ci
+}
+
+/// The cells of a list.
+pub(crate) fn list_of(cells: &Cells) -> &[Cell]
+    ensures { result.now ≡ cells.now }
+{
+    &cells.list
 }
 
 /// Whether a cell is among those declared.
@@ -25,7 +32,7 @@ pub(crate) fn is_among(declared: &[Cell], cell: Cell) -> bool
 }
 
 /// Whether a cell stands in a list.
-fn stands_in(cell: Cell, cells: &[Cell]) -> bool
+pub(crate) fn stands_in(cell: Cell, cells: &[Cell]) -> bool
     ensures { result ≡ list_any (is_cell cell) cells.now }
 {
     cells.iter().any(|other| is_cell(cell, *other))

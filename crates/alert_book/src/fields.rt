@@ -1,10 +1,11 @@
 //! The fields of a row, judged from left to right.
 
-ghost use Rattle.std.specs.Prelude.{◌≡◌, ◌≢◌, ◌+◌, ◌≤◌, Ok, Err, true, false, IfErr, IfOk};
+ghost use Rattle.std.specs.Prelude.{◌≡◌, ◌≢◌, ◌+◌, ◌≤◌, Ok, Err, true, false, All, IfErr, IfOk, IfSome};
 ghost use Rattle.std.specs.Option.{option_copied};
 ghost use Rattle.csv.specs.Records.{fields_of};
 ghost use Rattle.alert_book.specs.Fields.{alert_at, are_texts, category, column, first_order, is_named, known_name};
 ghost use Rattle.alert_book.specs.Fields.{new_name, number, sending_at};
+ghost use Rattle.alert_book.specs.Sendable.{HasSerials, IsSendable};
 
 use crate::cells::cells_of_field;
 use crate::fault::BookFaultKind;
@@ -74,7 +75,8 @@ pub(crate) fn is_named(name: &str, order: &Order) -> bool
 
 /// The first order of a name.
 fn first_order<'a>(orders: &'a [Order], name: &str) -> Option<&'a Order>
-    ensures { option_copied result ≡ first_order orders.now name.now }
+    ensures first { option_copied result ≡ first_order orders.now name.now }
+    ensures sendable { IfSome result (λ order. All IsSendable orders.now → IsSendable order.now) }
 {
     orders.iter().find(|order| is_named(name, order))
 }
@@ -97,6 +99,7 @@ pub(crate) fn check_new_name(orders: &[Order], name: &str) -> Result<(), BookFau
 /// The first order of a name that a row may update or stop.
 pub(crate) fn known_name<'a>(orders: &'a [Order], name: &str) -> Result<&'a Order, BookFaultKind>
     ensures right { IfOk result (λ order. known_name orders.now name.now ≡ Ok order.now) }
+    ensures sendable { IfOk result (λ order. All IsSendable orders.now → IsSendable order.now) }
     ensures wrong { IfErr result (λ kind. known_name orders.now name.now ≡ Err kind) }
     ensures unread { IfErr result (λ kind. kind ≢ BookFaultKind.ReadFailed) }
 {
@@ -110,6 +113,7 @@ pub(crate) fn known_name<'a>(orders: &'a [Order], name: &str) -> Result<&'a Orde
 pub(crate) fn alert_at(fields: &StringRecord, place: usize) -> Result<Alert, BookFaultKind>
     requires { place ≤ 100 }
     ensures value { result ≡ alert_at (fields_of fields.now) place }
+    ensures serials { IfOk result HasSerials }
     ensures unread { IfErr result (λ kind. kind ≢ BookFaultKind.ReadFailed) }
 {
     let id = number(column(fields, place), 0, u16::MAX)?;

@@ -1,9 +1,11 @@
 //! Alert books: the orders of a run, as CSV.
 //!
 //! A book's rows declare cells, and write, update and stop alerts in them. [`read_book`] reads all of a book, or
-//! answers the first fault of it.
+//! returns the first fault of it. A [`Session`] gives the messages that the rows order, one after the other, by the
+//! replies so far.
 #![tactic(auto)]
 
+mod believed;
 pub mod book;
 mod cells;
 pub mod fault;
@@ -11,8 +13,14 @@ mod fields;
 mod law;
 mod number;
 pub mod order;
+pub mod outcome;
+pub mod request;
 mod row;
+pub mod session;
+mod versions;
 
 pub use book::{Book, MOST_OCTETS, read_book};
 pub use fault::{BookFault, BookFaultKind};
 pub use law::book_law;
+pub use request::Refused;
+pub use session::Session;

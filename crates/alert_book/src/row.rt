@@ -1,8 +1,10 @@
 //! What a row means after the rows before it.
 
-ghost use Rattle.std.specs.Prelude.{◌≡◌, ◌≢◌, ◌≤◌, Ok, Err, IfErr, IfOk, count_by, length};
+ghost use Rattle.std.specs.Prelude.{◌≡◌, ◌≢◌, ◌≤◌, Ok, Err, All, IfErr, IfOk, count_by, length};
 ghost use Rattle.csv.specs.Records.{fields_of};
 ghost use Rattle.alert_book.specs.Fields.{column};
+ghost use Rattle.alert_book.specs.Sendable.{HasSerials, IsSendable};
+ghost use Rattle.alert_book.specs.Fine.{IsFine};
 ghost use Rattle.alert_book.specs.Row.{cell_row, columns_of, is_update_of, is_write, row_after_verb, row_of};
 ghost use Rattle.alert_book.specs.Row.{row_of_verb, stop_row, update_row, update_with, verb_of, write_row};
 
@@ -83,6 +85,7 @@ pub(crate) fn row_of(
 ) -> Result<Row, BookFaultKind>
     requires { length orders.now ≤ 4096 }
     ensures right { IfOk result (λ meant. row_of row declared.now orders.now (fields_of fields) ≡ Ok meant) }
+    ensures sendable { IfOk result (λ meant. All IsSendable orders.now → IsFine meant) }
     ensures wrong { IfErr result (λ kind. kind ≢ BookFaultKind.Refused →
         row_of row declared.now orders.now (fields_of fields) ≡ Err kind) }
     ensures unread { IfErr result (λ kind. kind ≢ BookFaultKind.ReadFailed) }
@@ -106,6 +109,7 @@ fn row_after_verb(
     ensures right { IfOk result (λ meant.
         row_after_verb (verb_of (column (fields_of fields.now) 0)) row declared.now orders.now (fields_of fields.now)
         ≡ Ok meant) }
+    ensures sendable { IfOk result (λ meant. All IsSendable orders.now → IsFine meant) }
     ensures wrong { IfErr result (λ kind. kind ≢ BookFaultKind.Refused →
         row_after_verb (verb_of (column (fields_of fields.now) 0)) row declared.now orders.now (fields_of fields.now)
         ≡ Err kind) }
@@ -181,6 +185,7 @@ fn write_row(
 ) -> Result<Row, BookFaultKind>
     requires { length orders.now ≤ 4096 }
     ensures right { IfOk result (λ meant. write_row row declared.now orders.now (fields_of fields.now) ≡ Ok meant) }
+    ensures sendable { IfOk result (λ meant. All IsSendable orders.now → IsFine meant) }
     ensures wrong { IfErr result (λ kind. kind ≢ BookFaultKind.Refused →
         write_row row declared.now orders.now (fields_of fields.now) ≡ Err kind) }
     ensures unread { IfErr result (λ kind. kind ≢ BookFaultKind.ReadFailed) }
@@ -209,6 +214,7 @@ fn update_row(
     fields: &StringRecord,
 ) -> Result<Row, BookFaultKind>
     ensures right { IfOk result (λ meant. update_row row declared.now orders.now (fields_of fields.now) ≡ Ok meant) }
+    ensures sendable { IfOk result (λ meant. All IsSendable orders.now → IsFine meant) }
     ensures wrong { IfErr result (λ kind. kind ≢ BookFaultKind.Refused →
         update_row row declared.now orders.now (fields_of fields.now) ≡ Err kind) }
     ensures unread { IfErr result (λ kind. kind ≢ BookFaultKind.ReadFailed) }
@@ -233,6 +239,7 @@ fn update_with(
     sending: Sending,
 ) -> Result<Row, BookFaultKind>
     ensures right { IfOk result (λ meant. update_with row at name.now first.now earlier sending ≡ Ok meant) }
+    ensures sendable { IfOk result (λ meant. HasSerials first.now.alert → IsFine meant) }
     ensures wrong { IfErr result (λ kind. kind ≢ BookFaultKind.Refused →
         update_with row at name.now first.now earlier sending ≡ Err kind) }
     ensures unread { IfErr result (λ kind. kind ≢ BookFaultKind.ReadFailed) }
@@ -260,6 +267,7 @@ fn stop_row(
     fields: &StringRecord,
 ) -> Result<Row, BookFaultKind>
     ensures right { IfOk result (λ meant. stop_row row declared.now orders.now (fields_of fields.now) ≡ Ok meant) }
+    ensures sendable { IfOk result (λ meant. All IsSendable orders.now → IsFine meant) }
     ensures wrong { IfErr result (λ kind. kind ≢ BookFaultKind.Refused →
         stop_row row declared.now orders.now (fields_of fields.now) ≡ Err kind) }
     ensures unread { IfErr result (λ kind. kind ≢ BookFaultKind.ReadFailed) }

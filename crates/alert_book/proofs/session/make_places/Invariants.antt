@@ -1,0 +1,8 @@
+use Rattle.std.proofs.Common.{◌≡◌, true, take, All}
+use Rattle.alert_book.specs.VersionSteps.{has_place, KeepsVersions}
+use Rattle.alert_book.proofs.session.make_places.Given as goal
+
+abbrev pub invariant-loop-cell : goal.invariant-loop-cell
+invariant-loop-cell l =
+    KeepsVersions l.initial.versions l.versions
+    × All (λ cell. has_place l.versions l.request.number cell ≡ true) (take l.cell-index l.cell-items)

@@ -1,0 +1,31 @@
+-- What a session believes and does (own). Contracts of private functions alone speak of it.
+use Rattle.std.specs.Prelude.{◌≡◌, ℕ, Option, Some, None, List, [], if◌then◌else◌}
+use Rattle.cbs_page.specs.declared.paging.Paged.{Paged}
+use Rattle.cbsp_wire.specs.declared.message.Cell.{Cell}
+use Rattle.alert_book.specs.declared.believed.Believed.{Believed}
+use Rattle.alert_book.specs.declared.order.Order.{Order}
+use Rattle.alert_book.specs.declared.outcome.Outcome.{Outcome}
+use Rattle.alert_book.specs.declared.request.Request.{Request}
+use Rattle.alert_book.specs.Session.{cells_asked, is_of_part, requests_of, version_after}
+use Rattle.alert_book.specs.VersionSteps.{Key, kept_version}
+
+-- the versions that are believed live, with what the last reply says
+abbrev pub live_with : List (Key × Option ℕ) → Option Request → Option Outcome → (number : ℕ) → Cell → Option ℕ
+live_with entries None outcome number cell = kept_version entries number cell
+live_with entries (Some request) None number cell = kept_version entries number cell
+live_with entries (Some request) (Some outcome) number cell =
+    version_after request outcome (cells_asked request.message) number cell (kept_version entries number cell)
+
+abbrev pub live_by : Believed → (number : ℕ) → Cell → Option ℕ
+live_by live number cell =
+    live_with live.versions.now live.sent.now live.outcome.now number cell
+
+-- the requests that a row gives, if its order is of this part
+abbrev pub requests_in : (live : ℕ → Cell → Option ℕ) → (part parts : ℕ) → Order → Option Paged → List Request
+requests_in live part parts order paged =
+    if is_of_part part parts (order, paged) then requests_of live order paged else []
+
+-- the versions that are kept are those believed live with what a reply says
+abbrev pub AreBelievedWith : (old new : List (Key × Option ℕ)) → Option Request → Option Outcome → Type 0
+AreBelievedWith old new sent outcome =
+    (number : ℕ) (cell : Cell) → kept_version new number cell ≡ live_with old sent outcome number cell

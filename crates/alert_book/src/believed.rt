@@ -1,0 +1,34 @@
+//! What a session believes after a reply of which nothing is kept yet, so that a call that is refused memory has
+//! changed nothing.
+
+ghost use Rattle.std.specs.Prelude.{◌≡◌};
+ghost use Rattle.alert_book.specs.SessionSteps.{live_by};
+
+use crate::outcome::{Outcome, version_after};
+use crate::request::Request;
+use crate::versions::Versions;
+use cbsp_wire::Cell;
+
+/// The versions that are believed live: those kept, and what the last reply says.
+#[derive(Clone, Copy)]
+pub struct Believed<'a> {
+    /// Those kept.
+    pub versions: &'a Versions,
+    /// The request that was sent last.
+    pub sent: &'a Option<Request>,
+    /// What its reply says.
+    pub outcome: &'a Option<Outcome>,
+}
+
+impl Believed<'_> {
+    /// The version of an alert that is believed live in a cell, if one is.
+    pub fn version(&self, number: u16, cell: Cell) -> Option<u8>
+        ensures { result ≡ live_by self.now number cell }
+    {
+        let kept = self.versions.version(number, cell);
+        match (self.sent, self.outcome) {
+            (Some(request), Some(outcome)) => version_after(request, outcome, number, cell, kept),
+            _ => kept,
+        }
+    }
+}
