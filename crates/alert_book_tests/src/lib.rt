@@ -7,3 +7,5 @@ mod books;
 mod ends;
 #[cfg(test)]
 mod faults;
+#[cfg(test)]
+mod sessions;
