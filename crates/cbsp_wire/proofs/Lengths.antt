@@ -15,8 +15,9 @@ use Rattle.cbsp_wire.specs.declared.message.Failure.{Failure}
 use Rattle.cbsp_wire.specs.declared.message.Message.{Message}
 use Rattle.cbsp_wire.specs.declared.message.Message.TheVariants as messages
 use Rattle.cbsp_wire.specs.Value.{Fields, fields_of}
-use Rattle.cbsp_wire.specs.Range.{numbers, are_cells, are_distinct, cells_of_counts, cells_of_failures, is_page_count}
-use Rattle.cbsp_wire.specs.Range.{are_contents, is_full}
+use Rattle.cbsp_wire.specs.Range.{numbers, cells_are_valid, are_distinct, cells_of_counts, cells_of_failures}
+use Rattle.cbsp_wire.specs.Range.{is_page_count}
+use Rattle.cbsp_wire.specs.Range.{contents_are_valid, is_full}
 use Rattle.cbsp_wire.specs.Written.{bodies_in, cell_octets, count_octets, failure_octets, number_bodies, octet_bodies}
 use Rattle.cbsp_wire.specs.Written.{list_bodies, content_body, element_octets, field_octets, AreShort}
 use Rattle.cbsp_wire.proofs.Tests.{and_parts, list_all-parts}
@@ -74,10 +75,10 @@ contents_len n (c ∷ cs) h =
     let len : length c.octets ≡ 82 = eqb-true _ _ both.0 in
     omega (arith, len, length-append c.octets (element_octets n (map content_body cs)), contents_len n cs both.1)
 
-short_cells : (cs : List Cell) → are_cells cs ≡ true → length cs ≤ 64
+short_cells : (cs : List Cell) → cells_are_valid cs ≡ true → length cs ≤ 64
 short_cells cs h = leb-true _ _ (and_parts (nat_le (length cs) 64) (are_distinct cs) h).0
 
-few_pages : (pages : Option ℕ) (contents : List Content) → are_contents pages contents ≡ true
+few_pages : (pages : Option ℕ) (contents : List Content) → contents_are_valid pages contents ≡ true
     → IfSome pages (λ n. n ≤ 15)
 few_pages None contents h = tt
 few_pages (Some p) contents h =

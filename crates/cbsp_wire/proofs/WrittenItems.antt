@@ -11,9 +11,11 @@ use Rattle.cbsp_wire.specs.declared.items.Layout.TheVariants as layouts
 use Rattle.cbsp_wire.specs.declared.message.Cell.{Cell}
 use Rattle.cbsp_wire.specs.declared.message.Count.{Count}
 use Rattle.cbsp_wire.specs.declared.message.Failure.{Failure}
-use Rattle.cbsp_wire.specs.Value.{first_number, first_octet, first_items, items_of, cell_at, count_at, failure_at}
+use Rattle.cbsp_wire.specs.Value.{first_body_u16, first_body_octet, first_items, items_of, cell_at, count_at}
+use Rattle.cbsp_wire.specs.Value.{failure_at}
 use Rattle.cbsp_wire.specs.Value.{cells_in, counts_in, failures_in, content_of}
-use Rattle.cbsp_wire.specs.Range.{is_nothing, failures_are_by_lac_and_ci, is_by_lac_and_ci, is_list, are_items}
+use Rattle.cbsp_wire.specs.Range.{is_nothing, failures_are_by_lac_and_ci, is_by_lac_and_ci, is_list_body}
+use Rattle.cbsp_wire.specs.Range.{items_are_valid}
 use Rattle.cbsp_wire.specs.Range.{first_passes, cells_by, cells_of_counts, cells_of_failures, item_size}
 use Rattle.cbsp_wire.specs.Written.{cell_octets, count_octets, failure_octets, number_bodies, octet_bodies, list_body}
 use Rattle.cbsp_wire.specs.Written.{list_bodies, content_body}
@@ -23,14 +25,14 @@ whole : (n : ℕ) → n / 256 * 256 + n % 256 ≡ n
 whole n = omega arith
 
 -- a number that is written is read
-pub first_number-bodies : (o : Option ℕ) → first_number (number_bodies o) ≡ o
-first_number-bodies None = refl
-first_number-bodies (Some n) = ap (λ (k : ℕ). Some k) (whole n)
+pub first_body_u16-bodies : (o : Option ℕ) → first_body_u16 (number_bodies o) ≡ o
+first_body_u16-bodies None = refl
+first_body_u16-bodies (Some n) = ap (λ (k : ℕ). Some k) (whole n)
 
 -- an octet that is written is read
-pub first_octet-bodies : (o : Option ℕ) → first_octet (octet_bodies o) ≡ o
-first_octet-bodies None = refl
-first_octet-bodies (Some n) = refl
+pub first_body_octet-bodies : (o : Option ℕ) → first_body_octet (octet_bodies o) ≡ o
+first_body_octet-bodies None = refl
+first_body_octet-bodies (Some n) = refl
 
 cell_again : (c : Cell) → cell_at (c.lac / 256) (c.lac % 256) (c.ci / 256) (c.ci % 256) ≡ c
 cell_again c = rw (whole c.lac, whole c.ci) refl
@@ -114,16 +116,16 @@ list_written : {X : Type 0} (layout : Layout) (octets : X → List ℕ) (x : X) 
     → ((y : X) → length (octets y) ≡ item_size layout) → 0 < item_size layout
     → is_nothing (cells_by layout (flat_map octets (x ∷ xs))) ≡ false
     → is_by_lac_and_ci layout (list_body layout (flat_map octets (x ∷ xs))) ≡ true
-    → is_list layout (list_body layout (flat_map octets (x ∷ xs))) ≡ true
+    → is_list_body layout (list_body layout (flat_map octets (x ∷ xs))) ≡ true
 list_written layout octets x xs len pos some by_both =
     let items = flat_map octets (x ∷ xs) in
     let even =
     whole_items (length (x ∷ xs)) (item_size layout) items pos (length-items octets (item_size layout) len (x ∷ xs)) in
-    let are : are_items layout items ≡ true =
+    let are : items_are_valid layout items ≡ true =
     and_both (eqb (length items % item_size layout) 0) (not (is_nothing (cells_by layout items))) even (rw some refl) in
     and_both (is_by_lac_and_ci layout (list_body layout items))
-    (are_items layout (items_of layout (list_body layout items))) by_both
-    (ap (λ (o : List ℕ). are_items layout o) (items_of-body layout items) ∙ are)
+    (items_are_valid layout (items_of layout (list_body layout items))) by_both
+    (ap (λ (o : List ℕ). items_are_valid layout o) (items_of-body layout items) ∙ are)
 
 -- each failure that is written has its discriminator
 failures_by_both : (fs : List Failure) → failures_are_by_lac_and_ci (flat_map failure_octets fs) ≡ true
@@ -132,21 +134,21 @@ failures_by_both (f ∷ fs) = ap failures_are_by_lac_and_ci (flat_map-cons failu
 
 -- the lists that are written are right
 pub cells-right : (cs : List Cell)
-    → first_passes (is_list layouts.Cells) (list_bodies layouts.Cells cell_octets cs) ≡ true
+    → first_passes (is_list_body layouts.Cells) (list_bodies layouts.Cells cell_octets cs) ≡ true
 cells-right [] = refl
 cells-right (c ∷ cs) =
     list_written layouts.Cells cell_octets c cs cell_len (omega arith)
     (ap (λ (ds : List Cell). is_nothing ds) (cells_in-octets (c ∷ cs))) refl
 
 pub counts-right : (cs : List Count)
-    → first_passes (is_list layouts.Counts) (list_bodies layouts.Counts count_octets cs) ≡ true
+    → first_passes (is_list_body layouts.Counts) (list_bodies layouts.Counts count_octets cs) ≡ true
 counts-right [] = refl
 counts-right (c ∷ cs) =
     list_written layouts.Counts count_octets c cs count_len (omega arith)
     (ap (λ (ds : List Count). is_nothing (cells_of_counts ds)) (counts_in-octets (c ∷ cs))) refl
 
 pub failures-right : (fs : List Failure)
-    → first_passes (is_list layouts.Failures) (list_bodies layouts.Failures failure_octets fs) ≡ true
+    → first_passes (is_list_body layouts.Failures) (list_bodies layouts.Failures failure_octets fs) ≡ true
 failures-right [] = refl
 failures-right (f ∷ fs) =
     list_written layouts.Failures failure_octets f fs failure_len (omega arith)

@@ -1,24 +1,24 @@
 -- The fields of a message, as the writer holds them. Own.
 use Rattle.std.specs.Prelude.{ℕ, ◌+◌, ◌≤◌, List, length, vec_len, vec_capacity}
 use Rattle.std.specs.Global.{Vec}
-use Rattle.cbsp_wire.specs.declared.parts.Parts.{Parts}
+use Rattle.cbsp_wire.specs.declared.fields.Fields as seen
 use Rattle.cbsp_wire.specs.Value.{Fields}
 
-abbrev pub fields_seen : Parts → Fields
-fields_seen p = record {
-  id = p.id;
-  new_serial = p.new_serial;
-  old_serial = p.old_serial;
-  failures = p.failures.now;
-  completed = p.completed.now;
-  cells = p.cells.now;
-  channel = p.channel;
-  category = p.category;
-  period = p.period;
-  broadcasts = p.broadcasts;
-  pages = p.pages;
-  dcs = p.dcs;
-  contents = p.contents.now;
+abbrev pub field_values : seen.Fields → Fields
+field_values f = record {
+  id = f.id;
+  new_serial = f.new_serial;
+  old_serial = f.old_serial;
+  failures = f.failures.now;
+  completed = f.completed.now;
+  cells = f.cells.now;
+  channel = f.channel;
+  category = f.category;
+  period = f.period;
+  broadcasts = f.broadcasts;
+  pages = f.pages;
+  dcs = f.dcs;
+  contents = f.contents.now;
 }
 
 -- a vector into which octets fit without memory

@@ -11,8 +11,8 @@ use Rattle.cbsp_wire.specs.declared.message.Count.{Count}
 use Rattle.cbsp_wire.specs.declared.message.Failure.{Failure}
 use Rattle.cbsp_wire.specs.declared.message.Message.{Message}
 use Rattle.cbsp_wire.specs.Element.{Element, octets_of_elements}
-use Rattle.cbsp_wire.specs.Table.{octet_of_kind}
-use Rattle.cbsp_wire.specs.Value.{Fields, fields_of, kind_of}
+use Rattle.cbsp_wire.specs.Table.{octet_of_type}
+use Rattle.cbsp_wire.specs.Value.{Fields, fields_of, type_of}
 use Rattle.cbsp_wire.specs.Range.{numbers}
 use Rattle.cbsp_wire.specs.declared.iei.TheConstants.{MESSAGE_CONTENT, OLD_SERIAL_NUMBER, NEW_SERIAL_NUMBER, CELL_LIST}
 use Rattle.cbsp_wire.specs.declared.iei.TheConstants.{CATEGORY, REPETITION_PERIOD, BROADCASTS_REQUESTED}
@@ -98,7 +98,7 @@ abbrev pub framed : ℕ → List ℕ → List ℕ
 framed octet rest = octet ∷ (length_octets (length rest) ++ rest)
 
 unfoldable pub octets_of_message : Message → List ℕ
-octets_of_message m = framed (octet_of_kind (kind_of m)) (octets_of_elements (elements_of m))
+octets_of_message m = framed (octet_of_type (type_of m)) (octets_of_elements (elements_of m))
 
 -- the octets of the elements with a number
 abbrev pub element_octets : ℕ → List (List ℕ) → List ℕ

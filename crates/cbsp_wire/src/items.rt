@@ -3,8 +3,8 @@
 ghost use Rattle.std.specs.Prelude.{◌≡◌, ◌∷◌, [], length, MatchOption, nat_le};
 ghost use Rattle.std.specs.List.{list_any};
 ghost use Rattle.cbsp_wire.specs.Value.{cell_at, items_of};
-ghost use Rattle.cbsp_wire.specs.Range.{is_cell, are_distinct, are_cells, cells_by, are_items, item_size};
-ghost use Rattle.cbsp_wire.specs.Range.{failures_are_by_lac_and_ci, is_by_lac_and_ci, is_list};
+ghost use Rattle.cbsp_wire.specs.Range.{is_cell, are_distinct, cells_are_valid, cells_by, items_are_valid, item_size};
+ghost use Rattle.cbsp_wire.specs.Range.{failures_are_by_lac_and_ci, is_by_lac_and_ci, is_list_body};
 ghost use Rattle.cbsp_wire.specs.Named.{cells_named};
 
 use crate::item::Item;
@@ -121,8 +121,8 @@ fn is_short(items: Items<'_>) -> bool
 }
 
 /// Whether a list may name these cells: at most 64, none twice.
-pub(crate) fn are_cells(items: Items<'_>) -> bool
-    ensures { result ≡ are_cells (cells_named items.entry) }
+pub(crate) fn cells_are_valid(items: Items<'_>) -> bool
+    ensures { result ≡ cells_are_valid (cells_named items.entry) }
 {
     is_short(items) && are_distinct(items)
 }
@@ -139,8 +139,8 @@ fn item_size(layout: Layout) -> usize
 }
 
 /// Whether octets are whole items, and at least one of them.
-fn are_items(layout: Layout, items: &[u8]) -> bool
-    ensures { result ≡ are_items layout items.now }
+fn items_are_valid(layout: Layout, items: &[u8]) -> bool
+    ensures { result ≡ items_are_valid layout items.now }
 {
     items.len() % item_size(layout) == 0 && first_in(layout, items).is_some()
 }
@@ -192,8 +192,8 @@ fn is_by_lac_and_ci(layout: Layout, body: &[u8]) -> bool
 }
 
 /// Whether the body of a list is right: two octets of length, and whole items whose discriminators are 1.
-pub(crate) fn is_list(layout: Layout, body: &[u8]) -> bool
-    ensures { result ≡ is_list layout body.now }
+pub(crate) fn is_list_body(layout: Layout, body: &[u8]) -> bool
+    ensures { result ≡ is_list_body layout body.now }
 {
-    is_by_lac_and_ci(layout, body) && are_items(layout, items_of(layout, body))
+    is_by_lac_and_ci(layout, body) && items_are_valid(layout, items_of(layout, body))
 }

@@ -8,13 +8,13 @@
 pub mod cause;
 mod elements;
 pub mod fault;
+mod fields;
 mod iei;
 mod item;
 mod items;
-mod kind;
 mod law;
 pub mod message;
-mod parts;
+mod message_type;
 mod range;
 mod reading;
 mod value;

@@ -4,7 +4,7 @@ ghost use Rattle.std.specs.Prelude.{◌≡◌, ◌+◌, ◌*◌, ◌/◌, ◌%�
 ghost use Rattle.std.specs.Prelude.{IfErr, IfSome, vec_len, vec_capacity};
 ghost use Rattle.std.specs.List.{flat_map};
 ghost use Rattle.cbsp_wire.specs.Meaning.{IsMessage, IsUnwritten};
-ghost use Rattle.cbsp_wire.specs.Parts.{fields_seen, HasRoom};
+ghost use Rattle.cbsp_wire.specs.Parts.{field_values, HasRoom};
 ghost use Rattle.cbsp_wire.specs.Range.{is_writable};
 ghost use Rattle.cbsp_wire.specs.Written.{number_octets, number_bodies, octet_bodies, list_head, list_bodies};
 ghost use Rattle.cbsp_wire.specs.Written.{cell_octets, count_octets, failure_octets, content_body, element_octets};
@@ -12,10 +12,10 @@ ghost use Rattle.cbsp_wire.specs.Written.{field_octets, bodies_in, octets_of_mes
 
 use crate::elements::{NUMBERS, elements};
 use crate::fault::WireFault;
+use crate::fields::{Fields, fields_of, is_writable, type_of};
 use crate::item::{Item, put_items};
 use crate::items::Layout;
 use crate::message::Message;
-use crate::parts::{Parts, is_writable, kind_of, parts_of};
 use crate::{cause, iei};
 use cbs_page::Content;
 use std::alloc::Global;
@@ -93,7 +93,7 @@ fn put_list<T: Item>(out: &mut Vec<u8>, element: u8, items: &[T])
     put_items(out, items);
 }
 
-/// Appends the number of pages, if it is told.
+/// Appends the number of pages, if it is given.
 fn put_pages(out: &mut Vec<u8>, element: u8, pages: Option<usize>)
     requires few { IfSome pages (λ n. n ≤ 15) }
     requires room { HasRoom out.old (element_octets element (octet_bodies pages)) }
@@ -120,19 +120,19 @@ fn put_contents(out: &mut Vec<u8>, element: u8, contents: &[Content])
 }
 
 macro_rules! put_field {
-    ($out:expr, $row:path, $parts:expr, number $field:ident) => { put_number($out, $row, $parts.$field) };
-    ($out:expr, $row:path, $parts:expr, octet $field:ident) => { put_octet($out, $row, $parts.$field) };
-    ($out:expr, $row:path, $parts:expr, pages $field:ident) => { put_pages($out, $row, $parts.$field) };
-    ($out:expr, $row:path, $parts:expr, list $field:ident) => { put_list($out, $row, $parts.$field) };
-    ($out:expr, $row:path, $parts:expr, contents $field:ident) => { put_contents($out, $row, $parts.$field) };
+    ($out:expr, $row:path, $fields:expr, number $field:ident) => { put_number($out, $row, $fields.$field) };
+    ($out:expr, $row:path, $fields:expr, octet $field:ident) => { put_octet($out, $row, $fields.$field) };
+    ($out:expr, $row:path, $fields:expr, pages $field:ident) => { put_pages($out, $row, $fields.$field) };
+    ($out:expr, $row:path, $fields:expr, list $field:ident) => { put_list($out, $row, $fields.$field) };
+    ($out:expr, $row:path, $fields:expr, contents $field:ident) => { put_contents($out, $row, $fields.$field) };
 }
 
 macro_rules! put_for {
-    ($out:expr, $parts:expr, $number:expr; $($row:path, $form:ident $size:literal,
+    ($out:expr, $fields:expr, $number:expr; $($row:path, $form:ident $size:literal,
         $write:ident $write_done:ident $write_failed:ident $kill:ident $kill_done:ident $kill_failed:ident,
         $writer:ident $field:ident;)*) => {
         match $number {
-            $($row => put_field!($out, $row, $parts, $writer $field),)*
+            $($row => put_field!($out, $row, $fields, $writer $field),)*
             _ => {}
         }
     };
@@ -140,24 +140,24 @@ macro_rules! put_for {
 
 /// Appends the elements with this number.
 #[tactic(auto, unfolding(crate::specs::Written::bodies_in))]
-fn put_elements_with(out: &mut Vec<u8>, parts: &Parts<'_>, number: u8)
-    requires short { AreShort (fields_seen parts.now) }
-    requires room { HasRoom out.old (field_octets (fields_seen parts.now) number) }
-    ensures appended { out.new.items ≡ out.old.items ++ field_octets (fields_seen parts.now) number }
+fn put_elements_with(out: &mut Vec<u8>, fields: &Fields<'_>, number: u8)
+    requires short { AreShort (field_values fields.now) }
+    requires room { HasRoom out.old (field_octets (field_values fields.now) number) }
+    ensures appended { out.new.items ≡ out.old.items ++ field_octets (field_values fields.now) number }
     ensures room { vec_capacity out.new ≡ vec_capacity out.old }
 {
-    elements!(put_for, out, parts, number)
+    elements!(put_for, out, fields, number)
 }
 
 /// Appends the elements with these numbers, in this order.
-fn put_elements(out: &mut Vec<u8>, parts: &Parts<'_>, numbers: &[u8])
-    requires short { AreShort (fields_seen parts.now) }
-    requires room { HasRoom out.old (flat_map (field_octets (fields_seen parts.now)) numbers.now) }
-    ensures appended { out.new.items ≡ out.old.items ++ flat_map (field_octets (fields_seen parts.now)) numbers.now }
+fn put_elements(out: &mut Vec<u8>, fields: &Fields<'_>, numbers: &[u8])
+    requires short { AreShort (field_values fields.now) }
+    requires room { HasRoom out.old (flat_map (field_octets (field_values fields.now)) numbers.now) }
+    ensures appended { out.new.items ≡ out.old.items ++ flat_map (field_octets (field_values fields.now)) numbers.now }
     ensures room { vec_capacity out.new ≡ vec_capacity out.old }
 {
     for number in numbers {
-        put_elements_with(out, parts, *number);
+        put_elements_with(out, fields, *number);
     }
 }
 
@@ -173,10 +173,10 @@ pub fn write_in(message: &Message, out: &mut Vec<u8>)
     ensures appended { out.new.items ≡ out.old.items ++ octets_of_message message.now }
     ensures room_stays { vec_capacity out.new ≡ vec_capacity out.old }
 {
-    let parts = parts_of(message);
+    let fields = fields_of(message);
     let start = out.len();
-    put(out, &[kind_of(message).octet(), 0, 0, 0]);
-    put_elements(out, &parts, &NUMBERS);
+    put(out, &[type_of(message).to_octet(), 0, 0, 0]);
+    put_elements(out, &fields, &NUMBERS);
     let length = out.len() - start - 4;
     out[start + 1] = (length / 65536) as u8;
     out[start + 2] = (length / 256 % 256) as u8;

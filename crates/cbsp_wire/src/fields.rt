@@ -2,23 +2,24 @@
 
 ghost use Rattle.std.specs.Prelude.{◌≡◌, length, nat_le};
 ghost use Rattle.std.specs.List.{list_all};
-ghost use Rattle.cbsp_wire.specs.Table.{need_of};
-ghost use Rattle.cbsp_wire.specs.Value.{fields_of, kind_of};
-ghost use Rattle.cbsp_wire.specs.Range.{is_there_if, are_contents, are_numbers, are_all_cells, are_values, is_full};
+ghost use Rattle.cbsp_wire.specs.Table.{presence_of};
+ghost use Rattle.cbsp_wire.specs.Value.{fields_of, type_of};
+ghost use Rattle.cbsp_wire.specs.Range.{is_there_if, contents_are_valid, numbers_are_valid, all_cells_are_valid};
+ghost use Rattle.cbsp_wire.specs.Range.{values_are_valid, is_full};
 ghost use Rattle.cbsp_wire.specs.Range.{is_writable};
-ghost use Rattle.cbsp_wire.specs.Parts.{fields_seen};
+ghost use Rattle.cbsp_wire.specs.Parts.{field_values};
 
-use crate::elements::need;
+use crate::elements::presence;
 use crate::iei;
-use crate::items::{Items, are_cells};
-use crate::kind::{Kind, Need};
+use crate::items::{Items, cells_are_valid};
 use crate::message::{Cell, Count, Failure, Message};
-use crate::range::{is_coding, is_page_count, is_period, is_up_to};
+use crate::message_type::{MessageType, Presence};
+use crate::range::{has_alphabet, is_page_count, is_period, is_up_to};
 use cbs_page::{Content, Serial};
 
 /// The fields that a message has, `None` or no items where its type has no such field.
 #[derive(Clone, Copy, Debug)]
-pub struct Parts<'a> {
+pub struct Fields<'a> {
     /// The message identifier.
     pub id: Option<u16>,
     /// The new serial number.
@@ -48,7 +49,7 @@ pub struct Parts<'a> {
 }
 
 /// The number of a serial number, if there is one.
-fn number_of(serial: Option<Serial>) -> Option<u16>
+fn serial_number(serial: Option<Serial>) -> Option<u16>
     ensures { result ≡ serial }
 {
     match serial {
@@ -58,16 +59,16 @@ fn number_of(serial: Option<Serial>) -> Option<u16>
 }
 
 /// The type of a message.
-pub(crate) fn kind_of(message: &Message) -> Kind
-    ensures { result ≡ kind_of message.now }
+pub(crate) fn type_of(message: &Message) -> MessageType
+    ensures { result ≡ type_of message.now }
 {
     match message {
-        Message::Write { .. } => Kind::Write,
-        Message::WriteDone { .. } => Kind::WriteDone,
-        Message::WriteFailed { .. } => Kind::WriteFailed,
-        Message::Kill { .. } => Kind::Kill,
-        Message::KillDone { .. } => Kind::KillDone,
-        Message::KillFailed { .. } => Kind::KillFailed,
+        Message::Write { .. } => MessageType::Write,
+        Message::WriteDone { .. } => MessageType::WriteDone,
+        Message::WriteFailed { .. } => MessageType::WriteFailed,
+        Message::Kill { .. } => MessageType::Kill,
+        Message::KillDone { .. } => MessageType::KillDone,
+        Message::KillFailed { .. } => MessageType::KillFailed,
     }
 }
 
@@ -104,7 +105,7 @@ fn old_serial_of(message: &Message) -> Option<u16>
     match message {
         Message::Write { old_serial, .. }
         | Message::WriteDone { old_serial, .. }
-        | Message::WriteFailed { old_serial, .. } => number_of(*old_serial),
+        | Message::WriteFailed { old_serial, .. } => serial_number(*old_serial),
         Message::Kill { old_serial, .. }
         | Message::KillDone { old_serial, .. }
         | Message::KillFailed { old_serial, .. } => Some(old_serial.number()),
@@ -167,10 +168,10 @@ fn channel_of(message: &Message) -> Option<u8>
 }
 
 /// The fields of a message.
-pub(crate) fn parts_of(message: &Message) -> Parts<'_>
-    ensures { fields_seen result ≡ fields_of message.now }
+pub(crate) fn fields_of(message: &Message) -> Fields<'_>
+    ensures { field_values result ≡ fields_of message.now }
 {
-    let parts = Parts {
+    let fields = Fields {
         id: id_of(message),
         new_serial: new_serial_of(message),
         old_serial: old_serial_of(message),
@@ -193,49 +194,49 @@ pub(crate) fn parts_of(message: &Message) -> Parts<'_>
             dcs,
             contents,
             ..
-        } => Parts {
+        } => Fields {
             category: *category,
             period: Some(*period),
             broadcasts: Some(*broadcasts),
             pages: Some(contents.list.len()),
             dcs: Some(dcs.0),
             contents: &contents.list,
-            ..parts
+            ..fields
         },
         Message::WriteDone { .. }
         | Message::WriteFailed { .. }
         | Message::Kill { .. }
         | Message::KillDone { .. }
-        | Message::KillFailed { .. } => parts,
+        | Message::KillFailed { .. } => fields,
     }
 }
 
 /// Whether items are there, if the message needs them.
-fn is_there_if<T>(need: Need, items: &[T]) -> bool
-    ensures { result ≡ is_there_if need items.now }
+fn is_there_if<T>(presence: Presence, items: &[T]) -> bool
+    ensures { result ≡ is_there_if presence items.now }
 {
-    match need {
-        Need::Mandatory => !items.is_empty(),
-        Need::Optional | Need::Foreign => true,
+    match presence {
+        Presence::Mandatory => !items.is_empty(),
+        Presence::Optional | Presence::Absent => true,
     }
 }
 
 /// Whether at most 82 octets are used of each content.
-fn use_at_most_82(contents: &[Content]) -> bool
+fn used_is_valid(contents: &[Content]) -> bool
     ensures { result ≡ list_all (λ c. nat_le c.used 82) contents.now }
 {
     contents.iter().all(|content| content.used <= 82)
 }
 
 /// Whether there are as many contents as pages, from 1 to 15, and at most 82 octets used of each.
-fn are_contents(pages: Option<usize>, contents: &[Content]) -> bool
-    ensures { result ≡ are_contents pages contents.now }
+fn contents_are_valid(pages: Option<usize>, contents: &[Content]) -> bool
+    ensures { result ≡ contents_are_valid pages contents.now }
 {
-    let are_as_told = match pages {
+    let count_is_valid = match pages {
         None => true,
         Some(pages) => is_page_count(pages) && pages == contents.len(),
     };
-    are_as_told && use_at_most_82(contents)
+    count_is_valid && used_is_valid(contents)
 }
 
 /// Whether each content has its 82 octets, as its type says: no fact says so of the items of a slice, so the proof
@@ -249,39 +250,41 @@ fn are_full(contents: &[Content]) -> bool
 }
 
 /// Whether the period, the data coding, the category and the channel indicator are in their ranges.
-fn are_numbers(parts: &Parts<'_>) -> bool
-    ensures { result ≡ are_numbers (fields_seen parts.now) }
+fn numbers_are_valid(fields: &Fields<'_>) -> bool
+    ensures { result ≡ numbers_are_valid (field_values fields.now) }
 {
-    is_period(parts.period)
-        && is_coding(parts.dcs)
-        && is_up_to(2, parts.category)
-        && is_up_to(1, parts.channel)
+    is_period(fields.period)
+        && has_alphabet(fields.dcs)
+        && is_up_to(2, fields.category)
+        && is_up_to(1, fields.channel)
 }
 
 /// Whether the lists name at most 64 cells each, and none twice.
-fn are_all_cells(parts: &Parts<'_>) -> bool
-    ensures { result ≡ are_all_cells (fields_seen parts.now) }
+fn all_cells_are_valid(fields: &Fields<'_>) -> bool
+    ensures { result ≡ all_cells_are_valid (field_values fields.now) }
 {
-    are_cells(Items::Cells(parts.cells))
-        && are_cells(Items::Counts(parts.completed))
-        && are_cells(Items::Failures(parts.failures))
+    cells_are_valid(Items::Cells(fields.cells))
+        && cells_are_valid(Items::Counts(fields.completed))
+        && cells_are_valid(Items::Failures(fields.failures))
 }
 
 /// Whether all values are in their ranges.
-fn are_values(parts: &Parts<'_>) -> bool
-    ensures { result ≡ are_values (fields_seen parts.now) }
+fn values_are_valid(fields: &Fields<'_>) -> bool
+    ensures { result ≡ values_are_valid (field_values fields.now) }
 {
-    are_contents(parts.pages, parts.contents) && are_numbers(parts) && are_all_cells(parts)
+    contents_are_valid(fields.pages, fields.contents)
+        && numbers_are_valid(fields)
+        && all_cells_are_valid(fields)
 }
 
 /// Whether some octets mean the message: its values are in their ranges, and its mandatory lists have items.
 pub(crate) fn is_writable(message: &Message) -> bool
     ensures { result ≡ is_writable message.now }
 {
-    let parts = parts_of(message);
-    let kind = kind_of(message);
-    are_values(&parts)
-        && is_there_if(need(kind, iei::CELL_LIST), parts.cells)
-        && is_there_if(need(kind, iei::FAILURE_LIST), parts.failures)
-        && are_full(parts.contents)
+    let fields = fields_of(message);
+    let message_type = type_of(message);
+    values_are_valid(&fields)
+        && is_there_if(presence(message_type, iei::CELL_LIST), fields.cells)
+        && is_there_if(presence(message_type, iei::FAILURE_LIST), fields.failures)
+        && are_full(fields.contents)
 }
