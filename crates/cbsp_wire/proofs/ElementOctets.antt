@@ -7,8 +7,8 @@ use Rattle.std.proofs.lemmas.List.Concat.{flat_map-cons}
 use Rattle.cbsp_wire.specs.declared.items.Layout.{Layout}
 use Rattle.cbsp_wire.specs.Element.{Element, octets_of_elements}
 use Rattle.cbsp_wire.specs.Value.{Fields}
-use Rattle.cbsp_wire.specs.Written.{bodies_in, list_head, list_bodies, element, elements_among, element_octets}
-use Rattle.cbsp_wire.specs.Written.{field_octets}
+use Rattle.cbsp_wire.specs.Written.{bodies_in, list_head, list_bodies, element, elements_among}
+use Rattle.cbsp_wire.specs.WritingSteps.{element_octets, field_octets}
 use Rattle.cbsp_wire.proofs.WrittenItems.{length-items}
 
 octets-append : (xs ys : List Element) → octets_of_elements (xs ++ ys) ≡ octets_of_elements xs ++ octets_of_elements ys

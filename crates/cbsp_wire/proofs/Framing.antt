@@ -7,7 +7,8 @@ use Rattle.cbsp_wire.specs.Element.{octets_of_elements}
 use Rattle.cbsp_wire.specs.Table.{octet_of_type}
 use Rattle.cbsp_wire.specs.Value.{Fields, fields_of, type_of}
 use Rattle.cbsp_wire.specs.Range.{numbers, is_writable}
-use Rattle.cbsp_wire.specs.Written.{field_octets, elements_of, framed, octets_of_message, AreShort}
+use Rattle.cbsp_wire.specs.Written.{elements_of, framed, octets_of_message}
+use Rattle.cbsp_wire.specs.WritingSteps.{field_octets, AreShort}
 use Rattle.cbsp_wire.proofs.Lengths.{AreShort-written, length-written}
 use Rattle.cbsp_wire.proofs.ElementOctets.{octets-among, patched}
 use Rattle.cbsp_wire.proofs.WrittenLaws.{IsWritten-from}

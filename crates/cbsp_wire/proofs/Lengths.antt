@@ -19,7 +19,8 @@ use Rattle.cbsp_wire.specs.Range.{numbers, cells_are_valid, are_distinct, cells_
 use Rattle.cbsp_wire.specs.Range.{is_page_count}
 use Rattle.cbsp_wire.specs.Range.{contents_are_valid, is_full}
 use Rattle.cbsp_wire.specs.Written.{bodies_in, cell_octets, count_octets, failure_octets, number_bodies, octet_bodies}
-use Rattle.cbsp_wire.specs.Written.{list_bodies, content_body, element_octets, field_octets, AreShort}
+use Rattle.cbsp_wire.specs.Written.{list_bodies, content_body}
+use Rattle.cbsp_wire.specs.WritingSteps.{element_octets, field_octets, AreShort}
 use Rattle.cbsp_wire.proofs.Tests.{and_parts, list_all-parts}
 use Rattle.cbsp_wire.proofs.WrittenItems.{length-items, cell_len, count_len, failure_len}
 use Rattle.cbsp_wire.proofs.WrittenLaws.{IsWritten}

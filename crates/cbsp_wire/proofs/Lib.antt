@@ -12,3 +12,4 @@ pub mod Lengths
 pub mod Framing
 mod Worked
 pub mod Writable
+mod LawsOfMeaning

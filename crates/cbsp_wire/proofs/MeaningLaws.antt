@@ -16,7 +16,8 @@ use Rattle.cbsp_wire.specs.Table.{octet_of_type, type_from_octet}
 use Rattle.cbsp_wire.specs.Walk.{Walk, walk_of}
 use Rattle.cbsp_wire.specs.Value.{message_of, type_of}
 use Rattle.cbsp_wire.specs.Range.{has_mandatory, elements_are_valid}
-use Rattle.cbsp_wire.specs.Refusals.{fault_of_walk, fault_of_type, length_field, first_fault, reported_fault, HasHeader}
+use Rattle.cbsp_wire.specs.Refusals.{fault_of_walk, fault_of_type, length_field, first_fault, reported_fault}
+use Rattle.cbsp_wire.specs.ReadingSteps.{HasHeader}
 use Rattle.cbsp_wire.specs.Meaning.{IsOf, AreElementsOf, IsMessage}
 use Rattle.cbsp_wire.proofs.WalkLaws.{walk_of-elements, walk_of-whole}
 

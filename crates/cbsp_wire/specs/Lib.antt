@@ -5,6 +5,8 @@ pub mod Value
 pub mod Range
 pub mod Refusals
 pub mod Meaning
-pub mod Named
+pub mod Laws
+pub mod ItemSteps
 pub mod Written
-pub mod Parts
+pub mod ReadingSteps
+pub mod WritingSteps

@@ -10,7 +10,7 @@
 -- 8. Refused: memory ran out.
 --
 -- The definitions stand in the other direction, each below those that it asks next.
-use Rattle.std.specs.Prelude.{◌≡◌, ℕ, ◌+◌, ◌*◌, nat_lt, not, if◌then◌else◌, List, ◌∷◌, length, Option, Some, None}
+use Rattle.std.specs.Prelude.{ℕ, ◌+◌, ◌*◌, nat_lt, not, if◌then◌else◌, List, ◌∷◌, length, Option, Some, None}
 use Rattle.cbsp_wire.specs.declared.message_type.MessageType.{MessageType}
 use Rattle.cbsp_wire.specs.declared.elements.WalkEnd.{WalkEnd}
 use Rattle.cbsp_wire.specs.declared.elements.WalkEnd.TheVariants.{Complete, UnexpectedElement, CutOff}
@@ -66,9 +66,3 @@ reported_fault Refused = None
 reported_fault Truncated = Some Truncated
 reported_fault TrailingBytes = Some TrailingBytes
 reported_fault (Cause cause) = Some (Cause cause)
-
--- the type of octets that begin a message, and the octets of its elements
-abbrev pub HasHeader : List ℕ → MessageType → List ℕ → Type 0
-HasHeader (octet ∷ a ∷ b ∷ c ∷ rest) message_type elements = (type_from_octet octet ≡ Some message_type)
-    × (elements ≡ rest)
-HasHeader octets message_type elements = ⊥

@@ -1,6 +1,6 @@
 -- The octets of a message, with its elements in the table's order. 3GPP TS 48.049, clauses 8.1 and 8.2, in this
 -- project's own layouts.
-use Rattle.std.specs.Prelude.{ℕ, ◌+◌, ◌/◌, ◌%◌, ◌≤◌, IfSome, ◌==◌, if◌then◌else◌, List, [], ◌∷◌, ◌++◌, length, map}
+use Rattle.std.specs.Prelude.{ℕ, ◌+◌, ◌/◌, ◌%◌, ◌==◌, if◌then◌else◌, List, [], ◌∷◌, ◌++◌, length, map}
 use Rattle.std.specs.Prelude.{Option, Some, None}
 use Rattle.std.specs.List.{flat_map}
 use Rattle.cbs_page.specs.declared.content.Content.{Content}
@@ -99,17 +99,3 @@ framed octet rest = octet ∷ (length_octets (length rest) ++ rest)
 
 unfoldable pub octets_of_message : Message → List ℕ
 octets_of_message m = framed (octet_of_type (type_of m)) (octets_of_elements (elements_of m))
-
--- the octets of the elements with a number
-abbrev pub element_octets : ℕ → List (List ℕ) → List ℕ
-element_octets n bodies = octets_of_elements (map (element n) bodies)
-
-abbrev pub field_octets : Fields → ℕ → List ℕ
-field_octets f n = element_octets n (bodies_in f n)
-
--- lists as short as a message's may be
-pub record AreShort (f : Fields) : Type 0 where
-  pub cells : length f.cells ≤ 64
-  pub completed : length f.completed ≤ 64
-  pub failures : length f.failures ≤ 64
-  pub pages : IfSome f.pages (λ n. n ≤ 15)

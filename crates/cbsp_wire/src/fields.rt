@@ -7,7 +7,7 @@ ghost use Rattle.cbsp_wire.specs.Value.{fields_of, type_of};
 ghost use Rattle.cbsp_wire.specs.Range.{is_there_if, contents_are_valid, numbers_are_valid, all_cells_are_valid};
 ghost use Rattle.cbsp_wire.specs.Range.{values_are_valid, is_full};
 ghost use Rattle.cbsp_wire.specs.Range.{is_writable};
-ghost use Rattle.cbsp_wire.specs.Parts.{field_values};
+ghost use Rattle.cbsp_wire.specs.WritingSteps.{field_values};
 
 use crate::elements::presence;
 use crate::iei;

@@ -7,7 +7,7 @@ ghost use Rattle.std.specs.List.{flat_map};
 ghost use Rattle.std.proofs.Common.{rules};
 ghost use Rattle.cbsp_wire.specs.declared.items.Layout.{Layout};
 ghost use Rattle.cbsp_wire.specs.declared.items.Layout.TheVariants as layouts;
-ghost use Rattle.cbsp_wire.specs.Parts.{HasRoom};
+ghost use Rattle.cbsp_wire.specs.WritingSteps.{HasRoom};
 ghost use Rattle.cbsp_wire.specs.Value.{cells_in, counts_in, failures_in};
 ghost use Rattle.cbsp_wire.specs.Written.{cell_octets, count_octets, failure_octets};
 

@@ -5,7 +5,7 @@ ghost use Rattle.std.specs.List.{list_any};
 ghost use Rattle.cbsp_wire.specs.Value.{cell_at, items_of};
 ghost use Rattle.cbsp_wire.specs.Range.{is_cell, are_distinct, cells_are_valid, cells_by, items_are_valid, item_size};
 ghost use Rattle.cbsp_wire.specs.Range.{failures_are_by_lac_and_ci, is_by_lac_and_ci, is_list_body};
-ghost use Rattle.cbsp_wire.specs.Named.{cells_named};
+ghost use Rattle.cbsp_wire.specs.ItemSteps.{cells_named};
 
 use crate::item::Item;
 use crate::message::{Cell, Count, Failure};

@@ -12,7 +12,7 @@ mod fields;
 mod iei;
 mod item;
 mod items;
-mod law;
+mod laws;
 pub mod message;
 mod message_type;
 mod range;
@@ -21,7 +21,7 @@ mod value;
 mod writing;
 
 pub use fault::WireFault;
-pub use law::meaning_law;
+pub use laws::meaning_law;
 pub use message::{Cell, Cells, Contents, Count, Counts, Failure, Failures, Message};
 pub use reading::read;
 pub use writing::{write, write_in};

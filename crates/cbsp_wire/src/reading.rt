@@ -2,7 +2,8 @@
 
 ghost use Rattle.std.specs.Prelude.{◌≡◌, IfOk, IfErr, IfSome, MatchResult};
 ghost use Rattle.cbsp_wire.specs.Walk.{walk_of};
-ghost use Rattle.cbsp_wire.specs.Refusals.{fault_of_walk, first_fault, reported_fault, HasHeader};
+ghost use Rattle.cbsp_wire.specs.Refusals.{fault_of_walk, first_fault, reported_fault};
+ghost use Rattle.cbsp_wire.specs.ReadingSteps.{HasHeader};
 ghost use Rattle.cbsp_wire.specs.Meaning.{IsMessage};
 
 use crate::cause;

@@ -4,11 +4,12 @@ ghost use Rattle.std.specs.Prelude.{◌≡◌, ◌+◌, ◌*◌, ◌/◌, ◌%�
 ghost use Rattle.std.specs.Prelude.{IfErr, IfSome, vec_len, vec_capacity};
 ghost use Rattle.std.specs.List.{flat_map};
 ghost use Rattle.cbsp_wire.specs.Meaning.{IsMessage, IsUnwritten};
-ghost use Rattle.cbsp_wire.specs.Parts.{field_values, HasRoom};
+ghost use Rattle.cbsp_wire.specs.WritingSteps.{field_values, HasRoom};
 ghost use Rattle.cbsp_wire.specs.Range.{is_writable};
 ghost use Rattle.cbsp_wire.specs.Written.{number_octets, number_bodies, octet_bodies, list_head, list_bodies};
-ghost use Rattle.cbsp_wire.specs.Written.{cell_octets, count_octets, failure_octets, content_body, element_octets};
-ghost use Rattle.cbsp_wire.specs.Written.{field_octets, bodies_in, octets_of_message, AreShort};
+ghost use Rattle.cbsp_wire.specs.Written.{cell_octets, count_octets, failure_octets, content_body};
+ghost use Rattle.cbsp_wire.specs.Written.{bodies_in, octets_of_message};
+ghost use Rattle.cbsp_wire.specs.WritingSteps.{element_octets, field_octets, AreShort};
 
 use crate::elements::{NUMBERS, elements};
 use crate::fault::WireFault;

@@ -1,6 +1,6 @@
 use Rattle.std.proofs.Common.{◌≡◌, length}
 use Rattle.cbsp_wire.specs.Range.{are_distinct}
-use Rattle.cbsp_wire.specs.Named.{cells_named}
+use Rattle.cbsp_wire.specs.ItemSteps.{cells_named}
 use Rattle.cbsp_wire.proofs.items.are_distinct.Given as goal
 
 abbrev pub invariant-search : goal.invariant-search

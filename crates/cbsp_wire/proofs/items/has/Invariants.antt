@@ -1,7 +1,7 @@
 use Rattle.std.proofs.Common.{◌≡◌, length}
 use Rattle.std.specs.List.{list_any}
 use Rattle.cbsp_wire.specs.Range.{is_cell}
-use Rattle.cbsp_wire.specs.Named.{cells_named}
+use Rattle.cbsp_wire.specs.ItemSteps.{cells_named}
 use Rattle.cbsp_wire.proofs.items.has.Given as goal
 
 abbrev pub invariant-search : goal.invariant-search

@@ -1,5 +1,5 @@
 use Rattle.std.proofs.Common.{◌≡◌, ◌+◌, length}
-use Rattle.cbsp_wire.specs.Named.{cells_named}
+use Rattle.cbsp_wire.specs.ItemSteps.{cells_named}
 use Rattle.cbsp_wire.proofs.items.is_short.Given as goal
 
 abbrev pub invariant-turn : goal.invariant-turn

@@ -1,7 +1,7 @@
 use Rattle.std.proofs.Common.{ap, arith, length, length-append}
 use Rattle.std.proofs.lemmas.List.Folds.{length-flat_map-take}
-use Rattle.cbsp_wire.specs.Parts.{field_values}
-use Rattle.cbsp_wire.specs.Written.{field_octets}
+use Rattle.cbsp_wire.specs.WritingSteps.{field_values}
+use Rattle.cbsp_wire.specs.WritingSteps.{field_octets}
 use Rattle.cbsp_wire.proofs.writing.put_elements.Goals as goal
 
 pub put_elements_with-requires-clause-room : goal.put_elements_with-requires-clause-room

@@ -1,7 +1,7 @@
 use Rattle.std.proofs.Common.{◌≡◌, ◌++◌, take, vec_capacity}
 use Rattle.std.specs.List.{flat_map}
-use Rattle.cbsp_wire.specs.Parts.{field_values}
-use Rattle.cbsp_wire.specs.Written.{field_octets}
+use Rattle.cbsp_wire.specs.WritingSteps.{field_values}
+use Rattle.cbsp_wire.specs.WritingSteps.{field_octets}
 use Rattle.cbsp_wire.proofs.writing.put_elements.Given as goal
 
 abbrev pub invariant-loop-number : goal.invariant-loop-number

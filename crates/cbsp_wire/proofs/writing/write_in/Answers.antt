@@ -1,5 +1,5 @@
 use Rattle.std.proofs.Common.{◌≡◌, ℕ, List, ◌++◌, ◌∙◌, sym, ap, length, length-append, arith}
-use Rattle.cbsp_wire.specs.Parts.{field_values, HasRoom}
+use Rattle.cbsp_wire.specs.WritingSteps.{field_values, HasRoom}
 use Rattle.cbsp_wire.specs.Table.{octet_of_type}
 use Rattle.cbsp_wire.proofs.Framing.{elements_octets, elements_len, cast_fits, fields_short, fields_fit, head_written}
 use Rattle.cbsp_wire.proofs.writing.write_in.Goals as goal

@@ -1,4 +1,4 @@
--- The cells that a list names, be it octets or items. Own.
+-- The cells that a list names, be it octets or items: contracts of private functions alone speak of it. Own.
 use Rattle.std.specs.Prelude.{List}
 use Rattle.cbsp_wire.specs.declared.items.Items.{Items}
 use Rattle.cbsp_wire.specs.declared.items.Items.TheVariants as lists
