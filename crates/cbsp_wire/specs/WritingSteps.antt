@@ -2,28 +2,9 @@
 -- speak of it. Own.
 use Rattle.std.specs.Prelude.{ℕ, ◌+◌, ◌≤◌, List, length, map, IfSome, vec_len, vec_capacity}
 use Rattle.std.specs.Global.{Vec}
-use Rattle.cbsp_wire.specs.declared.fields.Fields as seen
 use Rattle.cbsp_wire.specs.Element.{octets_of_elements}
 use Rattle.cbsp_wire.specs.Value.{Fields}
 use Rattle.cbsp_wire.specs.Written.{bodies_in, element}
-
--- the fields that the writer holds
-abbrev pub field_values : seen.Fields → Fields
-field_values f = record {
-  id = f.id;
-  new_serial = f.new_serial;
-  old_serial = f.old_serial;
-  failures = f.failures.now;
-  completed = f.completed.now;
-  cells = f.cells.now;
-  channel = f.channel;
-  category = f.category;
-  period = f.period;
-  broadcasts = f.broadcasts;
-  pages = f.pages;
-  dcs = f.dcs;
-  contents = f.contents.now;
-}
 
 -- a vector into which octets fit without memory
 abbrev pub HasRoom : Vec ℕ → List ℕ → Type 0

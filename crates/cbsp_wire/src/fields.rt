@@ -7,7 +7,7 @@ ghost use Rattle.cbsp_wire.specs.Value.{fields_of, type_of};
 ghost use Rattle.cbsp_wire.specs.Range.{is_there_if, contents_are_valid, numbers_are_valid, all_cells_are_valid};
 ghost use Rattle.cbsp_wire.specs.Range.{values_are_valid, is_full};
 ghost use Rattle.cbsp_wire.specs.Range.{is_writable};
-ghost use Rattle.cbsp_wire.specs.WritingSteps.{field_values};
+ghost use Rattle.cbsp_wire.specs.Value as values;
 
 use crate::elements::presence;
 use crate::iei;
@@ -16,9 +16,10 @@ use crate::message::{Cell, Count, Failure, Message};
 use crate::message_type::{MessageType, Presence};
 use crate::range::{has_alphabet, is_page_count, is_period, is_up_to};
 use cbs_page::{Content, Serial};
+use std::marker::Model;
 
 /// The fields that a message has, `None` or no items where its type has no such field.
-#[derive(Clone, Copy, Debug)]
+#[derive(Drop)]
 pub struct Fields<'a> {
     /// The message identifier.
     pub id: Option<u16>,
@@ -46,6 +47,26 @@ pub struct Fields<'a> {
     pub dcs: Option<u8>,
     /// The contents.
     pub contents: &'a [Content],
+}
+
+impl<'a> Model for Fields<'a> {
+    ghost Value = { values.Fields };
+
+    ghost view = { λ f. record {
+      id = f.id;
+      new_serial = f.new_serial;
+      old_serial = f.old_serial;
+      failures = f.failures.now;
+      completed = f.completed.now;
+      cells = f.cells.now;
+      channel = f.channel;
+      category = f.category;
+      period = f.period;
+      broadcasts = f.broadcasts;
+      pages = f.pages;
+      dcs = f.dcs;
+      contents = f.contents.now;
+    } };
 }
 
 /// The number of a serial number, if there is one.
@@ -167,11 +188,95 @@ fn channel_of(message: &Message) -> Option<u8>
     }
 }
 
+/// The category, of an order to write.
+fn category_of(message: &Message) -> Option<u8>
+    ensures { result ≡ (fields_of message.now).category }
+{
+    match message {
+        Message::Write { category, .. } => *category,
+        Message::WriteDone { .. }
+        | Message::WriteFailed { .. }
+        | Message::Kill { .. }
+        | Message::KillDone { .. }
+        | Message::KillFailed { .. } => None,
+    }
+}
+
+/// The repetition period, of an order to write.
+fn period_of(message: &Message) -> Option<u16>
+    ensures { result ≡ (fields_of message.now).period }
+{
+    match message {
+        Message::Write { period, .. } => Some(*period),
+        Message::WriteDone { .. }
+        | Message::WriteFailed { .. }
+        | Message::Kill { .. }
+        | Message::KillDone { .. }
+        | Message::KillFailed { .. } => None,
+    }
+}
+
+/// The number of broadcasts requested, of an order to write.
+fn broadcasts_of(message: &Message) -> Option<u16>
+    ensures { result ≡ (fields_of message.now).broadcasts }
+{
+    match message {
+        Message::Write { broadcasts, .. } => Some(*broadcasts),
+        Message::WriteDone { .. }
+        | Message::WriteFailed { .. }
+        | Message::Kill { .. }
+        | Message::KillDone { .. }
+        | Message::KillFailed { .. } => None,
+    }
+}
+
+/// The number of pages, of an order to write.
+fn pages_of(message: &Message) -> Option<usize>
+    ensures { result ≡ (fields_of message.now).pages }
+{
+    match message {
+        Message::Write { contents, .. } => Some(contents.list.len()),
+        Message::WriteDone { .. }
+        | Message::WriteFailed { .. }
+        | Message::Kill { .. }
+        | Message::KillDone { .. }
+        | Message::KillFailed { .. } => None,
+    }
+}
+
+/// The data coding, of an order to write.
+fn dcs_of(message: &Message) -> Option<u8>
+    ensures { result ≡ (fields_of message.now).dcs }
+{
+    match message {
+        Message::Write { dcs, .. } => Some(dcs.0),
+        Message::WriteDone { .. }
+        | Message::WriteFailed { .. }
+        | Message::Kill { .. }
+        | Message::KillDone { .. }
+        | Message::KillFailed { .. } => None,
+    }
+}
+
+/// The contents, of an order to write.
+fn contents_of(message: &Message) -> &[Content]
+    ensures { result.now ≡ (fields_of message.now).contents }
+{
+    match message {
+        Message::Write { contents, .. } => &contents.list,
+        Message::WriteDone { .. }
+        | Message::WriteFailed { .. }
+        | Message::Kill { .. }
+        | Message::KillDone { .. }
+        | Message::KillFailed { .. } => &[],
+    }
+}
+
 /// The fields of a message.
 pub(crate) fn fields_of(message: &Message) -> Fields<'_>
-    ensures { field_values result ≡ fields_of message.now }
+    ensures { result ≡ fields_of message.now }
 {
-    let fields = Fields {
+    Fields {
         id: id_of(message),
         new_serial: new_serial_of(message),
         old_serial: old_serial_of(message),
@@ -179,35 +284,12 @@ pub(crate) fn fields_of(message: &Message) -> Fields<'_>
         completed: completed_of(message),
         cells: cells_of(message),
         channel: channel_of(message),
-        category: None,
-        period: None,
-        broadcasts: None,
-        pages: None,
-        dcs: None,
-        contents: &[],
-    };
-    match message {
-        Message::Write {
-            category,
-            period,
-            broadcasts,
-            dcs,
-            contents,
-            ..
-        } => Fields {
-            category: *category,
-            period: Some(*period),
-            broadcasts: Some(*broadcasts),
-            pages: Some(contents.list.len()),
-            dcs: Some(dcs.0),
-            contents: &contents.list,
-            ..fields
-        },
-        Message::WriteDone { .. }
-        | Message::WriteFailed { .. }
-        | Message::Kill { .. }
-        | Message::KillDone { .. }
-        | Message::KillFailed { .. } => fields,
+        category: category_of(message),
+        period: period_of(message),
+        broadcasts: broadcasts_of(message),
+        pages: pages_of(message),
+        dcs: dcs_of(message),
+        contents: contents_of(message),
     }
 }
 
@@ -251,7 +333,7 @@ fn are_full(contents: &[Content]) -> bool
 
 /// Whether the period, the data coding, the category and the channel indicator are in their ranges.
 fn numbers_are_valid(fields: &Fields<'_>) -> bool
-    ensures { result ≡ numbers_are_valid (field_values fields.now) }
+    ensures { result ≡ numbers_are_valid fields.now }
 {
     is_period(fields.period)
         && has_alphabet(fields.dcs)
@@ -261,7 +343,7 @@ fn numbers_are_valid(fields: &Fields<'_>) -> bool
 
 /// Whether the lists name at most 64 cells each, and none twice.
 fn all_cells_are_valid(fields: &Fields<'_>) -> bool
-    ensures { result ≡ all_cells_are_valid (field_values fields.now) }
+    ensures { result ≡ all_cells_are_valid fields.now }
 {
     cells_are_valid(Items::Cells(fields.cells))
         && cells_are_valid(Items::Counts(fields.completed))
@@ -270,7 +352,7 @@ fn all_cells_are_valid(fields: &Fields<'_>) -> bool
 
 /// Whether all values are in their ranges.
 fn values_are_valid(fields: &Fields<'_>) -> bool
-    ensures { result ≡ values_are_valid (field_values fields.now) }
+    ensures { result ≡ values_are_valid fields.now }
 {
     contents_are_valid(fields.pages, fields.contents)
         && numbers_are_valid(fields)

@@ -1,6 +1,7 @@
 //! The value of a message, looked up among its elements.
 
 ghost use Rattle.std.specs.Prelude.{◌≡◌, ◌<◌, [], ◌∷◌, length, unwrap_or, IfOk, IfSome, MatchOption};
+ghost use Rattle.cbsp_wire.specs.declared.message_type.MessageType.TheVariants as types;
 ghost use Rattle.cbsp_wire.specs.Element.{bodies_of};
 ghost use Rattle.cbsp_wire.specs.Walk.{walk_of};
 ghost use Rattle.cbsp_wire.specs.Value.{first_items, content_of, u16_value, u8_value, cells_of, counts_of, failures_of};
@@ -142,8 +143,27 @@ fn read_contents(
     Ok(contents)
 }
 
+/// The order to write that the elements say.
+#[tactic(auto, unfolding(crate::specs::Value::message_of))]
+fn write_from_elements(alloc: Global, octets: &[u8]) -> Result<Message, AllocError>
+    ensures { IfOk result (λ message. message ≡ message_of types.Write (walk_of types.Write octets.now).elements) }
+{
+    let message_type = MessageType::Write;
+    Ok(Message::Write {
+        id: u16_value_or_0(message_type, iei::MESSAGE_IDENTIFIER, octets),
+        new_serial: serial_value_or_0(message_type, iei::NEW_SERIAL_NUMBER, octets),
+        old_serial: serial_value(message_type, iei::OLD_SERIAL_NUMBER, octets),
+        cells: cells(alloc, message_type, octets)?,
+        channel: u8_value(message_type, iei::CHANNEL_INDICATOR, octets),
+        category: u8_value(message_type, iei::CATEGORY, octets),
+        period: u16_value_or_0(message_type, iei::REPETITION_PERIOD, octets),
+        broadcasts: u16_value_or_0(message_type, iei::BROADCASTS_REQUESTED, octets),
+        dcs: Dcs(u8_value(message_type, iei::DATA_CODING, octets).unwrap_or(0)),
+        contents: contents(alloc, message_type, octets)?,
+    })
+}
+
 /// The message of this type that the elements say.
-// Long, since each of the six types names its fields once; there is nothing else in it.
 #[tactic(auto, unfolding(crate::specs::Value::message_of))]
 pub(crate) fn message_from_elements(
     alloc: Global,
@@ -155,18 +175,7 @@ pub(crate) fn message_from_elements(
     let id = u16_value_or_0(message_type, iei::MESSAGE_IDENTIFIER, octets);
     let channel = u8_value(message_type, iei::CHANNEL_INDICATOR, octets);
     let message = match message_type {
-        MessageType::Write => Message::Write {
-            id,
-            new_serial: serial_value_or_0(message_type, iei::NEW_SERIAL_NUMBER, octets),
-            old_serial: serial_value(message_type, iei::OLD_SERIAL_NUMBER, octets),
-            cells: cells(alloc, message_type, octets)?,
-            channel,
-            category: u8_value(message_type, iei::CATEGORY, octets),
-            period: u16_value_or_0(message_type, iei::REPETITION_PERIOD, octets),
-            broadcasts: u16_value_or_0(message_type, iei::BROADCASTS_REQUESTED, octets),
-            dcs: Dcs(u8_value(message_type, iei::DATA_CODING, octets).unwrap_or(0)),
-            contents: contents(alloc, message_type, octets)?,
-        },
+        MessageType::Write => write_from_elements(alloc, octets)?,
         MessageType::WriteDone => Message::WriteDone {
             id,
             new_serial: serial_value_or_0(message_type, iei::NEW_SERIAL_NUMBER, octets),

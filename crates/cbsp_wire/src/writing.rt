@@ -4,7 +4,7 @@ ghost use Rattle.std.specs.Prelude.{◌≡◌, ◌+◌, ◌*◌, ◌/◌, ◌%�
 ghost use Rattle.std.specs.Prelude.{IfErr, IfSome, vec_len, vec_capacity};
 ghost use Rattle.std.specs.List.{flat_map};
 ghost use Rattle.cbsp_wire.specs.Meaning.{IsMessage, IsUnwritten};
-ghost use Rattle.cbsp_wire.specs.WritingSteps.{field_values, HasRoom};
+ghost use Rattle.cbsp_wire.specs.WritingSteps.{HasRoom};
 ghost use Rattle.cbsp_wire.specs.Range.{is_writable};
 ghost use Rattle.cbsp_wire.specs.Written.{number_octets, number_bodies, octet_bodies, list_head, list_bodies};
 ghost use Rattle.cbsp_wire.specs.Written.{cell_octets, count_octets, failure_octets, content_body};
@@ -142,9 +142,9 @@ macro_rules! put_for {
 /// Appends the elements with this number.
 #[tactic(auto, unfolding(crate::specs::Written::bodies_in))]
 fn put_elements_with(out: &mut Vec<u8>, fields: &Fields<'_>, number: u8)
-    requires short { AreShort (field_values fields.now) }
-    requires room { HasRoom out.old (field_octets (field_values fields.now) number) }
-    ensures appended { out.new.items ≡ out.old.items ++ field_octets (field_values fields.now) number }
+    requires short { AreShort fields.now }
+    requires room { HasRoom out.old (field_octets fields.now number) }
+    ensures appended { out.new.items ≡ out.old.items ++ field_octets fields.now number }
     ensures room { vec_capacity out.new ≡ vec_capacity out.old }
 {
     elements!(put_for, out, fields, number)
@@ -152,9 +152,9 @@ fn put_elements_with(out: &mut Vec<u8>, fields: &Fields<'_>, number: u8)
 
 /// Appends the elements with these numbers, in this order.
 fn put_elements(out: &mut Vec<u8>, fields: &Fields<'_>, numbers: &[u8])
-    requires short { AreShort (field_values fields.now) }
-    requires room { HasRoom out.old (flat_map (field_octets (field_values fields.now)) numbers.now) }
-    ensures appended { out.new.items ≡ out.old.items ++ flat_map (field_octets (field_values fields.now)) numbers.now }
+    requires short { AreShort fields.now }
+    requires room { HasRoom out.old (flat_map (field_octets fields.now) numbers.now) }
+    ensures appended { out.new.items ≡ out.old.items ++ flat_map (field_octets fields.now) numbers.now }
     ensures room { vec_capacity out.new ≡ vec_capacity out.old }
 {
     for number in numbers {

@@ -1,5 +1,5 @@
 use Rattle.std.proofs.Common.{◌≡◌, ℕ, List, ◌++◌, ◌∙◌, sym, ap, length, length-append, arith}
-use Rattle.cbsp_wire.specs.WritingSteps.{field_values, HasRoom}
+use Rattle.cbsp_wire.specs.WritingSteps.{HasRoom}
 use Rattle.cbsp_wire.specs.Table.{octet_of_type}
 use Rattle.cbsp_wire.proofs.Framing.{elements_octets, elements_len, cast_fits, fields_short, fields_fit, head_written}
 use Rattle.cbsp_wire.proofs.writing.write_in.Goals as goal
@@ -9,7 +9,7 @@ put_elements-requires-clause-short c = fields_short c.args.message.now _ c.field
 
 pub put_elements-requires-clause-room : goal.put_elements-requires-clause-room
 put_elements-requires-clause-room c =
-    let f = field_values c.fields_of-fields.result in
+    let f = c.fields_of-fields.result in
     let fits = fields_fit c.args.message.now f c.fields_of-fields.ensures c.requires.meant in
     let room : HasRoom c.put.new.out (elements_octets f) =
     omega (arith, fits, simp length-append at (ap length c.put.ensures.appended)) in
@@ -17,7 +17,7 @@ put_elements-requires-clause-room c =
 
 pub overflow_cast-length : goal.overflow_cast-length
 overflow_cast-length c =
-    let f = field_values c.fields_of-fields.result in
+    let f = c.fields_of-fields.result in
     let n : c.len-start.result ≡ length c.args.out.now.items = omega arith in
     let l : c.len.result ≡ length c.put_elements.new.out.items = omega arith in
     let len = elements_len _ _ _ (elements_octets f) _ _ _ n l c.put.ensures.appended c.put_elements.ensures.appended in
@@ -26,7 +26,7 @@ overflow_cast-length c =
 
 pub returns-clause-appended : goal.returns-clause-appended
 returns-clause-appended c =
-    let f = field_values c.fields_of-fields.result in
+    let f = c.fields_of-fields.result in
     let n : c.len-start.result ≡ length c.args.out.now.items = omega arith in
     let l : c.len.result ≡ length c.put_elements.new.out.items = omega arith in
     let len = elements_len _ _ _ (elements_octets f) _ _ _ n l c.put.ensures.appended c.put_elements.ensures.appended in
