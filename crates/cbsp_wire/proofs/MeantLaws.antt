@@ -5,8 +5,8 @@ use Rattle.std.specs.Prelude.{◌&&◌, ◌%◌, not, nat_le}
 use Rattle.std.specs.List.{AllByRecursion, list_all}
 use Rattle.std.proofs.lemmas.Bool.{eqb-true}
 use Rattle.cbs_page.specs.declared.content.Content.{Content}
-use Rattle.cbsp_wire.specs.declared.items.Layout.{Layout}
-use Rattle.cbsp_wire.specs.declared.items.Layout.TheVariants as layouts
+use Rattle.cbsp_wire.specs.declared.item.Discriminator.{Discriminator}
+use Rattle.cbsp_wire.specs.declared.item.Discriminator.TheVariants as discriminators
 use Rattle.cbsp_wire.specs.declared.message_type.MessageType.{MessageType}
 use Rattle.cbsp_wire.specs.declared.message_type.MessageType.TheVariants as types
 use Rattle.cbsp_wire.specs.declared.message_type.Presence.{Presence}
@@ -21,13 +21,14 @@ use Rattle.cbsp_wire.specs.Value.{Fields, no_fields, fields_in, fields_of, first
 use Rattle.cbsp_wire.specs.Value.{first_items, content_of, cells_in, failures_in, or_0, message_with, message_of}
 use Rattle.cbsp_wire.specs.Value.{type_of}
 use Rattle.cbsp_wire.specs.Range.{numbers, is_nothing, is_there_if, has_mandatory, has_none_twice, lists_are_valid}
-use Rattle.cbsp_wire.specs.Range.{first_passes, is_by_lac_and_ci, is_list_body, items_are_valid, item_size, cells_by}
+use Rattle.cbsp_wire.specs.Range.{first_passes, is_by_lac_and_ci, is_list_body, items_are_whole}
 use Rattle.cbsp_wire.specs.Range.{passes}
 use Rattle.cbsp_wire.specs.Range.{is_period, has_alphabet, is_page_count, contents_are_valid, numbers_are_valid}
 use Rattle.cbsp_wire.specs.Range.{cells_are_valid}
 use Rattle.cbsp_wire.specs.Range.{cells_of_counts, cells_of_failures, all_cells_are_valid, values_are_valid}
 use Rattle.cbsp_wire.specs.Range.{is_writable, is_full}
 use Rattle.cbsp_wire.specs.Meaning.{IsOf, AreElementsOf, IsMessage}
+use Rattle.cbsp_wire.proofs.ItemLemmas.{cells_in-some, failures_in-some}
 use Rattle.cbsp_wire.proofs.Tests.{and_parts, and_both, not_true, there_from, list_all-parts}
 use Rattle.cbsp_wire.proofs.WrittenLaws.{IsWritten, is_writable-from}
 
@@ -148,22 +149,20 @@ pages_there (body ∷ bodies) contents h right =
     ap (λ (n : ℕ). Some n) (eqb-true _ _ two.1)
 
 -- a list that is there and right has items
-items_there : {X : Type 0} (presence : Presence) (layout : Layout) (items_in : List ℕ → List X) (bodies : List (List ℕ))
-    → ((o : List ℕ) → is_nothing (cells_by layout o) ≡ false → is_nothing (items_in o) ≡ false)
-    → is_there_if presence bodies ≡ true → first_passes (is_list_body layout) bodies ≡ true
-    → is_there_if presence (first_items layout items_in bodies) ≡ true
-items_there presences.Mandatory layout items_in [] some there right = absurd cc
-items_there presences.Optional layout items_in [] some there right = refl
-items_there presences.Absent layout items_in [] some there right = refl
-items_there presence layout items_in (body ∷ bodies) some there right =
-    let items = items_of layout body in
-    let one = and_parts (is_by_lac_and_ci layout body) (items_are_valid layout items) right in
-    let two = and_parts (eqb (length items % item_size layout) 0) (not (is_nothing (cells_by layout items))) one.1 in
-    there_from presence (items_in items) (some items (not_true _ two.1))
-
-failures_some : (fs : List Failure) → is_nothing (cells_of_failures fs) ≡ false → is_nothing fs ≡ false
-failures_some [] h = absurd cc
-failures_some (f ∷ fs) h = refl
+items_there : {X : Type 0} (presence : Presence) (discriminator : Discriminator) (size : ℕ)
+    (items_in : List ℕ → List X) (bodies : List (List ℕ))
+    → ((o : List ℕ) → length o % size ≡ 0 → is_nothing o ≡ false → is_nothing (items_in o) ≡ false)
+    → is_there_if presence bodies ≡ true
+    → first_passes (is_list_body discriminator size) bodies ≡ true
+    → is_there_if presence (first_items discriminator items_in bodies) ≡ true
+items_there presences.Mandatory discriminator size items_in [] some there right = absurd cc
+items_there presences.Optional discriminator size items_in [] some there right = refl
+items_there presences.Absent discriminator size items_in [] some there right = refl
+items_there presence discriminator size items_in (body ∷ bodies) some there right =
+    let items = items_of discriminator body in
+    let one = and_parts (is_by_lac_and_ci discriminator body) (items_are_whole size items) right in
+    let two = and_parts (eqb (length items % size) 0) (not (is_nothing items)) one.1 in
+    there_from presence (items_in items) (some items (eqb-true _ _ two.0) (not_true _ two.1))
 
 -- each content has its 82 octets
 full_content : (body : List ℕ) → length body ≡ 83 → is_full (content_of body) ≡ true
@@ -191,30 +190,30 @@ record AreRight (message_type : MessageType) (es : List Element) : Type 0 where
   ranges : HaveRanges (fields_in es)
 
 cells_listed : (es : List Element) → lists_are_valid es ≡ true
-    → first_passes (is_list_body layouts.Cells) (bodies_of 4 es) ≡ true
+    → first_passes (is_list_body discriminators.Once 4) (bodies_of 4 es) ≡ true
 cells_listed es h =
-    let a = first_passes (is_list_body layouts.Cells) (bodies_of 4 es) in
-    let b = first_passes (is_list_body layouts.Counts) (bodies_of 8 es) in
-    (and_parts a b (and_parts (a && b) (first_passes (is_list_body layouts.Failures) (bodies_of 9 es)) h).0).0
+    let a = first_passes (is_list_body discriminators.Once 4) (bodies_of 4 es) in
+    let b = first_passes (is_list_body discriminators.Once 7) (bodies_of 8 es) in
+    (and_parts a b (and_parts (a && b) (first_passes (is_list_body discriminators.Each 6) (bodies_of 9 es)) h).0).0
 
 failures_listed : (es : List Element) → lists_are_valid es ≡ true
-    → first_passes (is_list_body layouts.Failures) (bodies_of 9 es) ≡ true
+    → first_passes (is_list_body discriminators.Each 6) (bodies_of 9 es) ≡ true
 failures_listed es h =
-    let a = first_passes (is_list_body layouts.Cells) (bodies_of 4 es) in
-    let b = first_passes (is_list_body layouts.Counts) (bodies_of 8 es) in
-    (and_parts (a && b) (first_passes (is_list_body layouts.Failures) (bodies_of 9 es)) h).1
+    let a = first_passes (is_list_body discriminators.Once 4) (bodies_of 4 es) in
+    let b = first_passes (is_list_body discriminators.Once 7) (bodies_of 8 es) in
+    (and_parts (a && b) (first_passes (is_list_body discriminators.Each 6) (bodies_of 9 es)) h).1
 
 cells_there : (message_type : MessageType) (es : List Element) → AreRight message_type es
     → is_there_if (presence_of message_type 4) (fields_in es).cells ≡ true
 cells_there message_type es h =
-    items_there (presence_of message_type 4) layouts.Cells cells_in (bodies_of 4 es) (λ o some. some)
+    items_there (presence_of message_type 4) discriminators.Once 4 cells_in (bodies_of 4 es) cells_in-some
     (mandatory_at message_type es numbers 5 (omega arith) h.mandatory) (cells_listed es h.lists)
 
 failures_there : (message_type : MessageType) (es : List Element) → AreRight message_type es
     → is_there_if (presence_of message_type 9) (fields_in es).failures ≡ true
 failures_there message_type es h =
-    items_there (presence_of message_type 9) layouts.Failures failures_in (bodies_of 9 es)
-    (λ o some. failures_some (failures_in o) some) (mandatory_at message_type es numbers 3 (omega arith) h.mandatory)
+    items_there (presence_of message_type 9) discriminators.Each 6 failures_in (bodies_of 9 es) failures_in-some
+    (mandatory_at message_type es numbers 3 (omega arith) h.mandatory)
     (failures_listed es h.lists)
 
 write_values : (es : List Element) → AreRight types.Write es

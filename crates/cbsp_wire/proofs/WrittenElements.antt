@@ -6,8 +6,8 @@ use Rattle.std.specs.List.{AllByRecursion, list_all, flat_map}
 use Rattle.std.proofs.lemmas.List.{append-nil}
 use Rattle.std.proofs.lemmas.Bool.{eqb-true}
 use Rattle.cbs_page.specs.declared.content.Content.{Content}
-use Rattle.cbsp_wire.specs.declared.items.Layout.{Layout}
-use Rattle.cbsp_wire.specs.declared.items.Layout.TheVariants as layouts
+use Rattle.cbsp_wire.specs.declared.item.Discriminator.{Discriminator}
+use Rattle.cbsp_wire.specs.declared.item.Discriminator.TheVariants as discriminators
 use Rattle.cbsp_wire.specs.declared.message_type.MessageType.{MessageType}
 use Rattle.cbsp_wire.specs.declared.message_type.Presence.{Presence}
 use Rattle.cbsp_wire.specs.declared.message_type.Presence.TheVariants as presences
@@ -125,9 +125,9 @@ fields_in-bodies f es h =
       first_body_u16-bodies f.id,
       first_body_u16-bodies f.new_serial,
       first_body_u16-bodies f.old_serial,
-      first_items-bodies layouts.Failures failure_octets failures_in f.failures (failures_in-octets f.failures),
-      first_items-bodies layouts.Counts count_octets counts_in f.completed (counts_in-octets f.completed),
-      first_items-bodies layouts.Cells cell_octets cells_in f.cells (cells_in-octets f.cells),
+      first_items-bodies discriminators.Each failure_octets failures_in f.failures (failures_in-octets f.failures),
+      first_items-bodies discriminators.Once count_octets counts_in f.completed (counts_in-octets f.completed),
+      first_items-bodies discriminators.Once cell_octets cells_in f.cells (cells_in-octets f.cells),
       first_body_octet-bodies f.channel,
       first_body_octet-bodies f.category,
       first_body_u16-bodies f.period,
@@ -161,10 +161,10 @@ octet_once : (o : Option ℕ) → nat_le (length (octet_bodies o)) 1 ≡ true
 octet_once None = refl
 octet_once (Some n) = refl
 
-list_once : {X : Type 0} (layout : Layout) (octets : X → List ℕ) (xs : List X)
-    → nat_le (length (list_bodies layout octets xs)) 1 ≡ true
-list_once layout octets [] = refl
-list_once layout octets (x ∷ xs) = refl
+list_once : {X : Type 0} (discriminator : Discriminator) (octets : X → List ℕ) (xs : List X)
+    → nat_le (length (list_bodies discriminator octets xs)) 1 ≡ true
+list_once discriminator octets [] = refl
+list_once discriminator octets (x ∷ xs) = refl
 
 -- elements with the bodies of fields have none twice but 01
 pub has_none_twice-bodies : (f : Fields) (es : List Element) → HasBodies f es → has_none_twice es ≡ true
@@ -180,11 +180,11 @@ has_none_twice-bodies f es h =
         (
           once _ _ h.1.1.0 (number_once f.old_serial),
           (
-            once _ _ h.1.1.1.0 (list_once layouts.Failures failure_octets f.failures),
+            once _ _ h.1.1.1.0 (list_once discriminators.Each failure_octets f.failures),
             (
-              once _ _ h.1.1.1.1.0 (list_once layouts.Counts count_octets f.completed),
+              once _ _ h.1.1.1.1.0 (list_once discriminators.Once count_octets f.completed),
               (
-                once _ _ h.1.1.1.1.1.0 (list_once layouts.Cells cell_octets f.cells),
+                once _ _ h.1.1.1.1.1.0 (list_once discriminators.Once cell_octets f.cells),
                 (
                   once _ _ h.1.1.1.1.1.1.0 (octet_once f.channel),
                   (
@@ -228,17 +228,19 @@ one_sized : (n : ℕ) → ((body : List ℕ) → size_of n body ≡ 1) → (o : 
 one_sized n one None = tt
 one_sized n one (Some k) = (sym (one (k ∷ [])), tt)
 
-listed : (layout : Layout) (items : List ℕ) → length (list_body layout items) ≡ 2 + u16_from_be (list_body layout items)
-listed layouts.Cells items = omega arith
-listed layouts.Counts items = omega arith
-listed layouts.Failures items = omega arith
+listed : (discriminator : Discriminator) (items : List ℕ) → length (list_body discriminator items) ≡ 2 + u16_from_be
+    (list_body discriminator items)
+listed discriminators.Once items = omega arith
+listed discriminators.Each items = omega arith
 
 list_sized : {X : Type 0} (n : ℕ) → ((body : List ℕ) → size_of n body ≡ 2 + u16_from_be body)
-    → (layout : Layout) (octets : X → List ℕ) (xs : List X)
-    → AllByRecursion (λ body. length body ≡ size_of n body) (list_bodies layout octets xs)
-list_sized n size layout octets [] = tt
-list_sized n size layout octets (x ∷ xs) =
-    (listed layout (flat_map octets (x ∷ xs)) ∙ sym (size (list_body layout (flat_map octets (x ∷ xs)))), tt)
+    → (discriminator : Discriminator) (octets : X → List ℕ) (xs : List X)
+    → AllByRecursion (λ body. length body ≡ size_of n body) (list_bodies discriminator octets xs)
+list_sized n size discriminator octets [] = tt
+list_sized n size discriminator octets (x ∷ xs) = (
+  listed discriminator (flat_map octets (x ∷ xs)) ∙ sym (size (list_body discriminator (flat_map octets (x ∷ xs)))),
+  tt,
+)
 
 contents_sized : (cs : List Content) → list_all is_full cs ≡ true
     → AllByRecursion (λ body. length body ≡ size_of 1 body) (map content_body cs)
@@ -259,11 +261,11 @@ are_sized f full = (
     (
       two_sized 0x02 (λ b. refl) f.old_serial,
       (
-        list_sized 0x09 (λ b. refl) layouts.Failures failure_octets f.failures,
+        list_sized 0x09 (λ b. refl) discriminators.Each failure_octets f.failures,
         (
-          list_sized 0x08 (λ b. refl) layouts.Counts count_octets f.completed,
+          list_sized 0x08 (λ b. refl) discriminators.Once count_octets f.completed,
           (
-            list_sized 0x04 (λ b. refl) layouts.Cells cell_octets f.cells,
+            list_sized 0x04 (λ b. refl) discriminators.Once cell_octets f.cells,
             (
               one_sized 0x12 (λ b. refl) f.channel,
               (

@@ -6,7 +6,6 @@ pub mod Range
 pub mod Refusals
 pub mod Meaning
 pub mod Laws
-pub mod ItemSteps
 pub mod Written
 pub mod ReadingSteps
 pub mod WritingSteps

@@ -7,8 +7,8 @@ use Rattle.cbs_page.specs.Coding.{alphabet_of}
 use Rattle.cbsp_wire.specs.declared.message_type.MessageType.{MessageType}
 use Rattle.cbsp_wire.specs.declared.message_type.Presence.{Presence}
 use Rattle.cbsp_wire.specs.declared.message_type.Presence.TheVariants as presences
-use Rattle.cbsp_wire.specs.declared.items.Layout.{Layout}
-use Rattle.cbsp_wire.specs.declared.items.Layout.TheVariants as layouts
+use Rattle.cbsp_wire.specs.declared.item.Discriminator.{Discriminator}
+use Rattle.cbsp_wire.specs.declared.item.Discriminator.TheVariants as discriminators
 use Rattle.cbsp_wire.specs.declared.message.Cell.{Cell}
 use Rattle.cbsp_wire.specs.declared.message.Count.{Count}
 use Rattle.cbsp_wire.specs.declared.message.Failure.{Failure}
@@ -16,7 +16,7 @@ use Rattle.cbsp_wire.specs.declared.message.Message.{Message}
 use Rattle.cbs_page.specs.declared.content.Content.{Content}
 use Rattle.cbsp_wire.specs.Element.{Element, bodies_of}
 use Rattle.cbsp_wire.specs.Table.{presence_of}
-use Rattle.cbsp_wire.specs.Value.{cells_in, counts_in, failures_in, items_of, Fields, fields_in, fields_of, type_of}
+use Rattle.cbsp_wire.specs.Value.{items_of, Fields, fields_in, fields_of, type_of}
 use Rattle.cbsp_wire.specs.declared.iei.TheConstants.{MESSAGE_CONTENT, OLD_SERIAL_NUMBER, NEW_SERIAL_NUMBER, CELL_LIST}
 use Rattle.cbsp_wire.specs.declared.iei.TheConstants.{CATEGORY, REPETITION_PERIOD, BROADCASTS_REQUESTED}
 use Rattle.cbsp_wire.specs.declared.iei.TheConstants.{BROADCASTS_COMPLETED, FAILURE_LIST, DATA_CODING}
@@ -79,20 +79,9 @@ cells_of_counts counts = map (λ c. c.cell) counts
 abbrev pub cells_of_failures : List Failure → List Cell
 cells_of_failures failures = map (λ f. f.cell) failures
 
--- how many octets an item takes, and the cells that items name
-abbrev pub item_size : Layout → ℕ
-item_size layouts.Cells = 4
-item_size layouts.Counts = 7
-item_size layouts.Failures = 6
-
-abbrev pub cells_by : Layout → List ℕ → List Cell
-cells_by layouts.Cells octets = cells_in octets
-cells_by layouts.Counts octets = cells_of_counts (counts_in octets)
-cells_by layouts.Failures octets = cells_of_failures (failures_in octets)
-
--- whole items, and at least one of them
-abbrev pub items_are_valid : Layout → List ℕ → Bool
-items_are_valid layout items = (length items % item_size layout == 0) && not (is_nothing (cells_by layout items))
+-- whole items of a size, and at least one
+abbrev pub items_are_whole : ℕ → List ℕ → Bool
+items_are_whole size items = (length items % size == 0) && not (is_nothing items)
 
 -- the discriminators of a list say LAC and CI, 1: the first octet of each failure, or the one after the length of other
 -- lists
@@ -101,26 +90,27 @@ failures_are_by_lac_and_ci (discriminator ∷ a ∷ b ∷ c ∷ d ∷ e ∷ octe
     (discriminator == 1) && failures_are_by_lac_and_ci octets
 failures_are_by_lac_and_ci octets = true
 
-abbrev pub is_by_lac_and_ci : Layout → List ℕ → Bool
-is_by_lac_and_ci layouts.Cells (high ∷ low ∷ discriminator ∷ items) = discriminator == 1
-is_by_lac_and_ci layouts.Counts (high ∷ low ∷ discriminator ∷ items) = discriminator == 1
-is_by_lac_and_ci layouts.Failures (high ∷ low ∷ items) = failures_are_by_lac_and_ci items
-is_by_lac_and_ci layout body = false
+abbrev pub is_by_lac_and_ci : Discriminator → List ℕ → Bool
+is_by_lac_and_ci discriminators.Once (high ∷ low ∷ discriminator ∷ items) = discriminator == 1
+is_by_lac_and_ci discriminators.Each (high ∷ low ∷ items) = failures_are_by_lac_and_ci items
+is_by_lac_and_ci discriminator body = false
 
 -- a list's body: two octets of length, and whole items whose discriminators are right
-abbrev pub is_list_body : Layout → List ℕ → Bool
-is_list_body layout body = is_by_lac_and_ci layout body && items_are_valid layout (items_of layout body)
+abbrev pub is_list_body : Discriminator → ℕ → List ℕ → Bool
+is_list_body discriminator size body =
+    is_by_lac_and_ci discriminator body && items_are_whole size (items_of discriminator body)
 
 -- a test of the first body, if there is one
 abbrev pub first_passes : (List ℕ → Bool) → List (List ℕ) → Bool
 first_passes test [] = true
 first_passes test (body ∷ bodies) = test body
 
+-- an item of cells takes 4 octets, of completed broadcasts 7, of failures 6
 abbrev pub lists_are_valid : List Element → Bool
 lists_are_valid es =
-    first_passes (is_list_body layouts.Cells) (bodies_of CELL_LIST es)
-    && first_passes (is_list_body layouts.Counts) (bodies_of BROADCASTS_COMPLETED es)
-    && first_passes (is_list_body layouts.Failures) (bodies_of FAILURE_LIST es)
+    first_passes (is_list_body discriminators.Once 4) (bodies_of CELL_LIST es)
+    && first_passes (is_list_body discriminators.Once 7) (bodies_of BROADCASTS_COMPLETED es)
+    && first_passes (is_list_body discriminators.Each 6) (bodies_of FAILURE_LIST es)
 
 -- a test of a number, if it is given
 abbrev pub passes : (ℕ → Bool) → Option ℕ → Bool

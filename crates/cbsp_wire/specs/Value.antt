@@ -3,8 +3,8 @@ use Rattle.std.specs.Prelude.{ℕ, ◌+◌, ◌*◌, List, [], ◌∷◌, length
 use Rattle.cbs_page.specs.declared.content.Content.{Content}
 use Rattle.cbsp_wire.specs.declared.message_type.MessageType.{MessageType}
 use Rattle.cbsp_wire.specs.declared.message_type.MessageType.TheVariants as types
-use Rattle.cbsp_wire.specs.declared.items.Layout.{Layout}
-use Rattle.cbsp_wire.specs.declared.items.Layout.TheVariants as layouts
+use Rattle.cbsp_wire.specs.declared.item.Discriminator.{Discriminator}
+use Rattle.cbsp_wire.specs.declared.item.Discriminator.TheVariants as discriminators
 use Rattle.cbsp_wire.specs.declared.message.Cell.{Cell}
 use Rattle.cbsp_wire.specs.declared.message.Count.{Count}
 use Rattle.cbsp_wire.specs.declared.message.Failure.{Failure}
@@ -48,17 +48,16 @@ abbrev pub failures_in : List ℕ → List Failure
 failures_in (discriminator ∷ a ∷ b ∷ c ∷ d ∷ e ∷ octets) = failure_at a b c d e ∷ failures_in octets
 failures_in octets = []
 
--- the octets of a list's items: what follows the two octets of its length, and the one discriminator of cells or counts
-abbrev pub items_of : Layout → List ℕ → List ℕ
-items_of layouts.Cells (high ∷ low ∷ discriminator ∷ items) = items
-items_of layouts.Counts (high ∷ low ∷ discriminator ∷ items) = items
-items_of layouts.Failures (high ∷ low ∷ items) = items
-items_of layout body = []
+-- the octets of a list's items: what follows the two octets of its length, and the one discriminator, if all share one
+abbrev pub items_of : Discriminator → List ℕ → List ℕ
+items_of discriminators.Once (high ∷ low ∷ discriminator ∷ items) = items
+items_of discriminators.Each (high ∷ low ∷ items) = items
+items_of discriminator body = []
 
 -- the items of the first body
-abbrev pub first_items : {X : Type 0} → Layout → (List ℕ → List X) → List (List ℕ) → List X
-first_items layout items_in [] = []
-first_items layout items_in (body ∷ bodies) = items_in (items_of layout body)
+abbrev pub first_items : {X : Type 0} → Discriminator → (List ℕ → List X) → List (List ℕ) → List X
+first_items discriminator items_in [] = []
+first_items discriminator items_in (body ∷ bodies) = items_in (items_of discriminator body)
 
 abbrev pub content_of : List ℕ → Content
 content_of [] = record { used = 0; octets = [] }
@@ -71,13 +70,13 @@ abbrev pub u8_value : ℕ → List Element → Option ℕ
 u8_value n es = first_body_octet (bodies_of n es)
 
 abbrev pub cells_of : List Element → List Cell
-cells_of es = first_items layouts.Cells cells_in (bodies_of CELL_LIST es)
+cells_of es = first_items discriminators.Once cells_in (bodies_of CELL_LIST es)
 
 abbrev pub counts_of : List Element → List Count
-counts_of es = first_items layouts.Counts counts_in (bodies_of BROADCASTS_COMPLETED es)
+counts_of es = first_items discriminators.Once counts_in (bodies_of BROADCASTS_COMPLETED es)
 
 abbrev pub failures_of : List Element → List Failure
-failures_of es = first_items layouts.Failures failures_in (bodies_of FAILURE_LIST es)
+failures_of es = first_items discriminators.Each failures_in (bodies_of FAILURE_LIST es)
 
 abbrev pub contents_of : List Element → List Content
 contents_of es = map content_of (bodies_of MESSAGE_CONTENT es)

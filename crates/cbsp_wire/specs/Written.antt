@@ -4,8 +4,8 @@ use Rattle.std.specs.Prelude.{ℕ, ◌+◌, ◌/◌, ◌%◌, ◌==◌, if◌the
 use Rattle.std.specs.Prelude.{Option, Some, None}
 use Rattle.std.specs.List.{flat_map}
 use Rattle.cbs_page.specs.declared.content.Content.{Content}
-use Rattle.cbsp_wire.specs.declared.items.Layout.{Layout}
-use Rattle.cbsp_wire.specs.declared.items.Layout.TheVariants as layouts
+use Rattle.cbsp_wire.specs.declared.item.Discriminator.{Discriminator}
+use Rattle.cbsp_wire.specs.declared.item.Discriminator.TheVariants as discriminators
 use Rattle.cbsp_wire.specs.declared.message.Cell.{Cell}
 use Rattle.cbsp_wire.specs.declared.message.Count.{Count}
 use Rattle.cbsp_wire.specs.declared.message.Failure.{Failure}
@@ -42,19 +42,18 @@ abbrev pub octet_bodies : Option ℕ → List (List ℕ)
 octet_bodies None = []
 octet_bodies (Some n) = (n ∷ []) ∷ []
 
--- the length of a list that has so many octets of items, and what follows it: the one discriminator of cells or counts
-abbrev pub list_head : Layout → ℕ → List ℕ
-list_head layouts.Cells items = number_octets (1 + items) ++ 1 ∷ []
-list_head layouts.Counts items = number_octets (1 + items) ++ 1 ∷ []
-list_head layouts.Failures items = number_octets items
+-- the length of a list whose items take n octets, and what follows it: the one discriminator, if all items share one
+abbrev pub list_head : Discriminator → ℕ → List ℕ
+list_head discriminators.Once n = number_octets (1 + n) ++ 1 ∷ []
+list_head discriminators.Each n = number_octets n
 
 -- a list's body: its head and its items
-abbrev pub list_body : Layout → List ℕ → List ℕ
-list_body layout items = list_head layout (length items) ++ items
+abbrev pub list_body : Discriminator → List ℕ → List ℕ
+list_body discriminator items = list_head discriminator (length items) ++ items
 
-abbrev pub list_bodies : {X : Type 0} → Layout → (X → List ℕ) → List X → List (List ℕ)
-list_bodies layout octets [] = []
-list_bodies layout octets (x ∷ xs) = list_body layout (flat_map octets (x ∷ xs)) ∷ []
+abbrev pub list_bodies : {X : Type 0} → Discriminator → (X → List ℕ) → List X → List (List ℕ)
+list_bodies discriminator octets [] = []
+list_bodies discriminator octets (x ∷ xs) = list_body discriminator (flat_map octets (x ∷ xs)) ∷ []
 
 abbrev pub content_body : Content → List ℕ
 content_body c = c.used ∷ c.octets
@@ -65,9 +64,9 @@ bodies_in f n =
     if n == MESSAGE_IDENTIFIER then number_bodies f.id
     else if n == NEW_SERIAL_NUMBER then number_bodies f.new_serial
     else if n == OLD_SERIAL_NUMBER then number_bodies f.old_serial
-    else if n == FAILURE_LIST then list_bodies layouts.Failures failure_octets f.failures
-    else if n == BROADCASTS_COMPLETED then list_bodies layouts.Counts count_octets f.completed
-    else if n == CELL_LIST then list_bodies layouts.Cells cell_octets f.cells
+    else if n == FAILURE_LIST then list_bodies discriminators.Each failure_octets f.failures
+    else if n == BROADCASTS_COMPLETED then list_bodies discriminators.Once count_octets f.completed
+    else if n == CELL_LIST then list_bodies discriminators.Once cell_octets f.cells
     else if n == CHANNEL_INDICATOR then octet_bodies f.channel
     else if n == CATEGORY then octet_bodies f.category
     else if n == REPETITION_PERIOD then number_bodies f.period

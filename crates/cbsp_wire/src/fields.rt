@@ -11,7 +11,7 @@ ghost use Rattle.cbsp_wire.specs.Value as values;
 
 use crate::elements::presence;
 use crate::iei;
-use crate::items::{Items, cells_are_valid};
+use crate::lists::cells_are_valid;
 use crate::message::{Cell, Count, Failure, Message};
 use crate::message_type::{MessageType, Presence};
 use crate::range::{has_alphabet, is_page_count, is_period, is_up_to};
@@ -342,12 +342,13 @@ fn numbers_are_valid(fields: &Fields<'_>) -> bool
 }
 
 /// Whether the lists name at most 64 cells each, and none twice.
+#[tactic(auto, using(crate::proofs::ItemLemmas::same_cells))]
 fn all_cells_are_valid(fields: &Fields<'_>) -> bool
     ensures { result ≡ all_cells_are_valid fields.now }
 {
-    cells_are_valid(Items::Cells(fields.cells))
-        && cells_are_valid(Items::Counts(fields.completed))
-        && cells_are_valid(Items::Failures(fields.failures))
+    cells_are_valid(fields.cells)
+        && cells_are_valid(fields.completed)
+        && cells_are_valid(fields.failures)
 }
 
 /// Whether all values are in their ranges.

@@ -1,13 +1,13 @@
 //! Whether the elements that were taken are a message's.
 
-ghost use Rattle.std.specs.Prelude.{◌≡◌, ◌∷◌, [], length, nat_le};
+ghost use Rattle.std.specs.Prelude.{◌≡◌, ◌∷◌, [], length, map, nat_le};
 ghost use Rattle.std.specs.List.{list_all};
 ghost use Rattle.cbsp_wire.specs.Element.{bodies_of};
 ghost use Rattle.cbsp_wire.specs.Table.{presence_of};
 ghost use Rattle.cbsp_wire.specs.Walk.{walk_of};
 ghost use Rattle.cbsp_wire.specs.Range.{has_mandatory, has_none_twice, comes_once, is_there_if, is_period};
 ghost use Rattle.cbsp_wire.specs.Range.{has_alphabet};
-ghost use Rattle.cbsp_wire.specs.Range.{is_page_count, passes, first_passes, is_list_body, cells_by, cells_are_valid};
+ghost use Rattle.cbsp_wire.specs.Range.{is_page_count, passes, first_passes, is_list_body, cells_are_valid};
 ghost use Rattle.cbsp_wire.specs.Range.{contents_are_valid, numbers_are_valid, lists_are_valid, all_cells_are_valid};
 ghost use Rattle.cbsp_wire.specs.Range.{elements_are_valid};
 ghost use Rattle.cbsp_wire.specs.Value.{u8_value, contents_of, fields_in, first_items};
@@ -15,7 +15,9 @@ ghost use Rattle.cbsp_wire.specs.declared.iei.TheConstants.{MESSAGE_CONTENT, NUM
 
 use crate::elements::{NUMBERS, find, first_octet, presence};
 use crate::iei;
-use crate::items::{Items, Layout, cells_are_valid, is_list_body, items_of};
+use crate::item::ListItem;
+use crate::lists::{is_list_body, items_of, octet_cells_are_valid};
+use crate::message::{Cell, Count, Failure};
 use crate::message_type::{MessageType, Presence};
 use crate::value::{u8_value, u16_value};
 use cbs_page::Dcs;
@@ -152,13 +154,13 @@ fn numbers_are_valid(message_type: MessageType, octets: &[u8]) -> bool
 }
 
 /// Whether the list of this number, if it is there, has the discriminator and whole items.
-fn has_list(message_type: MessageType, element: u8, layout: Layout, octets: &[u8]) -> bool
-    ensures { result ≡ first_passes (is_list_body layout) (bodies_of element
-        (walk_of message_type octets.now).elements) }
+fn has_list<T: ListItem>(message_type: MessageType, element: u8, octets: &[u8]) -> bool
+    ensures { result ≡ first_passes (is_list_body T.DISCRIMINATOR T.SIZE)
+        (bodies_of element (walk_of message_type octets.now).elements) }
 {
     match find(message_type, element, octets) {
         None => true,
-        Some((body, _)) => is_list_body(layout, body),
+        Some((body, _)) => is_list_body(T::DISCRIMINATOR, T::SIZE, body),
     }
 }
 
@@ -166,53 +168,30 @@ fn has_list(message_type: MessageType, element: u8, layout: Layout, octets: &[u8
 fn lists_are_valid(message_type: MessageType, octets: &[u8]) -> bool
     ensures { result ≡ lists_are_valid (walk_of message_type octets.now).elements }
 {
-    has_list(message_type, iei::CELL_LIST, Layout::Cells, octets)
-        && has_list(
-            message_type,
-            iei::BROADCASTS_COMPLETED,
-            Layout::Counts,
-            octets,
-        )
-        && has_list(message_type, iei::FAILURE_LIST, Layout::Failures, octets)
+    has_list::<Cell>(message_type, iei::CELL_LIST, octets)
+        && has_list::<Count>(message_type, iei::BROADCASTS_COMPLETED, octets)
+        && has_list::<Failure>(message_type, iei::FAILURE_LIST, octets)
 }
 
-/// The octets of the items of a list, none where it isn't there.
-fn list_items(message_type: MessageType, element: u8, layout: Layout, octets: &[u8]) -> &[u8]
-    ensures { result.now ≡ first_items layout (λ items. items)
-        (bodies_of element (walk_of message_type octets.now).elements) }
+/// Whether the list of this number, if it is there, names at most 64 cells, and none twice.
+fn list_cells_are_valid<T: ListItem>(message_type: MessageType, element: u8, octets: &[u8]) -> bool
+    ensures { let bodies = bodies_of element (walk_of message_type octets.now).elements in
+        result ≡ cells_are_valid (map T.cell_of (first_items T.DISCRIMINATOR T.items_in bodies)) }
 {
     match find(message_type, element, octets) {
-        None => &[],
-        Some((body, _)) => items_of(layout, body),
+        None => true,
+        Some((body, _)) => octet_cells_are_valid::<T>(items_of(T::DISCRIMINATOR, body)),
     }
 }
 
-/// Whether the list of this number names at most 64 cells, and none twice.
-fn listed_cells_are_valid(
-    message_type: MessageType,
-    element: u8,
-    layout: Layout,
-    octets: &[u8],
-) -> bool
-    ensures { let bodies = bodies_of element (walk_of message_type octets.now).elements in
-        result ≡ cells_are_valid (cells_by layout (first_items layout (λ items. items) bodies)) }
-{
-    cells_are_valid(Items::Octets(layout, list_items(message_type, element, layout, octets)))
-}
-
 /// Whether the lists name at most 64 cells each, and none twice.
-#[tactic(auto, using(crate::proofs::ItemLemmas::cells_by_first))]
+#[tactic(auto, using(crate::proofs::ItemLemmas::same_cells))]
 fn all_cells_are_valid(message_type: MessageType, octets: &[u8]) -> bool
     ensures { result ≡ all_cells_are_valid (fields_in (walk_of message_type octets.now).elements) }
 {
-    listed_cells_are_valid(message_type, iei::CELL_LIST, Layout::Cells, octets)
-        && listed_cells_are_valid(
-            message_type,
-            iei::BROADCASTS_COMPLETED,
-            Layout::Counts,
-            octets,
-        )
-        && listed_cells_are_valid(message_type, iei::FAILURE_LIST, Layout::Failures, octets)
+    list_cells_are_valid::<Cell>(message_type, iei::CELL_LIST, octets)
+        && list_cells_are_valid::<Count>(message_type, iei::BROADCASTS_COMPLETED, octets)
+        && list_cells_are_valid::<Failure>(message_type, iei::FAILURE_LIST, octets)
 }
 
 /// Whether no element comes twice and all values are in their ranges.

@@ -9,8 +9,8 @@ ghost use Rattle.cbsp_wire.specs.Value.{contents_of, message_of};
 
 use crate::elements::{find, first_octet, u16_from_be};
 use crate::iei;
-use crate::item::{Item, read_items};
-use crate::items::items_of;
+use crate::item::{ListItem, read_items};
+use crate::lists::items_of;
 use crate::message::{Cells, Contents, Counts, Failures, Message};
 use crate::message_type::MessageType;
 use cbs_page::{Content, Dcs, Serial};
@@ -61,7 +61,7 @@ pub(crate) fn u8_value(message_type: MessageType, element: u8, octets: &[u8]) ->
 }
 
 /// The items of the list with this number, none where it isn't there.
-fn list<T: Item>(
+fn list<T: ListItem>(
     alloc: Global,
     message_type: MessageType,
     element: u8,
@@ -69,10 +69,10 @@ fn list<T: Item>(
 ) -> Result<Vec<T>, AllocError>
     ensures { IfOk result
         (λ items. items.items
-        ≡ first_items T.LAYOUT T.items_in (bodies_of element (walk_of message_type octets.now).elements)) }
+        ≡ first_items T.DISCRIMINATOR T.items_in (bodies_of element (walk_of message_type octets.now).elements)) }
 {
     match find(message_type, element, octets) {
-        Some((body, _)) => read_items(alloc, items_of(T::LAYOUT, body)),
+        Some((body, _)) => read_items(alloc, items_of(T::DISCRIMINATOR, body)),
         None => Ok(Vec::new(alloc)),
     }
 }

@@ -14,8 +14,7 @@ ghost use Rattle.cbsp_wire.specs.WritingSteps.{element_octets, field_octets, Are
 use crate::elements::{NUMBERS, elements};
 use crate::fault::WireFault;
 use crate::fields::{Fields, fields_of, is_writable, type_of};
-use crate::item::{Item, put_items};
-use crate::items::Layout;
+use crate::item::{Discriminator, ListItem, put_items};
 use crate::message::Message;
 use crate::{cause, iei};
 use cbs_page::Content;
@@ -63,34 +62,35 @@ fn put_octet(out: &mut Vec<u8>, element: u8, octet: Option<u8>)
     }
 }
 
-/// Appends what comes before the items of a list: its number, its length and, but for failures, the discriminator.
-fn put_list_head(out: &mut Vec<u8>, element: u8, layout: Layout, items_len: u16)
+/// Appends what comes before the items of a list: its number, its length and the one discriminator, if all items share
+/// one.
+fn put_list_head(out: &mut Vec<u8>, element: u8, discriminator: Discriminator, items_len: u16)
     requires fits { items_len < 65535 }
-    requires room { HasRoom out.old (element ∷ list_head layout items_len) }
-    ensures appended { out.new.items ≡ out.old.items ++ element ∷ list_head layout items_len }
+    requires room { HasRoom out.old (element ∷ list_head discriminator items_len) }
+    ensures appended { out.new.items ≡ out.old.items ++ element ∷ list_head discriminator items_len }
     ensures room { vec_capacity out.new ≡ vec_capacity out.old }
 {
-    match layout {
-        Layout::Cells | Layout::Counts => {
+    match discriminator {
+        Discriminator::Once => {
             let [high, low] = octets_of_number(1 + items_len);
             put(out, &[element, high, low, 1]);
         }
-        Layout::Failures => put_number(out, element, Some(items_len)),
+        Discriminator::Each => put_number(out, element, Some(items_len)),
     }
 }
 
 /// Appends a list, if it has items.
-fn put_list<T: Item>(out: &mut Vec<u8>, element: u8, items: &[T])
+fn put_list<T: ListItem>(out: &mut Vec<u8>, element: u8, items: &[T])
     requires short { length items.now ≤ 64 }
-    requires room { HasRoom out.old (element_octets element (list_bodies T.LAYOUT T.octets_of items.now)) }
+    requires room { HasRoom out.old (element_octets element (list_bodies T.DISCRIMINATOR T.octets_of items.now)) }
     ensures appended { out.new.items
-        ≡ out.old.items ++ element_octets element (list_bodies T.LAYOUT T.octets_of items.now) }
+        ≡ out.old.items ++ element_octets element (list_bodies T.DISCRIMINATOR T.octets_of items.now) }
     ensures room { vec_capacity out.new ≡ vec_capacity out.old }
 {
     if items.is_empty() {
         return;
     }
-    put_list_head(out, element, T::LAYOUT, items.len() as u16 * T::SIZE);
+    put_list_head(out, element, T::DISCRIMINATOR, items.len() as u16 * T::SIZE);
     put_items(out, items);
 }
 

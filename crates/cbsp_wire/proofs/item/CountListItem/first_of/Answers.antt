@@ -1,6 +1,6 @@
 use Rattle.std.proofs.Common.{arith}
 use Rattle.cbsp_wire.proofs.ItemLemmas.{counts_in-first}
-use Rattle.cbsp_wire.proofs.item.CountItem.first_of.Goals as goal
+use Rattle.cbsp_wire.proofs.item.CountListItem.first_of.Goals as goal
 
 pub returns-in-len7-up-clause-first : goal.returns-in-len7-up-clause-first
 returns-in-len7-up-clause-first c =

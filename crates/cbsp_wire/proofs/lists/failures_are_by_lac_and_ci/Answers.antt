@@ -1,6 +1,6 @@
 use Rattle.std.proofs.Common.{sym, ◌∙◌}
 use Rattle.cbsp_wire.proofs.ItemLemmas.{failures_are_by_lac_and_ci-first}
-use Rattle.cbsp_wire.proofs.items.failures_are_by_lac_and_ci.Goals as goal
+use Rattle.cbsp_wire.proofs.lists.failures_are_by_lac_and_ci.Goals as goal
 
 pub failures-preserved : goal.failures-preserved
 failures-preserved c =
