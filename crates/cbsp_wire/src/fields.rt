@@ -1,6 +1,6 @@
 //! The fields of a message, whatever its type, and whether they are a message's.
 
-ghost use Rattle.std.specs.Prelude.{◌≡◌, length, nat_le};
+ghost use Rattle.std.specs.Prelude.{◌≡◌, length, nat_le, true};
 ghost use Rattle.std.specs.List.{list_all};
 ghost use Rattle.cbsp_wire.specs.Table.{presence_of};
 ghost use Rattle.cbsp_wire.specs.Value.{fields_of, type_of};
@@ -303,32 +303,38 @@ fn is_there_if<T>(presence: Presence, items: &[T]) -> bool
     }
 }
 
+/// States, as its contract, what the type of a page's octets says. It does nothing.
+fn has_82_octets(octets: &[u8; 82])
+    ensures { length octets.now ≡ 82 }
+{}
+
 /// Whether at most 82 octets are used of each content.
+// The contract has also what the types of the contents say, which is known of one content at a time alone.
 fn used_is_valid(contents: &[Content]) -> bool
-    ensures { result ≡ list_all (λ c. nat_le c.used 82) contents.now }
+    ensures valid { result ≡ list_all (λ c. nat_le c.used 82) contents.now }
+    ensures full { result ≡ true → list_all is_full contents.now ≡ true }
 {
-    contents.iter().all(|content| content.used <= 82)
+    let mut left = contents;
+    'contents: while let [content, rest @ ..] = left {
+        has_82_octets(&content.octets);
+        if content.used > 82 {
+            return false;
+        }
+        left = rest;
+    }
+    true
 }
 
 /// Whether there are as many contents as pages, from 1 to 15, and at most 82 octets used of each.
 fn contents_are_valid(pages: Option<usize>, contents: &[Content]) -> bool
-    ensures { result ≡ contents_are_valid pages contents.now }
+    ensures valid { result ≡ contents_are_valid pages contents.now }
+    ensures full { result ≡ true → list_all is_full contents.now ≡ true }
 {
     let count_is_valid = match pages {
         None => true,
         Some(pages) => is_page_count(pages) && pages == contents.len(),
     };
     count_is_valid && used_is_valid(contents)
-}
-
-/// Whether each content has its 82 octets, as its type says: no fact says so of the items of a slice, so the proof
-/// needs the test.
-fn are_full(contents: &[Content]) -> bool
-    ensures { result ≡ list_all is_full contents.now }
-{
-    contents
-        .iter()
-        .all(|content| content.octets.as_slice().len() == 82)
 }
 
 /// Whether the period, the data coding, the category and the channel indicator are in their ranges.
@@ -353,7 +359,8 @@ fn all_cells_are_valid(fields: &Fields<'_>) -> bool
 
 /// Whether all values are in their ranges.
 fn values_are_valid(fields: &Fields<'_>) -> bool
-    ensures { result ≡ values_are_valid fields.now }
+    ensures valid { result ≡ values_are_valid fields.now }
+    ensures full { result ≡ true → list_all is_full fields.now.contents ≡ true }
 {
     contents_are_valid(fields.pages, fields.contents)
         && numbers_are_valid(fields)
@@ -369,5 +376,4 @@ pub(crate) fn is_writable(message: &Message) -> bool
     values_are_valid(&fields)
         && is_there_if(presence(message_type, iei::CELL_LIST), fields.cells)
         && is_there_if(presence(message_type, iei::FAILURE_LIST), fields.failures)
-        && are_full(fields.contents)
 }
