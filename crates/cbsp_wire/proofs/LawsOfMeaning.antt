@@ -1,7 +1,8 @@
 -- The laws: each from what is shown of reading and of writing.
 use Rattle.cbsp_wire.specs.Laws.{OneMeaning, MeantIsFaultless, FaultlessIsMeant, WrittenIsMeant}
-use Rattle.cbsp_wire.specs.Laws.{WrittenIsReadBack, WritableExactlyIfMeant}
+use Rattle.cbsp_wire.specs.Laws.{WrittenIsReadBack, WritableExactlyIfMeant, MandatoryTestIsExact, ValidityTestIsExact}
 use Rattle.cbsp_wire.specs.Written.{octets_of_message}
+use Rattle.cbsp_wire.proofs.ElementFacts.{mandatory_from, mandatory_pass, elements_from, elements_pass}
 use Rattle.cbsp_wire.proofs.MeaningLaws.{IsMessage-unique, IsMessage-read, first_fault-some}
 use Rattle.cbsp_wire.proofs.MeantLaws.{IsMessage-writable}
 use Rattle.cbsp_wire.proofs.WrittenLaws.{octets_of_message-meant}
@@ -25,3 +26,9 @@ written_is_read_back octets m n meant again =
 pub writable_exactly_if_meant : WritableExactlyIfMeant
 writable_exactly_if_meant m =
     (λ h. (octets_of_message m, octets_of_message-meant m h), λ some. IsMessage-writable some.0 m some.1)
+
+pub mandatory_test_is_exact : MandatoryTestIsExact
+mandatory_test_is_exact message_type es = (mandatory_from message_type es, mandatory_pass message_type es)
+
+pub validity_test_is_exact : ValidityTestIsExact
+validity_test_is_exact es = (elements_from es, elements_pass es)

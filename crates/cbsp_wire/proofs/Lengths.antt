@@ -24,7 +24,7 @@ use Rattle.cbsp_wire.specs.WritingSteps.{element_octets, field_octets, AreShort}
 use Rattle.cbsp_wire.proofs.Tests.{and_parts, list_all-parts}
 use Rattle.cbsp_wire.proofs.WrittenItems.{length-items, cell_len, count_len, failure_len}
 use Rattle.cbsp_wire.proofs.WrittenLaws.{IsWritten}
-use Rattle.cbsp_wire.proofs.MeantLaws.{ranges_from}
+use Rattle.cbsp_wire.proofs.Ranges.{ranges_from}
 
 -- bounds of the parts bound the whole
 abbrev total : List ℕ → ℕ

@@ -18,7 +18,9 @@ use Rattle.cbsp_wire.specs.Value.{message_of, type_of}
 use Rattle.cbsp_wire.specs.Range.{has_mandatory, elements_are_valid}
 use Rattle.cbsp_wire.specs.Refusals.{fault_of_walk, fault_of_type, length_field, first_fault, reported_fault}
 use Rattle.cbsp_wire.specs.ReadingSteps.{HasHeader}
+use Rattle.cbsp_wire.specs.Valid.{HasMandatory}
 use Rattle.cbsp_wire.specs.Meaning.{IsOf, AreElementsOf, IsMessage}
+use Rattle.cbsp_wire.proofs.ElementFacts.{mandatory_from, mandatory_pass, elements_from, elements_pass}
 use Rattle.cbsp_wire.proofs.WalkLaws.{walk_of-elements, walk_of-whole}
 
 -- the type's octet says the type, and no other octet does
@@ -99,12 +101,12 @@ framed n t others h = by_tests (ltb n t) refl (ltb t n) refl h where
 are_elements : (message_type : MessageType) (es : List Element) → AllByRecursion (IsOf message_type) es
     → has_mandatory message_type es ≡ true
     → elements_are_valid es ≡ true → AreElementsOf (message_of message_type es) es
-are_elements message_type es of_type mandatory in_range =
+are_elements message_type es of_type mandatory valid =
     let same = type_of-message_of message_type es in
     record {
       of_type = subst (λ (k : MessageType). AllByRecursion (IsOf k) es) (sym same) of_type;
-      mandatory = subst (λ (k : MessageType). has_mandatory k es ≡ true) (sym same) mandatory;
-      in_range = in_range;
+      mandatory = subst (λ (k : MessageType). HasMandatory k es) (sym same) (mandatory_from message_type es mandatory);
+      valid = elements_from es valid;
       value = ap (λ (k : MessageType). message_of k es) (sym same);
     }
 
@@ -159,8 +161,8 @@ IsMessage-read (o ∷ a ∷ b ∷ c ∷ rest) m h =
     ap (walk_of message_type) h.2.1 ∙ walk_of-elements message_type es h.2.2.of_type in
     let clean : fault_of_type (Some message_type) rest ≡ None =
     ap (λ (w : Walk). fault_of_walk message_type w.elements w.stop) walked
-    ∙ meant_whole message_type es (has_mandatory message_type es) (elements_are_valid es) h.2.2.mandatory
-    h.2.2.in_range in
+    ∙ meant_whole message_type es (has_mandatory message_type es) (elements_are_valid es)
+    (mandatory_pass message_type es h.2.2.mandatory) (elements_pass es h.2.2.valid) in
     let long : ltb (length rest) (length_field a b c) ≡ false = le-ltb _ _ (omega (arith, h.1)) in
     let short : ltb (length_field a b c) (length rest) ≡ false = le-ltb _ _ (omega (arith, h.1)) in
     record {

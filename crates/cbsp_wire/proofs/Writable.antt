@@ -16,7 +16,8 @@ use Rattle.cbsp_wire.specs.Range.{cells_of_failures, is_nothing, is_full, is_wri
 use Rattle.cbsp_wire.specs.Meaning.{IsMessage}
 use Rattle.cbsp_wire.proofs.Tests.{there_from}
 use Rattle.cbsp_wire.proofs.WrittenLaws.{IsWritten-from, is_writable-from}
-use Rattle.cbsp_wire.proofs.MeantLaws.{HaveRanges, ranges_from, values_from, values_beside, IsMessage-writable}
+use Rattle.cbsp_wire.proofs.MeantLaws.{values_beside, IsMessage-writable}
+use Rattle.cbsp_wire.proofs.Ranges.{HaveRanges, ranges_from, values_from}
 
 -- an order to write
 pub write-writable : (id new : ℕ) (old : Option ℕ) (cells : List Cell) (channel category : Option ℕ)

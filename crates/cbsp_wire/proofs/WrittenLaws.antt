@@ -7,11 +7,13 @@ use Rattle.cbsp_wire.specs.declared.message.Message.TheVariants as messages
 use Rattle.cbsp_wire.specs.Element.{Element, octets_of_elements}
 use Rattle.cbsp_wire.specs.Table.{table, presence_of}
 use Rattle.cbsp_wire.specs.Value.{Fields, fields_in, fields_of, message_with, message_of, type_of}
-use Rattle.cbsp_wire.specs.Range.{numbers, is_there_if, has_none_twice, lists_are_valid, values_are_valid, is_writable}
+use Rattle.cbsp_wire.specs.Range.{numbers, elements_are_valid, is_there_if, has_none_twice, lists_are_valid}
+use Rattle.cbsp_wire.specs.Range.{values_are_valid, is_writable}
 use Rattle.cbsp_wire.specs.Range.{is_full}
 use Rattle.cbsp_wire.specs.Refusals.{length_field}
 use Rattle.cbsp_wire.specs.Meaning.{AreElementsOf, IsMessage}
 use Rattle.cbsp_wire.specs.Written.{bodies_in, elements_of, octets_of_message}
+use Rattle.cbsp_wire.proofs.ElementFacts.{mandatory_from, elements_from}
 use Rattle.cbsp_wire.proofs.Tests.{and_parts, and_both}
 use Rattle.cbsp_wire.proofs.WrittenItems.{cells-right, counts-right, failures-right}
 use Rattle.cbsp_wire.proofs.WrittenElements.{HasBodies, HasBodies-among, fields_in-bodies, has_mandatory-bodies}
@@ -104,12 +106,15 @@ elements_right m w =
     let bodies = HasBodies-among f in
     let back : fields_in es ≡ f = fields_in-bodies f es bodies in
     let values : values_are_valid (fields_in es) ≡ true = ap values_are_valid back ∙ w.values in
+    let mandatory = has_mandatory-bodies (type_of m) f es bodies (mandatory_fields m w) in
+    let valid : elements_are_valid es ≡ true =
+    and_both (has_none_twice es && lists_are_valid es) (values_are_valid (fields_in es))
+    (and_both (has_none_twice es) (lists_are_valid es)
+    (has_none_twice-bodies f es bodies) (lists_are_valid-bodies f es bodies)) values in
     record {
       of_type = are_of_type (type_of m) f numbers (known_fields m) (are_sized f w.full);
-      mandatory = has_mandatory-bodies (type_of m) f es bodies (mandatory_fields m w);
-      in_range = and_both (has_none_twice es && lists_are_valid es) (values_are_valid (fields_in es))
-          (and_both (has_none_twice es) (lists_are_valid es)
-          (has_none_twice-bodies f es bodies) (lists_are_valid-bodies f es bodies)) values;
+      mandatory = mandatory_from (type_of m) es mandatory;
+      valid = elements_from es valid;
       value = sym (ap (message_with (type_of m)) back ∙ message_with-fields_of m);
     }
 

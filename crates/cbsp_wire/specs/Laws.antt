@@ -1,9 +1,12 @@
 -- What follows from the definitions alone: octets mean one message at most, and what is written is read back. Own.
 use Rattle.std.specs.Prelude.{◌≡◌, ◌↔◌, ℕ, List, true, None}
 use Rattle.cbsp_wire.specs.declared.message.Message.{Message}
+use Rattle.cbsp_wire.specs.declared.message_type.MessageType.{MessageType}
+use Rattle.cbsp_wire.specs.Element.{Element}
 use Rattle.cbsp_wire.specs.Meaning.{IsMessage}
-use Rattle.cbsp_wire.specs.Range.{is_writable}
+use Rattle.cbsp_wire.specs.Range.{has_mandatory, elements_are_valid, is_writable}
 use Rattle.cbsp_wire.specs.Refusals.{first_fault}
+use Rattle.cbsp_wire.specs.Valid.{HasMandatory, AreValidElements}
 use Rattle.cbsp_wire.specs.Written.{octets_of_message}
 
 -- octets mean one message at most
@@ -32,3 +35,12 @@ WrittenIsReadBack = (octets : List ℕ) (m n : Message)
 -- a message is writable exactly if some octets mean it
 abbrev pub WritableExactlyIfMeant : Type 0
 WritableExactlyIfMeant = (m : Message) → (is_writable m ≡ true) ↔ ((octets : List ℕ) × IsMessage octets m)
+
+-- the test for cause 05 is exact: it passes if each mandatory element is there, and only then
+abbrev pub MandatoryTestIsExact : Type 0
+MandatoryTestIsExact = (message_type : MessageType) (es : List Element)
+    → (has_mandatory message_type es ≡ true) ↔ HasMandatory message_type es
+
+-- the test for cause 01 is exact: it passes if the elements are valid, and only then
+abbrev pub ValidityTestIsExact : Type 0
+ValidityTestIsExact = (es : List Element) → (elements_are_valid es ≡ true) ↔ AreValidElements es

@@ -1,6 +1,6 @@
 -- What octets mean: a CBSP message as a list of elements, in any order. 3GPP TS 48.049, clauses 8.1 and 8.2, in this
 -- project's own layouts.
-use Rattle.std.specs.Prelude.{◌≡◌, ℕ, List, ◌∷◌, length, true}
+use Rattle.std.specs.Prelude.{◌≡◌, ℕ, List, ◌∷◌, length}
 use Rattle.std.specs.List.{AllByRecursion}
 use Rattle.cbsp_wire.specs.declared.message_type.MessageType.{MessageType}
 use Rattle.cbsp_wire.specs.declared.message_type.Presence.TheVariants as presences
@@ -10,7 +10,7 @@ use Rattle.cbsp_wire.specs.declared.message.Message.{Message}
 use Rattle.cbsp_wire.specs.Element.{Element, octets_of_elements}
 use Rattle.cbsp_wire.specs.Table.{octet_of_type, presence_of, size_of}
 use Rattle.cbsp_wire.specs.Value.{message_of, type_of}
-use Rattle.cbsp_wire.specs.Range.{has_mandatory, elements_are_valid}
+use Rattle.cbsp_wire.specs.Valid.{HasMandatory, AreValidElements}
 use Rattle.cbsp_wire.specs.Refusals.{length_field}
 use Rattle.cbsp_wire.specs.declared.cause.TheConstants.{PARAMETER_VALUE_INVALID}
 
@@ -19,12 +19,12 @@ pub record IsOf (message_type : MessageType) (e : Element) : Type 0 where
   pub known : presence_of message_type e.number ≡ presences.Absent → ⊥
   pub sized : length e.body ≡ size_of e.number e.body
 
--- the elements of a message m of a type: in any order, each mandatory one once, each optional one at most once, all
--- values in their ranges, and the fields found by look-up
+-- the elements of a message m: in any order, each mandatory one, none twice but contents, whole lists, values in their
+-- ranges, and the fields found by look-up
 pub record AreElementsOf (m : Message) (es : List Element) : Type 0 where
   pub of_type : AllByRecursion (IsOf (type_of m)) es
-  pub mandatory : has_mandatory (type_of m) es ≡ true
-  pub in_range : elements_are_valid es ≡ true
+  pub mandatory : HasMandatory (type_of m) es
+  pub valid : AreValidElements es
   pub value : m ≡ message_of (type_of m) es
 
 -- octets that mean m: its type, the length of the rest, and some elements one after the other

@@ -1,5 +1,5 @@
--- What the elements of a message have to be, once they are taken. 3GPP TS 48.049, clause 8.2; the limits of periods and
--- of lists are own.
+-- The tests that reading and writing make of elements and of fields. Valid says as facts what they test. 3GPP TS
+-- 48.049, clause 8.2; the limits of periods and of lists are own.
 use Rattle.std.specs.Prelude.{ℕ, ◌%◌, Bool, true, false, ◌==◌, ◌&&◌, ◌||◌, not, nat_le, List, [], ◌∷◌, length, map}
 use Rattle.std.specs.Prelude.{Option, Some, None, is_some}
 use Rattle.std.specs.List.{list_all, list_any}

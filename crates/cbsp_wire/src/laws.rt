@@ -2,6 +2,7 @@
 
 ghost use Rattle.cbsp_wire.specs.Laws.{OneMeaning, MeantIsFaultless, FaultlessIsMeant, WrittenIsMeant};
 ghost use Rattle.cbsp_wire.specs.Laws.{WritableExactlyIfMeant, WrittenIsReadBack};
+ghost use Rattle.cbsp_wire.specs.Laws.{MandatoryTestIsExact, ValidityTestIsExact};
 
 /// States, as its contract, that octets mean one message at most, and which messages have octets. It does nothing.
 pub fn meaning_law()
@@ -16,4 +17,8 @@ pub fn meaning_law()
 
     // A message is writable exactly if some octets mean it.
     ensures writable { WritableExactlyIfMeant }
+
+    // The tests for the causes 05 and 01 are exact.
+    ensures mandatory_test { MandatoryTestIsExact }
+    ensures validity_test { ValidityTestIsExact }
 {}
