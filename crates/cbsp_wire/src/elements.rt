@@ -21,24 +21,24 @@ pub enum WalkEnd {
 }
 
 /// Hands the table of elements to another macro, in the order in which they are written: number, size of the body, what
-/// each type of message needs in the order of `MessageType` (M mandatory, O optional, F not of this message), and the
-/// field's form and name.
+/// each type of message needs in the order of `MessageType` (M mandatory, O optional, A absent), and the field's form
+/// and name.
 macro_rules! elements {
     ($reader:ident, $($argument:expr),*) => {
         $reader!($($argument),*;
             iei::MESSAGE_IDENTIFIER, fixed 2, M M M M M M, number id;
-            iei::NEW_SERIAL_NUMBER, fixed 2, M M M F F F, number new_serial;
+            iei::NEW_SERIAL_NUMBER, fixed 2, M M M A A A, number new_serial;
             iei::OLD_SERIAL_NUMBER, fixed 2, O O O M M M, number old_serial;
-            iei::FAILURE_LIST, listed 2, F F M F F M, list failures;
-            iei::BROADCASTS_COMPLETED, listed 2, F O O F O O, list completed;
+            iei::FAILURE_LIST, listed 2, A A M A A M, list failures;
+            iei::BROADCASTS_COMPLETED, listed 2, A O O A O O, list completed;
             iei::CELL_LIST, listed 2, M O O M O O, list cells;
             iei::CHANNEL_INDICATOR, fixed 1, O O O O O O, octet channel;
-            iei::CATEGORY, fixed 1, O F F F F F, octet category;
-            iei::REPETITION_PERIOD, fixed 2, M F F F F F, number period;
-            iei::BROADCASTS_REQUESTED, fixed 2, M F F F F F, number broadcasts;
-            iei::NUMBER_OF_PAGES, fixed 1, M F F F F F, pages pages;
-            iei::DATA_CODING, fixed 1, M F F F F F, octet dcs;
-            iei::MESSAGE_CONTENT, fixed 83, M F F F F F, contents contents;
+            iei::CATEGORY, fixed 1, O A A A A A, octet category;
+            iei::REPETITION_PERIOD, fixed 2, M A A A A A, number period;
+            iei::BROADCASTS_REQUESTED, fixed 2, M A A A A A, number broadcasts;
+            iei::NUMBER_OF_PAGES, fixed 1, M A A A A A, pages pages;
+            iei::DATA_CODING, fixed 1, M A A A A A, octet dcs;
+            iei::MESSAGE_CONTENT, fixed 83, M A A A A A, contents contents;
         )
     };
 }
@@ -48,7 +48,7 @@ pub(crate) use elements;
 macro_rules! presence {
     (M) => { Presence::Mandatory };
     (O) => { Presence::Optional };
-    (F) => { Presence::Absent };
+    (A) => { Presence::Absent };
 }
 
 macro_rules! presence_for {
@@ -104,7 +104,7 @@ pub(crate) fn presence(message_type: MessageType, number: u8) -> Presence
     elements!(presence_for, message_type, number)
 }
 
-/// The number that the first two octets are, the high one first; 0 where there are fewer.
+/// The number that the first two octets are, the high one first; 0 if there are fewer.
 pub(crate) fn u16_from_be(octets: &[u8]) -> u16
     ensures { result ≡ Number.u16_from_be octets.now }
 {
@@ -114,7 +114,7 @@ pub(crate) fn u16_from_be(octets: &[u8]) -> u16
     }
 }
 
-/// The first octet; 0 where there is none.
+/// The first octet; 0 if there is none.
 pub(crate) fn first_octet(octets: &[u8]) -> u8
     ensures { result ≡ Number.first_octet octets.now }
 {

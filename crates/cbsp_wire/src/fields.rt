@@ -18,7 +18,7 @@ use crate::range::{has_alphabet, is_page_count, is_period, is_up_to};
 use cbs_page::{Content, Serial};
 use std::marker::Model;
 
-/// The fields that a message has, `None` or no items where its type has no such field.
+/// The fields that a message has, `None` or no items if its type has no such field.
 #[derive(Drop)]
 pub struct Fields<'a> {
     /// The message identifier.

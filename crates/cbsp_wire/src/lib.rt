@@ -1,6 +1,6 @@
 //! Messages between a warning centre and a base station controller (3GPP TS 48.049, in this project's own layouts).
 //!
-//! `read` answers the one value that octets have, or the first of the refusals that applies; `write` answers the octets
+//! `read` returns the one value that octets have, or the first of the refusals that applies; `write` returns the octets
 //! of a message, with its elements in the table's order, or that no octets mean it. What is written is read as the same
 //! message.
 #![tactic(auto)]

@@ -84,7 +84,7 @@ pub fn read(alloc: Global, octets: &[u8]) -> Result<Message, WireFault>
         → MatchResult result (λ read. read ≡ m) (λ fault. fault ≡ WireFault.Refused) }
     // Which refusal it is.
     ensures first_fault { IfErr result (λ fault. first_fault octets.now ≡ reported_fault fault) }
-    // Memory runs out only where the octets mean something.
+    // Out of memory is reported only if the octets mean something.
     ensures memory_last { IfErr result (λ fault. fault ≡ WireFault.Refused → (m : Message) × IsMessage octets.now m) }
 {
     let (message_type, elements) = split_header(octets)?;

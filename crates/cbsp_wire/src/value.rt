@@ -16,7 +16,7 @@ use crate::message_type::MessageType;
 use cbs_page::{Content, Dcs, Serial};
 use std::alloc::{AllocError, Global};
 
-/// The number of the first element with this number, if there is one.
+/// The value of the first element of this number, as two octets, if there is one.
 pub(crate) fn u16_value(message_type: MessageType, element: u8, octets: &[u8]) -> Option<u16>
     ensures { result ≡ u16_value element (walk_of message_type octets.now).elements }
 {
@@ -26,21 +26,21 @@ pub(crate) fn u16_value(message_type: MessageType, element: u8, octets: &[u8]) -
     }
 }
 
-/// The number of the first element with this number, or 0.
+/// The value of the first element of this number, as two octets, or 0.
 fn u16_value_or_0(message_type: MessageType, element: u8, octets: &[u8]) -> u16
     ensures { result ≡ unwrap_or (u16_value element (walk_of message_type octets.now).elements) 0 }
 {
     u16_value(message_type, element, octets).unwrap_or(0)
 }
 
-/// The serial number of the first element with this number, or 0.
+/// The serial number that the first element of this number holds, or 0.
 fn serial_value_or_0(message_type: MessageType, element: u8, octets: &[u8]) -> Serial
     ensures { result ≡ unwrap_or (u16_value element (walk_of message_type octets.now).elements) 0 }
 {
     Serial::of(u16_value_or_0(message_type, element, octets))
 }
 
-/// The serial number of the first element with this number, if there is one.
+/// The serial number that the first element of this number holds, if there is one.
 fn serial_value(message_type: MessageType, element: u8, octets: &[u8]) -> Option<Serial>
     ensures { result ≡ u16_value element (walk_of message_type octets.now).elements }
 {
@@ -50,7 +50,7 @@ fn serial_value(message_type: MessageType, element: u8, octets: &[u8]) -> Option
     }
 }
 
-/// The octet of the first element with this number, if there is one.
+/// The value of the first element of this number, as one octet, if there is one.
 pub(crate) fn u8_value(message_type: MessageType, element: u8, octets: &[u8]) -> Option<u8>
     ensures { result ≡ u8_value element (walk_of message_type octets.now).elements }
 {
@@ -60,7 +60,7 @@ pub(crate) fn u8_value(message_type: MessageType, element: u8, octets: &[u8]) ->
     }
 }
 
-/// The items of the list with this number, none where it isn't there.
+/// The items of the list with this number, none if it isn't there.
 fn list<T: ListItem>(
     alloc: Global,
     message_type: MessageType,
@@ -77,7 +77,7 @@ fn list<T: ListItem>(
     }
 }
 
-/// The cells of element 04, none where it isn't there.
+/// The cells of element 04, none if it isn't there.
 fn cells(alloc: Global, message_type: MessageType, octets: &[u8]) -> Result<Cells, AllocError>
     ensures { IfOk result (λ cells. cells ≡ cells_of (walk_of message_type octets.now).elements) }
 {
@@ -86,7 +86,7 @@ fn cells(alloc: Global, message_type: MessageType, octets: &[u8]) -> Result<Cell
     })
 }
 
-/// The completed broadcasts of element 08, none where it isn't there.
+/// The completed broadcasts of element 08, none if it isn't there.
 fn counts(alloc: Global, message_type: MessageType, octets: &[u8]) -> Result<Counts, AllocError>
     ensures { IfOk result (λ counts. counts ≡ counts_of (walk_of message_type octets.now).elements) }
 {
@@ -95,7 +95,7 @@ fn counts(alloc: Global, message_type: MessageType, octets: &[u8]) -> Result<Cou
     })
 }
 
-/// The failures of element 09, none where it isn't there.
+/// The failures of element 09, none if it isn't there.
 fn failures(alloc: Global, message_type: MessageType, octets: &[u8]) -> Result<Failures, AllocError>
     ensures { IfOk result (λ failures. failures ≡ failures_of (walk_of message_type octets.now).elements) }
 {

@@ -165,7 +165,7 @@ fn put_elements(out: &mut Vec<u8>, fields: &Fields<'_>, numbers: &[u8])
 /// Appends the octets of a message, with its elements in the table's order, and takes no memory: the vector keeps its
 /// capacity.
 ///
-/// It asks for a message that some octets mean, for which `write` answers no cause, and for room of 1,547 octets, the
+/// It asks for a message that some octets mean, for which `write` returns no cause, and for room of 1,547 octets, the
 /// longest message.
 #[tactic(auto, unfolding(crate::specs::Written::octets_of_message))]
 pub fn write_in(message: &Message, out: &mut Vec<u8>)
@@ -184,8 +184,8 @@ pub fn write_in(message: &Message, out: &mut Vec<u8>)
     out[start + 3] = (length % 256) as u8;
 }
 
-/// The octets of a message, with its elements in the table's order; `Cause(0x01)` where no octets mean it, as of a
-/// message without contents; `Refused` where memory runs out.
+/// The octets of a message, with its elements in the table's order; `Cause(0x01)` if no octets mean it, as of a
+/// message without contents; `Refused` if memory runs out.
 pub fn write(alloc: Global, message: &Message) -> Result<Vec<u8>, WireFault>
     ensures written { IfOk result (λ octets. octets.items ≡ octets_of_message message.now) }
     ensures meant { IfOk result (λ octets. IsMessage octets.items message.now) }
