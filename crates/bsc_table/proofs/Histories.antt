@@ -8,7 +8,7 @@ use Rattle.std.proofs.lemmas.List.Elements.{All-nil, All-cons, All-weaker}
 use Rattle.std.proofs.lemmas.List.Kept.{AllPairs-cons}
 use Rattle.std.proofs.lemmas.List.Sums.{AllPass-from_list_all}
 use Rattle.cbs_page.specs.declared.content.Content.{Content}
-use Rattle.cbsp_wire.specs.Range.{is_coding, is_full}
+use Rattle.cbsp_wire.specs.Range.{has_alphabet, is_full}
 use Rattle.scheduler.specs.declared.plan.Rank.TheVariants as ranks
 use Rattle.scheduler.specs.Air.{Air, pages_aired}
 use Rattle.scheduler.specs.Completed.{completed}
@@ -231,7 +231,7 @@ abbrev is_formed : Command → Bool
 is_formed (commands.Write id serial replaces category period broadcasts dcs contents) =
     (nat_le 1 (length contents) && nat_le (length contents) 15) &&
     (list_all (λ c. nat_le c.used 82) contents && ((nat_le 1 period && nat_le period 1024) &&
-    (is_coding dcs.0 && list_all is_full contents)))
+    (has_alphabet dcs.0 && list_all is_full contents)))
 is_formed (commands.Kill id serial) = true
 is_formed (commands.Status id serial) = true
 

@@ -9,11 +9,12 @@ use Rattle.cbsp_wire.specs.declared.message.Cell.{Cell}
 use Rattle.cbsp_wire.specs.declared.message.Message.{Message}
 use Rattle.cbsp_wire.specs.declared.message.Message.TheVariants as messages
 use Rattle.cbsp_wire.specs.Meaning.{IsMessage}
-use Rattle.cbsp_wire.specs.Range.{is_writable, are_values, are_contents, are_numbers, are_all_cells, is_page_count}
-use Rattle.cbsp_wire.specs.Range.{is_period, is_coding, is_there_if, is_full, passes}
-use Rattle.cbsp_wire.specs.Table.{need_of}
+use Rattle.cbsp_wire.specs.Range.{is_writable, values_are_valid, contents_are_valid, numbers_are_valid}
+use Rattle.cbsp_wire.specs.Range.{all_cells_are_valid, is_page_count}
+use Rattle.cbsp_wire.specs.Range.{is_period, has_alphabet, is_there_if, is_full, passes}
+use Rattle.cbsp_wire.specs.Table.{presence_of}
 use Rattle.cbsp_wire.specs.Value.{Fields, fields_of}
-use Rattle.cbsp_wire.specs.declared.kind.Kind.TheVariants as kinds
+use Rattle.cbsp_wire.specs.declared.message_type.MessageType.TheVariants as types
 use Rattle.cbsp_wire.proofs.MeantLaws.{IsMessage-writable}
 use Rattle.bsc_table.specs.Orders.{IsBroadcastable}
 
@@ -33,15 +34,16 @@ broadcastable id new old cells channel category period broadcasts dcs contents w
     let n : ℕ = length contents in
     let counted : Bool = is_page_count n && (n == n) in
     let used : Bool = list_all (λ (c : Content). leb c.used 82) contents in
-    let coded : Bool = is_coding dcs.0 in
+    let coded : Bool = has_alphabet dcs.0 in
     let in_category : Bool = passes (λ (x : ℕ). leb x 2) category in
     let in_channel : Bool = passes (λ (x : ℕ). leb x 1) channel in
-    let has_cells : Bool = is_there_if (need_of kinds.Write 0x04) cells in
-    let has_failures : Bool = is_there_if (need_of kinds.Write 0x09) f.failures in
+    let has_cells : Bool = is_there_if (presence_of types.Write 0x04) cells in
+    let has_failures : Bool = is_there_if (presence_of types.Write 0x09) f.failures in
     let all_full : Bool = list_all is_full contents in
-    let values = first_of_four (are_values f) has_cells has_failures all_full writable in
-    let parts = and_parts (are_contents (Some n) contents && are_numbers f) (are_all_cells f) values in
-    let both = and_parts (are_contents (Some n) contents) (are_numbers f) parts.0 in
+    let values = first_of_four (values_are_valid f) has_cells has_failures all_full writable in
+    let parts = and_parts (contents_are_valid (Some n) contents && numbers_are_valid f) (all_cells_are_valid f) values
+        in
+    let both = and_parts (contents_are_valid (Some n) contents) (numbers_are_valid f) parts.0 in
     let said = and_parts counted used both.0 in
     let pages = and_parts (is_page_count n) (n == n) said.0 in
     let range = and_parts (leb 1 n) (leb n 15) pages.0 in
@@ -57,7 +59,7 @@ broadcastable id new old cells channel category period broadcasts dcs contents w
       short_period = leb-true period 1024 times.1;
       coded = second_of_four (is_period period) coded in_category in_channel numbers;
       full = λ k d h. eqb-true (length (get_or contents k d).octets) 82
-          (AllPass-from_list_all is_full contents (and_parts (are_values f && has_cells && has_failures) all_full
+          (AllPass-from_list_all is_full contents (and_parts (values_are_valid f && has_cells && has_failures) all_full
           writable).1 k d h);
     }
 

@@ -4,7 +4,7 @@ use Rattle.std.specs.Prelude.{◌≡◌, ℕ, ◌≤◌, ⊤, Bool, true, ◌==�
 use Rattle.std.specs.Prelude.{List, length, All}
 use Rattle.cbs_page.specs.declared.content.Content.{Content}
 use Rattle.cbs_page.specs.declared.Dcs.{Dcs}
-use Rattle.cbsp_wire.specs.Range.{is_coding}
+use Rattle.cbsp_wire.specs.Range.{has_alphabet}
 use Rattle.cbsp_wire.specs.declared.message.Cell.{Cell}
 use Rattle.cbsp_wire.specs.declared.message.Message.{Message}
 use Rattle.cbsp_wire.specs.declared.message.Message.TheVariants as messages
@@ -27,7 +27,7 @@ pub record IsBroadcastable (period : ℕ) (dcs : Dcs) (contents : List Content) 
   pub used : All (λ c. c.used ≤ 82) contents
   pub some_period : 1 ≤ period
   pub short_period : period ≤ 1024
-  pub coded : is_coding dcs.0 ≡ true
+  pub coded : has_alphabet dcs.0 ≡ true
   pub full : All (λ c. length c.octets ≡ 82) contents
 
 -- a command that such a message can ask for

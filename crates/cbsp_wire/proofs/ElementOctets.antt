@@ -4,11 +4,11 @@ use Rattle.std.proofs.Common.{◌∙◌, arith, append_assoc, length-append}
 use Rattle.std.specs.List.{flat_map}
 use Rattle.std.proofs.lemmas.List.{append-nil, set-append_right}
 use Rattle.std.proofs.lemmas.List.Concat.{flat_map-cons}
-use Rattle.cbsp_wire.specs.declared.items.Layout.{Layout}
+use Rattle.cbsp_wire.specs.declared.item.Discriminator.{Discriminator}
 use Rattle.cbsp_wire.specs.Element.{Element, octets_of_elements}
 use Rattle.cbsp_wire.specs.Value.{Fields}
-use Rattle.cbsp_wire.specs.Written.{bodies_in, list_head, list_bodies, element, elements_among, element_octets}
-use Rattle.cbsp_wire.specs.Written.{field_octets}
+use Rattle.cbsp_wire.specs.Written.{bodies_in, list_head, list_bodies, element, elements_among}
+use Rattle.cbsp_wire.specs.WritingSteps.{element_octets, field_octets}
 use Rattle.cbsp_wire.proofs.WrittenItems.{length-items}
 
 octets-append : (xs ys : List Element) → octets_of_elements (xs ++ ys) ≡ octets_of_elements xs ++ octets_of_elements ys
@@ -26,27 +26,28 @@ octets-among f (n ∷ ns) =
     ∙ sym (flat_map-cons (field_octets f) n ns)
 
 -- a list with its head and its items
-pub list_octets : {X : Type 0} (layout : Layout) (octets : X → List ℕ) (size : ℕ) → ((x : X) → length (octets x) ≡ size)
+pub list_octets : {X : Type 0} (discriminator : Discriminator) (octets : X → List ℕ) (size : ℕ)
+    → ((x : X) → length (octets x) ≡ size)
     → (old : List ℕ) (n : ℕ) (xs : List X) → eqb (length xs) 0 ≡ false
-    → (old ++ n ∷ list_head layout (length xs * size)) ++ flat_map octets xs
-    ≡ old ++ element_octets n (list_bodies layout octets xs)
-list_octets layout octets size len old n [] some = absurd cc
-list_octets layout octets size len old n (x ∷ xs) some =
+    → (old ++ n ∷ list_head discriminator (length xs * size)) ++ flat_map octets xs
+    ≡ old ++ element_octets n (list_bodies discriminator octets xs)
+list_octets discriminator octets size len old n [] some = absurd cc
+list_octets discriminator octets size len old n (x ∷ xs) some =
     let items = flat_map octets (x ∷ xs) in
     let k : length items ≡ length (x ∷ xs) * size = length-items octets size len (x ∷ xs) in
-    append_assoc old (n ∷ list_head layout (length (x ∷ xs) * size)) items
-    ∙ ap (λ (m : ℕ). old ++ (n ∷ (list_head layout m ++ items))) (sym k)
-    ∙ ap (λ (i : List ℕ). old ++ (n ∷ i)) (sym (append-nil (list_head layout (length items) ++ items)))
+    append_assoc old (n ∷ list_head discriminator (length (x ∷ xs) * size)) items
+    ∙ ap (λ (m : ℕ). old ++ (n ∷ (list_head discriminator m ++ items))) (sym k)
+    ∙ ap (λ (i : List ℕ). old ++ (n ∷ i)) (sym (append-nil (list_head discriminator (length items) ++ items)))
 
 -- how long they are
-pub list_octets-len : {X : Type 0} (layout : Layout) (octets : X → List ℕ) (size : ℕ)
+pub list_octets-len : {X : Type 0} (discriminator : Discriminator) (octets : X → List ℕ) (size : ℕ)
     → ((x : X) → length (octets x) ≡ size)
     → (n : ℕ) (xs : List X) → eqb (length xs) 0 ≡ false
-    → length (element_octets n (list_bodies layout octets xs))
-    ≡ 1 + length (list_head layout (length xs * size)) + length (flat_map octets xs)
-list_octets-len layout octets size len n xs some =
-    let whole = list_octets layout octets size len [] n xs some in
-    omega (arith, ap length whole, length-append (list_head layout (length xs * size)) (flat_map octets xs))
+    → length (element_octets n (list_bodies discriminator octets xs))
+    ≡ 1 + length (list_head discriminator (length xs * size)) + length (flat_map octets xs)
+list_octets-len discriminator octets size len n xs some =
+    let whole = list_octets discriminator octets size len [] n xs some in
+    omega (arith, ap length whole, length-append (list_head discriminator (length xs * size)) (flat_map octets xs))
 
 -- a length that is written into its place
 pub patched : (old body : List ℕ) (k a b c : ℕ) (n : ℕ) → length old ≡ n

@@ -4,10 +4,11 @@ use Rattle.std.proofs.Common.{◌∙◌, arith, append_assoc, length-append, Fit
 use Rattle.std.specs.List.{flat_map}
 use Rattle.cbsp_wire.specs.declared.message.Message.{Message}
 use Rattle.cbsp_wire.specs.Element.{octets_of_elements}
-use Rattle.cbsp_wire.specs.Table.{octet_of_kind}
-use Rattle.cbsp_wire.specs.Value.{Fields, fields_of, kind_of}
+use Rattle.cbsp_wire.specs.Table.{octet_of_type}
+use Rattle.cbsp_wire.specs.Value.{Fields, fields_of, type_of}
 use Rattle.cbsp_wire.specs.Range.{numbers, is_writable}
-use Rattle.cbsp_wire.specs.Written.{field_octets, elements_of, framed, octets_of_message, AreShort}
+use Rattle.cbsp_wire.specs.Written.{elements_of, framed, octets_of_message}
+use Rattle.cbsp_wire.specs.WritingSteps.{field_octets, AreShort}
 use Rattle.cbsp_wire.proofs.Lengths.{AreShort-written, length-written}
 use Rattle.cbsp_wire.proofs.ElementOctets.{octets-among, patched}
 use Rattle.cbsp_wire.proofs.WrittenLaws.{IsWritten-from}
@@ -27,7 +28,7 @@ fields_fit m f is_f h =
 
 -- the head and the elements, with the length put in its place, are the message's octets
 pub head_written : (m : Message) (f : Fields) (old e : List ℕ) (k n len : ℕ) → f ≡ fields_of m
-    → k ≡ octet_of_kind (kind_of m) → length old ≡ n
+    → k ≡ octet_of_type (type_of m) → length old ≡ n
     → e ≡ (old ++ k ∷ 0 ∷ 0 ∷ 0 ∷ []) ++ elements_octets f → len ≡ length (elements_octets f)
     → set (set (set e (n + 1) (len / 65536)) (n + 2) (len / 256 % 256)) (n + 3) (len % 256) ≡ old ++ octets_of_message m
 unfolding octets_of_message
@@ -40,7 +41,7 @@ head_written m f old e k n len is_f is_k is_n is_e is_len =
     ∙ patched old body k (len / 65536) (len / 256 % 256) (len % 256) n is_n
     ∙ ap (λ (l : ℕ). old ++ (k ∷ l / 65536 ∷ l / 256 % 256 ∷ l % 256 ∷ body)) is_len
     ∙ ap (λ (j : ℕ). old ++ framed j body) is_k
-    ∙ ap (λ (r : List ℕ). old ++ framed (octet_of_kind (kind_of m)) r) is_body
+    ∙ ap (λ (r : List ℕ). old ++ framed (octet_of_type (type_of m)) r) is_body
 
 -- the length of what stands behind the head
 pub elements_len : (old put e body : List ℕ) (k n l : ℕ) → n ≡ length old → l ≡ length e

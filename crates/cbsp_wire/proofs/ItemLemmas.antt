@@ -1,10 +1,11 @@
--- The item at the front of octets, and the cells of lists by their octets or by their items.
+-- The items that octets are: the one at the front, and that there is one.
 use Rattle.std.proofs.Common.{◌≡◌, ℕ, ◌-◌, ◌≤◌, List, [], ◌∷◌, length, take, drop, get_or, refl, sym, ap, arith}
-use Rattle.std.specs.Prelude.{◌==◌, ◌&&◌}
-use Rattle.std.proofs.lemmas.List.{take_all}
-use Rattle.cbsp_wire.specs.declared.items.Layout.TheVariants as layouts
-use Rattle.cbsp_wire.specs.Value.{count_at, failure_at, cells_in, counts_in, failures_in, first_items}
-use Rattle.cbsp_wire.specs.Range.{cells_by, cells_of_counts, cells_of_failures, failures_are_by_lac_and_ci}
+use Rattle.std.proofs.Common.{map, false}
+use Rattle.std.specs.Prelude.{◌==◌, ◌&&◌, ◌%◌}
+use Rattle.std.proofs.lemmas.List.{take_all, map-id}
+use Rattle.cbsp_wire.specs.declared.message.Cell.{Cell}
+use Rattle.cbsp_wire.specs.Value.{count_at, failure_at, cells_in, counts_in, failures_in}
+use Rattle.cbsp_wire.specs.Range.{is_nothing, failures_are_by_lac_and_ci}
 
 -- the completed broadcast at the front of seven octets or more
 pub counts_in-first : (o : List ℕ) → 7 ≤ length o
@@ -53,24 +54,24 @@ failures_are_by_lac_and_ci-first (z ∷ a ∷ b ∷ c ∷ d ∷ e ∷ o) h =
     ap (λ (r : List ℕ). (z == 1) && failures_are_by_lac_and_ci r)
     (sym (take_all (length (z ∷ a ∷ b ∷ c ∷ d ∷ e ∷ o) - 6) o le))
 
--- the cells of the first list, by its octets or by its items
-pub cells_by_counts : (bodies : List (List ℕ))
-    → cells_of_counts (first_items layouts.Counts counts_in bodies)
-    ≡ cells_by layouts.Counts (first_items layouts.Counts (λ items. items) bodies)
-cells_by_counts [] = refl
-cells_by_counts (body ∷ bodies) = refl
+-- octets that are whole cells, and some, are some cells
+pub cells_in-some : (o : List ℕ) → length o % 4 ≡ 0 → is_nothing o ≡ false → is_nothing (cells_in o) ≡ false
+cells_in-some [] whole some = absurd cc
+cells_in-some (a ∷ []) whole some = absurd (omega (arith, whole))
+cells_in-some (a ∷ b ∷ []) whole some = absurd (omega (arith, whole))
+cells_in-some (a ∷ b ∷ c ∷ []) whole some = absurd (omega (arith, whole))
+cells_in-some (a ∷ b ∷ c ∷ d ∷ o) whole some = refl
 
-pub cells_by_failures : (bodies : List (List ℕ))
-    → cells_of_failures (first_items layouts.Failures failures_in bodies)
-    ≡ cells_by layouts.Failures (first_items layouts.Failures (λ items. items) bodies)
-cells_by_failures [] = refl
-cells_by_failures (body ∷ bodies) = refl
+-- octets that are whole failures, and some, are some failures
+pub failures_in-some : (o : List ℕ) → length o % 6 ≡ 0 → is_nothing o ≡ false → is_nothing (failures_in o) ≡ false
+failures_in-some [] whole some = absurd cc
+failures_in-some (z ∷ []) whole some = absurd (omega (arith, whole))
+failures_in-some (z ∷ a ∷ []) whole some = absurd (omega (arith, whole))
+failures_in-some (z ∷ a ∷ b ∷ []) whole some = absurd (omega (arith, whole))
+failures_in-some (z ∷ a ∷ b ∷ c ∷ []) whole some = absurd (omega (arith, whole))
+failures_in-some (z ∷ a ∷ b ∷ c ∷ d ∷ []) whole some = absurd (omega (arith, whole))
+failures_in-some (z ∷ a ∷ b ∷ c ∷ d ∷ e ∷ o) whole some = refl
 
-pub cells_by_cells : (bodies : List (List ℕ))
-    → first_items layouts.Cells cells_in bodies
-    ≡ cells_by layouts.Cells (first_items layouts.Cells (λ items. items) bodies)
-cells_by_cells [] = refl
-cells_by_cells (body ∷ bodies) = refl
-
--- all three
-pub ruleset cells_by_first = (cells_by_counts, cells_by_failures, cells_by_cells)
+-- the cells that cells name are themselves
+pub same_cells : (cs : List Cell) → map (λ (c : Cell). c) cs ≡ cs
+same_cells cs = map-id cs

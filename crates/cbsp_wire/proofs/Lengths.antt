@@ -7,22 +7,24 @@ use Rattle.std.specs.List.{flat_map, list_all}
 use Rattle.std.proofs.lemmas.Bool.{eqb-true, leb-true}
 use Rattle.std.proofs.lemmas.List.Concat.{flat_map-cons}
 use Rattle.cbs_page.specs.declared.content.Content.{Content}
-use Rattle.cbsp_wire.specs.declared.items.Layout.{Layout}
-use Rattle.cbsp_wire.specs.declared.items.Layout.TheVariants as layouts
+use Rattle.cbsp_wire.specs.declared.item.Discriminator.{Discriminator}
+use Rattle.cbsp_wire.specs.declared.item.Discriminator.TheVariants as discriminators
 use Rattle.cbsp_wire.specs.declared.message.Cell.{Cell}
 use Rattle.cbsp_wire.specs.declared.message.Count.{Count}
 use Rattle.cbsp_wire.specs.declared.message.Failure.{Failure}
 use Rattle.cbsp_wire.specs.declared.message.Message.{Message}
 use Rattle.cbsp_wire.specs.declared.message.Message.TheVariants as messages
 use Rattle.cbsp_wire.specs.Value.{Fields, fields_of}
-use Rattle.cbsp_wire.specs.Range.{numbers, are_cells, are_distinct, cells_of_counts, cells_of_failures, is_page_count}
-use Rattle.cbsp_wire.specs.Range.{are_contents, is_full}
+use Rattle.cbsp_wire.specs.Range.{numbers, cells_are_valid, are_distinct, cells_of_counts, cells_of_failures}
+use Rattle.cbsp_wire.specs.Range.{is_page_count}
+use Rattle.cbsp_wire.specs.Range.{contents_are_valid, is_full}
 use Rattle.cbsp_wire.specs.Written.{bodies_in, cell_octets, count_octets, failure_octets, number_bodies, octet_bodies}
-use Rattle.cbsp_wire.specs.Written.{list_bodies, content_body, element_octets, field_octets, AreShort}
+use Rattle.cbsp_wire.specs.Written.{list_bodies, content_body}
+use Rattle.cbsp_wire.specs.WritingSteps.{element_octets, field_octets, AreShort}
 use Rattle.cbsp_wire.proofs.Tests.{and_parts, list_all-parts}
 use Rattle.cbsp_wire.proofs.WrittenItems.{length-items, cell_len, count_len, failure_len}
 use Rattle.cbsp_wire.proofs.WrittenLaws.{IsWritten}
-use Rattle.cbsp_wire.proofs.MeantLaws.{ranges_from}
+use Rattle.cbsp_wire.proofs.Ranges.{ranges_from}
 
 -- bounds of the parts bound the whole
 abbrev total : List ℕ → ℕ
@@ -52,17 +54,15 @@ octet_len n None = omega arith
 octet_len n (Some k) = omega arith
 
 -- a list's number, its length and its one discriminator, if it has one, are four octets at most
-list_len : {X : Type 0} (layout : Layout) (octets : X → List ℕ) (size : ℕ) → ((x : X) → length (octets x) ≡ size)
+list_len : {X : Type 0} (discriminator : Discriminator) (octets : X → List ℕ) (size : ℕ)
+    → ((x : X) → length (octets x) ≡ size)
     → (n : ℕ) (xs : List X)
-    → length (element_octets n (list_bodies layout octets xs)) ≤ 4 + length xs * size
-list_len layout octets size len n [] = omega arith
-list_len layouts.Cells octets size len n (x ∷ xs) =
+    → length (element_octets n (list_bodies discriminator octets xs)) ≤ 4 + length xs * size
+list_len discriminator octets size len n [] = omega arith
+list_len discriminators.Once octets size len n (x ∷ xs) =
     let items = flat_map octets (x ∷ xs) in
     omega (arith, length-append items [], length-items octets size len (x ∷ xs))
-list_len layouts.Counts octets size len n (x ∷ xs) =
-    let items = flat_map octets (x ∷ xs) in
-    omega (arith, length-append items [], length-items octets size len (x ∷ xs))
-list_len layouts.Failures octets size len n (x ∷ xs) =
+list_len discriminators.Each octets size len n (x ∷ xs) =
     let items = flat_map octets (x ∷ xs) in
     omega (arith, length-append items [], length-items octets size len (x ∷ xs))
 
@@ -74,10 +74,10 @@ contents_len n (c ∷ cs) h =
     let len : length c.octets ≡ 82 = eqb-true _ _ both.0 in
     omega (arith, len, length-append c.octets (element_octets n (map content_body cs)), contents_len n cs both.1)
 
-short_cells : (cs : List Cell) → are_cells cs ≡ true → length cs ≤ 64
+short_cells : (cs : List Cell) → cells_are_valid cs ≡ true → length cs ≤ 64
 short_cells cs h = leb-true _ _ (and_parts (nat_le (length cs) 64) (are_distinct cs) h).0
 
-few_pages : (pages : Option ℕ) (contents : List Content) → are_contents pages contents ≡ true
+few_pages : (pages : Option ℕ) (contents : List Content) → contents_are_valid pages contents ≡ true
     → IfSome pages (λ n. n ≤ 15)
 few_pages None contents h = tt
 few_pages (Some p) contents h =
@@ -130,11 +130,11 @@ short_reply f s none =
         (
           number_len 0x02 f.old_serial,
           (
-            omega (arith, list_len layouts.Failures failure_octets 6 failure_len 0x09 f.failures, s.failures),
+            omega (arith, list_len discriminators.Each failure_octets 6 failure_len 0x09 f.failures, s.failures),
             (
-              omega (arith, list_len layouts.Counts count_octets 7 count_len 0x08 f.completed, s.completed),
+              omega (arith, list_len discriminators.Once count_octets 7 count_len 0x08 f.completed, s.completed),
               (
-                omega (arith, list_len layouts.Cells cell_octets 4 cell_len 0x04 f.cells, s.cells),
+                omega (arith, list_len discriminators.Once cell_octets 4 cell_len 0x04 f.cells, s.cells),
                 (
                   octet_len 0x12 f.channel,
                   (
@@ -178,7 +178,7 @@ length-written (messages.Write a b c d e f g h i j) w =
             (
               omega arith,
               (
-                omega (arith, list_len layouts.Cells cell_octets 4 cell_len 0x04 fs.cells, s.cells),
+                omega (arith, list_len discriminators.Once cell_octets 4 cell_len 0x04 fs.cells, s.cells),
                 (
                   octet_len 0x12 fs.channel,
                   (

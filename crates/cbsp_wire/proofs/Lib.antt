@@ -3,6 +3,9 @@ pub mod ItemLemmas
 pub mod WalkLaws
 pub mod MeaningLaws
 pub mod Tests
+pub mod Facts
+pub mod Ranges
+pub mod ElementFacts
 pub mod WrittenItems
 pub mod WrittenElements
 pub mod WrittenLaws
@@ -12,3 +15,4 @@ pub mod Lengths
 pub mod Framing
 mod Worked
 pub mod Writable
+mod LawsOfMeaning

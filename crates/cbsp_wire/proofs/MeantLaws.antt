@@ -5,81 +5,34 @@ use Rattle.std.specs.Prelude.{◌&&◌, ◌%◌, not, nat_le}
 use Rattle.std.specs.List.{AllByRecursion, list_all}
 use Rattle.std.proofs.lemmas.Bool.{eqb-true}
 use Rattle.cbs_page.specs.declared.content.Content.{Content}
-use Rattle.cbsp_wire.specs.declared.items.Layout.{Layout}
-use Rattle.cbsp_wire.specs.declared.items.Layout.TheVariants as layouts
-use Rattle.cbsp_wire.specs.declared.kind.Kind.{Kind}
-use Rattle.cbsp_wire.specs.declared.kind.Kind.TheVariants as kinds
-use Rattle.cbsp_wire.specs.declared.kind.Need.{Need}
-use Rattle.cbsp_wire.specs.declared.kind.Need.TheVariants as needs
+use Rattle.cbsp_wire.specs.declared.item.Discriminator.{Discriminator}
+use Rattle.cbsp_wire.specs.declared.item.Discriminator.TheVariants as discriminators
+use Rattle.cbsp_wire.specs.declared.message_type.MessageType.{MessageType}
+use Rattle.cbsp_wire.specs.declared.message_type.MessageType.TheVariants as types
+use Rattle.cbsp_wire.specs.declared.message_type.Presence.{Presence}
+use Rattle.cbsp_wire.specs.declared.message_type.Presence.TheVariants as presences
 use Rattle.cbsp_wire.specs.declared.message.Cell.{Cell}
 use Rattle.cbsp_wire.specs.declared.message.Count.{Count}
 use Rattle.cbsp_wire.specs.declared.message.Failure.{Failure}
 use Rattle.cbsp_wire.specs.declared.message.Message.{Message}
-use Rattle.cbsp_wire.specs.Element.{Element, bodies_of, octet_of}
-use Rattle.cbsp_wire.specs.Table.{table, need_of, size_of}
-use Rattle.cbsp_wire.specs.Value.{Fields, no_fields, fields_in, fields_of, first_number, first_octet, items_of}
+use Rattle.cbsp_wire.specs.Element.{Element, bodies_of, first_octet}
+use Rattle.cbsp_wire.specs.Table.{table, presence_of, size_of}
+use Rattle.cbsp_wire.specs.Value.{Fields, no_fields, fields_in, fields_of, first_body_u16, first_body_octet, items_of}
 use Rattle.cbsp_wire.specs.Value.{first_items, content_of, cells_in, failures_in, or_0, message_with, message_of}
-use Rattle.cbsp_wire.specs.Value.{kind_of}
-use Rattle.cbsp_wire.specs.Range.{numbers, is_nothing, is_there_if, has_mandatory, has_none_twice, are_lists}
-use Rattle.cbsp_wire.specs.Range.{first_passes, is_by_lac_and_ci, is_list, are_items, item_size, cells_by, passes}
-use Rattle.cbsp_wire.specs.Range.{is_period, is_coding, is_page_count, are_contents, are_numbers, are_cells}
-use Rattle.cbsp_wire.specs.Range.{cells_of_counts, cells_of_failures, are_all_cells, are_values, is_writable, is_full}
+use Rattle.cbsp_wire.specs.Value.{type_of}
+use Rattle.cbsp_wire.specs.Range.{numbers, is_nothing, is_there_if, has_mandatory, has_none_twice, lists_are_valid}
+use Rattle.cbsp_wire.specs.Range.{first_passes, is_by_lac_and_ci, is_list_body, items_are_whole}
+use Rattle.cbsp_wire.specs.Range.{passes}
+use Rattle.cbsp_wire.specs.Range.{is_period, has_alphabet, is_page_count, contents_are_valid}
+use Rattle.cbsp_wire.specs.Range.{cells_are_valid}
+use Rattle.cbsp_wire.specs.Range.{cells_of_counts, cells_of_failures, values_are_valid}
+use Rattle.cbsp_wire.specs.Range.{is_writable, is_full}
 use Rattle.cbsp_wire.specs.Meaning.{IsOf, AreElementsOf, IsMessage}
+use Rattle.cbsp_wire.proofs.ItemLemmas.{cells_in-some, failures_in-some}
+use Rattle.cbsp_wire.proofs.Ranges.{HaveRanges, ranges_from, values_from}
+use Rattle.cbsp_wire.proofs.ElementFacts.{mandatory_pass, elements_pass}
 use Rattle.cbsp_wire.proofs.Tests.{and_parts, and_both, not_true, there_from, list_all-parts}
 use Rattle.cbsp_wire.proofs.WrittenLaws.{IsWritten, is_writable-from}
-
--- the tests of fields, one by one
-pub record HaveRanges (f : Fields) : Type 0 where
-  pub contents : are_contents f.pages f.contents ≡ true
-  pub period : passes is_period f.period ≡ true
-  pub coding : passes is_coding f.dcs ≡ true
-  pub category : passes (λ n. nat_le n 2) f.category ≡ true
-  pub channel : passes (λ n. nat_le n 1) f.channel ≡ true
-  pub cells : are_cells f.cells ≡ true
-  pub completed : are_cells (cells_of_counts f.completed) ≡ true
-  pub failures : are_cells (cells_of_failures f.failures) ≡ true
-
--- values in their ranges pass each test
-pub ranges_from : (f : Fields) → are_values f ≡ true → HaveRanges f
-ranges_from f h =
-    let one = and_parts (are_contents f.pages f.contents && are_numbers f) (are_all_cells f) h in
-    let two = and_parts (are_contents f.pages f.contents) (are_numbers f) one.0 in
-    let a = passes is_period f.period in
-    let b = passes is_coding f.dcs in
-    let c = passes (λ n. nat_le n 2) f.category in
-    let d = passes (λ n. nat_le n 1) f.channel in
-    let three = and_parts ((a && b) && c) d two.1 in
-    let four = and_parts (a && b) c three.0 in
-    let five = and_parts a b four.0 in
-    let x = are_cells f.cells in
-    let y = are_cells (cells_of_counts f.completed) in
-    let six = and_parts (x && y) (are_cells (cells_of_failures f.failures)) one.1 in
-    let seven = and_parts x y six.0 in
-    record {
-      contents = two.0;
-      period = five.0;
-      coding = five.1;
-      category = four.1;
-      channel = three.1;
-      cells = seven.0;
-      completed = seven.1;
-      failures = six.1;
-    }
-
--- fields that pass each test have values in their ranges
-pub values_from : (f : Fields) → HaveRanges f → are_values f ≡ true
-values_from f h =
-    let a = passes is_period f.period in
-    let b = passes is_coding f.dcs in
-    let c = passes (λ n. nat_le n 2) f.category in
-    let d = passes (λ n. nat_le n 1) f.channel in
-    let x = are_cells f.cells in
-    let y = are_cells (cells_of_counts f.completed) in
-    let z = are_cells (cells_of_failures f.failures) in
-    and_both (are_contents f.pages f.contents && are_numbers f) (are_all_cells f)
-    (and_both (are_contents f.pages f.contents) (are_numbers f) h.contents
-    (and_both ((a && b) && c) d (and_both (a && b) c (and_both a b h.period h.coding) h.category) h.channel))
-    (and_both (x && y) z (and_both x y h.cells h.completed) h.failures)
 
 -- the fields of a message that broadcasts nothing new: all but a write
 abbrev beside : Option ℕ → Option ℕ → Option ℕ → List Failure → List Count → List Cell → Option ℕ → Fields
@@ -96,80 +49,80 @@ beside id new old failures completed cells channel = record no_fields {
 -- the values of a message other than a write are in their ranges, by its lists and its channel
 pub values_beside : (id new old : Option ℕ) (failures : List Failure) (completed : List Count) (cells : List Cell)
     (channel : Option ℕ)
-    → passes (λ n. nat_le n 1) channel ≡ true → are_cells cells ≡ true → are_cells (cells_of_counts completed) ≡ true
-    → are_cells (cells_of_failures failures) ≡ true
-    → are_values (beside id new old failures completed cells channel) ≡ true
-values_beside id new old failures completed cells channel told right counted failed =
+    → passes (λ n. nat_le n 1) channel ≡ true → cells_are_valid cells ≡ true
+    → cells_are_valid (cells_of_counts completed) ≡ true
+    → cells_are_valid (cells_of_failures failures) ≡ true
+    → values_are_valid (beside id new old failures completed cells channel) ≡ true
+values_beside id new old failures completed cells channel channel_valid right counted failed =
     values_from (beside id new old failures completed cells channel) (record {
       contents = refl;
       period = refl;
       coding = refl;
       category = refl;
-      channel = told;
+      channel = channel_valid;
       cells = right;
       completed = counted;
       failures = failed;
     })
 
 -- a mandatory element is there
-mandatory_at : (kind : Kind) (es : List Element) (ns : List ℕ) (k : ℕ) → k < length ns
-    → list_all (λ n. is_there_if (need_of kind n) (bodies_of n es)) ns ≡ true
-    → is_there_if (need_of kind (get_or ns k 0)) (bodies_of (get_or ns k 0) es) ≡ true
-mandatory_at kind es [] k lt h = absurd (omega arith)
-mandatory_at kind es (n ∷ ns) zero lt h = (list_all-parts (λ j. is_there_if (need_of kind j) (bodies_of j es)) n ns h).0
-mandatory_at kind es (n ∷ ns) (suc k) lt h =
-    mandatory_at kind es ns k (omega arith)
-    (list_all-parts (λ j. is_there_if (need_of kind j) (bodies_of j es)) n ns h).1
+mandatory_at : (message_type : MessageType) (es : List Element) (ns : List ℕ) (k : ℕ) → k < length ns
+    → list_all (λ n. is_there_if (presence_of message_type n) (bodies_of n es)) ns ≡ true
+    → is_there_if (presence_of message_type (get_or ns k 0)) (bodies_of (get_or ns k 0) es) ≡ true
+mandatory_at message_type es [] k lt h = absurd (omega arith)
+mandatory_at message_type es (n ∷ ns) zero lt h = (list_all-parts
+    (λ j. is_there_if (presence_of message_type j) (bodies_of j es)) n ns h).0
+mandatory_at message_type es (n ∷ ns) (suc k) lt h =
+    mandatory_at message_type es ns k (omega arith)
+    (list_all-parts (λ j. is_there_if (presence_of message_type j) (bodies_of j es)) n ns h).1
 
-number_there : (bodies : List (List ℕ)) → is_there_if needs.Mandatory bodies ≡ true
-    → first_number bodies ≡ Some (or_0 (first_number bodies))
+number_there : (bodies : List (List ℕ)) → is_there_if presences.Mandatory bodies ≡ true
+    → first_body_u16 bodies ≡ Some (or_0 (first_body_u16 bodies))
 number_there [] h = absurd cc
 number_there (body ∷ bodies) h = refl
 
-octet_there : (bodies : List (List ℕ)) → is_there_if needs.Mandatory bodies ≡ true
-    → first_octet bodies ≡ Some (or_0 (first_octet bodies))
+octet_there : (bodies : List (List ℕ)) → is_there_if presences.Mandatory bodies ≡ true
+    → first_body_octet bodies ≡ Some (or_0 (first_body_octet bodies))
 octet_there [] h = absurd cc
 octet_there (body ∷ bodies) h = refl
 
 -- the pages are as many as the contents
-pages_there : (bodies : List (List ℕ)) (contents : List Content) → is_there_if needs.Mandatory bodies ≡ true
-    → are_contents (first_octet bodies) contents ≡ true → first_octet bodies ≡ Some (length contents)
+pages_there : (bodies : List (List ℕ)) (contents : List Content) → is_there_if presences.Mandatory bodies ≡ true
+    → contents_are_valid (first_body_octet bodies) contents ≡ true → first_body_octet bodies ≡ Some (length contents)
 pages_there [] contents h right = absurd cc
 pages_there (body ∷ bodies) contents h right =
-    let p = octet_of body in
+    let p = first_octet body in
     let one =
     and_parts (is_page_count p && eqb p (length contents)) (list_all (λ c. nat_le c.used 82) contents) right in
     let two = and_parts (is_page_count p) (eqb p (length contents)) one.0 in
     ap (λ (n : ℕ). Some n) (eqb-true _ _ two.1)
 
 -- a list that is there and right has items
-items_there : {X : Type 0} (need : Need) (layout : Layout) (items_in : List ℕ → List X) (bodies : List (List ℕ))
-    → ((o : List ℕ) → is_nothing (cells_by layout o) ≡ false → is_nothing (items_in o) ≡ false)
-    → is_there_if need bodies ≡ true → first_passes (is_list layout) bodies ≡ true
-    → is_there_if need (first_items layout items_in bodies) ≡ true
-items_there needs.Mandatory layout items_in [] some there right = absurd cc
-items_there needs.Optional layout items_in [] some there right = refl
-items_there needs.Foreign layout items_in [] some there right = refl
-items_there need layout items_in (body ∷ bodies) some there right =
-    let items = items_of layout body in
-    let one = and_parts (is_by_lac_and_ci layout body) (are_items layout items) right in
-    let two = and_parts (eqb (length items % item_size layout) 0) (not (is_nothing (cells_by layout items))) one.1 in
-    there_from need (items_in items) (some items (not_true _ two.1))
-
-failures_some : (fs : List Failure) → is_nothing (cells_of_failures fs) ≡ false → is_nothing fs ≡ false
-failures_some [] h = absurd cc
-failures_some (f ∷ fs) h = refl
+items_there : {X : Type 0} (presence : Presence) (discriminator : Discriminator) (size : ℕ)
+    (items_in : List ℕ → List X) (bodies : List (List ℕ))
+    → ((o : List ℕ) → length o % size ≡ 0 → is_nothing o ≡ false → is_nothing (items_in o) ≡ false)
+    → is_there_if presence bodies ≡ true
+    → first_passes (is_list_body discriminator size) bodies ≡ true
+    → is_there_if presence (first_items discriminator items_in bodies) ≡ true
+items_there presences.Mandatory discriminator size items_in [] some there right = absurd cc
+items_there presences.Optional discriminator size items_in [] some there right = refl
+items_there presences.Absent discriminator size items_in [] some there right = refl
+items_there presence discriminator size items_in (body ∷ bodies) some there right =
+    let items = items_of discriminator body in
+    let one = and_parts (is_by_lac_and_ci discriminator body) (items_are_whole size items) right in
+    let two = and_parts (eqb (length items % size) 0) (not (is_nothing items)) one.1 in
+    there_from presence (items_in items) (some items (eqb-true _ _ two.0) (not_true _ two.1))
 
 -- each content has its 82 octets
 full_content : (body : List ℕ) → length body ≡ 83 → is_full (content_of body) ≡ true
 full_content [] h = absurd (omega arith)
 full_content (used ∷ octets) h = eq-eqb _ _ (omega arith)
 
-full_contents : (kind : Kind) (es : List Element) → AllByRecursion (IsOf kind) es
+full_contents : (message_type : MessageType) (es : List Element) → AllByRecursion (IsOf message_type) es
     → list_all is_full (map content_of (bodies_of 1 es)) ≡ true
 unfolding size_of table
-full_contents kind [] h = refl
-full_contents kind (e ∷ es) h = by_test (eqb e.number 1) refl (full_contents kind es h.1) where
+full_contents message_type [] h = refl
+full_contents message_type (e ∷ es) h = by_test (eqb e.number 1) refl (full_contents message_type es h.1) where
   by_test : (b : Bool) → eqb e.number 1 ≡ b → list_all is_full (map content_of (bodies_of 1 es)) ≡ true
       → list_all is_full (map content_of (cond b (e.body ∷ bodies_of 1 es) (bodies_of 1 es))) ≡ true
   by_test true test others =
@@ -179,55 +132,56 @@ full_contents kind (e ∷ es) h = by_test (eqb e.number 1) refl (full_contents k
   by_test false test others = others
 
 -- what elements without a fault have
-record AreRight (kind : Kind) (es : List Element) : Type 0 where
-  of_kind : AllByRecursion (IsOf kind) es
-  mandatory : has_mandatory kind es ≡ true
-  lists : are_lists es ≡ true
+record AreRight (message_type : MessageType) (es : List Element) : Type 0 where
+  of_type : AllByRecursion (IsOf message_type) es
+  mandatory : has_mandatory message_type es ≡ true
+  lists : lists_are_valid es ≡ true
   ranges : HaveRanges (fields_in es)
 
-cells_listed : (es : List Element) → are_lists es ≡ true → first_passes (is_list layouts.Cells) (bodies_of 4 es) ≡ true
+cells_listed : (es : List Element) → lists_are_valid es ≡ true
+    → first_passes (is_list_body discriminators.Once 4) (bodies_of 4 es) ≡ true
 cells_listed es h =
-    let a = first_passes (is_list layouts.Cells) (bodies_of 4 es) in
-    let b = first_passes (is_list layouts.Counts) (bodies_of 8 es) in
-    (and_parts a b (and_parts (a && b) (first_passes (is_list layouts.Failures) (bodies_of 9 es)) h).0).0
+    let a = first_passes (is_list_body discriminators.Once 4) (bodies_of 4 es) in
+    let b = first_passes (is_list_body discriminators.Once 7) (bodies_of 8 es) in
+    (and_parts a b (and_parts (a && b) (first_passes (is_list_body discriminators.Each 6) (bodies_of 9 es)) h).0).0
 
-failures_listed : (es : List Element) → are_lists es ≡ true
-    → first_passes (is_list layouts.Failures) (bodies_of 9 es) ≡ true
+failures_listed : (es : List Element) → lists_are_valid es ≡ true
+    → first_passes (is_list_body discriminators.Each 6) (bodies_of 9 es) ≡ true
 failures_listed es h =
-    let a = first_passes (is_list layouts.Cells) (bodies_of 4 es) in
-    let b = first_passes (is_list layouts.Counts) (bodies_of 8 es) in
-    (and_parts (a && b) (first_passes (is_list layouts.Failures) (bodies_of 9 es)) h).1
+    let a = first_passes (is_list_body discriminators.Once 4) (bodies_of 4 es) in
+    let b = first_passes (is_list_body discriminators.Once 7) (bodies_of 8 es) in
+    (and_parts (a && b) (first_passes (is_list_body discriminators.Each 6) (bodies_of 9 es)) h).1
 
-cells_there : (kind : Kind) (es : List Element) → AreRight kind es
-    → is_there_if (need_of kind 4) (fields_in es).cells ≡ true
-cells_there kind es h =
-    items_there (need_of kind 4) layouts.Cells cells_in (bodies_of 4 es) (λ o some. some)
-    (mandatory_at kind es numbers 5 (omega arith) h.mandatory) (cells_listed es h.lists)
+cells_there : (message_type : MessageType) (es : List Element) → AreRight message_type es
+    → is_there_if (presence_of message_type 4) (fields_in es).cells ≡ true
+cells_there message_type es h =
+    items_there (presence_of message_type 4) discriminators.Once 4 cells_in (bodies_of 4 es) cells_in-some
+    (mandatory_at message_type es numbers 5 (omega arith) h.mandatory) (cells_listed es h.lists)
 
-failures_there : (kind : Kind) (es : List Element) → AreRight kind es
-    → is_there_if (need_of kind 9) (fields_in es).failures ≡ true
-failures_there kind es h =
-    items_there (need_of kind 9) layouts.Failures failures_in (bodies_of 9 es)
-    (λ o some. failures_some (failures_in o) some) (mandatory_at kind es numbers 3 (omega arith) h.mandatory)
+failures_there : (message_type : MessageType) (es : List Element) → AreRight message_type es
+    → is_there_if (presence_of message_type 9) (fields_in es).failures ≡ true
+failures_there message_type es h =
+    items_there (presence_of message_type 9) discriminators.Each 6 failures_in (bodies_of 9 es) failures_in-some
+    (mandatory_at message_type es numbers 3 (omega arith) h.mandatory)
     (failures_listed es h.lists)
 
-write_values : (es : List Element) → AreRight kinds.Write es
-    → are_values (fields_of (message_with kinds.Write (fields_in es))) ≡ true
-unfolding need_of table
+write_values : (es : List Element) → AreRight types.Write es
+    → values_are_valid (fields_of (message_with types.Write (fields_in es))) ≡ true
+unfolding presence_of table
 write_values es h =
     let f = fields_in es in
     let r = h.ranges in
     let period : f.period ≡ Some (or_0 f.period) =
-    number_there (bodies_of 6 es) (mandatory_at kinds.Write es numbers 8 (omega arith) h.mandatory) in
+    number_there (bodies_of 6 es) (mandatory_at types.Write es numbers 8 (omega arith) h.mandatory) in
     let dcs : f.dcs ≡ Some (or_0 f.dcs) =
-    octet_there (bodies_of 12 es) (mandatory_at kinds.Write es numbers 11 (omega arith) h.mandatory) in
+    octet_there (bodies_of 12 es) (mandatory_at types.Write es numbers 11 (omega arith) h.mandatory) in
     let pages : f.pages ≡ Some (length f.contents) =
     pages_there (bodies_of 19 es) f.contents
-    (mandatory_at kinds.Write es numbers 10 (omega arith) h.mandatory) r.contents in
-    values_from (fields_of (message_with kinds.Write f)) (record {
-      contents = ap (λ (o : Option ℕ). are_contents o f.contents) (sym pages) ∙ r.contents;
+    (mandatory_at types.Write es numbers 10 (omega arith) h.mandatory) r.contents in
+    values_from (fields_of (message_with types.Write f)) (record {
+      contents = ap (λ (o : Option ℕ). contents_are_valid o f.contents) (sym pages) ∙ r.contents;
       period = ap (λ (o : Option ℕ). passes is_period o) (sym period) ∙ r.period;
-      coding = ap (λ (o : Option ℕ). passes is_coding o) (sym dcs) ∙ r.coding;
+      coding = ap (λ (o : Option ℕ). passes has_alphabet o) (sym dcs) ∙ r.coding;
       category = r.category;
       channel = r.channel;
       cells = r.cells;
@@ -235,15 +189,16 @@ write_values es h =
       failures = refl;
     })
 
-right_written : (kind : Kind) (es : List Element) → AreRight kind es → IsWritten (message_with kind (fields_in es))
-unfolding need_of table
-right_written kinds.Write es h = record {
+right_written : (message_type : MessageType) (es : List Element) → AreRight message_type es
+    → IsWritten (message_with message_type (fields_in es))
+unfolding presence_of table
+right_written types.Write es h = record {
   values = write_values es h;
-  cells = cells_there kinds.Write es h;
+  cells = cells_there types.Write es h;
   failures = refl;
-  full = full_contents kinds.Write es h.of_kind;
+  full = full_contents types.Write es h.of_type;
 }
-right_written kinds.WriteDone es h =
+right_written types.WriteDone es h =
     let f = fields_in es in
     record {
       values = values_beside (Some (or_0 f.id))
@@ -253,26 +208,26 @@ right_written kinds.WriteDone es h =
       failures = refl;
       full = refl;
     }
-right_written kinds.WriteFailed es h =
+right_written types.WriteFailed es h =
     let f = fields_in es in
     record {
       values = values_beside (Some (or_0 f.id))
           (Some (or_0 f.new_serial)) f.old_serial f.failures f.completed f.cells f.channel
           h.ranges.channel h.ranges.cells h.ranges.completed h.ranges.failures;
       cells = refl;
-      failures = failures_there kinds.WriteFailed es h;
+      failures = failures_there types.WriteFailed es h;
       full = refl;
     }
-right_written kinds.Kill es h =
+right_written types.Kill es h =
     let f = fields_in es in
     record {
       values = values_beside (Some (or_0 f.id)) None
           (Some (or_0 f.old_serial)) [] [] f.cells f.channel h.ranges.channel h.ranges.cells refl refl;
-      cells = cells_there kinds.Kill es h;
+      cells = cells_there types.Kill es h;
       failures = refl;
       full = refl;
     }
-right_written kinds.KillDone es h =
+right_written types.KillDone es h =
     let f = fields_in es in
     record {
       values = values_beside (Some (or_0 f.id)) None
@@ -282,28 +237,29 @@ right_written kinds.KillDone es h =
       failures = refl;
       full = refl;
     }
-right_written kinds.KillFailed es h =
+right_written types.KillFailed es h =
     let f = fields_in es in
     record {
       values = values_beside (Some (or_0 f.id)) None
           (Some (or_0 f.old_serial)) f.failures f.completed f.cells f.channel
           h.ranges.channel h.ranges.cells h.ranges.completed h.ranges.failures;
       cells = refl;
-      failures = failures_there kinds.KillFailed es h;
+      failures = failures_there types.KillFailed es h;
       full = refl;
     }
 
 elements_written : (m : Message) (es : List Element) → AreElementsOf m es → is_writable m ≡ true
 unfolding message_of
 elements_written m es h =
-    let parts = and_parts (has_none_twice es && are_lists es) (are_values (fields_in es)) h.in_range in
-    let right : AreRight (kind_of m) es = record {
-      of_kind = h.of_kind;
-      mandatory = h.mandatory;
-      lists = (and_parts (has_none_twice es) (are_lists es) parts.0).1;
+    let parts = and_parts (has_none_twice es && lists_are_valid es) (values_are_valid (fields_in es))
+    (elements_pass es h.valid) in
+    let right : AreRight (type_of m) es = record {
+      of_type = h.of_type;
+      mandatory = mandatory_pass (type_of m) es h.mandatory;
+      lists = (and_parts (has_none_twice es) (lists_are_valid es) parts.0).1;
       ranges = ranges_from (fields_in es) parts.1;
     } in
-    is_writable-from m (subst (λ (n : Message). IsWritten n) (sym h.value) (right_written (kind_of m) es right))
+    is_writable-from m (subst (λ (n : Message). IsWritten n) (sym h.value) (right_written (type_of m) es right))
 
 -- what some octets mean is written
 pub IsMessage-writable : (octets : List ℕ) (m : Message) → IsMessage octets m → is_writable m ≡ true

@@ -2,8 +2,8 @@
 use Rattle.std.proofs.Common.{◌≡◌, Bool, true, false, List, [], ◌∷◌, refl}
 use Rattle.std.specs.Prelude.{◌&&◌, not}
 use Rattle.std.specs.List.{AllByRecursion, list_all}
-use Rattle.cbsp_wire.specs.declared.kind.Need.{Need}
-use Rattle.cbsp_wire.specs.declared.kind.Need.TheVariants as needs
+use Rattle.cbsp_wire.specs.declared.message_type.Presence.{Presence}
+use Rattle.cbsp_wire.specs.declared.message_type.Presence.TheVariants as presences
 use Rattle.cbsp_wire.specs.Range.{is_nothing, is_there_if}
 
 -- both parts of a test that passes
@@ -33,8 +33,9 @@ pub list_all-parts : {X : Type 0} (p : X → Bool) (x : X) (xs : List X) → lis
 list_all-parts p x xs h = and_parts (p x) (list_all p xs) h
 
 -- something is there
-pub there_from : {X : Type 0} (need : Need) (xs : List X) → is_nothing xs ≡ false → is_there_if need xs ≡ true
-there_from needs.Mandatory [] h = absurd cc
-there_from needs.Mandatory (x ∷ xs) h = refl
-there_from needs.Optional xs h = refl
-there_from needs.Foreign xs h = refl
+pub there_from : {X : Type 0} (presence : Presence) (xs : List X) → is_nothing xs ≡ false
+    → is_there_if presence xs ≡ true
+there_from presences.Mandatory [] h = absurd cc
+there_from presences.Mandatory (x ∷ xs) h = refl
+there_from presences.Optional xs h = refl
+there_from presences.Absent xs h = refl

@@ -1,13 +1,13 @@
 -- The definitions, computed on worked octets.
 use Rattle.std.proofs.Common.{◌≡◌, ℕ, List, [], ◌∷◌, map, Some, None, refl}
 use Rattle.cbsp_wire.specs.declared.fault.WireFault.TheVariants.{Truncated, TrailingBytes, Cause}
-use Rattle.cbsp_wire.specs.declared.kind.Kind.TheVariants as kinds
+use Rattle.cbsp_wire.specs.declared.message_type.MessageType.TheVariants as types
 use Rattle.cbsp_wire.specs.declared.message.Cell.{Cell}
 use Rattle.cbsp_wire.specs.declared.message.Count.{Count}
 use Rattle.cbsp_wire.specs.declared.message.Failure.{Failure}
 use Rattle.cbsp_wire.specs.declared.message.Message.{Message}
 use Rattle.cbsp_wire.specs.declared.message.Message.TheVariants as messages
-use Rattle.cbsp_wire.specs.Table.{table, need_of, size_of}
+use Rattle.cbsp_wire.specs.Table.{table, presence_of, size_of}
 use Rattle.cbsp_wire.specs.Walk.{walk_within, walk_of}
 use Rattle.cbsp_wire.specs.Value.{message_of}
 use Rattle.cbsp_wire.specs.Range.{numbers}
@@ -33,11 +33,11 @@ abbrev kill : Message
 kill = messages.Kill 4370 16 (cell ∷ []) None
 
 kill_has_no_fault : first_fault kill_octets ≡ None
-unfolding first_fault walk_of walk_within need_of size_of table
+unfolding first_fault walk_of walk_within presence_of size_of table
 kill_has_no_fault = refl
 
-kill_is_read : message_of kinds.Kill (walk_of kinds.Kill kill_elements).elements ≡ kill
-unfolding message_of walk_of walk_within need_of size_of table
+kill_is_read : message_of types.Kill (walk_of types.Kill kill_elements).elements ≡ kill
+unfolding message_of walk_of walk_within presence_of size_of table
 kill_is_read = refl
 
 kill_is_written : octets_of_message kill ≡ kill_octets
@@ -69,11 +69,11 @@ unfolding octets_of_message bodies_in
 failed_is_written = refl
 
 failed_has_no_fault : first_fault (failed_octets 1) ≡ None
-unfolding first_fault walk_of walk_within need_of size_of table
+unfolding first_fault walk_of walk_within presence_of size_of table
 failed_has_no_fault = refl
 
 second_by_another_discriminator : first_fault (failed_octets 2) ≡ Some (Cause 0x01)
-unfolding first_fault walk_of walk_within need_of size_of table
+unfolding first_fault walk_of walk_within presence_of size_of table
 second_by_another_discriminator = refl
 
 -- one discriminator before all failures
@@ -81,7 +81,7 @@ one_discriminator : first_fault
     (0x06 ∷ 0x00 ∷ 0x00 ∷ 0x14 ∷ 0x0E ∷ 0x11 ∷ 0x12 ∷ 0x02 ∷ 0x00 ∷ 0x10
     ∷ 0x09 ∷ 0x00 ∷ 0x0B ∷ 0x01 ∷ 0x00 ∷ 0x01 ∷ 0x00 ∷ 0x01 ∷ 0x06 ∷ 0x00 ∷ 0x01 ∷ 0x00 ∷ 0x02 ∷ 0x06 ∷ [])
     ≡ Some (Cause 0x01)
-unfolding first_fault walk_of walk_within need_of size_of table
+unfolding first_fault walk_of walk_within presence_of size_of table
 one_discriminator = refl
 
 -- faults of the frame, of a type, of an element past the end, of one that is missing, of one that is strange
@@ -98,12 +98,12 @@ unfolding first_fault
 cut = refl
 
 missing : first_fault (0x04 ∷ 0 ∷ 0 ∷ 0x06 ∷ 0x0E ∷ 0x11 ∷ 0x12 ∷ 0x02 ∷ 0x00 ∷ 0x10 ∷ []) ≡ Some (Cause 0x05)
-unfolding first_fault walk_of walk_within need_of size_of table
+unfolding first_fault walk_of walk_within presence_of size_of table
 missing = refl
 
 strange : first_fault
     (0x04 ∷ 0 ∷ 0 ∷ 0x10 ∷ 0x0E ∷ 0x11 ∷ 0x12 ∷ 0x02 ∷ 0x00 ∷ 0x10
     ∷ 0x04 ∷ 0x00 ∷ 0x05 ∷ 0x01 ∷ 0x00 ∷ 0x01 ∷ 0x00 ∷ 0x01 ∷ 0x0F ∷ 0x01 ∷ []) ≡ Some
     (Cause 0x00)
-unfolding first_fault walk_of walk_within need_of size_of table
+unfolding first_fault walk_of walk_within presence_of size_of table
 strange = refl

@@ -9,24 +9,25 @@ use Rattle.cbsp_wire.specs.declared.message.Count.{Count}
 use Rattle.cbsp_wire.specs.declared.message.Failure.{Failure}
 use Rattle.cbsp_wire.specs.declared.message.Message.{Message}
 use Rattle.cbsp_wire.specs.declared.message.Message.TheVariants as messages
-use Rattle.cbsp_wire.specs.Table.{need_of, table}
-use Rattle.cbsp_wire.specs.Value.{fields_of, kind_of}
-use Rattle.cbsp_wire.specs.Range.{passes, is_period, is_coding, are_cells, are_contents, cells_of_counts}
+use Rattle.cbsp_wire.specs.Table.{presence_of, table}
+use Rattle.cbsp_wire.specs.Value.{fields_of, type_of}
+use Rattle.cbsp_wire.specs.Range.{passes, is_period, has_alphabet, cells_are_valid, contents_are_valid, cells_of_counts}
 use Rattle.cbsp_wire.specs.Range.{cells_of_failures, is_nothing, is_full, is_writable}
 use Rattle.cbsp_wire.specs.Meaning.{IsMessage}
 use Rattle.cbsp_wire.proofs.Tests.{there_from}
 use Rattle.cbsp_wire.proofs.WrittenLaws.{IsWritten-from, is_writable-from}
-use Rattle.cbsp_wire.proofs.MeantLaws.{HaveRanges, ranges_from, values_from, values_beside, IsMessage-writable}
+use Rattle.cbsp_wire.proofs.MeantLaws.{values_beside, IsMessage-writable}
+use Rattle.cbsp_wire.proofs.Ranges.{HaveRanges, ranges_from, values_from}
 
 -- an order to write
 pub write-writable : (id new : ℕ) (old : Option ℕ) (cells : List Cell) (channel category : Option ℕ)
     (period broadcasts : ℕ) (dcs : Dcs) (contents : List Content)
-    → is_nothing cells ≡ false → are_cells cells ≡ true → passes (λ n. nat_le n 1) channel ≡ true
+    → is_nothing cells ≡ false → cells_are_valid cells ≡ true → passes (λ n. nat_le n 1) channel ≡ true
     → passes (λ n. nat_le n 2) category ≡ true
-    → is_period period ≡ true → is_coding dcs.0 ≡ true → are_contents (Some (length contents)) contents ≡ true
+    → is_period period ≡ true → has_alphabet dcs.0 ≡ true → contents_are_valid (Some (length contents)) contents ≡ true
     → list_all is_full contents ≡ true
     → is_writable (messages.Write id new old cells channel category period broadcasts dcs contents) ≡ true
-unfolding need_of table
+unfolding presence_of table
 write-writable id new old cells channel category period broadcasts dcs contents some right ch cat per cod con full =
     let m = messages.Write id new old cells channel category period broadcasts dcs contents in
     is_writable-from m (record {
@@ -41,30 +42,30 @@ write-writable id new old cells channel category period broadcasts dcs contents 
             completed = refl;
             failures = refl;
           });
-      cells = there_from (need_of (kind_of m) 4) cells some;
+      cells = there_from (presence_of (type_of m) 4) cells some;
       failures = refl;
       full = full;
     })
 
 -- an order to kill
 pub kill-writable : (id old : ℕ) (cells : List Cell) (channel : Option ℕ) → is_nothing cells ≡ false
-    → are_cells cells ≡ true → passes (λ n. nat_le n 1) channel ≡ true
+    → cells_are_valid cells ≡ true → passes (λ n. nat_le n 1) channel ≡ true
     → is_writable (messages.Kill id old cells channel) ≡ true
-unfolding need_of table
+unfolding presence_of table
 kill-writable id old cells channel some right ch =
     let m = messages.Kill id old cells channel in
     is_writable-from m (record {
       values = values_beside (Some id) None (Some old) [] [] cells channel ch right refl refl;
-      cells = there_from (need_of (kind_of m) 4) cells some;
+      cells = there_from (presence_of (type_of m) 4) cells some;
       failures = refl;
       full = refl;
     })
 
 -- the replies, which have no channel indicator
 pub write_done-writable : (id new : ℕ) (old : Option ℕ) (completed : List Count) (cells : List Cell)
-    → are_cells (cells_of_counts completed) ≡ true → are_cells cells ≡ true
+    → cells_are_valid (cells_of_counts completed) ≡ true → cells_are_valid cells ≡ true
     → is_writable (messages.WriteDone id new old completed cells None) ≡ true
-unfolding need_of table
+unfolding presence_of table
 write_done-writable id new old completed cells counted right =
     let m = messages.WriteDone id new old completed cells None in
     is_writable-from m (record {
@@ -77,24 +78,24 @@ write_done-writable id new old completed cells counted right =
 -- the failure of a write
 pub write_failed-writable : (id new : ℕ) (old : Option ℕ) (failures : List Failure) (completed : List Count)
     (cells : List Cell)
-    → is_nothing failures ≡ false → are_cells (cells_of_failures failures) ≡ true
-    → are_cells (cells_of_counts completed) ≡ true → are_cells cells ≡ true
+    → is_nothing failures ≡ false → cells_are_valid (cells_of_failures failures) ≡ true
+    → cells_are_valid (cells_of_counts completed) ≡ true → cells_are_valid cells ≡ true
     → is_writable (messages.WriteFailed id new old failures completed cells None) ≡ true
-unfolding need_of table
+unfolding presence_of table
 write_failed-writable id new old failures completed cells some failed counted right =
     let m = messages.WriteFailed id new old failures completed cells None in
     is_writable-from m (record {
       values = values_beside (Some id) (Some new) old failures completed cells None refl right counted failed;
       cells = refl;
-      failures = there_from (need_of (kind_of m) 9) failures some;
+      failures = there_from (presence_of (type_of m) 9) failures some;
       full = refl;
     })
 
 -- the completion of a kill
 pub kill_done-writable : (id old : ℕ) (completed : List Count) (cells : List Cell)
-    → are_cells (cells_of_counts completed) ≡ true → are_cells cells ≡ true
+    → cells_are_valid (cells_of_counts completed) ≡ true → cells_are_valid cells ≡ true
     → is_writable (messages.KillDone id old completed cells None) ≡ true
-unfolding need_of table
+unfolding presence_of table
 kill_done-writable id old completed cells counted right =
     let m = messages.KillDone id old completed cells None in
     is_writable-from m (record {
@@ -106,16 +107,16 @@ kill_done-writable id old completed cells counted right =
 
 -- the failure of a kill
 pub kill_failed-writable : (id old : ℕ) (failures : List Failure) (completed : List Count) (cells : List Cell)
-    → is_nothing failures ≡ false → are_cells (cells_of_failures failures) ≡ true
-    → are_cells (cells_of_counts completed) ≡ true → are_cells cells ≡ true
+    → is_nothing failures ≡ false → cells_are_valid (cells_of_failures failures) ≡ true
+    → cells_are_valid (cells_of_counts completed) ≡ true → cells_are_valid cells ≡ true
     → is_writable (messages.KillFailed id old failures completed cells None) ≡ true
-unfolding need_of table
+unfolding presence_of table
 kill_failed-writable id old failures completed cells some failed counted right =
     let m = messages.KillFailed id old failures completed cells None in
     is_writable-from m (record {
       values = values_beside (Some id) None (Some old) failures completed cells None refl right counted failed;
       cells = refl;
-      failures = there_from (need_of (kind_of m) 9) failures some;
+      failures = there_from (presence_of (type_of m) 9) failures some;
       full = refl;
     })
 

@@ -6,20 +6,21 @@ use Rattle.std.specs.List.{AllByRecursion, list_all, flat_map}
 use Rattle.std.proofs.lemmas.List.{append-nil}
 use Rattle.std.proofs.lemmas.Bool.{eqb-true}
 use Rattle.cbs_page.specs.declared.content.Content.{Content}
-use Rattle.cbsp_wire.specs.declared.items.Layout.{Layout}
-use Rattle.cbsp_wire.specs.declared.items.Layout.TheVariants as layouts
-use Rattle.cbsp_wire.specs.declared.kind.Kind.{Kind}
-use Rattle.cbsp_wire.specs.declared.kind.Need.{Need}
-use Rattle.cbsp_wire.specs.declared.kind.Need.TheVariants as needs
-use Rattle.cbsp_wire.specs.Element.{Element, bodies_of, number_of}
-use Rattle.cbsp_wire.specs.Table.{table, need_of, size_of}
+use Rattle.cbsp_wire.specs.declared.item.Discriminator.{Discriminator}
+use Rattle.cbsp_wire.specs.declared.item.Discriminator.TheVariants as discriminators
+use Rattle.cbsp_wire.specs.declared.message_type.MessageType.{MessageType}
+use Rattle.cbsp_wire.specs.declared.message_type.Presence.{Presence}
+use Rattle.cbsp_wire.specs.declared.message_type.Presence.TheVariants as presences
+use Rattle.cbsp_wire.specs.Element.{Element, bodies_of, u16_from_be}
+use Rattle.cbsp_wire.specs.Table.{table, presence_of, size_of}
 use Rattle.cbsp_wire.specs.Value.{Fields, fields_in, cells_in, counts_in, failures_in}
 use Rattle.cbsp_wire.specs.Range.{numbers, is_nothing, is_there_if, has_mandatory, comes_once, has_none_twice, is_full}
 use Rattle.cbsp_wire.specs.Meaning.{IsOf}
 use Rattle.cbsp_wire.specs.Written.{bodies_in, number_octets, cell_octets, count_octets, failure_octets, number_bodies}
 use Rattle.cbsp_wire.specs.Written.{octet_bodies, list_body, list_bodies, content_body, element, elements_among}
 use Rattle.cbsp_wire.proofs.Tests.{and_both, list_all-every, list_all-parts}
-use Rattle.cbsp_wire.proofs.WrittenItems.{first_number-bodies, first_octet-bodies, cells_in-octets, counts_in-octets}
+use Rattle.cbsp_wire.proofs.WrittenItems.{first_body_u16-bodies, first_body_octet-bodies, cells_in-octets}
+use Rattle.cbsp_wire.proofs.WrittenItems.{counts_in-octets}
 use Rattle.cbsp_wire.proofs.WrittenItems.{failures_in-octets, first_items-bodies, contents-bodies}
 
 bodies_of-append : (n : ℕ) (xs ys : List Element) → bodies_of n (xs ++ ys) ≡ bodies_of n xs ++ bodies_of n ys
@@ -121,34 +122,35 @@ fields_in-bodies f es h =
       pages,
       dcs,
       contents,
-      first_number-bodies f.id,
-      first_number-bodies f.new_serial,
-      first_number-bodies f.old_serial,
-      first_items-bodies layouts.Failures failure_octets failures_in f.failures (failures_in-octets f.failures),
-      first_items-bodies layouts.Counts count_octets counts_in f.completed (counts_in-octets f.completed),
-      first_items-bodies layouts.Cells cell_octets cells_in f.cells (cells_in-octets f.cells),
-      first_octet-bodies f.channel,
-      first_octet-bodies f.category,
-      first_number-bodies f.period,
-      first_number-bodies f.broadcasts,
-      first_octet-bodies f.pages,
-      first_octet-bodies f.dcs,
+      first_body_u16-bodies f.id,
+      first_body_u16-bodies f.new_serial,
+      first_body_u16-bodies f.old_serial,
+      first_items-bodies discriminators.Each failure_octets failures_in f.failures (failures_in-octets f.failures),
+      first_items-bodies discriminators.Once count_octets counts_in f.completed (counts_in-octets f.completed),
+      first_items-bodies discriminators.Once cell_octets cells_in f.cells (cells_in-octets f.cells),
+      first_body_octet-bodies f.channel,
+      first_body_octet-bodies f.category,
+      first_body_u16-bodies f.period,
+      first_body_u16-bodies f.broadcasts,
+      first_body_octet-bodies f.pages,
+      first_body_octet-bodies f.dcs,
       contents-bodies f.contents,
     ) refl
 
 -- each mandatory element is there where each mandatory field is
-pub has_mandatory-bodies : (kind : Kind) (f : Fields) (es : List Element) → HasBodies f es
-    → list_all (λ n. is_there_if (need_of kind n) (bodies_in f n)) numbers ≡ true → has_mandatory kind es ≡ true
-has_mandatory-bodies kind f es h there = along numbers h there where
+pub has_mandatory-bodies : (message_type : MessageType) (f : Fields) (es : List Element) → HasBodies f es
+    → list_all (λ n. is_there_if (presence_of message_type n) (bodies_in f n)) numbers ≡ true
+    → has_mandatory message_type es ≡ true
+has_mandatory-bodies message_type f es h there = along numbers h there where
   along : (ns : List ℕ) → AllByRecursion (λ n. bodies_of n es ≡ bodies_in f n) ns
-      → list_all (λ n. is_there_if (need_of kind n) (bodies_in f n)) ns ≡ true
-      → list_all (λ n. is_there_if (need_of kind n) (bodies_of n es)) ns ≡ true
+      → list_all (λ n. is_there_if (presence_of message_type n) (bodies_in f n)) ns ≡ true
+      → list_all (λ n. is_there_if (presence_of message_type n) (bodies_of n es)) ns ≡ true
   along [] g t = refl
   along (n ∷ ns) g t =
-      let both = list_all-parts (λ k. is_there_if (need_of kind k) (bodies_in f k)) n ns t in
-      and_both (is_there_if (need_of kind n) (bodies_of n es))
-      (list_all (λ k. is_there_if (need_of kind k) (bodies_of k es)) ns)
-      (ap (λ (bs : List (List ℕ)). is_there_if (need_of kind n) bs) g.0 ∙ both.0) (along ns g.1 both.1)
+      let both = list_all-parts (λ k. is_there_if (presence_of message_type k) (bodies_in f k)) n ns t in
+      and_both (is_there_if (presence_of message_type n) (bodies_of n es))
+      (list_all (λ k. is_there_if (presence_of message_type k) (bodies_of k es)) ns)
+      (ap (λ (bs : List (List ℕ)). is_there_if (presence_of message_type n) bs) g.0 ∙ both.0) (along ns g.1 both.1)
 
 -- no field is written twice
 number_once : (o : Option ℕ) → nat_le (length (number_bodies o)) 1 ≡ true
@@ -159,10 +161,10 @@ octet_once : (o : Option ℕ) → nat_le (length (octet_bodies o)) 1 ≡ true
 octet_once None = refl
 octet_once (Some n) = refl
 
-list_once : {X : Type 0} (layout : Layout) (octets : X → List ℕ) (xs : List X)
-    → nat_le (length (list_bodies layout octets xs)) 1 ≡ true
-list_once layout octets [] = refl
-list_once layout octets (x ∷ xs) = refl
+list_once : {X : Type 0} (discriminator : Discriminator) (octets : X → List ℕ) (xs : List X)
+    → nat_le (length (list_bodies discriminator octets xs)) 1 ≡ true
+list_once discriminator octets [] = refl
+list_once discriminator octets (x ∷ xs) = refl
 
 -- elements with the bodies of fields have none twice but 01
 pub has_none_twice-bodies : (f : Fields) (es : List Element) → HasBodies f es → has_none_twice es ≡ true
@@ -178,11 +180,11 @@ has_none_twice-bodies f es h =
         (
           once _ _ h.1.1.0 (number_once f.old_serial),
           (
-            once _ _ h.1.1.1.0 (list_once layouts.Failures failure_octets f.failures),
+            once _ _ h.1.1.1.0 (list_once discriminators.Each failure_octets f.failures),
             (
-              once _ _ h.1.1.1.1.0 (list_once layouts.Counts count_octets f.completed),
+              once _ _ h.1.1.1.1.0 (list_once discriminators.Once count_octets f.completed),
               (
-                once _ _ h.1.1.1.1.1.0 (list_once layouts.Cells cell_octets f.cells),
+                once _ _ h.1.1.1.1.1.0 (list_once discriminators.Once cell_octets f.cells),
                 (
                   once _ _ h.1.1.1.1.1.1.0 (octet_once f.channel),
                   (
@@ -226,17 +228,19 @@ one_sized : (n : ℕ) → ((body : List ℕ) → size_of n body ≡ 1) → (o : 
 one_sized n one None = tt
 one_sized n one (Some k) = (sym (one (k ∷ [])), tt)
 
-listed : (layout : Layout) (items : List ℕ) → length (list_body layout items) ≡ 2 + number_of (list_body layout items)
-listed layouts.Cells items = omega arith
-listed layouts.Counts items = omega arith
-listed layouts.Failures items = omega arith
+listed : (discriminator : Discriminator) (items : List ℕ) → length (list_body discriminator items) ≡ 2 + u16_from_be
+    (list_body discriminator items)
+listed discriminators.Once items = omega arith
+listed discriminators.Each items = omega arith
 
-list_sized : {X : Type 0} (n : ℕ) → ((body : List ℕ) → size_of n body ≡ 2 + number_of body)
-    → (layout : Layout) (octets : X → List ℕ) (xs : List X)
-    → AllByRecursion (λ body. length body ≡ size_of n body) (list_bodies layout octets xs)
-list_sized n size layout octets [] = tt
-list_sized n size layout octets (x ∷ xs) =
-    (listed layout (flat_map octets (x ∷ xs)) ∙ sym (size (list_body layout (flat_map octets (x ∷ xs)))), tt)
+list_sized : {X : Type 0} (n : ℕ) → ((body : List ℕ) → size_of n body ≡ 2 + u16_from_be body)
+    → (discriminator : Discriminator) (octets : X → List ℕ) (xs : List X)
+    → AllByRecursion (λ body. length body ≡ size_of n body) (list_bodies discriminator octets xs)
+list_sized n size discriminator octets [] = tt
+list_sized n size discriminator octets (x ∷ xs) = (
+  listed discriminator (flat_map octets (x ∷ xs)) ∙ sym (size (list_body discriminator (flat_map octets (x ∷ xs)))),
+  tt,
+)
 
 contents_sized : (cs : List Content) → list_all is_full cs ≡ true
     → AllByRecursion (λ body. length body ≡ size_of 1 body) (map content_body cs)
@@ -257,11 +261,11 @@ are_sized f full = (
     (
       two_sized 0x02 (λ b. refl) f.old_serial,
       (
-        list_sized 0x09 (λ b. refl) layouts.Failures failure_octets f.failures,
+        list_sized 0x09 (λ b. refl) discriminators.Each failure_octets f.failures,
         (
-          list_sized 0x08 (λ b. refl) layouts.Counts count_octets f.completed,
+          list_sized 0x08 (λ b. refl) discriminators.Once count_octets f.completed,
           (
-            list_sized 0x04 (λ b. refl) layouts.Cells cell_octets f.cells,
+            list_sized 0x04 (λ b. refl) discriminators.Once cell_octets f.cells,
             (
               one_sized 0x12 (λ b. refl) f.channel,
               (
@@ -286,40 +290,48 @@ are_sized f full = (
 )
 
 -- fields that a type of message may have
-abbrev pub is_known_if : Need → List (List ℕ) → Bool
-is_known_if needs.Foreign bodies = is_nothing bodies
-is_known_if needs.Mandatory bodies = true
-is_known_if needs.Optional bodies = true
+abbrev pub is_known_if : Presence → List (List ℕ) → Bool
+is_known_if presences.Absent bodies = is_nothing bodies
+is_known_if presences.Mandatory bodies = true
+is_known_if presences.Optional bodies = true
 
-known_element : (kind : Kind) (n : ℕ) (need : Need) (body : List ℕ) (bodies : List (List ℕ)) → need_of kind n ≡ need
-    → is_known_if need (body ∷ bodies) ≡ true → need_of kind n ≡ needs.Foreign → ⊥
-known_element kind n needs.Foreign body bodies is_need h foreign = cc
-known_element kind n needs.Mandatory body bodies is_need h foreign = cc
-known_element kind n needs.Optional body bodies is_need h foreign = cc
+known_element : (message_type : MessageType) (n : ℕ) (presence : Presence) (body : List ℕ) (bodies : List (List ℕ))
+    → presence_of message_type n ≡ presence
+    → is_known_if presence (body ∷ bodies) ≡ true → presence_of message_type n ≡ presences.Absent → ⊥
+known_element message_type n presences.Absent body bodies is_presence h foreign = cc
+known_element message_type n presences.Mandatory body bodies is_presence h foreign = cc
+known_element message_type n presences.Optional body bodies is_presence h foreign = cc
 
-are_of_one : (kind : Kind) (n : ℕ) (bodies : List (List ℕ)) → (need_of kind n ≡ needs.Foreign → ⊥)
-    → AllByRecursion (λ body. length body ≡ size_of n body) bodies → AllByRecursion (IsOf kind) (map (element n) bodies)
-are_of_one kind n [] known sized = tt
-are_of_one kind n (body ∷ bodies) known sized =
-    (record { known = known; sized = sized.0 }, are_of_one kind n bodies known sized.1)
+are_of_one : (message_type : MessageType) (n : ℕ) (bodies : List (List ℕ))
+    → (presence_of message_type n ≡ presences.Absent → ⊥)
+    → AllByRecursion (λ body. length body ≡ size_of n body) bodies
+    → AllByRecursion (IsOf message_type) (map (element n) bodies)
+are_of_one message_type n [] known sized = tt
+are_of_one message_type n (body ∷ bodies) known sized =
+    (record { known = known; sized = sized.0 }, are_of_one message_type n bodies known sized.1)
 
-are_of_number : (kind : Kind) (n : ℕ) (bodies : List (List ℕ)) → is_known_if (need_of kind n) bodies ≡ true
-    → AllByRecursion (λ body. length body ≡ size_of n body) bodies → AllByRecursion (IsOf kind) (map (element n) bodies)
-are_of_number kind n [] h sized = tt
-are_of_number kind n (body ∷ bodies) h sized =
-    are_of_one kind n (body ∷ bodies) (known_element kind n (need_of kind n) body bodies refl h) sized
+are_of_number : (message_type : MessageType) (n : ℕ) (bodies : List (List ℕ))
+    → is_known_if (presence_of message_type n) bodies ≡ true
+    → AllByRecursion (λ body. length body ≡ size_of n body) bodies
+    → AllByRecursion (IsOf message_type) (map (element n) bodies)
+are_of_number message_type n [] h sized = tt
+are_of_number message_type n (body ∷ bodies) h sized =
+    are_of_one message_type n (body ∷ bodies) (known_element message_type n (presence_of message_type n) body bodies
+    refl h) sized
 
-of_append : (kind : Kind) (xs ys : List Element) → AllByRecursion (IsOf kind) xs → AllByRecursion (IsOf kind) ys
-    → AllByRecursion (IsOf kind) (xs ++ ys)
-of_append kind [] ys hx hy = hy
-of_append kind (x ∷ xs) ys hx hy = (hx.0, of_append kind xs ys hx.1 hy)
+of_append : (message_type : MessageType) (xs ys : List Element) → AllByRecursion (IsOf message_type) xs
+    → AllByRecursion (IsOf message_type) ys
+    → AllByRecursion (IsOf message_type) (xs ++ ys)
+of_append message_type [] ys hx hy = hy
+of_append message_type (x ∷ xs) ys hx hy = (hx.0, of_append message_type xs ys hx.1 hy)
 
 -- the elements that are written are of the message's type
-pub are_of_kind : (kind : Kind) (f : Fields) (ns : List ℕ)
-    → list_all (λ n. is_known_if (need_of kind n) (bodies_in f n)) ns ≡ true → AllByRecursion (AreSized f) ns
-    → AllByRecursion (IsOf kind) (elements_among f ns)
-are_of_kind kind f [] known sized = tt
-are_of_kind kind f (n ∷ ns) known sized =
-    let both = list_all-parts (λ k. is_known_if (need_of kind k) (bodies_in f k)) n ns known in
-    of_append kind (map (element n) (bodies_in f n)) (elements_among f ns)
-    (are_of_number kind n (bodies_in f n) both.0 sized.0) (are_of_kind kind f ns both.1 sized.1)
+pub are_of_type : (message_type : MessageType) (f : Fields) (ns : List ℕ)
+    → list_all (λ n. is_known_if (presence_of message_type n) (bodies_in f n)) ns ≡ true
+    → AllByRecursion (AreSized f) ns
+    → AllByRecursion (IsOf message_type) (elements_among f ns)
+are_of_type message_type f [] known sized = tt
+are_of_type message_type f (n ∷ ns) known sized =
+    let both = list_all-parts (λ k. is_known_if (presence_of message_type k) (bodies_in f k)) n ns known in
+    of_append message_type (map (element n) (bodies_in f n)) (elements_among f ns)
+    (are_of_number message_type n (bodies_in f n) both.0 sized.0) (are_of_type message_type f ns both.1 sized.1)

@@ -6,15 +6,16 @@ use Rattle.std.specs.List.{flat_map}
 use Rattle.std.proofs.Math.Nat.{mul-mod_left}
 use Rattle.std.proofs.lemmas.List.Concat.{flat_map-cons}
 use Rattle.cbs_page.specs.declared.content.Content.{Content}
-use Rattle.cbsp_wire.specs.declared.items.Layout.{Layout}
-use Rattle.cbsp_wire.specs.declared.items.Layout.TheVariants as layouts
+use Rattle.cbsp_wire.specs.declared.item.Discriminator.{Discriminator}
+use Rattle.cbsp_wire.specs.declared.item.Discriminator.TheVariants as discriminators
 use Rattle.cbsp_wire.specs.declared.message.Cell.{Cell}
 use Rattle.cbsp_wire.specs.declared.message.Count.{Count}
 use Rattle.cbsp_wire.specs.declared.message.Failure.{Failure}
-use Rattle.cbsp_wire.specs.Value.{first_number, first_octet, first_items, items_of, cell_at, count_at, failure_at}
+use Rattle.cbsp_wire.specs.Value.{first_body_u16, first_body_octet, first_items, items_of, cell_at, count_at}
+use Rattle.cbsp_wire.specs.Value.{failure_at}
 use Rattle.cbsp_wire.specs.Value.{cells_in, counts_in, failures_in, content_of}
-use Rattle.cbsp_wire.specs.Range.{is_nothing, failures_are_by_lac_and_ci, is_by_lac_and_ci, is_list, are_items}
-use Rattle.cbsp_wire.specs.Range.{first_passes, cells_by, cells_of_counts, cells_of_failures, item_size}
+use Rattle.cbsp_wire.specs.Range.{is_nothing, failures_are_by_lac_and_ci, is_by_lac_and_ci, is_list_body}
+use Rattle.cbsp_wire.specs.Range.{items_are_whole, first_passes}
 use Rattle.cbsp_wire.specs.Written.{cell_octets, count_octets, failure_octets, number_bodies, octet_bodies, list_body}
 use Rattle.cbsp_wire.specs.Written.{list_bodies, content_body}
 use Rattle.cbsp_wire.proofs.Tests.{and_both}
@@ -23,14 +24,14 @@ whole : (n : ℕ) → n / 256 * 256 + n % 256 ≡ n
 whole n = omega arith
 
 -- a number that is written is read
-pub first_number-bodies : (o : Option ℕ) → first_number (number_bodies o) ≡ o
-first_number-bodies None = refl
-first_number-bodies (Some n) = ap (λ (k : ℕ). Some k) (whole n)
+pub first_body_u16-bodies : (o : Option ℕ) → first_body_u16 (number_bodies o) ≡ o
+first_body_u16-bodies None = refl
+first_body_u16-bodies (Some n) = ap (λ (k : ℕ). Some k) (whole n)
 
 -- an octet that is written is read
-pub first_octet-bodies : (o : Option ℕ) → first_octet (octet_bodies o) ≡ o
-first_octet-bodies None = refl
-first_octet-bodies (Some n) = refl
+pub first_body_octet-bodies : (o : Option ℕ) → first_body_octet (octet_bodies o) ≡ o
+first_body_octet-bodies None = refl
+first_body_octet-bodies (Some n) = refl
 
 cell_again : (c : Cell) → cell_at (c.lac / 256) (c.lac % 256) (c.ci / 256) (c.ci % 256) ≡ c
 cell_again c = rw (whole c.lac, whole c.ci) refl
@@ -69,13 +70,13 @@ failures_in-octets (f ∷ fs) =
     ∙ ap (λ (gs : List Failure). f ∷ gs) (failures_in-octets fs)
 
 -- the items of a list that is written are read
-pub first_items-bodies : {X : Type 0} (layout : Layout) (octets : X → List ℕ) (items_in : List ℕ → List X) (xs : List X)
+pub first_items-bodies : {X : Type 0} (discriminator : Discriminator) (octets : X → List ℕ)
+    (items_in : List ℕ → List X) (xs : List X)
     → items_in (flat_map octets xs) ≡ xs
-    → first_items layout items_in (list_bodies layout octets xs) ≡ xs
-first_items-bodies layout octets items_in [] h = refl
-first_items-bodies layouts.Cells octets items_in (x ∷ xs) h = h
-first_items-bodies layouts.Counts octets items_in (x ∷ xs) h = h
-first_items-bodies layouts.Failures octets items_in (x ∷ xs) h = h
+    → first_items discriminator items_in (list_bodies discriminator octets xs) ≡ xs
+first_items-bodies discriminator octets items_in [] h = refl
+first_items-bodies discriminators.Once octets items_in (x ∷ xs) h = h
+first_items-bodies discriminators.Each octets items_in (x ∷ xs) h = h
 
 -- contents that are written are read
 pub contents-bodies : (cs : List Content) → map content_of (map content_body cs) ≡ cs
@@ -105,25 +106,30 @@ failure_len f = refl
 whole_items : (n size : ℕ) (items : List ℕ) → 0 < size → length items ≡ n * size → eqb (length items % size) 0 ≡ true
 whole_items n size items h e = eq-eqb _ _ (rw e (mul-mod_left n size))
 
-items_of-body : (layout : Layout) (items : List ℕ) → items_of layout (list_body layout items) ≡ items
-items_of-body layouts.Cells items = refl
-items_of-body layouts.Counts items = refl
-items_of-body layouts.Failures items = refl
+items_of-body : (discriminator : Discriminator) (items : List ℕ)
+    → items_of discriminator (list_body discriminator items) ≡ items
+items_of-body discriminators.Once items = refl
+items_of-body discriminators.Each items = refl
 
-list_written : {X : Type 0} (layout : Layout) (octets : X → List ℕ) (x : X) (xs : List X)
-    → ((y : X) → length (octets y) ≡ item_size layout) → 0 < item_size layout
-    → is_nothing (cells_by layout (flat_map octets (x ∷ xs))) ≡ false
-    → is_by_lac_and_ci layout (list_body layout (flat_map octets (x ∷ xs))) ≡ true
-    → is_list layout (list_body layout (flat_map octets (x ∷ xs))) ≡ true
-list_written layout octets x xs len pos some by_both =
+some_octets : (o : List ℕ) → 0 < length o → is_nothing o ≡ false
+some_octets [] pos = absurd (omega arith)
+some_octets (a ∷ o) pos = refl
+
+list_written : {X : Type 0} (discriminator : Discriminator) (octets : X → List ℕ) (size : ℕ) (x : X) (xs : List X)
+    → ((y : X) → length (octets y) ≡ size) → 0 < size
+    → is_by_lac_and_ci discriminator (list_body discriminator (flat_map octets (x ∷ xs))) ≡ true
+    → is_list_body discriminator size (list_body discriminator (flat_map octets (x ∷ xs))) ≡ true
+list_written discriminator octets size x xs len pos by_both =
     let items = flat_map octets (x ∷ xs) in
-    let even =
-    whole_items (length (x ∷ xs)) (item_size layout) items pos (length-items octets (item_size layout) len (x ∷ xs)) in
-    let are : are_items layout items ≡ true =
-    and_both (eqb (length items % item_size layout) 0) (not (is_nothing (cells_by layout items))) even (rw some refl) in
-    and_both (is_by_lac_and_ci layout (list_body layout items))
-    (are_items layout (items_of layout (list_body layout items))) by_both
-    (ap (λ (o : List ℕ). are_items layout o) (items_of-body layout items) ∙ are)
+    let even = whole_items (length (x ∷ xs)) size items pos (length-items octets size len (x ∷ xs)) in
+    let cons = ap length (flat_map-cons octets x xs) in
+    let split = length-append (octets x) (flat_map octets xs) in
+    let some : is_nothing items ≡ false = some_octets items (omega (arith, cons, split, len x, pos)) in
+    let are : items_are_whole size items ≡ true =
+    and_both (eqb (length items % size) 0) (not (is_nothing items)) even (rw some refl) in
+    and_both (is_by_lac_and_ci discriminator (list_body discriminator items))
+    (items_are_whole size (items_of discriminator (list_body discriminator items))) by_both
+    (ap (λ (o : List ℕ). items_are_whole size o) (items_of-body discriminator items) ∙ are)
 
 -- each failure that is written has its discriminator
 failures_by_both : (fs : List Failure) → failures_are_by_lac_and_ci (flat_map failure_octets fs) ≡ true
@@ -132,23 +138,17 @@ failures_by_both (f ∷ fs) = ap failures_are_by_lac_and_ci (flat_map-cons failu
 
 -- the lists that are written are right
 pub cells-right : (cs : List Cell)
-    → first_passes (is_list layouts.Cells) (list_bodies layouts.Cells cell_octets cs) ≡ true
+    → first_passes (is_list_body discriminators.Once 4) (list_bodies discriminators.Once cell_octets cs) ≡ true
 cells-right [] = refl
-cells-right (c ∷ cs) =
-    list_written layouts.Cells cell_octets c cs cell_len (omega arith)
-    (ap (λ (ds : List Cell). is_nothing ds) (cells_in-octets (c ∷ cs))) refl
+cells-right (c ∷ cs) = list_written discriminators.Once cell_octets 4 c cs cell_len (omega arith) refl
 
 pub counts-right : (cs : List Count)
-    → first_passes (is_list layouts.Counts) (list_bodies layouts.Counts count_octets cs) ≡ true
+    → first_passes (is_list_body discriminators.Once 7) (list_bodies discriminators.Once count_octets cs) ≡ true
 counts-right [] = refl
-counts-right (c ∷ cs) =
-    list_written layouts.Counts count_octets c cs count_len (omega arith)
-    (ap (λ (ds : List Count). is_nothing (cells_of_counts ds)) (counts_in-octets (c ∷ cs))) refl
+counts-right (c ∷ cs) = list_written discriminators.Once count_octets 7 c cs count_len (omega arith) refl
 
 pub failures-right : (fs : List Failure)
-    → first_passes (is_list layouts.Failures) (list_bodies layouts.Failures failure_octets fs) ≡ true
+    → first_passes (is_list_body discriminators.Each 6) (list_bodies discriminators.Each failure_octets fs) ≡ true
 failures-right [] = refl
 failures-right (f ∷ fs) =
-    list_written layouts.Failures failure_octets f fs failure_len (omega arith)
-    (ap (λ (ds : List Failure). is_nothing (cells_of_failures ds)) (failures_in-octets (f ∷ fs)))
-    (failures_by_both (f ∷ fs))
+    list_written discriminators.Each failure_octets 6 f fs failure_len (omega arith) (failures_by_both (f ∷ fs))

@@ -5,19 +5,22 @@ use Rattle.std.specs.List.{list_all}
 use Rattle.cbsp_wire.specs.declared.message.Message.{Message}
 use Rattle.cbsp_wire.specs.declared.message.Message.TheVariants as messages
 use Rattle.cbsp_wire.specs.Element.{Element, octets_of_elements}
-use Rattle.cbsp_wire.specs.Table.{table, need_of}
-use Rattle.cbsp_wire.specs.Value.{Fields, fields_in, fields_of, message_with, message_of, kind_of}
-use Rattle.cbsp_wire.specs.Range.{numbers, is_there_if, has_none_twice, are_lists, are_values, is_writable, is_full}
+use Rattle.cbsp_wire.specs.Table.{table, presence_of}
+use Rattle.cbsp_wire.specs.Value.{Fields, fields_in, fields_of, message_with, message_of, type_of}
+use Rattle.cbsp_wire.specs.Range.{numbers, elements_are_valid, is_there_if, has_none_twice, lists_are_valid}
+use Rattle.cbsp_wire.specs.Range.{values_are_valid, is_writable}
+use Rattle.cbsp_wire.specs.Range.{is_full}
 use Rattle.cbsp_wire.specs.Refusals.{length_field}
 use Rattle.cbsp_wire.specs.Meaning.{AreElementsOf, IsMessage}
 use Rattle.cbsp_wire.specs.Written.{bodies_in, elements_of, octets_of_message}
+use Rattle.cbsp_wire.proofs.ElementFacts.{mandatory_from, elements_from}
 use Rattle.cbsp_wire.proofs.Tests.{and_parts, and_both}
 use Rattle.cbsp_wire.proofs.WrittenItems.{cells-right, counts-right, failures-right}
 use Rattle.cbsp_wire.proofs.WrittenElements.{HasBodies, HasBodies-among, fields_in-bodies, has_mandatory-bodies}
-use Rattle.cbsp_wire.proofs.WrittenElements.{has_none_twice-bodies, are_sized, is_known_if, are_of_kind}
+use Rattle.cbsp_wire.proofs.WrittenElements.{has_none_twice-bodies, are_sized, is_known_if, are_of_type}
 
 -- a message is what its fields say
-message_with-fields_of : (m : Message) → message_with (kind_of m) (fields_of m) ≡ m
+message_with-fields_of : (m : Message) → message_with (type_of m) (fields_of m) ≡ m
 message_with-fields_of (messages.Write a b c d e f g h i j) = refl
 message_with-fields_of (messages.WriteDone a b c d e f) = refl
 message_with-fields_of (messages.WriteFailed a b c d e f g) = refl
@@ -27,8 +30,8 @@ message_with-fields_of (messages.KillFailed a b c d e f) = refl
 
 -- a message has fields of its type alone
 known_fields : (m : Message)
-    → list_all (λ n. is_known_if (need_of (kind_of m) n) (bodies_in (fields_of m) n)) numbers ≡ true
-unfolding need_of table bodies_in
+    → list_all (λ n. is_known_if (presence_of (type_of m) n) (bodies_in (fields_of m) n)) numbers ≡ true
+unfolding presence_of table bodies_in
 known_fields (messages.Write a b c d e f g h i j) = refl
 known_fields (messages.WriteDone a b c d e f) = refl
 known_fields (messages.WriteFailed a b c d e f g) = refl
@@ -38,38 +41,38 @@ known_fields (messages.KillFailed a b c d e f) = refl
 
 -- what a message that is written has
 pub record IsWritten (m : Message) : Type 0 where
-  pub values : are_values (fields_of m) ≡ true
-  pub cells : is_there_if (need_of (kind_of m) 0x04) (fields_of m).cells ≡ true
-  pub failures : is_there_if (need_of (kind_of m) 0x09) (fields_of m).failures ≡ true
+  pub values : values_are_valid (fields_of m) ≡ true
+  pub cells : is_there_if (presence_of (type_of m) 0x04) (fields_of m).cells ≡ true
+  pub failures : is_there_if (presence_of (type_of m) 0x09) (fields_of m).failures ≡ true
   pub full : list_all is_full (fields_of m).contents ≡ true
 
 -- a writable message passes each test
 pub IsWritten-from : (m : Message) → is_writable m ≡ true → IsWritten m
 IsWritten-from m h =
     let f = fields_of m in
-    let a = is_there_if (need_of (kind_of m) 0x04) f.cells in
-    let b = is_there_if (need_of (kind_of m) 0x09) f.failures in
-    let one = and_parts ((are_values f && a) && b) (list_all is_full f.contents) h in
-    let two = and_parts (are_values f && a) b one.0 in
-    let three = and_parts (are_values f) a two.0 in
+    let a = is_there_if (presence_of (type_of m) 0x04) f.cells in
+    let b = is_there_if (presence_of (type_of m) 0x09) f.failures in
+    let one = and_parts ((values_are_valid f && a) && b) (list_all is_full f.contents) h in
+    let two = and_parts (values_are_valid f && a) b one.0 in
+    let three = and_parts (values_are_valid f) a two.0 in
     record { values = three.0; cells = three.1; failures = two.1; full = one.1 }
 
 -- a message that passes each test is writable
 pub is_writable-from : (m : Message) → IsWritten m → is_writable m ≡ true
 is_writable-from m h =
     let f = fields_of m in
-    let a = is_there_if (need_of (kind_of m) 0x04) f.cells in
-    let b = is_there_if (need_of (kind_of m) 0x09) f.failures in
-    and_both ((are_values f && a) && b) (list_all is_full f.contents)
-    (and_both (are_values f && a) b (and_both (are_values f) a h.values h.cells) h.failures) h.full
+    let a = is_there_if (presence_of (type_of m) 0x04) f.cells in
+    let b = is_there_if (presence_of (type_of m) 0x09) f.failures in
+    and_both ((values_are_valid f && a) && b) (list_all is_full f.contents)
+    (and_both (values_are_valid f && a) b (and_both (values_are_valid f) a h.values h.cells) h.failures) h.full
 
 -- its mandatory fields are there
 no_pages : (x y : Bool) → ((false && x) && y) ≡ true → ⊥
 no_pages x y h = cc
 
 mandatory_fields : (m : Message) → IsWritten m
-    → list_all (λ n. is_there_if (need_of (kind_of m) n) (bodies_in (fields_of m) n)) numbers ≡ true
-unfolding need_of table bodies_in
+    → list_all (λ n. is_there_if (presence_of (type_of m) n) (bodies_in (fields_of m) n)) numbers ≡ true
+unfolding presence_of table bodies_in
 mandatory_fields (messages.Write a b c [] e f g h i j) w = absurd (let no = w.cells in cc)
 mandatory_fields (messages.Write a b c (d ∷ ds) e f g h i []) w = absurd (let no = w.values in cc)
 mandatory_fields (messages.Write a b c (d ∷ ds) e f g h i (j ∷ js)) w = refl
@@ -82,9 +85,9 @@ mandatory_fields (messages.KillDone a b c d e) w = refl
 mandatory_fields (messages.KillFailed a b [] d e f) w = absurd (let no = w.failures in cc)
 mandatory_fields (messages.KillFailed a b (c ∷ cs) d e f) w = refl
 
-are_lists-bodies : (f : Fields) (es : List Element) → HasBodies f es → are_lists es ≡ true
+lists_are_valid-bodies : (f : Fields) (es : List Element) → HasBodies f es → lists_are_valid es ≡ true
 unfolding bodies_in
-are_lists-bodies f es h =
+lists_are_valid-bodies f es h =
     rw (
       h.1.1.1.0,
       h.1.1.1.1.0,
@@ -102,14 +105,17 @@ elements_right m w =
     let es = elements_of m in
     let bodies = HasBodies-among f in
     let back : fields_in es ≡ f = fields_in-bodies f es bodies in
-    let values : are_values (fields_in es) ≡ true = ap are_values back ∙ w.values in
+    let values : values_are_valid (fields_in es) ≡ true = ap values_are_valid back ∙ w.values in
+    let mandatory = has_mandatory-bodies (type_of m) f es bodies (mandatory_fields m w) in
+    let valid : elements_are_valid es ≡ true =
+    and_both (has_none_twice es && lists_are_valid es) (values_are_valid (fields_in es))
+    (and_both (has_none_twice es) (lists_are_valid es)
+    (has_none_twice-bodies f es bodies) (lists_are_valid-bodies f es bodies)) values in
     record {
-      of_kind = are_of_kind (kind_of m) f numbers (known_fields m) (are_sized f w.full);
-      mandatory = has_mandatory-bodies (kind_of m) f es bodies (mandatory_fields m w);
-      in_range = and_both (has_none_twice es && are_lists es) (are_values (fields_in es))
-          (and_both (has_none_twice es) (are_lists es)
-          (has_none_twice-bodies f es bodies) (are_lists-bodies f es bodies)) values;
-      value = sym (ap (message_with (kind_of m)) back ∙ message_with-fields_of m);
+      of_type = are_of_type (type_of m) f numbers (known_fields m) (are_sized f w.full);
+      mandatory = mandatory_from (type_of m) es mandatory;
+      valid = elements_from es valid;
+      value = sym (ap (message_with (type_of m)) back ∙ message_with-fields_of m);
     }
 
 length_field-length : (n : ℕ) → length_field (n / 65536) (n / 256 % 256) (n % 256) ≡ n

@@ -17,12 +17,12 @@ bodies_of n [] = []
 bodies_of n (e ∷ es) = if e.number == n then e.body ∷ bodies_of n es else bodies_of n es
 
 -- the number that two octets are, the high one first
-abbrev pub number_of : List ℕ → ℕ
-number_of [] = 0
-number_of (a ∷ []) = 0
-number_of (a ∷ b ∷ octets) = a * 256 + b
+abbrev pub u16_from_be : List ℕ → ℕ
+u16_from_be [] = 0
+u16_from_be (a ∷ []) = 0
+u16_from_be (a ∷ b ∷ octets) = a * 256 + b
 
 -- the first octet
-abbrev pub octet_of : List ℕ → ℕ
-octet_of [] = 0
-octet_of (a ∷ octets) = a
+abbrev pub first_octet : List ℕ → ℕ
+first_octet [] = 0
+first_octet (a ∷ octets) = a

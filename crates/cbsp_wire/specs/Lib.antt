@@ -3,8 +3,10 @@ pub mod Table
 pub mod Walk
 pub mod Value
 pub mod Range
+pub mod Valid
 pub mod Refusals
 pub mod Meaning
-pub mod Named
+pub mod Laws
 pub mod Written
-pub mod Parts
+pub mod ReadingSteps
+pub mod WritingSteps

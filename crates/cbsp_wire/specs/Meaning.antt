@@ -1,36 +1,36 @@
 -- What octets mean: a CBSP message as a list of elements, in any order. 3GPP TS 48.049, clauses 8.1 and 8.2, in this
 -- project's own layouts.
-use Rattle.std.specs.Prelude.{◌≡◌, ℕ, List, ◌∷◌, length, true}
+use Rattle.std.specs.Prelude.{◌≡◌, ℕ, List, ◌∷◌, length}
 use Rattle.std.specs.List.{AllByRecursion}
-use Rattle.cbsp_wire.specs.declared.kind.Kind.{Kind}
-use Rattle.cbsp_wire.specs.declared.kind.Need.TheVariants as needs
+use Rattle.cbsp_wire.specs.declared.message_type.MessageType.{MessageType}
+use Rattle.cbsp_wire.specs.declared.message_type.Presence.TheVariants as presences
 use Rattle.cbsp_wire.specs.declared.fault.WireFault.{WireFault}
 use Rattle.cbsp_wire.specs.declared.fault.WireFault.TheVariants.{Truncated, TrailingBytes, Cause, Refused}
 use Rattle.cbsp_wire.specs.declared.message.Message.{Message}
 use Rattle.cbsp_wire.specs.Element.{Element, octets_of_elements}
-use Rattle.cbsp_wire.specs.Table.{octet_of_kind, need_of, size_of}
-use Rattle.cbsp_wire.specs.Value.{message_of, kind_of}
-use Rattle.cbsp_wire.specs.Range.{has_mandatory, are_in_range}
+use Rattle.cbsp_wire.specs.Table.{octet_of_type, presence_of, size_of}
+use Rattle.cbsp_wire.specs.Value.{message_of, type_of}
+use Rattle.cbsp_wire.specs.Valid.{HasMandatory, AreValidElements}
 use Rattle.cbsp_wire.specs.Refusals.{length_field}
 use Rattle.cbsp_wire.specs.declared.cause.TheConstants.{PARAMETER_VALUE_INVALID}
 
 -- an element of this type of message, whose body has its size
-pub record IsOf (kind : Kind) (e : Element) : Type 0 where
-  pub known : need_of kind e.number ≡ needs.Foreign → ⊥
+pub record IsOf (message_type : MessageType) (e : Element) : Type 0 where
+  pub known : presence_of message_type e.number ≡ presences.Absent → ⊥
   pub sized : length e.body ≡ size_of e.number e.body
 
--- the elements of a message m of a type: in any order, each mandatory one once, each optional one at most once, all
--- values in their ranges, and the fields found by look-up
+-- the elements of a message m: in any order, each mandatory one, none twice but contents, whole lists, values in their
+-- ranges, and the fields found by look-up
 pub record AreElementsOf (m : Message) (es : List Element) : Type 0 where
-  pub of_kind : AllByRecursion (IsOf (kind_of m)) es
-  pub mandatory : has_mandatory (kind_of m) es ≡ true
-  pub in_range : are_in_range es ≡ true
-  pub value : m ≡ message_of (kind_of m) es
+  pub of_type : AllByRecursion (IsOf (type_of m)) es
+  pub mandatory : HasMandatory (type_of m) es
+  pub valid : AreValidElements es
+  pub value : m ≡ message_of (type_of m) es
 
 -- octets that mean m: its type, the length of the rest, and some elements one after the other
 unfoldable pub IsMessage : List ℕ → Message → Type 0
 IsMessage (octet ∷ a ∷ b ∷ c ∷ rest) m =
-    (octet ≡ octet_of_kind (kind_of m)) × (length_field a b c ≡ length rest) ×
+    (octet ≡ octet_of_type (type_of m)) × (length_field a b c ≡ length rest) ×
     ((es : List Element) × (rest ≡ octets_of_elements es) × AreElementsOf m es)
 IsMessage octets m = ⊥
 

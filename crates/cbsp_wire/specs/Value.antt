@@ -1,29 +1,29 @@
 -- The value of a message, found by looking elements up. 3GPP TS 48.049, clause 8.2, in this project's own layouts.
 use Rattle.std.specs.Prelude.{ℕ, ◌+◌, ◌*◌, List, [], ◌∷◌, length, map, Option, Some, None, unwrap_or}
 use Rattle.cbs_page.specs.declared.content.Content.{Content}
-use Rattle.cbsp_wire.specs.declared.kind.Kind.{Kind}
-use Rattle.cbsp_wire.specs.declared.kind.Kind.TheVariants as kinds
-use Rattle.cbsp_wire.specs.declared.items.Layout.{Layout}
-use Rattle.cbsp_wire.specs.declared.items.Layout.TheVariants as layouts
+use Rattle.cbsp_wire.specs.declared.message_type.MessageType.{MessageType}
+use Rattle.cbsp_wire.specs.declared.message_type.MessageType.TheVariants as types
+use Rattle.cbsp_wire.specs.declared.item.Discriminator.{Discriminator}
+use Rattle.cbsp_wire.specs.declared.item.Discriminator.TheVariants as discriminators
 use Rattle.cbsp_wire.specs.declared.message.Cell.{Cell}
 use Rattle.cbsp_wire.specs.declared.message.Count.{Count}
 use Rattle.cbsp_wire.specs.declared.message.Failure.{Failure}
 use Rattle.cbsp_wire.specs.declared.message.Message.{Message}
 use Rattle.cbsp_wire.specs.declared.message.Message.TheVariants as messages
-use Rattle.cbsp_wire.specs.Element.{Element, bodies_of, number_of, octet_of}
+use Rattle.cbsp_wire.specs.Element.{Element, bodies_of, u16_from_be, first_octet}
 use Rattle.cbsp_wire.specs.declared.iei.TheConstants.{MESSAGE_CONTENT, OLD_SERIAL_NUMBER, NEW_SERIAL_NUMBER, CELL_LIST}
 use Rattle.cbsp_wire.specs.declared.iei.TheConstants.{CATEGORY, REPETITION_PERIOD, BROADCASTS_REQUESTED}
 use Rattle.cbsp_wire.specs.declared.iei.TheConstants.{BROADCASTS_COMPLETED, FAILURE_LIST, DATA_CODING}
 use Rattle.cbsp_wire.specs.declared.iei.TheConstants.{MESSAGE_IDENTIFIER, CHANNEL_INDICATOR, NUMBER_OF_PAGES}
 
 -- the number, or the octet, of the first body
-abbrev pub first_number : List (List ℕ) → Option ℕ
-first_number [] = None
-first_number (body ∷ bodies) = Some (number_of body)
+abbrev pub first_body_u16 : List (List ℕ) → Option ℕ
+first_body_u16 [] = None
+first_body_u16 (body ∷ bodies) = Some (u16_from_be body)
 
-abbrev pub first_octet : List (List ℕ) → Option ℕ
-first_octet [] = None
-first_octet (body ∷ bodies) = Some (octet_of body)
+abbrev pub first_body_octet : List (List ℕ) → Option ℕ
+first_body_octet [] = None
+first_body_octet (body ∷ bodies) = Some (first_octet body)
 
 abbrev pub cell_at : ℕ → ℕ → ℕ → ℕ → Cell
 cell_at a b c d = record { lac = a * 256 + b; ci = c * 256 + d }
@@ -48,36 +48,35 @@ abbrev pub failures_in : List ℕ → List Failure
 failures_in (discriminator ∷ a ∷ b ∷ c ∷ d ∷ e ∷ octets) = failure_at a b c d e ∷ failures_in octets
 failures_in octets = []
 
--- the octets of a list's items: what follows the two octets of its length, and the one discriminator of cells or counts
-abbrev pub items_of : Layout → List ℕ → List ℕ
-items_of layouts.Cells (high ∷ low ∷ discriminator ∷ items) = items
-items_of layouts.Counts (high ∷ low ∷ discriminator ∷ items) = items
-items_of layouts.Failures (high ∷ low ∷ items) = items
-items_of layout body = []
+-- the octets of a list's items: what follows the two octets of its length, and the one discriminator, if all share one
+abbrev pub items_of : Discriminator → List ℕ → List ℕ
+items_of discriminators.Once (high ∷ low ∷ discriminator ∷ items) = items
+items_of discriminators.Each (high ∷ low ∷ items) = items
+items_of discriminator body = []
 
 -- the items of the first body
-abbrev pub first_items : {X : Type 0} → Layout → (List ℕ → List X) → List (List ℕ) → List X
-first_items layout items_in [] = []
-first_items layout items_in (body ∷ bodies) = items_in (items_of layout body)
+abbrev pub first_items : {X : Type 0} → Discriminator → (List ℕ → List X) → List (List ℕ) → List X
+first_items discriminator items_in [] = []
+first_items discriminator items_in (body ∷ bodies) = items_in (items_of discriminator body)
 
 abbrev pub content_of : List ℕ → Content
 content_of [] = record { used = 0; octets = [] }
 content_of (used ∷ octets) = record { used = used; octets = octets }
 
-abbrev pub number_in : ℕ → List Element → Option ℕ
-number_in n es = first_number (bodies_of n es)
+abbrev pub u16_value : ℕ → List Element → Option ℕ
+u16_value n es = first_body_u16 (bodies_of n es)
 
-abbrev pub octet_in : ℕ → List Element → Option ℕ
-octet_in n es = first_octet (bodies_of n es)
+abbrev pub u8_value : ℕ → List Element → Option ℕ
+u8_value n es = first_body_octet (bodies_of n es)
 
 abbrev pub cells_of : List Element → List Cell
-cells_of es = first_items layouts.Cells cells_in (bodies_of CELL_LIST es)
+cells_of es = first_items discriminators.Once cells_in (bodies_of CELL_LIST es)
 
 abbrev pub counts_of : List Element → List Count
-counts_of es = first_items layouts.Counts counts_in (bodies_of BROADCASTS_COMPLETED es)
+counts_of es = first_items discriminators.Once counts_in (bodies_of BROADCASTS_COMPLETED es)
 
 abbrev pub failures_of : List Element → List Failure
-failures_of es = first_items layouts.Failures failures_in (bodies_of FAILURE_LIST es)
+failures_of es = first_items discriminators.Each failures_in (bodies_of FAILURE_LIST es)
 
 abbrev pub contents_of : List Element → List Content
 contents_of es = map content_of (bodies_of MESSAGE_CONTENT es)
@@ -101,18 +100,18 @@ pub record Fields : Type 0 where
 -- the fields that elements say
 abbrev pub fields_in : List Element → Fields
 fields_in es = record {
-  id = number_in MESSAGE_IDENTIFIER es;
-  new_serial = number_in NEW_SERIAL_NUMBER es;
-  old_serial = number_in OLD_SERIAL_NUMBER es;
+  id = u16_value MESSAGE_IDENTIFIER es;
+  new_serial = u16_value NEW_SERIAL_NUMBER es;
+  old_serial = u16_value OLD_SERIAL_NUMBER es;
   failures = failures_of es;
   completed = counts_of es;
   cells = cells_of es;
-  channel = octet_in CHANNEL_INDICATOR es;
-  category = octet_in CATEGORY es;
-  period = number_in REPETITION_PERIOD es;
-  broadcasts = number_in BROADCASTS_REQUESTED es;
-  pages = octet_in NUMBER_OF_PAGES es;
-  dcs = octet_in DATA_CODING es;
+  channel = u8_value CHANNEL_INDICATOR es;
+  category = u8_value CATEGORY es;
+  period = u16_value REPETITION_PERIOD es;
+  broadcasts = u16_value BROADCASTS_REQUESTED es;
+  pages = u8_value NUMBER_OF_PAGES es;
+  dcs = u8_value DATA_CODING es;
   contents = contents_of es;
 }
 
@@ -120,22 +119,22 @@ abbrev pub or_0 : Option ℕ → ℕ
 or_0 o = unwrap_or o 0
 
 -- the message of a type with these fields
-abbrev pub message_with : Kind → Fields → Message
-message_with kinds.Write f =
+abbrev pub message_with : MessageType → Fields → Message
+message_with types.Write f =
     messages.Write (or_0 f.id) (or_0 f.new_serial) f.old_serial f.cells f.channel f.category (or_0 f.period)
     (or_0 f.broadcasts) (record { 0 = or_0 f.dcs }) f.contents
-message_with kinds.WriteDone f =
+message_with types.WriteDone f =
     messages.WriteDone (or_0 f.id) (or_0 f.new_serial) f.old_serial f.completed f.cells f.channel
-message_with kinds.WriteFailed f =
+message_with types.WriteFailed f =
     messages.WriteFailed (or_0 f.id) (or_0 f.new_serial) f.old_serial f.failures f.completed f.cells f.channel
-message_with kinds.Kill f = messages.Kill (or_0 f.id) (or_0 f.old_serial) f.cells f.channel
-message_with kinds.KillDone f = messages.KillDone (or_0 f.id) (or_0 f.old_serial) f.completed f.cells f.channel
-message_with kinds.KillFailed f =
+message_with types.Kill f = messages.Kill (or_0 f.id) (or_0 f.old_serial) f.cells f.channel
+message_with types.KillDone f = messages.KillDone (or_0 f.id) (or_0 f.old_serial) f.completed f.cells f.channel
+message_with types.KillFailed f =
     messages.KillFailed (or_0 f.id) (or_0 f.old_serial) f.failures f.completed f.cells f.channel
 
 -- the message that elements say
-unfoldable pub message_of : Kind → List Element → Message
-message_of kind es = message_with kind (fields_in es)
+unfoldable pub message_of : MessageType → List Element → Message
+message_of message_type es = message_with message_type (fields_in es)
 
 abbrev pub no_fields : Fields
 no_fields = record {
@@ -209,10 +208,10 @@ fields_of (messages.KillFailed id old failures completed cells channel) = record
 }
 
 -- the type of a message
-abbrev pub kind_of : Message → Kind
-kind_of (messages.Write a b c d e f g h i j) = kinds.Write
-kind_of (messages.WriteDone a b c d e f) = kinds.WriteDone
-kind_of (messages.WriteFailed a b c d e f g) = kinds.WriteFailed
-kind_of (messages.Kill a b c d) = kinds.Kill
-kind_of (messages.KillDone a b c d e) = kinds.KillDone
-kind_of (messages.KillFailed a b c d e f) = kinds.KillFailed
+abbrev pub type_of : Message → MessageType
+type_of (messages.Write a b c d e f g h i j) = types.Write
+type_of (messages.WriteDone a b c d e f) = types.WriteDone
+type_of (messages.WriteFailed a b c d e f g) = types.WriteFailed
+type_of (messages.Kill a b c d) = types.Kill
+type_of (messages.KillDone a b c d e) = types.KillDone
+type_of (messages.KillFailed a b c d e f) = types.KillFailed

@@ -1,18 +1,18 @@
 -- The octets of a message, with its elements in the table's order. 3GPP TS 48.049, clauses 8.1 and 8.2, in this
 -- project's own layouts.
-use Rattle.std.specs.Prelude.{ℕ, ◌+◌, ◌/◌, ◌%◌, ◌≤◌, IfSome, ◌==◌, if◌then◌else◌, List, [], ◌∷◌, ◌++◌, length, map}
+use Rattle.std.specs.Prelude.{ℕ, ◌+◌, ◌/◌, ◌%◌, ◌==◌, if◌then◌else◌, List, [], ◌∷◌, ◌++◌, length, map}
 use Rattle.std.specs.Prelude.{Option, Some, None}
 use Rattle.std.specs.List.{flat_map}
 use Rattle.cbs_page.specs.declared.content.Content.{Content}
-use Rattle.cbsp_wire.specs.declared.items.Layout.{Layout}
-use Rattle.cbsp_wire.specs.declared.items.Layout.TheVariants as layouts
+use Rattle.cbsp_wire.specs.declared.item.Discriminator.{Discriminator}
+use Rattle.cbsp_wire.specs.declared.item.Discriminator.TheVariants as discriminators
 use Rattle.cbsp_wire.specs.declared.message.Cell.{Cell}
 use Rattle.cbsp_wire.specs.declared.message.Count.{Count}
 use Rattle.cbsp_wire.specs.declared.message.Failure.{Failure}
 use Rattle.cbsp_wire.specs.declared.message.Message.{Message}
 use Rattle.cbsp_wire.specs.Element.{Element, octets_of_elements}
-use Rattle.cbsp_wire.specs.Table.{octet_of_kind}
-use Rattle.cbsp_wire.specs.Value.{Fields, fields_of, kind_of}
+use Rattle.cbsp_wire.specs.Table.{octet_of_type}
+use Rattle.cbsp_wire.specs.Value.{Fields, fields_of, type_of}
 use Rattle.cbsp_wire.specs.Range.{numbers}
 use Rattle.cbsp_wire.specs.declared.iei.TheConstants.{MESSAGE_CONTENT, OLD_SERIAL_NUMBER, NEW_SERIAL_NUMBER, CELL_LIST}
 use Rattle.cbsp_wire.specs.declared.iei.TheConstants.{CATEGORY, REPETITION_PERIOD, BROADCASTS_REQUESTED}
@@ -42,19 +42,18 @@ abbrev pub octet_bodies : Option ℕ → List (List ℕ)
 octet_bodies None = []
 octet_bodies (Some n) = (n ∷ []) ∷ []
 
--- the length of a list that has so many octets of items, and what follows it: the one discriminator of cells or counts
-abbrev pub list_head : Layout → ℕ → List ℕ
-list_head layouts.Cells items = number_octets (1 + items) ++ 1 ∷ []
-list_head layouts.Counts items = number_octets (1 + items) ++ 1 ∷ []
-list_head layouts.Failures items = number_octets items
+-- the length of a list whose items take n octets, and what follows it: the one discriminator, if all items share one
+abbrev pub list_head : Discriminator → ℕ → List ℕ
+list_head discriminators.Once n = number_octets (1 + n) ++ 1 ∷ []
+list_head discriminators.Each n = number_octets n
 
 -- a list's body: its head and its items
-abbrev pub list_body : Layout → List ℕ → List ℕ
-list_body layout items = list_head layout (length items) ++ items
+abbrev pub list_body : Discriminator → List ℕ → List ℕ
+list_body discriminator items = list_head discriminator (length items) ++ items
 
-abbrev pub list_bodies : {X : Type 0} → Layout → (X → List ℕ) → List X → List (List ℕ)
-list_bodies layout octets [] = []
-list_bodies layout octets (x ∷ xs) = list_body layout (flat_map octets (x ∷ xs)) ∷ []
+abbrev pub list_bodies : {X : Type 0} → Discriminator → (X → List ℕ) → List X → List (List ℕ)
+list_bodies discriminator octets [] = []
+list_bodies discriminator octets (x ∷ xs) = list_body discriminator (flat_map octets (x ∷ xs)) ∷ []
 
 abbrev pub content_body : Content → List ℕ
 content_body c = c.used ∷ c.octets
@@ -65,9 +64,9 @@ bodies_in f n =
     if n == MESSAGE_IDENTIFIER then number_bodies f.id
     else if n == NEW_SERIAL_NUMBER then number_bodies f.new_serial
     else if n == OLD_SERIAL_NUMBER then number_bodies f.old_serial
-    else if n == FAILURE_LIST then list_bodies layouts.Failures failure_octets f.failures
-    else if n == BROADCASTS_COMPLETED then list_bodies layouts.Counts count_octets f.completed
-    else if n == CELL_LIST then list_bodies layouts.Cells cell_octets f.cells
+    else if n == FAILURE_LIST then list_bodies discriminators.Each failure_octets f.failures
+    else if n == BROADCASTS_COMPLETED then list_bodies discriminators.Once count_octets f.completed
+    else if n == CELL_LIST then list_bodies discriminators.Once cell_octets f.cells
     else if n == CHANNEL_INDICATOR then octet_bodies f.channel
     else if n == CATEGORY then octet_bodies f.category
     else if n == REPETITION_PERIOD then number_bodies f.period
@@ -98,18 +97,4 @@ abbrev pub framed : ℕ → List ℕ → List ℕ
 framed octet rest = octet ∷ (length_octets (length rest) ++ rest)
 
 unfoldable pub octets_of_message : Message → List ℕ
-octets_of_message m = framed (octet_of_kind (kind_of m)) (octets_of_elements (elements_of m))
-
--- the octets of the elements with a number
-abbrev pub element_octets : ℕ → List (List ℕ) → List ℕ
-element_octets n bodies = octets_of_elements (map (element n) bodies)
-
-abbrev pub field_octets : Fields → ℕ → List ℕ
-field_octets f n = element_octets n (bodies_in f n)
-
--- lists as short as a message's may be
-pub record AreShort (f : Fields) : Type 0 where
-  pub cells : length f.cells ≤ 64
-  pub completed : length f.completed ≤ 64
-  pub failures : length f.failures ≤ 64
-  pub pages : IfSome f.pages (λ n. n ≤ 15)
+octets_of_message m = framed (octet_of_type (type_of m)) (octets_of_elements (elements_of m))

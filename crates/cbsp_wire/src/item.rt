@@ -1,39 +1,56 @@
-//! The items of lists (3GPP TS 48.049, 8.2, in this project's own layouts): each stands for a cell, with what the list
-//! tells of it.
+//! The items of lists (3GPP TS 48.049, 8.2, in this project's own layouts): each names a cell, with what the list says
+//! of it.
 
 ghost use Rattle.std.specs.Prelude.{◌≡◌, ◌+◌, ◌≤◌, ◌<◌, ◌++◌, ◌∷◌, [], ℕ, List, length, refl, IfOk, IfSome};
 ghost use Rattle.std.specs.Prelude.{MatchOption, vec_capacity};
 ghost use Rattle.std.specs.List.{flat_map};
 ghost use Rattle.std.proofs.Common.{rules};
-ghost use Rattle.cbsp_wire.specs.declared.items.Layout.{Layout};
-ghost use Rattle.cbsp_wire.specs.declared.items.Layout.TheVariants as layouts;
-ghost use Rattle.cbsp_wire.specs.Parts.{HasRoom};
+ghost use Rattle.cbsp_wire.specs.declared.item.Discriminator.{Discriminator};
+ghost use Rattle.cbsp_wire.specs.declared.message.Cell.{Cell};
+ghost use Rattle.cbsp_wire.specs.declared.item.Discriminator.TheVariants as discriminators;
+ghost use Rattle.cbsp_wire.specs.WritingSteps.{HasRoom};
 ghost use Rattle.cbsp_wire.specs.Value.{cells_in, counts_in, failures_in};
 ghost use Rattle.cbsp_wire.specs.Written.{cell_octets, count_octets, failure_octets};
 
-use crate::items::{Layout, cell_of};
+use crate::lists::cell_of;
 use crate::message::{Cell, Count, Failure};
 use crate::writing::{octets_of_number, put};
 use std::alloc::{AllocError, Global};
 
+/// How often a list has its discriminator, 1, which says that a cell is named by LAC and CI.
+#[derive(Clone, Copy, Debug, PartialEq, Eq)]
+pub enum Discriminator {
+    /// Once, before all items.
+    Once,
+    /// In each item, as its first octet.
+    Each,
+}
+
 /// An item of a list: a cell of 4 octets (LAC and CI, two each), a completed broadcast of 7 (the cell, the number in
 /// two, the information), a failure of 6 (its discriminator, the cell, the cause); the high octets come first.
-pub trait Item: Copy {
+pub trait ListItem: Copy {
     /// The octets of an item.
     ghost octets_of: { Self → List ℕ };
 
     /// The items that octets are.
     ghost items_in: { List ℕ → List Self };
 
-    ghost LAYOUT: { Layout };
+    /// The cell that an item names.
+    ghost cell_of: { Self → Cell };
 
-    /// Which list has such items.
-    const LAYOUT: Layout;
+    ghost DISCRIMINATOR: { Discriminator };
+
+    /// Whether the items of a list share one discriminator.
+    const DISCRIMINATOR: Discriminator;
 
     ghost SIZE: { ℕ };
 
     /// How many octets an item has, 4 to 7.
     const SIZE: u16;
+
+    /// The cell that the item names.
+    fn cell(&self) -> Cell
+        ensures { result ≡ cell_of self.now };
 
     /// Appends the octets of the item.
     fn put_in(&self, out: &mut Vec<u8>)
@@ -50,21 +67,29 @@ pub trait Item: Copy {
     // Each item has as many octets, and few enough for the length of 64 of them to fit two octets.
     ghost sized: { (x : Self) → length (octets_of x) ≡ SIZE };
 
+    ghost some: { 0 < SIZE };
+
     ghost small: { SIZE ≤ 7 };
 }
 
-impl Item for Cell {
+impl ListItem for Cell {
     ghost octets_of = { cell_octets };
 
     ghost items_in = { cells_in };
 
-    ghost LAYOUT = { layouts.Cells };
+    ghost cell_of = { λ c. c };
 
-    const LAYOUT: Layout = Layout::Cells;
+    ghost DISCRIMINATOR = { discriminators.Once };
+
+    const DISCRIMINATOR: Discriminator = Discriminator::Once;
 
     ghost SIZE = { 4 };
 
     const SIZE: u16 = 4;
+
+    fn cell(&self) -> Cell {
+        *self
+    }
 
     fn put_in(&self, out: &mut Vec<u8>) {
         let [a, b] = octets_of_number(self.lac);
@@ -81,21 +106,29 @@ impl Item for Cell {
 
     ghost sized = { λ x. refl };
 
+    ghost some = { Prim.search rules };
+
     ghost small = { Prim.search rules };
 }
 
-impl Item for Count {
+impl ListItem for Count {
     ghost octets_of = { count_octets };
 
     ghost items_in = { counts_in };
 
-    ghost LAYOUT = { layouts.Counts };
+    ghost cell_of = { λ c. c.cell };
 
-    const LAYOUT: Layout = Layout::Counts;
+    ghost DISCRIMINATOR = { discriminators.Once };
+
+    const DISCRIMINATOR: Discriminator = Discriminator::Once;
 
     ghost SIZE = { 7 };
 
     const SIZE: u16 = 7;
+
+    fn cell(&self) -> Cell {
+        self.cell
+    }
 
     fn put_in(&self, out: &mut Vec<u8>) {
         self.cell.put_in(out);
@@ -119,21 +152,29 @@ impl Item for Count {
 
     ghost sized = { λ x. refl };
 
+    ghost some = { Prim.search rules };
+
     ghost small = { Prim.search rules };
 }
 
-impl Item for Failure {
+impl ListItem for Failure {
     ghost octets_of = { failure_octets };
 
     ghost items_in = { failures_in };
 
-    ghost LAYOUT = { layouts.Failures };
+    ghost cell_of = { λ f. f.cell };
 
-    const LAYOUT: Layout = Layout::Failures;
+    ghost DISCRIMINATOR = { discriminators.Each };
+
+    const DISCRIMINATOR: Discriminator = Discriminator::Each;
 
     ghost SIZE = { 6 };
 
     const SIZE: u16 = 6;
+
+    fn cell(&self) -> Cell {
+        self.cell
+    }
 
     fn put_in(&self, out: &mut Vec<u8>) {
         put(out, &[1]);
@@ -156,11 +197,13 @@ impl Item for Failure {
 
     ghost sized = { λ x. refl };
 
+    ghost some = { Prim.search rules };
+
     ghost small = { Prim.search rules };
 }
 
 /// Appends the octets of items.
-pub(crate) fn put_items<T: Item>(out: &mut Vec<u8>, items: &[T])
+pub(crate) fn put_items<T: ListItem>(out: &mut Vec<u8>, items: &[T])
     requires { HasRoom out.old (flat_map T.octets_of items.now) }
     ensures appended { out.new.items ≡ out.old.items ++ flat_map T.octets_of items.now }
     ensures room { vec_capacity out.new ≡ vec_capacity out.old }
@@ -171,7 +214,7 @@ pub(crate) fn put_items<T: Item>(out: &mut Vec<u8>, items: &[T])
 }
 
 /// The items that octets are.
-pub(crate) fn read_items<T: Item>(alloc: Global, octets: &[u8]) -> Result<Vec<T>, AllocError>
+pub(crate) fn read_items<T: ListItem>(alloc: Global, octets: &[u8]) -> Result<Vec<T>, AllocError>
     ensures { IfOk result (λ items. items.items ≡ T.items_in octets.now) }
 {
     let mut items = Vec::new(alloc);

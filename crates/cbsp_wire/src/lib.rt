@@ -1,6 +1,6 @@
 //! Messages between a warning centre and a base station controller (3GPP TS 48.049, in this project's own layouts).
 //!
-//! `read` answers the one value that octets have, or the first of the refusals that applies; `write` answers the octets
+//! `read` returns the one value that octets have, or the first of the refusals that applies; `write` returns the octets
 //! of a message, with its elements in the table's order, or that no octets mean it. What is written is read as the same
 //! message.
 #![tactic(auto)]
@@ -8,20 +8,20 @@
 pub mod cause;
 mod elements;
 pub mod fault;
+mod fields;
 mod iei;
 mod item;
-mod items;
-mod kind;
-mod law;
+mod laws;
+mod lists;
 pub mod message;
-mod parts;
+mod message_type;
 mod range;
 mod reading;
 mod value;
 mod writing;
 
 pub use fault::WireFault;
-pub use law::meaning_law;
+pub use laws::meaning_law;
 pub use message::{Cell, Cells, Contents, Count, Counts, Failure, Failures, Message};
 pub use reading::read;
 pub use writing::{write, write_in};

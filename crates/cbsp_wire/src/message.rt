@@ -105,7 +105,7 @@ impl Model for Contents {
 /// 1-1, is written as `04 00 00 0E 0E 11 12 02 00 10 04 00 05 01 00 01 00 01`.
 #[derive(Debug, Drop)]
 pub enum Message {
-    /// Broadcast this, in place of an older message where one is told (WRITE-REPLACE).
+    /// Broadcast this, in place of an older message if one is named (WRITE-REPLACE).
     Write {
         /// The message identifier.
         id: u16,
@@ -160,7 +160,7 @@ pub enum Message {
         /// 0 basic channel, 1 extended channel.
         channel: Option<u8>,
     },
-    /// WalkEnd a message (KILL).
+    /// Stop a message (KILL).
     Kill {
         /// The message identifier.
         id: u16,

@@ -1,69 +1,76 @@
 //! Whether the elements that were taken are a message's.
 
-ghost use Rattle.std.specs.Prelude.{◌≡◌, ◌∷◌, [], length, nat_le};
+ghost use Rattle.std.specs.Prelude.{◌≡◌, ◌∷◌, [], length, map, nat_le};
 ghost use Rattle.std.specs.List.{list_all};
 ghost use Rattle.cbsp_wire.specs.Element.{bodies_of};
-ghost use Rattle.cbsp_wire.specs.Table.{need_of};
+ghost use Rattle.cbsp_wire.specs.Table.{presence_of};
 ghost use Rattle.cbsp_wire.specs.Walk.{walk_of};
-ghost use Rattle.cbsp_wire.specs.Range.{has_mandatory, has_none_twice, comes_once, is_there_if, is_period, is_coding};
-ghost use Rattle.cbsp_wire.specs.Range.{is_page_count, passes, first_passes, is_list, cells_by, are_cells};
-ghost use Rattle.cbsp_wire.specs.Range.{are_contents, are_numbers, are_lists, are_all_cells, are_in_range};
-ghost use Rattle.cbsp_wire.specs.Value.{octet_in, contents_of, fields_in, first_items};
+ghost use Rattle.cbsp_wire.specs.Range.{has_mandatory, has_none_twice, comes_once, is_there_if, is_period};
+ghost use Rattle.cbsp_wire.specs.Range.{has_alphabet};
+ghost use Rattle.cbsp_wire.specs.Range.{is_page_count, passes, first_passes, is_list_body, cells_are_valid};
+ghost use Rattle.cbsp_wire.specs.Range.{contents_are_valid, numbers_are_valid, lists_are_valid, all_cells_are_valid};
+ghost use Rattle.cbsp_wire.specs.Range.{elements_are_valid};
+ghost use Rattle.cbsp_wire.specs.Value.{u8_value, contents_of, fields_in, first_items};
 ghost use Rattle.cbsp_wire.specs.declared.iei.TheConstants.{MESSAGE_CONTENT, NUMBER_OF_PAGES};
 
-use crate::elements::{NUMBERS, find, need, octet_of};
+use crate::elements::{NUMBERS, find, first_octet, presence};
 use crate::iei;
-use crate::items::{Items, Layout, are_cells, is_list, items_of};
-use crate::kind::{Kind, Need};
-use crate::value::{number, octet};
+use crate::item::ListItem;
+use crate::lists::{is_list_body, items_of, octet_cells_are_valid};
+use crate::message::{Cell, Count, Failure};
+use crate::message_type::{MessageType, Presence};
+use crate::value::{u8_value, u16_value};
 use cbs_page::Dcs;
 
 /// Whether the element is there, if the message needs it.
-fn is_there(kind: Kind, number: u8, octets: &[u8]) -> bool
-    ensures { result ≡ is_there_if (need_of kind number) (bodies_of number (walk_of kind octets.now).elements) }
+fn is_there(message_type: MessageType, element: u8, octets: &[u8]) -> bool
+    ensures { result ≡ is_there_if (presence_of message_type element)
+        (bodies_of element (walk_of message_type octets.now).elements) }
 {
-    match need(kind, number) {
-        Need::Mandatory => find(kind, number, octets).is_some(),
-        Need::Optional | Need::Foreign => true,
+    match presence(message_type, element) {
+        Presence::Mandatory => find(message_type, element, octets).is_some(),
+        Presence::Optional | Presence::Absent => true,
     }
 }
 
 /// Whether each mandatory element is there.
-pub(crate) fn has_mandatory(kind: Kind, octets: &[u8]) -> bool
-    ensures { result ≡ has_mandatory kind (walk_of kind octets.now).elements }
+pub(crate) fn has_mandatory(message_type: MessageType, octets: &[u8]) -> bool
+    ensures { result ≡ has_mandatory message_type (walk_of message_type octets.now).elements }
 {
-    NUMBERS.iter().all(|number| is_there(kind, *number, octets))
+    NUMBERS
+        .iter()
+        .all(|element| is_there(message_type, *element, octets))
 }
 
 /// Whether the element comes at most once, or may come often.
-fn comes_once(kind: Kind, number: u8, octets: &[u8]) -> bool
-    ensures { result ≡ comes_once number (walk_of kind octets.now).elements }
+fn comes_once(message_type: MessageType, element: u8, octets: &[u8]) -> bool
+    ensures { result ≡ comes_once element (walk_of message_type octets.now).elements }
 {
-    if number == iei::MESSAGE_CONTENT {
+    if element == iei::MESSAGE_CONTENT {
         return true;
     }
-    match find(kind, number, octets) {
+    match find(message_type, element, octets) {
         None => true,
-        Some((_, rest)) => find(kind, number, rest).is_none(),
+        Some((_, rest)) => find(message_type, element, rest).is_none(),
     }
 }
 
 /// Whether no element but 01 comes twice.
-fn has_none_twice(kind: Kind, octets: &[u8]) -> bool
-    ensures { result ≡ has_none_twice (walk_of kind octets.now).elements }
+fn has_none_twice(message_type: MessageType, octets: &[u8]) -> bool
+    ensures { result ≡ has_none_twice (walk_of message_type octets.now).elements }
 {
     NUMBERS
         .iter()
-        .all(|number| comes_once(kind, *number, octets))
+        .all(|element| comes_once(message_type, *element, octets))
 }
 
 /// The number of contents.
-fn content_count(kind: Kind, octets: &[u8]) -> usize
-    ensures { result ≡ length (bodies_of MESSAGE_CONTENT (walk_of kind octets.now).elements) }
+fn content_count(message_type: MessageType, octets: &[u8]) -> usize
+    ensures { result ≡ length (bodies_of MESSAGE_CONTENT (walk_of message_type octets.now).elements) }
 {
     let mut count = 0;
     let mut left = octets;
-    'walk: while let Some((_, rest)) = find(kind, iei::MESSAGE_CONTENT, left) {
+    'walk: while let Some((_, rest)) = find(message_type, iei::MESSAGE_CONTENT, left) {
         count += 1;
         left = rest;
     }
@@ -71,12 +78,12 @@ fn content_count(kind: Kind, octets: &[u8]) -> usize
 }
 
 /// Whether at most 82 octets are used of each content.
-fn use_at_most_82(kind: Kind, octets: &[u8]) -> bool
-    ensures { result ≡ list_all (λ c. nat_le c.used 82) (contents_of (walk_of kind octets.now).elements) }
+fn used_is_valid(message_type: MessageType, octets: &[u8]) -> bool
+    ensures { result ≡ list_all (λ c. nat_le c.used 82) (contents_of (walk_of message_type octets.now).elements) }
 {
     let mut left = octets;
-    'walk: while let Some((body, rest)) = find(kind, iei::MESSAGE_CONTENT, left) {
-        if octet_of(body) > 82 {
+    'walk: while let Some((body, rest)) = find(message_type, iei::MESSAGE_CONTENT, left) {
+        if first_octet(body) > 82 {
             return false;
         }
         left = rest;
@@ -92,21 +99,21 @@ pub(crate) fn is_page_count(pages: usize) -> bool
 }
 
 /// Whether there are as many contents as pages, from 1 to 15, and at most 82 octets used of each.
-fn are_contents(kind: Kind, octets: &[u8]) -> bool
-    ensures { let es = (walk_of kind octets.now).elements in
-        result ≡ are_contents (octet_in NUMBER_OF_PAGES es) (contents_of es) }
+fn contents_are_valid(message_type: MessageType, octets: &[u8]) -> bool
+    ensures { let es = (walk_of message_type octets.now).elements in
+        result ≡ contents_are_valid (u8_value NUMBER_OF_PAGES es) (contents_of es) }
 {
-    let are_as_told = match octet(kind, iei::NUMBER_OF_PAGES, octets) {
+    let count_is_valid = match u8_value(message_type, iei::NUMBER_OF_PAGES, octets) {
         None => true,
         Some(pages) => {
             let pages = usize::from(pages);
-            is_page_count(pages) && pages == content_count(kind, octets)
+            is_page_count(pages) && pages == content_count(message_type, octets)
         }
     };
-    are_as_told && use_at_most_82(kind, octets)
+    count_is_valid && used_is_valid(message_type, octets)
 }
 
-/// Whether the repetition period, if it is told, may be one.
+/// Whether the repetition period, if it is given, may be one.
 pub(crate) fn is_period(period: Option<u16>) -> bool
     ensures { result ≡ passes is_period period }
 {
@@ -116,9 +123,9 @@ pub(crate) fn is_period(period: Option<u16>) -> bool
     }
 }
 
-/// Whether the data coding, if it is told, has an alphabet.
-pub(crate) fn is_coding(dcs: Option<u8>) -> bool
-    ensures { result ≡ passes is_coding dcs }
+/// Whether the data coding, if it is given, has an alphabet.
+pub(crate) fn has_alphabet(dcs: Option<u8>) -> bool
+    ensures { result ≡ passes has_alphabet dcs }
 {
     match dcs {
         None => true,
@@ -126,7 +133,7 @@ pub(crate) fn is_coding(dcs: Option<u8>) -> bool
     }
 }
 
-/// Whether the octet, if it is told, is at most `limit`.
+/// Whether the octet, if it is given, is at most `limit`.
 pub(crate) fn is_up_to(limit: u8, octet: Option<u8>) -> bool
     ensures { result ≡ passes (λ n. nat_le n limit) octet }
 {
@@ -137,69 +144,63 @@ pub(crate) fn is_up_to(limit: u8, octet: Option<u8>) -> bool
 }
 
 /// Whether the period, the data coding, the category and the channel indicator are in their ranges.
-fn are_numbers(kind: Kind, octets: &[u8]) -> bool
-    ensures { result ≡ are_numbers (fields_in (walk_of kind octets.now).elements) }
+fn numbers_are_valid(message_type: MessageType, octets: &[u8]) -> bool
+    ensures { result ≡ numbers_are_valid (fields_in (walk_of message_type octets.now).elements) }
 {
-    is_period(number(kind, iei::REPETITION_PERIOD, octets))
-        && is_coding(octet(kind, iei::DATA_CODING, octets))
-        && is_up_to(2, octet(kind, iei::CATEGORY, octets))
-        && is_up_to(1, octet(kind, iei::CHANNEL_INDICATOR, octets))
+    is_period(u16_value(message_type, iei::REPETITION_PERIOD, octets))
+        && has_alphabet(u8_value(message_type, iei::DATA_CODING, octets))
+        && is_up_to(2, u8_value(message_type, iei::CATEGORY, octets))
+        && is_up_to(1, u8_value(message_type, iei::CHANNEL_INDICATOR, octets))
 }
 
 /// Whether the list of this number, if it is there, has the discriminator and whole items.
-fn has_list(kind: Kind, number: u8, layout: Layout, octets: &[u8]) -> bool
-    ensures { result ≡ first_passes (is_list layout) (bodies_of number (walk_of kind octets.now).elements) }
+fn has_list<T: ListItem>(message_type: MessageType, element: u8, octets: &[u8]) -> bool
+    ensures { result ≡ first_passes (is_list_body T.DISCRIMINATOR T.SIZE)
+        (bodies_of element (walk_of message_type octets.now).elements) }
 {
-    match find(kind, number, octets) {
+    match find(message_type, element, octets) {
         None => true,
-        Some((body, _)) => is_list(layout, body),
+        Some((body, _)) => is_list_body(T::DISCRIMINATOR, T::SIZE, body),
     }
 }
 
 /// Whether the three lists have the discriminator and whole items.
-fn are_lists(kind: Kind, octets: &[u8]) -> bool
-    ensures { result ≡ are_lists (walk_of kind octets.now).elements }
+fn lists_are_valid(message_type: MessageType, octets: &[u8]) -> bool
+    ensures { result ≡ lists_are_valid (walk_of message_type octets.now).elements }
 {
-    has_list(kind, iei::CELL_LIST, Layout::Cells, octets)
-        && has_list(kind, iei::BROADCASTS_COMPLETED, Layout::Counts, octets)
-        && has_list(kind, iei::FAILURE_LIST, Layout::Failures, octets)
+    has_list::<Cell>(message_type, iei::CELL_LIST, octets)
+        && has_list::<Count>(message_type, iei::BROADCASTS_COMPLETED, octets)
+        && has_list::<Failure>(message_type, iei::FAILURE_LIST, octets)
 }
 
-/// The octets of the items of a list, none where it isn't there.
-fn list_items(kind: Kind, number: u8, layout: Layout, octets: &[u8]) -> &[u8]
-    ensures { result.now ≡ first_items layout (λ items. items) (bodies_of number (walk_of kind octets.now).elements) }
+/// Whether the list of this number, if it is there, names at most 64 cells, and none twice.
+fn list_cells_are_valid<T: ListItem>(message_type: MessageType, element: u8, octets: &[u8]) -> bool
+    ensures { let bodies = bodies_of element (walk_of message_type octets.now).elements in
+        result ≡ cells_are_valid (map T.cell_of (first_items T.DISCRIMINATOR T.items_in bodies)) }
 {
-    match find(kind, number, octets) {
-        None => &[],
-        Some((body, _)) => items_of(layout, body),
+    match find(message_type, element, octets) {
+        None => true,
+        Some((body, _)) => octet_cells_are_valid::<T>(items_of(T::DISCRIMINATOR, body)),
     }
 }
 
-/// Whether the list of this number names at most 64 cells, and none twice.
-fn are_listed_cells(kind: Kind, number: u8, layout: Layout, octets: &[u8]) -> bool
-    ensures { let bodies = bodies_of number (walk_of kind octets.now).elements in
-        result ≡ are_cells (cells_by layout (first_items layout (λ items. items) bodies)) }
-{
-    are_cells(Items::Octets(layout, list_items(kind, number, layout, octets)))
-}
-
 /// Whether the lists name at most 64 cells each, and none twice.
-#[tactic(auto, using(crate::proofs::ItemLemmas::cells_by_first))]
-fn are_all_cells(kind: Kind, octets: &[u8]) -> bool
-    ensures { result ≡ are_all_cells (fields_in (walk_of kind octets.now).elements) }
+#[tactic(auto, using(crate::proofs::ItemLemmas::same_cells))]
+fn all_cells_are_valid(message_type: MessageType, octets: &[u8]) -> bool
+    ensures { result ≡ all_cells_are_valid (fields_in (walk_of message_type octets.now).elements) }
 {
-    are_listed_cells(kind, iei::CELL_LIST, Layout::Cells, octets)
-        && are_listed_cells(kind, iei::BROADCASTS_COMPLETED, Layout::Counts, octets)
-        && are_listed_cells(kind, iei::FAILURE_LIST, Layout::Failures, octets)
+    list_cells_are_valid::<Cell>(message_type, iei::CELL_LIST, octets)
+        && list_cells_are_valid::<Count>(message_type, iei::BROADCASTS_COMPLETED, octets)
+        && list_cells_are_valid::<Failure>(message_type, iei::FAILURE_LIST, octets)
 }
 
 /// Whether no element comes twice and all values are in their ranges.
-pub(crate) fn are_in_range(kind: Kind, octets: &[u8]) -> bool
-    ensures { result ≡ are_in_range (walk_of kind octets.now).elements }
+pub(crate) fn elements_are_valid(message_type: MessageType, octets: &[u8]) -> bool
+    ensures { result ≡ elements_are_valid (walk_of message_type octets.now).elements }
 {
-    has_none_twice(kind, octets)
-        && are_lists(kind, octets)
-        && are_contents(kind, octets)
-        && are_numbers(kind, octets)
-        && are_all_cells(kind, octets)
+    has_none_twice(message_type, octets)
+        && lists_are_valid(message_type, octets)
+        && contents_are_valid(message_type, octets)
+        && numbers_are_valid(message_type, octets)
+        && all_cells_are_valid(message_type, octets)
 }

@@ -2,34 +2,36 @@
 
 ghost use Rattle.std.specs.Prelude.{◌≡◌, IfOk, IfErr, IfSome, MatchResult};
 ghost use Rattle.cbsp_wire.specs.Walk.{walk_of};
-ghost use Rattle.cbsp_wire.specs.Refusals.{fault_of_walk, first_fault, reported_fault, HasParts};
+ghost use Rattle.cbsp_wire.specs.Refusals.{fault_of_walk, first_fault, reported_fault};
+ghost use Rattle.cbsp_wire.specs.ReadingSteps.{HasHeader};
 ghost use Rattle.cbsp_wire.specs.Meaning.{IsMessage};
 
 use crate::cause;
 use crate::elements::{WalkEnd, end_of_walk};
 use crate::fault::WireFault;
-use crate::kind::Kind;
 use crate::message::Message;
-use crate::range::{are_in_range, has_mandatory};
-use crate::value::message;
+use crate::message_type::MessageType;
+use crate::range::{elements_are_valid, has_mandatory};
+use crate::value::message_from_elements;
 use std::alloc::Global;
 
 /// The first fault of a message's elements.
-fn fault_of_elements(kind: Kind, elements: &[u8]) -> Option<WireFault>
-    ensures first { result ≡ fault_of_walk kind (walk_of kind elements.now).elements (walk_of kind elements.now).stop }
+fn fault_of_elements(message_type: MessageType, elements: &[u8]) -> Option<WireFault>
+    ensures first { result ≡ fault_of_walk message_type (walk_of message_type elements.now).elements
+        (walk_of message_type elements.now).stop }
     ensures reported { IfSome result (λ fault. reported_fault fault ≡ Some fault) }
 {
-    let stop = end_of_walk(kind, elements);
+    let stop = end_of_walk(message_type, elements);
     if stop == WalkEnd::CutOff {
         return Some(WireFault::Truncated);
     }
-    if !has_mandatory(kind, elements) {
+    if !has_mandatory(message_type, elements) {
         return Some(WireFault::Cause(cause::MISSING_MANDATORY_ELEMENT));
     }
     if stop == WalkEnd::UnexpectedElement {
         return Some(WireFault::Cause(cause::PARAMETER_NOT_RECOGNISED));
     }
-    if are_in_range(kind, elements) {
+    if elements_are_valid(message_type, elements) {
         None
     } else {
         Some(WireFault::Cause(cause::PARAMETER_VALUE_INVALID))
@@ -38,9 +40,9 @@ fn fault_of_elements(kind: Kind, elements: &[u8]) -> Option<WireFault>
 
 /// The type of a message without a fault and the octets of its elements, or its first fault.
 #[tactic(auto, unfolding(crate::specs::Refusals::first_fault))]
-fn parts(octets: &[u8]) -> Result<(Kind, &[u8]), WireFault>
+fn split_header(octets: &[u8]) -> Result<(MessageType, &[u8]), WireFault>
     ensures faultless { IfOk result (λ _. first_fault octets.now ≡ None) }
-    ensures parts { IfOk result (λ x. HasParts octets.now x.0 x.1.now) }
+    ensures header { IfOk result (λ x. HasHeader octets.now x.0 x.1.now) }
     ensures fault { IfErr result (λ fault. first_fault octets.now ≡ Some fault) }
     ensures reported { IfErr result (λ fault. reported_fault fault ≡ Some fault) }
 {
@@ -54,19 +56,19 @@ fn parts(octets: &[u8]) -> Result<(Kind, &[u8]), WireFault>
     if length < elements.len() {
         return Err(WireFault::TrailingBytes);
     }
-    let Some(kind) = Kind::of_octet(*octet) else {
+    let Some(message_type) = MessageType::from_octet(*octet) else {
         return Err(WireFault::Cause(cause::UNRECOGNISED_MESSAGE));
     };
-    match fault_of_elements(kind, elements) {
+    match fault_of_elements(message_type, elements) {
         Some(fault) => Err(fault),
-        None => Ok((kind, elements)),
+        None => Ok((message_type, elements)),
     }
 }
 
 /// The message that octets mean, or the first of the refusals that applies:
 ///
-/// 1. `Truncated`: fewer than 4 octets, or fewer than the length tells after them.
-/// 2. `TrailingBytes`: more than the length tells.
+/// 1. `Truncated`: fewer than 4 octets, or fewer than the length field says after them.
+/// 2. `TrailingBytes`: more than the length field says.
 /// 3. `Cause(0x04)`: the type is not one of the six.
 /// 4. `Truncated`: an element goes past the end. Elements are taken from the front, up to the first that isn't of this
 ///    message.
@@ -76,17 +78,17 @@ fn parts(octets: &[u8]) -> Result<(Kind, &[u8]), WireFault>
 /// 8. `Refused`: memory ran out.
 pub fn read(alloc: Global, octets: &[u8]) -> Result<Message, WireFault>
     // What is read is what the octets mean.
-    ensures found { IfOk result (λ m. IsMessage octets.now m) }
+    ensures meant { IfOk result (λ m. IsMessage octets.now m) }
     // What the octets mean is read, unless memory runs out.
-    ensures only { (m : Message) → IsMessage octets.now m
+    ensures complete { (m : Message) → IsMessage octets.now m
         → MatchResult result (λ read. read ≡ m) (λ fault. fault ≡ WireFault.Refused) }
     // Which refusal it is.
-    ensures refused { IfErr result (λ fault. first_fault octets.now ≡ reported_fault fault) }
-    // Memory runs out only where the octets mean something.
-    ensures last { IfErr result (λ fault. fault ≡ WireFault.Refused → (m : Message) × IsMessage octets.now m) }
+    ensures first_fault { IfErr result (λ fault. first_fault octets.now ≡ reported_fault fault) }
+    // Out of memory is reported only if the octets mean something.
+    ensures memory_last { IfErr result (λ fault. fault ≡ WireFault.Refused → (m : Message) × IsMessage octets.now m) }
 {
-    let (kind, elements) = parts(octets)?;
-    match message(alloc, kind, elements) {
+    let (message_type, elements) = split_header(octets)?;
+    match message_from_elements(alloc, message_type, elements) {
         Ok(message) => Ok(message),
         Err(_) => Err(WireFault::Refused),
     }

@@ -1,105 +1,106 @@
 //! The value of a message, looked up among its elements.
 
 ghost use Rattle.std.specs.Prelude.{◌≡◌, ◌<◌, [], ◌∷◌, length, unwrap_or, IfOk, IfSome, MatchOption};
+ghost use Rattle.cbsp_wire.specs.declared.message_type.MessageType.TheVariants as types;
 ghost use Rattle.cbsp_wire.specs.Element.{bodies_of};
 ghost use Rattle.cbsp_wire.specs.Walk.{walk_of};
-ghost use Rattle.cbsp_wire.specs.Value.{first_items, content_of, number_in, octet_in, cells_of, counts_of, failures_of};
+ghost use Rattle.cbsp_wire.specs.Value.{first_items, content_of, u16_value, u8_value, cells_of, counts_of, failures_of};
 ghost use Rattle.cbsp_wire.specs.Value.{contents_of, message_of};
 
-use crate::elements::{find, number_of, octet_of};
+use crate::elements::{find, first_octet, u16_from_be};
 use crate::iei;
-use crate::item::{Item, read_items};
-use crate::items::items_of;
-use crate::kind::Kind;
+use crate::item::{ListItem, read_items};
+use crate::lists::items_of;
 use crate::message::{Cells, Contents, Counts, Failures, Message};
+use crate::message_type::MessageType;
 use cbs_page::{Content, Dcs, Serial};
 use std::alloc::{AllocError, Global};
 
-/// The number of the first element with this number, if there is one.
-pub(crate) fn number(kind: Kind, number: u8, octets: &[u8]) -> Option<u16>
-    ensures { result ≡ number_in number (walk_of kind octets.now).elements }
+/// The value of the first element of this number, as two octets, if there is one.
+pub(crate) fn u16_value(message_type: MessageType, element: u8, octets: &[u8]) -> Option<u16>
+    ensures { result ≡ u16_value element (walk_of message_type octets.now).elements }
 {
-    match find(kind, number, octets) {
-        Some((body, _)) => Some(number_of(body)),
+    match find(message_type, element, octets) {
+        Some((body, _)) => Some(u16_from_be(body)),
         None => None,
     }
 }
 
-/// The number of the first element with this number, or 0.
-fn number_or_0(kind: Kind, element: u8, octets: &[u8]) -> u16
-    ensures { result ≡ unwrap_or (number_in element (walk_of kind octets.now).elements) 0 }
+/// The value of the first element of this number, as two octets, or 0.
+fn u16_value_or_0(message_type: MessageType, element: u8, octets: &[u8]) -> u16
+    ensures { result ≡ unwrap_or (u16_value element (walk_of message_type octets.now).elements) 0 }
 {
-    number(kind, element, octets).unwrap_or(0)
+    u16_value(message_type, element, octets).unwrap_or(0)
 }
 
-/// The serial number of the first element with this number, or 0.
-fn serial_or_0(kind: Kind, element: u8, octets: &[u8]) -> Serial
-    ensures { result ≡ unwrap_or (number_in element (walk_of kind octets.now).elements) 0 }
+/// The serial number that the first element of this number holds, or 0.
+fn serial_value_or_0(message_type: MessageType, element: u8, octets: &[u8]) -> Serial
+    ensures { result ≡ unwrap_or (u16_value element (walk_of message_type octets.now).elements) 0 }
 {
-    Serial::of(number_or_0(kind, element, octets))
+    Serial::of(u16_value_or_0(message_type, element, octets))
 }
 
-/// The serial number of the first element with this number, if there is one.
-fn serial(kind: Kind, element: u8, octets: &[u8]) -> Option<Serial>
-    ensures { result ≡ number_in element (walk_of kind octets.now).elements }
+/// The serial number that the first element of this number holds, if there is one.
+fn serial_value(message_type: MessageType, element: u8, octets: &[u8]) -> Option<Serial>
+    ensures { result ≡ u16_value element (walk_of message_type octets.now).elements }
 {
-    match number(kind, element, octets) {
+    match u16_value(message_type, element, octets) {
         Some(number) => Some(Serial::of(number)),
         None => None,
     }
 }
 
-/// The octet of the first element with this number, if there is one.
-pub(crate) fn octet(kind: Kind, number: u8, octets: &[u8]) -> Option<u8>
-    ensures { result ≡ octet_in number (walk_of kind octets.now).elements }
+/// The value of the first element of this number, as one octet, if there is one.
+pub(crate) fn u8_value(message_type: MessageType, element: u8, octets: &[u8]) -> Option<u8>
+    ensures { result ≡ u8_value element (walk_of message_type octets.now).elements }
 {
-    match find(kind, number, octets) {
-        Some((body, _)) => Some(octet_of(body)),
+    match find(message_type, element, octets) {
+        Some((body, _)) => Some(first_octet(body)),
         None => None,
     }
 }
 
-/// The items of the list with this number, none where it isn't there.
-fn list<T: Item>(
+/// The items of the list with this number, none if it isn't there.
+fn list<T: ListItem>(
     alloc: Global,
-    kind: Kind,
+    message_type: MessageType,
     element: u8,
     octets: &[u8],
 ) -> Result<Vec<T>, AllocError>
     ensures { IfOk result
         (λ items. items.items
-        ≡ first_items T.LAYOUT T.items_in (bodies_of element (walk_of kind octets.now).elements)) }
+        ≡ first_items T.DISCRIMINATOR T.items_in (bodies_of element (walk_of message_type octets.now).elements)) }
 {
-    match find(kind, element, octets) {
-        Some((body, _)) => read_items(alloc, items_of(T::LAYOUT, body)),
+    match find(message_type, element, octets) {
+        Some((body, _)) => read_items(alloc, items_of(T::DISCRIMINATOR, body)),
         None => Ok(Vec::new(alloc)),
     }
 }
 
-/// The cells of element 04, none where it isn't there.
-fn cells(alloc: Global, kind: Kind, octets: &[u8]) -> Result<Cells, AllocError>
-    ensures { IfOk result (λ cells. cells ≡ cells_of (walk_of kind octets.now).elements) }
+/// The cells of element 04, none if it isn't there.
+fn cells(alloc: Global, message_type: MessageType, octets: &[u8]) -> Result<Cells, AllocError>
+    ensures { IfOk result (λ cells. cells ≡ cells_of (walk_of message_type octets.now).elements) }
 {
     Ok(Cells {
-        list: list(alloc, kind, iei::CELL_LIST, octets)?,
+        list: list(alloc, message_type, iei::CELL_LIST, octets)?,
     })
 }
 
-/// The completed broadcasts of element 08, none where it isn't there.
-fn counts(alloc: Global, kind: Kind, octets: &[u8]) -> Result<Counts, AllocError>
-    ensures { IfOk result (λ counts. counts ≡ counts_of (walk_of kind octets.now).elements) }
+/// The completed broadcasts of element 08, none if it isn't there.
+fn counts(alloc: Global, message_type: MessageType, octets: &[u8]) -> Result<Counts, AllocError>
+    ensures { IfOk result (λ counts. counts ≡ counts_of (walk_of message_type octets.now).elements) }
 {
     Ok(Counts {
-        list: list(alloc, kind, iei::BROADCASTS_COMPLETED, octets)?,
+        list: list(alloc, message_type, iei::BROADCASTS_COMPLETED, octets)?,
     })
 }
 
-/// The failures of element 09, none where it isn't there.
-fn failures(alloc: Global, kind: Kind, octets: &[u8]) -> Result<Failures, AllocError>
-    ensures { IfOk result (λ failures. failures ≡ failures_of (walk_of kind octets.now).elements) }
+/// The failures of element 09, none if it isn't there.
+fn failures(alloc: Global, message_type: MessageType, octets: &[u8]) -> Result<Failures, AllocError>
+    ensures { IfOk result (λ failures. failures ≡ failures_of (walk_of message_type octets.now).elements) }
 {
     Ok(Failures {
-        list: list(alloc, kind, iei::FAILURE_LIST, octets)?,
+        list: list(alloc, message_type, iei::FAILURE_LIST, octets)?,
     })
 }
 
@@ -117,84 +118,100 @@ fn content(body: &[u8]) -> Content
 }
 
 /// The contents, in page order.
-fn contents(alloc: Global, kind: Kind, octets: &[u8]) -> Result<Contents, AllocError>
-    ensures { IfOk result (λ contents. contents ≡ contents_of (walk_of kind octets.now).elements) }
+fn contents(alloc: Global, message_type: MessageType, octets: &[u8]) -> Result<Contents, AllocError>
+    ensures { IfOk result (λ contents. contents ≡ contents_of (walk_of message_type octets.now).elements) }
 {
     Ok(Contents {
-        list: read_contents(alloc, kind, octets)?,
+        list: read_contents(alloc, message_type, octets)?,
     })
 }
 
 #[tactic(auto, unfolding(crate::specs::Table::table, crate::specs::Table::size_of))]
-fn read_contents(alloc: Global, kind: Kind, octets: &[u8]) -> Result<Vec<Content>, AllocError>
-    ensures { IfOk result (λ contents. contents.items ≡ contents_of (walk_of kind octets.now).elements) }
+fn read_contents(
+    alloc: Global,
+    message_type: MessageType,
+    octets: &[u8],
+) -> Result<Vec<Content>, AllocError>
+    ensures { IfOk result (λ contents. contents.items ≡ contents_of (walk_of message_type octets.now).elements) }
 {
     let mut contents = Vec::new(alloc);
     let mut left = octets;
-    'walk: while let Some((body, rest)) = find(kind, iei::MESSAGE_CONTENT, left) {
+    'walk: while let Some((body, rest)) = find(message_type, iei::MESSAGE_CONTENT, left) {
         contents.push(content(body))?;
         left = rest;
     }
     Ok(contents)
 }
 
-/// The message of this type that the elements say.
-// Long, since each of the six types names its fields once; there is nothing else in it.
+/// The order to write that the elements say.
 #[tactic(auto, unfolding(crate::specs::Value::message_of))]
-pub(crate) fn message(alloc: Global, kind: Kind, octets: &[u8]) -> Result<Message, AllocError>
-    ensures { IfOk result (λ message. message ≡ message_of kind (walk_of kind octets.now).elements) }
+fn write_from_elements(alloc: Global, octets: &[u8]) -> Result<Message, AllocError>
+    ensures { IfOk result (λ message. message ≡ message_of types.Write (walk_of types.Write octets.now).elements) }
 {
-    let id = number_or_0(kind, iei::MESSAGE_IDENTIFIER, octets);
-    let channel = octet(kind, iei::CHANNEL_INDICATOR, octets);
-    let message = match kind {
-        Kind::Write => Message::Write {
+    let message_type = MessageType::Write;
+    Ok(Message::Write {
+        id: u16_value_or_0(message_type, iei::MESSAGE_IDENTIFIER, octets),
+        new_serial: serial_value_or_0(message_type, iei::NEW_SERIAL_NUMBER, octets),
+        old_serial: serial_value(message_type, iei::OLD_SERIAL_NUMBER, octets),
+        cells: cells(alloc, message_type, octets)?,
+        channel: u8_value(message_type, iei::CHANNEL_INDICATOR, octets),
+        category: u8_value(message_type, iei::CATEGORY, octets),
+        period: u16_value_or_0(message_type, iei::REPETITION_PERIOD, octets),
+        broadcasts: u16_value_or_0(message_type, iei::BROADCASTS_REQUESTED, octets),
+        dcs: Dcs(u8_value(message_type, iei::DATA_CODING, octets).unwrap_or(0)),
+        contents: contents(alloc, message_type, octets)?,
+    })
+}
+
+/// The message of this type that the elements say.
+#[tactic(auto, unfolding(crate::specs::Value::message_of))]
+pub(crate) fn message_from_elements(
+    alloc: Global,
+    message_type: MessageType,
+    octets: &[u8],
+) -> Result<Message, AllocError>
+    ensures { IfOk result (λ message. message ≡ message_of message_type (walk_of message_type octets.now).elements) }
+{
+    let id = u16_value_or_0(message_type, iei::MESSAGE_IDENTIFIER, octets);
+    let channel = u8_value(message_type, iei::CHANNEL_INDICATOR, octets);
+    let message = match message_type {
+        MessageType::Write => write_from_elements(alloc, octets)?,
+        MessageType::WriteDone => Message::WriteDone {
             id,
-            new_serial: serial_or_0(kind, iei::NEW_SERIAL_NUMBER, octets),
-            old_serial: serial(kind, iei::OLD_SERIAL_NUMBER, octets),
-            cells: cells(alloc, kind, octets)?,
-            channel,
-            category: octet(kind, iei::CATEGORY, octets),
-            period: number_or_0(kind, iei::REPETITION_PERIOD, octets),
-            broadcasts: number_or_0(kind, iei::BROADCASTS_REQUESTED, octets),
-            dcs: Dcs(octet(kind, iei::DATA_CODING, octets).unwrap_or(0)),
-            contents: contents(alloc, kind, octets)?,
-        },
-        Kind::WriteDone => Message::WriteDone {
-            id,
-            new_serial: serial_or_0(kind, iei::NEW_SERIAL_NUMBER, octets),
-            old_serial: serial(kind, iei::OLD_SERIAL_NUMBER, octets),
-            completed: counts(alloc, kind, octets)?,
-            cells: cells(alloc, kind, octets)?,
-            channel,
-        },
-        Kind::WriteFailed => Message::WriteFailed {
-            id,
-            new_serial: serial_or_0(kind, iei::NEW_SERIAL_NUMBER, octets),
-            old_serial: serial(kind, iei::OLD_SERIAL_NUMBER, octets),
-            failures: failures(alloc, kind, octets)?,
-            completed: counts(alloc, kind, octets)?,
-            cells: cells(alloc, kind, octets)?,
-            channel,
-        },
-        Kind::Kill => Message::Kill {
-            id,
-            old_serial: serial_or_0(kind, iei::OLD_SERIAL_NUMBER, octets),
-            cells: cells(alloc, kind, octets)?,
+            new_serial: serial_value_or_0(message_type, iei::NEW_SERIAL_NUMBER, octets),
+            old_serial: serial_value(message_type, iei::OLD_SERIAL_NUMBER, octets),
+            completed: counts(alloc, message_type, octets)?,
+            cells: cells(alloc, message_type, octets)?,
             channel,
         },
-        Kind::KillDone => Message::KillDone {
+        MessageType::WriteFailed => Message::WriteFailed {
             id,
-            old_serial: serial_or_0(kind, iei::OLD_SERIAL_NUMBER, octets),
-            completed: counts(alloc, kind, octets)?,
-            cells: cells(alloc, kind, octets)?,
+            new_serial: serial_value_or_0(message_type, iei::NEW_SERIAL_NUMBER, octets),
+            old_serial: serial_value(message_type, iei::OLD_SERIAL_NUMBER, octets),
+            failures: failures(alloc, message_type, octets)?,
+            completed: counts(alloc, message_type, octets)?,
+            cells: cells(alloc, message_type, octets)?,
             channel,
         },
-        Kind::KillFailed => Message::KillFailed {
+        MessageType::Kill => Message::Kill {
             id,
-            old_serial: serial_or_0(kind, iei::OLD_SERIAL_NUMBER, octets),
-            failures: failures(alloc, kind, octets)?,
-            completed: counts(alloc, kind, octets)?,
-            cells: cells(alloc, kind, octets)?,
+            old_serial: serial_value_or_0(message_type, iei::OLD_SERIAL_NUMBER, octets),
+            cells: cells(alloc, message_type, octets)?,
+            channel,
+        },
+        MessageType::KillDone => Message::KillDone {
+            id,
+            old_serial: serial_value_or_0(message_type, iei::OLD_SERIAL_NUMBER, octets),
+            completed: counts(alloc, message_type, octets)?,
+            cells: cells(alloc, message_type, octets)?,
+            channel,
+        },
+        MessageType::KillFailed => Message::KillFailed {
+            id,
+            old_serial: serial_value_or_0(message_type, iei::OLD_SERIAL_NUMBER, octets),
+            failures: failures(alloc, message_type, octets)?,
+            completed: counts(alloc, message_type, octets)?,
+            cells: cells(alloc, message_type, octets)?,
             channel,
         },
     };

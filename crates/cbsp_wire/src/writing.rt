@@ -4,18 +4,18 @@ ghost use Rattle.std.specs.Prelude.{◌≡◌, ◌+◌, ◌*◌, ◌/◌, ◌%�
 ghost use Rattle.std.specs.Prelude.{IfErr, IfSome, vec_len, vec_capacity};
 ghost use Rattle.std.specs.List.{flat_map};
 ghost use Rattle.cbsp_wire.specs.Meaning.{IsMessage, IsUnwritten};
-ghost use Rattle.cbsp_wire.specs.Parts.{fields_seen, HasRoom};
+ghost use Rattle.cbsp_wire.specs.WritingSteps.{HasRoom};
 ghost use Rattle.cbsp_wire.specs.Range.{is_writable};
 ghost use Rattle.cbsp_wire.specs.Written.{number_octets, number_bodies, octet_bodies, list_head, list_bodies};
-ghost use Rattle.cbsp_wire.specs.Written.{cell_octets, count_octets, failure_octets, content_body, element_octets};
-ghost use Rattle.cbsp_wire.specs.Written.{field_octets, bodies_in, octets_of_message, AreShort};
+ghost use Rattle.cbsp_wire.specs.Written.{cell_octets, count_octets, failure_octets, content_body};
+ghost use Rattle.cbsp_wire.specs.Written.{bodies_in, octets_of_message};
+ghost use Rattle.cbsp_wire.specs.WritingSteps.{element_octets, field_octets, AreShort};
 
 use crate::elements::{NUMBERS, elements};
 use crate::fault::WireFault;
-use crate::item::{Item, put_items};
-use crate::items::Layout;
+use crate::fields::{Fields, fields_of, is_writable, type_of};
+use crate::item::{Discriminator, ListItem, put_items};
 use crate::message::Message;
-use crate::parts::{Parts, is_writable, kind_of, parts_of};
 use crate::{cause, iei};
 use cbs_page::Content;
 use std::alloc::Global;
@@ -62,38 +62,39 @@ fn put_octet(out: &mut Vec<u8>, element: u8, octet: Option<u8>)
     }
 }
 
-/// Appends what comes before the items of a list: its number, its length and, but for failures, the discriminator.
-fn put_list_head(out: &mut Vec<u8>, element: u8, layout: Layout, items_len: u16)
+/// Appends what comes before the items of a list: its number, its length and the one discriminator, if all items share
+/// one.
+fn put_list_head(out: &mut Vec<u8>, element: u8, discriminator: Discriminator, items_len: u16)
     requires fits { items_len < 65535 }
-    requires room { HasRoom out.old (element ∷ list_head layout items_len) }
-    ensures appended { out.new.items ≡ out.old.items ++ element ∷ list_head layout items_len }
+    requires room { HasRoom out.old (element ∷ list_head discriminator items_len) }
+    ensures appended { out.new.items ≡ out.old.items ++ element ∷ list_head discriminator items_len }
     ensures room { vec_capacity out.new ≡ vec_capacity out.old }
 {
-    match layout {
-        Layout::Cells | Layout::Counts => {
+    match discriminator {
+        Discriminator::Once => {
             let [high, low] = octets_of_number(1 + items_len);
             put(out, &[element, high, low, 1]);
         }
-        Layout::Failures => put_number(out, element, Some(items_len)),
+        Discriminator::Each => put_number(out, element, Some(items_len)),
     }
 }
 
 /// Appends a list, if it has items.
-fn put_list<T: Item>(out: &mut Vec<u8>, element: u8, items: &[T])
+fn put_list<T: ListItem>(out: &mut Vec<u8>, element: u8, items: &[T])
     requires short { length items.now ≤ 64 }
-    requires room { HasRoom out.old (element_octets element (list_bodies T.LAYOUT T.octets_of items.now)) }
+    requires room { HasRoom out.old (element_octets element (list_bodies T.DISCRIMINATOR T.octets_of items.now)) }
     ensures appended { out.new.items
-        ≡ out.old.items ++ element_octets element (list_bodies T.LAYOUT T.octets_of items.now) }
+        ≡ out.old.items ++ element_octets element (list_bodies T.DISCRIMINATOR T.octets_of items.now) }
     ensures room { vec_capacity out.new ≡ vec_capacity out.old }
 {
     if items.is_empty() {
         return;
     }
-    put_list_head(out, element, T::LAYOUT, items.len() as u16 * T::SIZE);
+    put_list_head(out, element, T::DISCRIMINATOR, items.len() as u16 * T::SIZE);
     put_items(out, items);
 }
 
-/// Appends the number of pages, if it is told.
+/// Appends the number of pages, if it is given.
 fn put_pages(out: &mut Vec<u8>, element: u8, pages: Option<usize>)
     requires few { IfSome pages (λ n. n ≤ 15) }
     requires room { HasRoom out.old (element_octets element (octet_bodies pages)) }
@@ -120,19 +121,19 @@ fn put_contents(out: &mut Vec<u8>, element: u8, contents: &[Content])
 }
 
 macro_rules! put_field {
-    ($out:expr, $row:path, $parts:expr, number $field:ident) => { put_number($out, $row, $parts.$field) };
-    ($out:expr, $row:path, $parts:expr, octet $field:ident) => { put_octet($out, $row, $parts.$field) };
-    ($out:expr, $row:path, $parts:expr, pages $field:ident) => { put_pages($out, $row, $parts.$field) };
-    ($out:expr, $row:path, $parts:expr, list $field:ident) => { put_list($out, $row, $parts.$field) };
-    ($out:expr, $row:path, $parts:expr, contents $field:ident) => { put_contents($out, $row, $parts.$field) };
+    ($out:expr, $row:path, $fields:expr, number $field:ident) => { put_number($out, $row, $fields.$field) };
+    ($out:expr, $row:path, $fields:expr, octet $field:ident) => { put_octet($out, $row, $fields.$field) };
+    ($out:expr, $row:path, $fields:expr, pages $field:ident) => { put_pages($out, $row, $fields.$field) };
+    ($out:expr, $row:path, $fields:expr, list $field:ident) => { put_list($out, $row, $fields.$field) };
+    ($out:expr, $row:path, $fields:expr, contents $field:ident) => { put_contents($out, $row, $fields.$field) };
 }
 
 macro_rules! put_for {
-    ($out:expr, $parts:expr, $number:expr; $($row:path, $form:ident $size:literal,
+    ($out:expr, $fields:expr, $number:expr; $($row:path, $form:ident $size:literal,
         $write:ident $write_done:ident $write_failed:ident $kill:ident $kill_done:ident $kill_failed:ident,
         $writer:ident $field:ident;)*) => {
         match $number {
-            $($row => put_field!($out, $row, $parts, $writer $field),)*
+            $($row => put_field!($out, $row, $fields, $writer $field),)*
             _ => {}
         }
     };
@@ -140,31 +141,31 @@ macro_rules! put_for {
 
 /// Appends the elements with this number.
 #[tactic(auto, unfolding(crate::specs::Written::bodies_in))]
-fn put_elements_with(out: &mut Vec<u8>, parts: &Parts<'_>, number: u8)
-    requires short { AreShort (fields_seen parts.now) }
-    requires room { HasRoom out.old (field_octets (fields_seen parts.now) number) }
-    ensures appended { out.new.items ≡ out.old.items ++ field_octets (fields_seen parts.now) number }
+fn put_elements_with(out: &mut Vec<u8>, fields: &Fields<'_>, number: u8)
+    requires short { AreShort fields.now }
+    requires room { HasRoom out.old (field_octets fields.now number) }
+    ensures appended { out.new.items ≡ out.old.items ++ field_octets fields.now number }
     ensures room { vec_capacity out.new ≡ vec_capacity out.old }
 {
-    elements!(put_for, out, parts, number)
+    elements!(put_for, out, fields, number)
 }
 
 /// Appends the elements with these numbers, in this order.
-fn put_elements(out: &mut Vec<u8>, parts: &Parts<'_>, numbers: &[u8])
-    requires short { AreShort (fields_seen parts.now) }
-    requires room { HasRoom out.old (flat_map (field_octets (fields_seen parts.now)) numbers.now) }
-    ensures appended { out.new.items ≡ out.old.items ++ flat_map (field_octets (fields_seen parts.now)) numbers.now }
+fn put_elements(out: &mut Vec<u8>, fields: &Fields<'_>, numbers: &[u8])
+    requires short { AreShort fields.now }
+    requires room { HasRoom out.old (flat_map (field_octets fields.now) numbers.now) }
+    ensures appended { out.new.items ≡ out.old.items ++ flat_map (field_octets fields.now) numbers.now }
     ensures room { vec_capacity out.new ≡ vec_capacity out.old }
 {
     for number in numbers {
-        put_elements_with(out, parts, *number);
+        put_elements_with(out, fields, *number);
     }
 }
 
 /// Appends the octets of a message, with its elements in the table's order, and takes no memory: the vector keeps its
 /// capacity.
 ///
-/// It asks for a message that some octets mean, for which `write` answers no cause, and for room of 1,547 octets, the
+/// It asks for a message that some octets mean, for which `write` returns no cause, and for room of 1,547 octets, the
 /// longest message.
 #[tactic(auto, unfolding(crate::specs::Written::octets_of_message))]
 pub fn write_in(message: &Message, out: &mut Vec<u8>)
@@ -173,18 +174,18 @@ pub fn write_in(message: &Message, out: &mut Vec<u8>)
     ensures appended { out.new.items ≡ out.old.items ++ octets_of_message message.now }
     ensures room_stays { vec_capacity out.new ≡ vec_capacity out.old }
 {
-    let parts = parts_of(message);
+    let fields = fields_of(message);
     let start = out.len();
-    put(out, &[kind_of(message).octet(), 0, 0, 0]);
-    put_elements(out, &parts, &NUMBERS);
+    put(out, &[type_of(message).to_octet(), 0, 0, 0]);
+    put_elements(out, &fields, &NUMBERS);
     let length = out.len() - start - 4;
     out[start + 1] = (length / 65536) as u8;
     out[start + 2] = (length / 256 % 256) as u8;
     out[start + 3] = (length % 256) as u8;
 }
 
-/// The octets of a message, with its elements in the table's order; `Cause(0x01)` where no octets mean it, as of a
-/// message without contents; `Refused` where memory runs out.
+/// The octets of a message, with its elements in the table's order; `Cause(0x01)` if no octets mean it, as of a
+/// message without contents; `Refused` if memory runs out.
 pub fn write(alloc: Global, message: &Message) -> Result<Vec<u8>, WireFault>
     ensures written { IfOk result (λ octets. octets.items ≡ octets_of_message message.now) }
     ensures meant { IfOk result (λ octets. IsMessage octets.items message.now) }

@@ -80,7 +80,7 @@ fn expect_kind(rt: &impl Abort, alloc: Global, kind: u8, fault: WireFault) -> Re
 }
 
 #[test]
-fn the_first_octet_tells_which_elements_there_are(rt: HostRuntime) -> Result<(), Fail> {
+fn the_first_octet_says_which_elements_there_are(rt: HostRuntime) -> Result<(), Fail> {
     for (kind, fault) in KINDS {
         expect_kind(&rt, rt.alloc(), kind, fault)?;
     }

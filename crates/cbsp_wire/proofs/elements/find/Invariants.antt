@@ -5,7 +5,8 @@ use Rattle.cbsp_wire.proofs.elements.find.Given as goal
 
 abbrev pub invariant-walk : goal.invariant-walk
 invariant-walk l = record {
-  same : bodies_of l.number (walk_of l.kind l.left).elements ≡ bodies_of l.number (walk_of l.kind l.octets).elements;
+  same : bodies_of l.number (walk_of l.message_type l.left).elements ≡ bodies_of l.number
+      (walk_of l.message_type l.octets).elements;
   shorter : length l.left ≤ length l.octets;
 }
 

@@ -5,8 +5,8 @@ use Rattle.cbsp_wire.proofs.range.content_count.Given as goal
 
 abbrev pub invariant-walk : goal.invariant-walk
 invariant-walk l = record {
-  so_far : l.count + length (bodies_of 1 (walk_of l.kind l.left).elements)
-      ≡ length (bodies_of 1 (walk_of l.kind l.octets).elements);
+  so_far : l.count + length (bodies_of 1 (walk_of l.message_type l.left).elements)
+      ≡ length (bodies_of 1 (walk_of l.message_type l.octets).elements);
   fits : l.count + length l.left ≤ length l.octets;
 }
 

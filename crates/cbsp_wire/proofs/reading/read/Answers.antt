@@ -7,32 +7,33 @@ use Rattle.cbsp_wire.specs.Value.{message_of}
 use Rattle.cbsp_wire.proofs.MeaningLaws.{first_fault-none, IsMessage-read, IsMessage-faulty, reported_fault-refused}
 use Rattle.cbsp_wire.proofs.reading.read.Goals as goal
 
-pub returns-in_err-kind-clause-only : goal.returns-in_err-kind-clause-only
-returns-in_err-kind-clause-only c =
+pub returns-in_err-message_type-clause-complete : goal.returns-in_err-message_type-clause-complete
+returns-in_err-message_type-clause-complete c =
     let p = err_from_is_err_and c.from_residual.result c.from_residual.ensures.1 in
-    rw (p.1, p.2) (λ m meant. absurd (IsMessage-faulty _ m _ c.in_err-kind.ensures.fault meant))
+    rw (p.1, p.2) (λ m meant. absurd (IsMessage-faulty _ m _ c.in_err-message_type.ensures.fault meant))
 
-pub returns-in_err-kind-clause-refused : goal.returns-in_err-kind-clause-refused
-returns-in_err-kind-clause-refused c =
+pub returns-in_err-message_type-clause-first_fault : goal.returns-in_err-message_type-clause-first_fault
+returns-in_err-message_type-clause-first_fault c =
     let p = err_from_is_err_and c.from_residual.result c.from_residual.ensures.1 in
-    rw (p.1, p.2) (c.in_err-kind.ensures.fault ∙ sym c.in_err-kind.ensures.reported)
+    rw (p.1, p.2) (c.in_err-message_type.ensures.fault ∙ sym c.in_err-message_type.ensures.reported)
 
-pub returns-in_err-kind-clause-last : goal.returns-in_err-kind-clause-last
-returns-in_err-kind-clause-last c =
+pub returns-in_err-message_type-clause-memory_last : goal.returns-in_err-message_type-clause-memory_last
+returns-in_err-message_type-clause-memory_last c =
     let p = err_from_is_err_and c.from_residual.result c.from_residual.ensures.1 in
-    rw (p.1, p.2) (λ refused. absurd (reported_fault-refused _ c.in_err-kind.ensures.reported refused))
+    rw (p.1, p.2) (λ refused. absurd (reported_fault-refused _ c.in_err-message_type.ensures.reported refused))
 
-pub returns-in-Ok-clause-found : goal.returns-in-Ok-clause-found
-returns-in-Ok-clause-found c =
+pub returns-in-Ok-clause-meant : goal.returns-in-Ok-clause-meant
+returns-in-Ok-clause-meant c =
     subst (λ (m : Message). IsMessage c.args.octets.now m) (sym c.in-Ok.ensures)
-    (first_fault-none _ _ _ c.in_ok-kind.ensures.faultless c.in_ok-kind.ensures.parts)
+    (first_fault-none _ _ _ c.in_ok-message_type.ensures.faultless c.in_ok-message_type.ensures.header)
 
-pub returns-in-Ok-clause-only : goal.returns-in-Ok-clause-only
-returns-in-Ok-clause-only c =
-    λ m meant. c.in-Ok.ensures ∙ sym ((IsMessage-read _ m meant).value _ _ c.in_ok-kind.ensures.parts)
+pub returns-in-Ok-clause-complete : goal.returns-in-Ok-clause-complete
+returns-in-Ok-clause-complete c =
+    λ m meant. c.in-Ok.ensures ∙ sym ((IsMessage-read _ m meant).value _ _ c.in_ok-message_type.ensures.header)
 
-pub returns-in-Err-clause-last : goal.returns-in-Err-clause-last
-returns-in-Err-clause-last c = λ refused. (
-  message_of c.in_ok-kind.kind (walk_of c.in_ok-kind.kind c.in_ok-kind.elements.now).elements,
-  first_fault-none _ _ _ c.in_ok-kind.ensures.faultless c.in_ok-kind.ensures.parts,
+pub returns-in-Err-clause-memory_last : goal.returns-in-Err-clause-memory_last
+returns-in-Err-clause-memory_last c = λ refused. (
+  message_of c.in_ok-message_type.message_type (walk_of c.in_ok-message_type.message_type
+      c.in_ok-message_type.elements.now).elements,
+  first_fault-none _ _ _ c.in_ok-message_type.ensures.faultless c.in_ok-message_type.ensures.header,
 )

@@ -1,5 +1,6 @@
 use Rattle.std.proofs.Common.{◌≡◌, ◌≤◌, ◌++◌, ◌+◌, length, map, vec_capacity, vec_len}
-use Rattle.cbsp_wire.specs.Written.{element_octets, content_body}
+use Rattle.cbsp_wire.specs.Written.{content_body}
+use Rattle.cbsp_wire.specs.WritingSteps.{element_octets}
 use Rattle.cbsp_wire.proofs.writing.put_contents.Given as goal
 
 abbrev pub invariant-contents : goal.invariant-contents

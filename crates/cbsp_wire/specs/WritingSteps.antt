@@ -1,0 +1,25 @@
+-- The fields of a message as the writer holds them, and how many octets they take: contracts of private functions alone
+-- speak of it. Own.
+use Rattle.std.specs.Prelude.{ℕ, ◌+◌, ◌≤◌, List, length, map, IfSome, vec_len, vec_capacity}
+use Rattle.std.specs.Global.{Vec}
+use Rattle.cbsp_wire.specs.Element.{octets_of_elements}
+use Rattle.cbsp_wire.specs.Value.{Fields}
+use Rattle.cbsp_wire.specs.Written.{bodies_in, element}
+
+-- a vector into which octets fit without memory
+abbrev pub HasRoom : Vec ℕ → List ℕ → Type 0
+HasRoom v octets = vec_len v + length octets ≤ vec_capacity v
+
+-- the octets of the elements with a number
+abbrev pub element_octets : ℕ → List (List ℕ) → List ℕ
+element_octets n bodies = octets_of_elements (map (element n) bodies)
+
+abbrev pub field_octets : Fields → ℕ → List ℕ
+field_octets f n = element_octets n (bodies_in f n)
+
+-- lists as short as a message's may be
+pub record AreShort (f : Fields) : Type 0 where
+  pub cells : length f.cells ≤ 64
+  pub completed : length f.completed ≤ 64
+  pub failures : length f.failures ≤ 64
+  pub pages : IfSome f.pages (λ n. n ≤ 15)
