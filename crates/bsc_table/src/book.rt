@@ -275,7 +275,7 @@ impl CellBook {
         ensures refused { OnErr result (self.new ≡ self.old) }
     {
         self.log.reserve(1)?;
-        push_within(&mut self.log, entry);
+        self.log.push_reserved(entry);
         Ok(())
     }
 
@@ -290,7 +290,7 @@ impl CellBook {
         kept::stop(self.accepted.as_mut_slice(), old.number, self.clock);
         let _ = self.plan.stop(old.number, self.clock);
         release(&mut self.budget, old, self.clock);
-        push_within(&mut self.log, entry);
+        self.log.push_reserved(entry);
         Ok(())
     }
 
@@ -305,8 +305,8 @@ impl CellBook {
         self.accepted.reserve(1)?;
         self.plan.add(new.item())?;
         reserve_for(&mut self.budget, &new, self.clock);
-        push_within(&mut self.accepted, new);
-        push_within(&mut self.log, entry);
+        self.accepted.push_reserved(new);
+        self.log.push_reserved(entry);
         Ok(())
     }
 
@@ -325,8 +325,8 @@ impl CellBook {
         let _ = self.plan.stop(old.number, self.clock);
         release(&mut self.budget, old, self.clock);
         reserve_for(&mut self.budget, &new, self.clock);
-        push_within(&mut self.accepted, new);
-        push_within(&mut self.log, entry);
+        self.accepted.push_reserved(new);
+        self.log.push_reserved(entry);
         Ok(())
     }
 
@@ -590,7 +590,7 @@ impl CellBook {
         ensures { IsPlayedUpTo (self.old.clock + 1) self.old self.new }
     {
         let used = self.plan.next(self.clock);
-        put(&mut self.air, used);
+        push_aired(&mut self.air, used);
         self.clock += 1;
         self.budget.pass_slot(self.clock);
     }
@@ -644,18 +644,8 @@ fn cause_of(full: NoRoom) -> u8
     }
 }
 
-/// Adds an item, where there is room for it.
-fn push_within<T: Drop>(list: &mut Vec<T>, item: T)
-    requires { vec_len list.old < vec_capacity list.old }
-    ensures items { list.new.items ≡ list.old.items ++ item ∷ [] }
-    ensures len { vec_len list.new ≡ vec_len list.old + 1 }
-    ensures capacity { vec_capacity list.old ≤ vec_capacity list.new }
-{
-    let _ = list.push(item);
-}
-
 /// Adds what a slot airs, where there is room for it.
-fn put(air: &mut Vec<Option<Aired>>, used: Option<(u16, u8)>)
+fn push_aired(air: &mut Vec<Option<Aired>>, used: Option<(u16, u8)>)
     requires { vec_len air.old < vec_capacity air.old }
     ensures aired { air_told air.new.items ≡ air_told air.old.items ++ used ∷ [] }
     ensures places { vec_len air.new ≡ vec_len air.old + 1 }
@@ -665,5 +655,5 @@ fn put(air: &mut Vec<Option<Aired>>, used: Option<(u16, u8)>)
         None => None,
         Some((entry, page)) => Some(Aired { entry, page }),
     };
-    push_within(air, aired);
+    air.push_reserved(aired);
 }

@@ -17,7 +17,7 @@ invariant_of-self-2 c =
     let Next : Record → Type 0 = λ x. IsNext x e in
     let next = subst Next inside c.requires.next in
     let same = refusals_change_nothing r.log e c.requires.noted in
-    let grown = sym (c.push_within.ensures.items ∙ ap (λ (l : List Entry). l ++ e ∷ []) c.reserve.ensures.items) in
+    let grown = sym (c.push_reserved.ensures.items ∙ ap (λ (l : List Entry). l ++ e ∷ []) c.reserve.ensures.items) in
     let Legal : List Entry → Type 0 = λ log. IsLegal (record r { log = log }) in
     let Kept : List Accepted → Type 0 = λ all. map accepted_of c.self.inside.accepted.items ≡ all in
     let FollowsThem : List Accepted → Type 0 = λ all. Follows c.self.inside.plan

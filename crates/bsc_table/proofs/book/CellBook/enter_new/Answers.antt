@@ -67,8 +67,8 @@ invariant_of-self-2 c =
     let adds = start.after in
     let sound = IsSound-legal r book.legal in
     -- the log and what is kept
-    let grown = c.push_within-2.ensures.items ∙ ap (λ (l : List Entry). l ++ e ∷ []) c.reserve.ensures.items in
-    let kept = c.push_within.ensures.items ∙ ap (λ (l : List Kept). l ++ c.args.new ∷ []) c.reserve-2.ensures.items in
+    let grown = c.push_reserved-2.ensures.items ∙ ap (λ (l : List Entry). l ++ e ∷ []) c.reserve.ensures.items in
+    let kept = c.push_reserved.ensures.items ∙ ap (λ (l : List Kept). l ++ c.args.new ∷ []) c.reserve-2.ensures.items in
     let more = ap (map accepted_of) kept ∙ kept_more c.self.inside.accepted.items c.args.new (accepted_in r.log)
     book.kept ∙ sym adds in
     -- the plan
@@ -83,5 +83,5 @@ invariant_of-self-2 c =
     (layer_tells c.args.new.category) c.reserve_for.ensures in
     let FollowsAll : List Message → Type 0 = λ all. Follows c.add.new.self all r.air in
     let HeldFor : List Claim → Type 0 = λ all. c.reserve_for.new.budget ≡ lines_at r.clock all in
-    book_with c.self.inside e c.push_within-2.new.list c.push_within.new.list c.add.new.self c.reserve_for.new.budget
+    book_with c.self.inside e c.push_reserved-2.new.self c.push_reserved.new.self c.add.new.self c.reserve_for.new.budget
     book next grown more (subst FollowsAll (sym messages) follows) (subst HeldFor (sym claims) lines)

@@ -121,13 +121,13 @@ invariant_of-self-2 c =
     let sound = IsSound-legal r book.legal in
     let same = messages_stopped number r.clock (accepted_in r.log) in
     -- the log and what is kept
-    let grown = c.push_within-2.ensures.items ∙ ap (λ (l : List Entry). l ++ e ∷ []) c.reserve.ensures.items in
+    let grown = c.push_reserved-2.ensures.items ∙ ap (λ (l : List Entry). l ++ e ∷ []) c.reserve.ensures.items in
     let room = c.reserve-2.new.self in
     let stopped = table_stopped room c.as_mut_slice.result.now c.stop.new.table number r.clock
     c.as_mut_slice.ensures.value c.as_mut_slice.ensures.len c.stop.ensures
     ∙ ap (λ (l : List Kept). map (stop_numbered number r.clock) (map accepted_of l)) c.reserve-2.ensures.items
     ∙ ap (map (stop_numbered number r.clock)) book.kept in
-    let kept = ap (map accepted_of) c.push_within.ensures.items
+    let kept = ap (map accepted_of) c.push_reserved.ensures.items
     ∙ kept_more (with_items room c.stop.new.table).items c.args.new rest stopped ∙ sym change.after in
     -- the plan
     let told = item_message new.message (message_from c.item.result) c.item.ensures may.standing in
@@ -150,6 +150,6 @@ invariant_of-self-2 c =
     c.reserve_for.new.budget released (is_background c.args.new.category) (layer_tells c.args.new.category)
     c.reserve_for.ensures in
     let HeldFor : List Claim → Type 0 = λ all. c.reserve_for.new.budget ≡ lines_at r.clock all in
-    book_with c.self.inside e c.push_within-2.new.list c.push_within.new.list c.stop-2.new.self
+    book_with c.self.inside e c.push_reserved-2.new.self c.push_reserved.new.self c.stop-2.new.self
     c.reserve_for.new.budget book next grown kept (subst FollowsThese (sym messages) follows)
     (subst HeldFor (sym claims) lines)

@@ -64,7 +64,7 @@ invariant_of-self-2 c =
     let next = subst Next (sym c.self.view_is) c.requires.next in
     let stop = subst Stops (sym c.self.view_is) c.requires.stop in
     -- the log and what is kept
-    let grown = c.push_within.ensures.items ∙ ap (λ (l : List Entry). l ++ e ∷ []) c.reserve.ensures.items in
+    let grown = c.push_reserved.ensures.items ∙ ap (λ (l : List Entry). l ++ e ∷ []) c.reserve.ensures.items in
     let fewer = table_stopped c.self.inside.accepted c.as_mut_slice.result.now c.stop.new.table number r.clock
     c.as_mut_slice.ensures.value c.as_mut_slice.ensures.len c.stop.ensures
     ∙ ap (map (stop_numbered number r.clock)) book.kept ∙ sym stop.after in
@@ -76,6 +76,6 @@ invariant_of-self-2 c =
     let FollowsAll : List Message → Type 0 = λ all. Follows c.stop-2.new.self all r.air in
     let claims = claims_without r.log e number r.clock stop.after in
     let HeldFor : List Claim → Type 0 = λ all. c.release.new.budget ≡ lines_at r.clock all in
-    book_with c.self.inside e c.push_within.new.list (with_items c.self.inside.accepted c.stop.new.table)
+    book_with c.self.inside e c.push_reserved.new.self (with_items c.self.inside.accepted c.stop.new.table)
     c.stop-2.new.self c.release.new.budget book next grown fewer (subst FollowsAll (sym messages) follows)
     (subst HeldFor (sym claims) lines)

@@ -28,23 +28,23 @@ invariant_of-self c =
     (IsSound-legal r book.legal).order.accepted in
     let later = lines_at-later r.clock (r.clock + 1) (claims_in r.log) (omega arith) accepted in
     record {
-      legal = subst Legal (sym c.put.ensures.aired) (IsLegal-next r used ahead chosen book.legal);
+      legal = subst Legal (sym c.push_aired.ensures.aired) (IsLegal-next r used ahead chosen book.legal);
       short = book.short;
       kept = book.kept;
-      follows = subst FollowsTo (sym c.put.ensures.aired) (c.next-used.ensures.follows messages r.air book.follows);
+      follows = subst FollowsTo (sym c.push_aired.ensures.aired) (c.next-used.ensures.follows messages r.air book.follows);
       held = c.pass_slot.ensures ∙ ap (passed (r.clock + 1)) book.held ∙ later;
-      places = omega (arith, c.put.ensures.places, book.places);
-      room = omega (arith, c.put.ensures.room, book.room);
+      places = omega (arith, c.push_aired.ensures.places, book.places);
+      room = omega (arith, c.push_aired.ensures.room, book.room);
     }
 
 pub returns : goal.returns
 returns c =
     let P : Record → Type 0 = λ before. IsPlayedUpTo (before.clock + 1) before
-    (record (record_of c.self.inside) { clock = c.self.inside.clock + 1; air = air_told c.put.new.air.items }) in
+    (record (record_of c.self.inside) { clock = c.self.inside.clock + 1; air = air_told c.push_aired.new.air.items }) in
     subst P c.self.view_is (record {
       same_cell = refl;
       same_slots = refl;
       same_log = refl;
       clock_at = refl;
-      more_air = (c.next-used.result ∷ [], c.put.ensures.aired);
+      more_air = (c.next-used.result ∷ [], c.push_aired.ensures.aired);
     })
