@@ -25,7 +25,8 @@ use Rattle.bsc_table.specs.Legal.{IsLegal}
 use Rattle.bsc_table.specs.Room.{AreInOrder}
 use Rattle.bsc_table.specs.Begun.{IsBegun}
 use Rattle.bsc_table.specs.Book.{accepted_of, air_told, record_of, kept_stopped, stop_numbered, IsLiveIn, IsNext}
-use Rattle.bsc_table.specs.Book.{IsBook, with_entry, line_of, lines_at, left_by}
+use Rattle.bsc_table.specs.Steps.{with_entry}
+use Rattle.bsc_table.specs.Book.{IsBook, line_of, lines_at, left_by}
 use Rattle.bsc_table.proofs.Named.{live_is_standing}
 use Rattle.bsc_table.proofs.Numbers.{numbers_below}
 use Rattle.bsc_table.proofs.Outcome.{entry_with, messages_stopped, claims_stopped}

@@ -18,7 +18,7 @@ use Rattle.bsc_table.specs.Record.{Accepted, accepted_named, message_named, clai
 use Rattle.bsc_table.specs.Record.{is_live}
 use Rattle.bsc_table.specs.Answer.{answer_at, answer_beside, answer_for, answer_to_new, answer_to_replacement}
 use Rattle.bsc_table.specs.Answer.{unless_accepted, of_live, answer_to_write, answer_to_kill, told_of, answer_with_room}
-use Rattle.bsc_table.specs.Book.{has_entry}
+use Rattle.bsc_table.specs.Steps.{has_entry}
 
 abbrev HasOne : Answer → Type 0
 HasOne answer = has_entry answer ≡ true

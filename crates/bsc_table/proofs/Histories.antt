@@ -1,5 +1,6 @@
 -- Legal histories worked by hand: answers, and what is aired.
-use Rattle.std.proofs.Common.{◌≡◌, ℕ, zero, suc, ◌≤◌, ◌<◌, Bool, true, ◌&&◌, inl, refl, Option, Some, None, List, []}
+use Rattle.std.proofs.Common.{◌≡◌, ℕ, zero, suc, ◌≤◌, ◌<◌, Bool, true, ◌&&◌, inl, inr, refl, Option, Some, None, List}
+use Rattle.std.proofs.Common.{[]}
 use Rattle.std.proofs.Common.{◌∷◌, replicate, ◌++◌, length, take, get_or, arith}
 use Rattle.std.specs.Prelude.{nat_le, nat_lt}
 use Rattle.std.specs.List.{All, AllPairs, Any, list_all}
@@ -31,6 +32,7 @@ use Rattle.bsc_table.specs.Claim.{claimed_at}
 use Rattle.bsc_table.specs.Answer.{answer_of}
 use Rattle.bsc_table.specs.Legal.{IsAnswered, IsLegal}
 use Rattle.bsc_table.specs.Told.{IsTrulyTold}
+use Rattle.bsc_table.specs.Steps.{opened, IsPlayedUpTo, Ask, Play, IsReached}
 use Rattle.bsc_table.proofs.Promised.{legal_histories_are_served, legal_histories_are_bounded}
 use Rattle.bsc_table.proofs.Told.{legal_answers_are_true}
 
@@ -297,6 +299,35 @@ legal_run log clock few within rise formed periods answered played = record {
 
 filled_is_legal : IsLegal (run filled 6)
 filled_is_legal = legal_run filled 6 (omega arith) (omega arith) refl refl refl filled_answered refl
+
+-- it is reached step by step: four writes are asked, of which the last is refused, and six slots are played
+filled_is_reached : IsReached (Ask (write 1 None Normal 1 6 0) ∷ Ask (write 2 None Normal 1 3 0) ∷ Ask
+    (write 3 None Normal 1 2 0) ∷ Ask (write 4 None Normal 1 1024 0) ∷ Play 6 ∷ []) (opened (run [] 0).cell 8)
+    (run filled 6)
+filled_is_reached =
+    let asked : ℕ → Record = λ i. run (take i filled) 0 in
+    let started : Answer = answers.Started 0 in
+    let played : IsPlayedUpTo 6 (run filled 0) (run filled 6) = record {
+      same_cell = refl;
+      same_slots = refl;
+      same_log = refl;
+      clock_at = refl;
+      more_air = (aired filled 6, refl);
+      places = refl;
+      by_rule = λ at from within. filled_is_legal.aired at within;
+    } in (
+      asked 1,
+      (started, inr refl, refl),
+      (
+        asked 2,
+        (started, inr refl, refl),
+        (
+          asked 3,
+          (started, inr refl, refl),
+          (asked 4, (answers.Cause 0x06, inr refl, refl), (run filled 6, played, refl)),
+        ),
+      ),
+    )
 
 -- after five of the slots the half has the least number of whole broadcasts that it may have, and the third the most
 abbrev half : Message

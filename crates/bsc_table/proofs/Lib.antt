@@ -40,3 +40,4 @@ pub mod Stopped
 pub mod Added
 pub mod Ahead
 pub mod TakenOver
+pub mod Steps

@@ -1,5 +1,5 @@
 -- What a cell's book keeps beside its record (own).
-use Rattle.std.specs.Prelude.{◌≡◌, ◌≢◌, ℕ, ◌+◌, ◌<◌, ⊤, Bool, true, false, not, is_some, ◌||◌, find, nat_lt, ◌≤◌, ◌==◌}
+use Rattle.std.specs.Prelude.{◌≡◌, ◌≢◌, ℕ, ◌+◌, ◌<◌, ⊤, Bool, true, false, is_some, ◌||◌, find, nat_lt, ◌≤◌, ◌==◌}
 use Rattle.std.specs.Prelude.{if◌then◌else◌, Option, Some, None, Result, Ok, Err, OnOk, IfSome, List, [], ◌∷◌, ◌++◌}
 use Rattle.std.specs.Prelude.{length, map, filter, All, Any, Contains, vec_len, vec_capacity}
 use Rattle.admission.specs.declared.budget.Held.{Held}
@@ -35,6 +35,7 @@ use Rattle.bsc_table.specs.Handover.{Place}
 use Rattle.bsc_table.specs.Orders.{IsWellFormed}
 use Rattle.bsc_table.specs.Answer.{answer_at, answer_beside, answer_with_room}
 use Rattle.bsc_table.specs.Legal.{IsLegal}
+use Rattle.bsc_table.specs.Steps.{entry_by}
 
 -- what a slot airs, as a pair of the entry's number and the page
 abbrev pub use_told : Option Aired → Option (ℕ × ℕ)
@@ -110,21 +111,6 @@ pub record IsReplacement (r : Record) (e : Entry) (old new : Accepted) : Type 0 
   pub after : accepted_in (r.log ++ e ∷ []) ≡ map (stop_numbered old.message.number r.clock) (accepted_in r.log) ++ new
       ∷ []
 
--- a record with one more entry
-abbrev pub with_entry : Entry → Record → Record
-with_entry e r = record r { log = r.log ++ e ∷ [] }
-
--- an answer has an entry, but for cause 08 and the want of memory
-abbrev pub has_entry : Answer → Bool
-has_entry (answers.Cause cause) = not (cause == 0x08)
-has_entry answers.Refused = false
-has_entry other = true
-
--- a record after a command was answered: with an entry where the answer has one, and otherwise as it was
-abbrev pub answered_with : Command → Answer → Record → Record
-answered_with command answer r =
-    if has_entry answer then with_entry (record { command = command; slot = r.clock; answer = answer }) r else r
-
 -- an answer that kills
 abbrev pub is_stopped : Answer → Bool
 is_stopped (answers.Stopped completed) = true
@@ -133,10 +119,6 @@ is_stopped other = false
 -- an answer that accepts a write or a kill
 abbrev pub is_accepting : Answer → Bool
 is_accepting answer = is_some (start_of answer) || is_stopped answer
-
--- the next entry, of a command with its answer
-abbrev pub entry_by : Record → Command → Answer → Entry
-entry_by r command answer = record { command = command; slot = r.clock; answer = answer }
 
 -- the answer of a decision
 abbrev pub decided_answer : Decision → Answer
@@ -288,9 +270,9 @@ pub record IsBook (b : Inside) : Type 0 where
   pub places : vec_len b.air ≡ b.clock
   pub room : b.slots ≤ vec_capacity b.air
 
--- a book after some of its slots were played: the clock stands at the slot after them, what was aired is added to, and
--- nothing else has changed
-pub record IsPlayedUpTo (slot : ℕ) (before after : Record) : Type 0 where
+-- a book after some of its slots were played: the clock is at the slot after them, and nothing but the air list has
+-- changed, which is longer
+pub record IsGoneTo (slot : ℕ) (before after : Record) : Type 0 where
   pub same_cell : after.cell ≡ before.cell
   pub same_slots : after.slots ≡ before.slots
   pub same_log : after.log ≡ before.log

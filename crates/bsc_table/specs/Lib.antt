@@ -13,3 +13,4 @@ pub mod Claim
 pub mod Handover
 pub mod Room
 pub mod Begun
+pub mod Steps

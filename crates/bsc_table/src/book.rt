@@ -18,10 +18,11 @@ ghost use Rattle.bsc_table.specs.Answer.{answer_of};
 ghost use Rattle.bsc_table.specs.Orders.{IsWellFormed};
 ghost use Rattle.bsc_table.specs.Legal.{IsLegal};
 ghost use Rattle.bsc_table.specs.Promised.{IsServed, IsBounded};
-ghost use Rattle.bsc_table.specs.Book.{accepted_of, air_told, IsPlayedUpTo, IsNotLive, IsLiveAs, IsLiveIn, IsNext};
+ghost use Rattle.bsc_table.specs.Steps.{opened, entry_by, with_entry, answered_with, IsPlayedUpTo, Ask, Play, IsStep};
+ghost use Rattle.bsc_table.specs.Book.{accepted_of, air_told, IsGoneTo, IsNotLive, IsLiveAs, IsLiveIn, IsNext};
 ghost use Rattle.bsc_table.specs.Book.{IsStop, IsStart, IsReplacement, IsOffered, IsRoom, IsLater, Decides};
-ghost use Rattle.bsc_table.specs.Book.{DecidesWrites, decided_answer, is_accepting, entry_by, with_entry};
-ghost use Rattle.bsc_table.specs.Book.{answered_with, cause_of, left_by, place_of, line_of, HasRoomFor};
+ghost use Rattle.bsc_table.specs.Book.{DecidesWrites, decided_answer, is_accepting};
+ghost use Rattle.bsc_table.specs.Book.{cause_of, left_by, place_of, line_of, HasRoomFor};
 ghost use Rattle.admission.specs.Reservation.{end_of_stopped};
 ghost use Rattle.admission.specs.Waiting.{behind_of};
 ghost use Rattle.admission.specs.Table.{ends_at, passed};
@@ -94,13 +95,7 @@ impl CellBook {
     ///
     /// `Refused` for want of memory, which a run of no slots doesn't take.
     pub fn open(alloc: Global, cell: Cell, slots: u16) -> Result<CellBook, Refused>
-        ensures opened { IfOk result (λ book. book ≡ record {
-          cell = cell;
-          slots = slots;
-          clock = 0;
-          log = [];
-          air = [];
-        }) }
+        ensures opened { IfOk result (λ book. book ≡ opened cell slots) }
         ensures refused { IfErr result (λ refused. 0 < slots) }
     {
         let air = Vec::with_capacity(alloc, usize::from(slots))?;
@@ -193,6 +188,7 @@ impl CellBook {
         ensures answered { (result ≡ answers.Refused)
             ⊎ (result ≡ answer_of self.old.slots self.old.log self.old.air self.old.clock command.now) }
         ensures entered { self.new ≡ answered_with command.now result self.old }
+        ensures step { IsStep (Ask command.now) self.old self.new }
         ensures legal { IsLegal self.new }
 
         // A full log takes no memory to say so.
@@ -213,6 +209,7 @@ impl CellBook {
     pub fn play(&mut self, k: u16) -> SlotRange
         ensures range { result ≡ record { from = self.old.clock; to = min (self.old.clock + k) self.old.slots } }
         ensures played { IsPlayedUpTo (min (self.old.clock + k) self.old.slots) self.old self.new }
+        ensures step { IsStep (Play k) self.old self.new }
         ensures legal { IsLegal self.new }
         ensures served { IsServed self.new }
         ensures bounded { IsBounded self.new }
@@ -577,7 +574,7 @@ impl CellBook {
     fn play_up_to(&mut self, to: u16)
         requires ahead { self.old.clock ≤ to }
         requires within { to ≤ self.old.slots }
-        ensures { IsPlayedUpTo to self.old self.new }
+        ensures { IsGoneTo to self.old self.new }
     {
         while self.clock() < to {
             self.play_slot();
@@ -587,7 +584,7 @@ impl CellBook {
     /// Plays the slot at which the clock stands.
     fn play_slot(&mut self)
         requires { self.old.clock < self.old.slots }
-        ensures { IsPlayedUpTo (self.old.clock + 1) self.old self.new }
+        ensures { IsGoneTo (self.old.clock + 1) self.old self.new }
     {
         let used = self.plan.next(self.clock);
         push_aired(&mut self.air, used);

@@ -12,6 +12,7 @@ ghost use Rattle.bsc_table.specs.Promised.{LegalHistoriesAreBounded, LegalPagesA
 ghost use Rattle.bsc_table.specs.Refusals.{RefusalsChangeNothing, AcceptedEntriesAreAll};
 ghost use Rattle.bsc_table.specs.Written.{AcceptedAreWrites, UsesAreOfWrites, AcceptedRise, AcceptedHaveLoads};
 ghost use Rattle.bsc_table.specs.Told.{LegalAnswersAreTrue};
+ghost use Rattle.bsc_table.specs.Steps.{OpenedAreLegal, StepKeepsLegal, StepsKeepLegal};
 
 /// Admitted load is a guarantee: where the loads that are reserved at each slot sum to at most `SCALE`, and each slot
 /// airs what the air rule says, each broadcast is aired whole within its own period, from its release up to its due
@@ -76,6 +77,20 @@ pub fn completed_bounds()
 
     // So the number is known up to one: only the broadcast under way, or cut by the stop, is in doubt.
     ensures bounds_are_near { BoundsAreNear }
+{}
+
+/// What a cell's record can become, step by step: a step is a command that is asked, or a play of some slots. Each call
+/// of `CellBook::apply` and `CellBook::play` is such a step. Own rules, of no standard.
+///
+/// Does nothing: its contract is the law.
+pub fn steps_of_a_cell()
+    // A new record is a legal history, and each step keeps it one: a command of a message of the warning centre, or a
+    // status, and a play of any number of slots.
+    ensures opened_are_legal { OpenedAreLegal }
+    ensures step_keeps_legal { StepKeepsLegal }
+
+    // So is the record that any list of steps reaches from a new one on, for every cell and every number of slots.
+    ensures steps_keep_legal { StepsKeepLegal }
 {}
 
 /// What a cell promises of each message that it accepted. Its history is legal: the commands are such as a message of

@@ -16,6 +16,6 @@ pub mod record;
 pub use book::CellBook;
 pub use command::{Category, Command, Refused};
 pub use entry::{Aired, Answer, Entry, SlotRange, State};
-pub use laws::{completed_bounds, guarantee, legal_histories, room_laws};
+pub use laws::{completed_bounds, guarantee, legal_histories, room_laws, steps_of_a_cell};
 pub use orders::orders_of;
 pub use record::CellRecord;

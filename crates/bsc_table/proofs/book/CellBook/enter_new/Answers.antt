@@ -83,5 +83,6 @@ invariant_of-self-2 c =
     (layer_tells c.args.new.category) c.reserve_for.ensures in
     let FollowsAll : List Message → Type 0 = λ all. Follows c.add.new.self all r.air in
     let HeldFor : List Claim → Type 0 = λ all. c.reserve_for.new.budget ≡ lines_at r.clock all in
-    book_with c.self.inside e c.push_reserved-2.new.self c.push_reserved.new.self c.add.new.self c.reserve_for.new.budget
+    book_with c.self.inside e c.push_reserved-2.new.self c.push_reserved.new.self c.add.new.self
+    c.reserve_for.new.budget
     book next grown more (subst FollowsAll (sym messages) follows) (subst HeldFor (sym claims) lines)

@@ -6,7 +6,7 @@ use Rattle.scheduler.specs.Follows.{Follows}
 use Rattle.bsc_table.specs.Record.{Record, messages_in, claims_in}
 use Rattle.bsc_table.specs.Claim.{Claim}
 use Rattle.bsc_table.specs.Legal.{IsLegal}
-use Rattle.bsc_table.specs.Book.{air_told, record_of, IsPlayedUpTo}
+use Rattle.bsc_table.specs.Book.{air_told, record_of, IsGoneTo}
 use Rattle.bsc_table.proofs.BookLaws.{IsLegal-next}
 use Rattle.bsc_table.proofs.Sound.{IsSound-legal}
 use Rattle.bsc_table.proofs.Lines.{lines_at-later}
@@ -31,7 +31,8 @@ invariant_of-self c =
       legal = subst Legal (sym c.push_aired.ensures.aired) (IsLegal-next r used ahead chosen book.legal);
       short = book.short;
       kept = book.kept;
-      follows = subst FollowsTo (sym c.push_aired.ensures.aired) (c.next-used.ensures.follows messages r.air book.follows);
+      follows = subst FollowsTo (sym c.push_aired.ensures.aired)
+          (c.next-used.ensures.follows messages r.air book.follows);
       held = c.pass_slot.ensures ∙ ap (passed (r.clock + 1)) book.held ∙ later;
       places = omega (arith, c.push_aired.ensures.places, book.places);
       room = omega (arith, c.push_aired.ensures.room, book.room);
@@ -39,7 +40,7 @@ invariant_of-self c =
 
 pub returns : goal.returns
 returns c =
-    let P : Record → Type 0 = λ before. IsPlayedUpTo (before.clock + 1) before
+    let P : Record → Type 0 = λ before. IsGoneTo (before.clock + 1) before
     (record (record_of c.self.inside) { clock = c.self.inside.clock + 1; air = air_told c.push_aired.new.air.items }) in
     subst P c.self.view_is (record {
       same_cell = refl;
