@@ -3,9 +3,10 @@ use Rattle.std.specs.Prelude.{ℕ, ◌+◌, ◌-◌, ◌*◌, ◌<◌, ◌≤◌
 use Rattle.std.specs.Prelude.{Option, Some, None, List, filter, sum_by, ⊤}
 use Rattle.std.specs.Int.{div_ceil}
 
--- a message's number, its load, the slot from which the load counts, and the slot from which it counts no more, if any
+-- the number of a message's entry in the log, its load, the slot from which the load counts, and the slot from which it
+-- counts no more, if any
 pub record Reservation : Type 0 where
-  pub number : ℕ
+  pub entry : ℕ
   pub load : ℕ
   pub start : ℕ
   pub end : Option ℕ

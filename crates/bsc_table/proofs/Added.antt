@@ -27,7 +27,7 @@ pub in_order-add : (claims : List Claim) (now : ℕ) (c : Claim) → AreInOrder 
     → c.accepted ≤ c.message.start → (IsWaiting now c → Any (λ p. HandsOver p c) claims)
     → All (λ v. IsWaiting now v → IsWaiting now c → v.behind ≢ c.behind) claims → AreInOrder (claims ++ c ∷ []) now
 in_order-add claims now c order new forward handed apart = record {
-  rising = all_pairs_push (λ a b. a.message.number < b.message.number) claims c order.rising
+  rising = all_pairs_push (λ a b. a.message.entry < b.message.entry) claims c order.rising
       (λ k d h. new.greatest k d h);
   accepted = All-push (λ (x : Claim). x.accepted ≤ now) claims c order.accepted (omega (arith, new.accepted));
   forward = All-push (λ (x : Claim). x.accepted ≤ x.message.start) claims c order.forward forward;

@@ -48,21 +48,21 @@ find-none p (x ∷ claims) e =
 pub record Taken (claims : List Claim) (now load : ℕ) (ahead : Option ℕ) (place : Place) : Type 0 where
   pub p : Claim
   pub there : Contains claims p
-  pub number : ahead ≡ Some p.message.number
-  pub named : place.behind ≡ p.message.number
+  pub entry : ahead ≡ Some p.message.entry
+  pub named : place.behind ≡ p.message.entry
   pub ends : end_of p.message ≡ Some place.start
   pub later : now < place.start
   pub excess : place.excess ≡ load - own_load p.message
 
 taken_before : (claims : List Claim) (now load : ℕ) (ahead : Option ℕ) (place : Place) (p : Claim) → Contains claims p
-    → ahead ≡ Some p.message.number → (end : Option ℕ) → end_of p.message ≡ end
+    → ahead ≡ Some p.message.entry → (end : Option ℕ) → end_of p.message ≡ end
     → place_before now load p end ≡ Some place → Taken claims now load ahead place
-taken_before claims now load ahead place p there number None ends e = absurd (none-some place e)
-taken_before claims now load ahead place p there number (Some end) ends e =
+taken_before claims now load ahead place p there entry None ends e = absurd (none-some place e)
+taken_before claims now load ahead place p there entry (Some end) ends e =
     elim (cases_lt now end) [
       | inr over ↦
           let gone = ap (λ (b : Bool). cond b (Some (record {
-            behind = p.message.number;
+            behind = p.message.entry;
             start = end;
             excess = load -
                 own_load p.message;
@@ -70,20 +70,20 @@ taken_before claims now load ahead place p there number (Some end) ends e =
           absurd (none-some place (sym gone ∙ e))
       | inl before ↦
           let kept = ap (λ (b : Bool). cond b (Some (record {
-            behind = p.message.number;
+            behind = p.message.entry;
             start = end;
             excess = load -
                 own_load p.message;
           })) None) (lt-ltb now end before) in
-          let same : Some (record { behind = p.message.number; start = end; excess = load - own_load p.message }) ≡
+          let same : Some (record { behind = p.message.entry; start = end; excess = load - own_load p.message }) ≡
           Some place = sym kept ∙ e in
-          let its : record { behind = p.message.number; start = end; excess = load - own_load p.message } ≡ place = cc
+          let its : record { behind = p.message.entry; start = end; excess = load - own_load p.message } ≡ place = cc
           in
           let start : end ≡ place.start = ap (λ (x : Place). x.start) its in
           record {
             p = p;
             there = there;
-            number = number;
+            entry = entry;
             named = sym (ap (λ (x : Place). x.behind) its);
             ends = ends ∙ ap (λ (n : ℕ). Some n) start;
             later = omega arith;
@@ -92,12 +92,12 @@ taken_before claims now load ahead place p there number (Some end) ends e =
     ]
 
 taken_of : (claims : List Claim) (now load n : ℕ) (place : Place) (found : Option Claim)
-    → find (λ c. c.message.number == n) claims ≡ found → place_behind now load found ≡ Some place
+    → find (λ c. c.message.entry == n) claims ≡ found → place_behind now load found ≡ Some place
     → Taken claims now load (Some n) place
 taken_of claims now load n place None e taken = absurd (none-some place taken)
 taken_of claims now load n place (Some p) e taken =
-    let says = find-says (λ c. c.message.number == n) claims p e in
-    let same : p.message.number ≡ n = eqb-true p.message.number n says.1 in
+    let says = find-says (λ c. c.message.entry == n) claims p e in
+    let same : p.message.entry ≡ n = eqb-true p.message.entry n says.1 in
     taken_before claims now load (Some n) place p says.0 (ap (λ (k : ℕ). Some k) (sym same)) (end_of p.message) refl
     taken
 
@@ -105,24 +105,24 @@ pub taken : (claims : List Claim) (now load : ℕ) (ahead : Option ℕ) (place :
     → place_behind now load (numbered ahead claims) ≡ Some place → Taken claims now load ahead place
 taken claims now load None place e = absurd (none-some place e)
 taken claims now load (Some n) place e =
-    taken_of claims now load n place (find (λ c. c.message.number == n) claims) refl e
+    taken_of claims now load n place (find (λ c. c.message.entry == n) claims) refl e
 
 -- one number, one claim
-pub by_number : (claims : List Claim) (a b : Claim) → AllPairs (λ x y. x.message.number < y.message.number) claims
-    → Contains claims a → Contains claims b → a.message.number ≡ b.message.number → a ≡ b
+pub by_number : (claims : List Claim) (a b : Claim) → AllPairs (λ x y. x.message.entry < y.message.entry) claims
+    → Contains claims a → Contains claims b → a.message.entry ≡ b.message.entry → a ≡ b
 by_number claims a b rising here there same =
     let first : get_or claims here.0 a ≡ a = here.2 in
     let second : get_or claims there.0 a ≡ b = get_or_default claims there.0 a b there.1 ∙ there.2 in
-    let numbers = ap (λ (c : Claim). c.message.number) first ∙ same
-    ∙ sym (ap (λ (c : Claim). c.message.number) second) in
-    let place = rising-same (λ (c : Claim). c.message.number) claims rising here.0 there.0 a here.1 there.1 numbers in
+    let numbers = ap (λ (c : Claim). c.message.entry) first ∙ same
+    ∙ sym (ap (λ (c : Claim). c.message.entry) second) in
+    let place = rising-same (λ (c : Claim). c.message.entry) claims rising here.0 there.0 a here.1 there.1 numbers in
     sym first ∙ ap (λ i. get_or claims i a) place ∙ second
 
 -- what stands among the stopped ones was there before
-pub from_stopped : (claims : List Claim) (number now : ℕ) (p : Claim) → Contains (stop_claims number now claims) p
-    → (c : Claim) × Contains claims c × (p ≡ stop_claim number now c)
-from_stopped claims number now p there =
-    let f = stop_claim number now in
+pub from_stopped : (claims : List Claim) (entry now : ℕ) (p : Claim) → Contains (stop_claims entry now claims) p
+    → (c : Claim) × Contains claims c × (p ≡ stop_claim entry now c)
+from_stopped claims entry now p there =
+    let f = stop_claim entry now in
     let within : there.0 < length claims = omega (arith, there.1, length-map claims f) in
     let c : Claim = get_or claims there.0 p in (
       c,

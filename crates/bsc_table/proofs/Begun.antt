@@ -64,24 +64,24 @@ room_now slot before a order front room now =
     (omega (arith, now.start), has_room slot (own_load a.message) (claims_of before) order room (now.fits front))
 
 -- a message in the place of none has room
-pub room_for_new : (number slot : ℕ) (before : List Accepted) (a : Accepted)
+pub room_for_new : (entry slot : ℕ) (before : List Accepted) (a : Accepted)
     → AreInOrder (claims_of before) slot
-    → IsBegun number slot None before a
+    → IsBegun entry slot None before a
     → layer a.message ≡ 0
     → HasRoomFor slot (lines_at slot (claims_of before)) (claim_of a) a.behind
-room_for_new number slot before a order begun front = room_now slot before a order front (begun.room front) begun.starts
+room_for_new entry slot before a order begun front = room_now slot before a order front (begun.room front) begun.starts
 
 -- and so has one in the place of a live one
-pub room_for_replacement : (number slot : ℕ) (all : List Accepted) (old a : Accepted)
+pub room_for_replacement : (entry slot : ℕ) (all : List Accepted) (old a : Accepted)
     → AreInOrder (claims_of all) slot
     → AllPairs BelowIt all
     → Contains all old
     → is_live slot old.message ≡ true
-    → IsBegun number slot (Some old) (map (stop_numbered old.message.number slot) all) a
+    → IsBegun entry slot (Some old) (map (stop_numbered old.message.entry slot) all) a
     → layer a.message ≡ 0
-    → HasRoomFor slot (lines_at slot (stop_claims old.message.number slot (claims_of all))) (claim_of a) a.behind
-room_for_replacement number slot all old a order rising here live begun front =
-    let of_old = old.message.number in
+    → HasRoomFor slot (lines_at slot (stop_claims old.message.entry slot (claims_of all))) (claim_of a) a.behind
+room_for_replacement entry slot all old a order rising here live begun front =
+    let of_old = old.message.entry in
     let claims = claims_of all in
     let before = map (stop_numbered of_old slot) all in
     let left = stop_claims of_old slot claims in

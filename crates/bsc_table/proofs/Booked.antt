@@ -35,9 +35,9 @@ use Rattle.bsc_table.proofs.Sound.{HasLoad, IsSound-legal}
 pub told_of_it : (plan : Kept) (log : List Entry) (air : Air) (a : Accepted)
     → Follows plan (messages_in log) air
     → Contains (accepted_in log) a
-    → Any (λ m. m.number ≡ a.message.number) (messages_of plan)
+    → Any (λ m. m.entry ≡ a.message.entry) (messages_of plan)
 told_of_it plan log air a follows there =
-    let P : List Message → Type 0 = λ messages. Any (λ (m : Message). m.number ≡ a.message.number) messages in
+    let P : List Message → Type 0 = λ messages. Any (λ (m : Message). m.entry ≡ a.message.entry) messages in
     let found = Contains-message log a there in
     subst P (sym follows.told) (found.0, a.message, found.1, found.2, refl)
 
@@ -45,10 +45,10 @@ told_of_it plan log air a follows there =
 pub completed_of_it : (log : List Entry) (air : Air) (slot told : ℕ) (a : Accepted)
     → length air ≡ slot
     → Contains (accepted_in log) a
-    → All (λ m. m.number ≡ a.message.number → told ≡ completed m air (length air)) (messages_in log)
+    → All (λ m. m.entry ≡ a.message.entry → told ≡ completed m air (length air)) (messages_in log)
     → told ≡ completed a.message air slot
 completed_of_it log air slot told a long there says =
-    let Says : Message → Type 0 = λ m. m.number ≡ a.message.number → told ≡ completed m air (length air) in
+    let Says : Message → Type 0 = λ m. m.entry ≡ a.message.entry → told ≡ completed m air (length air) in
     All-contains Says (messages_in log) a.message says (Contains-message log a there) refl
     ∙ ap (completed a.message air) long
 
@@ -138,18 +138,18 @@ pub room_after_stop : (r : Record) (load : ℕ) (a : Accepted)
     → IsLegal r
     → IsLiveIn r a
     → IsRoom (left_by r a) r.clock load (answer_for (remaining_without
-    (cond (end_of_stopped a.message.start a.message.period r.clock == r.clock) (Some a.message.number) None)
+    (cond (end_of_stopped a.message.start a.message.period r.clock == r.clock) (Some a.message.entry) None)
     (lines_at r.clock (claims_in r.log))) load)
 room_after_stop r load a legal live =
     let sound = IsSound-legal r legal in
     let slot : ℕ = r.clock in
-    let number : ℕ = a.message.number in
+    let entry : ℕ = a.message.entry in
     let end : ℕ = end_of_stopped a.message.start a.message.period slot in
     let lines : List Held = lines_at slot (claims_in r.log) in
     let left : List Claim = left_by r a in
     let lasts = (All-contains HasLoad (accepted_in r.log) a sound.loaded live.there).1 in
     let later = end_of_stopped-not_before a.message.start a.message.period slot lasts in
-    let asked = room_without slot number end load lines later (lines_are_current slot (claims_in r.log))
+    let asked = room_without slot entry end load lines later (lines_are_current slot (claims_in r.log))
     ∙ ap (λ (l : List Held). answer_for l load) (lines_without r a legal live) in
-    room_beside slot load left (answer_for (remaining_without (cond (end == slot) (Some number) None) lines) load)
+    room_beside slot load left (answer_for (remaining_without (cond (end == slot) (Some entry) None) lines) load)
     (asked ∙ same_room slot load left (lined slot left (left_in_order r a legal live)))

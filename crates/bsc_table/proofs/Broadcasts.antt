@@ -68,4 +68,4 @@ none_aired n air a b h none =
 
 -- the pages that are aired of the message in the slots before n
 abbrev pub pages_before : Message → Air → ℕ → ℕ
-pages_before m air n = total (uses m.number air) n
+pages_before m air n = total (uses m.entry air) n

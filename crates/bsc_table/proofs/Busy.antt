@@ -115,12 +115,12 @@ pending_since m j air s t h within released pending = record {
   released = released;
   not_due = omega (arith, pending.not_due);
   standing = before_stop-sooner s t m.stop h pending.standing;
-  unfinished = omega (arith, pending.unfinished, pages_aired-sooner m.number air (release m j) s t h within);
+  unfinished = omega (arith, pending.unfinished, pages_aired-sooner m.entry air (release m j) s t h within);
 }
 
 -- an uncut broadcast that lacks a page by its due slot is pending at each slot up to it
 pending_throughout : (m : Message) (j : ℕ) (air : Air) (t : ℕ) → IsUncut m j air
-    → pages_aired m.number air (release m j) (due m j) < m.pages → release m j ≤ t → t < due m j → IsPending m j air t
+    → pages_aired m.entry air (release m j) (due m j) < m.pages → release m j ≤ t → t < due m j → IsPending m j air t
 pending_throughout m j air t uncut lacks low high = record {
   requested = uncut.requested;
   released = low;
@@ -129,7 +129,7 @@ pending_throughout m j air t uncut lacks low high = record {
   unfinished = omega (
     arith,
     lacks,
-    pages_aired-sooner m.number air (release m j) t (due m j) (omega arith)
+    pages_aired-sooner m.entry air (release m j) t (due m j) (omega arith)
         uncut.aired_by,
   );
 }

@@ -99,10 +99,10 @@ replaces r old new replaced completed legal live offered soon room
     let after =
     replaces_one r.log r.clock r.clock id serial named completed category period broadcasts dcs contents a None once
     found standing at_once in
-    let left : List Accepted = map (stop_numbered old.number r.clock) (accepted_in r.log) in
+    let left : List Accepted = map (stop_numbered old.entry r.clock) (accepted_in r.log) in
     let Room : List Claim → Type 0 = λ claims. HasRoom claims r.clock (load_of new.pages new.period) in
     let room_left = λ (front : layer_of (rank_of new.category) ≡ 0). subst Room
-    (sym (claims_stopped old.number r.clock (accepted_in r.log))) (room (is_front new.category front)) in (
+    (sym (claims_stopped old.entry r.clock (accepted_in r.log))) (room (is_front new.category front)) in (
       record {
         stops = live_in r new.id replaced a live;
         begun = begins r (Some a) left (accepted_of new) offered room_left (λ now. inl now);
@@ -154,8 +154,8 @@ takes_over r old new place replaced completed legal live offered room front afte
     let after =
     replaces_one r.log r.clock place.start id serial named completed category period broadcasts dcs contents a
     (Some place.behind) sound.once found standing placed.1 in
-    let left : List Accepted = map (stop_numbered old.number r.clock) all in
-    let same_left = sym (claims_stopped old.number r.clock all) in
+    let left : List Accepted = map (stop_numbered old.entry r.clock) all in
+    let same_left = sym (claims_stopped old.entry r.clock all) in
     let Room : List Claim → Type 0 = λ claims. length (filter (is_claimed_at r.clock) claims) < 64 in
     let Over : List Claim → Type 0 = λ claims. handover claims r.clock (claim_of a) (load_of new.pages new.period) ≡
     Some (place_of place) in
@@ -200,17 +200,17 @@ takes_over r old new place replaced completed legal live offered room front afte
           { start = place.start };
     }
 
-    moved : (number slot : ℕ)
-        → write_message new.number new.accepted new.start new.behind new.excess id serial (length contents) period
+    moved : (entry slot : ℕ)
+        → write_message new.entry new.accepted new.start new.behind new.excess id serial (length contents) period
         broadcasts (rank_of category) ≡ accepted_of new
-        → new.number ≡ number
+        → new.entry ≡ entry
         → new.accepted ≡ slot
-        → write_message number slot place.start (Some place.behind) place.excess id serial (length contents) period
+        → write_message entry slot place.start (Some place.behind) place.excess id serial (length contents) period
         broadcasts (rank_of category) ≡ accepted_of (waiting_at new place)
-    moved number slot same_new same_number same_slot =
+    moved entry slot same_new same_number same_slot =
         ap (λ n. write_message n slot place.start (Some place.behind) place.excess id serial (length contents) period
         broadcasts (rank_of category)) (sym same_number)
-        ∙ ap (λ n. write_message new.number n place.start (Some place.behind) place.excess id serial (length contents)
+        ∙ ap (λ n. write_message new.entry n place.start (Some place.behind) place.excess id serial (length contents)
         period broadcasts (rank_of category)) (sym same_slot)
         ∙ ap at_place same_new
 takes_over r old new place replaced completed legal live offered room front after_old fits soon

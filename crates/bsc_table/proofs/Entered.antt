@@ -27,11 +27,11 @@ use Rattle.bsc_table.proofs.Sound.{IsSound-legal}
 
 -- in a list whose numbers rise, one number is that of one message
 pub same_number : (all : List Accepted) (a : Accepted) → AllPairs BelowIt all → Contains all a
-    → All (λ x. x.message.number ≡ a.message.number → x ≡ a) all
+    → All (λ x. x.message.entry ≡ a.message.entry → x ≡ a) all
 same_number all a rising there = λ i d within same.
     let here : get_or all there.0 d ≡ a = get_or_default all there.0 d a there.1 ∙ there.2 in
-    let its : (get_or all there.0 d).message.number ≡ a.message.number = ap (λ (x : Accepted). x.message.number) here in
-    ap (λ (k : ℕ). get_or all k d) (rising-same (λ (x : Accepted). x.message.number) all rising i there.0 d within
+    let its : (get_or all there.0 d).message.entry ≡ a.message.entry = ap (λ (x : Accepted). x.message.entry) here in
+    ap (λ (k : ℕ). get_or all k d) (rising-same (λ (x : Accepted). x.message.entry) all rising i there.0 d within
     there.1 (same ∙ sym its)) ∙ here
 
 -- an accepted message's message is among the messages
@@ -47,9 +47,9 @@ Contains-message log a there = (
 
 -- a live message and no other one is stopped
 pub standing_number : (all : List Accepted) (slot : ℕ) (a : Accepted) → AllPairs BelowIt all → Contains all a
-    → is_live slot a.message ≡ true → All (λ m. m.number ≡ a.message.number → m.stop ≡ None) (map (λ x. x.message) all)
+    → is_live slot a.message ≡ true → All (λ m. m.entry ≡ a.message.entry → m.stop ≡ None) (map (λ x. x.message) all)
 standing_number all slot a rising there live =
-    All-map (λ (m : Message). m.number ≡ a.message.number → m.stop ≡ None) (λ (x : Accepted). x.message) all
+    All-map (λ (m : Message). m.entry ≡ a.message.entry → m.stop ≡ None) (λ (x : Accepted). x.message) all
     (λ i d within same.
     ap (λ (x : Accepted). x.message.stop) (same_number all a rising there i d within same)
     ∙ live_is_standing slot a.message live)
@@ -61,15 +61,15 @@ air_without : (stopped : Option Accepted) (slot : ℕ) (all : List Accepted) (ai
 air_without None slot all air rising live before airs = airs
 air_without (Some a) slot all air rising live before airs =
     let Airs : List Message → Type 0 = λ messages. IsAirOf messages air in
-    subst Airs (sym (messages_stopped a.message.number slot all))
-    (IsAirOf-stop (map (λ (x : Accepted). x.message) all) a.message.number slot air before
+    subst Airs (sym (messages_stopped a.message.entry slot all))
+    (IsAirOf-stop (map (λ (x : Accepted). x.message) all) a.message.entry slot air before
     (standing_number all slot a rising live.0 live.1) airs)
 
-air_with : (started replaced : Option Accepted) (number slot : ℕ) (all : List Accepted) (air : Air)
-    → IfSome started (λ a. IsBegun number slot replaced all a) → length air ≤ slot
+air_with : (started replaced : Option Accepted) (entry slot : ℕ) (all : List Accepted) (air : Air)
+    → IfSome started (λ a. IsBegun entry slot replaced all a) → length air ≤ slot
     → IsAirOf (map (λ a. a.message) all) air → IsAirOf (map (λ a. a.message) (with started all)) air
-air_with None replaced number slot all air begun before airs = airs
-air_with (Some a) replaced number slot all air begun before airs =
+air_with None replaced entry slot all air begun before airs = airs
+air_with (Some a) replaced entry slot all air begun before airs =
     let Airs : List Message → Type 0 = λ messages. IsAirOf messages air in
     subst Airs (sym (map-append (λ (x : Accepted). x.message) all (a ∷ [])))
     (IsAirOf-add (map (λ (x : Accepted). x.message) all) a.message air

@@ -61,18 +61,18 @@ pub messages_with : (log : List Entry) (e : Entry) (all : List Accepted) (a : Ac
 messages_with log e all a after =
     ap (map (λ (x : Accepted). x.message)) after ∙ map-append (λ (x : Accepted). x.message) all (a ∷ [])
 
-pub messages_without : (log : List Entry) (e : Entry) (number slot : ℕ)
-    → accepted_in (log ++ e ∷ []) ≡ map (stop_numbered number slot) (accepted_in log)
-    → messages_in (log ++ e ∷ []) ≡ stopped_at number slot (messages_in log)
-messages_without log e number slot after =
-    ap (map (λ (x : Accepted). x.message)) after ∙ messages_stopped number slot (accepted_in log)
+pub messages_without : (log : List Entry) (e : Entry) (entry slot : ℕ)
+    → accepted_in (log ++ e ∷ []) ≡ map (stop_numbered entry slot) (accepted_in log)
+    → messages_in (log ++ e ∷ []) ≡ stopped_at entry slot (messages_in log)
+messages_without log e entry slot after =
+    ap (map (λ (x : Accepted). x.message)) after ∙ messages_stopped entry slot (accepted_in log)
 
 -- what is kept, stopped as the accepted messages are
-pub kept_stop : (number slot : ℕ) (kept : List Kept)
-    → map accepted_of (map (kept_stopped number slot) kept) ≡ map (stop_numbered number slot) (map accepted_of kept)
-kept_stop number slot [] = refl
-kept_stop number slot (k ∷ kept) =
-    ap (λ (l : List Accepted). accepted_of (kept_stopped number slot k) ∷ l) (kept_stop number slot kept)
+pub kept_stop : (entry slot : ℕ) (kept : List Kept)
+    → map accepted_of (map (kept_stopped entry slot) kept) ≡ map (stop_numbered entry slot) (map accepted_of kept)
+kept_stop entry slot [] = refl
+kept_stop entry slot (k ∷ kept) =
+    ap (λ (l : List Accepted). accepted_of (kept_stopped entry slot k) ∷ l) (kept_stop entry slot kept)
 
 -- and with one more
 pub kept_more : (kept : List Kept) (new : Kept) (all : List Accepted)
@@ -84,56 +84,56 @@ kept_more kept new all same =
 -- a plan's numbers are below the length of the log
 pub planned_below : (plan : Planned) (log : List Entry) (air : Air)
     → Follows plan (messages_in log) air
-    → All (λ m. m.number < length log) (messages_of plan)
+    → All (λ m. m.entry < length log) (messages_of plan)
 planned_below plan log air follows =
-    let Below : List Message → Type 0 = λ messages. All (λ (m : Message). m.number < length log) messages in
-    subst Below (sym follows.told) (All-map (λ (m : Message). m.number < length log) (λ (a : Accepted). a.message)
+    let Below : List Message → Type 0 = λ messages. All (λ (m : Message). m.entry < length log) messages in
+    subst Below (sym follows.told) (All-map (λ (m : Message). m.entry < length log) (λ (a : Accepted). a.message)
     (accepted_in log) (numbers_below log))
 
 -- so are those of a budget
 lines_below : (slot n : ℕ) (claims : List Claim)
-    → All (λ c. c.message.number < n) claims
+    → All (λ c. c.message.entry < n) claims
     → All (λ h. h.entry < n) (lines_at slot claims)
 lines_below slot n claims below =
     All-map (λ (h : Held). h.entry < n) (line_of slot) (filter (is_claimed_at slot) claims)
-    (All-filter (is_claimed_at slot) (λ (c : Claim). c.message.number < n) claims below)
+    (All-filter (is_claimed_at slot) (λ (c : Claim). c.message.entry < n) claims below)
 
-claims_below : (log : List Entry) → All (λ c. c.message.number < length log) (claims_in log)
+claims_below : (log : List Entry) → All (λ c. c.message.entry < length log) (claims_in log)
 claims_below log =
-    All-filter reserves (λ (c : Claim). c.message.number < length log) (all_claims (accepted_in log))
-    (All-map (λ (c : Claim). c.message.number < length log) claim_of (accepted_in log) (numbers_below log))
+    All-filter reserves (λ (c : Claim). c.message.entry < length log) (all_claims (accepted_in log))
+    (All-map (λ (c : Claim). c.message.entry < length log) claim_of (accepted_in log) (numbers_below log))
 
 pub held_below : (slot : ℕ) (log : List Entry) → All (λ h. h.entry < length log) (lines_at slot (claims_in log))
 held_below slot log = lines_below slot (length log) (claims_in log) (claims_below log)
 
-pub held_below_without : (slot number : ℕ) (log : List Entry)
-    → All (λ h. h.entry < length log) (lines_at slot (stop_claims number slot (claims_in log)))
-held_below_without slot number log =
-    lines_below slot (length log) (stop_claims number slot (claims_in log))
-    (All-map (λ (c : Claim). c.message.number < length log) (stop_claim number slot) (claims_in log)
+pub held_below_without : (slot entry : ℕ) (log : List Entry)
+    → All (λ h. h.entry < length log) (lines_at slot (stop_claims entry slot (claims_in log)))
+held_below_without slot entry log =
+    lines_below slot (length log) (stop_claims entry slot (claims_in log))
+    (All-map (λ (c : Claim). c.message.entry < length log) (stop_claim entry slot) (claims_in log)
     (claims_below log))
 
 -- a message with another number stays as it is where one is stopped
-pub stopped_beside : (number slot : ℕ) (messages : List Message) (m : Message)
-    → (m.number ≡ number → ⊥)
-    → stopped_at number slot (messages ++ m ∷ []) ≡ stopped_at number slot messages ++ m ∷ []
-stopped_beside number slot messages m other =
-    let stop : Message → Message = λ x. stopped_if (x.number == number) slot x in
+pub stopped_beside : (entry slot : ℕ) (messages : List Message) (m : Message)
+    → (m.entry ≡ entry → ⊥)
+    → stopped_at entry slot (messages ++ m ∷ []) ≡ stopped_at entry slot messages ++ m ∷ []
+stopped_beside entry slot messages m other =
+    let stop : Message → Message = λ x. stopped_if (x.entry == entry) slot x in
     map-append stop messages (m ∷ [])
-    ∙ ap (λ (b : Bool). stopped_at number slot messages ++ stopped_if b slot m ∷ []) (ne_eqb m.number number other)
+    ∙ ap (λ (b : Bool). stopped_at entry slot messages ++ stopped_if b slot m ∷ []) (ne_eqb m.entry entry other)
 
-pub number_below : (log : List Entry) (a : Accepted) → Contains (accepted_in log) a → a.message.number < length log
+pub number_below : (log : List Entry) (a : Accepted) → Contains (accepted_in log) a → a.message.entry < length log
 number_below log a there =
-    All-contains (λ (x : Accepted). x.message.number < length log) (accepted_in log) a (numbers_below log) there
+    All-contains (λ (x : Accepted). x.message.entry < length log) (accepted_in log) a (numbers_below log) there
 
 -- a live message is told of as standing
 pub standing_in : (plan : Planned) (slot : ℕ) (log : List Entry) (air : Air) (a : Accepted)
     → Follows plan (messages_in log) air
     → Contains (accepted_in log) a
     → is_live slot a.message ≡ true
-    → Any (λ m. (m.number ≡ a.message.number) × (m.stop ≡ None)) (messages_of plan)
+    → Any (λ m. (m.entry ≡ a.message.entry) × (m.stop ≡ None)) (messages_of plan)
 standing_in plan slot log air a follows there live =
-    let P : List Message → Type 0 = λ messages. Any (λ (m : Message). (m.number ≡ a.message.number) × (m.stop ≡ None))
+    let P : List Message → Type 0 = λ messages. Any (λ (m : Message). (m.entry ≡ a.message.entry) × (m.stop ≡ None))
     messages in
     let found = Contains-message log a there in
     subst P (sym follows.told) (found.0, a.message, found.1, found.2, (refl, live_is_standing slot a.message live))
@@ -141,10 +141,10 @@ standing_in plan slot log air a follows there live =
 -- also where one more was told
 pub standing_beside : (plan : Planned) (slot : ℕ) (log : List Entry) (a : Accepted) (told : List Message) (m : Message)
     → messages_of plan ≡ told ++ m ∷ []
-    → Any (λ x. (x.number ≡ a.message.number) × (x.stop ≡ None)) told
-    → Any (λ x. (x.number ≡ a.message.number) × (x.stop ≡ None)) (messages_of plan)
+    → Any (λ x. (x.entry ≡ a.message.entry) × (x.stop ≡ None)) told
+    → Any (λ x. (x.entry ≡ a.message.entry) × (x.stop ≡ None)) (messages_of plan)
 standing_beside plan slot log a told m same found =
-    let P : List Message → Type 0 = λ messages. Any (λ (x : Message). (x.number ≡ a.message.number) × (x.stop ≡ None))
+    let P : List Message → Type 0 = λ messages. Any (λ (x : Message). (x.entry ≡ a.message.entry) × (x.stop ≡ None))
     messages in
     let there : Contains (told ++ m ∷ []) found.1 =
     Contains-append_left told (m ∷ []) found.1 (found.0, found.2, found.3) in
@@ -155,7 +155,7 @@ pub held_in : (r : Record) (a : Accepted)
     → IsLegal r
     → IsLiveIn r a
     → layer a.message ≡ 0
-    → Any (λ h. h.entry ≡ a.message.number) (lines_at r.clock (claims_in r.log))
+    → Any (λ h. h.entry ≡ a.message.entry) (lines_at r.clock (claims_in r.log))
 held_in r a legal live front =
     let order = (IsSound-legal r legal).order in
     let here = its_claim (accepted_in r.log) a live.there front in
@@ -171,7 +171,7 @@ pub free_of : (r : Record) (a : Accepted)
     → IsLegal r
     → IsLiveIn r a
     → layer a.message ≡ 0
-    → All (λ h. behind_of h ≢ Some a.message.number) (lines_at r.clock (claims_in r.log))
+    → All (λ h. behind_of h ≢ Some a.message.entry) (lines_at r.clock (claims_in r.log))
 free_of r a legal live front =
     none_behind_live r.clock (claims_in r.log) (claim_of a) (IsSound-legal r legal).order
     (its_claim (accepted_in r.log) a live.there front) live.live
@@ -182,29 +182,29 @@ item_message m told same standing =
     same ∙ ap (λ (stop : Option ℕ). record m { stop = stop }) (sym standing)
 
 -- a table in whose items a message was stopped in place
-pub table_stopped : (table : Vec Kept) (seen after : List Kept) (number slot : ℕ)
+pub table_stopped : (table : Vec Kept) (seen after : List Kept) (entry slot : ℕ)
     → seen ≡ table.items
     → length seen ≡ vec_len table
-    → after ≡ map (kept_stopped number slot) seen
-    → map accepted_of (with_items table after).items ≡ map (stop_numbered number slot) (map accepted_of table.items)
-table_stopped table seen after number slot same long stopped =
-    let length_is : length after ≡ vec_len table = ap length stopped ∙ length-map seen (kept_stopped number slot)
+    → after ≡ map (kept_stopped entry slot) seen
+    → map accepted_of (with_items table after).items ≡ map (stop_numbered entry slot) (map accepted_of table.items)
+table_stopped table seen after entry slot same long stopped =
+    let length_is : length after ≡ vec_len table = ap length stopped ∙ length-map seen (kept_stopped entry slot)
     ∙ long in
-    let items = with_items_is table after length_is ∙ stopped ∙ ap (map (kept_stopped number slot)) same in
-    ap (map accepted_of) items ∙ kept_stop number slot table.items
+    let items = with_items_is table after length_is ∙ stopped ∙ ap (map (kept_stopped entry slot)) same in
+    ap (map accepted_of) items ∙ kept_stop entry slot table.items
 
 -- the claims are in order where a live message is stopped
 pub left_in_order : (r : Record) (a : Accepted) → IsLegal r → IsLiveIn r a → AreInOrder (left_by r a) r.clock
 left_in_order r a legal live =
     let sound = IsSound-legal r legal in
-    in_order-stop (claims_in r.log) a.message.number r.clock sound.order
+    in_order-stop (claims_in r.log) a.message.entry r.clock sound.order
     (stops_live (accepted_in r.log) r.clock a sound.rising live.there live.live)
 
 -- the lines that are left of a budget where a live message was released
 ended_claims : (r : Record) (a : Accepted)
     → IsLegal r
     → IsLiveIn r a
-    → All (λ c. c.message.number ≡ a.message.number → (is_claimed_at r.clock c ≡ true)
+    → All (λ c. c.message.entry ≡ a.message.entry → (is_claimed_at r.clock c ≡ true)
     × (end_of_stopped c.message.start c.message.period r.clock ≡ end_of_stopped a.message.start a.message.period
     r.clock)) (claims_in r.log)
 ended_claims r a legal live = λ k d within. λ same.
@@ -221,11 +221,11 @@ ended_claims r a legal live = λ k d within. λ same.
 pub lines_without : (r : Record) (a : Accepted)
     → IsLegal r
     → IsLiveIn r a
-    → passed r.clock (ends_at a.message.number (end_of_stopped a.message.start a.message.period r.clock)
+    → passed r.clock (ends_at a.message.entry (end_of_stopped a.message.start a.message.period r.clock)
     (lines_at r.clock (claims_in r.log))) ≡ lines_at r.clock
-    (stop_claims a.message.number r.clock (claims_in r.log))
+    (stop_claims a.message.entry r.clock (claims_in r.log))
 lines_without r a legal live =
-    lines_at-stopped r.clock a.message.number (end_of_stopped a.message.start a.message.period r.clock)
+    lines_at-stopped r.clock a.message.entry (end_of_stopped a.message.start a.message.period r.clock)
     (claims_in r.log) (IsSound-legal r legal).order.accepted (ended_claims r a legal live)
 
 pub released_lines : (r : Record) (a : Accepted) (before after : List Held)
@@ -234,24 +234,24 @@ pub released_lines : (r : Record) (a : Accepted) (before after : List Held)
     → before ≡ lines_at r.clock (claims_in r.log)
     → (back : Bool)
     → (layer a.message == 0) ≡ not back
-    → after ≡ cond back before (passed r.clock (ends_at a.message.number
+    → after ≡ cond back before (passed r.clock (ends_at a.message.entry
     (end_of_stopped a.message.start a.message.period r.clock) before))
-    → after ≡ lines_at r.clock (stop_claims a.message.number r.clock (claims_in r.log))
+    → after ≡ lines_at r.clock (stop_claims a.message.entry r.clock (claims_in r.log))
 released_lines r a before after legal live held true back released =
     let sound = IsSound-legal r legal in
     let other : layer a.message ≡ 0 → ⊥ = λ front. false≢true (sym back ∙ eq-eqb (layer a.message) 0 front) in
-    released ∙ held ∙ ap (lines_at r.clock) (sym (same_claims a.message.number r.clock (accepted_in r.log) a
+    released ∙ held ∙ ap (lines_at r.clock) (sym (same_claims a.message.entry r.clock (accepted_in r.log) a
     sound.rising live.there refl other))
 released_lines r a before after legal live held false front released =
     let left : List Held → List Held = λ lines. passed r.clock
-    (ends_at a.message.number (end_of_stopped a.message.start a.message.period r.clock) lines) in
+    (ends_at a.message.entry (end_of_stopped a.message.start a.message.period r.clock) lines) in
     released ∙ ap left held ∙ lines_without r a legal live
 
 -- the claims of a log with an entry that stops a message, and that starts one
-pub claims_without : (log : List Entry) (e : Entry) (number slot : ℕ)
-    → accepted_in (log ++ e ∷ []) ≡ map (stop_numbered number slot) (accepted_in log)
-    → claims_in (log ++ e ∷ []) ≡ stop_claims number slot (claims_in log)
-claims_without log e number slot after = ap claims_of after ∙ claims_stopped number slot (accepted_in log)
+pub claims_without : (log : List Entry) (e : Entry) (entry slot : ℕ)
+    → accepted_in (log ++ e ∷ []) ≡ map (stop_numbered entry slot) (accepted_in log)
+    → claims_in (log ++ e ∷ []) ≡ stop_claims entry slot (claims_in log)
+claims_without log e entry slot after = ap claims_of after ∙ claims_stopped entry slot (accepted_in log)
 
 pub claims_with : (log : List Entry) (e : Entry) (all : List Accepted) (a : Accepted)
     → accepted_in (log ++ e ∷ []) ≡ all ++ a ∷ []
@@ -259,30 +259,30 @@ pub claims_with : (log : List Entry) (e : Entry) (all : List Accepted) (a : Acce
 claims_with log e all a after = ap claims_of after ∙ claims_more all a
 
 -- the lines with the one of a message that begins, if it isn't background
-pub begun_lines : (number slot : ℕ) (replaced : Option Accepted) (before : List Accepted) (claims : List Claim)
+pub begun_lines : (entry slot : ℕ) (replaced : Option Accepted) (before : List Accepted) (claims : List Claim)
     (a : Accepted)
-    → IsBegun number slot replaced before a
+    → IsBegun entry slot replaced before a
     → (held after : List Held)
     → held ≡ lines_at slot claims
     → (back : Bool)
     → (layer a.message == 0) ≡ not back
     → after ≡ cond back held (held ++ line_of slot (claim_of a) ∷ [])
     → after ≡ lines_at slot (claims ++ filter reserves (claim_of a ∷ []))
-begun_lines number slot replaced before claims a begun held after same true back reserved =
+begun_lines entry slot replaced before claims a begun held after same true back reserved =
     let none : filter reserves (claim_of a ∷ []) ≡ [] = ap (λ (b : Bool). cond b (claim_of a ∷ []) []) back in
     reserved ∙ same ∙ ap (lines_at slot) (sym (append-nil claims) ∙ ap (λ (l : List Claim). claims ++ l) (sym none))
-begun_lines number slot replaced before claims a begun held after same false front reserved =
+begun_lines entry slot replaced before claims a begun held after same false front reserved =
     let one : filter reserves (claim_of a ∷ []) ≡ claim_of a ∷ [] = ap (λ (b : Bool). cond b (claim_of a ∷ []) [])
     front in
     reserved ∙ ap (λ (l : List Held). l ++ line_of slot (claim_of a) ∷ []) same
-    ∙ sym (new_line number slot replaced before claims a begun)
+    ∙ sym (new_line entry slot replaced before claims a begun)
     ∙ ap (λ (l : List Claim). lines_at slot (claims ++ l)) (sym one)
   where
-    new_line : (number slot : ℕ) (replaced : Option Accepted) (before : List Accepted) (claims : List Claim)
+    new_line : (entry slot : ℕ) (replaced : Option Accepted) (before : List Accepted) (claims : List Claim)
         (a : Accepted)
-        → IsBegun number slot replaced before a
+        → IsBegun entry slot replaced before a
         → lines_at slot (claims ++ claim_of a ∷ []) ≡ lines_at slot claims ++ line_of slot (claim_of a) ∷ []
-    new_line number slot replaced before claims a begun =
+    new_line entry slot replaced before claims a begun =
         lines_at-new slot claims (claim_of a) (new_is_claimed slot (claim_of a) begun.accepted
         (starts_forward slot replaced before a begun.starts) begun.some_period begun.standing)
 

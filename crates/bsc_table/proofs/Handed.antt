@@ -27,14 +27,14 @@ use Rattle.bsc_table.proofs.TakenOver.{is_free, only_live}
 use Rattle.bsc_table.proofs.Lines.{waits_of-started, live_is_claimed}
 
 -- a line waits behind the message behind which its claim does, where that has not started
-waits_behind : (slot number : ℕ) (c : Claim)
-    → behind_of (line_of slot c) ≡ Some number
-    → (slot < c.message.start) × (c.behind ≡ Some number)
-waits_behind slot number c waits =
+waits_behind : (slot entry : ℕ) (c : Claim)
+    → behind_of (line_of slot c) ≡ Some entry
+    → (slot < c.message.start) × (c.behind ≡ Some entry)
+waits_behind slot entry c waits =
     let its : Option Waits → Option ℕ = λ o. option_map (λ (w : Waits). w.behind) o in
     elim (cases_lt slot c.message.start) [
       | inl later ↦ (later, sym (same c.behind) ∙ sym (ap its (before later)) ∙ waits)
-      | inr started ↦ absurd (none-some number (sym (ap its (waits_of-started slot c started)) ∙ waits))
+      | inr started ↦ absurd (none-some entry (sym (ap its (waits_of-started slot c started)) ∙ waits))
     ]
   where
     waiting : Option ℕ → Option Waits
@@ -59,12 +59,12 @@ all_lines P slot claims each =
     All-map P (line_of slot) (filter (is_claimed_at slot) claims) (λ k d within. kept k d within (passes k d within))
 
 -- behind a message that none waits for, no line waits
-pub none_behind : (slot number : ℕ) (claims : List Claim)
-    → All (λ c. IsWaiting slot c → c.behind ≢ Some number) claims
-    → All (λ h. behind_of h ≢ Some number) (lines_at slot claims)
-none_behind slot number claims free =
-    all_lines (λ (h : Held). behind_of h ≢ Some number) slot claims (λ k d within. λ claimed waits.
-    let behind = waits_behind slot number (get_or claims k d) waits in
+pub none_behind : (slot entry : ℕ) (claims : List Claim)
+    → All (λ c. IsWaiting slot c → c.behind ≢ Some entry) claims
+    → All (λ h. behind_of h ≢ Some entry) (lines_at slot claims)
+none_behind slot entry claims free =
+    all_lines (λ (h : Held). behind_of h ≢ Some entry) slot claims (λ k d within. λ claimed waits.
+    let behind = waits_behind slot entry (get_or claims k d) waits in
     free k d within (behind.0, (is_claimed_at-says slot (get_or claims k d) claimed).1) behind.1)
 
 -- so behind a live one
@@ -72,15 +72,15 @@ pub none_behind_live : (slot : ℕ) (claims : List Claim) (old : Claim)
     → AreInOrder claims slot
     → Contains claims old
     → is_live slot old.message ≡ true
-    → All (λ h. behind_of h ≢ Some old.message.number) (lines_at slot claims)
+    → All (λ h. behind_of h ≢ Some old.message.entry) (lines_at slot claims)
 none_behind_live slot claims old order here live =
-    let number = old.message.number in
+    let entry = old.message.entry in
     let only = only_live claims slot old order.rising here live in
-    none_behind slot number claims (λ k d within. λ waiting behind.
+    none_behind slot entry claims (λ k d within. λ waiting behind.
     let found = order.handed k d within waiting in
     let p : Claim = found.1 in
-    let same = same_Some p.message.number number (sym found.4.named ∙ behind) in
-    not_live claims number slot found.0 p (get_or claims k d) only found.2 found.3 found.4 same)
+    let same = same_Some p.message.entry entry (sym found.4.named ∙ behind) in
+    not_live claims entry slot found.0 p (get_or claims k d) only found.2 found.3 found.4 same)
 
 -- what passes a test stays
 more_there : {X : Type 0} (b : Bool) (x : X) (xs : List X) (y : X) → Contains xs y → Contains (cond b (x ∷ xs) xs) y
@@ -110,23 +110,23 @@ its_line slot claims c here claimed =
     )
 
 -- the load that is held for an entry
-load_of_entry : (number load : ℕ) (lines : List Held)
-    → All (λ h. h.entry ≡ number → h.load ≡ load) lines
-    → Any (λ h. h.entry ≡ number) lines
-    → load_for number lines ≡ load
-load_of_entry number load [] all found = absurd (omega (arith, found.2))
-load_of_entry number load (h ∷ lines) all found =
-    let Says : Held → Type 0 = λ x. x.entry ≡ number → x.load ≡ load in
-    elim (cases_Bool (h.entry == number)) [
-      | inl same ↦ ap (λ (b : Bool). load_in (cond b (Some h) (find (λ (x : Held). x.entry == number) lines))) same
-          ∙ All-head Says h lines all (eqb-true h.entry number same)
-      | inr other ↦ ap (λ (b : Bool). load_in (cond b (Some h) (find (λ (x : Held). x.entry == number) lines))) other
-          ∙ load_of_entry number load lines (All-tail Says h lines all) (later other found)
+load_of_entry : (entry load : ℕ) (lines : List Held)
+    → All (λ h. h.entry ≡ entry → h.load ≡ load) lines
+    → Any (λ h. h.entry ≡ entry) lines
+    → load_for entry lines ≡ load
+load_of_entry entry load [] all found = absurd (omega (arith, found.2))
+load_of_entry entry load (h ∷ lines) all found =
+    let Says : Held → Type 0 = λ x. x.entry ≡ entry → x.load ≡ load in
+    elim (cases_Bool (h.entry == entry)) [
+      | inl same ↦ ap (λ (b : Bool). load_in (cond b (Some h) (find (λ (x : Held). x.entry == entry) lines))) same
+          ∙ All-head Says h lines all (eqb-true h.entry entry same)
+      | inr other ↦ ap (λ (b : Bool). load_in (cond b (Some h) (find (λ (x : Held). x.entry == entry) lines))) other
+          ∙ load_of_entry entry load lines (All-tail Says h lines all) (later other found)
     ]
   where
-    later : (h.entry == number) ≡ false → Any (λ x. x.entry ≡ number) (h ∷ lines) → Any (λ x. x.entry ≡ number) lines
+    later : (h.entry == entry) ≡ false → Any (λ x. x.entry ≡ entry) (h ∷ lines) → Any (λ x. x.entry ≡ entry) lines
     later other (zero, x, within, is, same) = absurd (false≢true
-        (sym other ∙ eq-eqb h.entry number (ap (λ (y : Held). y.entry) is ∙ same)))
+        (sym other ∙ eq-eqb h.entry entry (ap (λ (y : Held). y.entry) is ∙ same)))
     later other (suc k, x, within, is, same) = (k, x, omega (arith, within), is, same)
 
 -- what a budget holds of the place that a message takes over
@@ -134,13 +134,13 @@ pub handed_in : (slot load : ℕ) (claims : List Claim) (old : Claim) (place : P
     → AreInOrder claims slot
     → Contains claims old
     → is_live slot old.message ≡ true
-    → handover (stop_claims old.message.number slot claims) slot old load ≡ Some place
-    → (slot < place.start) × IsHeldFor (lines_at slot (stop_claims old.message.number slot claims)) load place.behind
+    → handover (stop_claims old.message.entry slot claims) slot old load ≡ Some place
+    → (slot < place.start) × IsHeldFor (lines_at slot (stop_claims old.message.entry slot claims)) load place.behind
     place.start place.excess
 handed_in slot load claims old place order here live over =
-    let number = old.message.number in
-    let left = stop_claims number slot claims in
-    let kept = in_order-stop claims number slot order (only_live claims slot old order.rising here live) in
+    let entry = old.message.entry in
+    let left = stop_claims entry slot claims in
+    let kept = in_order-stop claims entry slot order (only_live claims slot old order.rising here live) in
     let its = is_free claims slot load old place order here live over in
     let p : Claim = its.p in
     let Accepted : Claim → Type 0 = λ c. c.accepted ≤ slot in
@@ -148,7 +148,7 @@ handed_in slot load claims old place order here live over =
     let Before : Option ℕ → Type 0 = λ end. IsBeforeEnd slot end in
     let claimed = is_claimed_at-from slot p (accepted, subst Before (sym its.ends) its.later) in
     let line = its_line slot left p its.there claimed in
-    let behind : p.message.number ≡ place.behind = sym its.named in
+    let behind : p.message.entry ≡ place.behind = sym its.named in
     let Free : ℕ → Type 0 = λ n. All (λ h. behind_of h ≢ Some n) (lines_at slot left) in
     let loads = all_lines (λ (h : Held). h.entry ≡ place.behind → h.load ≡ own_load p.message) slot left
     (λ k d within. λ counted same.
@@ -161,7 +161,7 @@ handed_in slot load claims old place order here live over =
       its.later,
       record {
         ends = (line.0, line_of slot p, line.1, line.2, (behind, waits_of-started slot p its.ahead.started, its.ends));
-        free = subst Free behind (none_behind slot p.message.number left its.ahead.free);
+        free = subst Free behind (none_behind slot p.message.entry left its.ahead.free);
         over = ap (λ (n : ℕ). load - n) held ∙ sym its.excess;
       },
     )
@@ -171,28 +171,28 @@ pub held_ahead : (slot load : ℕ) (claims : List Claim) (old : Claim) (place : 
     → AreInOrder claims slot
     → Contains claims old
     → is_live slot old.message ≡ true
-    → handover (stop_claims old.message.number slot claims) slot old load ≡ Some place
+    → handover (stop_claims old.message.entry slot claims) slot old load ≡ Some place
     → Any (λ h. (h.entry ≡ place.behind) × (h.waits ≡ None)) (lines_at slot claims)
     × (excess_over place.behind load (lines_at slot claims) ≡ place.excess)
 held_ahead slot load claims old place order here live over =
-    let number = old.message.number in
+    let entry = old.message.entry in
     let its = is_free claims slot load old place order here live over in
     let p : Claim = its.p in
-    let from = from_stopped claims number slot p its.there in
+    let from = from_stopped claims entry slot p its.there in
     let c : Claim = from.0 in
-    let numbers : p.message.number ≡ c.message.number = ap (λ (x : Claim). x.message.number) from.2 in
-    let behind : c.message.number ≡ place.behind = sym numbers ∙ sym its.named in
+    let numbers : p.message.entry ≡ c.message.entry = ap (λ (x : Claim). x.message.entry) from.2 in
+    let behind : c.message.entry ≡ place.behind = sym numbers ∙ sym its.named in
     let started : c.message.start ≤ slot = omega (arith, its.ahead.started, ap (λ (x : Claim). x.message.start) from.2)
     in
     let Stands : Claim → Type 0 = λ x. (x.accepted ≤ slot) × (0 < x.message.period) in
     let stands = subst Stands from.1.2 (order.accepted from.1.0 c from.1.1, order.periods from.1.0 c from.1.1) in
     let Before : Option ℕ → Type 0 = λ end. IsBeforeEnd slot end in
-    let claimed : is_claimed_at slot c ≡ true = elim (cases_eq c.message.number number) [
+    let claimed : is_claimed_at slot c ≡ true = elim (cases_eq c.message.entry entry) [
       | inl same ↦
           let is : c ≡ old = by_number claims c old order.rising from.1 here same in
           live_is_claimed slot c stands.0 stands.1 (ap (λ (x : Claim). is_live slot x.message) is ∙ live)
       | inr other ↦
-          let is : p ≡ c = from.2 ∙ stop_claim-other number slot c other in
+          let is : p ≡ c = from.2 ∙ stop_claim-other entry slot c other in
           let ends = ap (λ (x : Claim). end_of x.message) (sym is) ∙ its.ends in
           is_claimed_at-from slot c (stands.0, subst Before (sym ends) its.later)
     ] in

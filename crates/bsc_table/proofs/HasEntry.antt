@@ -64,7 +64,7 @@ of_write log air slot id serial None category load =
 of_write log air slot id serial (Some replaced) category load =
     of_one slot (accepted_named id replaced log) (λ old. unless_accepted (message_named id serial log)
     (answer_to_replacement log air slot category load old)) (λ old.
-    let left = stop_claims old.message.number slot (claims_in log) in
+    let left = stop_claims old.message.entry slot (claims_in log) in
     of_pair (message_named id serial log) (answer_to_replacement log air slot category load old)
     (of_category category left slot load (place_after left slot old load)
     (λ start. answers.Replaced start (completed old.message air slot)) (λ start. refl)))

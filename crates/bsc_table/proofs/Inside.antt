@@ -17,14 +17,14 @@ use Rattle.bsc_table.proofs.Demand.{count_inside-none}
 
 -- the message has a period and stands in a list with rising numbers, and the air list is by the rule
 pub record IsServed (messages : List Message) (air : Air) (m : Message) : Type 0 where
-  pub rising : AllPairs (λ a b. a.number < b.number) messages
+  pub rising : AllPairs (λ a b. a.entry < b.entry) messages
   pub rule : IsAirOf messages air
   pub here : Contains messages m
   pub period : 0 < m.period
 
 -- what is aired of the message in the range belongs to a broadcast that is released and due inside it
 abbrev pub AiredInside : Message → Air → ℕ → ℕ → Type 0
-AiredInside m air from to = (t : ℕ) → from ≤ t → t < to → airs m.number (get_or air t None) ≡ true → (j : ℕ)
+AiredInside m air from to = (t : ℕ) → from ≤ t → t < to → airs m.entry (get_or air t None) ≡ true → (j : ℕ)
     × IsPending m j air t × (from ≤ release m j) × (due m j ≤ to)
 
 -- at a slot of a broadcast's time no other broadcast of the message is pending
@@ -36,7 +36,7 @@ same_broadcast m i j air t period p low high =
 
 -- a broadcast of which a page is aired is inside
 aired_is_inside : (m : Message) (air : Air) (from to k t : ℕ) → 0 < m.period → AiredInside m air from to → from ≤ t
-    → t < to → release m k ≤ t → t < due m k → airs m.number (get_or air t None) ≡ true → IsInside m from to k
+    → t < to → release m k ≤ t → t < due m k → airs m.entry (get_or air t None) ≡ true → IsInside m from to k
 aired_is_inside m air from to k t period inside low high released not_due used =
     let found = inside t low high used in
     let same = same_broadcast m found.0 k air t period found.1 released not_due in
@@ -58,7 +58,7 @@ aired_upto_release : (messages : List Message) (air : Air) (m : Message) (from t
     → from ≤ release m k → release m k ≤ to → to ≤ length air → AiredInside m air from to
     → pages_before m air (release m k) ≤ pages_before m air from + m.pages * count_inside m from to k
 aired_upto_release messages air m from to zero served ahead upto within inside =
-    let none = none_aired m.number air from (release m 0) ahead (λ t low high used.
+    let none = none_aired m.entry air from (release m 0) ahead (λ t low high used.
     let found = inside t low (omega arith) used in
     omega (arith, found.1.released)) in
     omega arith
@@ -67,7 +67,7 @@ aired_upto_release messages air m from to (suc k) served ahead upto within insid
     let step : release m k ≤ due m k = omega arith in
     elim (cases_lt (release m k) from) [
       | inl before ↦
-          let none = none_aired m.number air from (release m (suc k)) ahead (λ t low high used.
+          let none = none_aired m.entry air from (release m (suc k)) ahead (λ t low high used.
           let found = inside t low (omega arith) used in
           let later = release-lt m k found.0 (omega (arith, found.2)) in
           let due_by = due-le-release m k found.0 later in
@@ -80,14 +80,14 @@ aired_upto_release messages air m from to (suc k) served ahead upto within insid
             | inl one ↦
                 let few = pages_aired-at_most messages air m k (due m k) served.rising served.here served.rule
                 (omega arith) (omega arith) in
-                let sums = pages_by_sums m.number air (release m k) (due m k) step (omega arith) in
+                let sums = pages_by_sums m.entry air (release m k) (due m k) step (omega arith) in
                 let all = one_more m.pages (count_inside m from to k) (pages_before m air from)
                 (pages_before m air (release m k)) (pages_before m air (due m k))
-                (pages_aired m.number air (release m k) (due m k)) 0 front sums (omega arith) in
+                (pages_aired m.entry air (release m k) (due m k)) 0 front sums (omega arith) in
                 let times = ap (λ n. m.pages * n) (count_inside-one m from to k one) in
                 omega arith
             | inr cut ↦
-                let none = none_aired m.number air (release m k) (due m k) step (λ t low high used.
+                let none = none_aired m.entry air (release m k) (due m k) step (λ t low high used.
                 let fact = aired_is_inside m air from to k t served.period inside (omega arith) (omega arith) low high
                 used in
                 false≢true (sym cut ∙ is_inside-from m from to k fact)) in
@@ -103,7 +103,7 @@ pub aired_inside : (messages : List Message) (air : Air) (m : Message) (from to 
 aired_inside messages air m from to served ahead within inside =
     elim (cases_lt to m.start) [
       | inl early ↦
-          let none = none_aired m.number air from to ahead (λ t low high used.
+          let none = none_aired m.entry air from to ahead (λ t low high used.
           let found = inside t low high used in
           omega (arith, found.1.released)) in
           omega arith
@@ -113,7 +113,7 @@ aired_inside messages air m from to served ahead within inside =
           let not_due : to < due m k = broadcast_at-not_due m to served.period started in
           elim (cases_lt (release m k) from) [
             | inl before ↦
-                let none = none_aired m.number air from to ahead (λ t low high used.
+                let none = none_aired m.entry air from to ahead (λ t low high used.
                 let found = inside t low high used in
                 let later = release-lt m k found.0 (omega (arith, found.2)) in
                 let due_by = due-le-release m k found.0 later in
@@ -121,7 +121,7 @@ aired_inside messages air m from to served ahead within inside =
                 omega arith
             | inr after ↦
                 let front = aired_upto_release messages air m from to k served after released within inside in
-                let none = none_aired m.number air (release m k) to released (λ t low high used.
+                let none = none_aired m.entry air (release m k) to released (λ t low high used.
                 let found = inside t (omega arith) high used in
                 let sooner = release-lt m found.0 k (due_sooner m found.0 k to found.3 not_due) in
                 let due_by = due-le-release m found.0 k sooner in
@@ -138,15 +138,15 @@ aired_inside messages air m from to served ahead within inside =
 -- and one page less, where the broadcast that is due at the range's end lacks one
 pub aired_short : (messages : List Message) (air : Air) (m : Message) (from j : ℕ) → IsServed messages air m
     → from ≤ release m j → due m j ≤ length air → HasBroadcast m j → IsBeforeStop (release m j) m.stop
-    → pages_aired m.number air (release m j) (due m j) < m.pages → AiredInside m air from (due m j)
+    → pages_aired m.entry air (release m j) (due m j) < m.pages → AiredInside m air from (due m j)
     → pages_before m air (due m j) + 1 ≤ pages_before m air from + m.pages * count_inside m from (due m j) (due m j)
 aired_short messages air m from j served ahead within has standing lacks inside =
     let step : release m j ≤ due m j = omega (arith, served.period) in
     let front = aired_upto_release messages air m from (due m j) j served ahead step within inside in
-    let sums = pages_by_sums m.number air (release m j) (due m j) step within in
+    let sums = pages_by_sums m.entry air (release m j) (due m j) step within in
     let all = one_more m.pages (count_inside m from (due m j) j) (pages_before m air from)
     (pages_before m air (release m j)) (pages_before m air (due m j))
-    (pages_aired m.number air (release m j) (due m j)) 1 front sums (omega arith) in
+    (pages_aired m.entry air (release m j) (due m j)) 1 front sums (omega arith) in
     let fact = is_inside-from m from (due m j) j (record {
       requested = has;
       standing = standing;

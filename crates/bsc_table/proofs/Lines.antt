@@ -28,12 +28,12 @@ use Rattle.bsc_table.proofs.Stops.{stop_claim-other}
 
 -- what waits at the slot waits behind some message
 abbrev pub IsLined : ℕ → Claim → Type 0
-IsLined slot c = IsWaiting slot c → (number : ℕ) × (c.behind ≡ Some number)
+IsLined slot c = IsWaiting slot c → (entry : ℕ) × (c.behind ≡ Some entry)
 
 pub lined : (slot : ℕ) (claims : List Claim) → AreInOrder claims slot → All (IsLined slot) claims
 lined slot claims order = λ k d within. λ waiting.
     let found = order.handed k d within waiting in
-    (found.1.message.number, found.4.named)
+    (found.1.message.entry, found.4.named)
 
 pub waits_of-started : (slot : ℕ) (c : Claim) → c.message.start ≤ slot → waits_of slot c ≡ None
 waits_of-started slot c started =
@@ -41,11 +41,11 @@ waits_of-started slot c started =
     { behind = behind; start = c.message.start; excess = c.excess }) c.behind) None)
     (le-ltb slot c.message.start started)
 
-pub waits_of-waiting : (slot : ℕ) (c : Claim) (number : ℕ)
+pub waits_of-waiting : (slot : ℕ) (c : Claim) (entry : ℕ)
     → slot < c.message.start
-    → c.behind ≡ Some number
-    → waits_of slot c ≡ Some (record { behind = number; start = c.message.start; excess = c.excess })
-waits_of-waiting slot c number waits behind =
+    → c.behind ≡ Some entry
+    → waits_of slot c ≡ Some (record { behind = entry; start = c.message.start; excess = c.excess })
+waits_of-waiting slot c entry waits behind =
     let waiting : Option ℕ → Option Waits = λ o. option_map (λ (n : ℕ). record
     { behind = n; start = c.message.start; excess = c.excess }) o in
     ap (λ (b : Bool). cond b (waiting c.behind) None) (lt-ltb slot c.message.start waits) ∙ ap waiting behind
@@ -123,7 +123,7 @@ waits_of-later slot later c after =
 line_later : (slot later : ℕ) (c : Claim) → slot ≤ later → started_at later (line_of slot c) ≡ line_of later c
 line_later slot later c after =
     ap (λ (w : Option Waits). record {
-      entry = c.message.number;
+      entry = c.message.entry;
       load = own_load c.message;
       until = end_of c.message;
       waits = w;
@@ -195,7 +195,7 @@ ended_line : (b : Bool) (slot end : ℕ) (c : Claim)
     → ends_if b end (line_of slot c) ≡ line_of slot (record c { message = stopped_if b slot c.message })
 ended_line true slot end c same =
     ap (λ (n : ℕ). record {
-      entry = c.message.number;
+      entry = c.message.entry;
       load = own_load c.message;
       until = Some n;
       waits = waits_of slot
@@ -204,42 +204,42 @@ ended_line true slot end c same =
 ended_line false slot end c same = refl
 
 -- the lines with one message stopped now
-pub lines_at-stopped : (slot number end : ℕ) (claims : List Claim)
+pub lines_at-stopped : (slot entry end : ℕ) (claims : List Claim)
     → All (λ c. c.accepted ≤ slot) claims
-    → All (λ c. c.message.number ≡ number → (is_claimed_at slot c ≡ true)
+    → All (λ c. c.message.entry ≡ entry → (is_claimed_at slot c ≡ true)
     × (end_of_stopped c.message.start c.message.period slot ≡ end)) claims
-    → passed slot (ends_at number end (lines_at slot claims)) ≡ lines_at slot (stop_claims number slot claims)
-lines_at-stopped slot number end [] accepted fit = refl
-lines_at-stopped slot number end (c ∷ claims) accepted fit =
+    → passed slot (ends_at entry end (lines_at slot claims)) ≡ lines_at slot (stop_claims entry slot claims)
+lines_at-stopped slot entry end [] accepted fit = refl
+lines_at-stopped slot entry end (c ∷ claims) accepted fit =
     let Accepted : Claim → Type 0 = λ x. x.accepted ≤ slot in
-    let Fit : Claim → Type 0 = λ x. x.message.number ≡ number → (is_claimed_at slot x ≡ true)
+    let Fit : Claim → Type 0 = λ x. x.message.entry ≡ entry → (is_claimed_at slot x ≡ true)
     × (end_of_stopped x.message.start x.message.period slot ≡ end) in
     let by : c.accepted ≤ slot = All-head Accepted c claims accepted in
     let its : Fit c = All-head Fit c claims fit in
-    let rest = lines_at-stopped slot number end claims (All-tail Accepted c claims accepted)
+    let rest = lines_at-stopped slot entry end claims (All-tail Accepted c claims accepted)
     (All-tail Fit c claims fit) in
-    let ends : Held → Held = λ h. ends_if (h.entry == number) end h in
-    let s : Claim = stop_claim number slot c in
-    let line : ends (line_of slot c) ≡ line_of slot s = ended_line (c.message.number == number) slot end c
-    (λ same. (its (eqb-true c.message.number number same)).1) in
+    let ends : Held → Held = λ h. ends_if (h.entry == entry) end h in
+    let s : Claim = stop_claim entry slot c in
+    let line : ends (line_of slot c) ≡ line_of slot s = ended_line (c.message.entry == entry) slot end c
+    (λ same. (its (eqb-true c.message.entry entry same)).1) in
     let then : is_claimed_at slot s ≡ is_before_end slot (end_of s.message) = claimed_by_end slot s by in
     let until : is_before_end slot (ends (line_of slot c)).until ≡ is_claimed_at slot s = ap
     (λ (h : Held). is_before_end slot h.until) line ∙ sym then in
     let same : started_at slot (ends (line_of slot c)) ≡ line_of slot s = ap (started_at slot) line
     ∙ line_later slot slot s (omega arith) in
     let within : is_claimed_at slot s ≡ true → is_claimed_at slot c ≡ true = λ h. elim
-    (cases_eq c.message.number number) [
+    (cases_eq c.message.entry entry) [
       | inl it ↦ (its it).0
-      | inr other ↦ ap (is_claimed_at slot) (sym (stop_claim-other number slot c other)) ∙ h
+      | inr other ↦ ap (is_claimed_at slot) (sym (stop_claim-other entry slot c other)) ∙ h
     ] in
-    ap (λ (l : List Held). passed slot (ends_at number end l))
+    ap (λ (l : List Held). passed slot (ends_at entry end l))
     (map_cond (line_of slot) (is_claimed_at slot c) c (filter (is_claimed_at slot) claims))
     ∙ ap (passed slot) (map_cond ends (is_claimed_at slot c) (line_of slot c) (lines_at slot claims))
     ∙ one_later (is_claimed_at slot c) (is_claimed_at slot s) slot (ends (line_of slot c)) (line_of slot s)
-    (ends_at number end (lines_at slot claims)) (lines_at slot (stop_claims number slot claims)) within until same
+    (ends_at entry end (lines_at slot claims)) (lines_at slot (stop_claims entry slot claims)) within until same
     rest
     ∙ sym (map_cond (line_of slot) (is_claimed_at slot s) s (filter (is_claimed_at slot)
-    (stop_claims number slot claims)))
+    (stop_claims entry slot claims)))
 
 -- a live message is reserved, and so is one that is accepted now
 pub live_is_claimed : (slot : ℕ) (c : Claim)
@@ -303,19 +303,19 @@ lines_are_current slot claims =
     (filter_passes (is_claimed_at slot) claims))
 
 -- what leaves a budget where a reservation ends now: its line
-ends_now : (slot number : ℕ) (lines : List Held)
+ends_now : (slot entry : ℕ) (lines : List Held)
     → All (IsCurrent slot) lines
-    → passed slot (ends_at number slot lines) ≡ remaining_without (Some number) lines
-ends_now slot number [] current = refl
-ends_now slot number (h ∷ lines) current =
-    let rest = ends_now slot number lines (All-tail (IsCurrent slot) h lines current) in
+    → passed slot (ends_at entry slot lines) ≡ remaining_without (Some entry) lines
+ends_now slot entry [] current = refl
+ends_now slot entry (h ∷ lines) current =
+    let rest = ends_now slot entry lines (All-tail (IsCurrent slot) h lines current) in
     let here = All-head (IsCurrent slot) h lines current in
-    let left = ends_at number slot lines in
-    let ended = ends_if (h.entry == number) slot h in
-    let others = remaining_without (Some number) lines in
-    one_later true (not (h.entry == number)) slot ended (started_at slot ended) left others (λ _. refl)
-    (counts (h.entry == number) here.0) refl rest
-    ∙ stays (h.entry == number) others here.1
+    let left = ends_at entry slot lines in
+    let ended = ends_if (h.entry == entry) slot h in
+    let others = remaining_without (Some entry) lines in
+    one_later true (not (h.entry == entry)) slot ended (started_at slot ended) left others (λ _. refl)
+    (counts (h.entry == entry) here.0) refl rest
+    ∙ stays (h.entry == entry) others here.1
   where
     counts : (b : Bool) → is_before_end slot h.until ≡ true → is_before_end slot (ends_if b slot h).until ≡ not b
     counts true here = le-ltb slot slot (omega arith)
@@ -327,17 +327,17 @@ ends_now slot number (h ∷ lines) current =
     stays false others same = ap (λ (x : Held). x ∷ others) same
 
 -- where it ends later, as many lines are left, which hold as much
-ends_later : (slot number end : ℕ) (lines : List Held)
+ends_later : (slot entry end : ℕ) (lines : List Held)
     → slot < end
     → All (IsCurrent slot) lines
-    → passed slot (ends_at number end lines) ≡ ends_at number end lines
-ends_later slot number end [] later current = refl
-ends_later slot number end (h ∷ lines) later current =
-    let rest = ends_later slot number end lines later (All-tail (IsCurrent slot) h lines current) in
+    → passed slot (ends_at entry end lines) ≡ ends_at entry end lines
+ends_later slot entry end [] later current = refl
+ends_later slot entry end (h ∷ lines) later current =
+    let rest = ends_later slot entry end lines later (All-tail (IsCurrent slot) h lines current) in
     let here = All-head (IsCurrent slot) h lines current in
-    let ended = ends_if (h.entry == number) end h in
-    one_later true true slot ended ended (ends_at number end lines) (ends_at number end lines) (λ _. refl)
-    (counts (h.entry == number) here.0) (stays (h.entry == number) here.1) rest
+    let ended = ends_if (h.entry == entry) end h in
+    one_later true true slot ended ended (ends_at entry end lines) (ends_at entry end lines) (λ _. refl)
+    (counts (h.entry == entry) here.0) (stays (h.entry == entry) here.1) rest
   where
     counts : (b : Bool) → is_before_end slot h.until ≡ true → is_before_end slot (ends_if b end h).until ≡ true
     counts true here = lt-ltb slot end later
@@ -347,34 +347,34 @@ ends_later slot number end (h ∷ lines) later current =
     stays true same = ap (λ (x : Held). record x { until = Some end }) same
     stays false same = same
 
-ended_holds : (number end : ℕ) (lines : List Held) → sum_by held_now (ends_at number end lines) ≡ sum_by held_now lines
-ended_holds number end [] = refl
-ended_holds number end (h ∷ lines) =
+ended_holds : (entry end : ℕ) (lines : List Held) → sum_by held_now (ends_at entry end lines) ≡ sum_by held_now lines
+ended_holds entry end [] = refl
+ended_holds entry end (h ∷ lines) =
     omega (
       arith,
-      ended_holds number end lines,
+      ended_holds entry end lines,
       sum_by-cons held_now h lines,
       sum_by-cons held_now
-          (ends_if (h.entry == number) end h) (ends_at number end lines),
+          (ends_if (h.entry == entry) end h) (ends_at entry end lines),
     )
 
 -- the answer about room beside what stays when a reservation is given an end
-pub room_without : (slot number end load : ℕ) (lines : List Held)
+pub room_without : (slot entry end load : ℕ) (lines : List Held)
     → slot ≤ end
     → All (IsCurrent slot) lines
-    → answer_for (remaining_without (cond (end == slot) (Some number) None) lines) load ≡ answer_for
-    (passed slot (ends_at number end lines)) load
-room_without slot number end load lines after current =
+    → answer_for (remaining_without (cond (end == slot) (Some entry) None) lines) load ≡ answer_for
+    (passed slot (ends_at entry end lines)) load
+room_without slot entry end load lines after current =
     elim (cases_eq end slot) [
       | inl now ↦
-          let P : ℕ → Type 0 = λ n. answer_for (remaining_without (Some number) lines) load ≡ answer_for
-          (passed slot (ends_at number n lines)) load in
+          let P : ℕ → Type 0 = λ n. answer_for (remaining_without (Some entry) lines) load ≡ answer_for
+          (passed slot (ends_at entry n lines)) load in
           rw (eq-eqb end slot now) (subst P (sym now) (ap (λ (l : List Held). answer_for l load)
-          (sym (ends_now slot number lines current))))
+          (sym (ends_now slot entry lines current))))
       | inr later ↦
-          let same = ends_later slot number end lines (omega (arith, later, after)) current in
+          let same = ends_later slot entry end lines (omega (arith, later, after)) current in
           rw (ne_eqb end slot later) (sym (ap (λ (l : List Held). answer_for l load) same
-          ∙ ap (λ (n : ℕ). answer_by n (sum_by held_now (ends_at number end lines)) load)
-          (length-map lines (λ (h : Held). ends_if (h.entry == number) end h))
-          ∙ ap (λ (n : ℕ). answer_by (length lines) n load) (ended_holds number end lines)))
+          ∙ ap (λ (n : ℕ). answer_by n (sum_by held_now (ends_at entry end lines)) load)
+          (length-map lines (λ (h : Held). ends_if (h.entry == entry) end h))
+          ∙ ap (λ (n : ℕ). answer_by (length lines) n load) (ended_holds entry end lines)))
     ]

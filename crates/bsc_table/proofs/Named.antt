@@ -16,7 +16,7 @@ OfAnotherPair a b = is_of_pair a.id a.serial b ≡ false
 
 -- numbers rise
 abbrev pub BelowIt : Accepted → Accepted → Type 0
-BelowIt a b = a.message.number < b.message.number
+BelowIt a b = a.message.entry < b.message.entry
 
 -- a message that is stopped at the slot, if the test says so and it wasn't stopped before
 abbrev pub stopped_once : Bool → ℕ → Accepted → Accepted
@@ -65,15 +65,15 @@ stopped_once-false says slot a fails =
     let same = subst Kept (sym fails) (stop_after-false a.message.stop slot) in
     ap (λ (stop : Option ℕ). record a { message = record (a.message) { stop = stop } }) same
 
-stop_numbered-other : (number slot : ℕ) (a : Accepted) → (a.message.number ≡ number → ⊥)
-    → stop_numbered number slot a ≡ a
-stop_numbered-other number slot a other =
-    ap (λ (says : Bool). record a { message = stopped_if says slot a.message }) (ne_eqb a.message.number number other)
+stop_numbered-other : (entry slot : ℕ) (a : Accepted) → (a.message.entry ≡ entry → ⊥)
+    → stop_numbered entry slot a ≡ a
+stop_numbered-other entry slot a other =
+    ap (λ (says : Bool). record a { message = stopped_if says slot a.message }) (ne_eqb a.message.entry entry other)
 
 stop_numbered-same : (slot : ℕ) (a : Accepted) → a.message.stop ≡ None
-    → stopped_once true slot a ≡ stop_numbered a.message.number slot a
+    → stopped_once true slot a ≡ stop_numbered a.message.entry slot a
 stop_numbered-same slot a standing =
-    let says : (a.message.number == a.message.number) ≡ true = eq-eqb a.message.number a.message.number refl in
+    let says : (a.message.entry == a.message.entry) ≡ true = eq-eqb a.message.entry a.message.entry refl in
     ap (λ (stop : Option ℕ). record a { message = record (a.message) { stop = stop_after stop true slot } }) standing
     ∙ sym (ap (λ (b : Bool). record a { message = stopped_if b slot a.message }) says)
 
@@ -90,12 +90,12 @@ others id serial a mine b other =
 -- to stop the message of a pair is to stop that of its number
 pub stopped_by_pair : (id serial slot : ℕ) (all : List Accepted) (a : Accepted) → AllPairs OfAnotherPair all
     → AllPairs BelowIt all → find (is_of_pair id serial) all ≡ Some a → a.message.stop ≡ None
-    → map (λ x. stopped_once (is_of_pair id serial x) slot x) all ≡ map (stop_numbered a.message.number slot) all
+    → map (λ x. stopped_once (is_of_pair id serial x) slot x) all ≡ map (stop_numbered a.message.entry slot) all
 stopped_by_pair id serial slot [] a once rising e standing = refl
 stopped_by_pair id serial slot (x ∷ xs) a once rising e standing =
     let p : Accepted → Bool = is_of_pair id serial in
     let by_pair : Accepted → Accepted = λ y. stopped_once (p y) slot y in
-    let by_number : Accepted → Accepted = stop_numbered a.message.number slot in
+    let by_number : Accepted → Accepted = stop_numbered a.message.entry slot in
     elim (cases_Bool (p x)) [
       | inl passes ↦
           let found = rw passes at e in
@@ -104,9 +104,9 @@ stopped_by_pair id serial slot (x ∷ xs) a once rising e standing =
           let apart = AllPairs-head OfAnotherPair x xs once in
           let rest : map by_pair xs ≡ map by_number xs = map_agree by_pair by_number xs (λ k d h.
           let y : Accepted = get_or xs k d in
-          let number : x.message.number ≡ a.message.number = ap (λ (z : Accepted). z.message.number) here in
+          let entry : x.message.entry ≡ a.message.entry = ap (λ (z : Accepted). z.message.entry) here in
           let alone = stopped_once-false (p y) slot y (others id serial x passes y (apart k d h)) in
-          let kept = stop_numbered-other a.message.number slot y (λ same. omega (arith, above k d h)) in
+          let kept = stop_numbered-other a.message.entry slot y (λ same. omega (arith, above k d h)) in
           alone ∙ sym kept) in
           let first : by_pair x ≡ by_number x =
           ap (λ (b : Bool). stopped_once b slot x) passes ∙ (let P : Accepted
@@ -115,12 +115,12 @@ stopped_by_pair id serial slot (x ∷ xs) a once rising e standing =
           cc
       | inr fails ↦
           let found : find p xs ≡ Some a = rw fails at e in
-          let above : x.message.number < a.message.number = All-find (BelowIt x) p xs a
+          let above : x.message.entry < a.message.entry = All-find (BelowIt x) p xs a
           (AllPairs-head BelowIt x xs rising) found in
           let rest = stopped_by_pair id serial slot xs a (AllPairs-tail OfAnotherPair x xs once)
           (AllPairs-tail BelowIt x xs rising) found standing in
           let first : by_pair x ≡ by_number x = stopped_once-false (p x) slot x fails
-          ∙ sym (stop_numbered-other a.message.number slot x (λ same. omega arith)) in
+          ∙ sym (stop_numbered-other a.message.entry slot x (λ same. omega arith)) in
           cc
     ]
 

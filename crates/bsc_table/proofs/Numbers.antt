@@ -13,7 +13,7 @@ use Rattle.bsc_table.specs.Record.{added_by, accepted_after, accepted_from, acce
 use Rattle.bsc_table.proofs.Named.{BelowIt}
 
 abbrev IsBelow : ℕ → Accepted → Type 0
-IsBelow place a = a.message.number < place
+IsBelow place a = a.message.entry < place
 
 record AreNumbered (all : List Accepted) (place : ℕ) : Type 0 where
   pub rising : AllPairs BelowIt all
@@ -79,7 +79,7 @@ pub numbers_rise : (log : List Entry) → AllPairs BelowIt (accepted_in log)
 numbers_rise log =
     (numbered_from [] 0 log (record { rising = λ i j d b w. absurd (omega arith); below = All-nil (IsBelow 0) })).rising
 
-pub numbers_below : (log : List Entry) → All (λ a. a.message.number < length log) (accepted_in log)
+pub numbers_below : (log : List Entry) → All (λ a. a.message.entry < length log) (accepted_in log)
 numbers_below log = λ k d h.
     let by = (numbered_from [] 0 log (record {
       rising = λ i j d b w. absurd (omega arith);

@@ -48,7 +48,7 @@ entry_with command slot answer = record { command = command; slot = slot; answer
 -- the messages with this one stopped, if there is one
 abbrev pub without : Option Accepted → ℕ → List Accepted → List Accepted
 without None slot all = all
-without (Some a) slot all = map (stop_numbered a.message.number slot) all
+without (Some a) slot all = map (stop_numbered a.message.entry slot) all
 
 -- the messages with this one added, if there is one
 abbrev pub with : Option Accepted → List Accepted → List Accepted
@@ -83,8 +83,8 @@ does_nothing log e never adds =
 
 -- the message that a write adds
 abbrev pub new_message : List Accepted → ℕ → ℕ → ℕ → Option ℕ → ℕ → ℕ → Category → ℕ → ℕ → List Content → Accepted
-new_message all number slot start behind id serial category period broadcasts contents =
-    written_behind all number slot start behind id serial (length contents) period broadcasts (rank_of category)
+new_message all entry slot start behind id serial category period broadcasts contents =
+    written_behind all entry slot start behind id serial (length contents) period broadcasts (rank_of category)
 
 -- a write in the place of none
 pub starts_one : (log : List Entry) (slot id serial : ℕ) (category : Category) (period broadcasts : ℕ) (dcs : Dcs)
@@ -105,7 +105,7 @@ pub stops_one : (log : List Entry) (slot id serial completed : ℕ) (a : Accepte
     → find (is_of_pair id serial) (accepted_in log) ≡ Some a
     → a.message.stop ≡ None
     → accepted_in (log ++ entry_with (commands.Kill id serial) slot (answers.Stopped completed) ∷ []) ≡ map
-    (stop_numbered a.message.number slot) (accepted_in log)
+    (stop_numbered a.message.entry slot) (accepted_in log)
 stops_one log slot id serial completed a once found standing =
     let e = entry_with (commands.Kill id serial) slot (answers.Stopped completed) in
     accepted_in-push log e
@@ -120,14 +120,14 @@ pub replaces_one : (log : List Entry) (slot start id serial old completed : ℕ)
     → a.message.stop ≡ None
     → behind_of slot start (Some a) ≡ behind
     → accepted_in (log ++ entry_with (commands.Write id serial (Some old) category period broadcasts dcs contents) slot
-    (answers.Replaced start completed) ∷ []) ≡ map (stop_numbered a.message.number slot) (accepted_in log) ++
+    (answers.Replaced start completed) ∷ []) ≡ map (stop_numbered a.message.entry slot) (accepted_in log) ++
     new_message (accepted_in log) (length log) slot start behind id serial category period broadcasts contents ∷ []
 replaces_one log slot start id serial old completed category period broadcasts dcs contents a behind once found
     standing waits =
     let e = entry_with (commands.Write id serial (Some old) category period broadcasts dcs contents) slot
     (answers.Replaced start completed) in
     let all = accepted_in log in
-    let stopped = map (stop_numbered a.message.number slot) all in
+    let stopped = map (stop_numbered a.message.entry slot) all in
     let adds : Option ℕ → List Accepted = λ by. new_message all (length log) slot start by id serial category period
     broadcasts contents ∷ [] in
     let by = ap (behind_of slot start) found ∙ waits in
@@ -252,24 +252,24 @@ pub Contains-find : (p : Accepted → Bool) (all : List Accepted) (a : Accepted)
 Contains-find p all a found = All-find (Contains all) p all a (All-contains_itself all) found
 
 -- stopped as accepted messages, or as messages alone
-pub messages_stopped : (number slot : ℕ) (all : List Accepted)
-    → map (λ a. a.message) (map (stop_numbered number slot) all) ≡ stopped_at number slot (map (λ a. a.message) all)
-messages_stopped number slot [] = refl
-messages_stopped number slot (a ∷ all) =
-    ap (λ (l : List Message). (stop_numbered number slot a).message ∷ l) (messages_stopped number slot all)
+pub messages_stopped : (entry slot : ℕ) (all : List Accepted)
+    → map (λ a. a.message) (map (stop_numbered entry slot) all) ≡ stopped_at entry slot (map (λ a. a.message) all)
+messages_stopped entry slot [] = refl
+messages_stopped entry slot (a ∷ all) =
+    ap (λ (l : List Message). (stop_numbered entry slot a).message ∷ l) (messages_stopped entry slot all)
 
 -- and as claims
-pub claims_stopped : (number slot : ℕ) (all : List Accepted)
-    → claims_of (map (stop_numbered number slot) all) ≡ stop_claims number slot (claims_of all)
-claims_stopped number slot [] = refl
-claims_stopped number slot (a ∷ all) = one (reserves (claim_of a)) (claims_stopped number slot all)
+pub claims_stopped : (entry slot : ℕ) (all : List Accepted)
+    → claims_of (map (stop_numbered entry slot) all) ≡ stop_claims entry slot (claims_of all)
+claims_stopped entry slot [] = refl
+claims_stopped entry slot (a ∷ all) = one (reserves (claim_of a)) (claims_stopped entry slot all)
   where
     one : (says : Bool)
-        → claims_of (map (stop_numbered number slot) all) ≡ stop_claims number slot (claims_of all)
-        → cond says (claim_of (stop_numbered number slot a) ∷ claims_of (map (stop_numbered number slot) all))
-        (claims_of (map (stop_numbered number slot) all)) ≡ stop_claims number slot
+        → claims_of (map (stop_numbered entry slot) all) ≡ stop_claims entry slot (claims_of all)
+        → cond says (claim_of (stop_numbered entry slot a) ∷ claims_of (map (stop_numbered entry slot) all))
+        (claims_of (map (stop_numbered entry slot) all)) ≡ stop_claims entry slot
         (cond says (claim_of a ∷ claims_of all) (claims_of all))
-    one true rest = ap (λ (l : List Claim). claim_of (stop_numbered number slot a) ∷ l) rest
+    one true rest = ap (λ (l : List Claim). claim_of (stop_numbered entry slot a) ∷ l) rest
     one false rest = rest
 
 kill_outcome : (log : List Entry) (air : Air) (slot id serial : ℕ)
@@ -290,17 +290,17 @@ kill_outcome log air slot id serial once =
     })
 
 -- the message that starts at once is such as may be accepted
-pub begun_now : (all before : List Accepted) (number slot : ℕ) (replaced : Option Accepted) (id serial : ℕ)
+pub begun_now : (all before : List Accepted) (entry slot : ℕ) (replaced : Option Accepted) (id serial : ℕ)
     (category : Category) (period broadcasts : ℕ) (dcs : Dcs) (contents : List Content)
     → IsBroadcastable period dcs contents
-    → (StartsNow slot before (new_message all number slot slot None id serial category period broadcasts contents)
-    → Starts slot replaced before (new_message all number slot slot None id serial category period broadcasts
+    → (StartsNow slot before (new_message all entry slot slot None id serial category period broadcasts contents)
+    → Starts slot replaced before (new_message all entry slot slot None id serial category period broadcasts
     contents))
     → (layer_of (rank_of category) ≡ 0 → length (filter (is_claimed_at slot) (claims_of before)) < 64)
     → (layer_of (rank_of category) ≡ 0 → claimed_at (claims_of before) slot + load_of (length contents) period ≤ SCALE)
-    → IsBegun number slot replaced before (new_message all number slot slot None id serial category period broadcasts
+    → IsBegun entry slot replaced before (new_message all entry slot slot None id serial category period broadcasts
     contents)
-begun_now all before number slot replaced id serial category period broadcasts dcs contents formed either room fits =
+begun_now all before entry slot replaced id serial category period broadcasts dcs contents formed either room fits =
     record {
       numbered = refl;
       accepted = refl;
@@ -337,24 +337,24 @@ new_outcome log slot id serial category period broadcasts dcs contents formed =
 -- the place at which a write takes over is that of the message that it adds
 pub placed_at : (log : List Entry) (slot load : ℕ) (old : Accepted) (place : Place)
     → AreInOrder (claims_in log) slot
-    → handover (stop_claims old.message.number slot (claims_in log)) slot (claim_of old) load ≡ Some place
+    → handover (stop_claims old.message.entry slot (claims_in log)) slot (claim_of old) load ≡ Some place
     → (slot < place.start) × (behind_of slot place.start (Some old) ≡ Some place.behind)
     × (excess_over load (numbered (Some place.behind) (claims_in log)) ≡ place.excess)
 placed_at log slot load old place order over =
     let claims = claims_in log in
-    let number = old.message.number in
-    let took = taken (stop_claims number slot claims) slot load (ahead_of slot (claim_of old)) place over in
+    let entry = old.message.entry in
+    let took = taken (stop_claims entry slot claims) slot load (ahead_of slot (claim_of old)) place over in
     let p : Claim = took.p in
-    let from = from_stopped claims number slot p took.there in
+    let from = from_stopped claims entry slot p took.there in
     let c : Claim = from.0 in
-    let numbers : p.message.number ≡ c.message.number = ap (λ (x : Claim). x.message.number) from.2 in
+    let numbers : p.message.entry ≡ c.message.entry = ap (λ (x : Claim). x.message.entry) from.2 in
     let loads : own_load p.message ≡ own_load c.message = ap (λ (x : Claim). own_load x.message) from.2 in
     let apart : place.start ≡ slot → ⊥ = λ same. omega (arith, took.later, same) in
     let behind : behind_of slot place.start (Some old) ≡ Some place.behind =
-    ap (λ (b : Bool). cond b None (ahead_of slot (claim_of old))) (ne_eqb place.start slot apart) ∙ took.number
+    ap (λ (b : Bool). cond b None (ahead_of slot (claim_of old))) (ne_eqb place.start slot apart) ∙ took.entry
     ∙ ap (λ (n : ℕ). Some n) (sym took.named) in
-    let named : Some place.behind ≡ Some c.message.number = ap (λ (n : ℕ). Some n) (took.named ∙ numbers) in
-    let found = find_number claims c (find (λ x. x.message.number == c.message.number) claims) order.rising from.1 refl
+    let named : Some place.behind ≡ Some c.message.entry = ap (λ (n : ℕ). Some n) (took.named ∙ numbers) in
+    let found = find_number claims c (find (λ x. x.message.entry == c.message.entry) claims) order.rising from.1 refl
     in
     let excess : excess_over load (numbered (Some place.behind) claims) ≡ load - own_load c.message =
     ap (λ (o : Option ℕ). excess_over load (numbered o claims)) named ∙ ap (excess_over load) found in
@@ -376,10 +376,10 @@ replacement_outcome log air slot id serial old category period broadcasts dcs co
     (answer_to_replacement log air slot category load a)) (refused log slot command)
     (λ a found live. unless_accepted_cases P (find (is_of_pair id serial) all)
     (answer_to_replacement log air slot category load a) (refused log slot command) (λ fresh.
-    let number = a.message.number in
-    let before = map (stop_numbered number slot) all in
-    let left = stop_claims number slot (claims_in log) in
-    let same = sym (claims_stopped number slot all) in
+    let entry = a.message.entry in
+    let before = map (stop_numbered entry slot) all in
+    let left = stop_claims entry slot (claims_in log) in
+    let same = sym (claims_stopped entry slot all) in
     let Room : List Claim → Type 0 = λ claims. length (filter (is_claimed_at slot) claims) < 64 in
     let RoomNow : List Claim → Type 0 = λ claims. layer_of (rank_of category) ≡ 0
     → length (filter (is_claimed_at slot) claims) < 64 in

@@ -25,80 +25,80 @@ use Rattle.bsc_table.proofs.Entering.{left_in_order}
 
 -- a message of a number, looked up as accepted or as a claim of which one is stopped
 abbrev pub is_reserved_as : ℕ → Accepted → Bool
-is_reserved_as number a = (a.message.number == number) && (layer a.message == 0)
+is_reserved_as entry a = (a.message.entry == entry) && (layer a.message == 0)
 
-numbered_left : (of_old slot number : ℕ) (all : List Accepted)
-    → numbered (Some number) (stop_claims of_old slot (claims_of all)) ≡ option_map
-    (λ a. stop_claim of_old slot (claim_of a)) (find (is_reserved_as number) all)
-numbered_left of_old slot number [] = refl
-numbered_left of_old slot number (a ∷ all) =
-    one (a.message.number == number) refl (layer a.message == 0) (numbered_left of_old slot number all)
+numbered_left : (of_old slot entry : ℕ) (all : List Accepted)
+    → numbered (Some entry) (stop_claims of_old slot (claims_of all)) ≡ option_map
+    (λ a. stop_claim of_old slot (claim_of a)) (find (is_reserved_as entry) all)
+numbered_left of_old slot entry [] = refl
+numbered_left of_old slot entry (a ∷ all) =
+    one (a.message.entry == entry) refl (layer a.message == 0) (numbered_left of_old slot entry all)
   where
     one : (named : Bool)
-        → (a.message.number == number) ≡ named
+        → (a.message.entry == entry) ≡ named
         → (front : Bool)
-        → numbered (Some number) (stop_claims of_old slot (claims_of all)) ≡ option_map
-        (λ x. stop_claim of_old slot (claim_of x)) (find (is_reserved_as number) all)
-        → numbered (Some number) (stop_claims of_old slot (cond front (claim_of a ∷ claims_of all) (claims_of all))) ≡
+        → numbered (Some entry) (stop_claims of_old slot (claims_of all)) ≡ option_map
+        (λ x. stop_claim of_old slot (claim_of x)) (find (is_reserved_as entry) all)
+        → numbered (Some entry) (stop_claims of_old slot (cond front (claim_of a ∷ claims_of all) (claims_of all))) ≡
         option_map (λ x. stop_claim of_old slot (claim_of x))
-        (cond (named && front) (Some a) (find (is_reserved_as number) all))
+        (cond (named && front) (Some a) (find (is_reserved_as entry) all))
     one true e true rest = ap (λ (b : Bool). cond b (Some (stop_claim of_old slot (claim_of a)))
-        (numbered (Some number) (stop_claims of_old slot (claims_of all)))) e
+        (numbered (Some entry) (stop_claims of_old slot (claims_of all)))) e
     one true e false rest = rest
     one false e true rest = ap (λ (b : Bool). cond b (Some (stop_claim of_old slot (claim_of a)))
-        (numbered (Some number) (stop_claims of_old slot (claims_of all)))) e ∙ rest
+        (numbered (Some entry) (stop_claims of_old slot (claims_of all)))) e ∙ rest
     one false e false rest = rest
 
 -- what is looked up, by the number of the message ahead
-ahead_in : (r : Record) (old : Accepted) (number load : ℕ) (found : Option Accepted)
-    → ahead_of r.clock (claim_of old) ≡ Some number
-    → find (is_reserved_as number) (accepted_in r.log) ≡ found
+ahead_in : (r : Record) (old : Accepted) (entry load : ℕ) (found : Option Accepted)
+    → ahead_of r.clock (claim_of old) ≡ Some entry
+    → find (is_reserved_as entry) (accepted_in r.log) ≡ found
     → handover (left_by r old) r.clock (claim_of old) load ≡ place_behind r.clock load
-    (option_map (λ a. stop_claim old.message.number r.clock (claim_of a)) found)
-ahead_in r old number load found ahead e =
+    (option_map (λ a. stop_claim old.message.entry r.clock (claim_of a)) found)
+ahead_in r old entry load found ahead e =
     ap (λ (o : Option ℕ). place_behind r.clock load (numbered o (left_by r old))) ahead
-    ∙ ap (place_behind r.clock load) (numbered_left old.message.number r.clock number (accepted_in r.log)
-    ∙ ap (option_map (λ (a : Accepted). stop_claim old.message.number r.clock (claim_of a))) e)
+    ∙ ap (place_behind r.clock load) (numbered_left old.message.entry r.clock entry (accepted_in r.log)
+    ∙ ap (option_map (λ (a : Accepted). stop_claim old.message.entry r.clock (claim_of a))) e)
 
 -- where there is none, there is no place
-pub none_ahead : (r : Record) (old : Accepted) (number load : ℕ)
-    → ahead_of r.clock (claim_of old) ≡ Some number
-    → find (is_reserved_as number) (accepted_in r.log) ≡ None
+pub none_ahead : (r : Record) (old : Accepted) (entry load : ℕ)
+    → ahead_of r.clock (claim_of old) ≡ Some entry
+    → find (is_reserved_as entry) (accepted_in r.log) ≡ None
     → handover (left_by r old) r.clock (claim_of old) load ≡ None
-none_ahead r old number load ahead e = ahead_in r old number load None ahead e
+none_ahead r old entry load ahead e = ahead_in r old entry load None ahead e
 
-number_found : (number : ℕ) (all : List Accepted) (a : Accepted)
-    → find (is_reserved_as number) all ≡ Some a
-    → Contains all a × (a.message.number ≡ number) × (layer a.message ≡ 0)
-number_found number all a found =
-    let p : Accepted → Bool = is_reserved_as number in
-    let passes = and_parts (a.message.number == number) (layer a.message == 0) (find_passes p all a found) in
-    (Contains-find p all a found, eqb-true a.message.number number passes.0, eqb-true (layer a.message) 0 passes.1)
+number_found : (entry : ℕ) (all : List Accepted) (a : Accepted)
+    → find (is_reserved_as entry) all ≡ Some a
+    → Contains all a × (a.message.entry ≡ entry) × (layer a.message ≡ 0)
+number_found entry all a found =
+    let p : Accepted → Bool = is_reserved_as entry in
+    let passes = and_parts (a.message.entry == entry) (layer a.message == 0) (find_passes p all a found) in
+    (Contains-find p all a found, eqb-true a.message.entry entry passes.0, eqb-true (layer a.message) 0 passes.1)
 
 -- a message that is found has a period
-pub found_lasts : (r : Record) (number : ℕ) (a : Accepted)
+pub found_lasts : (r : Record) (entry : ℕ) (a : Accepted)
     → IsLegal r
-    → find (is_reserved_as number) (accepted_in r.log) ≡ Some a
+    → find (is_reserved_as entry) (accepted_in r.log) ≡ Some a
     → 0 < a.message.period
-found_lasts r number a legal found =
+found_lasts r entry a legal found =
     (All-contains HasLoad (accepted_in r.log) a (IsSound-legal r legal).loaded
-    (number_found number (accepted_in r.log) a found).0).1
+    (number_found entry (accepted_in r.log) a found).0).1
 
 -- the message ahead was stopped, if a place behind it can be taken over
-is_stopped_there : (r : Record) (old : Accepted) (number load : ℕ) (a : Accepted) (place : Place)
+is_stopped_there : (r : Record) (old : Accepted) (entry load : ℕ) (a : Accepted) (place : Place)
     → IsLegal r
     → IsLiveIn r old
     → layer old.message ≡ 0
-    → ahead_of r.clock (claim_of old) ≡ Some number
-    → find (is_reserved_as number) (accepted_in r.log) ≡ Some a
+    → ahead_of r.clock (claim_of old) ≡ Some entry
+    → find (is_reserved_as entry) (accepted_in r.log) ≡ Some a
     → handover (left_by r old) r.clock (claim_of old) load ≡ Some place
-    → is_some (stop_claim old.message.number r.clock (claim_of a)).message.stop ≡ true
-is_stopped_there r old number load a place legal live front ahead found over =
+    → is_some (stop_claim old.message.entry r.clock (claim_of a)).message.stop ≡ true
+is_stopped_there r old entry load a place legal live front ahead found over =
     let claims = claims_in r.log in
-    let of_old = old.message.number in
+    let of_old = old.message.entry in
     let f = stop_claim of_old r.clock in
     let p : Claim = f (claim_of a) in
-    let its = number_found number (accepted_in r.log) a found in
+    let its = number_found entry (accepted_in r.log) a found in
     let here = its_claim (accepted_in r.log) a its.0 its.2 in
     let there : Contains (left_by r old) (f (claim_of a)) = (
       here.0,
@@ -108,28 +108,28 @@ is_stopped_there r old number load a place legal live front ahead found over =
     let took = taken (left_by r old) r.clock load (ahead_of r.clock (claim_of old)) place over in
     let free = is_free claims r.clock load (claim_of old) place (IsSound-legal r legal).order
     (its_claim (accepted_in r.log) old live.there front) live.live over in
-    let same : number ≡ took.p.message.number = same_Some number took.p.message.number (sym ahead ∙ took.number) in
+    let same : entry ≡ took.p.message.entry = same_Some entry took.p.message.entry (sym ahead ∙ took.entry) in
     let is : free.p ≡ f (claim_of a) = by_number (left_by r old) free.p (f (claim_of a))
     (left_in_order r old legal live).rising free.there there (sym free.named ∙ took.named ∙ sym same ∙ sym its.1) in
     ap (λ (c : Claim). is_some c.message.stop) (sym is) ∙ free.ahead.stopped
 
 -- so the place is that behind it, by the end that its stop gives it
-pub place_ahead : (r : Record) (old : Accepted) (number load : ℕ) (k : Kept)
+pub place_ahead : (r : Record) (old : Accepted) (entry load : ℕ) (k : Kept)
     → IsLegal r
     → IsLiveIn r old
     → layer old.message ≡ 0
-    → ahead_of r.clock (claim_of old) ≡ Some number
-    → find (is_reserved_as number) (accepted_in r.log) ≡ Some (accepted_of k)
-    → place_before r.clock load (claim_of (accepted_of (kept_stopped old.message.number r.clock k)))
-    (stopped_end (kept_stopped old.message.number r.clock k)) ≡ handover (left_by r old) r.clock (claim_of old) load
-place_ahead r old number load k legal live front ahead found =
-    let s : Kept = kept_stopped old.message.number r.clock k in
+    → ahead_of r.clock (claim_of old) ≡ Some entry
+    → find (is_reserved_as entry) (accepted_in r.log) ≡ Some (accepted_of k)
+    → place_before r.clock load (claim_of (accepted_of (kept_stopped old.message.entry r.clock k)))
+    (stopped_end (kept_stopped old.message.entry r.clock k)) ≡ handover (left_by r old) r.clock (claim_of old) load
+place_ahead r old entry load k legal live front ahead found =
+    let s : Kept = kept_stopped old.message.entry r.clock k in
     let p : Claim = claim_of (accepted_of s) in
-    let over = ahead_in r old number load (Some (accepted_of k)) ahead found in
+    let over = ahead_in r old entry load (Some (accepted_of k)) ahead found in
     by_stop s.stop refl ∙ sym over
   where
     s : Kept
-    s = kept_stopped old.message.number r.clock k
+    s = kept_stopped old.message.entry r.clock k
 
     p : Claim
     p = claim_of (accepted_of s)
@@ -140,8 +140,8 @@ place_ahead r old number load k legal live front ahead found =
     none_there : (o : Option Place) → at_end (end_of p.message) ≡ o → s.stop ≡ None → None ≡ o
     none_there None e stands = refl
     none_there (Some place) e stands =
-        let stopped = is_stopped_there r old number load (accepted_of k) place legal live front ahead found
-        (ahead_in r old number load (Some (accepted_of k)) ahead found ∙ e) in
+        let stopped = is_stopped_there r old entry load (accepted_of k) place legal live front ahead found
+        (ahead_in r old entry load (Some (accepted_of k)) ahead found ∙ e) in
         absurd (false≢true (sym (ap (λ (o : Option ℕ). is_some o) stands) ∙ stopped))
 
     by_stop : (stop : Option ℕ) → s.stop ≡ stop → at_end (stopped_end s) ≡ at_end (end_of p.message)

@@ -104,14 +104,14 @@ legal_loads_fit r legal =
     )
 
 -- the numbers of the messages rise
-numbers_of_messages_rise : (log : List Entry) → AllPairs (λ a b. a.number < b.number) (messages_in log)
+numbers_of_messages_rise : (log : List Entry) → AllPairs (λ a b. a.entry < b.entry) (messages_in log)
 numbers_of_messages_rise log = λ i j d before within.
     let all = accepted_in log in
     let message : Accepted → Message = λ a. a.message in
     let default : Accepted = record { id = 0; serial = 0; accepted = 0; behind = None; excess = 0; message = d } in
     let long = length-map all message in
-    let first = ap (λ (m : Message). m.number) (get_or-map message all i default d (omega arith)) in
-    let second = ap (λ (m : Message). m.number) (get_or-map message all j default d (omega arith)) in
+    let first = ap (λ (m : Message). m.entry) (get_or-map message all i default d (omega arith)) in
+    let second = ap (λ (m : Message). m.entry) (get_or-map message all j default d (omega arith)) in
     omega (arith, first, second, numbers_rise log i j default before (omega arith))
 
 -- so those that aren't background are admitted
@@ -120,7 +120,7 @@ admitted_of r legal =
     let p : Message → Bool = λ m. layer m == 0 in
     let messages = messages_in r.log in
     record {
-      rising = AllPairs-filter (λ a b. a.number < b.number) p messages (numbers_of_messages_rise r.log);
+      rising = AllPairs-filter (λ a b. a.entry < b.entry) p messages (numbers_of_messages_rise r.log);
       periods = All-filter p (λ (m : Message). 0 < m.period) messages
           (have_periods (accepted_in r.log) (IsSound-legal r legal).loaded);
       foreground = λ k d h. eqb-true (layer (get_or (filter p messages) k d)) 0 (filter_passes p messages k d h);
@@ -157,7 +157,7 @@ legal_pages_are_aired_once law r legal = λ k d within. λ j page uncut some few
     let messages = messages_in r.log in
     let p : Message → Bool = λ m. layer m == 0 in
     let m : Message = get_or (foreground messages) k d in
-    let served : pages_aired m.number r.air (release m j) (due m j) ≡ m.pages = legal_histories_are_served r legal k d
+    let served : pages_aired m.entry r.air (release m j) (due m j) ≡ m.pages = legal_histories_are_served r legal k d
     within j uncut in
     let here = All-filter p (Contains messages) messages (All-contains_itself messages) k d within in
     law messages r.air (get_or (foreground messages) k d) j page (due (get_or (foreground messages) k d) j)

@@ -77,7 +77,7 @@ its_place_of all = All-filter reserves (Contains (all_claims all)) (all_claims a
 
 pub claims_rise : (all : List Accepted)
     → AllPairs BelowIt all
-    → AllPairs (λ x y. x.message.number < y.message.number) (all_claims all)
+    → AllPairs (λ x y. x.message.entry < y.message.entry) (all_claims all)
 claims_rise all rising = λ i j d before within.
     let default : Accepted = record {
       id = 0;
@@ -89,15 +89,15 @@ claims_rise all rising = λ i j d before within.
           d.message;
     } in
     let long = length-map all claim_of in
-    let first = ap (λ (c : Claim). c.message.number) (get_or-map claim_of all i default d (omega arith)) in
-    let second = ap (λ (c : Claim). c.message.number) (get_or-map claim_of all j default d (omega arith)) in
+    let first = ap (λ (c : Claim). c.message.entry) (get_or-map claim_of all i default d (omega arith)) in
+    let second = ap (λ (c : Claim). c.message.entry) (get_or-map claim_of all j default d (omega arith)) in
     omega (arith, first, second, rising i j default before (omega arith))
 
 -- the message of that number is this one
 pub same_claim : (all : List Accepted) (a : Accepted)
     → AllPairs BelowIt all
     → Contains all a
-    → All (λ c. c.message.number ≡ a.message.number → c ≡ claim_of a) (claims_of all)
+    → All (λ c. c.message.entry ≡ a.message.entry → c ≡ claim_of a) (claims_of all)
 same_claim all a rising here = λ k d within. λ same.
     by_number (all_claims all) (get_or (claims_of all) k d) (claim_of a) (claims_rise all rising)
     (its_place_of all k d within) (its_place all a here) same
@@ -111,21 +111,21 @@ map_same f (c ∷ claims) all =
     ∙ ap (λ (l : List Claim). c ∷ l) (map_same f claims (All-tail Same c claims all))
 
 -- a stop of a background message changes no claim
-pub same_claims : (number slot : ℕ) (all : List Accepted) (a : Accepted)
+pub same_claims : (entry slot : ℕ) (all : List Accepted) (a : Accepted)
     → AllPairs BelowIt all
     → Contains all a
-    → a.message.number ≡ number
+    → a.message.entry ≡ entry
     → (layer a.message ≡ 0 → ⊥)
-    → stop_claims number slot (claims_of all) ≡ claims_of all
-same_claims number slot all a rising here named back =
-    map_same (stop_claim number slot) (claims_of all) (λ k d h.
+    → stop_claims entry slot (claims_of all) ≡ claims_of all
+same_claims entry slot all a rising here named back =
+    map_same (stop_claim entry slot) (claims_of all) (λ k d h.
     let c : Claim = get_or (claims_of all) k d in
     let front : layer c.message ≡ 0 = eqb-true (layer c.message) 0 (filter_passes reserves (all_claims all) k d h) in
-    elim (cases_Bool (c.message.number == number)) [
+    elim (cases_Bool (c.message.entry == entry)) [
       | inl its ↦
-          let same = same_claim all a rising here k d h (eqb-true c.message.number number its ∙ sym named) in
+          let same = same_claim all a rising here k d h (eqb-true c.message.entry entry its ∙ sym named) in
           absurd (back (sym (ap (λ (x : Claim). layer x.message) same) ∙ front))
-      | inr other ↦ unstopped c (c.message.number == number) other
+      | inr other ↦ unstopped c (c.message.entry == entry) other
     ])
   where
     unstopped : (c : Claim) (says : Bool) → says ≡ false → (record c

@@ -17,38 +17,38 @@ use Rattle.bsc_table.proofs.Claims.{share_at-waiting, share_at-started, claim_at
 
 -- w waits at the slot behind the message of that number
 abbrev is_behind : Option ℕ → ℕ → Bool
-is_behind None number = false
-is_behind (Some behind) number = behind == number
+is_behind None entry = false
+is_behind (Some behind) entry = behind == entry
 
 abbrev waits_for : ℕ → Claim → Claim → Bool
 waits_for now w p = (nat_lt now w.message.start && is_before_end now (end_of w.message)) && is_behind w.behind
-    p.message.number
+    p.message.entry
 
-is_behind-says : (behind : Option ℕ) (number : ℕ) → is_behind behind number ≡ true → behind ≡ Some number
-is_behind-says None number h = absurd (false≢true h)
-is_behind-says (Some k) number h = ap (λ (n : ℕ). Some n) (eqb-true k number h)
+is_behind-says : (behind : Option ℕ) (entry : ℕ) → is_behind behind entry ≡ true → behind ≡ Some entry
+is_behind-says None entry h = absurd (false≢true h)
+is_behind-says (Some k) entry h = ap (λ (n : ℕ). Some n) (eqb-true k entry h)
 
-is_behind-from : (behind : Option ℕ) (number : ℕ) → behind ≡ Some number → is_behind behind number ≡ true
-is_behind-from behind number h =
-    ap (λ (o : Option ℕ). is_behind o number) h ∙ eq-eqb number number refl
+is_behind-from : (behind : Option ℕ) (entry : ℕ) → behind ≡ Some entry → is_behind behind entry ≡ true
+is_behind-from behind entry h =
+    ap (λ (o : Option ℕ). is_behind o entry) h ∙ eq-eqb entry entry refl
 
 waits_for-says : (now : ℕ) (w p : Claim) → waits_for now w p ≡ true → IsWaiting now w
-    × (w.behind ≡ Some p.message.number)
+    × (w.behind ≡ Some p.message.entry)
 waits_for-says now w p h =
     let first = and_parts (nat_lt now w.message.start && is_before_end now (end_of w.message))
-    (is_behind w.behind p.message.number) h in
+    (is_behind w.behind p.message.entry) h in
     let second = and_parts (nat_lt now w.message.start) (is_before_end now (end_of w.message)) first.0 in (
       (ltb-true now w.message.start second.0, is_before_end-says now (end_of w.message) second.1),
       is_behind-says
-          w.behind p.message.number first.1,
+          w.behind p.message.entry first.1,
     )
 
-waits_for-from : (now : ℕ) (w p : Claim) → IsWaiting now w → w.behind ≡ Some p.message.number → waits_for now w p ≡ true
+waits_for-from : (now : ℕ) (w p : Claim) → IsWaiting now w → w.behind ≡ Some p.message.entry → waits_for now w p ≡ true
 waits_for-from now w p waiting named =
-    and_from (nat_lt now w.message.start && is_before_end now (end_of w.message)) (is_behind w.behind p.message.number)
+    and_from (nat_lt now w.message.start && is_before_end now (end_of w.message)) (is_behind w.behind p.message.entry)
     (and_from (nat_lt now w.message.start) (is_before_end now (end_of w.message))
     (lt-ltb now w.message.start waiting.0) (is_before_end-from now (end_of w.message) waiting.1))
-    (is_behind-from w.behind p.message.number named)
+    (is_behind-from w.behind p.message.entry named)
 
 -- what one loses between two slots, and what it gains
 abbrev loss : ℕ → ℕ → Claim → ℕ

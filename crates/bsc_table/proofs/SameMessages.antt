@@ -135,10 +135,10 @@ replaced_alike f id None front = refl
 replaced_alike f id (Some serial) front = found_alike f id serial front
 
 -- so is the one behind which it waits
-ahead_alike : (f : ℕ → ℕ) (says : Bool) (number : ℕ) (behind : Option ℕ)
-    → cond says (Some (f number)) (option_map f behind) ≡ option_map f (cond says (Some number) behind)
-ahead_alike f true number behind = refl
-ahead_alike f false number behind = refl
+ahead_alike : (f : ℕ → ℕ) (says : Bool) (entry : ℕ) (behind : Option ℕ)
+    → cond says (Some (f entry)) (option_map f behind) ≡ option_map f (cond says (Some entry) behind)
+ahead_alike f true entry behind = refl
+ahead_alike f false entry behind = refl
 
 waits_alike : (f : ℕ → ℕ) (says : Bool) (ahead under : Option ℕ)
     → under ≡ option_map f ahead
@@ -151,7 +151,7 @@ behind_alike : (f : ℕ → ℕ) (slot start : ℕ) (found : Option Accepted)
 behind_alike f slot start None = refl
 behind_alike f slot start (Some old) =
     waits_alike f (start == slot) (ahead_of slot (claim_of old)) (ahead_of slot (claim_of (accepted_renumbered f old)))
-    (ahead_alike f (nat_le old.message.start slot) old.message.number old.behind)
+    (ahead_alike f (nat_le old.message.start slot) old.message.entry old.behind)
 
 -- of which the load is the same
 same_number : (f : ℕ → ℕ) → KeepsOrder f → (a b : ℕ) → (f a == f b) ≡ (a == b)
@@ -172,33 +172,33 @@ excess_alike : (f : ℕ → ℕ)
     → excess_over load (numbered (option_map f behind) (claims_of (map (accepted_renumbered f) front))) ≡ excess_over
     load (numbered behind (claims_of front))
 excess_alike f keeps load None front = refl
-excess_alike f keeps load (Some number) [] = refl
-excess_alike f keeps load (Some number) (a ∷ front) =
+excess_alike f keeps load (Some entry) [] = refl
+excess_alike f keeps load (Some entry) (a ∷ front) =
     let all = claims_of (map (accepted_renumbered f) front) in
     let renamed : Claim = claim_of (accepted_renumbered f a) in
-    let rest = excess_alike f keeps load (Some number) front in
-    let here = ap (λ (b : Bool). excess_over load (cond b (Some renamed) (numbered (Some (f number)) all)))
-    (same_number f keeps a.message.number number) ∙ one (a.message.number == number) rest in
+    let rest = excess_alike f keeps load (Some entry) front in
+    let here = ap (λ (b : Bool). excess_over load (cond b (Some renamed) (numbered (Some (f entry)) all)))
+    (same_number f keeps a.message.entry entry) ∙ one (a.message.entry == entry) rest in
     claimed (reserves (claim_of a)) here rest
   where
     claimed : (says : Bool)
-        → excess_over load (numbered (Some (f number)) (claim_of (accepted_renumbered f a) ∷ claims_of
+        → excess_over load (numbered (Some (f entry)) (claim_of (accepted_renumbered f a) ∷ claims_of
         (map (accepted_renumbered f) front))) ≡ excess_over load
-        (numbered (Some number) (claim_of a ∷ claims_of front))
-        → excess_over load (numbered (Some (f number)) (claims_of (map (accepted_renumbered f) front))) ≡ excess_over
-        load (numbered (Some number) (claims_of front))
-        → excess_over load (numbered (Some (f number)) (cond says
+        (numbered (Some entry) (claim_of a ∷ claims_of front))
+        → excess_over load (numbered (Some (f entry)) (claims_of (map (accepted_renumbered f) front))) ≡ excess_over
+        load (numbered (Some entry) (claims_of front))
+        → excess_over load (numbered (Some (f entry)) (cond says
         (claim_of (accepted_renumbered f a) ∷ claims_of (map (accepted_renumbered f) front))
         (claims_of (map (accepted_renumbered f) front)))) ≡ excess_over load
-        (numbered (Some number) (cond says (claim_of a ∷ claims_of front) (claims_of front)))
+        (numbered (Some entry) (cond says (claim_of a ∷ claims_of front) (claims_of front)))
     claimed true here rest = here
     claimed false here rest = rest
 
-    one : (says : Bool) → excess_over load (numbered (Some (f number)) (claims_of (map (accepted_renumbered f) front)))
-        ≡ excess_over load (numbered (Some number) (claims_of front))
+    one : (says : Bool) → excess_over load (numbered (Some (f entry)) (claims_of (map (accepted_renumbered f) front)))
+        ≡ excess_over load (numbered (Some entry) (claims_of front))
         → excess_over load (cond says (Some (claim_of (accepted_renumbered f a)))
-        (numbered (Some (f number)) (claims_of (map (accepted_renumbered f) front)))) ≡ excess_over load
-        (cond says (Some (claim_of a)) (numbered (Some number) (claims_of front)))
+        (numbered (Some (f entry)) (claims_of (map (accepted_renumbered f) front)))) ≡ excess_over load
+        (cond says (Some (claim_of a)) (numbered (Some entry) (claims_of front)))
     one true rest = refl
     one false rest = rest
 

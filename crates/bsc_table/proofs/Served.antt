@@ -20,14 +20,14 @@ use Rattle.bsc_table.proofs.Demand.{count_inside, demand_is_no_more_than_the_slo
 use Rattle.bsc_table.proofs.Busy.{lack_means_a_busy_period}
 
 -- in a list with rising numbers, one number is one message
-same_message : (messages : List Message) (i k : ℕ) (d e : Message) → AllPairs (λ a b. a.number < b.number) messages
-    → i < length messages → k < length messages → (get_or messages i d).number ≡ (get_or messages k e).number
+same_message : (messages : List Message) (i k : ℕ) (d e : Message) → AllPairs (λ a b. a.entry < b.entry) messages
+    → i < length messages → k < length messages → (get_or messages i d).entry ≡ (get_or messages k e).entry
     → get_or messages i d ≡ get_or messages k e
 same_message messages i k d e rising here there same =
     let other = get_or_default messages k e d there in
-    let number : (get_or messages i d).number ≡ (get_or messages k d).number = same
-    ∙ ap (λ (m : Message). m.number) other in
-    ap (λ n. get_or messages n d) (rising-same (λ (m : Message). m.number) messages rising i k d here there number)
+    let entry : (get_or messages i d).entry ≡ (get_or messages k d).entry = same
+    ∙ ap (λ (m : Message). m.entry) other in
+    ap (λ n. get_or messages n d) (rising-same (λ (m : Message). m.entry) messages rising i k d here there entry)
     ∙ sym other
 
 -- each slot of the range airs a page of a broadcast inside it
@@ -36,26 +36,26 @@ IsBusy messages air from to = (slot : ℕ) → from ≤ slot → slot < to → A
 
 -- so what is aired of each message there belongs to its broadcasts inside
 inside_of_busy : (messages : List Message) (air : Air) (from to i : ℕ) (e : Message)
-    → AllPairs (λ a b. a.number < b.number) messages → i < length messages → IsBusy messages air from to
+    → AllPairs (λ a b. a.entry < b.entry) messages → i < length messages → IsBusy messages air from to
     → AiredInside (get_or messages i e) air from to
 inside_of_busy messages air from to i e rising here busy = λ slot low high used.
     let one = busy slot low high in
-    let Airs : Option (ℕ × ℕ) → Type 0 = λ u. airs (get_or messages i e).number u ≡ true in
-    let number = eqb-true one.1.number (get_or messages i e).number (subst Airs one.4.2 used) in
-    let found = ap (λ (m : Message). m.number) one.3 ∙ number in
+    let Airs : Option (ℕ × ℕ) → Type 0 = λ u. airs (get_or messages i e).entry u ≡ true in
+    let entry = eqb-true one.1.entry (get_or messages i e).entry (subst Airs one.4.2 used) in
+    let found = ap (λ (m : Message). m.entry) one.3 ∙ entry in
     let same = sym one.3 ∙ same_message messages one.0 i one.1 e rising one.2 here found in
     let P : Message → Type 0 = λ m. (j : ℕ) × IsPending m j air slot × (from ≤ release m j) × (due m j ≤ to) in
     subst P same (one.4.0, one.4.1, one.4.3, one.4.4)
 
 -- and each of its slots airs a page of one message at least
 one_each : (messages : List Message) (air : Air) (from to slot : ℕ) → AirsOneWithin messages air from to slot
-    → 1 ≤ sum_by (λ m. uses m.number air slot) messages
+    → 1 ≤ sum_by (λ m. uses m.entry air slot) messages
 one_each messages air from to slot one =
-    let used : uses one.1.number air slot ≡ 1 =
-    ap (λ (u : Option (ℕ × ℕ)). cond (airs one.1.number u) 1 0) one.4.2
-    ∙ ap (λ (b : Bool). cond b 1 0) (eq-eqb one.1.number one.1.number refl) in
-    let here = ap (λ (m : Message). uses m.number air slot) one.3 in
-    let part = get_or-le-sum_by (λ (m : Message). uses m.number air slot) messages one.0 one.1 one.2 in
+    let used : uses one.1.entry air slot ≡ 1 =
+    ap (λ (u : Option (ℕ × ℕ)). cond (airs one.1.entry u) 1 0) one.4.2
+    ∙ ap (λ (b : Bool). cond b 1 0) (eq-eqb one.1.entry one.1.entry refl) in
+    let here = ap (λ (m : Message). uses m.entry air slot) one.3 in
+    let part = get_or-le-sum_by (λ (m : Message). uses m.entry air slot) messages one.0 one.1 one.2 in
     omega arith
 
 -- so that over the range as many pages are aired as it has slots
@@ -63,12 +63,12 @@ pages_grow : (messages : List Message) (air : Air) (from to : ℕ) → from ≤ 
     → sum_by (λ (m : Message). pages_before m air from) messages + (to - from) ≤ sum_by
     (λ (m : Message). pages_before m air to) messages
 pages_grow messages air from to forward busy =
-    let f = λ (t : ℕ). sum_by (λ (m : Message). uses m.number air t) messages in
+    let f = λ (t : ℕ). sum_by (λ (m : Message). uses m.entry air t) messages in
     let reach : from + (to - from) ≡ to = omega arith in
     let grown = total-at_least f 1 from (to - from) (λ t low high. one_each messages air from to t
     (busy t low (omega arith))) in
-    let at_from = exchange (λ (m : Message). uses m.number air) messages from in
-    let at_to = exchange (λ (m : Message). uses m.number air) messages to in
+    let at_from = exchange (λ (m : Message). uses m.entry air) messages from in
+    let at_to = exchange (λ (m : Message). uses m.entry air) messages to in
     let moved = ap (total f) reach in
     omega arith
 
@@ -77,7 +77,7 @@ pages_grow messages air from to forward busy =
 no_lack : (messages : List Message) (air : Air) (k : ℕ) (d : Message) (j from : ℕ) → k < length messages
     → All (λ m. IsServed messages air m) messages → LoadsFit messages → from ≤ release (get_or messages k d) j
     → IsUncut (get_or messages k d) j air → IsBusy messages air from (due (get_or messages k d) j)
-    → ¬ (pages_aired (get_or messages k d).number air (release (get_or messages k d) j) (due (get_or messages k d) j) <
+    → ¬ (pages_aired (get_or messages k d).entry air (release (get_or messages k d) j) (due (get_or messages k d) j) <
     (get_or messages k d).pages)
 no_lack messages air k d j from within served fit early uncut busy lacks =
     let m = get_or messages k d in
@@ -106,7 +106,7 @@ admitted_load_is_a_guarantee messages air admitted rule = λ k d within. λ j un
     let m = get_or messages k d in
     let most = pages_aired-at_most messages air m j (due m j) admitted.rising (Contains-get_or messages k d within)
     rule uncut.aired_by (omega arith) in
-    elim (cases_lt (pages_aired m.number air (release m j) (due m j)) m.pages) [
+    elim (cases_lt (pages_aired m.entry air (release m j) (due m j)) m.pages) [
       | inr enough ↦ omega arith
       | inl lacks ↦
           let busy = lack_means_a_busy_period messages air admitted.foreground rule k d within j uncut lacks in
@@ -125,7 +125,7 @@ admitted_broadcasts_are_whole messages air slot admitted rule = λ k d within. �
     let all = admitted_load_is_a_guarantee messages air admitted rule k d within j uncut in
     let ahead : release m j < due m j = omega (arith, admitted.periods k d within) in
     let at : min (due m j) slot ≡ due m j = omega arith in
-    let P : ℕ → Type 0 = λ n. m.pages ≤ pages_aired m.number air (release m j) n in
+    let P : ℕ → Type 0 = λ n. m.pages ≤ pages_aired m.entry air (release m j) n in
     record {
       requested = uncut.requested;
       released = before_stop-up_to (release m j) (due m j) m.stop ahead uncut.standing;

@@ -51,7 +51,7 @@ pub stops_live : (all : List Accepted) (slot : ℕ) (a : Accepted)
     → AllPairs BelowIt all
     → Contains all a
     → is_live slot a.message ≡ true
-    → All (λ c. c.message.number ≡ a.message.number → is_live slot c.message ≡ true) (claims_of all)
+    → All (λ c. c.message.entry ≡ a.message.entry → is_live slot c.message ≡ true) (claims_of all)
 stops_live all slot a rising here live = λ k d within. λ same.
     let Live : Claim → Type 0 = λ c. is_live slot c.message ≡ true in
     subst Live (sym (same_claim all a rising here k d within same)) live
@@ -65,8 +65,8 @@ room_without : (stopped : Option Accepted) (slot : ℕ) (all : List Accepted)
 room_without None slot all live rising room = room
 room_without (Some a) slot all live rising room =
     let lives = stops_live all slot a rising live.0 live.1 in
-    subst (HasRoom slot) (sym (claims_stopped a.message.number slot all))
-    (stop_keeps_room (claims_of all) a.message.number slot room.0 lives room.1)
+    subst (HasRoom slot) (sym (claims_stopped a.message.entry slot all))
+    (stop_keeps_room (claims_of all) a.message.entry slot room.0 lives room.1)
 
 -- stopping a message changes neither pairs nor starts
 without_sound : (stopped : Option Accepted) (slot : ℕ) (all : List Accepted)
@@ -77,9 +77,9 @@ without_sound None slot all live sound = sound
 without_sound (Some a) slot all live sound =
     let room = room_without (Some a) slot all live sound.rising (sound.order, sound.fit) in
     record {
-      rising = AllPairs-map BelowIt (stop_numbered a.message.number slot) (λ x y below. below) all sound.rising;
-      once = AllPairs-map OfAnotherPair (stop_numbered a.message.number slot) (λ x y apart. apart) all sound.once;
-      loaded = All-map HasLoad (stop_numbered a.message.number slot) all sound.loaded;
+      rising = AllPairs-map BelowIt (stop_numbered a.message.entry slot) (λ x y below. below) all sound.rising;
+      once = AllPairs-map OfAnotherPair (stop_numbered a.message.entry slot) (λ x y apart. apart) all sound.once;
+      loaded = All-map HasLoad (stop_numbered a.message.entry slot) all sound.loaded;
       order = room.0;
       fit = room.1;
     }
@@ -119,7 +119,7 @@ find_without None at id serial all none = none
 find_without (Some a) at id serial all none = stays all none
   where
     stays : (xs : List Accepted) → find (is_of_pair id serial) xs ≡ None
-        → find (is_of_pair id serial) (map (stop_numbered a.message.number at) xs) ≡ None
+        → find (is_of_pair id serial) (map (stop_numbered a.message.entry at) xs) ≡ None
     stays [] e = refl
     stays (x ∷ xs) e =
         elim (cases_Bool (is_of_pair id serial x)) [
@@ -128,16 +128,16 @@ find_without (Some a) at id serial all none = stays all none
         ]
 
 -- the message that is added is new among the claims
-is_new : (number slot : ℕ) (replaced : Option Accepted) (before : List Accepted) (new : Accepted)
-    → All (λ a. a.message.number < number) before
-    → IsBegun number slot replaced before new
+is_new : (entry slot : ℕ) (replaced : Option Accepted) (before : List Accepted) (new : Accepted)
+    → All (λ a. a.message.entry < entry) before
+    → IsBegun entry slot replaced before new
     → IsNew (claims_of before) slot (claim_of new)
-is_new number slot replaced before new below begun = record {
+is_new entry slot replaced before new below begun = record {
   accepted = begun.accepted;
-  greatest = All-filter reserves (λ (c : Claim). c.message.number < new.message.number) (all_claims before)
-      (All-map (λ (c : Claim). c.message.number < new.message.number) claim_of before
-      (All-weaker (λ (a : Accepted). a.message.number < number)
-      (λ (a : Accepted). a.message.number < new.message.number) (λ a h. omega (arith, h, begun.numbered)) before
+  greatest = All-filter reserves (λ (c : Claim). c.message.entry < new.message.entry) (all_claims before)
+      (All-map (λ (c : Claim). c.message.entry < new.message.entry) claim_of before
+      (All-weaker (λ (a : Accepted). a.message.entry < entry)
+      (λ (a : Accepted). a.message.entry < new.message.entry) (λ a h. omega (arith, h, begun.numbered)) before
       below));
   period = begun.some_period;
   standing = begun.standing;
@@ -159,14 +159,14 @@ room_now slot before new is now room =
 -- and where it takes over
 room_over : (slot : ℕ) (all : List Accepted) (old new : Accepted)
     → Contains all old × (is_live slot old.message ≡ true)
-    → IsNew (claims_of (map (stop_numbered old.message.number slot) all)) slot (claim_of new)
-    → TakesOver slot old (map (stop_numbered old.message.number slot) all) new
+    → IsNew (claims_of (map (stop_numbered old.message.entry slot) all)) slot (claim_of new)
+    → TakesOver slot old (map (stop_numbered old.message.entry slot) all) new
     → HasRoom slot (claims_of all)
-    → HasRoom slot (claims_of (map (stop_numbered old.message.number slot) all ++ new ∷ []))
+    → HasRoom slot (claims_of (map (stop_numbered old.message.entry slot) all ++ new ∷ []))
 room_over slot all old new live is over room =
-    let number = old.message.number in
-    let before = map (stop_numbered number slot) all in
-    let same = claims_stopped number slot all in
+    let entry = old.message.entry in
+    let before = map (stop_numbered entry slot) all in
+    let same = claims_stopped entry slot all in
     let New : List Claim → Type 0 = λ claims. IsNew claims slot (claim_of new) in
     let Over : List Claim → Type 0 = λ claims. handover claims slot (claim_of old) (own_load new.message) ≡ Some
     over.place in
@@ -177,35 +177,35 @@ room_over slot all old new live is over room =
     (subst Fits same over.fits) in
     subst (HasRoom slot) (sym (claims_more_front before new over.reserved)) (subst Room (sym same) kept)
 
-room_with : (number slot : ℕ) (replaced : Option Accepted) (all : List Accepted) (new : Accepted)
-    → All (λ a. a.message.number < number) (without replaced slot all)
+room_with : (entry slot : ℕ) (replaced : Option Accepted) (all : List Accepted) (new : Accepted)
+    → All (λ a. a.message.entry < entry) (without replaced slot all)
     → IfSome replaced (λ a. Contains all a × (is_live slot a.message ≡ true))
-    → IsBegun number slot replaced (without replaced slot all) new
+    → IsBegun entry slot replaced (without replaced slot all) new
     → HasRoom slot (claims_of all)
     → HasRoom slot (claims_of (without replaced slot all))
     → HasRoom slot (claims_of (without replaced slot all ++ new ∷ []))
-room_with number slot None all new below live begun room left =
-    room_now slot all new (is_new number slot None all new below begun) begun.starts left
-room_with number slot (Some old) all new below live begun room left =
-    let before = map (stop_numbered old.message.number slot) all in
-    let is = is_new number slot (Some old) before new below begun in
+room_with entry slot None all new below live begun room left =
+    room_now slot all new (is_new entry slot None all new below begun) begun.starts left
+room_with entry slot (Some old) all new below live begun room left =
+    let before = map (stop_numbered old.message.entry slot) all in
+    let is = is_new entry slot (Some old) before new below begun in
     elim begun.starts [
       | inl now ↦ room_now slot before new is now left
       | inr over ↦ room_over slot all old new live is over room
     ]
 
-with_sound : (started replaced : Option Accepted) (number slot : ℕ) (all : List Accepted)
-    → All (λ a. a.message.number < number) (without replaced slot all)
+with_sound : (started replaced : Option Accepted) (entry slot : ℕ) (all : List Accepted)
+    → All (λ a. a.message.entry < entry) (without replaced slot all)
     → IfSome replaced (λ a. Contains all a × (is_live slot a.message ≡ true))
     → IfSome started (λ a. find (is_of_pair a.id a.serial) (without replaced slot all) ≡ None)
-    → IfSome started (λ a. IsBegun number slot replaced (without replaced slot all) a)
+    → IfSome started (λ a. IsBegun entry slot replaced (without replaced slot all) a)
     → IsSound all slot
     → IsSound (without replaced slot all) slot
     → IsSound (with started (without replaced slot all)) slot
-with_sound None replaced number slot all below live fresh begun sound left = left
-with_sound (Some new) replaced number slot all below live fresh begun sound left =
+with_sound None replaced entry slot all below live fresh begun sound left = left
+with_sound (Some new) replaced entry slot all below live fresh begun sound left =
     let before = without replaced slot all in
-    let room = room_with number slot replaced all new below live begun (sound.order, sound.fit) (left.order, left.fit)
+    let room = room_with entry slot replaced all new below live begun (sound.order, sound.fit) (left.order, left.fit)
     in
     record {
       rising = all_pairs_push BelowIt before new left.rising (λ k d h. omega (arith, below k d h, begun.numbered));
@@ -215,12 +215,12 @@ with_sound (Some new) replaced number slot all below live fresh begun sound left
       fit = room.1;
     }
 
-below_without : (stopped : Option Accepted) (number slot : ℕ) (all : List Accepted)
-    → All (λ a. a.message.number < number) all
-    → All (λ a. a.message.number < number) (without stopped slot all)
-below_without None number slot all below = below
-below_without (Some a) number slot all below =
-    All-map (λ (x : Accepted). x.message.number < number) (stop_numbered a.message.number slot) all below
+below_without : (stopped : Option Accepted) (entry slot : ℕ) (all : List Accepted)
+    → All (λ a. a.message.entry < entry) all
+    → All (λ a. a.message.entry < entry) (without stopped slot all)
+below_without None entry slot all below = below
+below_without (Some a) entry slot all below =
+    All-map (λ (x : Accepted). x.message.entry < entry) (stop_numbered a.message.entry slot) all below
 
 fresh_without : (started stopped : Option Accepted) (at : ℕ) (all : List Accepted)
     → IfSome started (λ a. find (is_of_pair a.id a.serial) all ≡ None)

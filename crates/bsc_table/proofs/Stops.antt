@@ -72,17 +72,17 @@ stopped_sooner m false now slot some live before = before
 stopped_sooner m true now slot some live before =
     unstopped_live m.start m.period m.requested now slot m.stop some (live refl) before
 
-claim_at-stopped : (c : Claim) (number now slot : ℕ) → 0 < c.message.period
-    → (c.message.number ≡ number → is_live now c.message ≡ true)
-    → claim_at slot (stop_claim number now c) ≤ claim_at slot c
-claim_at-stopped c number now slot some live =
-    let after : Claim = stop_claim number now c in
+claim_at-stopped : (c : Claim) (entry now slot : ℕ) → 0 < c.message.period
+    → (c.message.entry ≡ entry → is_live now c.message ≡ true)
+    → claim_at slot (stop_claim entry now c) ≤ claim_at slot c
+claim_at-stopped c entry now slot some live =
+    let after : Claim = stop_claim entry now c in
     elim (cases_Bool (is_claimed_at slot after)) [
       | inr free ↦ omega (arith, claim_at-free slot after free)
       | inl reserved ↦
           let fact = is_claimed_at-says slot after reserved in
-          let stands = stopped_sooner c.message (c.message.number == number) now slot some
-          (λ same. live (eqb-true c.message.number number same)) fact.1 in
+          let stands = stopped_sooner c.message (c.message.entry == entry) now slot some
+          (λ same. live (eqb-true c.message.entry entry same)) fact.1 in
           let first = claim_at-reserved slot after fact in
           let second = claim_at-reserved slot c (fact.0, stands) in
           omega (arith, first, second)
@@ -93,21 +93,21 @@ sum_by-map f g [] = refl
 sum_by-map f g (x ∷ xs) =
     sum_by-cons f (g x) (map g xs) ∙ (ap (λ n. f (g x) + n) (sum_by-map f g xs) ∙ sym (sum_by-cons (λ y. f (g y)) x xs))
 
-pub ClaimsFit-stop : (claims : List Claim) (number now : ℕ) → All (λ c. 0 < c.message.period) claims
-    → All (λ c. c.message.number ≡ number → is_live now c.message ≡ true) claims → ClaimsFit claims
-    → ClaimsFit (stop_claims number now claims)
-ClaimsFit-stop claims number now periods live fit = λ slot.
-    let less = sum_by-le_all (λ c. claim_at slot (stop_claim number now c)) (claim_at slot) claims
-    (λ k d h. claim_at-stopped (get_or claims k d) number now slot (periods k d h) (live k d h)) in
-    omega (arith, less, sum_by-map (claim_at slot) (stop_claim number now) claims, fit slot)
+pub ClaimsFit-stop : (claims : List Claim) (entry now : ℕ) → All (λ c. 0 < c.message.period) claims
+    → All (λ c. c.message.entry ≡ entry → is_live now c.message ≡ true) claims → ClaimsFit claims
+    → ClaimsFit (stop_claims entry now claims)
+ClaimsFit-stop claims entry now periods live fit = λ slot.
+    let less = sum_by-le_all (λ c. claim_at slot (stop_claim entry now c)) (claim_at slot) claims
+    (λ k d h. claim_at-stopped (get_or claims k d) entry now slot (periods k d h) (live k d h)) in
+    omega (arith, less, sum_by-map (claim_at slot) (stop_claim entry now) claims, fit slot)
 
 -- of the stopped message nothing is reserved where it waits
-pub waits_on : (now number : ℕ) (c : Claim) → 0 < c.message.period → IsWaiting now (stop_claim number now c)
-    → (c.message.number ≢ number) × IsWaiting now c
-waits_on now number c some waiting =
-    elim (cases_eq c.message.number number) [
-      | inl same ↦ absurd (stopped_one (c.message.number == number) (eq-eqb c.message.number number same) waiting)
-      | inr apart ↦ (apart, as_it_was (c.message.number == number) (ne_eqb c.message.number number apart) waiting)
+pub waits_on : (now entry : ℕ) (c : Claim) → 0 < c.message.period → IsWaiting now (stop_claim entry now c)
+    → (c.message.entry ≢ entry) × IsWaiting now c
+waits_on now entry c some waiting =
+    elim (cases_eq c.message.entry entry) [
+      | inl same ↦ absurd (stopped_one (c.message.entry == entry) (eq-eqb c.message.entry entry same) waiting)
+      | inr apart ↦ (apart, as_it_was (c.message.entry == entry) (ne_eqb c.message.entry entry apart) waiting)
     ]
   where
     stopped_one : (says : Bool) → says ≡ true → IsWaiting now (record c { message = stopped_if says now c.message }) → ⊥
@@ -122,6 +122,6 @@ waits_on now number c some waiting =
     as_it_was false says waits = waits
 
 -- the others are as they were
-pub stop_claim-other : (number now : ℕ) (c : Claim) → c.message.number ≢ number → stop_claim number now c ≡ c
-stop_claim-other number now c apart =
-    ap (λ (b : Bool). record c { message = stopped_if b now c.message }) (ne_eqb c.message.number number apart)
+pub stop_claim-other : (entry now : ℕ) (c : Claim) → c.message.entry ≢ entry → stop_claim entry now c ≡ c
+stop_claim-other entry now c apart =
+    ap (λ (b : Bool). record c { message = stopped_if b now c.message }) (ne_eqb c.message.entry entry apart)

@@ -15,8 +15,8 @@ use Rattle.bsc_table.proofs.Ahead.{taken, by_number, from_stopped, live_before, 
 
 -- where numbers rise, the one message of a number is live
 pub only_live : (claims : List Claim) (now : ℕ) (old : Claim)
-    → AllPairs (λ x y. x.message.number < y.message.number) claims → Contains claims old
-    → is_live now old.message ≡ true → All (λ c. c.message.number ≡ old.message.number → is_live now c.message ≡ true)
+    → AllPairs (λ x y. x.message.entry < y.message.entry) claims → Contains claims old
+    → is_live now old.message ≡ true → All (λ c. c.message.entry ≡ old.message.entry → is_live now c.message ≡ true)
     claims
 only_live claims now old rising here live = λ k d within. λ same.
     let c : Claim = get_or claims k d in
@@ -26,28 +26,28 @@ only_live claims now old rising here live = λ k d within. λ same.
     subst Live (sym is) live
 
 -- what is true of the one ahead of a message that takes over from the old one
-pub record IsAhead (claims : List Claim) (now : ℕ) (number : ℕ) (p : Claim) : Type 0 where
+pub record IsAhead (claims : List Claim) (now : ℕ) (entry : ℕ) (p : Claim) : Type 0 where
   pub started : p.message.start ≤ now
   pub stopped : is_some p.message.stop ≡ true
-  pub free : All (λ v. IsWaiting now v → v.behind ≢ Some p.message.number) (stop_claims number now claims)
+  pub free : All (λ v. IsWaiting now v → v.behind ≢ Some p.message.entry) (stop_claims entry now claims)
 
 -- a waiting one among the stopped ones was waiting before
-record WasWaiting (claims : List Claim) (now number : ℕ) (v c : Claim) : Type 0 where
+record WasWaiting (claims : List Claim) (now entry : ℕ) (v c : Claim) : Type 0 where
   pub there : Contains claims c
-  pub other : c.message.number ≢ number
+  pub other : c.message.entry ≢ entry
   pub waiting : IsWaiting now c
   pub same : v.behind ≡ c.behind
 
-was_waiting : (claims : List Claim) (now number k : ℕ) (d : Claim) → AreInOrder claims now
-    → k < length (stop_claims number now claims) → IsWaiting now (get_or (stop_claims number now claims) k d)
-    → WasWaiting claims now number (get_or (stop_claims number now claims) k d) (get_or claims k d)
-was_waiting claims now number k d order within waiting =
-    let f = stop_claim number now in
+was_waiting : (claims : List Claim) (now entry k : ℕ) (d : Claim) → AreInOrder claims now
+    → k < length (stop_claims entry now claims) → IsWaiting now (get_or (stop_claims entry now claims) k d)
+    → WasWaiting claims now entry (get_or (stop_claims entry now claims) k d) (get_or claims k d)
+was_waiting claims now entry k d order within waiting =
+    let f = stop_claim entry now in
     let inside : k < length claims = omega (arith, within, length-map claims f) in
     let c : Claim = get_or claims k d in
     let is : get_or (map f claims) k d ≡ f c = get_or-map f claims k d d inside in
     let Waits : Claim → Type 0 = λ x. IsWaiting now x in
-    let before = waits_on now number c (order.periods k d inside) (subst Waits is waiting) in
+    let before = waits_on now entry c (order.periods k d inside) (subst Waits is waiting) in
     record {
       there = (k, inside, get_or_default claims k c d inside);
       other = before.0;
@@ -62,14 +62,14 @@ handed_to claims now w order here waiting =
     subst P here.2 (order.handed here.0 w here.1) waiting
 
 not_both : (claims : List Claim) (now : ℕ) (v w : Claim) → AreInOrder claims now → Contains claims v
-    → Contains claims w → IsWaiting now v → IsWaiting now w → v.message.number ≢ w.message.number → v.behind ≢ w.behind
+    → Contains claims w → IsWaiting now v → IsWaiting now w → v.message.entry ≢ w.message.entry → v.behind ≢ w.behind
 not_both claims now v w order first second waits_v waits_w apart =
     let at_v : get_or claims first.0 v ≡ v = first.2 in
     let at_w : get_or claims second.0 v ≡ w = get_or_default claims second.0 v w second.1 ∙ second.2 in
     elim (cases_order first.0 second.0) [
       | inl same ↦
           let is : v ≡ w = sym at_v ∙ ap (λ i. get_or claims i v) same ∙ at_w in
-          absurd (apart (ap (λ (c : Claim). c.message.number) is))
+          absurd (apart (ap (λ (c : Claim). c.message.entry) is))
       | inr other ↦ elim other [
         | inl before ↦
             let P : Claim → Type 0 = λ x. IsWaiting now x → IsWaiting now (get_or claims second.0 v)
@@ -87,49 +87,49 @@ not_both claims now v w order first second waits_v waits_w apart =
 
 -- the old one itself, where it has started
 ahead_started : (claims : List Claim) (now : ℕ) (old p : Claim) → AreInOrder claims now → Contains claims old
-    → is_live now old.message ≡ true → old.message.start ≤ now → Contains (stop_claims old.message.number now claims) p
-    → p.message.number ≡ old.message.number → IsAhead claims now old.message.number p
+    → is_live now old.message ≡ true → old.message.start ≤ now → Contains (stop_claims old.message.entry now claims) p
+    → p.message.entry ≡ old.message.entry → IsAhead claims now old.message.entry p
 ahead_started claims now old p order here live started there same =
-    let number = old.message.number in
+    let entry = old.message.entry in
     let only = only_live claims now old order.rising here live in
-    let from = from_stopped claims number now p there in
-    let numbers : from.0.message.number ≡ number = sym (ap (λ (c : Claim). c.message.number) from.2) ∙ same in
+    let from = from_stopped claims entry now p there in
+    let numbers : from.0.message.entry ≡ entry = sym (ap (λ (c : Claim). c.message.entry) from.2) ∙ same in
     let is : from.0 ≡ old = by_number claims from.0 old order.rising from.1 here numbers in
-    let become : p ≡ stop_claim number now old = from.2 ∙ ap (stop_claim number now) is in
+    let become : p ≡ stop_claim entry now old = from.2 ∙ ap (stop_claim entry now) is in
     record {
       started = omega (arith, ap (λ (c : Claim). c.message.start) become, started);
       stopped = ap (λ (c : Claim). is_some c.message.stop) become
-          ∙ ap (λ (b : Bool). is_some (cond b (Some now) old.message.stop)) (eq-eqb number number refl);
+          ∙ ap (λ (b : Bool). is_some (cond b (Some now) old.message.stop)) (eq-eqb entry entry refl);
       free = λ k d within. λ waiting. λ behind.
-          let was = was_waiting claims now number k d order within waiting in
+          let was = was_waiting claims now entry k d order within waiting in
           let found = handed_to claims now (get_or claims k d) order was.there was.waiting in
           let q : Claim = found.1 in
           let over : HandsOver q (get_or claims k d) = found.4 in
-          let both : Some q.message.number ≡ Some p.message.number = sym over.named ∙ sym was.same ∙ behind in
-          let equal : q.message.number ≡ p.message.number = cc in
-          not_live claims number now found.0 q (get_or claims k d) only found.2 found.3 over (equal ∙ same);
+          let both : Some q.message.entry ≡ Some p.message.entry = sym over.named ∙ sym was.same ∙ behind in
+          let equal : q.message.entry ≡ p.message.entry = cc in
+          not_live claims entry now found.0 q (get_or claims k d) only found.2 found.3 over (equal ∙ same);
     }
 
 -- the one behind which the old one waits
 ahead_waiting : (claims : List Claim) (now : ℕ) (old p : Claim) → AreInOrder claims now → Contains claims old
     → is_live now old.message ≡ true → 0 < old.message.period → now < old.message.start
-    → Contains (stop_claims old.message.number now claims) p → old.behind ≡ Some p.message.number
-    → IsAhead claims now old.message.number p × HandsOver p old
+    → Contains (stop_claims old.message.entry now claims) p → old.behind ≡ Some p.message.entry
+    → IsAhead claims now old.message.entry p × HandsOver p old
 ahead_waiting claims now old p order here live some waits there behind =
-    let number = old.message.number in
+    let entry = old.message.entry in
     let only = only_live claims now old order.rising here live in
     let waiting : IsWaiting now old = (waits, live_before now old.message some live) in
     let found = handed_to claims now old order here waiting in
     let q : Claim = found.1 in
     let over : HandsOver q old = found.4 in
-    let from = from_stopped claims number now p there in
-    let both : Some p.message.number ≡ Some q.message.number = sym behind ∙ over.named in
-    let equal : p.message.number ≡ q.message.number = cc in
-    let numbers : from.0.message.number ≡ q.message.number = sym (ap (λ (c : Claim). c.message.number) from.2)
+    let from = from_stopped claims entry now p there in
+    let both : Some p.message.entry ≡ Some q.message.entry = sym behind ∙ over.named in
+    let equal : p.message.entry ≡ q.message.entry = cc in
+    let numbers : from.0.message.entry ≡ q.message.entry = sym (ap (λ (c : Claim). c.message.entry) from.2)
     ∙ equal in
     let is : from.0 ≡ q = by_number claims from.0 q order.rising from.1 (found.0, found.2, found.3) numbers in
-    let apart = not_live claims number now found.0 q old only found.2 found.3 over in
-    let become : p ≡ q = from.2 ∙ ap (stop_claim number now) is ∙ stop_claim-other number now q apart in
+    let apart = not_live claims entry now found.0 q old only found.2 found.3 over in
+    let become : p ≡ q = from.2 ∙ ap (stop_claim entry now) is ∙ stop_claim-other entry now q apart in
     let Over : Claim → Type 0 = λ x. HandsOver x old in
     let its : HandsOver p old = subst Over (sym become) over in
     let accepted : Claim → Type 0 = λ x. x.accepted ≤ now in (
@@ -137,7 +137,7 @@ ahead_waiting claims now old p order here live some waits there behind =
         started = let by = subst accepted here.2 (order.accepted here.0 old here.1) in omega (arith, its.started, by);
         stopped = its.stopped;
         free = λ k d within. λ waits_too. λ too.
-            let was = was_waiting claims now number k d order within waits_too in
+            let was = was_waiting claims now entry k d order within waits_too in
             not_both claims now (get_or claims k d) old order was.there here was.waiting waiting was.other
             (sym was.same ∙ too ∙ sym behind);
       },
@@ -145,33 +145,33 @@ ahead_waiting claims now old p order here live some waits there behind =
     )
 
 -- what the place that is taken over is
-pub record IsFree (claims : List Claim) (now load number : ℕ) (place : Place) : Type 0 where
+pub record IsFree (claims : List Claim) (now load entry : ℕ) (place : Place) : Type 0 where
   pub p : Claim
-  pub there : Contains (stop_claims number now claims) p
-  pub ahead : IsAhead claims now number p
-  pub named : place.behind ≡ p.message.number
+  pub there : Contains (stop_claims entry now claims) p
+  pub ahead : IsAhead claims now entry p
+  pub named : place.behind ≡ p.message.entry
   pub ends : end_of p.message ≡ Some place.start
   pub later : now < place.start
   pub excess : place.excess ≡ load - own_load p.message
 
 pub is_free : (claims : List Claim) (now load : ℕ) (old : Claim) (place : Place) → AreInOrder claims now
-    → Contains claims old → is_live now old.message ≡ true → handover (stop_claims old.message.number now claims) now
-    old load ≡ Some place → IsFree claims now load old.message.number place
+    → Contains claims old → is_live now old.message ≡ true → handover (stop_claims old.message.entry now claims) now
+    old load ≡ Some place → IsFree claims now load old.message.entry place
 is_free claims now load old place order here live over =
-    let left = stop_claims old.message.number now claims in
+    let left = stop_claims old.message.entry now claims in
     let took = taken left now load (ahead_of now old) place over in
     let Some_period : Claim → Type 0 = λ x. 0 < x.message.period in
     let some = subst Some_period here.2 (order.periods here.0 old here.1) in
-    let ahead : IsAhead claims now old.message.number took.p = elim (cases_lt now old.message.start) [
+    let ahead : IsAhead claims now old.message.entry took.p = elim (cases_lt now old.message.start) [
       | inl waits ↦
-          let behind = ap (λ (b : Bool). cond b (Some old.message.number) old.behind)
+          let behind = ap (λ (b : Bool). cond b (Some old.message.entry) old.behind)
           (lt-leb old.message.start now waits) in
-          (ahead_waiting claims now old took.p order here live some waits took.there (sym behind ∙ took.number)).0
+          (ahead_waiting claims now old took.p order here live some waits took.there (sym behind ∙ took.entry)).0
       | inr started ↦
-          let itself = ap (λ (b : Bool). cond b (Some old.message.number) old.behind)
+          let itself = ap (λ (b : Bool). cond b (Some old.message.entry) old.behind)
           (le-leb old.message.start now started) in
-          let both : Some old.message.number ≡ Some took.p.message.number = sym itself ∙ took.number in
-          let same : took.p.message.number ≡ old.message.number = cc in
+          let both : Some old.message.entry ≡ Some took.p.message.entry = sym itself ∙ took.entry in
+          let same : took.p.message.entry ≡ old.message.entry = cc in
           ahead_started claims now old took.p order here live started took.there same
     ] in
     record {
@@ -186,15 +186,15 @@ is_free claims now load old place order here live over =
 
 pub takeover_keeps_room : TakeoverKeepsRoom
 takeover_keeps_room claims now old c place order fit here live over new placed room =
-    let number = old.message.number in
-    let left = stop_claims number now claims in
+    let entry = old.message.entry in
+    let left = stop_claims entry now claims in
     let only = only_live claims now old order.rising here live in
-    let stopped = stop_keeps_room claims number now order only fit in
+    let stopped = stop_keeps_room claims entry now order only fit in
     let free = is_free claims now (own_load c.message) old place order here live over in
     let p : Claim = free.p in
     let Accepted : Claim → Type 0 = λ x. x.accepted ≤ now in
     let by = subst Accepted free.there.2 (stopped.0.accepted free.there.0 p free.there.1) in
-    let behind : c.behind ≡ Some p.message.number = placed.behind ∙ ap (λ (n : ℕ). Some n) free.named in
+    let behind : c.behind ≡ Some p.message.entry = placed.behind ∙ ap (λ (n : ℕ). Some n) free.named in
     let hands : HandsOver p c = record {
       named = behind;
       there = omega (arith, by, new.accepted);
@@ -213,42 +213,42 @@ takeover_keeps_room claims now old c place order fit here live over new placed r
 
 -- a look-up by number finds the one of that number
 pub find_number : (claims : List Claim) (p : Claim) (found : Option Claim)
-    → AllPairs (λ x y. x.message.number < y.message.number) claims → Contains claims p
-    → find (λ c. c.message.number == p.message.number) claims ≡ found → found ≡ Some p
+    → AllPairs (λ x y. x.message.entry < y.message.entry) claims → Contains claims p
+    → find (λ c. c.message.entry == p.message.entry) claims ≡ found → found ≡ Some p
 find_number claims p None rising here e =
-    let None_of : Claim → Type 0 = λ x. (x.message.number == p.message.number) ≡ false in
-    let none = subst None_of here.2 (find-none (λ c. c.message.number == p.message.number) claims e here.0 p here.1) in
-    absurd (false≢true (sym none ∙ eq-eqb p.message.number p.message.number refl))
+    let None_of : Claim → Type 0 = λ x. (x.message.entry == p.message.entry) ≡ false in
+    let none = subst None_of here.2 (find-none (λ c. c.message.entry == p.message.entry) claims e here.0 p here.1) in
+    absurd (false≢true (sym none ∙ eq-eqb p.message.entry p.message.entry refl))
 find_number claims p (Some c) rising here e =
-    let says = find-says (λ x. x.message.number == p.message.number) claims c e in
+    let says = find-says (λ x. x.message.entry == p.message.entry) claims c e in
     ap (λ (x : Claim). Some x) (by_number claims c p rising says.0 here
-    (eqb-true c.message.number p.message.number says.1))
+    (eqb-true c.message.entry p.message.entry says.1))
 
 pub waiting_passes_its_start : WaitingPassesItsStart
 waiting_passes_its_start claims now load old order here live waits =
-    let number = old.message.number in
-    let f = stop_claim number now in
-    let left = stop_claims number now claims in
+    let entry = old.message.entry in
+    let f = stop_claim entry now in
+    let left = stop_claims entry now claims in
     let only = only_live claims now old order.rising here live in
     let Some_period : Claim → Type 0 = λ x. 0 < x.message.period in
     let some = subst Some_period here.2 (order.periods here.0 old here.1) in
     let found = handed_to claims now old order here (waits, live_before now old.message some live) in
     let q : Claim = found.1 in
     let over : HandsOver q old = found.4 in
-    let stays = stop_claim-other number now q (not_live claims number now found.0 q old only found.2 found.3 over) in
+    let stays = stop_claim-other entry now q (not_live claims entry now found.0 q old only found.2 found.3 over) in
     let there : Contains left q = (
       found.0,
       omega (arith, found.2, length-map claims f),
       get_or-map f claims found.0 q
           q found.2 ∙ ap f found.3 ∙ stays,
     ) in
-    let rising = (in_order-stop claims number now order only).rising in
-    let finds : find (λ c. c.message.number == q.message.number) left ≡ Some q = find_number left q
-    (find (λ c. c.message.number == q.message.number) left) rising there refl in
-    let behind : ahead_of now old ≡ Some q.message.number = ap (λ (b : Bool). cond b (Some number) old.behind)
+    let rising = (in_order-stop claims entry now order only).rising in
+    let finds : find (λ c. c.message.entry == q.message.entry) left ≡ Some q = find_number left q
+    (find (λ c. c.message.entry == q.message.entry) left) rising there refl in
+    let behind : ahead_of now old ≡ Some q.message.entry = ap (λ (b : Bool). cond b (Some entry) old.behind)
     (lt-leb old.message.start now waits) ∙ over.named in
     let place : Place = record {
-      behind = q.message.number;
+      behind = q.message.entry;
       start = old.message.start;
       excess = load - own_load
           q.message;

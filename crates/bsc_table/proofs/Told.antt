@@ -107,7 +107,7 @@ write_tells log air slot load id serial (Some old) category command about =
     (λ a. unless_accepted (message_named id serial log) (answer_to_replacement log air slot category load a))
     refuses (λ a found live. unless_accepted_cases P (find (is_of_pair id serial) (accepted_in log))
     (answer_to_replacement log air slot category load a) refuses (λ fresh.
-    let left = stop_claims a.message.number slot (claims_in log) in
+    let left = stop_claims a.message.entry slot (claims_in log) in
     let tells : (start : ℕ) → P (answers.Replaced start (completed a.message air slot)) = λ start. λ told says.
     let pair = found_pair id old (accepted_in log) a found in
     record {
@@ -234,8 +234,8 @@ is_whole-before m air slot j within =
     let front = take slot air in
     let long : length front ≡ slot = length-take-le slot air within in
     let to : ℕ = min (due m j) slot in
-    let whole = ap (λ (l : Air). pages_aired m.number l (release m j) to) (take-append-drop slot air) in
-    let same = sym (pages_aired-append m.number front (drop slot air) (release m j) to (omega arith)) ∙ whole in
+    let whole = ap (λ (l : Air). pages_aired m.entry l (release m j) to) (take-append-drop slot air) in
+    let same = sym (pages_aired-append m.entry front (drop slot air) (release m j) to (omega arith)) ∙ whole in
     ap (λ n. has_broadcast m j && (is_before_stop (release m j) m.stop && leb m.pages n)) same
 
 -- nor does a stop from the slot on
@@ -250,7 +250,7 @@ is_whole-stopped_later : (m : Message) (later : Option ℕ) (air : Air) (slot j 
 is_whole-stopped_later m later air slot j pages h =
     elim (cases_lt (release m j) slot) [
       | inl before ↦
-          let aired = leb m.pages (pages_aired m.number air (release m j) (min (due m j) slot)) in
+          let aired = leb m.pages (pages_aired m.entry air (release m j) (min (due m j) slot)) in
           ap (λ (b : Bool). has_broadcast m j && (b && aired))
           (before_later_stop slot (release m j) m.stop later before h)
       | inr after ↦ is_whole-unreleased (record m { stop = later }) air slot j pages after

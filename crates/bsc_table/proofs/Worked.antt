@@ -21,8 +21,8 @@ use Rattle.bsc_table.proofs.Served.{admitted_load_is_a_guarantee}
 
 -- a message that stands until it is stopped
 abbrev message : ℕ → ℕ → ℕ → ℕ → Option ℕ → Rank → Message
-message number start pages period stop rank = record {
-  number = number;
+message entry start pages period stop rank = record {
+  entry = entry;
   start = start;
   pages = pages;
   period = period;
@@ -32,7 +32,7 @@ message number start pages period stop rank = record {
 }
 
 abbrev Rising : List Message → Type 0
-Rising messages = AllPairs (λ a b. a.number < b.number) messages
+Rising messages = AllPairs (λ a b. a.entry < b.entry) messages
 
 abbrev HavePeriods : List Message → Type 0
 HavePeriods messages = All (λ m. 0 < m.period) messages
@@ -73,9 +73,9 @@ by_the_rules_aired = refl
 
 by_the_rules_rise : Rising by_the_rules
 by_the_rules_rise =
-    AllPairs-cons (λ (x : Message) (y : Message). x.number < y.number) a (b ∷ [])
-    (All-cons (λ (y : Message). a.number < y.number) b [] (omega arith) (none_of (λ y. a.number < y.number)))
-    (AllPairs-cons (λ (x : Message) (y : Message). x.number < y.number) b [] (none_of (λ y. b.number < y.number))
+    AllPairs-cons (λ (x : Message) (y : Message). x.entry < y.entry) a (b ∷ [])
+    (All-cons (λ (y : Message). a.entry < y.entry) b [] (omega arith) (none_of (λ y. a.entry < y.entry)))
+    (AllPairs-cons (λ (x : Message) (y : Message). x.entry < y.entry) b [] (none_of (λ y. b.entry < y.entry))
     none_rising)
 
 by_the_rules_foreground : NoBackground by_the_rules
@@ -138,7 +138,7 @@ a_lacks_a_page = refl
 -- so the guarantee would be false, if a stop freed its message's load at once
 all_four_rise : Rising all_four
 all_four_rise =
-    let Below : Message → Message → Type 0 = λ x y. x.number < y.number in
+    let Below : Message → Message → Type 0 = λ x y. x.entry < y.entry in
     AllPairs-cons Below a (b ∷ c ∷ d ∷ []) (All-cons (Below a) b (c ∷ d ∷ []) (omega arith)
     (All-cons (Below a) c (d ∷ []) (omega arith) (All-cons (Below a) d [] (omega arith) (none_of (Below a)))))
     (AllPairs-cons Below b (c ∷ d ∷ []) (All-cons (Below b) c (d ∷ []) (omega arith)
@@ -171,7 +171,7 @@ FreedAtOnceIsAGuarantee = (messages : List Message) (air : Air)
     → HavePeriods messages
     → ((slot : ℕ) → loads_at (map freed_at_once messages) slot ≤ SCALE)
     → IsAirOf messages air
-    → All (λ m. (j : ℕ) → IsUncut m j air → pages_aired m.number air (release m j) (due m j) ≡ m.pages) messages
+    → All (λ m. (j : ℕ) → IsUncut m j air → pages_aired m.entry air (release m j) (due m j) ≡ m.pages) messages
 
 freed_at_once_is_no_guarantee : ¬ FreedAtOnceIsAGuarantee
 freed_at_once_is_no_guarantee claim =
@@ -209,7 +209,7 @@ three_fit = fit_together three (omega (arith, three_sum))
 
 three_rise : Rising three
 three_rise =
-    let Below : Message → Message → Type 0 = λ x y. x.number < y.number in
+    let Below : Message → Message → Type 0 = λ x y. x.entry < y.entry in
     let q = message 1 0 1 3 None Normal in
     AllPairs-cons Below r (q ∷ p ∷ []) (All-cons (Below r) q (p ∷ []) (omega arith)
     (All-cons (Below r) p [] (omega arith) (none_of (Below r))))
@@ -265,7 +265,7 @@ replaced_fit (suc (suc (suc slot))) =
 
 replaced_rise : Rising replaced
 replaced_rise =
-    let Below : Message → Message → Type 0 = λ x y. x.number < y.number in
+    let Below : Message → Message → Type 0 = λ x y. x.entry < y.entry in
     let q = message 1 0 1 3 (Some 3) Normal in
     let n = message 3 3 1 3 None Normal in
     AllPairs-cons Below r (q ∷ p ∷ n ∷ []) (All-cons (Below r) q (p ∷ n ∷ []) (omega arith)

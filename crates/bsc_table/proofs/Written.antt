@@ -18,8 +18,8 @@ use Rattle.bsc_table.proofs.Outcome.{entry_with}
 -- the message is the write at its number, accepted at its slot
 abbrev IsWritten : List Entry → Entry → Accepted → Type 0
 IsWritten log d a =
-    (a.message.number < length log) × IsWriteBy a (get_or log a.message.number d).command
-    (start_of (get_or log a.message.number d).answer) × (a.accepted ≡ (get_or log a.message.number d).slot)
+    (a.message.entry < length log) × IsWriteBy a (get_or log a.message.entry d).command
+    (start_of (get_or log a.message.entry d).answer) × (a.accepted ≡ (get_or log a.message.entry d).slot)
 
 -- it stays so where it is stopped
 still_written : (e : Entry) (a : Accepted) (command : Command) (start : Option ℕ) → IsWriteBy a command start
@@ -67,8 +67,8 @@ written_from log d all place (e ∷ later) there written =
     (All-weaker (IsWritten log d) (λ (a : Accepted). IsWritten log d (stopped_by e a))
     (λ a h. (
       h.0,
-      still_written e a (get_or log a.message.number d).command
-          (start_of (get_or log a.message.number d).answer) h.1,
+      still_written e a (get_or log a.message.entry d).command
+          (start_of (get_or log a.message.entry d).answer) h.1,
       h.2,
     )) all written) in
     let added = added_is_written log d all place e.slot e.answer e.command (start_of e.answer) within here refl in
@@ -95,7 +95,7 @@ has_page a page (commands.Kill id serial) start h some few = absurd h
 has_page a page (commands.Status id serial) start h some few = absurd h
 
 pub uses_are_of_writes : UsesAreOfWrites
-uses_are_of_writes r slot number page d legal within used =
+uses_are_of_writes r slot entry page d legal within used =
     let Chosen : Option (ℕ × ℕ) → Type 0 = λ u. IsChosen (messages_in r.log) r.air slot u in
     let chosen = subst Chosen used (legal.aired slot (omega (arith, legal.played))) in
     let m : Message = chosen.1 in
@@ -107,14 +107,14 @@ uses_are_of_writes r slot number page d legal within used =
     let here : a.message ≡ m = sym (get_or-map message all chosen.0 default m (omega (arith, long, chosen.2)))
     ∙ chosen.3 in
     let written = accepted_are_writes r.log d chosen.0 default (omega (arith, long, chosen.2)) in
-    let of_it : number ≡ a.message.number = ap (λ (u : ℕ × ℕ). u.0) chosen.4.2
-    ∙ sym (ap (λ (o : Message). o.number) here) in
+    let of_it : entry ≡ a.message.entry = ap (λ (u : ℕ × ℕ). u.0) chosen.4.2
+    ∙ sym (ap (λ (o : Message). o.entry) here) in
     let counted = ap (λ (u : ℕ × ℕ). u.1) chosen.4.2 in
     let pages = ap (λ (o : Message). o.pages) here in
     let Here : ℕ → Type 0 = λ n. (n < length r.log) × IsWriteBy a (get_or r.log n d).command
     (start_of (get_or r.log n d).answer) in
     let at = subst Here (sym of_it) (written.0, written.1) in (
       at.0,
-      has_page a page (get_or r.log number d).command (start_of (get_or r.log number d).answer) at.1
+      has_page a page (get_or r.log entry d).command (start_of (get_or r.log entry d).answer) at.1
           (omega (arith, counted)) (omega (arith, counted, pages, chosen.4.1.pending.unfinished)),
     )

@@ -55,7 +55,7 @@ answer_to_new log slot category load =
 -- started, and from the one behind which that one waits where it hasn't
 abbrev pub answer_to_replacement : List Entry → Air → ℕ → Category → ℕ → Accepted → Answer
 answer_to_replacement log air slot category load old =
-    let left = stop_claims old.message.number slot (claims_in log) in
+    let left = stop_claims old.message.entry slot (claims_in log) in
     answer_for category left slot load (place_after left slot old load)
     (λ start. answers.Replaced start (completed old.message air slot))
 

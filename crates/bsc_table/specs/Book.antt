@@ -63,7 +63,7 @@ accepted_of k = record {
   behind = k.behind;
   excess = k.excess;
   message = record {
-    number = k.number;
+    entry = k.entry;
     start = k.start;
     pages = k.pages;
     period = k.period;
@@ -75,11 +75,11 @@ accepted_of k = record {
 
 -- what is kept, with the message of that number stopped at the slot
 abbrev pub kept_stopped : ℕ → ℕ → Kept → Kept
-kept_stopped number slot k = record k { stop = if k.number == number then Some slot else k.stop }
+kept_stopped entry slot k = record k { stop = if k.entry == entry then Some slot else k.stop }
 
 -- the message of that number stopped at the slot
 abbrev pub stop_numbered : ℕ → ℕ → Accepted → Accepted
-stop_numbered number slot a = record a { message = stopped_if (a.message.number == number) slot a.message }
+stop_numbered entry slot a = record a { message = stopped_if (a.message.entry == entry) slot a.message }
 
 -- an entry that is to come next: at the clock, with the right answer to a well-formed command, where the log has room
 pub record IsNext (r : Record) (e : Entry) : Type 0 where
@@ -96,7 +96,7 @@ pub record IsLiveIn (r : Record) (a : Accepted) : Type 0 where
 -- an entry stops a message and no other
 pub record IsStop (r : Record) (e : Entry) (old : Accepted) : Type 0 where
   pub stops : IsLiveIn r old
-  pub after : accepted_in (r.log ++ e ∷ []) ≡ map (stop_numbered old.message.number r.clock) (accepted_in r.log)
+  pub after : accepted_in (r.log ++ e ∷ []) ≡ map (stop_numbered old.message.entry r.clock) (accepted_in r.log)
 
 -- an entry starts a message
 pub record IsStart (r : Record) (e : Entry) (new : Accepted) : Type 0 where
@@ -107,8 +107,8 @@ pub record IsStart (r : Record) (e : Entry) (new : Accepted) : Type 0 where
 pub record IsReplacement (r : Record) (e : Entry) (old new : Accepted) : Type 0 where
   pub stops : IsLiveIn r old
   pub begun : IsBegun (length r.log) r.clock (Some old)
-      (map (stop_numbered old.message.number r.clock) (accepted_in r.log)) new
-  pub after : accepted_in (r.log ++ e ∷ []) ≡ map (stop_numbered old.message.number r.clock) (accepted_in r.log) ++ new
+      (map (stop_numbered old.message.entry r.clock) (accepted_in r.log)) new
+  pub after : accepted_in (r.log ++ e ∷ []) ≡ map (stop_numbered old.message.entry r.clock) (accepted_in r.log) ++ new
       ∷ []
 
 -- an answer that kills
@@ -142,7 +142,7 @@ Decides r command d = Does r (entry_by r command (decided_answer d)) d
 
 -- a message that a write offers now: it would have the next entry's number, be accepted at the clock, and begin there
 pub record IsOffered (r : Record) (a : Accepted) : Type 0 where
-  pub numbered : a.message.number ≡ length r.log
+  pub numbered : a.message.entry ≡ length r.log
   pub accepted : a.accepted ≡ r.clock
   pub begins : a.message.start ≡ r.clock
   pub behind : a.behind ≡ None
@@ -155,7 +155,7 @@ pub record IsOffered (r : Record) (a : Accepted) : Type 0 where
 abbrev pub IsWriteOf : Accepted → Option ℕ → Command → Type 0
 IsWriteOf a replaced (commands.Write id serial replaces category period broadcasts dcs contents) =
     (replaces ≡ replaced)
-    × (write_message a.message.number a.accepted a.message.start a.behind a.excess id serial (length contents) period
+    × (write_message a.message.entry a.accepted a.message.start a.behind a.excess id serial (length contents) period
     broadcasts (rank_of category) ≡ a)
 IsWriteOf a replaced other = ⊥
 
@@ -173,7 +173,7 @@ waits_of slot c =
 -- a claim's line of a budget at a slot
 abbrev pub line_of : ℕ → Claim → Held
 line_of slot c = record {
-  entry = c.message.number;
+  entry = c.message.entry;
   load = own_load c.message;
   until = end_of c.message;
   waits = waits_of slot c;
@@ -242,7 +242,7 @@ stopped_end k = option_map (λ stop. end_of_stopped k.start k.period stop) k.sto
 
 -- the claims of a record, with a message stopped now
 abbrev pub left_by : Record → Accepted → List Claim
-left_by r old = stop_claims old.message.number r.clock (claims_in r.log)
+left_by r old = stop_claims old.message.entry r.clock (claims_in r.log)
 
 -- the answer at a place, where there is one with room
 abbrev pub by_place : Option KeptPlace → (ℕ → Answer) → Answer

@@ -50,7 +50,7 @@ IsWaiting slot c = (slot < c.message.start) × IsBeforeEnd slot (end_of c.messag
 
 -- the claims, with the message of that number stopped at the slot
 abbrev pub stop_claim : ℕ → ℕ → Claim → Claim
-stop_claim number slot c = record c { message = stopped_if (c.message.number == number) slot c.message }
+stop_claim entry slot c = record c { message = stopped_if (c.message.entry == entry) slot c.message }
 
 abbrev pub stop_claims : ℕ → ℕ → List Claim → List Claim
-stop_claims number slot claims = map (stop_claim number slot) claims
+stop_claims entry slot claims = map (stop_claim entry slot) claims

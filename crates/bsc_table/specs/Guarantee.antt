@@ -15,7 +15,7 @@ use Rattle.scheduler.specs.Completed.{IsWhole}
 -- stop give
 abbrev pub reservation_of : Message → Reservation
 reservation_of m = record {
-  number = m.number;
+  entry = m.entry;
   load = load_of m.pages m.period;
   start = m.start;
   end = end_of_reservation m.start m.period m.requested m.stop;
@@ -28,7 +28,7 @@ LoadsFit messages = (slot : ℕ) → loads_at (map reservation_of messages) slot
 -- messages as a cell admits them: each later one has a greater number, each has a period, none is background, and their
 -- loads fit
 pub record AreAdmitted (messages : List Message) : Type 0 where
-  pub rising : AllPairs (λ a b. a.number < b.number) messages
+  pub rising : AllPairs (λ a b. a.entry < b.entry) messages
   pub periods : All (λ m. 0 < m.period) messages
   pub foreground : All (λ m. layer m ≡ 0) messages
   pub fit : LoadsFit messages
@@ -89,7 +89,7 @@ abbrev pub LackMeansABusyPeriod : Type 0
 LackMeansABusyPeriod = (messages : List Message) (air : Air)
     → All (λ m. layer m ≡ 0) messages
     → IsAirOf messages air
-    → All (λ m. (j : ℕ) → IsUncut m j air → pages_aired m.number air (release m j) (due m j) < m.pages
+    → All (λ m. (j : ℕ) → IsUncut m j air → pages_aired m.entry air (release m j) (due m j) < m.pages
     → HasBusyPeriod messages air m j) messages
 
 -- where the reserved loads fit at each slot, and the air list is by the rule, each uncut broadcast has all its pages
@@ -98,7 +98,7 @@ abbrev pub AdmittedLoadIsAGuarantee : Type 0
 AdmittedLoadIsAGuarantee = (messages : List Message) (air : Air)
     → AreAdmitted messages
     → IsAirOf messages air
-    → All (λ m. (j : ℕ) → IsUncut m j air → pages_aired m.number air (release m j) (due m j) ≡ m.pages) messages
+    → All (λ m. (j : ℕ) → IsUncut m j air → pages_aired m.entry air (release m j) (due m j) ≡ m.pages) messages
 
 -- in other words, each uncut broadcast is whole before each slot from its due slot on
 abbrev pub AdmittedBroadcastsAreWhole : Type 0
@@ -114,5 +114,5 @@ ForegroundIsServed = (messages : List Message) (air : Air)
     → NumbersRise messages
     → AreAdmitted (foreground messages)
     → IsAirOf messages air
-    → All (λ m. (j : ℕ) → IsUncut m j air → pages_aired m.number air (release m j) (due m j) ≡ m.pages)
+    → All (λ m. (j : ℕ) → IsUncut m j air → pages_aired m.entry air (release m j) (due m j) ≡ m.pages)
     (foreground messages)

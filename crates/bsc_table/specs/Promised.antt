@@ -30,7 +30,7 @@ LegalLoadsFit = (r : Record) → IsLegal r → LoadsFit (foreground (messages_in
 -- has
 abbrev pub IsServed : Record → Type 0
 IsServed r =
-    All (λ m. (j : ℕ) → IsUncut m j r.air → pages_aired m.number r.air (release m j) (due m j) ≡ m.pages)
+    All (λ m. (j : ℕ) → IsUncut m j r.air → pages_aired m.entry r.air (release m j) (due m j) ≡ m.pages)
     (foreground (messages_in r.log))
 
 -- before each slot up to the clock, the number of whole broadcasts of an accepted message lies between its bounds; of a
@@ -53,4 +53,4 @@ abbrev pub LegalPagesAreAiredOnce : Type 0
 LegalPagesAreAiredOnce = (r : Record)
     → IsLegal r
     → All (λ m. (j page : ℕ) → IsUncut m j r.air → 1 ≤ page → page ≤ m.pages
-    → times_between m.number page r.air (release m j) (due m j) ≡ 1) (foreground (messages_in r.log))
+    → times_between m.entry page r.air (release m j) (due m j) ≡ 1) (foreground (messages_in r.log))

@@ -128,7 +128,7 @@ write_message place slot start behind excess id serial pages period broadcasts r
   behind = behind;
   excess = excess;
   message = record {
-    number = place;
+    entry = place;
     start = start;
     pages = pages;
     period = period;

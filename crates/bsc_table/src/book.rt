@@ -284,8 +284,8 @@ impl CellBook {
         ensures refused { OnErr result (self.new ≡ self.old) }
     {
         self.log.reserve(1)?;
-        kept::stop(self.accepted.as_mut_slice(), old.number, self.clock);
-        let _ = self.plan.stop(old.number, self.clock);
+        kept::stop(self.accepted.as_mut_slice(), old.entry, self.clock);
+        let _ = self.plan.stop(old.entry, self.clock);
         release(&mut self.budget, old, self.clock);
         self.log.push_reserved(entry);
         Ok(())
@@ -318,8 +318,8 @@ impl CellBook {
         self.log.reserve(1)?;
         self.accepted.reserve(1)?;
         self.plan.add(new.item())?;
-        kept::stop(self.accepted.as_mut_slice(), old.number, self.clock);
-        let _ = self.plan.stop(old.number, self.clock);
+        kept::stop(self.accepted.as_mut_slice(), old.entry, self.clock);
+        let _ = self.plan.stop(old.entry, self.clock);
         release(&mut self.budget, old, self.clock);
         reserve_for(&mut self.budget, &new, self.clock);
         self.accepted.push_reserved(new);
@@ -339,7 +339,7 @@ impl CellBook {
         requires { Contains (accepted_in self.now.log) (accepted_of message.now) }
         ensures { result ≡ completed (accepted_of message.now).message self.now.air self.now.clock }
     {
-        self.plan.done(message.number)
+        self.plan.done(message.entry)
     }
 
     /// The message of a pair, if it is live.
@@ -381,7 +381,7 @@ impl CellBook {
                 let new = Kept {
                     id: *id,
                     serial: *serial,
-                    number: self.log.len() as u16,
+                    entry: self.log.len() as u16,
                     accepted: self.clock,
                     behind: None,
                     excess: 0,
@@ -514,7 +514,7 @@ impl CellBook {
     /// Whether a load has room, where a live message counts as stopped.
     fn room_without(&self, old: &Kept, load: u64) -> Result<(), NoRoom>
         requires { IsLiveIn self.now (accepted_of old.now) }
-        ensures { IsRoom (stop_claims old.now.number self.now.clock (claims_in self.now.log)) self.now.clock load
+        ensures { IsRoom (stop_claims old.now.entry self.now.clock (claims_in self.now.log)) self.now.clock load
             result }
     {
         self.budget.fits(load, old.leaving_at(self.clock))
@@ -544,9 +544,9 @@ impl CellBook {
         if old.category.is_background() {
             return None;
         }
-        let number = old.ahead_at(self.clock)?;
-        let ahead = kept::reserved(self.accepted.as_slice(), number)?;
-        let stopped = ahead.stopped_if(old.number, self.clock);
+        let entry = old.ahead_at(self.clock)?;
+        let ahead = kept::reserved(self.accepted.as_slice(), entry)?;
+        let stopped = ahead.stopped_if(old.entry, self.clock);
         stopped.place_behind(self.clock, load)
     }
 
@@ -597,15 +597,15 @@ impl CellBook {
 /// waits behind a message that is stopped now.
 fn release(budget: &mut Budget, old: &Kept, slot: u16)
     requires period { 0 < old.now.period }
-    requires reserved { is_background old.now.category ≡ false → Any (λ h. h.entry ≡ old.now.number) budget.old }
-    requires free { is_background old.now.category ≡ false → All (λ h. behind_of h ≢ Some old.now.number) budget.old }
+    requires reserved { is_background old.now.category ≡ false → Any (λ h. h.entry ≡ old.now.entry) budget.old }
+    requires free { is_background old.now.category ≡ false → All (λ h. behind_of h ≢ Some old.now.entry) budget.old }
     ensures { budget.new ≡ (if is_background old.now.category then budget.old
-        else passed slot (ends_at old.now.number (end_of_stopped old.now.start old.now.period slot) budget.old)) }
+        else passed slot (ends_at old.now.entry (end_of_stopped old.now.start old.now.period slot) budget.old)) }
 {
     if old.category.is_background() {
         return;
     }
-    budget.release_at(old.number, old.end_if_stopped(slot));
+    budget.release_at(old.entry, old.end_if_stopped(slot));
     budget.pass_slot(slot);
 }
 
@@ -615,7 +615,7 @@ fn reserve_for(budget: &mut Budget, new: &Kept, slot: u16)
     requires period { 0 < new.now.period }
     requires soon { new.now.start < LATEST_START }
     requires standing { new.now.stop ≡ None }
-    requires unreserved { All (λ h. h.entry ≢ new.now.number) budget.old }
+    requires unreserved { All (λ h. h.entry ≢ new.now.entry) budget.old }
     requires room { is_background new.now.category ≡ false
         → HasRoomFor slot budget.old (claim_of (accepted_of new.now)) new.now.behind }
     ensures { budget.new ≡ (if is_background new.now.category then budget.old
@@ -626,8 +626,8 @@ fn reserve_for(budget: &mut Budget, new: &Kept, slot: u16)
     }
     let end = new.natural_end();
     let _ = match new.behind {
-        None => budget.reserve(new.number, new.load(), end),
-        Some(behind) => budget.reserve_behind(new.number, new.load(), behind, new.start, end),
+        None => budget.reserve(new.entry, new.load(), end),
+        Some(behind) => budget.reserve_behind(new.entry, new.load(), behind, new.start, end),
     };
 }
 

@@ -30,7 +30,7 @@ pub struct Kept {
     /// The serial number.
     pub serial: Serial,
     /// Its place in the log.
-    pub number: u16,
+    pub entry: u16,
     /// The slot at which it was accepted.
     pub accepted: u16,
     /// The number of the message behind which it waits up to its start. None where it started at once.
@@ -68,7 +68,7 @@ impl Kept {
         ensures { message_from result ≡ record ((accepted_of self.now).message) { stop = None } }
     {
         Item {
-            entry: self.number,
+            entry: self.entry,
             start: self.start,
             pages: self.pages,
             period: self.period,
@@ -111,11 +111,11 @@ impl Kept {
     /// Its number, where a stop at `slot` would end its reservation there and then: on the boundary of its period.
     pub fn leaving_at(&self, slot: u16) -> Option<u16>
         requires { 0 < self.now.period }
-        ensures { result ≡ (if end_of_stopped self.now.start self.now.period slot == slot then Some self.now.number
+        ensures { result ≡ (if end_of_stopped self.now.start self.now.period slot == slot then Some self.now.entry
             else None) }
     {
         if self.end_if_stopped(slot) == u32::from(slot) {
-            Some(self.number)
+            Some(self.entry)
         } else {
             None
         }
@@ -147,7 +147,7 @@ impl Kept {
         ensures { result ≡ ahead_of slot (claim_of (accepted_of self.now)) }
     {
         if self.start <= u32::from(slot) {
-            Some(self.number)
+            Some(self.entry)
         } else {
             self.behind
         }
@@ -166,7 +166,7 @@ impl Kept {
             return None;
         }
         Some(Place {
-            behind: self.number,
+            behind: self.entry,
             start,
             excess: load.saturating_sub(self.load()),
         })
@@ -185,10 +185,10 @@ impl Kept {
     }
 
     /// The message, stopped before `slot` where its number is this one.
-    pub fn stopped_if(self, number: u16, slot: u16) -> Kept
-        ensures { result ≡ kept_stopped number slot self }
+    pub fn stopped_if(self, entry: u16, slot: u16) -> Kept
+        ensures { result ≡ kept_stopped entry slot self }
     {
-        if self.number == number {
+        if self.entry == entry {
             Kept {
                 stop: Some(slot),
                 ..self
@@ -212,12 +212,12 @@ pub fn named(table: &[Kept], id: u16, serial: Serial) -> Option<Kept>
 }
 
 /// The message of a number that reserves, if there is one: that isn't background.
-pub fn reserved(table: &[Kept], number: u16) -> Option<Kept>
+pub fn reserved(table: &[Kept], entry: u16) -> Option<Kept>
     ensures { option_map accepted_of result
-        ≡ find (λ a. (a.message.number == number) && (layer a.message == 0)) (map accepted_of table.now) }
+        ≡ find (λ a. (a.message.entry == entry) && (layer a.message == 0)) (map accepted_of table.now) }
 {
     for kept in table {
-        if kept.number == number && !kept.category.is_background() {
+        if kept.entry == entry && !kept.category.is_background() {
             return Some(*kept);
         }
     }
@@ -225,10 +225,10 @@ pub fn reserved(table: &[Kept], number: u16) -> Option<Kept>
 }
 
 /// Stops the message of this number before `slot`.
-pub fn stop(table: &mut [Kept], number: u16, slot: u16)
-    ensures { table.new ≡ map (kept_stopped number slot) table.old }
+pub fn stop(table: &mut [Kept], entry: u16, slot: u16)
+    ensures { table.new ≡ map (kept_stopped entry slot) table.old }
 {
     for kept in table.iter_mut() {
-        *kept = kept.stopped_if(number, slot);
+        *kept = kept.stopped_if(entry, slot);
     }
 }

@@ -49,7 +49,7 @@ message a = a.message
 abbrev accepted_as : scheduled.Message → Accepted
 accepted_as m = record { id = 0; serial = 0; accepted = 0; behind = None; excess = 0; message = m }
 
-pub messages_rise : (laws : Laws) (log : List Entry) → AllPairs (λ (a b : scheduled.Message). a.number < b.number)
+pub messages_rise : (laws : Laws) (log : List Entry) → AllPairs (λ (a b : scheduled.Message). a.entry < b.entry)
     (messages_in log)
 messages_rise laws log = λ i j d before within.
     let all = accepted_in log in
@@ -57,8 +57,8 @@ messages_rise laws log = λ i j d before within.
     let one = get_or-map message (accepted_in log) i (accepted_as d) d (omega (arith, long, before, within)) in
     let two = get_or-map message (accepted_in log) j (accepted_as d) d (omega (arith, long, within)) in
     let rises = laws.accepted_rise log i j (accepted_as d) before (omega (arith, long, within)) in
-    subst (λ (x : scheduled.Message). x.number < (get_or (messages_in log) j d).number) (sym one)
-    (subst (λ (y : scheduled.Message). (get_or (accepted_in log) i (accepted_as d)).message.number < y.number)
+    subst (λ (x : scheduled.Message). x.entry < (get_or (messages_in log) j d).entry) (sym one)
+    (subst (λ (y : scheduled.Message). (get_or (accepted_in log) i (accepted_as d)).message.entry < y.entry)
     (sym two) rises)
 
 pub message_there : (log : List Entry) (a : Accepted) → Contains (accepted_in log) a

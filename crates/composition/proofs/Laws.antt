@@ -37,7 +37,7 @@ abbrev pub OfAnotherPair : Accepted → Accepted → Type 0
 OfAnotherPair a b = is_of_pair a.id a.serial b ≡ false
 
 abbrev pub BelowIt : Accepted → Accepted → Type 0
-BelowIt a b = a.message.number < b.message.number
+BelowIt a b = a.message.entry < b.message.entry
 
 abbrev pub HasLoad : Accepted → Type 0
 HasLoad a = (0 < a.message.pages) × (0 < a.message.period)

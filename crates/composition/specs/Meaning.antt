@@ -56,7 +56,7 @@ abbrev pub NoneAfterTheStop : Type 0
 NoneAfterTheStop = (r : Record) (slot : ℕ)
     → IsLegal r
     → slot < r.clock
-    → All (λ a. airs a.message.number (slice_index_or r.air slot None) ≡ true → IsBeforeStop slot a.message.stop)
+    → All (λ a. airs a.message.entry (slice_index_or r.air slot None) ≡ true → IsBeforeStop slot a.message.stop)
     (accepted_in r.log)
 
 -- the octets of a record whose run is over are a tape, and its reading is what the blocks show

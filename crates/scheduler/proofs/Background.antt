@@ -49,66 +49,66 @@ Any-passing P p (x ∷ xs) m (suc k, within, is) passes holds =
 
 -- where numbers rise, two messages of one number are one
 one_number : (messages : List Message) (a b : Message)
-    → AllPairs (λ x y. x.number < y.number) messages
+    → AllPairs (λ x y. x.entry < y.entry) messages
     → Contains messages a
     → Contains messages b
-    → a.number ≡ b.number
+    → a.entry ≡ b.entry
     → a ≡ b
 one_number messages a b rising here there same =
     let first : get_or messages here.0 a ≡ a = here.2 in
     let second : get_or messages there.0 a ≡ b = get_or_default messages there.0 a b there.1 ∙ there.2 in
-    let numbers = ap (λ (c : Message). c.number) first ∙ same ∙ sym (ap (λ (c : Message). c.number) second) in
-    let place = rising-same (λ (c : Message). c.number) messages rising here.0 there.0 a here.1 there.1 numbers in
+    let numbers = ap (λ (c : Message). c.entry) first ∙ same ∙ sym (ap (λ (c : Message). c.entry) second) in
+    let place = rising-same (λ (c : Message). c.entry) messages rising here.0 there.0 a here.1 there.1 numbers in
     sym first ∙ ap (λ i. get_or messages i a) place ∙ second
 
 -- so the number of a message that isn't background is no background message's
 not_its_number : (messages : List Message) (m : Message)
-    → AllPairs (λ a b. a.number < b.number) messages
+    → AllPairs (λ a b. a.entry < b.entry) messages
     → Contains messages m
     → layer m ≡ 0
-    → has_background messages m.number ≡ false
+    → has_background messages m.entry ≡ false
 not_its_number messages m rising here other =
-    let test : Message → Bool = λ x. is_background x && (x.number == m.number) in
-    elim (cases_Bool (has_background messages m.number)) [
+    let test : Message → Bool = λ x. is_background x && (x.entry == m.entry) in
+    elim (cases_Bool (has_background messages m.entry)) [
       | inr fails ↦ fails
       | inl passes ↦
           let found = Any-from_list_any test messages passes in
-          let parts = and_parts (is_background found.1) (found.1.number == m.number) found.4 in
+          let parts = and_parts (is_background found.1) (found.1.entry == m.entry) found.4 in
           let same = one_number messages found.1 m rising (found.0, found.2, found.3) here
-          (eqb-true found.1.number m.number parts.1) in
+          (eqb-true found.1.entry m.entry parts.1) in
           absurd (omega (arith, other, eqb-true (layer found.1) 1 parts.0, ap layer same))
     ]
 
 its_number : (messages : List Message) (m : Message)
     → Contains messages m
     → layer m ≡ 1
-    → has_background messages m.number ≡ true
+    → has_background messages m.entry ≡ true
 its_number messages m here is =
-    let test : Message → Bool = λ x. is_background x && (x.number == m.number) in
+    let test : Message → Bool = λ x. is_background x && (x.entry == m.entry) in
     list_any-from_Any test messages (
       here.0,
       m,
       here.1,
       here.2,
-      and_from (is_background m) (m.number == m.number)
-          (eq-eqb (layer m) 1 is) (eq-eqb m.number m.number refl),
+      and_from (is_background m) (m.entry == m.entry)
+          (eq-eqb (layer m) 1 is) (eq-eqb m.entry m.entry refl),
     )
 
 -- a slot airs a page of a message that isn't background with and without the others
 airs_same : (messages : List Message) (m : Message)
-    → has_background messages m.number ≡ false
+    → has_background messages m.entry ≡ false
     → (used : Option (ℕ × ℕ))
-    → airs m.number (blank_use messages used) ≡ airs m.number used
+    → airs m.entry (blank_use messages used) ≡ airs m.entry used
 airs_same messages m other None = refl
 airs_same messages m other (Some used) =
     elim (cases_Bool (has_background messages used.0)) [
-      | inr fails ↦ ap (λ (b : Bool). airs m.number (cond b None (Some used))) fails
+      | inr fails ↦ ap (λ (b : Bool). airs m.entry (cond b None (Some used))) fails
       | inl passes ↦
-          let gone = ap (λ (b : Bool). airs m.number (cond b None (Some used))) passes in
-          elim (cases_Bool (used.0 == m.number)) [
+          let gone = ap (λ (b : Bool). airs m.entry (cond b None (Some used))) passes in
+          elim (cases_Bool (used.0 == m.entry)) [
             | inr apart ↦ gone ∙ sym apart
             | inl same ↦
-                let its = ap (has_background messages) (eqb-true used.0 m.number same) in
+                let its = ap (has_background messages) (eqb-true used.0 m.entry same) in
                 absurd (false≢true (sym other ∙ sym its ∙ passes))
           ]
     ]
@@ -131,10 +131,10 @@ count_same n g (x ∷ air) same =
 pub blanking_keeps_pages : BlankingKeepsPages
 blanking_keeps_pages messages air m from to rising here other =
     let g = blank_use messages in
-    let number = not_its_number messages m rising here other in
-    let cut = ap (λ xs. count_by (airs m.number) (take (to - from) xs)) (drop-map g from air) in
-    let front = ap (count_by (airs m.number)) (take-map g (to - from) (drop from air)) in
-    cut ∙ front ∙ count_same m.number g (take (to - from) (drop from air)) (airs_same messages m number)
+    let entry = not_its_number messages m rising here other in
+    let cut = ap (λ xs. count_by (airs m.entry) (take (to - from) xs)) (drop-map g from air) in
+    let front = ap (count_by (airs m.entry)) (take-map g (to - from) (drop from air)) in
+    cut ∙ front ∙ count_same m.entry g (take (to - from) (drop from air)) (airs_same messages m entry)
 
 pub blanking_keeps_completed : BlankingKeepsCompleted
 blanking_keeps_completed messages air m slot rising here other =
@@ -144,7 +144,7 @@ blanking_keeps_completed messages air m slot rising here other =
 
 -- what is pending is pending by any air list with the same pages
 IsPending-same_pages : (m : Message) (j : ℕ) (air other : Air) (slot : ℕ)
-    → pages_aired m.number air (release m j) slot ≡ pages_aired m.number other (release m j) slot
+    → pages_aired m.entry air (release m j) slot ≡ pages_aired m.entry other (release m j) slot
     → IsPending m j air slot
     → IsPending m j other slot
 IsPending-same_pages m j air other slot same p = record {
@@ -176,7 +176,7 @@ cases_layer m = rank_of m.rank
 
 -- nothing of the others is pending where nothing is, or where background is first
 none_without : (messages : List Message) (air : Air) (slot : ℕ)
-    → AllPairs (λ a b. a.number < b.number) messages
+    → AllPairs (λ a b. a.entry < b.entry) messages
     → All (λ o. layer o ≡ 0 → (k : ℕ) → ¬ IsPending o k air slot) messages
     → IsChosen (foreground messages) (blanked messages air) slot None
 none_without messages air slot rising none =
@@ -188,7 +188,7 @@ none_without messages air slot rising none =
     none i d within other k (IsPending-same_pages o k (blanked messages air) air slot same pending))
 
 chosen_without : (messages : List Message) (air : Air) (slot : ℕ) (used : Option (ℕ × ℕ))
-    → AllPairs (λ a b. a.number < b.number) messages
+    → AllPairs (λ a b. a.entry < b.entry) messages
     → IsChosen messages air slot used
     → IsChosen (foreground messages) (blanked messages air) slot (blank_use messages used)
 chosen_without messages air slot None rising chosen =
@@ -200,19 +200,19 @@ chosen_without messages air slot (Some used) rising chosen =
     let j : ℕ = chosen.4.0 in
     let first : IsFirst messages air slot m j = chosen.4.1 in
     let page : used ≡ next_page m j air slot = chosen.4.2 in
-    let number = ap (λ (u : ℕ × ℕ). has_background messages u.0) page in
+    let entry = ap (λ (u : ℕ × ℕ). has_background messages u.0) page in
     elim (cases_layer m) [
       | inr is ↦
           let gone : blank_use messages (Some used) ≡ None = ap (λ (b : Bool). cond b None (Some used))
-          (number ∙ its_number messages m here is) in
+          (entry ∙ its_number messages m here is) in
           let none = none_without messages air slot rising (λ i d within. λ other k pending. alone_pending m
           (get_or messages i d) j k is other (first.first i d within k pending)) in
           subst (IsChosen (foreground messages) blank slot) (sym gone) none
       | inl other ↦
           let kept : blank_use messages (Some used) ≡ Some used = ap (λ (b : Bool). cond b None (Some used))
-          (number ∙ not_its_number messages m rising here other) in
+          (entry ∙ not_its_number messages m rising here other) in
           let same = blanking_keeps_pages messages air m (release m j) slot rising here other in
-          let its_page : used ≡ next_page m j blank slot = page ∙ ap (λ (n : ℕ). (m.number, n + 1)) (sym same) in
+          let its_page : used ≡ next_page m j blank slot = page ∙ ap (λ (n : ℕ). (m.entry, n + 1)) (sym same) in
           let its_first : IsFirst (foreground messages) blank slot m j = record {
             pending = IsPending-same_pages m j air blank slot (sym same) first.pending;
             first = All-passing (λ o. (k : ℕ) → IsPending o k blank slot → IsServedBy m j o k) (λ o. layer o == 0)
@@ -240,5 +240,5 @@ background_counts_as_idle messages air rising rule = λ slot within.
 pub background_changes_nothing : BackgroundChangesNothing
 background_changes_nothing messages air alone rising rule others same =
     IsAirOf-only (foreground messages) (blanked messages air) alone
-    (AllPairs-filter (λ a b. a.number < b.number) (λ o. layer o == 0) messages rising)
+    (AllPairs-filter (λ a b. a.entry < b.entry) (λ o. layer o == 0) messages rising)
     (background_counts_as_idle messages air rising rule) others (length-map air (blank_use messages) ∙ sym same)

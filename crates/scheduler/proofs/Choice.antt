@@ -58,8 +58,8 @@ IsNoLater-from_test slot a b h =
           inr (eqb-true _ _ parts.0, in_class parts.1)
     ]
   where
-    in_class : (ltb (class a) (class b) || (eqb (class a) (class b) && leb a.number b.number)) ≡ true
-        → (class a < class b) ⊎ ((class a ≡ class b) × (a.number ≤ b.number))
+    in_class : (ltb (class a) (class b) || (eqb (class a) (class b) && leb a.entry b.entry)) ≡ true
+        → (class a < class b) ⊎ ((class a ≡ class b) × (a.entry ≤ b.entry))
     in_class h = elim (or_cases _ _ h) [
       | inl above ↦ inl (ltb-true _ _ above)
       | inr same ↦ let parts = and_parts _ _ same in inr (eqb-true _ _ parts.0, leb-true _ _ parts.1)
@@ -80,8 +80,8 @@ test_from_IsNoLater slot a b h =
       | inr tied ↦ or_right _ _ (and_from _ _ (eq-eqb _ _ tied.0) (in_class tied.1))
     ]
   where
-    in_class : ((class a < class b) ⊎ ((class a ≡ class b) × (a.number ≤ b.number)))
-        → (ltb (class a) (class b) || (eqb (class a) (class b) && leb a.number b.number)) ≡ true
+    in_class : ((class a < class b) ⊎ ((class a ≡ class b) × (a.entry ≤ b.entry)))
+        → (ltb (class a) (class b) || (eqb (class a) (class b) && leb a.entry b.entry)) ≡ true
     in_class x = elim x [
       | inl above ↦ or_left _ _ (lt-ltb _ _ above)
       | inr same ↦ or_right _ _ (and_from _ _ (eq-eqb _ _ same.0) (le-leb _ _ same.1))

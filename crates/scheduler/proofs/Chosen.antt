@@ -47,7 +47,7 @@ ready_from_pending t air j fit counts pending =
     let P : ℕ → Type 0 = λ i. has_broadcast m i ≡ true in
     let requested : has_broadcast m (broadcast_at m (length air)) ≡ true = subst P now
     (has_broadcast-from m j pending.requested) in
-    let aired = ap (λ i. pages_aired m.number air (release m i) (length air)) now in
+    let aired = ap (λ i. pages_aired m.entry air (release m i) (length air)) now in
     let few : t.aired < t.item.pages = omega (arith, aired, counts.aired, pending.unfinished) in
     and_from _ _ (le-leb t.item.start (length air) (omega (arith, pending.released)))
     (and_from _ _ requested (and_from _ _ (is_before_stop-from (length air) t.stop pending.standing)

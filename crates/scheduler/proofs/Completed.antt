@@ -17,8 +17,8 @@ use Rattle.scheduler.proofs.Lists.{count_below_more, count_below_same, count_bel
 pub is_whole-unreleased : (m : Message) (air : Air) (slot j : ℕ) → 0 < m.pages → slot ≤ release m j
     → is_whole m air slot j ≡ false
 is_whole-unreleased m air slot j some h =
-    let none = pages_aired-none m.number air (release m j) (min (due m j) slot) (omega arith) in
-    let few : leb m.pages (pages_aired m.number air (release m j) (min (due m j) slot)) ≡ false = lt-leb _ _
+    let none = pages_aired-none m.entry air (release m j) (min (due m j) slot) (omega arith) in
+    let few : leb m.pages (pages_aired m.entry air (release m j) (min (due m j) slot)) ≡ false = lt-leb _ _
     (omega arith) in
     and_right (has_broadcast m j) _ (and_right (is_before_stop (release m j) m.stop) _ few)
 
@@ -28,11 +28,11 @@ is_whole-due : (m : Message) (air : Air) (used : Option (ℕ × ℕ)) (j : ℕ) 
 is_whole-due m air used j h =
     let now : min (due m j) (length air + 1) ≡ due m j = omega arith in
     let before : min (due m j) (length air) ≡ due m j = omega arith in
-    let same : pages_aired m.number (air ++ used ∷ []) (release m j) (min (due m j) (length air + 1)) ≡ pages_aired
-    m.number air (release m j) (min (due m j) (length air)) =
-    ap (λ to. pages_aired m.number (air ++ used ∷ []) (release m j) to) now
-    ∙ (pages_aired-append m.number air (used ∷ []) (release m j) (due m j) h
-    ∙ ap (λ to. pages_aired m.number air (release m j) to) (sym before)) in
+    let same : pages_aired m.entry (air ++ used ∷ []) (release m j) (min (due m j) (length air + 1)) ≡ pages_aired
+    m.entry air (release m j) (min (due m j) (length air)) =
+    ap (λ to. pages_aired m.entry (air ++ used ∷ []) (release m j) to) now
+    ∙ (pages_aired-append m.entry air (used ∷ []) (release m j) (due m j) h
+    ∙ ap (λ to. pages_aired m.entry air (release m j) to) (sym before)) in
     ap (λ n. has_broadcast m j && (is_before_stop (release m j) m.stop && leb m.pages n)) same
 
 -- nor of one that is not the one under way
@@ -50,28 +50,28 @@ is_whole-other m air used j pages period started other =
 is_whole-now : (m : Message) (air : Air) → 0 < m.period → m.start ≤ length air
     → is_whole m air (length air) (broadcast_at m (length air)) ≡
     (has_broadcast m (broadcast_at m (length air)) && (is_before_stop (release m (broadcast_at m (length air))) m.stop
-    && leb m.pages (pages_aired m.number air (release m (broadcast_at m (length air))) (length air))))
+    && leb m.pages (pages_aired m.entry air (release m (broadcast_at m (length air))) (length air))))
 is_whole-now m air period started =
     let j = broadcast_at m (length air) in
     let not_due = broadcast_at-not_due m (length air) period started in
     let upto : min (due m j) (length air) ≡ length air = omega arith in
     ap (λ to. has_broadcast m j && (is_before_stop (release m j) m.stop && leb m.pages
-    (pages_aired m.number air (release m j) to))) upto
+    (pages_aired m.entry air (release m j) to))) upto
 
 is_whole-then : (m : Message) (air : Air) (used : Option (ℕ × ℕ)) → 0 < m.period → m.start ≤ length air
     → is_whole m (air ++ used ∷ []) (length air + 1) (broadcast_at m (length air)) ≡
     (has_broadcast m (broadcast_at m (length air)) && (is_before_stop (release m (broadcast_at m (length air))) m.stop
-    && leb m.pages (pages_aired m.number air (release m (broadcast_at m (length air))) (length air) + cond
-    (airs m.number used) 1 0)))
+    && leb m.pages (pages_aired m.entry air (release m (broadcast_at m (length air))) (length air) + cond
+    (airs m.entry used) 1 0)))
 is_whole-then m air used period started =
     let j = broadcast_at m (length air) in
     let not_due = broadcast_at-not_due m (length air) period started in
     let released = broadcast_at-released m (length air) period started in
     let upto : min (due m j) (length air + 1) ≡ length air + 1 = omega arith in
     ap (λ to. has_broadcast m j && (is_before_stop (release m j) m.stop && leb m.pages
-    (pages_aired m.number (air ++ used ∷ []) (release m j) to))) upto
+    (pages_aired m.entry (air ++ used ∷ []) (release m j) to))) upto
     ∙ ap (λ n. has_broadcast m j && (is_before_stop (release m j) m.stop && leb m.pages n))
-    (pages_aired-push m.number air used (release m j) released)
+    (pages_aired-push m.entry air used (release m j) released)
 
 -- an earlier slot comes before the stop too
 is_before_stop-earlier : (slot at : ℕ) (stop : Option ℕ) → slot ≤ at → is_before_stop at stop ≡ true
@@ -115,14 +115,14 @@ one_more_use has before true aired pages ready =
 
 -- how many pages of the broadcast under way are aired so far
 abbrev pub so_far : Message → Air → ℕ
-so_far m air = pages_aired m.number air (release m (broadcast_at m (length air))) (length air)
+so_far m air = pages_aired m.entry air (release m (broadcast_at m (length air))) (length air)
 
 -- the slot after the air list adds a whole broadcast exactly where it airs the last page of one
 pub completed-push : (m : Message) (air : Air) (used : Option (ℕ × ℕ)) → 0 < m.pages → 0 < m.period
-    → m.start ≤ length air → (airs m.number used ≡ true → (has_broadcast m (broadcast_at m (length air)) ≡ true)
+    → m.start ≤ length air → (airs m.entry used ≡ true → (has_broadcast m (broadcast_at m (length air)) ≡ true)
     × (is_before_stop (length air) m.stop ≡ true) × (so_far m air < m.pages))
     → completed m (air ++ used ∷ []) (length air + 1) ≡ completed m air (length air) + cond
-    (airs m.number used && eqb (so_far m air + cond (airs m.number used) 1 0) m.pages) 1 0
+    (airs m.entry used && eqb (so_far m air + cond (airs m.entry used) 1 0) m.pages) 1 0
 completed-push m air used pages period started ready =
     let slot = length air in
     let j = broadcast_at m slot in
@@ -140,7 +140,7 @@ completed-push m air used pages period started ready =
     (λ i h. λ other. is_whole-other m air used i pages period started other) in
     let now = ap one_if (is_whole-now m air period started) in
     let then = ap one_if (is_whole-then m air used period started) in
-    let more = one_more_use (has_broadcast m j) (is_before_stop (release m j) m.stop) (airs m.number used)
+    let more = one_more_use (has_broadcast m j) (is_before_stop (release m j) m.stop) (airs m.entry used)
     (so_far m air) m.pages (λ u. (
       (ready u).0,
       is_before_stop-earlier (release m j) slot m.stop released
@@ -153,7 +153,7 @@ completed-push m air used pages period started ready =
 is_whole-stopped : (m : Message) (air : Air) (slot j : ℕ) → 0 < m.pages → m.stop ≡ None
     → is_whole (record m { stop = Some slot }) air slot j ≡ is_whole m air slot j
 is_whole-stopped m air slot j pages free =
-    let counted = pages_aired m.number air (release m j) (min (due m j) slot) in
+    let counted = pages_aired m.entry air (release m j) (min (due m j) slot) in
     let standing : is_before_stop (release m j) m.stop ≡ true = ap (is_before_stop (release m j)) free in
     let before = ap (λ (b : Bool). b && leb m.pages counted) standing in
     elim (cases_lt (release m j) slot) [

@@ -27,20 +27,20 @@ aired_after t air used fit counts =
       | inl early ↦
           let over : (slot + 1 - m.start) % m.period ≡ 0 = nothing_over (slot + 1 - m.start) m.period fit.some_period
           (omega arith) in
-          let none = pages_aired-none m.number (air ++ used ∷ []) (release m (broadcast_at m (slot + 1))) (slot + 1)
+          let none = pages_aired-none m.entry (air ++ used ∷ []) (release m (broadcast_at m (slot + 1))) (slot + 1)
           (omega arith) in
           rw (eq-eqb _ 0 over) (sym none)
       | inr started ↦ elim (cases_eq ((slot + 1 - m.start) % m.period) 0) [
         | inl over ↦
             let at_end = next_release m slot fit.some_period started over in
-            let none = pages_aired-none m.number (air ++ used ∷ []) (release m (broadcast_at m (slot + 1))) (slot + 1)
+            let none = pages_aired-none m.entry (air ++ used ∷ []) (release m (broadcast_at m (slot + 1))) (slot + 1)
             (omega arith) in
             rw (eq-eqb _ 0 over) (sym none)
         | inr goes_on ↦
             let released = broadcast_at-released m slot fit.some_period started in
             let same = same_broadcast m slot fit.some_period started goes_on in
-            let pushed = pages_aired-push m.number air used (release m (broadcast_at m slot)) released in
-            rw (ne_eqb _ 0 goes_on, same) (ap (λ n. n + one_if (airs m.number used)) counts.aired ∙ sym pushed)
+            let pushed = pages_aired-push m.entry air used (release m (broadcast_at m slot)) released in
+            rw (ne_eqb _ 0 goes_on, same) (ap (λ n. n + one_if (airs m.entry used)) counts.aired ∙ sym pushed)
       ]
     ]
   where
@@ -93,7 +93,7 @@ completed_after t air used fit counts ready =
           let pushed = completed-push m air used fit.some_pages fit.some_period started
           (λ u. let parts = is_ready-parts t (length air) (ready u) in
           (parts.0, parts.1, rw (← counts.aired) parts.2)) in
-          let same_pages = ap (λ n. one_if (airs m.number used && eqb (n + one_if (airs m.number used)) m.pages))
+          let same_pages = ap (λ n. one_if (airs m.entry used && eqb (n + one_if (airs m.entry used)) m.pages))
           counts.aired in
           omega (arith, pushed, same_pages, counts.completed)
     ]
@@ -106,7 +106,7 @@ Counts-after t air used fit counts ready =
     let m = message_of t in
     let slot = length air in
     let long = length_push air used in
-    let P : ℕ → Type 0 = λ n. (after_slot slot used t).aired ≡ pages_aired m.number (air ++ used ∷ [])
+    let P : ℕ → Type 0 = λ n. (after_slot slot used t).aired ≡ pages_aired m.entry (air ++ used ∷ [])
     (release m (broadcast_at m n)) n in
     let Q : ℕ → Type 0 = λ n. (after_slot slot used t).completed ≡ completed m (air ++ used ∷ []) n in
     record {
@@ -120,7 +120,7 @@ pub Counts-new : (item : Item) (air : Air) → 0 < item.pages → 0 < item.perio
 Counts-new item air pages period started =
     let m = message_from item in
     record {
-      aired = sym (pages_aired-none m.number air (release m (broadcast_at m (length air))) (length air) (omega arith));
+      aired = sym (pages_aired-none m.entry air (release m (broadcast_at m (length air))) (length air) (omega arith));
       completed = sym (count_below_none (is_whole m air (length air)) (length air + 1)
           (λ j h. is_whole-unreleased m air (length air) j pages (omega arith)));
     }

@@ -86,7 +86,7 @@ kept_new item = record { item = item; stop = None; aired = 0; completed = 0 }
 abbrev pub kept_with : Kept → Item → Kept
 kept_with plan item = record { slot = plan.slot; tracked = plan.tracked ++ kept_new item ∷ [] }
 
-pub IsSound-add : (plan : Kept) (item : Item) → All (λ m. m.number < item.entry) (messages_of plan)
+pub IsSound-add : (plan : Kept) (item : Item) → All (λ m. m.entry < item.entry) (messages_of plan)
     → plan.slot ≤ item.start → 0 < item.pages → 0 < item.period → IsSound plan → IsSound (kept_with plan item)
 IsSound-add plan item above start pages period sound = record {
   rising = rising-push (λ (t : Tracked). t.item.entry) plan.tracked (kept_new item) sound.rising
@@ -96,10 +96,10 @@ IsSound-add plan item above start pages period sound = record {
   within = sound.within;
 }
   where
-    numbers : (tracked : List Tracked) (n : ℕ) → All (λ m. m.number < n) (map message_of tracked)
+    numbers : (tracked : List Tracked) (n : ℕ) → All (λ m. m.entry < n) (map message_of tracked)
         → All (λ t. t.item.entry < n) tracked
     numbers tracked n h = λ k d within.
-        let e = ap (λ (m : Message). m.number) (get_or-map message_of tracked k d (message_of d) within) in
+        let e = ap (λ (m : Message). m.entry) (get_or-map message_of tracked k d (message_of d) within) in
         omega (arith, e, h k (message_of d) (omega (arith, length-map tracked message_of, within)))
 
 pub Follows-add : (plan : Kept) (item : Item) (messages : List Message) (air : Air) → plan.slot ≤ item.start
@@ -136,23 +136,23 @@ pub messages_of-stopped : (plan : Kept) (entry slot : ℕ) → messages_of (kept
     entry slot (messages_of plan)
 messages_of-stopped plan entry slot =
     same_messages (λ (t : Tracked). stopped_kept (t.item.entry == entry) slot t)
-    (λ (m : Message). stopped_if (m.number == entry) slot m) (λ t. refl) plan.tracked
+    (λ (m : Message). stopped_if (m.entry == entry) slot m) (λ t. refl) plan.tracked
 
 -- a message that stands under its number is the only one under it
 only_standing : (tracked : List Tracked) (entry : ℕ) → AllPairs (λ a b. a.item.entry < b.item.entry) tracked
-    → Any (λ m. (m.number ≡ entry) × (m.stop ≡ None)) (map message_of tracked)
+    → Any (λ m. (m.entry ≡ entry) × (m.stop ≡ None)) (map message_of tracked)
     → All (λ t. t.item.entry ≡ entry → t.stop ≡ None) tracked
 only_standing tracked entry rising standing = λ k d within. λ named.
     let i = standing.0 in
     let below = length-map tracked message_of in
     let h : i < length tracked = omega (arith, below, standing.2) in
     let is = sym (get_or-map message_of tracked i d standing.1 h) ∙ standing.3 in
-    let number = ap (λ (m : Message). m.number) is ∙ standing.4.0 in
-    let place = rising-same (λ (t : Tracked). t.item.entry) tracked rising k i d within h (named ∙ sym number) in
+    let entry = ap (λ (m : Message). m.entry) is ∙ standing.4.0 in
+    let place = rising-same (λ (t : Tracked). t.item.entry) tracked rising k i d within h (named ∙ sym entry) in
     ap (λ j. (get_or tracked j d).stop) place ∙ (ap (λ (m : Message). m.stop) is ∙ standing.4.1)
 
 pub Follows-stop : (plan : Kept) (entry slot : ℕ) (messages : List Message) (air : Air) → slot ≡ plan.slot
-    → Any (λ m. (m.number ≡ entry) × (m.stop ≡ None)) (messages_of plan) → IsSound plan → Follows plan messages air
+    → Any (λ m. (m.entry ≡ entry) × (m.stop ≡ None)) (messages_of plan) → IsSound plan → Follows plan messages air
     → Follows (kept_stopped plan entry slot) (stopped_at entry slot messages) air
 Follows-stop plan entry slot messages air at standing sound follows =
     let Fit : ℕ → Type 0 = λ n. All (λ t. IsFit t n) plan.tracked in
@@ -172,16 +172,16 @@ Follows-stop plan entry slot messages air at standing sound follows =
 -- the completed number that is kept is that of the message
 pub completed-told : (plan : Kept) (entry result : ℕ) (messages : List Message) (air : Air)
     → All (λ t. t.item.entry ≡ entry → result ≡ t.completed) plan.tracked → Follows plan messages air
-    → All (λ m. m.number ≡ entry → result ≡ completed m air (length air)) messages
+    → All (λ m. m.entry ≡ entry → result ≡ completed m air (length air)) messages
 completed-told plan entry result messages air found follows =
-    let Told : List Message → Type 0 = λ ms. All (λ m. m.number ≡ entry → result ≡ completed m air (length air)) ms in
-    subst Told follows.told (All-map (λ m. m.number ≡ entry → result ≡ completed m air (length air)) message_of
+    let Told : List Message → Type 0 = λ ms. All (λ m. m.entry ≡ entry → result ≡ completed m air (length air)) ms in
+    subst Told follows.told (All-map (λ m. m.entry ≡ entry → result ≡ completed m air (length air)) message_of
     plan.tracked (λ k d h. λ named. found k d h named ∙ (follows.counted k d h).completed))
 
 -- the same where it is known by a test whether there was room
 pub IsSound-add_if : (plan : Kept) (item : Item) (added : Bool) (tracked : List Tracked)
     → tracked ≡ cond added (plan.tracked ++ kept_new item ∷ []) plan.tracked
-    → All (λ m. m.number < item.entry) (messages_of plan) → plan.slot ≤ item.start → 0 < item.pages → 0 < item.period
+    → All (λ m. m.entry < item.entry) (messages_of plan) → plan.slot ≤ item.start → 0 < item.pages → 0 < item.period
     → IsSound plan → IsSound (record { slot = plan.slot; tracked = tracked })
 IsSound-add_if plan item true tracked is above start pages period sound =
     let P : List Tracked → Type 0 = λ ts. IsSound (record { slot = plan.slot; tracked = ts }) in

@@ -26,7 +26,7 @@ IsChosen-unappend messages air more slot (Some used) h x = (
       first = λ k d within. λ i p. x.4.1.first k d within i (IsPending-append (get_or messages k d) i air more slot h
           p);
     },
-    x.4.2 ∙ ap (λ n. (x.1.number, n + 1)) (pages_aired-append x.1.number air more (release x.1 x.4.0) slot h),
+    x.4.2 ∙ ap (λ n. (x.1.entry, n + 1)) (pages_aired-append x.1.entry air more (release x.1 x.4.0) slot h),
   ),
 )
 
@@ -46,7 +46,7 @@ chosen_before messages air slot rule within =
     let long = length-take-le slot air (omega arith) in
     IsChosen-unappend messages (take slot air) (drop slot air) slot (get_or air slot None) (omega (arith, long)) whole
 
-same_front : (messages : List Message) (air other : Air) (n : ℕ) → AllPairs (λ a b. a.number < b.number) messages
+same_front : (messages : List Message) (air other : Air) (n : ℕ) → AllPairs (λ a b. a.entry < b.entry) messages
     → IsAirOf messages air → IsAirOf messages other → n ≤ length air → n ≤ length other → take n air ≡ take n other
 same_front messages air other zero rising rule others short also = refl
 same_front messages air other (suc n) rising rule others short also =
@@ -58,7 +58,7 @@ same_front messages air other (suc n) rising rule others short also =
     take-suc air n None (omega arith) ∙ (ap (λ a. a ++ get_or air n None ∷ []) before
     ∙ (ap (λ u. take n other ++ u ∷ []) used ∙ sym (take-suc other n None (omega arith))))
 
-pub IsAirOf-only : (messages : List Message) (air other : Air) → AllPairs (λ a b. a.number < b.number) messages
+pub IsAirOf-only : (messages : List Message) (air other : Air) → AllPairs (λ a b. a.entry < b.entry) messages
     → IsAirOf messages air → IsAirOf messages other → length air ≡ length other → air ≡ other
 IsAirOf-only messages air other rising rule others same =
     sym (take_all (length air) air (omega arith)) ∙ (same_front messages air other (length air) rising rule others

@@ -35,9 +35,9 @@ IsNoLater-trans a b c i j k h g =
       ]
     ]
   where
-    in_class : ((class a < class b) ⊎ ((class a ≡ class b) × (a.number ≤ b.number)))
-        → ((class b < class c) ⊎ ((class b ≡ class c) × (b.number ≤ c.number)))
-        → (class a < class c) ⊎ ((class a ≡ class c) × (a.number ≤ c.number))
+    in_class : ((class a < class b) ⊎ ((class a ≡ class b) × (a.entry ≤ b.entry)))
+        → ((class b < class c) ⊎ ((class b ≡ class c) × (b.entry ≤ c.entry)))
+        → (class a < class c) ⊎ ((class a ≡ class c) × (a.entry ≤ c.entry))
     in_class x y = elim x [
       | inl above ↦ elim y [ inl more ↦ inl (omega arith) | inr tied ↦ inl (omega arith) ]
       | inr tied ↦ elim y [ inl more ↦ inl (omega arith) | inr again ↦ inr (omega arith, omega arith) ]

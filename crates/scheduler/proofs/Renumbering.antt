@@ -78,7 +78,7 @@ pending_renumbered f keeps m j air slot p = record {
   released = p.released;
   not_due = p.not_due;
   standing = p.standing;
-  unfinished = omega (arith, p.unfinished, same_pages f keeps m.number air (release m j) slot);
+  unfinished = omega (arith, p.unfinished, same_pages f keeps m.entry air (release m j) slot);
 }
 
 pending_as_before : (f : ℕ → ℕ) → KeepsOrder f → (m : Message) (j : ℕ) (air : Air) (slot : ℕ)
@@ -88,7 +88,7 @@ pending_as_before f keeps m j air slot p = record {
   released = p.released;
   not_due = p.not_due;
   standing = p.standing;
-  unfinished = omega (arith, p.unfinished, same_pages f keeps m.number air (release m j) slot);
+  unfinished = omega (arith, p.unfinished, same_pages f keeps m.entry air (release m j) slot);
 }
 
 no_later_renumbered : (f : ℕ → ℕ) → KeepsOrder f → (a b : Message) (i j : ℕ) → IsNoLater a i b j
@@ -96,12 +96,12 @@ no_later_renumbered : (f : ℕ → ℕ) → KeepsOrder f → (a b : Message) (i 
 no_later_renumbered f keeps a b i j h =
     elim h [ inl sooner ↦ inl sooner | inr tied ↦ inr (tied.0, in_class tied.1) ]
   where
-    in_class : ((class a < class b) ⊎ ((class a ≡ class b) × (a.number ≤ b.number)))
-        → (class a < class b) ⊎ ((class a ≡ class b) × (f a.number ≤ f b.number))
+    in_class : ((class a < class b) ⊎ ((class a ≡ class b) × (a.entry ≤ b.entry)))
+        → (class a < class b) ⊎ ((class a ≡ class b) × (f a.entry ≤ f b.entry))
     in_class x = elim x [
       | inl above ↦ inl above
       | inr same ↦ inr
-          (same.0, keeps_no_later f keeps a.number b.number same.1)
+          (same.0, keeps_no_later f keeps a.entry b.entry same.1)
     ]
 
 served_renumbered : (f : ℕ → ℕ)
@@ -133,8 +133,8 @@ chosen_renumbered f keeps messages air slot (Some used) x =
               (λ k d within. λ i p. served_renumbered f keeps m (get_or messages k d) x.4.0 i
               (x.4.1.first k d within i (pending_as_before f keeps (get_or messages k d) i air slot p)));
         },
-        ap (λ (u : ℕ × ℕ). (f u.0, u.1)) x.4.2 ∙ ap (λ n. (f m.number, n + 1))
-            (sym (same_pages f keeps m.number air (release m x.4.0) slot)),
+        ap (λ (u : ℕ × ℕ). (f u.0, u.1)) x.4.2 ∙ ap (λ n. (f m.entry, n + 1))
+            (sym (same_pages f keeps m.entry air (release m x.4.0) slot)),
       ),
     )
 

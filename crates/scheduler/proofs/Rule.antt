@@ -32,15 +32,15 @@ IsPending-only m i j air slot p q =
     ∙ sym (broadcast_at-only m slot j known.0 known.1 q.released q.not_due)
 
 -- what is no later both ways has one number
-pub IsNoLater-both : (a b : Message) (i j : ℕ) → IsNoLater a i b j → IsNoLater b j a i → a.number ≡ b.number
+pub IsNoLater-both : (a b : Message) (i j : ℕ) → IsNoLater a i b j → IsNoLater b j a i → a.entry ≡ b.entry
 IsNoLater-both a b i j h g =
     elim h [
       | inl sooner ↦ elim g [ inl later ↦ absurd (omega arith) | inr tied ↦ absurd (omega arith) ]
       | inr tied ↦ elim g [ inl later ↦ absurd (omega arith) | inr again ↦ in_class tied.1 again.1 ]
     ]
   where
-    in_class : ((class a < class b) ⊎ ((class a ≡ class b) × (a.number ≤ b.number)))
-        → ((class b < class a) ⊎ ((class b ≡ class a) × (b.number ≤ a.number))) → a.number ≡ b.number
+    in_class : ((class a < class b) ⊎ ((class a ≡ class b) × (a.entry ≤ b.entry)))
+        → ((class b < class a) ⊎ ((class b ≡ class a) × (b.entry ≤ a.entry))) → a.entry ≡ b.entry
     in_class x y = elim x [
       | inl above ↦ elim y [ inl below ↦ absurd (omega arith) | inr same ↦ absurd (omega arith) ]
       | inr same ↦ elim y [ inl below ↦ absurd (omega arith) | inr again ↦ omega arith ]
@@ -51,7 +51,7 @@ pub IsNoLater-total : (a b : Message) (i j : ℕ) → IsNoLater a i b j ⊎ IsNo
 IsNoLater-total a b i j =
     elim (cases_order (due a i) (due b j)) [
       | inl tied ↦ elim (cases_order (class a) (class b)) [
-        | inl same ↦ elim (cases_lt a.number b.number) [
+        | inl same ↦ elim (cases_lt a.entry b.entry) [
           | inl below ↦ inl (inr (tied, inr (same, omega arith)))
           | inr above ↦ inr (inr (sym tied, inr (sym same, above)))
         ]
@@ -65,7 +65,7 @@ IsNoLater-total a b i j =
     ]
 
 -- the same across layers
-pub IsServedBy-both : (a b : Message) (i j : ℕ) → IsServedBy a i b j → IsServedBy b j a i → a.number ≡ b.number
+pub IsServedBy-both : (a b : Message) (i j : ℕ) → IsServedBy a i b j → IsServedBy b j a i → a.entry ≡ b.entry
 IsServedBy-both a b i j h g =
     elim h [
       | inl above ↦ elim g [ inl below ↦ absurd (omega arith) | inr same ↦ absurd (omega (arith, same.0)) ]
@@ -87,7 +87,7 @@ IsServedBy-total a b i j =
 
 -- a slot has one choice, where the numbers of the messages rise
 pub IsChosen-only : (messages : List Message) (air : Air) (slot : ℕ) (used other : Option (ℕ × ℕ))
-    → AllPairs (λ a b. a.number < b.number) messages → IsChosen messages air slot used
+    → AllPairs (λ a b. a.entry < b.entry) messages → IsChosen messages air slot used
     → IsChosen messages air slot other → used ≡ other
 IsChosen-only messages air slot None None rising x y = refl
 IsChosen-only messages air slot None (Some other) rising x y =
@@ -105,11 +105,11 @@ IsChosen-only messages air slot (Some used) (Some other) rising x y =
     let Q : Message → Type 0 = λ o. (i : ℕ) → IsPending o i air slot → IsServedBy n k o i in
     let before = subst P y.3 (x.4.1.first y.0 n y.2) k y.4.1.pending in
     let after = subst Q x.3 (y.4.1.first x.0 m x.2) j x.4.1.pending in
-    let number = IsServedBy-both m n j k before after in
+    let entry = IsServedBy-both m n j k before after in
     let here = x.3 in
     let there = sym (get_or_default messages y.0 n m y.2) ∙ y.3 in
-    let place = rising-same (λ (o : Message). o.number) messages rising x.0 y.0 m x.2 y.2
-    (ap (λ (o : Message). o.number) here ∙ (number ∙ sym (ap (λ (o : Message). o.number) there))) in
+    let place = rising-same (λ (o : Message). o.entry) messages rising x.0 y.0 m x.2 y.2
+    (ap (λ (o : Message). o.entry) here ∙ (entry ∙ sym (ap (λ (o : Message). o.entry) there))) in
     let same : m ≡ n = sym here ∙ (ap (λ i. get_or messages i m) place ∙ there) in
     let Pending : Message → Type 0 = λ o. IsPending o j air slot in
     let broadcast = IsPending-only n j k air slot (subst Pending same x.4.1.pending) y.4.1.pending in
@@ -123,7 +123,7 @@ IsPending-append m j air more slot h p = record {
   released = p.released;
   not_due = p.not_due;
   standing = p.standing;
-  unfinished = rw (pages_aired-append m.number air more (release m j) slot h) p.unfinished;
+  unfinished = rw (pages_aired-append m.entry air more (release m j) slot h) p.unfinished;
 }
 
 pub IsPending-unappend : (m : Message) (j : ℕ) (air more : Air) (slot : ℕ) → slot ≤ length air
@@ -133,7 +133,7 @@ IsPending-unappend m j air more slot h p = record {
   released = p.released;
   not_due = p.not_due;
   standing = p.standing;
-  unfinished = rw (← pages_aired-append m.number air more (release m j) slot h) p.unfinished;
+  unfinished = rw (← pages_aired-append m.entry air more (release m j) slot h) p.unfinished;
 }
 
 pub IsChosen-append : (messages : List Message) (air more : Air) (slot : ℕ) (used : Option (ℕ × ℕ)) → slot ≤ length air
@@ -152,7 +152,7 @@ IsChosen-append messages air more slot (Some used) h x = (
       first = λ k d within. λ i p. x.4.1.first k d within i (IsPending-unappend (get_or messages k d) i air more slot h
           p);
     },
-    x.4.2 ∙ ap (λ n. (x.1.number, n + 1)) (sym (pages_aired-append x.1.number air more (release x.1 x.4.0) slot h)),
+    x.4.2 ∙ ap (λ n. (x.1.entry, n + 1)) (sym (pages_aired-append x.1.entry air more (release x.1 x.4.0) slot h)),
   ),
 )
 
@@ -223,15 +223,15 @@ IsPending-unstopped m true stop j air slot free p =
     }
 IsPending-unstopped m false stop j air slot free p = p
 
-pub IsChosen-stop : (messages : List Message) (number stop : ℕ) (air : Air) (slot : ℕ) (used : Option (ℕ × ℕ))
-    → slot < stop → All (λ m. m.number ≡ number → m.stop ≡ None) messages → IsChosen messages air slot used
-    → IsChosen (stopped_at number stop messages) air slot used
-IsChosen-stop messages number stop air slot None before free x =
-    All-map (λ o. (j : ℕ) → ¬ IsPending o j air slot) (λ (m : Message). stopped_if (m.number == number) stop m)
+pub IsChosen-stop : (messages : List Message) (entry stop : ℕ) (air : Air) (slot : ℕ) (used : Option (ℕ × ℕ))
+    → slot < stop → All (λ m. m.entry ≡ entry → m.stop ≡ None) messages → IsChosen messages air slot used
+    → IsChosen (stopped_at entry stop messages) air slot used
+IsChosen-stop messages entry stop air slot None before free x =
+    All-map (λ o. (j : ℕ) → ¬ IsPending o j air slot) (λ (m : Message). stopped_if (m.entry == entry) stop m)
     messages (λ k d within. λ j p. x k d within j (IsPending-unstopped (get_or messages k d) _ stop j air slot
-    (λ e. free k d within (eqb-true _ number e)) p))
-IsChosen-stop messages number stop air slot (Some used) before free x =
-    let g : Message → Message = λ m. stopped_if (m.number == number) stop m in (
+    (λ e. free k d within (eqb-true _ entry e)) p))
+IsChosen-stop messages entry stop air slot (Some used) before free x =
+    let g : Message → Message = λ m. stopped_if (m.entry == entry) stop m in (
       x.0,
       g x.1,
       omega (arith, length-map messages g, x.2),
@@ -239,19 +239,19 @@ IsChosen-stop messages number stop air slot (Some used) before free x =
       (
         x.4.0,
         record {
-          pending = IsPending-stopped x.1 (x.1.number == number) stop x.4.0 air slot before x.4.1.pending;
+          pending = IsPending-stopped x.1 (x.1.entry == entry) stop x.4.0 air slot before x.4.1.pending;
           first = All-map (λ o. (j : ℕ) → IsPending o j air slot → IsServedBy (g x.1) x.4.0 o j) g messages
               (λ k d within. λ j p. x.4.1.first k d within j (IsPending-unstopped (get_or messages k d) _ stop j air
-              slot (λ e. free k d within (eqb-true _ number e)) p));
+              slot (λ e. free k d within (eqb-true _ entry e)) p));
         },
         x.4.2,
       ),
     )
 
-pub IsAirOf-stop : (messages : List Message) (number stop : ℕ) (air : Air) → length air ≤ stop
-    → All (λ m. m.number ≡ number → m.stop ≡ None) messages → IsAirOf messages air
-    → IsAirOf (stopped_at number stop messages) air
-IsAirOf-stop messages number stop air later free rule = λ slot within. IsChosen-stop messages number stop air slot
+pub IsAirOf-stop : (messages : List Message) (entry stop : ℕ) (air : Air) → length air ≤ stop
+    → All (λ m. m.entry ≡ entry → m.stop ≡ None) messages → IsAirOf messages air
+    → IsAirOf (stopped_at entry stop messages) air
+IsAirOf-stop messages entry stop air later free rule = λ slot within. IsChosen-stop messages entry stop air slot
     (get_or air slot None) (omega arith) free (rule slot within)
 
 -- the slot `to` adds its own to the pages that are aired up to it
@@ -263,49 +263,49 @@ pages_aired-more n air from to after within =
 
 -- a slot that airs a page of a message airs the next page of its pending broadcast
 chosen_is_pending : (messages : List Message) (air : Air) (slot : ℕ) (m : Message) (used : Option (ℕ × ℕ))
-    → AllPairs (λ a b. a.number < b.number) messages → Contains messages m → IsChosen messages air slot used
-    → airs m.number used ≡ true → (j : ℕ) × IsPending m j air slot × (used ≡ Some (next_page m j air slot))
+    → AllPairs (λ a b. a.entry < b.entry) messages → Contains messages m → IsChosen messages air slot used
+    → airs m.entry used ≡ true → (j : ℕ) × IsPending m j air slot × (used ≡ Some (next_page m j air slot))
 chosen_is_pending messages air slot m None rising here chosen named = absurd (false≢true named)
 chosen_is_pending messages air slot m (Some used) rising here chosen named =
     let n = chosen.1 in
     let j = chosen.4.0 in
-    let mine = sym (eqb-true used.0 m.number named) in
+    let mine = sym (eqb-true used.0 m.entry named) in
     let there = sym (get_or_default messages chosen.0 n m chosen.2) ∙ chosen.3 in
-    let numbers = ap (λ (o : Message). o.number) here.2 ∙ (mine
-    ∙ (ap (λ (u : ℕ × ℕ). u.0) chosen.4.2 ∙ sym (ap (λ (o : Message). o.number) there))) in
-    let place = rising-same (λ (o : Message). o.number) messages rising here.0 chosen.0 m here.1 chosen.2 numbers in
+    let numbers = ap (λ (o : Message). o.entry) here.2 ∙ (mine
+    ∙ (ap (λ (u : ℕ × ℕ). u.0) chosen.4.2 ∙ sym (ap (λ (o : Message). o.entry) there))) in
+    let place = rising-same (λ (o : Message). o.entry) messages rising here.0 chosen.0 m here.1 chosen.2 numbers in
     let same : n ≡ m = sym there ∙ (sym (ap (λ i. get_or messages i m) place) ∙ here.2) in
     let Pending : Message → Type 0 = λ o. IsPending o j air slot in
     (j, subst Pending same chosen.4.1.pending, ap Some (chosen.4.2 ∙ ap (λ o. next_page o j air slot) same))
 
 pub aired_is_pending : (messages : List Message) (air : Air) (slot : ℕ) (m : Message)
-    → AllPairs (λ a b. a.number < b.number) messages → Contains messages m → IsAirOf messages air → slot < length air
-    → airs m.number (get_or air slot None) ≡ true → (j : ℕ) × IsPending m j air slot
+    → AllPairs (λ a b. a.entry < b.entry) messages → Contains messages m → IsAirOf messages air → slot < length air
+    → airs m.entry (get_or air slot None) ≡ true → (j : ℕ) × IsPending m j air slot
     × (get_or air slot None ≡ Some (next_page m j air slot))
 aired_is_pending messages air slot m rising here rule within named =
     chosen_is_pending messages air slot m (get_or air slot None) rising here (rule slot within) named
 
 -- no broadcast has more pages aired than its message has
 pub pages_aired-at_most : (messages : List Message) (air : Air) (m : Message) (j to : ℕ)
-    → AllPairs (λ a b. a.number < b.number) messages → Contains messages m → IsAirOf messages air → to ≤ length air
-    → to ≤ due m j → pages_aired m.number air (release m j) to ≤ m.pages
+    → AllPairs (λ a b. a.entry < b.entry) messages → Contains messages m → IsAirOf messages air → to ≤ length air
+    → to ≤ due m j → pages_aired m.entry air (release m j) to ≤ m.pages
 pages_aired-at_most messages air m j zero rising here rule within by_due =
-    omega (arith, pages_aired-none m.number air (release m j) 0 (omega arith))
+    omega (arith, pages_aired-none m.entry air (release m j) 0 (omega arith))
 pages_aired-at_most messages air m j (suc to) rising here rule within by_due =
     elim (cases_lt to (release m j)) [
-      | inl before ↦ omega (arith, pages_aired-none m.number air (release m j) (suc to) (omega arith))
+      | inl before ↦ omega (arith, pages_aired-none m.entry air (release m j) (suc to) (omega arith))
       | inr released ↦
           let before = pages_aired-at_most messages air m j to rising here rule (omega arith) (omega arith) in
           let upto : suc to ≡ to + 1 = omega arith in
-          let more = ap (λ k. pages_aired m.number air (release m j) k) upto
-          ∙ pages_aired-more m.number air (release m j) to released (omega arith) in
-          elim (cases_Bool (airs m.number (get_or air to None))) [
+          let more = ap (λ k. pages_aired m.entry air (release m j) k) upto
+          ∙ pages_aired-more m.entry air (release m j) to released (omega arith) in
+          elim (cases_Bool (airs m.entry (get_or air to None))) [
             | inl used ↦
                 let found = aired_is_pending messages air to m rising here rule (omega arith) used in
                 let known = pending_has_period m found.0 air to found.1 in
                 let only = broadcast_at-only m to found.0 known.0 known.1 found.1.released found.1.not_due
                 ∙ sym (broadcast_at-only m to j known.0 known.1 released (omega arith)) in
-                let Few : ℕ → Type 0 = λ i. pages_aired m.number air (release m i) to < m.pages in
+                let Few : ℕ → Type 0 = λ i. pages_aired m.entry air (release m i) to < m.pages in
                 let few = subst Few only found.1.unfinished in
                 let one = ap (λ (b : Bool). one_if b) used in
                 omega (arith, more, few, one)

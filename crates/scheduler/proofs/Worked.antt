@@ -8,8 +8,8 @@ use Rattle.scheduler.specs.Completed.{completed}
 use Rattle.scheduler.specs.Choice.{air_of}
 
 abbrev message : ℕ → ℕ → ℕ → ℕ → Rank → Message
-message number pages period requested rank = record {
-  number = number;
+message entry pages period requested rank = record {
+  entry = entry;
   start = 0;
   pages = pages;
   period = period;

@@ -11,12 +11,12 @@ Air = List (Option (ℕ × ℕ))
 
 -- the slot airs a page of that number
 abbrev pub airs : ℕ → Option (ℕ × ℕ) → Bool
-airs number None = false
-airs number (Some used) = used.0 == number
+airs entry None = false
+airs entry (Some used) = used.0 == entry
 
 -- how many of the slots from `from` up to, and without, `to` air a page of that number
 abbrev pub pages_aired : ℕ → Air → ℕ → ℕ → ℕ
-pages_aired number air from to = count_by (airs number) (slice_range air from to)
+pages_aired entry air from to = count_by (airs entry) (slice_range air from to)
 
 -- broadcast j of the message may use the slot: it was requested, it is released and not due, the message was not
 -- stopped by then, and of its pages fewer were aired since its release than it has
@@ -25,7 +25,7 @@ pub record IsPending (m : Message) (j : ℕ) (air : Air) (slot : ℕ) : Type 0 w
   pub released : release m j ≤ slot
   pub not_due : slot < due m j
   pub standing : IsBeforeStop slot m.stop
-  pub unfinished : pages_aired m.number air (release m j) slot < m.pages
+  pub unfinished : pages_aired m.entry air (release m j) slot < m.pages
 
 -- background comes after all others
 abbrev pub layer_of : Rank → ℕ
@@ -49,7 +49,7 @@ class m = class_of m.rank
 -- their numbers
 abbrev pub IsNoLater : Message → ℕ → Message → ℕ → Type 0
 IsNoLater a i b j =
-    (due a i < due b j) ⊎ ((due a i ≡ due b j) × ((class a < class b) ⊎ ((class a ≡ class b) × (a.number ≤ b.number))))
+    (due a i < due b j) ⊎ ((due a i ≡ due b j) × ((class a < class b) ⊎ ((class a ≡ class b) × (a.entry ≤ b.entry))))
 
 -- broadcast i of a is served no later than broadcast j of b: where it is of the lower layer, and within a layer as
 -- above
@@ -63,7 +63,7 @@ pub record IsFirst (messages : List Message) (air : Air) (slot : ℕ) (m : Messa
 
 -- the message's number, with the page after those that were aired since the release of broadcast j
 abbrev pub next_page : Message → ℕ → Air → ℕ → ℕ × ℕ
-next_page m j air slot = (m.number, pages_aired m.number air (release m j) slot + 1)
+next_page m j air slot = (m.entry, pages_aired m.entry air (release m j) slot + 1)
 
 -- what the slot airs by the rule: the next page of the first pending broadcast, and nothing where none is pending
 abbrev pub IsChosen : List Message → Air → ℕ → Option (ℕ × ℕ) → Type 0

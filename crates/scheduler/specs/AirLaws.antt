@@ -10,7 +10,7 @@ use Rattle.scheduler.specs.Renumbered.{KeepsOrder, renumbered, use_renumbered}
 
 -- each later message has a greater number
 abbrev pub NumbersRise : List Message → Type 0
-NumbersRise messages = AllPairs (λ a b. a.number < b.number) messages
+NumbersRise messages = AllPairs (λ a b. a.entry < b.entry) messages
 
 -- what a slot airs is determined
 abbrev pub OneChoice : Type 0
@@ -62,11 +62,11 @@ LaterMessagesChangeNothing = (messages : List Message) (message : Message) (air 
 
 -- a stop changes nothing before its slot
 abbrev pub LaterStopsChangeNothing : Type 0
-LaterStopsChangeNothing = (messages : List Message) (number slot : ℕ) (air : Air)
+LaterStopsChangeNothing = (messages : List Message) (entry slot : ℕ) (air : Air)
     → length air ≤ slot
-    → All (λ m. m.number ≡ number → m.stop ≡ None) messages
+    → All (λ m. m.entry ≡ entry → m.stop ≡ None) messages
     → IsAirOf messages air
-    → IsAirOf (stopped_at number slot messages) air
+    → IsAirOf (stopped_at entry slot messages) air
 
 -- a slot that airs a page of a message airs the next page of the one broadcast of it that is pending: so the pages of
 -- a broadcast come in order, and none comes at or after the stop
@@ -76,7 +76,7 @@ PagesComeInOrder = (messages : List Message) (air : Air) (slot : ℕ) (message :
     → Contains messages message
     → IsAirOf messages air
     → slot < length air
-    → airs message.number (slice_index_or air slot None) ≡ true
+    → airs message.entry (slice_index_or air slot None) ≡ true
     → (j : ℕ) × IsPending message j air slot × (slice_index_or air slot None ≡ Some (next_page message j air slot))
 
 -- no broadcast has more pages aired, by its due slot, than its message has
@@ -87,7 +87,7 @@ AtMostItsPages = (messages : List Message) (air : Air) (message : Message) (j sl
     → IsAirOf messages air
     → slot ≤ length air
     → slot ≤ due message j
-    → pages_aired message.number air (release message j) slot ≤ message.pages
+    → pages_aired message.entry air (release message j) slot ≤ message.pages
 
 -- of a broadcast of which some pages are aired before a slot, and by its due slot, each page up to that number is
 -- aired once
@@ -99,8 +99,8 @@ PagesComeOnce = (messages : List Message) (air : Air) (message : Message) (j pag
     → slot ≤ length air
     → slot ≤ due message j
     → 1 ≤ page
-    → page ≤ pages_aired message.number air (release message j) slot
-    → times_between message.number page air (release message j) slot ≡ 1
+    → page ≤ pages_aired message.entry air (release message j) slot
+    → times_between message.entry page air (release message j) slot ≡ 1
 
 -- so a broadcast that is whole has each page of its message aired once, from its release up to its due slot
 abbrev pub WholeIsEachPageOnce : Type 0
@@ -112,7 +112,7 @@ WholeIsEachPageOnce = (messages : List Message) (air : Air) (message : Message) 
     → IsWhole message j air slot
     → 1 ≤ page
     → page ≤ message.pages
-    → times_between message.number page air (release message j) (min (due message j) slot) ≡ 1
+    → times_between message.entry page air (release message j) (min (due message j) slot) ≡ 1
 
 -- the last page of a message is aired as often as a broadcast of it is whole
 abbrev pub LastPagesAreWholeBroadcasts : Type 0
@@ -123,7 +123,7 @@ LastPagesAreWholeBroadcasts = (messages : List Message) (air : Air) (message : M
     → 0 < message.period
     → IsAirOf messages air
     → slot ≤ length air
-    → times_aired message.number message.pages air slot ≡ completed message air slot
+    → times_aired message.entry message.pages air slot ≡ completed message air slot
 
 -- and none of its pages less often
 abbrev pub NoPageLessOften : Type 0
@@ -135,7 +135,7 @@ NoPageLessOften = (messages : List Message) (air : Air) (message : Message) (pag
     → 0 < message.period
     → IsAirOf messages air
     → slot ≤ length air
-    → completed message air slot ≤ times_aired message.number page air slot
+    → completed message air slot ≤ times_aired message.entry page air slot
 
 -- the completed number leaves out no whole broadcast
 abbrev pub AllAreCounted : Type 0

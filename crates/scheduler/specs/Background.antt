@@ -13,7 +13,7 @@ foreground messages = filter (λ m. layer m == 0) messages
 
 -- a background message has that number
 abbrev pub has_background : List Message → ℕ → Bool
-has_background messages number = list_any (λ m. is_background m && (m.number == number)) messages
+has_background messages entry = list_any (λ m. is_background m && (m.entry == entry)) messages
 
 -- a slot that airs a page of a background message made idle
 abbrev pub blank_use : List Message → Option (ℕ × ℕ) → Option (ℕ × ℕ)

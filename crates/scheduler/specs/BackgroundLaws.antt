@@ -28,7 +28,7 @@ BlankingKeepsPages = (messages : List Message) (air : Air) (message : Message) (
     → NumbersRise messages
     → Contains messages message
     → layer message ≡ 0
-    → pages_aired message.number (blanked messages air) from to ≡ pages_aired message.number air from to
+    → pages_aired message.entry (blanked messages air) from to ≡ pages_aired message.entry air from to
 
 -- and the same whole broadcasts
 abbrev pub BlankingKeepsCompleted : Type 0

@@ -10,7 +10,7 @@ abbrev pub is_pending : Air → ℕ → Message → Bool
 is_pending air slot m =
     let j = broadcast_at m slot in
     nat_le m.start slot && (has_broadcast m j && (is_before_stop slot m.stop && nat_lt
-    (pages_aired m.number air (release m j) slot) m.pages))
+    (pages_aired m.entry air (release m j) slot) m.pages))
 
 -- within a layer, the broadcast of a in whose time the slot lies comes no later than that of b
 abbrev pub is_no_later : ℕ → Message → Message → Bool
@@ -18,7 +18,7 @@ is_no_later slot a b =
     let mine = due a (broadcast_at a slot) in
     let other = due b (broadcast_at b slot) in
     nat_lt mine other || ((mine == other) && (nat_lt (class a) (class b) ||
-    ((class a == class b) && nat_le a.number b.number)))
+    ((class a == class b) && nat_le a.entry b.entry)))
 
 -- and it is served no later
 abbrev pub is_served_by : ℕ → Message → Message → Bool

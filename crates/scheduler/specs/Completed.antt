@@ -9,13 +9,13 @@ use Rattle.scheduler.specs.Air.{Air, pages_aired}
 pub record IsWhole (m : Message) (j : ℕ) (air : Air) (slot : ℕ) : Type 0 where
   pub requested : HasBroadcast m j
   pub released : IsBeforeStop (release m j) m.stop
-  pub aired : m.pages ≤ pages_aired m.number air (release m j) (min (due m j) slot)
+  pub aired : m.pages ≤ pages_aired m.entry air (release m j) (min (due m j) slot)
 
 -- the same as a test
 abbrev pub is_whole : Message → Air → ℕ → ℕ → Bool
 is_whole m air slot j =
     has_broadcast m j && (is_before_stop (release m j) m.stop && nat_le m.pages
-    (pages_aired m.number air (release m j) (min (due m j) slot)))
+    (pages_aired m.entry air (release m j) (min (due m j) slot)))
 
 -- how many broadcasts of the message are whole before the slot. Broadcast j is released j slots or more after the
 -- start, so that those up to the slot's own number are all

@@ -14,7 +14,7 @@ pub record Kept : Type 0 where
 -- the message that an item adds
 abbrev pub message_from : Item → Message
 message_from item = record {
-  number = item.entry;
+  entry = item.entry;
   start = item.start;
   pages = item.pages;
   period = item.period;

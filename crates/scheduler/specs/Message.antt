@@ -3,10 +3,11 @@ use Rattle.std.specs.Prelude.{◌≡◌, ℕ, ◌+◌, ◌-◌, ◌*◌, ◌/◌
 use Rattle.std.specs.Prelude.{Option, Some, None, List, map}
 use Rattle.scheduler.specs.declared.plan.Rank.{Rank}
 
--- a message: its number, the slot from which it stands, its pages, its period in slots, how many broadcasts were
--- requested (0 where it stands until it is stopped), the slot before which it was stopped, if it was, and its rank
+-- a message: the number of its entry in the log, the slot from which it stands, its pages, its period in slots, how
+-- many broadcasts were requested (0 where it stands until it is stopped), the slot before which it was stopped, if it
+-- was, and its rank
 pub record Message : Type 0 where
-  pub number : ℕ
+  pub entry : ℕ
   pub start : ℕ
   pub pages : ℕ
   pub period : ℕ
@@ -48,4 +49,4 @@ abbrev pub stopped_if : Bool → ℕ → Message → Message
 stopped_if says slot m = record m { stop = if says then Some slot else m.stop }
 
 abbrev pub stopped_at : ℕ → ℕ → List Message → List Message
-stopped_at number slot messages = map (λ m. stopped_if (m.number == number) slot m) messages
+stopped_at entry slot messages = map (λ m. stopped_if (m.entry == entry) slot m) messages

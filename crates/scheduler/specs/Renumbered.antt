@@ -7,7 +7,7 @@ abbrev pub KeepsOrder : (ℕ → ℕ) → Type 0
 KeepsOrder f = (a b : ℕ) → a < b → f a < f b
 
 abbrev pub renumbered : (ℕ → ℕ) → Message → Message
-renumbered f m = record m { number = f m.number }
+renumbered f m = record m { entry = f m.entry }
 
 abbrev pub use_renumbered : (ℕ → ℕ) → Option (ℕ × ℕ) → Option (ℕ × ℕ)
 use_renumbered f None = None

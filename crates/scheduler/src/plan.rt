@@ -120,7 +120,7 @@ impl Plan {
     /// of the messages added before, and it has a page or more and a period of 1 slot or more. After `Err` the plan
     /// is unchanged.
     pub fn add(&mut self, item: Item) -> Result<(), Refused>
-        requires rising { All (λ m. m.number < item.entry) (messages_of self.old) }
+        requires rising { All (λ m. m.entry < item.entry) (messages_of self.old) }
         requires from_next { next_slot self.old ≤ item.start }
         requires some_pages { 0 < item.pages }
         requires some_period { 0 < item.period }
@@ -160,11 +160,11 @@ impl Plan {
     /// Stops the message of `entry` before `slot`, which is asked next, and tells how many of its broadcasts were aired
     /// whole. It was added, and not stopped before.
     pub fn stop(&mut self, entry: u16, slot: u16) -> u16
-        requires standing { Any (λ m. (m.number ≡ entry) × (m.stop ≡ None)) (messages_of self.old) }
+        requires standing { Any (λ m. (m.entry ≡ entry) × (m.stop ≡ None)) (messages_of self.old) }
         requires at_next { slot ≡ next_slot self.old }
         ensures completed { (messages : List Message) (air : Air)
             → Follows self.old messages air
-            → All (λ m. m.number ≡ entry → result ≡ completed m air slot) messages }
+            → All (λ m. m.entry ≡ entry → result ≡ completed m air slot) messages }
         ensures follows { (messages : List Message) (air : Air)
             → Follows self.old messages air
             → Follows self.new (stopped_at entry slot messages) air }
@@ -178,10 +178,10 @@ impl Plan {
 
     /// How many broadcasts of the message of `entry` were aired whole in the slots that were asked. It was added.
     pub fn done(&self, entry: u16) -> u16
-        requires { Any (λ m. m.number ≡ entry) (messages_of self.now) }
+        requires { Any (λ m. m.entry ≡ entry) (messages_of self.now) }
         ensures { (messages : List Message) (air : Air)
             → Follows self.now messages air
-            → All (λ m. m.number ≡ entry → result ≡ completed m air (length air)) messages }
+            → All (λ m. m.entry ≡ entry → result ≡ completed m air (length air)) messages }
     {
         completed_of(self.tracked.as_slice(), entry)
     }
@@ -196,8 +196,8 @@ impl Plan {
     /// Whether the number is above those of the messages that were added, as `add` asks.
     pub fn is_above_all(&self, entry: u16) -> bool
         ensures { MatchBool result
-            (All (λ m. m.number < entry) (messages_of self.now))
-            (Any (λ m. entry ≤ m.number) (messages_of self.now)) }
+            (All (λ m. m.entry < entry) (messages_of self.now))
+            (Any (λ m. entry ≤ m.entry) (messages_of self.now)) }
     {
         are_below(self.tracked.as_slice(), entry)
     }
@@ -205,8 +205,8 @@ impl Plan {
     /// Whether the message of `entry` was added, as `done` asks.
     pub fn is_added(&self, entry: u16) -> bool
         ensures { MatchBool result
-            (Any (λ m. m.number ≡ entry) (messages_of self.now))
-            (All (λ m. m.number ≢ entry) (messages_of self.now)) }
+            (Any (λ m. m.entry ≡ entry) (messages_of self.now))
+            (All (λ m. m.entry ≢ entry) (messages_of self.now)) }
     {
         has_entry(self.tracked.as_slice(), entry)
     }
@@ -214,8 +214,8 @@ impl Plan {
     /// Whether the message of `entry` was added, and not stopped, as `stop` asks.
     pub fn is_standing(&self, entry: u16) -> bool
         ensures { MatchBool result
-            (Any (λ m. (m.number ≡ entry) × (m.stop ≡ None)) (messages_of self.now))
-            (All (λ m. m.number ≡ entry → m.stop ≢ None) (messages_of self.now)) }
+            (Any (λ m. (m.entry ≡ entry) × (m.stop ≡ None)) (messages_of self.now))
+            (All (λ m. m.entry ≡ entry → m.stop ≢ None) (messages_of self.now)) }
     {
         has_standing(self.tracked.as_slice(), entry)
     }

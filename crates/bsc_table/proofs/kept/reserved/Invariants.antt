@@ -6,5 +6,5 @@ use Rattle.bsc_table.proofs.kept.reserved.Given as goal
 
 abbrev pub invariant-loop-kept : goal.invariant-loop-kept
 invariant-loop-kept l =
-    find (λ a. (a.message.number == l.number) && (layer a.message == 0)) (map accepted_of (drop l.kept-index l.table))
-    ≡ find (λ a. (a.message.number == l.number) && (layer a.message == 0)) (map accepted_of l.table)
+    find (λ a. (a.message.entry == l.entry) && (layer a.message == 0)) (map accepted_of (drop l.kept-index l.table))
+    ≡ find (λ a. (a.message.entry == l.entry) && (layer a.message == 0)) (map accepted_of l.table)

@@ -7,5 +7,5 @@ use Rattle.bsc_table.proofs.kept.stop.Goals as goal
 pub loop-kept-preserved : goal.loop-kept-preserved
 loop-kept-preserved c =
     let inside : c.loop-kept.kept-index < length c.loop-kept.table = omega arith in
-    rw c.stopped_if.ensures (map_over_more (kept_stopped c.args.number c.args.slot) c.args.table.now c.loop-kept.table
+    rw c.stopped_if.ensures (map_over_more (kept_stopped c.args.entry c.args.slot) c.args.table.now c.loop-kept.table
     c.loop-kept.kept-index _ (omega arith) c.loop-kept.invariant (get_or_default _ _ _ _ inside))

@@ -4,5 +4,5 @@ use Rattle.bsc_table.proofs.kept.stop.Given as goal
 
 abbrev pub invariant-loop-kept : goal.invariant-loop-kept
 invariant-loop-kept l =
-    l.table ≡ map (kept_stopped l.number l.slot) (take l.kept-index l.initial.table) ++ drop l.kept-index
+    l.table ≡ map (kept_stopped l.entry l.slot) (take l.kept-index l.initial.table) ++ drop l.kept-index
     l.initial.table

@@ -22,7 +22,7 @@ add-requires-clause-rising c =
     let start = subst Starts (sym c.self.view_is) c.requires.start in
     let may = start.begun in
     let below = planned_below c.self.inside.plan r.log r.air c.self.invariant.follows in
-    let entry = ap (λ (m : Message). m.number) c.item.ensures in
+    let entry = ap (λ (m : Message). m.entry) c.item.ensures in
     λ k d h. omega (arith, below k d h, entry, may.numbered)
 
 pub reserve_for-requires-clause-soon : goal.reserve_for-requires-clause-soon

@@ -29,7 +29,7 @@ add-requires-clause-rising c =
     let change = subst Replaces (sym c.self.view_is) c.requires.replacement in
     let may = change.begun in
     let below = planned_below c.self.inside.plan r.log r.air c.self.invariant.follows in
-    let entry = ap (λ (m : Message). m.number) c.item.ensures in
+    let entry = ap (λ (m : Message). m.entry) c.item.ensures in
     λ k d h. omega (arith, below k d h, entry, may.numbered)
 
 pub stop-requires-2-clause-standing : goal.stop-requires-2-clause-standing
@@ -58,7 +58,7 @@ release-requires-clause-reserved c =
     let old : Accepted = accepted_of c.args.old.now in
     let Replaces : Record → Type 0 = λ x. IsReplacement x c.args.entry old (accepted_of c.args.new) in
     let change = subst Replaces (sym c.self.view_is) c.requires.replacement in
-    let Has : List Held → Type 0 = λ lines. Any (λ (h : Held). h.entry ≡ old.message.number) lines in
+    let Has : List Held → Type 0 = λ lines. Any (λ (h : Held). h.entry ≡ old.message.entry) lines in
     λ is. subst Has (sym c.self.invariant.held) (held_in r old c.self.invariant.legal change.stops
     (in_front c.args.old.now.category is))
 
@@ -66,14 +66,14 @@ pub reserve_for-requires-clause-unreserved : goal.reserve_for-requires-clause-un
 reserve_for-requires-clause-unreserved c =
     let r : Record = record_of c.self.inside in
     let old : Accepted = accepted_of c.args.old.now in
-    let number : ℕ = old.message.number in
+    let entry : ℕ = old.message.entry in
     let Replaces : Record → Type 0 = λ x. IsReplacement x c.args.entry old (accepted_of c.args.new) in
     let change = subst Replaces (sym c.self.view_is) c.requires.replacement in
     let lines = released_lines r old c.self.inside.budget c.release.new.budget c.self.invariant.legal change.stops
     c.self.invariant.held (is_background c.args.old.now.category) (layer_tells c.args.old.now.category)
     c.release.ensures in
     let Below : List Held → Type 0 = λ l. All (λ (h : Held). h.entry < length r.log) l in
-    let below = subst Below (sym lines) (held_below_without r.clock number r.log) in
+    let below = subst Below (sym lines) (held_below_without r.clock entry r.log) in
     λ k d h same. omega (arith, below k d h, change.begun.numbered, same)
 
 pub reserve_for-requires-clause-room : goal.reserve_for-requires-clause-room
@@ -96,7 +96,7 @@ release-requires-clause-free c =
     let r : Record = record_of c.self.inside in
     let old : Accepted = accepted_of c.args.old.now in
     let Replaces : Record → Type 0 = λ x. IsReplacement x c.args.entry old (accepted_of c.args.new) in
-    let Free : List Held → Type 0 = λ lines. All (λ (h : Held). behind_of h ≢ Some old.message.number) lines in
+    let Free : List Held → Type 0 = λ lines. All (λ (h : Held). behind_of h ≢ Some old.message.entry) lines in
     let change = subst Replaces (sym c.self.view_is) c.requires.replacement in
     λ is. subst Free (sym c.self.invariant.held) (free_of r old c.self.invariant.legal change.stops
     (in_front c.args.old.now.category is))
@@ -108,10 +108,10 @@ invariant_of-self-2 c =
     let e : Entry = c.args.entry in
     let old : Accepted = accepted_of c.args.old.now in
     let new : Accepted = accepted_of c.args.new in
-    let number : ℕ = old.message.number in
-    let rest : List Accepted = map (stop_numbered number r.clock) (accepted_in r.log) in
+    let entry : ℕ = old.message.entry in
+    let rest : List Accepted = map (stop_numbered entry r.clock) (accepted_in r.log) in
     let before : List Message = messages_in r.log in
-    let after : List Message = stopped_at number r.clock before in
+    let after : List Message = stopped_at entry r.clock before in
     let inside = sym c.self.view_is in
     let Next : Record → Type 0 = λ x. IsNext x e in
     let Replaces : Record → Type 0 = λ x. IsReplacement x e old new in
@@ -119,14 +119,14 @@ invariant_of-self-2 c =
     let change = subst Replaces inside c.requires.replacement in
     let may = change.begun in
     let sound = IsSound-legal r book.legal in
-    let same = messages_stopped number r.clock (accepted_in r.log) in
+    let same = messages_stopped entry r.clock (accepted_in r.log) in
     -- the log and what is kept
     let grown = c.push_reserved-2.ensures.items ∙ ap (λ (l : List Entry). l ++ e ∷ []) c.reserve.ensures.items in
     let room = c.reserve-2.new.self in
-    let stopped = table_stopped room c.as_mut_slice.result.now c.stop.new.table number r.clock
+    let stopped = table_stopped room c.as_mut_slice.result.now c.stop.new.table entry r.clock
     c.as_mut_slice.ensures.value c.as_mut_slice.ensures.len c.stop.ensures
-    ∙ ap (λ (l : List Kept). map (stop_numbered number r.clock) (map accepted_of l)) c.reserve-2.ensures.items
-    ∙ ap (map (stop_numbered number r.clock)) book.kept in
+    ∙ ap (λ (l : List Kept). map (stop_numbered entry r.clock) (map accepted_of l)) c.reserve-2.ensures.items
+    ∙ ap (map (stop_numbered entry r.clock)) book.kept in
     let kept = ap (map accepted_of) c.push_reserved.ensures.items
     ∙ kept_more (with_items room c.stop.new.table).items c.args.new rest stopped ∙ sym change.after in
     -- the plan
@@ -137,15 +137,15 @@ invariant_of-self-2 c =
     let added = subst FollowsOne told (c.in_ok-add.ensures.follows before r.air book.follows) in
     let FollowsThese : List Message → Type 0 = λ all. Follows c.stop-2.new.self all r.air in
     let below = number_below r.log old change.stops.there in
-    let apart = stopped_beside number r.clock before new.message (λ equal. omega (arith, below, may.numbered, equal)) in
+    let apart = stopped_beside entry r.clock before new.message (λ equal. omega (arith, below, may.numbered, equal)) in
     let follows = subst FollowsThese apart (c.stop-2.ensures.follows (before ++ new.message ∷ []) r.air added) in
     -- the budget
-    let left : List Claim = stop_claims number r.clock (claims_in r.log) in
+    let left : List Claim = stop_claims entry r.clock (claims_in r.log) in
     let released = released_lines r old c.self.inside.budget c.release.new.budget book.legal change.stops book.held
     (is_background c.args.old.now.category) (layer_tells c.args.old.now.category) c.release.ensures in
     let claims = claims_with r.log e rest new change.after ∙ ap
     (λ (l : List Claim). l ++ filter reserves (claim_of new ∷ []))
-    (claims_stopped number r.clock (accepted_in r.log)) in
+    (claims_stopped entry r.clock (accepted_in r.log)) in
     let lines = begun_lines (length r.log) r.clock (Some old) rest left new may c.release.new.budget
     c.reserve_for.new.budget released (is_background c.args.new.category) (layer_tells c.args.new.category)
     c.reserve_for.ensures in

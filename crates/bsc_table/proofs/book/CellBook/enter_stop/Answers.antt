@@ -37,7 +37,7 @@ release-requires-clause-reserved c =
     let r : Record = record_of c.self.inside in
     let old : Accepted = accepted_of c.args.old.now in
     let Stops : Record → Type 0 = λ x. IsStop x c.args.entry old in
-    let Has : List Held → Type 0 = λ lines. Any (λ (h : Held). h.entry ≡ old.message.number) lines in
+    let Has : List Held → Type 0 = λ lines. Any (λ (h : Held). h.entry ≡ old.message.entry) lines in
     let stop = subst Stops (sym c.self.view_is) c.requires.stop in
     λ is. subst Has (sym c.self.invariant.held) (held_in r old c.self.invariant.legal stop.stops
     (in_front c.args.old.now.category is))
@@ -47,7 +47,7 @@ release-requires-clause-free c =
     let r : Record = record_of c.self.inside in
     let old : Accepted = accepted_of c.args.old.now in
     let Stops : Record → Type 0 = λ x. IsStop x c.args.entry old in
-    let Free : List Held → Type 0 = λ lines. All (λ (h : Held). behind_of h ≢ Some old.message.number) lines in
+    let Free : List Held → Type 0 = λ lines. All (λ (h : Held). behind_of h ≢ Some old.message.entry) lines in
     let stop = subst Stops (sym c.self.view_is) c.requires.stop in
     λ is. subst Free (sym c.self.invariant.held) (free_of r old c.self.invariant.legal stop.stops
     (in_front c.args.old.now.category is))
@@ -58,23 +58,23 @@ invariant_of-self-2 c =
     let r : Record = record_of c.self.inside in
     let e : Entry = c.args.entry in
     let old : Accepted = accepted_of c.args.old.now in
-    let number : ℕ = old.message.number in
+    let entry : ℕ = old.message.entry in
     let Next : Record → Type 0 = λ x. IsNext x e in
     let Stops : Record → Type 0 = λ x. IsStop x e old in
     let next = subst Next (sym c.self.view_is) c.requires.next in
     let stop = subst Stops (sym c.self.view_is) c.requires.stop in
     -- the log and what is kept
     let grown = c.push_reserved.ensures.items ∙ ap (λ (l : List Entry). l ++ e ∷ []) c.reserve.ensures.items in
-    let fewer = table_stopped c.self.inside.accepted c.as_mut_slice.result.now c.stop.new.table number r.clock
+    let fewer = table_stopped c.self.inside.accepted c.as_mut_slice.result.now c.stop.new.table entry r.clock
     c.as_mut_slice.ensures.value c.as_mut_slice.ensures.len c.stop.ensures
-    ∙ ap (map (stop_numbered number r.clock)) book.kept ∙ sym stop.after in
+    ∙ ap (map (stop_numbered entry r.clock)) book.kept ∙ sym stop.after in
     -- the plan and the budget
-    let messages = messages_without r.log e number r.clock stop.after in
+    let messages = messages_without r.log e entry r.clock stop.after in
     let follows = c.stop-2.ensures.follows (messages_in r.log) r.air book.follows in
     let lines = released_lines r old c.self.inside.budget c.release.new.budget book.legal stop.stops book.held
     (is_background c.args.old.now.category) (layer_tells c.args.old.now.category) c.release.ensures in
     let FollowsAll : List Message → Type 0 = λ all. Follows c.stop-2.new.self all r.air in
-    let claims = claims_without r.log e number r.clock stop.after in
+    let claims = claims_without r.log e entry r.clock stop.after in
     let HeldFor : List Claim → Type 0 = λ all. c.release.new.budget ≡ lines_at r.clock all in
     book_with c.self.inside e c.push_reserved.new.self (with_items c.self.inside.accepted c.stop.new.table)
     c.stop-2.new.self c.release.new.budget book next grown fewer (subst FollowsAll (sym messages) follows)

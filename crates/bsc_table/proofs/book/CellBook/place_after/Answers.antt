@@ -13,9 +13,9 @@ pub returns-in_err-ahead-clause-place : goal.returns-in_err-ahead-clause-place
 returns-in_err-ahead-clause-place c =
     let r : Record = record_of c.self.inside in
     let old : Accepted = accepted_of c.args.old.now in
-    let number : ℕ = c.in_ok-number.number in
-    let p : Accepted → Bool = is_reserved_as number in
-    let ahead : ahead_of r.clock (claim_of old) ≡ Some number = sym c.ahead_at.ensures ∙ c.in_ok-number.was in
+    let entry : ℕ = c.in_ok-entry.entry in
+    let p : Accepted → Bool = is_reserved_as entry in
+    let ahead : ahead_of r.clock (claim_of old) ≡ Some entry = sym c.ahead_at.ensures ∙ c.in_ok-entry.was in
     let table = ap (λ (l : List Kept). find p (map accepted_of l)) c.as_slice.ensures.value
     ∙ ap (find p) c.self.invariant.kept in
     let found : find p (accepted_in r.log) ≡ None = sym table ∙ sym c.reserved.ensures
@@ -24,18 +24,18 @@ returns-in_err-ahead-clause-place c =
     let front = in_front c.args.old.now.category (sym c.is_background.ensures ∙ c.if-is_background.false) in
     ap (option_map place_of) c.from_residual-in_err-ahead.ensures
     ∙ subst Over c.self.view_is (sym (place_in_front (left_by r old) r.clock c.args.load old front
-    ∙ none_ahead r old number c.args.load ahead found))
+    ∙ none_ahead r old entry c.args.load ahead found))
 
 pub place_behind-requires : goal.place_behind-requires
 place_behind-requires c =
     let r : Record = record_of c.self.inside in
-    let number : ℕ = c.in_ok-number.number in
-    let p : Accepted → Bool = is_reserved_as number in
+    let entry : ℕ = c.in_ok-entry.entry in
+    let p : Accepted → Bool = is_reserved_as entry in
     let table = ap (λ (l : List Kept). find p (map accepted_of l)) c.as_slice.ensures.value
     ∙ ap (find p) c.self.invariant.kept in
     let found : find p (accepted_in r.log) ≡ Some (accepted_of c.in_ok-ahead.ahead) = sym table
     ∙ sym c.reserved.ensures ∙ ap (option_map accepted_of) c.in_ok-ahead.was in
-    let lasts = found_lasts r number (accepted_of c.in_ok-ahead.ahead) c.self.invariant.legal found in
+    let lasts = found_lasts r entry (accepted_of c.in_ok-ahead.ahead) c.self.invariant.legal found in
     subst (λ (k : Kept). 0 < k.period) (sym c.stopped_if-stopped.ensures) lasts
 
 pub returns-clause-place : goal.returns-clause-place
@@ -43,9 +43,9 @@ returns-clause-place c =
     let r : Record = record_of c.self.inside in
     let old : Accepted = accepted_of c.args.old.now in
     let k : Kept = c.in_ok-ahead.ahead in
-    let number : ℕ = c.in_ok-number.number in
-    let p : Accepted → Bool = is_reserved_as number in
-    let ahead : ahead_of r.clock (claim_of old) ≡ Some number = sym c.ahead_at.ensures ∙ c.in_ok-number.was in
+    let entry : ℕ = c.in_ok-entry.entry in
+    let p : Accepted → Bool = is_reserved_as entry in
+    let ahead : ahead_of r.clock (claim_of old) ≡ Some entry = sym c.ahead_at.ensures ∙ c.in_ok-entry.was in
     let table = ap (λ (l : List Kept). find p (map accepted_of l)) c.as_slice.ensures.value
     ∙ ap (find p) c.self.invariant.kept in
     let found : find p (accepted_in r.log) ≡ Some (accepted_of k) = sym table ∙ sym c.reserved.ensures
@@ -57,5 +57,5 @@ returns-clause-place c =
     let same = ap (λ (s : Kept). place_before r.clock c.args.load (claim_of (accepted_of s)) (stopped_end s))
     c.stopped_if-stopped.ensures in
     subst Over c.self.view_is (c.place_behind.ensures.place ∙ same
-    ∙ place_ahead r old number c.args.load k c.self.invariant.legal live front ahead found
+    ∙ place_ahead r old entry c.args.load k c.self.invariant.legal live front ahead found
     ∙ sym (place_in_front (left_by r old) r.clock c.args.load old front))

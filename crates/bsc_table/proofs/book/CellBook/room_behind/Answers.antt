@@ -55,9 +55,9 @@ returns c =
     let asked = c.fits_behind.ensures
     ∙ ap (λ (leaving : Option ℕ). answer_for (remaining_without leaving c.self.inside.budget)
     (excess_over place.behind c.args.load c.self.inside.budget)) c.leaving_at.ensures
-    ∙ ap (λ (l : List Held). answer_for (remaining_without (cond (end == r.clock) (Some a.message.number) None) l)
+    ∙ ap (λ (l : List Held). answer_for (remaining_without (cond (end == r.clock) (Some a.message.entry) None) l)
     (excess_over place.behind c.args.load l)) book.held
-    ∙ ap (λ (n : ℕ). answer_for (remaining_without (cond (end == r.clock) (Some a.message.number) None) lines) n)
+    ∙ ap (λ (n : ℕ). answer_for (remaining_without (cond (end == r.clock) (Some a.message.entry) None) lines) n)
     ahead.1 in
     let Room : Record → Type 0 = λ x. IsRoom (left_by x a) x.clock place.excess c.fits_behind.result in
     subst Room c.self.view_is (subst (IsRoom (left_by r a) r.clock place.excess) (sym asked)

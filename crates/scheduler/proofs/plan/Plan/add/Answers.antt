@@ -12,7 +12,7 @@ pub invariant_of-self : goal.invariant_of-self
 invariant_of-self c =
     let plan : Kept = record { slot = c.self.inside.slot; tracked = c.self.inside.tracked.items } in
     let back = sym c.self.view_is in
-    let Above : Kept → Type 0 = λ p. All (λ m. m.number < c.args.item.entry) (messages_of p) in
+    let Above : Kept → Type 0 = λ p. All (λ m. m.entry < c.args.item.entry) (messages_of p) in
     let From : Kept → Type 0 = λ p. next_slot p ≤ c.args.item.start in
     let items = c.push.ensures.items ∙ ap (λ x. cond (is_ok c.push.result) (c.self.inside.tracked.items ++ x ∷ [])
     c.self.inside.tracked.items) c.new.ensures in

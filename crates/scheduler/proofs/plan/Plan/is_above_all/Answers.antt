@@ -9,8 +9,8 @@ use Rattle.scheduler.proofs.plan.Plan.is_above_all.Goals as goal
 
 pub returns : goal.returns
 returns c =
-    let P : Message → Type 0 = λ (m : Message). m.number < c.args.entry in
-    let Q : Message → Type 0 = λ (m : Message). c.args.entry ≤ m.number in
+    let P : Message → Type 0 = λ (m : Message). m.entry < c.args.entry in
+    let Q : Message → Type 0 = λ (m : Message). c.args.entry ≤ m.entry in
     let Says : List Message → Type 0 = λ ms. MatchBool c.are_below.result (All P ms) (Any Q ms) in
     let kept = ap (map message_of) c.as_slice.ensures.value ∙ ap messages_of c.self.view_is in
     subst Says kept (MatchBool-both c.are_below.result _ _ _ _ (All-map P message_of c.as_slice.result.now)

@@ -9,8 +9,8 @@ use Rattle.scheduler.proofs.plan.Plan.is_added.Goals as goal
 
 pub returns : goal.returns
 returns c =
-    let P : Message → Type 0 = λ (m : Message). m.number ≡ c.args.entry in
-    let Q : Message → Type 0 = λ (m : Message). m.number ≢ c.args.entry in
+    let P : Message → Type 0 = λ (m : Message). m.entry ≡ c.args.entry in
+    let Q : Message → Type 0 = λ (m : Message). m.entry ≢ c.args.entry in
     let Says : List Message → Type 0 = λ ms. MatchBool c.has_entry.result (Any P ms) (All Q ms) in
     let kept = ap (map message_of) c.as_slice.ensures.value ∙ ap messages_of c.self.view_is in
     subst Says kept (MatchBool-both c.has_entry.result _ _ _ _ (Any-map P message_of c.as_slice.result.now)

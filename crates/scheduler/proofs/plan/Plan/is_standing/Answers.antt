@@ -9,8 +9,8 @@ use Rattle.scheduler.proofs.plan.Plan.is_standing.Goals as goal
 
 pub returns : goal.returns
 returns c =
-    let P : Message → Type 0 = λ (m : Message). (m.number ≡ c.args.entry) × (m.stop ≡ None) in
-    let Q : Message → Type 0 = λ (m : Message). m.number ≡ c.args.entry → m.stop ≢ None in
+    let P : Message → Type 0 = λ (m : Message). (m.entry ≡ c.args.entry) × (m.stop ≡ None) in
+    let Q : Message → Type 0 = λ (m : Message). m.entry ≡ c.args.entry → m.stop ≢ None in
     let Says : List Message → Type 0 = λ ms. MatchBool c.has_standing.result (Any P ms) (All Q ms) in
     let kept = ap (map message_of) c.as_slice.ensures.value ∙ ap messages_of c.self.view_is in
     subst Says kept (MatchBool-both c.has_standing.result _ _ _ _ (Any-map P message_of c.as_slice.result.now)

@@ -23,7 +23,7 @@ returns-clause-completed c = λ messages air follows.
     → c.completed_of-completed.result ≡ t.completed) ts in
     let Same : Kept → Type 0 = λ p. Follows p messages air in
     let at = c.requires.at_next ∙ follows.asked in
-    let Told : ℕ → Type 0 = λ n. All (λ m. m.number ≡ c.args.entry
+    let Told : ℕ → Type 0 = λ n. All (λ m. m.entry ≡ c.args.entry
     → c.completed_of-completed.result ≡ completed m air n) messages in
     subst Told (sym at) (completed-told plan c.args.entry c.completed_of-completed.result messages air
     (subst Found c.as_slice.ensures.value c.completed_of-completed.ensures)
@@ -35,7 +35,7 @@ returns-clause-follows c = λ messages air follows.
     let over = written_over c.self.inside.tracked (λ (t : Tracked). stopped_kept (t.item.entry == c.args.entry)
     c.args.slot t) _ _ c.as_mut_slice.ensures.value c.stop_at.ensures in
     let Same : Kept → Type 0 = λ p. Follows p messages air in
-    let Standing : Kept → Type 0 = λ p. Any (λ m. (m.number ≡ c.args.entry) × (m.stop ≡ None)) (messages_of p) in
+    let Standing : Kept → Type 0 = λ p. Any (λ m. (m.entry ≡ c.args.entry) × (m.stop ≡ None)) (messages_of p) in
     let Next : Kept → Type 0 = λ p. c.args.slot ≡ next_slot p in
     let P : List Tracked → Type 0 = λ ts. Follows (record { slot = c.self.inside.slot; tracked = ts })
     (stopped_at c.args.entry c.args.slot messages) air in
