@@ -43,10 +43,10 @@ StopBeforeStart = (start period stop : ℕ) → 0 < period → stop ≤ start �
 
 -- a stop never makes a reservation last longer than the message would have stood
 abbrev pub StopNoLater : Type 0
-StopNoLater = (start period requested stop : ℕ)
+StopNoLater = (start period broadcasts stop : ℕ)
     → 0 < period
-    → stop ≤ start + requested * period
-    → end_of_stopped start period stop ≤ start + requested * period
+    → stop ≤ start + broadcasts * period
+    → end_of_stopped start period stop ≤ start + broadcasts * period
 
 -- each period that begins before the stop lies inside the reservation
 abbrev pub StopCovers : Type 0

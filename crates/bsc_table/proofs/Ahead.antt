@@ -134,21 +134,21 @@ from_stopped claims entry now p there =
 -- a live message is reserved
 pub live_before : (now : ℕ) (m : Message) → 0 < m.period → is_live now m ≡ true → IsBeforeEnd now (end_of m)
 live_before now m some live =
-    let parts = and_parts (not (is_some m.stop)) ((m.requested == 0) || nat_lt now (m.start + m.requested * m.period))
+    let parts = and_parts (not (is_some m.stop)) ((m.broadcasts == 0) || nat_lt now (m.start + m.broadcasts * m.period))
     live in
-    let Stands : Option ℕ → Type 0 = λ stop. IsBeforeEnd now (end_of_reservation m.start m.period m.requested stop) in
+    let Stands : Option ℕ → Type 0 = λ stop. IsBeforeEnd now (end_of_reservation m.start m.period m.broadcasts stop) in
     subst Stands (sym (standing_of now m live)) (runs parts.1)
   where
-    runs : ((m.requested == 0) || nat_lt now (m.start + m.requested * m.period)) ≡ true
-        → IsBeforeEnd now (natural_end m.start m.period m.requested)
+    runs : ((m.broadcasts == 0) || nat_lt now (m.start + m.broadcasts * m.period)) ≡ true
+        → IsBeforeEnd now (natural_end m.start m.period m.broadcasts)
     runs h =
-        elim (cases_eq m.requested 0) [
-          | inl always ↦ rw (eq-eqb m.requested 0 always) tt
+        elim (cases_eq m.broadcasts 0) [
+          | inl always ↦ rw (eq-eqb m.broadcasts 0 always) tt
           | inr few ↦
-              let stands : now < m.start + m.requested * m.period = elim
-              (or_cases (m.requested == 0) (nat_lt now (m.start + m.requested * m.period)) h) [
-                | inl never ↦ absurd (few (eqb-true m.requested 0 never))
-                | inr below ↦ ltb-true now (m.start + m.requested * m.period) below
+              let stands : now < m.start + m.broadcasts * m.period = elim
+              (or_cases (m.broadcasts == 0) (nat_lt now (m.start + m.broadcasts * m.period)) h) [
+                | inl never ↦ absurd (few (eqb-true m.broadcasts 0 never))
+                | inr below ↦ ltb-true now (m.start + m.broadcasts * m.period) below
               ] in
-              rw (ne_eqb m.requested 0 few) stands
+              rw (ne_eqb m.broadcasts 0 few) stands
         ]

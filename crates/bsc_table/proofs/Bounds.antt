@@ -48,32 +48,33 @@ count_below-at_least p least (suc n) within all =
     ]
 
 -- what is below the count was requested, and what was requested stays below
-cut_at-below : (requested count j : ℕ) → j < count → (requested ≡ 0) ⊎ (j < requested) → j < cut_at requested count
-cut_at-below requested count j below has =
-    elim (cases_eq requested 0) [
-      | inl always ↦ rw (eq-eqb requested 0 always) below
+cut_at-below : (broadcasts count j : ℕ) → j < count → (broadcasts ≡ 0) ⊎ (j < broadcasts) → j < cut_at broadcasts count
+cut_at-below broadcasts count j below has =
+    elim (cases_eq broadcasts 0) [
+      | inl always ↦ rw (eq-eqb broadcasts 0 always) below
       | inr some ↦
-          let within : j < requested = elim has [ inl never ↦ absurd (some never) | inr one ↦ one ] in
-          rw (ne_eqb requested 0 some) (omega arith)
+          let within : j < broadcasts = elim has [ inl never ↦ absurd (some never) | inr one ↦ one ] in
+          rw (ne_eqb broadcasts 0 some) (omega arith)
     ]
 
-below_cut_at : (requested count j : ℕ) → j < cut_at requested count → (j < count) × ((requested ≡ 0) ⊎ (j < requested))
-below_cut_at requested count j below =
-    elim (cases_eq requested 0) [
+below_cut_at : (broadcasts count j : ℕ) → j < cut_at broadcasts count → (j < count)
+    × ((broadcasts ≡ 0) ⊎ (j < broadcasts))
+below_cut_at broadcasts count j below =
+    elim (cases_eq broadcasts 0) [
       | inl always ↦
-          let all = ap (λ (b : Bool). cond b count (min requested count)) (eq-eqb requested 0 always) in
+          let all = ap (λ (b : Bool). cond b count (min broadcasts count)) (eq-eqb broadcasts 0 always) in
           (omega arith, inl always)
       | inr some ↦
-          let least = ap (λ (b : Bool). cond b count (min requested count)) (ne_eqb requested 0 some) in
+          let least = ap (λ (b : Bool). cond b count (min broadcasts count)) (ne_eqb broadcasts 0 some) in
           (omega arith, inr (omega arith))
     ]
 
 -- one more is one more at most when it is cut
-cut_at-more : (requested count more : ℕ) → more ≤ 1 → cut_at requested (count + more) ≤ cut_at requested count + 1
-cut_at-more requested count more one =
-    elim (cases_eq requested 0) [
-      | inl always ↦ rw (eq-eqb requested 0 always) (omega arith)
-      | inr some ↦ rw (ne_eqb requested 0 some) (omega arith)
+cut_at-more : (broadcasts count more : ℕ) → more ≤ 1 → cut_at broadcasts (count + more) ≤ cut_at broadcasts count + 1
+cut_at-more broadcasts count more one =
+    elim (cases_eq broadcasts 0) [
+      | inl always ↦ rw (eq-eqb broadcasts 0 always) (omega arith)
+      | inr some ↦ rw (ne_eqb broadcasts 0 some) (omega arith)
     ]
 
 -- a slot before the stop and the slot comes before the sooner of both
@@ -111,14 +112,14 @@ completed_is_at_most m air slot pages period =
       | inr later ↦ absurd (false≢true (sym (is_whole-unreleased m air slot j pages later) ∙ whole))
     ] in
     let stood = before_sooner (release m j) slot m.stop released fact.released in
-    cut_at-below m.requested (div_ceil (stands_until m slot - m.start) m.period) j
+    cut_at-below m.broadcasts (div_ceil (stands_until m slot - m.start) m.period) j
     (had_begun m.start m.period j (stands_until m slot) period stood) fact.requested)
 
 pub completed_is_at_least : CompletedIsAtLeast
 completed_is_at_least messages air slot admitted rule played = λ k d within.
     let m = get_or messages k d in
     let period = admitted.periods k d within in
-    let over = λ (j : ℕ) (h : j < least_completed m slot). below_cut_at m.requested
+    let over = λ (j : ℕ) (h : j < least_completed m slot). below_cut_at m.broadcasts
     ((stands_until m slot - m.start) / m.period) j h in
     let uncut = λ (j : ℕ) (h : j < least_completed m slot). upto_sooner (due m j) slot m.stop
     (was_over m.start m.period j (stands_until m slot) period (over j h).0) in
@@ -136,4 +137,4 @@ completed_is_at_least messages air slot admitted rule played = λ k d within.
 pub bounds_are_near : BoundsAreNear
 bounds_are_near m slot =
     let stood : ℕ = stands_until m slot - m.start in
-    cut_at-more m.requested (stood / m.period) (min 1 (stood % m.period)) (omega arith)
+    cut_at-more m.broadcasts (stood / m.period) (min 1 (stood % m.period)) (omega arith)

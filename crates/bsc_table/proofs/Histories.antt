@@ -331,17 +331,17 @@ filled_is_reached =
 
 -- after five of the slots the half has the least number of whole broadcasts that it may have, and the third the most
 abbrev half : Message
-half = record { entry = 2; start = 0; pages = 1; period = 2; requested = 0; stop = None; rank = ranks.Normal }
+half = record { entry = 2; start = 0; pages = 1; period = 2; broadcasts = 0; stop = None; rank = ranks.Normal }
 
 abbrev third : Message
-third = record { entry = 1; start = 0; pages = 1; period = 3; requested = 0; stop = None; rank = ranks.Normal }
+third = record { entry = 1; start = 0; pages = 1; period = 3; broadcasts = 0; stop = None; rank = ranks.Normal }
 
 filled_messages : messages_in filled ≡ record {
   entry = 0;
   start = 0;
   pages = 1;
   period = 6;
-  requested = 0;
+  broadcasts = 0;
   stop =
       None;
   rank = ranks.Normal;

@@ -250,17 +250,17 @@ pub live_is_claimed : (slot : ℕ) (c : Claim)
 live_is_claimed slot c accepted some live =
     is_claimed_at-from slot c (accepted, live_before slot c.message some live)
 
-stands_from : (slot start period requested : ℕ)
+stands_from : (slot start period broadcasts : ℕ)
     → slot ≤ start
     → 0 < period
-    → IsBeforeEnd slot (natural_end start period requested)
-stands_from slot start period requested forward some =
-    elim (cases_eq requested 0) [
-      | inl always ↦ rw (eq-eqb requested 0 always) tt
+    → IsBeforeEnd slot (natural_end start period broadcasts)
+stands_from slot start period broadcasts forward some =
+    elim (cases_eq broadcasts 0) [
+      | inl always ↦ rw (eq-eqb broadcasts 0 always) tt
       | inr few ↦
-          let past : slot < start + requested * period = let more : 0 < requested * period = mul-pos
+          let past : slot < start + broadcasts * period = let more : 0 < broadcasts * period = mul-pos
           (omega (arith, few)) some in omega (arith, more, forward) in
-          rw (ne_eqb requested 0 few) past
+          rw (ne_eqb broadcasts 0 few) past
     ]
 
 pub new_is_claimed : (slot : ℕ) (c : Claim)
@@ -271,11 +271,11 @@ pub new_is_claimed : (slot : ℕ) (c : Claim)
     → is_claimed_at slot c ≡ true
 new_is_claimed slot c accepted forward some standing =
     let Stands : Option ℕ → Type 0 = λ stop. IsBeforeEnd slot
-    (end_of_reservation c.message.start c.message.period c.message.requested stop) in
+    (end_of_reservation c.message.start c.message.period c.message.broadcasts stop) in
     is_claimed_at-from slot c (
       omega (arith, accepted),
       subst Stands (sym standing)
-          (stands_from slot c.message.start c.message.period c.message.requested forward some),
+          (stands_from slot c.message.start c.message.period c.message.broadcasts forward some),
     )
 
 -- the lines with one claim more

@@ -131,6 +131,7 @@ standing_of (Some s) h = absurd (false≢true h)
 
 pub live_is_standing : (slot : ℕ) (m : Message) → is_live slot m ≡ true → m.stop ≡ None
 live_is_standing slot m live =
-    let parts = and_parts (not (is_some m.stop)) ((m.requested == 0) || nat_lt slot (m.start + m.requested * m.period))
+    let parts = and_parts (not (is_some m.stop)) ((m.broadcasts == 0) || nat_lt slot
+    (m.start + m.broadcasts * m.period))
     live in
     standing_of m.stop parts.0

@@ -14,31 +14,31 @@ use Rattle.bsc_table.proofs.Sums.{total, total-at_least, total-at_most, exchange
 use Rattle.bsc_table.specs.Guarantee.{reservation_of, LoadsFit, ReservationsCoverBroadcasts}
 
 -- a broadcast that was requested is due by the end of what runs out
-before_natural_end : (start period requested j slot : ℕ) → (requested ≡ 0) ⊎ (j < requested)
-    → slot < start + (j + 1) * period → IsBeforeEnd slot (natural_end start period requested)
-before_natural_end start period requested j slot has before =
-    elim (cases_eq requested 0) [
-      | inl always ↦ rw (eq-eqb requested 0 always) tt
+before_natural_end : (start period broadcasts j slot : ℕ) → (broadcasts ≡ 0) ⊎ (j < broadcasts)
+    → slot < start + (j + 1) * period → IsBeforeEnd slot (natural_end start period broadcasts)
+before_natural_end start period broadcasts j slot has before =
+    elim (cases_eq broadcasts 0) [
+      | inl always ↦ rw (eq-eqb broadcasts 0 always) tt
       | inr some ↦
-          let within : j + 1 ≤ requested = elim has [ inl never ↦ absurd (some never) | inr below ↦ omega arith ] in
+          let within : j + 1 ≤ broadcasts = elim has [ inl never ↦ absurd (some never) | inr below ↦ omega arith ] in
           let times = mul-le-mul_right period within in
-          rw (ne_eqb requested 0 some) (omega arith)
+          rw (ne_eqb broadcasts 0 some) (omega arith)
     ]
 
 -- the same where it may have been stopped
-before_end : (start period requested j slot : ℕ) (stop : Option ℕ) → (requested ≡ 0) ⊎ (j < requested)
+before_end : (start period broadcasts j slot : ℕ) (stop : Option ℕ) → (broadcasts ≡ 0) ⊎ (j < broadcasts)
     → IsBeforeStop (start + j * period) stop → start + j * period ≤ slot → slot < start + (j + 1) * period
-    → IsBeforeEnd slot (end_of_reservation start period requested stop)
-before_end start period requested j slot None has standing released before =
-    before_natural_end start period requested j slot has before
-before_end start period requested j slot (Some stop) has standing released before =
+    → IsBeforeEnd slot (end_of_reservation start period broadcasts stop)
+before_end start period broadcasts j slot None has standing released before =
+    before_natural_end start period broadcasts j slot has before
+before_end start period broadcasts j slot (Some stop) has standing released before =
     let some : 0 < period = omega arith in
     let covers = end_of_stopped-covers start period j stop some standing in
     omega arith
 
 pub reservations_cover_broadcasts : ReservationsCoverBroadcasts
 reservations_cover_broadcasts m j slot has standing released before =
-    (omega arith, before_end m.start m.period m.requested j slot m.stop has standing released before)
+    (omega arith, before_end m.start m.period m.broadcasts j slot m.stop has standing released before)
 
 -- the load that a message has reserved at a slot
 abbrev pub load_at : Message → ℕ → ℕ

@@ -34,43 +34,43 @@ in_order-later claims now later le order =
 -- what a live message is
 pub standing_of : (slot : ℕ) (m : Message) → is_live slot m ≡ true → m.stop ≡ None
 standing_of slot m live =
-    none m.stop (and_parts (not (is_some m.stop)) ((m.requested == 0) || nat_lt slot
-    (m.start + m.requested * m.period)) live).0
+    none m.stop (and_parts (not (is_some m.stop)) ((m.broadcasts == 0) || nat_lt slot
+    (m.start + m.broadcasts * m.period)) live).0
   where
     none : (stop : Option ℕ) → not (is_some stop) ≡ true → stop ≡ None
     none None h = refl
     none (Some s) h = absurd (false≢true h)
 
 -- what has a stop within the time that it stands is reserved no longer than without
-unstopped : (start period requested stop slot : ℕ) → 0 < period
-    → ((requested == 0) || nat_lt stop (start + requested * period)) ≡ true → slot < end_of_stopped start period stop
-    → IsBeforeEnd slot (natural_end start period requested)
-unstopped start period requested stop slot some live before =
-    elim (cases_eq requested 0) [
-      | inl always ↦ rw (eq-eqb requested 0 always) tt
+unstopped : (start period broadcasts stop slot : ℕ) → 0 < period
+    → ((broadcasts == 0) || nat_lt stop (start + broadcasts * period)) ≡ true → slot < end_of_stopped start period stop
+    → IsBeforeEnd slot (natural_end start period broadcasts)
+unstopped start period broadcasts stop slot some live before =
+    elim (cases_eq broadcasts 0) [
+      | inl always ↦ rw (eq-eqb broadcasts 0 always) tt
       | inr few ↦
-          let stands : stop < start + requested * period = elim
-          (or_cases (requested == 0) (nat_lt stop (start + requested * period)) live) [
-            | inl never ↦ absurd (few (eqb-true requested 0 never))
-            | inr below ↦ ltb-true stop (start + requested * period) below
+          let stands : stop < start + broadcasts * period = elim
+          (or_cases (broadcasts == 0) (nat_lt stop (start + broadcasts * period)) live) [
+            | inl never ↦ absurd (few (eqb-true broadcasts 0 never))
+            | inr below ↦ ltb-true stop (start + broadcasts * period) below
           ] in
-          let sooner = end_of_stopped-no_later start period requested stop some (omega arith) in
-          rw (ne_eqb requested 0 few) (omega arith)
+          let sooner = end_of_stopped-no_later start period broadcasts stop some (omega arith) in
+          rw (ne_eqb broadcasts 0 few) (omega arith)
     ]
 
-unstopped_live : (start period requested now slot : ℕ) (stop : Option ℕ) → 0 < period
-    → (not (is_some stop) && ((requested == 0) || nat_lt now (start + requested * period))) ≡ true
-    → slot < end_of_stopped start period now → IsBeforeEnd slot (end_of_reservation start period requested stop)
-unstopped_live start period requested now slot None some live before =
-    unstopped start period requested now slot some live before
-unstopped_live start period requested now slot (Some stop) some live before = absurd (false≢true live)
+unstopped_live : (start period broadcasts now slot : ℕ) (stop : Option ℕ) → 0 < period
+    → (not (is_some stop) && ((broadcasts == 0) || nat_lt now (start + broadcasts * period))) ≡ true
+    → slot < end_of_stopped start period now → IsBeforeEnd slot (end_of_reservation start period broadcasts stop)
+unstopped_live start period broadcasts now slot None some live before =
+    unstopped start period broadcasts now slot some live before
+unstopped_live start period broadcasts now slot (Some stop) some live before = absurd (false≢true live)
 
 -- the stop of a live message never makes its reservation end later
 stopped_sooner : (m : Message) (says : Bool) (now slot : ℕ) → 0 < m.period → (says ≡ true → is_live now m ≡ true)
     → IsBeforeEnd slot (end_of (stopped_if says now m)) → IsBeforeEnd slot (end_of m)
 stopped_sooner m false now slot some live before = before
 stopped_sooner m true now slot some live before =
-    unstopped_live m.start m.period m.requested now slot m.stop some (live refl) before
+    unstopped_live m.start m.period m.broadcasts now slot m.stop some (live refl) before
 
 claim_at-stopped : (c : Claim) (entry now slot : ℕ) → 0 < c.message.period
     → (c.message.entry ≡ entry → is_live now c.message ≡ true)

@@ -208,7 +208,7 @@ passed_is_legal : IsLegal (run passed 8)
 passed_is_legal = legal_run passed 8 (omega arith) (omega arith) refl refl refl passed_answered refl
 
 abbrev of_k : Message
-of_k = record { entry = 4; start = 4; pages = 1; period = 4; requested = 0; stop = None; rank = ranks.Normal }
+of_k = record { entry = 4; start = 4; pages = 1; period = 4; broadcasts = 0; stop = None; rank = ranks.Normal }
 
 k_is_served : pages_aired 4 (aired passed 8) 4 8 ≡ 1
 k_is_served =

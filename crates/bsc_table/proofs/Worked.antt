@@ -26,7 +26,7 @@ message entry start pages period stop rank = record {
   start = start;
   pages = pages;
   period = period;
-  requested = 0;
+  broadcasts = 0;
   stop = stop;
   rank = rank;
 }
@@ -311,7 +311,7 @@ replaced_late_over = refl
 
 -- two broadcasts, in the slots 0 to 2 and 3 to 5: by slot 10 both are whole, and by slot 4 the first is
 abbrev twice : Message
-twice = record (message 0 0 1 3 None Normal) { requested = 2 }
+twice = record (message 0 0 1 3 None Normal) { broadcasts = 2 }
 
 twice_least : least_completed twice 10 ≡ 2
 twice_least = refl

@@ -67,7 +67,7 @@ accepted_of k = record {
     start = k.start;
     pages = k.pages;
     period = k.period;
-    requested = k.broadcasts;
+    broadcasts = k.broadcasts;
     stop = k.stop;
     rank = rank_of k.category;
   };

@@ -20,15 +20,15 @@ stands_until m slot = sooner_of m.stop slot
 
 -- so many of the broadcasts that were requested; 0 requested is no limit
 abbrev pub cut_at : ℕ → ℕ → ℕ
-cut_at requested count = if requested == 0 then count else min requested count
+cut_at broadcasts count = if broadcasts == 0 then count else min broadcasts count
 
 -- the requested broadcasts whose period was over while the message stood
 abbrev pub least_completed : Message → ℕ → ℕ
-least_completed m slot = cut_at m.requested ((stands_until m slot - m.start) / m.period)
+least_completed m slot = cut_at m.broadcasts ((stands_until m slot - m.start) / m.period)
 
 -- the requested broadcasts whose period had begun while the message stood
 abbrev pub most_completed : Message → ℕ → ℕ
-most_completed m slot = cut_at m.requested (div_ceil (stands_until m slot - m.start) m.period)
+most_completed m slot = cut_at m.broadcasts (div_ceil (stands_until m slot - m.start) m.period)
 
 -- whatever is aired, no more broadcasts are whole than had begun
 abbrev pub CompletedIsAtMost : Type 0

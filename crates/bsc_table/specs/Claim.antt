@@ -16,7 +16,7 @@ pub record Claim : Type 0 where
 
 -- the end of a message's reservation
 abbrev pub end_of : Message → Option ℕ
-end_of m = end_of_reservation m.start m.period m.requested m.stop
+end_of m = end_of_reservation m.start m.period m.broadcasts m.stop
 
 -- the load that is its own from its start on
 abbrev pub own_load : Message → ℕ

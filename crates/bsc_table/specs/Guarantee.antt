@@ -18,7 +18,7 @@ reservation_of m = record {
   entry = m.entry;
   load = load_of m.pages m.period;
   start = m.start;
-  end = end_of_reservation m.start m.period m.requested m.stop;
+  end = end_of_reservation m.start m.period m.broadcasts m.stop;
 }
 
 -- at each slot the loads that are reserved sum to at most SCALE

@@ -132,7 +132,7 @@ write_message place slot start behind excess id serial pages period broadcasts r
     start = start;
     pages = pages;
     period = period;
-    requested = broadcasts;
+    broadcasts = broadcasts;
     stop = None;
     rank = rank;
   };
@@ -183,7 +183,7 @@ message_named id serial log = message_told (accepted_named id serial log)
 -- a message that wasn't stopped by now is live up to the end of the periods of its requested broadcasts, if they have
 -- an end
 abbrev pub is_live : ℕ → Message → Bool
-is_live slot m = not (is_some m.stop) && ((m.requested == 0) || nat_lt slot (m.start + m.requested * m.period))
+is_live slot m = not (is_some m.stop) && ((m.broadcasts == 0) || nat_lt slot (m.start + m.broadcasts * m.period))
 
 -- how an accepted message stands before a slot
 abbrev pub unstopped_state : Bool → State

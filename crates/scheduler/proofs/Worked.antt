@@ -8,12 +8,12 @@ use Rattle.scheduler.specs.Completed.{completed}
 use Rattle.scheduler.specs.Choice.{air_of}
 
 abbrev message : ℕ → ℕ → ℕ → ℕ → Rank → Message
-message entry pages period requested rank = record {
+message entry pages period broadcasts rank = record {
   entry = entry;
   start = 0;
   pages = pages;
   period = period;
-  requested = requested;
+  broadcasts = broadcasts;
   stop = None;
   rank = rank;
 }

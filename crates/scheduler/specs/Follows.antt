@@ -18,7 +18,7 @@ message_from item = record {
   start = item.start;
   pages = item.pages;
   period = item.period;
-  requested = item.broadcasts;
+  broadcasts = item.broadcasts;
   stop = None;
   rank = item.rank;
 }

@@ -11,7 +11,7 @@ pub record Message : Type 0 where
   pub start : ℕ
   pub pages : ℕ
   pub period : ℕ
-  pub requested : ℕ
+  pub broadcasts : ℕ
   pub stop : Option ℕ
   pub rank : Rank
 
@@ -29,7 +29,7 @@ broadcast_at m slot = (slot - m.start) / m.period
 
 -- broadcast j was requested
 abbrev pub HasBroadcast : Message → ℕ → Type 0
-HasBroadcast m j = (m.requested ≡ 0) ⊎ (j < m.requested)
+HasBroadcast m j = (m.broadcasts ≡ 0) ⊎ (j < m.broadcasts)
 
 -- the slot comes before the stop, or there is none
 abbrev pub IsBeforeStop : ℕ → Option ℕ → Type 0
@@ -38,7 +38,7 @@ IsBeforeStop slot (Some stop) = slot < stop
 
 -- the same two as tests
 abbrev pub has_broadcast : Message → ℕ → Bool
-has_broadcast m j = (m.requested == 0) || nat_lt j m.requested
+has_broadcast m j = (m.broadcasts == 0) || nat_lt j m.broadcasts
 
 abbrev pub is_before_stop : ℕ → Option ℕ → Bool
 is_before_stop slot None = true
