@@ -8,9 +8,9 @@ use Rattle.admission.specs.Load.{load_of}
 use Rattle.scheduler.specs.Air.{layer, layer_of}
 use Rattle.bsc_table.specs.declared.command.Command.TheVariants as commands
 use Rattle.bsc_table.specs.declared.decision.Decision.TheVariants as decisions
-use Rattle.bsc_table.specs.declared.kept.Kept.{Kept}
-use Rattle.bsc_table.specs.declared.kept.Place.{Place as KeptPlace}
-use Rattle.bsc_table.specs.declared.kept.TheConstants.{LATEST_START}
+use Rattle.bsc_table.specs.declared.accepted.AcceptedMessage.{AcceptedMessage}
+use Rattle.bsc_table.specs.declared.accepted.Place.{Place as FoundPlace}
+use Rattle.bsc_table.specs.declared.accepted.TheConstants.{LATEST_START}
 use Rattle.bsc_table.specs.Claim.{Claim, is_claimed_at, claimed_at}
 use Rattle.bsc_table.specs.Handover.{ahead_of, numbered, handover}
 use Rattle.bsc_table.specs.Record.{Record, Accepted, accepted_in, is_of_pair, rank_of, claim_of, claims_of, claims_in}
@@ -47,7 +47,7 @@ begins r replaced before a offered room either = record {
 }
 
 -- a kill of a live message stops it
-pub kills : (r : Record) (id serial completed : ℕ) (old : Kept)
+pub kills : (r : Record) (id serial completed : ℕ) (old : AcceptedMessage)
     → IsLegal r
     → IsLiveAs r.clock id serial r.log (accepted_of old)
     → Decides r (commands.Kill id serial) (decisions.Stops old completed)
@@ -61,7 +61,7 @@ kills r id serial completed old legal live =
     }
 
 -- a write in the place of none starts its message, where that has room
-pub starts : (r : Record) (new : Kept)
+pub starts : (r : Record) (new : AcceptedMessage)
     → IsOffered r (accepted_of new)
     → (is_background new.category ≡ false → HasRoom (claims_in r.log) r.clock (load_of new.pages new.period))
     → DecidesWrites r (accepted_of new) None (decisions.Starts new)
@@ -77,7 +77,7 @@ starts r new offered room (commands.Kill id serial) same = absurd same
 starts r new offered room (commands.Status id serial) same = absurd same
 
 -- and a write in the place of a live message, where it has room once that one is stopped
-pub replaces : (r : Record) (old new : Kept) (replaced completed : ℕ)
+pub replaces : (r : Record) (old new : AcceptedMessage) (replaced completed : ℕ)
     → IsLegal r
     → IsLiveAs r.clock new.id replaced r.log (accepted_of old)
     → IsOffered r (accepted_of new)
@@ -116,11 +116,11 @@ replaces r old new replaced completed legal live offered soon room (commands.Kil
 replaces r old new replaced completed legal live offered soon room (commands.Status id serial) same = absurd same
 
 -- the message of a write that waits
-abbrev pub waiting_at : Kept → KeptPlace → Kept
+abbrev pub waiting_at : AcceptedMessage → FoundPlace → AcceptedMessage
 waiting_at new place = record new { behind = Some place.behind; excess = place.excess; start = place.start }
 
 -- or where it takes over at a place, once that one is stopped
-pub takes_over : (r : Record) (old new : Kept) (place : KeptPlace) (replaced completed : ℕ)
+pub takes_over : (r : Record) (old new : AcceptedMessage) (place : FoundPlace) (replaced completed : ℕ)
     → IsLegal r
     → IsLiveAs r.clock new.id replaced r.log (accepted_of old)
     → IsOffered r (accepted_of new)

@@ -14,7 +14,7 @@ use Rattle.admission.specs.Table.{ends_at, passed}
 use Rattle.scheduler.specs.Message.{Message, stopped_if, stopped_at}
 use Rattle.scheduler.specs.Air.{Air, layer}
 use Rattle.scheduler.specs.Follows.{Kept as Planned, messages_of, Follows}
-use Rattle.bsc_table.specs.declared.kept.Kept.{Kept}
+use Rattle.bsc_table.specs.declared.accepted.AcceptedMessage.{AcceptedMessage}
 use Rattle.bsc_table.specs.declared.book.CellBook.TheInside.{Inside}
 use Rattle.bsc_table.specs.declared.entry.Answer.{Answer}
 use Rattle.bsc_table.specs.declared.entry.Entry.{Entry}
@@ -24,7 +24,7 @@ use Rattle.bsc_table.specs.Answer.{answer_with_room, answer_of}
 use Rattle.bsc_table.specs.Legal.{IsLegal}
 use Rattle.bsc_table.specs.Room.{AreInOrder}
 use Rattle.bsc_table.specs.Begun.{IsBegun}
-use Rattle.bsc_table.specs.Book.{accepted_of, air_told, record_of, kept_stopped, stop_numbered, IsLiveIn, IsNext}
+use Rattle.bsc_table.specs.Book.{accepted_of, air_told, record_of, accepted_stopped, stop_numbered, IsLiveIn, IsNext}
 use Rattle.bsc_table.specs.Steps.{with_entry}
 use Rattle.bsc_table.specs.Book.{IsBook, line_of, lines_at, left_by}
 use Rattle.bsc_table.proofs.Named.{live_is_standing}
@@ -68,14 +68,14 @@ messages_without log e entry slot after =
     ap (map (λ (x : Accepted). x.message)) after ∙ messages_stopped entry slot (accepted_in log)
 
 -- what is kept, stopped as the accepted messages are
-pub kept_stop : (entry slot : ℕ) (kept : List Kept)
-    → map accepted_of (map (kept_stopped entry slot) kept) ≡ map (stop_numbered entry slot) (map accepted_of kept)
+pub kept_stop : (entry slot : ℕ) (kept : List AcceptedMessage)
+    → map accepted_of (map (accepted_stopped entry slot) kept) ≡ map (stop_numbered entry slot) (map accepted_of kept)
 kept_stop entry slot [] = refl
 kept_stop entry slot (k ∷ kept) =
-    ap (λ (l : List Accepted). accepted_of (kept_stopped entry slot k) ∷ l) (kept_stop entry slot kept)
+    ap (λ (l : List Accepted). accepted_of (accepted_stopped entry slot k) ∷ l) (kept_stop entry slot kept)
 
 -- and with one more
-pub kept_more : (kept : List Kept) (new : Kept) (all : List Accepted)
+pub kept_more : (kept : List AcceptedMessage) (new : AcceptedMessage) (all : List Accepted)
     → map accepted_of kept ≡ all
     → map accepted_of (kept ++ new ∷ []) ≡ all ++ accepted_of new ∷ []
 kept_more kept new all same =
@@ -182,15 +182,15 @@ item_message m told same standing =
     same ∙ ap (λ (stop : Option ℕ). record m { stop = stop }) (sym standing)
 
 -- a table in whose items a message was stopped in place
-pub table_stopped : (table : Vec Kept) (seen after : List Kept) (entry slot : ℕ)
+pub table_stopped : (table : Vec AcceptedMessage) (seen after : List AcceptedMessage) (entry slot : ℕ)
     → seen ≡ table.items
     → length seen ≡ vec_len table
-    → after ≡ map (kept_stopped entry slot) seen
+    → after ≡ map (accepted_stopped entry slot) seen
     → map accepted_of (with_items table after).items ≡ map (stop_numbered entry slot) (map accepted_of table.items)
 table_stopped table seen after entry slot same long stopped =
-    let length_is : length after ≡ vec_len table = ap length stopped ∙ length-map seen (kept_stopped entry slot)
+    let length_is : length after ≡ vec_len table = ap length stopped ∙ length-map seen (accepted_stopped entry slot)
     ∙ long in
-    let items = with_items_is table after length_is ∙ stopped ∙ ap (map (kept_stopped entry slot)) same in
+    let items = with_items_is table after length_is ∙ stopped ∙ ap (map (accepted_stopped entry slot)) same in
     ap (map accepted_of) items ∙ kept_stop entry slot table.items
 
 -- the claims are in order where a live message is stopped
@@ -288,7 +288,8 @@ begun_lines entry slot replaced before claims a begun held after same false fron
 
 -- a book whose log has the entry that was to come next, and whose table, plan and budget are those of the messages with
 -- it
-pub book_with : (b : Inside) (e : Entry) (log : Vec Entry) (accepted : Vec Kept) (plan : Planned) (budget : List Held)
+pub book_with : (b : Inside) (e : Entry) (log : Vec Entry) (accepted : Vec AcceptedMessage) (plan : Planned)
+    (budget : List Held)
     → IsBook b
     → IsNext (record_of b) e
     → log.items ≡ b.log.items ++ e ∷ []

@@ -61,8 +61,8 @@ stop_after-false (Some s) slot = refl
 
 pub stopped_once-false : (says : Bool) (slot : ℕ) (a : Accepted) → says ≡ false → stopped_once says slot a ≡ a
 stopped_once-false says slot a fails =
-    let Kept : Bool → Type 0 = λ b. stop_after a.message.stop b slot ≡ a.message.stop in
-    let same = subst Kept (sym fails) (stop_after-false a.message.stop slot) in
+    let AcceptedMessage : Bool → Type 0 = λ b. stop_after a.message.stop b slot ≡ a.message.stop in
+    let same = subst AcceptedMessage (sym fails) (stop_after-false a.message.stop slot) in
     ap (λ (stop : Option ℕ). record a { message = record (a.message) { stop = stop } }) same
 
 stop_numbered-other : (entry slot : ℕ) (a : Accepted) → (a.message.entry ≡ entry → ⊥)

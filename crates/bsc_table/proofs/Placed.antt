@@ -9,12 +9,12 @@ use Rattle.std.proofs.lemmas.List.{get_or-map, length-map}
 use Rattle.std.proofs.lemmas.List.Elements.{All-contains}
 use Rattle.scheduler.specs.Air.{layer}
 use Rattle.admission.specs.Reservation.{end_of_reservation, end_of_stopped}
-use Rattle.bsc_table.specs.declared.kept.Kept.{Kept}
+use Rattle.bsc_table.specs.declared.accepted.AcceptedMessage.{AcceptedMessage}
 use Rattle.bsc_table.specs.Record.{Record, Accepted, accepted_in, claim_of, claims_of, claims_in, place_after}
 use Rattle.bsc_table.specs.Claim.{Claim, end_of, stop_claim, stop_claims}
 use Rattle.bsc_table.specs.Handover.{Place, ahead_of, numbered, place_before, place_behind, handover}
 use Rattle.bsc_table.specs.Legal.{IsLegal}
-use Rattle.bsc_table.specs.Book.{accepted_of, kept_stopped, stopped_end, IsLiveIn, left_by}
+use Rattle.bsc_table.specs.Book.{accepted_of, accepted_stopped, stopped_end, IsLiveIn, left_by}
 use Rattle.bsc_table.proofs.Ahead.{taken, by_number}
 use Rattle.bsc_table.proofs.Named.{find_passes}
 use Rattle.bsc_table.proofs.Outcome.{Contains-find}
@@ -114,22 +114,22 @@ is_stopped_there r old entry load a place legal live front ahead found over =
     ap (λ (c : Claim). is_some c.message.stop) (sym is) ∙ free.ahead.stopped
 
 -- so the place is that behind it, by the end that its stop gives it
-pub place_ahead : (r : Record) (old : Accepted) (entry load : ℕ) (k : Kept)
+pub place_ahead : (r : Record) (old : Accepted) (entry load : ℕ) (k : AcceptedMessage)
     → IsLegal r
     → IsLiveIn r old
     → layer old.message ≡ 0
     → ahead_of r.clock (claim_of old) ≡ Some entry
     → find (is_reserved_as entry) (accepted_in r.log) ≡ Some (accepted_of k)
-    → place_before r.clock load (claim_of (accepted_of (kept_stopped old.message.entry r.clock k)))
-    (stopped_end (kept_stopped old.message.entry r.clock k)) ≡ handover (left_by r old) r.clock (claim_of old) load
+    → place_before r.clock load (claim_of (accepted_of (accepted_stopped old.message.entry r.clock k)))
+    (stopped_end (accepted_stopped old.message.entry r.clock k)) ≡ handover (left_by r old) r.clock (claim_of old) load
 place_ahead r old entry load k legal live front ahead found =
-    let s : Kept = kept_stopped old.message.entry r.clock k in
+    let s : AcceptedMessage = accepted_stopped old.message.entry r.clock k in
     let p : Claim = claim_of (accepted_of s) in
     let over = ahead_in r old entry load (Some (accepted_of k)) ahead found in
     by_stop s.stop refl ∙ sym over
   where
-    s : Kept
-    s = kept_stopped old.message.entry r.clock k
+    s : AcceptedMessage
+    s = accepted_stopped old.message.entry r.clock k
 
     p : Claim
     p = claim_of (accepted_of s)

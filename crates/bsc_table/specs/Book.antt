@@ -22,11 +22,11 @@ use Rattle.bsc_table.specs.declared.entry.Answer.{Answer}
 use Rattle.bsc_table.specs.declared.entry.Answer.TheVariants as answers
 use Rattle.bsc_table.specs.declared.entry.Aired.{Aired}
 use Rattle.bsc_table.specs.declared.entry.Entry.{Entry}
-use Rattle.bsc_table.specs.declared.kept.Kept.{Kept}
-use Rattle.bsc_table.specs.declared.kept.Place.{Place as KeptPlace}
-use Rattle.bsc_table.specs.declared.kept.TheConstants.{LATEST_START}
+use Rattle.bsc_table.specs.declared.accepted.AcceptedMessage.{AcceptedMessage}
+use Rattle.bsc_table.specs.declared.accepted.Place.{Place as FoundPlace}
+use Rattle.bsc_table.specs.declared.accepted.TheConstants.{LATEST_START}
 use Rattle.bsc_table.specs.declared.book.CellBook.TheInside.{Inside}
-use Rattle.bsc_table.specs.declared.record.CellRecord.TheInside as kept
+use Rattle.bsc_table.specs.declared.record.CellRecord.TheInside as run
 use Rattle.bsc_table.specs.Record.{Record, Accepted, start_of, write_message, accepted_in, messages_in, claims_in}
 use Rattle.bsc_table.specs.Record.{rank_of, place_after, is_of_pair, is_live}
 use Rattle.bsc_table.specs.Begun.{IsBegun}
@@ -55,7 +55,7 @@ record_of b = record {
 }
 
 -- an accepted message as it is kept
-abbrev pub accepted_of : Kept → Accepted
+abbrev pub accepted_of : AcceptedMessage → Accepted
 accepted_of k = record {
   id = k.id;
   serial = k.serial;
@@ -74,8 +74,8 @@ accepted_of k = record {
 }
 
 -- what is kept, with the message of that number stopped at the slot
-abbrev pub kept_stopped : ℕ → ℕ → Kept → Kept
-kept_stopped entry slot k = record k { stop = if k.entry == entry then Some slot else k.stop }
+abbrev pub accepted_stopped : ℕ → ℕ → AcceptedMessage → AcceptedMessage
+accepted_stopped entry slot k = record k { stop = if k.entry == entry then Some slot else k.stop }
 
 -- the message of that number stopped at the slot
 abbrev pub stop_numbered : ℕ → ℕ → Accepted → Accepted
@@ -233,11 +233,11 @@ pub record IsRoom (claims : List Claim) (slot load : ℕ) (room : Result (Unit {
   pub fits : OnOk room (HasRoom claims slot load)
 
 -- a place as it is kept
-abbrev pub place_of : KeptPlace → Place
+abbrev pub place_of : FoundPlace → Place
 place_of p = record { behind = p.behind; start = p.start; excess = p.excess }
 
 -- the end of the reservation of a message that is kept, where it was stopped
-abbrev pub stopped_end : Kept → Option ℕ
+abbrev pub stopped_end : AcceptedMessage → Option ℕ
 stopped_end k = option_map (λ stop. end_of_stopped k.start k.period stop) k.stop
 
 -- the claims of a record, with a message stopped now
@@ -245,13 +245,13 @@ abbrev pub left_by : Record → Accepted → List Claim
 left_by r old = stop_claims old.message.entry r.clock (claims_in r.log)
 
 -- the answer at a place, where there is one with room
-abbrev pub by_place : Option KeptPlace → (ℕ → Answer) → Answer
+abbrev pub by_place : Option FoundPlace → (ℕ → Answer) → Answer
 by_place None accepts = answers.Cause 0x06
 by_place (Some p) accepts = accepts p.start
 
 -- the place at which a message of that load may take over from a live one, if there is one with room: so is a write
 -- in its place answered, where that has no room now
-pub record IsLater (r : Record) (old : Accepted) (load : ℕ) (later : Option KeptPlace) : Type 0 where
+pub record IsLater (r : Record) (old : Accepted) (load : ℕ) (later : Option FoundPlace) : Type 0 where
   pub answered : (accepts : ℕ → Answer)
       → answer_at (left_by r old) r.clock accepts (place_after (left_by r old) r.clock old load) ≡ by_place later
       accepts
@@ -280,8 +280,8 @@ pub record IsGoneTo (slot : ℕ) (before after : Record) : Type 0 where
   pub more_air : (more : Air) × (after.air ≡ before.air ++ more)
 
 -- the record of a run that is over
-abbrev pub record_kept : kept.Inside → Record
-record_kept r = record {
+abbrev pub record_of_run : run.Inside → Record
+record_of_run r = record {
   cell = r.cell;
   slots = r.slots;
   clock = r.slots;

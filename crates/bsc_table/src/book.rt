@@ -8,7 +8,7 @@ ghost use Rattle.std.specs.Option.{MatchOption, option_map};
 ghost use Rattle.scheduler.specs.Completed.{completed};
 ghost use Rattle.bsc_table.specs.declared.entry.Answer.TheVariants as answers;
 ghost use Rattle.bsc_table.specs.declared.command.Command.TheVariants as commands;
-ghost use Rattle.bsc_table.specs.declared.kept.TheConstants.{LATEST_START};
+ghost use Rattle.bsc_table.specs.declared.accepted.TheConstants.{LATEST_START};
 ghost use Rattle.bsc_table.specs.Claim.{stop_claims, is_claimed_at};
 ghost use Rattle.admission.specs.Load.{load_of};
 ghost use Rattle.bsc_table.specs.Record.{Record, accepted_in, is_of_pair, is_background, place_after, message_named};
@@ -27,10 +27,10 @@ ghost use Rattle.admission.specs.Reservation.{end_of_stopped};
 ghost use Rattle.admission.specs.Waiting.{behind_of};
 ghost use Rattle.admission.specs.Table.{ends_at, passed};
 
+use crate::accepted::{self, AcceptedMessage, Place};
 use crate::command::{Command, Refused};
 use crate::decision::Decision;
 use crate::entry::{Aired, Answer, Entry, SlotRange, State};
-use crate::kept::{self, Kept, Place};
 use crate::record::CellRecord;
 use admission::{Budget, NoRoom};
 use cbs_page::Serial;
@@ -71,7 +71,7 @@ pub struct CellBook {
     clock: u16,
     log: Vec<Entry>,
     air: Vec<Option<Aired>>,
-    accepted: Vec<Kept>,
+    accepted: Vec<AcceptedMessage>,
     plan: Plan,
     budget: Budget,
 }
@@ -277,14 +277,14 @@ impl CellBook {
     }
 
     /// Enters an entry that stops a message.
-    fn enter_stop(&mut self, entry: Entry, old: &Kept) -> Result<(), Refused>
+    fn enter_stop(&mut self, entry: Entry, old: &AcceptedMessage) -> Result<(), Refused>
         requires next { IsNext self.old entry }
         requires stop { IsStop self.old entry (accepted_of old.now) }
         ensures entered { OnOk result (self.new ≡ with_entry entry self.old) }
         ensures refused { OnErr result (self.new ≡ self.old) }
     {
         self.log.reserve(1)?;
-        kept::stop(self.accepted.as_mut_slice(), old.entry, self.clock);
+        accepted::stop(self.accepted.as_mut_slice(), old.entry, self.clock);
         let _ = self.plan.stop(old.entry, self.clock);
         release(&mut self.budget, old, self.clock);
         self.log.push_reserved(entry);
@@ -292,7 +292,7 @@ impl CellBook {
     }
 
     /// Enters an entry that starts a message.
-    fn enter_new(&mut self, entry: Entry, new: Kept) -> Result<(), Refused>
+    fn enter_new(&mut self, entry: Entry, new: AcceptedMessage) -> Result<(), Refused>
         requires next { IsNext self.old entry }
         requires start { IsStart self.old entry (accepted_of new) }
         ensures entered { OnOk result (self.new ≡ with_entry entry self.old) }
@@ -308,7 +308,12 @@ impl CellBook {
     }
 
     /// Enters an entry that stops a message and starts one in its place.
-    fn enter_replacement(&mut self, entry: Entry, old: &Kept, new: Kept) -> Result<(), Refused>
+    fn enter_replacement(
+        &mut self,
+        entry: Entry,
+        old: &AcceptedMessage,
+        new: AcceptedMessage,
+    ) -> Result<(), Refused>
         requires next { IsNext self.old entry }
         requires replacement { IsReplacement self.old entry (accepted_of old.now) (accepted_of new) }
         requires soon { new.start < LATEST_START }
@@ -318,7 +323,7 @@ impl CellBook {
         self.log.reserve(1)?;
         self.accepted.reserve(1)?;
         self.plan.add(new.item())?;
-        kept::stop(self.accepted.as_mut_slice(), old.entry, self.clock);
+        accepted::stop(self.accepted.as_mut_slice(), old.entry, self.clock);
         let _ = self.plan.stop(old.entry, self.clock);
         release(&mut self.budget, old, self.clock);
         reserve_for(&mut self.budget, &new, self.clock);
@@ -328,14 +333,14 @@ impl CellBook {
     }
 
     /// The message of a pair, if one was accepted.
-    fn named(&self, id: u16, serial: Serial) -> Option<Kept>
+    fn named(&self, id: u16, serial: Serial) -> Option<AcceptedMessage>
         ensures { option_map accepted_of result ≡ find (is_of_pair id serial) (accepted_in self.now.log) }
     {
-        kept::named(self.accepted.as_slice(), id, serial)
+        accepted::named(self.accepted.as_slice(), id, serial)
     }
 
     /// How many broadcasts of a message were whole before the clock's slot.
-    fn completed(&self, message: &Kept) -> u16
+    fn completed(&self, message: &AcceptedMessage) -> u16
         requires { Contains (accepted_in self.now.log) (accepted_of message.now) }
         ensures { result ≡ completed (accepted_of message.now).message self.now.air self.now.clock }
     {
@@ -343,7 +348,7 @@ impl CellBook {
     }
 
     /// The message of a pair, if it is live.
-    fn live(&self, id: u16, serial: Serial) -> Option<Kept>
+    fn live(&self, id: u16, serial: Serial) -> Option<AcceptedMessage>
         ensures { MatchOption result
             (IsNotLive self.now.clock (message_named id serial self.now.log))
             (λ kept. IsLiveAs self.now.clock id serial self.now.log (accepted_of kept)) }
@@ -378,7 +383,7 @@ impl CellBook {
                 contents,
                 ..
             } => {
-                let new = Kept {
+                let new = AcceptedMessage {
                     id: *id,
                     serial: *serial,
                     entry: self.log.len() as u16,
@@ -429,7 +434,7 @@ impl CellBook {
     }
 
     /// What a write comes to.
-    fn decide_write(&self, new: Kept, replaces: Option<Serial>) -> Decision
+    fn decide_write(&self, new: AcceptedMessage, replaces: Option<Serial>) -> Decision
         requires legal { IsLegal self.now }
         requires offered { IsOffered self.now (accepted_of new) }
         ensures right { decided_answer result
@@ -447,7 +452,7 @@ impl CellBook {
     }
 
     /// What a write in the place of no message comes to before the run's end.
-    fn decide_new(&self, new: Kept) -> Decision
+    fn decide_new(&self, new: AcceptedMessage) -> Decision
         requires { IsOffered self.now (accepted_of new) }
         ensures right { decided_answer result
             ≡ answer_to_write self.now.log self.now.air self.now.clock new.id new.serial None new.category
@@ -467,7 +472,7 @@ impl CellBook {
     }
 
     /// What a write in the place of the message of this serial number comes to before the run's end.
-    fn decide_replacement(&self, new: Kept, replaced: Serial) -> Decision
+    fn decide_replacement(&self, new: AcceptedMessage, replaced: Serial) -> Decision
         requires legal { IsLegal self.now }
         requires offered { IsOffered self.now (accepted_of new) }
         ensures right { decided_answer result
@@ -512,7 +517,7 @@ impl CellBook {
     }
 
     /// Whether a load has room, where a live message counts as stopped.
-    fn room_without(&self, old: &Kept, load: u64) -> Result<(), NoRoom>
+    fn room_without(&self, old: &AcceptedMessage, load: u64) -> Result<(), NoRoom>
         requires { IsLiveIn self.now (accepted_of old.now) }
         ensures { IsRoom (stop_claims old.now.entry self.now.clock (claims_in self.now.log)) self.now.clock load
             result }
@@ -521,7 +526,7 @@ impl CellBook {
     }
 
     /// The place at which a message of this load may take over from a live one, where there is room for its excess.
-    fn later_place(&self, old: &Kept, load: u64) -> Option<Place>
+    fn later_place(&self, old: &AcceptedMessage, load: u64) -> Option<Place>
         requires live { IsLiveIn self.now (accepted_of old.now) }
         requires room { length (filter (is_claimed_at self.now.clock) (left_by self.now (accepted_of old.now))) < 64 }
         ensures { IsLater self.now (accepted_of old.now) load result }
@@ -535,7 +540,7 @@ impl CellBook {
 
     /// The place at which a message of this load may take over from a live one: behind that one, where it has started,
     /// else behind the one behind which it waits.
-    fn place_after(&self, old: &Kept, load: u64) -> Option<Place>
+    fn place_after(&self, old: &AcceptedMessage, load: u64) -> Option<Place>
         requires { IsLiveIn self.now (accepted_of old.now) }
         ensures place { option_map place_of result
             ≡ place_after (left_by self.now (accepted_of old.now)) self.now.clock (accepted_of old.now) load }
@@ -545,14 +550,14 @@ impl CellBook {
             return None;
         }
         let entry = old.ahead_at(self.clock)?;
-        let ahead = kept::reserved(self.accepted.as_slice(), entry)?;
+        let ahead = accepted::reserved(self.accepted.as_slice(), entry)?;
         let stopped = ahead.stopped_if(old.entry, self.clock);
         stopped.place_behind(self.clock, load)
     }
 
     /// Whether there is room for what a load has over that of the message behind which it is to wait, where a live
     /// message counts as stopped.
-    fn room_behind(&self, old: &Kept, load: u64, place: Place) -> Result<(), NoRoom>
+    fn room_behind(&self, old: &AcceptedMessage, load: u64, place: Place) -> Result<(), NoRoom>
         requires live { IsLiveIn self.now (accepted_of old.now) }
         requires place { place_after (left_by self.now (accepted_of old.now)) self.now.clock (accepted_of old.now) load
             ≡ Some (place_of place) }
@@ -595,7 +600,7 @@ impl CellBook {
 
 /// Gives the reservation of a message that is stopped at `slot` its end, unless it is background, which has none. None
 /// waits behind a message that is stopped now.
-fn release(budget: &mut Budget, old: &Kept, slot: u16)
+fn release(budget: &mut Budget, old: &AcceptedMessage, slot: u16)
     requires period { 0 < old.now.period }
     requires reserved { is_background old.now.category ≡ false → Any (λ h. h.entry ≡ old.now.entry) budget.old }
     requires free { is_background old.now.category ≡ false → All (λ h. behind_of h ≢ Some old.now.entry) budget.old }
@@ -611,7 +616,7 @@ fn release(budget: &mut Budget, old: &Kept, slot: u16)
 
 /// Reserves what a message takes that was accepted at `slot`: its load from now on, or, where it waits behind another
 /// one, its excess up to its start and its load from there on; nothing where it is background.
-fn reserve_for(budget: &mut Budget, new: &Kept, slot: u16)
+fn reserve_for(budget: &mut Budget, new: &AcceptedMessage, slot: u16)
     requires period { 0 < new.now.period }
     requires soon { new.now.start < LATEST_START }
     requires standing { new.now.stop ≡ None }

@@ -3,8 +3,8 @@
 ghost use Rattle.std.specs.Prelude.{◌≡◌};
 ghost use Rattle.bsc_table.specs.Book.{decided_answer};
 
+use crate::accepted::AcceptedMessage;
 use crate::entry::Answer;
-use crate::kept::Kept;
 
 /// What a command comes to.
 #[derive(Clone, Copy, Debug, PartialEq, Eq)]
@@ -14,21 +14,21 @@ pub enum Decision {
     /// A live message is stopped.
     Stops {
         /// The message.
-        old: Kept,
+        old: AcceptedMessage,
         /// How many of its broadcasts are whole.
         completed: u16,
     },
     /// A message starts.
     Starts {
         /// The message.
-        new: Kept,
+        new: AcceptedMessage,
     },
     /// A message starts in the place of a live one, which is stopped.
     Replaces {
         /// The live one.
-        old: Kept,
+        old: AcceptedMessage,
         /// The one that starts.
-        new: Kept,
+        new: AcceptedMessage,
         /// How many broadcasts of the live one are whole.
         completed: u16,
     },

@@ -4,11 +4,11 @@
 //! and an air list alone.
 #![tactic(auto)]
 
+mod accepted;
 pub mod book;
 pub mod command;
 mod decision;
 pub mod entry;
-mod kept;
 mod laws;
 mod orders;
 pub mod record;

@@ -23,12 +23,12 @@ impl Model for CellRecord {
 
     ghost Value = { Record };
 
-    ghost use Rattle.bsc_table.specs.Book.{record_kept};
+    ghost use Rattle.bsc_table.specs.Book.{record_of_run};
     ghost use Rattle.bsc_table.specs.Legal.{IsLegal};
 
-    ghost view = { record_kept };
+    ghost view = { record_of_run };
 
-    ghost invariant = { λ r. IsLegal (record_kept r) };
+    ghost invariant = { λ r. IsLegal (record_of_run r) };
 }
 
 impl CellRecord {

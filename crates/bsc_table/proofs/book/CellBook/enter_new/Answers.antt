@@ -4,7 +4,7 @@ use Rattle.admission.specs.declared.budget.Held.{Held}
 use Rattle.scheduler.specs.Message.{Message}
 use Rattle.scheduler.specs.Follows.{Follows, message_from}
 use Rattle.bsc_table.specs.declared.entry.Entry.{Entry}
-use Rattle.bsc_table.specs.declared.kept.Kept.{Kept}
+use Rattle.bsc_table.specs.declared.accepted.AcceptedMessage.{AcceptedMessage}
 use Rattle.bsc_table.specs.Record.{Record, Accepted, accepted_in, messages_in, claim_of, claims_in, is_background}
 use Rattle.bsc_table.specs.Claim.{Claim}
 use Rattle.bsc_table.specs.Book.{accepted_of, record_of, lines_at, HasRoomFor, IsNext, IsStart}
@@ -68,7 +68,8 @@ invariant_of-self-2 c =
     let sound = IsSound-legal r book.legal in
     -- the log and what is kept
     let grown = c.push_reserved-2.ensures.items ∙ ap (λ (l : List Entry). l ++ e ∷ []) c.reserve.ensures.items in
-    let kept = c.push_reserved.ensures.items ∙ ap (λ (l : List Kept). l ++ c.args.new ∷ []) c.reserve-2.ensures.items in
+    let kept = c.push_reserved.ensures.items ∙ ap (λ (l : List AcceptedMessage). l ++ c.args.new ∷ [])
+    c.reserve-2.ensures.items in
     let more = ap (map accepted_of) kept ∙ kept_more c.self.inside.accepted.items c.args.new (accepted_in r.log)
     book.kept ∙ sym adds in
     -- the plan

@@ -8,7 +8,7 @@ use Rattle.admission.specs.Waiting.{behind_of}
 use Rattle.scheduler.specs.Message.{Message, stopped_at}
 use Rattle.scheduler.specs.Follows.{Follows, messages_of, message_from}
 use Rattle.bsc_table.specs.declared.entry.Entry.{Entry}
-use Rattle.bsc_table.specs.declared.kept.Kept.{Kept}
+use Rattle.bsc_table.specs.declared.accepted.AcceptedMessage.{AcceptedMessage}
 use Rattle.bsc_table.specs.Record.{Record, Accepted, accepted_in, messages_in, claim_of, claims_in, is_background}
 use Rattle.bsc_table.specs.Claim.{Claim, reserves, stop_claims}
 use Rattle.bsc_table.specs.Book.{accepted_of, stop_numbered, record_of, lines_at, HasRoomFor, IsNext, IsReplacement}
@@ -125,7 +125,7 @@ invariant_of-self-2 c =
     let room = c.reserve-2.new.self in
     let stopped = table_stopped room c.as_mut_slice.result.now c.stop.new.table entry r.clock
     c.as_mut_slice.ensures.value c.as_mut_slice.ensures.len c.stop.ensures
-    ∙ ap (λ (l : List Kept). map (stop_numbered entry r.clock) (map accepted_of l)) c.reserve-2.ensures.items
+    ∙ ap (λ (l : List AcceptedMessage). map (stop_numbered entry r.clock) (map accepted_of l)) c.reserve-2.ensures.items
     ∙ ap (map (stop_numbered entry r.clock)) book.kept in
     let kept = ap (map accepted_of) c.push_reserved.ensures.items
     ∙ kept_more (with_items room c.stop.new.table).items c.args.new rest stopped ∙ sym change.after in

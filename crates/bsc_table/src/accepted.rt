@@ -9,8 +9,8 @@ ghost use Rattle.scheduler.specs.Follows.{message_from};
 ghost use Rattle.scheduler.specs.Air.{layer};
 ghost use Rattle.bsc_table.specs.Record.{is_of_pair, is_live, state_at, claim_of};
 ghost use Rattle.bsc_table.specs.Handover.{ahead_of, place_before};
-ghost use Rattle.bsc_table.specs.declared.kept.TheConstants.{LATEST_START};
-ghost use Rattle.bsc_table.specs.Book.{accepted_of, kept_stopped, place_of, stopped_end};
+ghost use Rattle.bsc_table.specs.declared.accepted.TheConstants.{LATEST_START};
+ghost use Rattle.bsc_table.specs.Book.{accepted_of, accepted_stopped, place_of, stopped_end};
 
 use crate::command::Category;
 use crate::entry::State;
@@ -24,7 +24,7 @@ const LATEST_START: u32 = 0x1_FFFE;
 
 /// A message that was accepted.
 #[derive(Clone, Copy, Debug, PartialEq, Eq)]
-pub struct Kept {
+pub struct AcceptedMessage {
     /// The message identifier.
     pub id: u16,
     /// The serial number.
@@ -62,7 +62,7 @@ pub struct Place {
     pub excess: u64,
 }
 
-impl Kept {
+impl AcceptedMessage {
     /// The message as a plan is told of it.
     pub fn item(&self) -> Item
         ensures { message_from result ≡ record ((accepted_of self.now).message) { stop = None } }
@@ -173,10 +173,10 @@ impl Kept {
     }
 
     /// The message, where it waits at that place.
-    pub fn waiting_at(self, place: Place) -> Kept
+    pub fn waiting_at(self, place: Place) -> AcceptedMessage
         ensures { result ≡ record self { behind = Some place.behind; excess = place.excess; start = place.start } }
     {
-        Kept {
+        AcceptedMessage {
             behind: Some(place.behind),
             excess: place.excess,
             start: place.start,
@@ -185,11 +185,11 @@ impl Kept {
     }
 
     /// The message, stopped before `slot` where its number is this one.
-    pub fn stopped_if(self, entry: u16, slot: u16) -> Kept
-        ensures { result ≡ kept_stopped entry slot self }
+    pub fn stopped_if(self, entry: u16, slot: u16) -> AcceptedMessage
+        ensures { result ≡ accepted_stopped entry slot self }
     {
         if self.entry == entry {
-            Kept {
+            AcceptedMessage {
                 stop: Some(slot),
                 ..self
             }
@@ -200,35 +200,35 @@ impl Kept {
 }
 
 /// The message of a pair, if one was accepted.
-pub fn named(table: &[Kept], id: u16, serial: Serial) -> Option<Kept>
+pub fn named(table: &[AcceptedMessage], id: u16, serial: Serial) -> Option<AcceptedMessage>
     ensures { option_map accepted_of result ≡ find (is_of_pair id serial) (map accepted_of table.now) }
 {
-    for kept in table {
-        if kept.id == id && kept.serial == serial {
-            return Some(*kept);
+    for message in table {
+        if message.id == id && message.serial == serial {
+            return Some(*message);
         }
     }
     None
 }
 
 /// The message of a number that reserves, if there is one: that isn't background.
-pub fn reserved(table: &[Kept], entry: u16) -> Option<Kept>
+pub fn reserved(table: &[AcceptedMessage], entry: u16) -> Option<AcceptedMessage>
     ensures { option_map accepted_of result
         ≡ find (λ a. (a.message.entry == entry) && (layer a.message == 0)) (map accepted_of table.now) }
 {
-    for kept in table {
-        if kept.entry == entry && !kept.category.is_background() {
-            return Some(*kept);
+    for message in table {
+        if message.entry == entry && !message.category.is_background() {
+            return Some(*message);
         }
     }
     None
 }
 
 /// Stops the message of this number before `slot`.
-pub fn stop(table: &mut [Kept], entry: u16, slot: u16)
-    ensures { table.new ≡ map (kept_stopped entry slot) table.old }
+pub fn stop(table: &mut [AcceptedMessage], entry: u16, slot: u16)
+    ensures { table.new ≡ map (accepted_stopped entry slot) table.old }
 {
-    for kept in table.iter_mut() {
-        *kept = kept.stopped_if(entry, slot);
+    for message in table.iter_mut() {
+        *message = message.stopped_if(entry, slot);
     }
 }
