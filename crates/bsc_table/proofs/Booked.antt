@@ -16,7 +16,7 @@ use Rattle.admission.proofs.Reservations.{end_of_stopped-not_before}
 use Rattle.scheduler.specs.Message.{Message}
 use Rattle.scheduler.specs.Air.{Air}
 use Rattle.scheduler.specs.Completed.{completed}
-use Rattle.scheduler.specs.Follows.{Kept, messages_of, Follows}
+use Rattle.scheduler.specs.Follows.{PlanState, messages_of, Follows}
 use Rattle.bsc_table.specs.declared.entry.Entry.{Entry}
 use Rattle.bsc_table.specs.declared.entry.Answer.{Answer}
 use Rattle.bsc_table.specs.declared.entry.Answer.TheVariants as answers
@@ -32,7 +32,7 @@ use Rattle.bsc_table.proofs.Lines.{lined, same_room, lines_are_current, room_wit
 use Rattle.bsc_table.proofs.Sound.{HasLoad, IsSound-legal}
 
 -- so a plan that follows them was told of it
-pub told_of_it : (plan : Kept) (log : List Entry) (air : Air) (a : Accepted)
+pub told_of_it : (plan : PlanState) (log : List Entry) (air : Air) (a : Accepted)
     → Follows plan (messages_in log) air
     → Contains (accepted_in log) a
     → Any (λ m. m.entry ≡ a.message.entry) (messages_of plan)

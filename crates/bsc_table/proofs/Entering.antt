@@ -13,7 +13,7 @@ use Rattle.admission.specs.Waiting.{behind_of}
 use Rattle.admission.specs.Table.{ends_at, passed}
 use Rattle.scheduler.specs.Message.{Message, stopped_if, stopped_at}
 use Rattle.scheduler.specs.Air.{Air, layer}
-use Rattle.scheduler.specs.Follows.{Kept as Planned, messages_of, Follows}
+use Rattle.scheduler.specs.Follows.{PlanState, messages_of, Follows}
 use Rattle.bsc_table.specs.declared.accepted.AcceptedMessage.{AcceptedMessage}
 use Rattle.bsc_table.specs.declared.book.CellBook.TheInside.{Inside}
 use Rattle.bsc_table.specs.declared.entry.Answer.{Answer}
@@ -82,7 +82,7 @@ kept_more kept new all same =
     map-append accepted_of kept (new ∷ []) ∙ ap (λ (l : List Accepted). l ++ accepted_of new ∷ []) same
 
 -- a plan's numbers are below the length of the log
-pub planned_below : (plan : Planned) (log : List Entry) (air : Air)
+pub planned_below : (plan : PlanState) (log : List Entry) (air : Air)
     → Follows plan (messages_in log) air
     → All (λ m. m.entry < length log) (messages_of plan)
 planned_below plan log air follows =
@@ -127,7 +127,7 @@ number_below log a there =
     All-contains (λ (x : Accepted). x.message.entry < length log) (accepted_in log) a (numbers_below log) there
 
 -- a live message is told of as standing
-pub standing_in : (plan : Planned) (slot : ℕ) (log : List Entry) (air : Air) (a : Accepted)
+pub standing_in : (plan : PlanState) (slot : ℕ) (log : List Entry) (air : Air) (a : Accepted)
     → Follows plan (messages_in log) air
     → Contains (accepted_in log) a
     → is_live slot a.message ≡ true
@@ -139,7 +139,8 @@ standing_in plan slot log air a follows there live =
     subst P (sym follows.told) (found.0, a.message, found.1, found.2, (refl, live_is_standing slot a.message live))
 
 -- also where one more was told
-pub standing_beside : (plan : Planned) (slot : ℕ) (log : List Entry) (a : Accepted) (told : List Message) (m : Message)
+pub standing_beside : (plan : PlanState) (slot : ℕ) (log : List Entry) (a : Accepted) (told : List Message)
+    (m : Message)
     → messages_of plan ≡ told ++ m ∷ []
     → Any (λ x. (x.entry ≡ a.message.entry) × (x.stop ≡ None)) told
     → Any (λ x. (x.entry ≡ a.message.entry) × (x.stop ≡ None)) (messages_of plan)
@@ -288,7 +289,7 @@ begun_lines entry slot replaced before claims a begun held after same false fron
 
 -- a book whose log has the entry that was to come next, and whose table, plan and budget are those of the messages with
 -- it
-pub book_with : (b : Inside) (e : Entry) (log : Vec Entry) (accepted : Vec AcceptedMessage) (plan : Planned)
+pub book_with : (b : Inside) (e : Entry) (log : Vec Entry) (accepted : Vec AcceptedMessage) (plan : PlanState)
     (budget : List Held)
     → IsBook b
     → IsNext (record_of b) e

@@ -7,7 +7,7 @@
 
 mod laws;
 mod plan;
-mod tracked;
+mod scheduled;
 
 pub use laws::{air_laws, background_laws};
 pub use plan::{Item, Plan, Rank, Refused};

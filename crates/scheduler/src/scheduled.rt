@@ -3,7 +3,7 @@
 ghost use Rattle.std.specs.Prelude.{◌≡◌, ◌==◌, ℕ, ◌+◌, ◌<◌, ◌≤◌, true, MatchBool};
 ghost use Rattle.scheduler.specs.Message.{broadcast_at};
 ghost use Rattle.scheduler.specs.Follows.{message_of};
-ghost use Rattle.scheduler.specs.Kept.{IsFit, HasStarted, is_ready, IsServedFirst, after_slot, stopped_kept};
+ghost use Rattle.scheduler.specs.PlanSteps.{IsFit, HasStarted, is_ready, IsServedFirst, after_slot, scheduled_stopped};
 ghost use Rattle.scheduler.specs.Air.{airs};
 ghost use Rattle.scheduler.specs.Message.{release, due, has_broadcast, is_before_stop};
 
@@ -11,26 +11,26 @@ use crate::plan::Item;
 
 /// A message, with what was aired of it.
 #[derive(Clone, Copy)]
-pub struct Tracked {
+pub struct Scheduled {
     /// The message as it was added.
     pub item: Item,
     /// The slot before which it was stopped.
     pub stop: Option<u16>,
     /// How many pages of the broadcast that is under way were aired.
-    pub aired: u8,
+    pub pages_aired: u8,
     /// How many broadcasts were aired whole.
     pub completed: u16,
 }
 
-impl Tracked {
+impl Scheduled {
     /// What is kept of a message that was just added.
     pub fn new(item: Item) -> Self
-        ensures { result ≡ record { item = item; stop = None; aired = 0; completed = 0 } }
+        ensures { result ≡ record { item = item; stop = None; pages_aired = 0; completed = 0 } }
     {
-        Tracked {
+        Scheduled {
             item,
             stop: None,
-            aired: 0,
+            pages_aired: 0,
             completed: 0,
         }
     }
@@ -65,11 +65,11 @@ impl Tracked {
             None => true,
             Some(stop) => slot < stop,
         };
-        is_started && is_requested && is_standing && self.aired < self.item.pages
+        is_started && is_requested && is_standing && self.pages_aired < self.item.pages
     }
 
     /// Whether the message is served no later than another at `slot`.
-    pub fn is_served_first(&self, other: &Tracked, slot: u16) -> bool
+    pub fn is_served_first(&self, other: &Scheduled, slot: u16) -> bool
         requires this_started { HasStarted self.now slot }
         requires other_started { HasStarted other.now slot }
         ensures { MatchBool result (IsServedFirst slot self.now other.now)
@@ -90,21 +90,21 @@ impl Tracked {
     }
 
     /// What is kept of the message after `slot`, which was used for `used`.
-    pub fn after_slot(self, slot: u16, used: Option<(u16, u8)>) -> Tracked
+    pub fn after_slot(self, slot: u16, used: Option<(u16, u8)>) -> Scheduled
         requires fit { IsFit self slot }
         requires within { slot < 65535 }
-        requires ready { airs self.item.entry used ≡ true → self.aired < self.item.pages }
+        requires ready { airs self.item.entry used ≡ true → self.pages_aired < self.item.pages }
         ensures { result ≡ after_slot slot used self }
     {
         let is_used = match used {
             None => false,
             Some((entry, _)) => entry == self.item.entry,
         };
-        let pages = self.aired + u8::from(is_used);
+        let pages = self.pages_aired + u8::from(is_used);
         let is_whole = is_used && pages == self.item.pages;
         let passed = (u32::from(slot) + 1).saturating_sub(self.item.start);
-        Tracked {
-            aired: if passed % u32::from(self.item.period) == 0 {
+        Scheduled {
+            pages_aired: if passed % u32::from(self.item.period) == 0 {
                 0
             } else {
                 pages
@@ -115,11 +115,11 @@ impl Tracked {
     }
 
     /// The message, stopped before `slot` where it is of `entry`.
-    pub fn stopped_if(self, entry: u16, slot: u16) -> Tracked
-        ensures { result ≡ stopped_kept (self.item.entry == entry) slot self }
+    pub fn stopped_if(self, entry: u16, slot: u16) -> Scheduled
+        ensures { result ≡ scheduled_stopped (self.item.entry == entry) slot self }
     {
         if self.item.entry == entry {
-            Tracked {
+            Scheduled {
                 stop: Some(slot),
                 ..self
             }
