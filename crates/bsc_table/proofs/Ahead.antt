@@ -9,7 +9,7 @@ use Rattle.std.proofs.lemmas.Bool.{ltb-true, lt-ltb, le-ltb}
 use Rattle.std.proofs.lemmas.Option.{none-some}
 use Rattle.std.proofs.lemmas.List.{get_or-map, length-map, get_or_default}
 use Rattle.admission.specs.Reservation.{IsBeforeEnd, natural_end, end_of_reservation}
-use Rattle.scheduler.specs.Message.{Message}
+use Rattle.scheduler.specs.Message.{ScheduledMessage}
 use Rattle.scheduler.proofs.Lists.{rising-same}
 use Rattle.bsc_table.specs.Claim.{Claim, end_of, own_load, stop_claim, stop_claims}
 use Rattle.bsc_table.specs.Record.{is_live}
@@ -132,7 +132,7 @@ from_stopped claims entry now p there =
     )
 
 -- a live message is reserved
-pub live_before : (now : ℕ) (m : Message) → 0 < m.period → is_live now m ≡ true → IsBeforeEnd now (end_of m)
+pub live_before : (now : ℕ) (m : ScheduledMessage) → 0 < m.period → is_live now m ≡ true → IsBeforeEnd now (end_of m)
 live_before now m some live =
     let parts = and_parts (not (is_some m.stop)) ((m.broadcasts == 0) || nat_lt now (m.start + m.broadcasts * m.period))
     live in

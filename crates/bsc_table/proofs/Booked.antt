@@ -13,7 +13,7 @@ use Rattle.admission.specs.declared.measure.TheConstants.{SCALE}
 use Rattle.admission.specs.Reservation.{end_of_stopped}
 use Rattle.admission.specs.Table.{answer_of as answer_by, answer_for, remaining_without}
 use Rattle.admission.proofs.Reservations.{end_of_stopped-not_before}
-use Rattle.scheduler.specs.Message.{Message}
+use Rattle.scheduler.specs.Message.{ScheduledMessage}
 use Rattle.scheduler.specs.Air.{Air}
 use Rattle.scheduler.specs.Completed.{completed}
 use Rattle.scheduler.specs.Follows.{PlanState, messages_of, Follows}
@@ -37,7 +37,8 @@ pub told_of_it : (plan : PlanState) (log : List Entry) (air : Air) (a : Accepted
     → Contains (accepted_in log) a
     → Any (λ m. m.entry ≡ a.message.entry) (messages_of plan)
 told_of_it plan log air a follows there =
-    let P : List Message → Type 0 = λ messages. Any (λ (m : Message). m.entry ≡ a.message.entry) messages in
+    let P : List ScheduledMessage → Type 0 = λ messages. Any (λ (m : ScheduledMessage). m.entry ≡ a.message.entry)
+    messages in
     let found = Contains-message log a there in
     subst P (sym follows.told) (found.0, a.message, found.1, found.2, refl)
 
@@ -48,7 +49,7 @@ pub completed_of_it : (log : List Entry) (air : Air) (slot told : ℕ) (a : Acce
     → All (λ m. m.entry ≡ a.message.entry → told ≡ completed m air (length air)) (messages_in log)
     → told ≡ completed a.message air slot
 completed_of_it log air slot told a long there says =
-    let Says : Message → Type 0 = λ m. m.entry ≡ a.message.entry → told ≡ completed m air (length air) in
+    let Says : ScheduledMessage → Type 0 = λ m. m.entry ≡ a.message.entry → told ≡ completed m air (length air) in
     All-contains Says (messages_in log) a.message says (Contains-message log a there) refl
     ∙ ap (completed a.message air) long
 

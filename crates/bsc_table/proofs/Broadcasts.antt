@@ -3,7 +3,7 @@ use Rattle.std.proofs.Common.{◌≡◌, ℕ, zero, suc, ◌+◌, ◌-◌, ◌*�
 use Rattle.std.proofs.Common.{Some, None, inl, inr, ap, subst, ◌∙◌, arith}
 use Rattle.std.proofs.lemmas.Bool.{cases_Bool}
 use Rattle.std.proofs.Math.Nat.{mul-le-mul_right, lt_of_mul-lt-mul_right}
-use Rattle.scheduler.specs.Message.{Message, release, due, IsBeforeStop}
+use Rattle.scheduler.specs.Message.{ScheduledMessage, release, due, IsBeforeStop}
 use Rattle.scheduler.specs.Air.{Air, airs, pages_aired}
 use Rattle.scheduler.proofs.Air.{pages_aired-none}
 use Rattle.scheduler.proofs.Rule.{pages_aired-more}
@@ -11,14 +11,14 @@ use Rattle.bsc_table.specs.Guarantee.{IsUpToStop}
 use Rattle.bsc_table.proofs.Sums.{total, total-none}
 
 -- an earlier broadcast is due by the release of a later one
-pub due-le-release : (m : Message) (i j : ℕ) → i < j → due m i ≤ release m j
+pub due-le-release : (m : ScheduledMessage) (i j : ℕ) → i < j → due m i ≤ release m j
 due-le-release m i j before =
     let next : i + 1 ≤ j = omega arith in
     let times = mul-le-mul_right m.period next in
     omega arith
 
 -- what is released sooner has the lesser number
-pub release-lt : (m : Message) (i j : ℕ) → release m i < release m j → i < j
+pub release-lt : (m : ScheduledMessage) (i j : ℕ) → release m i < release m j → i < j
 release-lt m i j sooner =
     let times : i * m.period < j * m.period = omega arith in
     lt_of_mul-lt-mul_right m.period times
@@ -67,5 +67,5 @@ none_aired n air a b h none =
     ])
 
 -- the pages that are aired of the message in the slots before n
-abbrev pub pages_before : Message → Air → ℕ → ℕ
+abbrev pub pages_before : ScheduledMessage → Air → ℕ → ℕ
 pages_before m air n = total (uses m.entry air) n

@@ -3,7 +3,7 @@ use Rattle.std.proofs.Common.{◌≡◌, ℕ, zero, suc, ◌+◌, ◌-◌, ◌�
 use Rattle.std.proofs.Common.{inr, refl, ap, subst, ◌∙◌, arith}
 use Rattle.std.specs.List.{All, Any}
 use Rattle.std.proofs.lemmas.Bool.{cases_lt}
-use Rattle.scheduler.specs.Message.{Message, release, due}
+use Rattle.scheduler.specs.Message.{ScheduledMessage, release, due}
 use Rattle.scheduler.specs.Air.{Air, pages_aired, layer, next_page, IsPending, IsServedBy, IsChosen, IsAirOf}
 use Rattle.scheduler.proofs.Air.{pages_aired-none}
 use Rattle.bsc_table.specs.Guarantee.{IsUncut, AirsOneWithin, LackMeansABusyPeriod}
@@ -11,21 +11,21 @@ use Rattle.bsc_table.proofs.Sums.{total-le}
 use Rattle.bsc_table.proofs.Broadcasts.{uses, pages_by_sums, before_stop-sooner, before_stop-up_to}
 
 -- the slot airs a page of a broadcast that is due at `to` or sooner
-abbrev AirsDue : List Message → Air → ℕ → ℕ → Type 0
+abbrev AirsDue : List ScheduledMessage → Air → ℕ → ℕ → Type 0
 AirsDue messages air to slot =
     Any (λ m. (j : ℕ) × IsPending m j air slot × (get_or air slot None ≡ Some (next_page m j air slot))
     × (due m j ≤ to)) messages
 
 -- whatever is pending at the slot is due later
-abbrev NoneDue : List Message → Air → ℕ → ℕ → Type 0
+abbrev NoneDue : List ScheduledMessage → Air → ℕ → ℕ → Type 0
 NoneDue messages air to slot = All (λ m. (j : ℕ) → IsPending m j air slot → to < due m j) messages
 
 -- none of the messages is background
-abbrev NoBackground : List Message → Type 0
+abbrev NoBackground : List ScheduledMessage → Type 0
 NoBackground messages = All (λ m. layer m ≡ 0) messages
 
 -- of such messages, what is served no later is due no later
-due_no_later : (a b : Message) (i j : ℕ) → layer a ≡ 0 → layer b ≡ 0 → IsServedBy a i b j → due a i ≤ due b j
+due_no_later : (a b : ScheduledMessage) (i j : ℕ) → layer a ≡ 0 → layer b ≡ 0 → IsServedBy a i b j → due a i ≤ due b j
 due_no_later a b i j one other h =
     elim h [
       | inl above ↦ absurd (omega (arith, one, other, above))
@@ -33,7 +33,7 @@ due_no_later a b i j one other h =
     ]
 
 -- a slot airs what is due by then, or nothing that is due by then is pending
-chosen_due : (messages : List Message) (air : Air) (to slot : ℕ) (used : Option (ℕ × ℕ))
+chosen_due : (messages : List ScheduledMessage) (air : Air) (to slot : ℕ) (used : Option (ℕ × ℕ))
     → NoBackground messages
     → get_or air slot None ≡ used
     → IsChosen messages air slot used
@@ -43,7 +43,7 @@ chosen_due messages air to slot None alone same chosen =
 chosen_due messages air to slot (Some used) alone same chosen =
     let m = chosen.1 in
     let j = chosen.4.0 in
-    let Alone : Message → Type 0 = λ o. layer o ≡ 0 in
+    let Alone : ScheduledMessage → Type 0 = λ o. layer o ≡ 0 in
     let its = subst Alone chosen.3 (alone chosen.0 m chosen.2) in
     elim (cases_lt to (due m j)) [
       | inl later ↦ inr (λ k d within. λ i pending.
@@ -55,12 +55,12 @@ chosen_due messages air to slot (Some used) alone same chosen =
 
 -- from some slot on, no later than `at`, each slot airs what is due by then, and at the slot before nothing that is was
 -- pending
-record IsBusyFrom (messages : List Message) (air : Air) (at to from : ℕ) : Type 0 where
+record IsBusyFrom (messages : List ScheduledMessage) (air : Air) (at to from : ℕ) : Type 0 where
   early : from ≤ at
   busy : (slot : ℕ) → from ≤ slot → slot < to → AirsDue messages air to slot
   begins : (slot : ℕ) → from ≡ slot + 1 → NoneDue messages air to slot
 
-busy_from : (messages : List Message) (air : Air) (to at : ℕ)
+busy_from : (messages : List ScheduledMessage) (air : Air) (to at : ℕ)
     → NoBackground messages
     → IsAirOf messages air
     → at ≤ to
@@ -108,7 +108,7 @@ pages_aired-sooner n air from s t h within =
     ]
 
 -- what is pending at a slot was pending since its release
-pending_since : (m : Message) (j : ℕ) (air : Air) (s t : ℕ) → s ≤ t → t ≤ length air → release m j ≤ s
+pending_since : (m : ScheduledMessage) (j : ℕ) (air : Air) (s t : ℕ) → s ≤ t → t ≤ length air → release m j ≤ s
     → IsPending m j air t → IsPending m j air s
 pending_since m j air s t h within released pending = record {
   requested = pending.requested;
@@ -119,7 +119,7 @@ pending_since m j air s t h within released pending = record {
 }
 
 -- an uncut broadcast that lacks a page by its due slot is pending at each slot up to it
-pending_throughout : (m : Message) (j : ℕ) (air : Air) (t : ℕ) → IsUncut m j air
+pending_throughout : (m : ScheduledMessage) (j : ℕ) (air : Air) (t : ℕ) → IsUncut m j air
     → pages_aired m.entry air (release m j) (due m j) < m.pages → release m j ≤ t → t < due m j → IsPending m j air t
 pending_throughout m j air t uncut lacks low high = record {
   requested = uncut.requested;
@@ -155,7 +155,7 @@ lack_means_a_busy_period messages air alone rule = λ k d inside. λ j uncut lac
       | inr never ↦ (release m j, omega arith, λ slot low high. absurd (omega arith))
     ]
   where
-    within_since : (messages : List Message) (air : Air) (to slot from : ℕ) → slot < length air → from ≤ slot
+    within_since : (messages : List ScheduledMessage) (air : Air) (to slot from : ℕ) → slot < length air → from ≤ slot
         → ((s : ℕ) → from ≡ s + 1 → NoneDue messages air to s) → AirsDue messages air to slot
         → AirsOneWithin messages air from to slot
     within_since messages air to slot from within low before airs =
@@ -175,7 +175,7 @@ lack_means_a_busy_period messages air alone rule = λ k d inside. λ j uncut lac
                   let at : from ≡ (from - 1) + 1 = omega arith in
                   let pending = pending_since m j air (from - 1) slot (omega arith) (omega arith) (omega arith)
                   airs.4.1 in
-                  let Later : Message → Type 0 = λ o. (i : ℕ) → IsPending o i air (from - 1) → to < due o i in
+                  let Later : ScheduledMessage → Type 0 = λ o. (i : ℕ) → IsPending o i air (from - 1) → to < due o i in
                   let later = subst Later airs.3 (before (from - 1) at airs.0 m airs.2) j pending in
                   absurd (omega (arith, later, airs.4.3))
             ],

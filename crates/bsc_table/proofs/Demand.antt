@@ -7,7 +7,8 @@ use Rattle.std.proofs.Math.Nat.{le_of_mul-le-mul_left}
 use Rattle.admission.specs.declared.measure.TheConstants.{SCALE}
 use Rattle.admission.specs.Load.{load_of}
 use Rattle.admission.proofs.Loads.{load_of-enough}
-use Rattle.scheduler.specs.Message.{Message, release, due, HasBroadcast, IsBeforeStop, has_broadcast, is_before_stop}
+use Rattle.scheduler.specs.Message.{ScheduledMessage, release, due, HasBroadcast, IsBeforeStop, has_broadcast}
+use Rattle.scheduler.specs.Message.{is_before_stop}
 use Rattle.scheduler.proofs.Lists.{count_below_more}
 use Rattle.scheduler.proofs.Message.{has_broadcast-says, has_broadcast-from, is_before_stop-says, is_before_stop-from}
 use Rattle.bsc_table.specs.Guarantee.{is_inside, DemandIsNoMoreThanTheSlots}
@@ -28,31 +29,32 @@ count_below-le p k (suc n) h =
     ]
 
 -- how many of the broadcasts below n are inside the range
-abbrev pub count_inside : Message → ℕ → ℕ → ℕ → ℕ
+abbrev pub count_inside : ScheduledMessage → ℕ → ℕ → ℕ → ℕ
 count_inside m from to n = count_by (is_inside m from to) (range_with_len 0 n)
 
-pub count_inside-le : (m : Message) (from to k n : ℕ) → k ≤ n → count_inside m from to k ≤ count_inside m from to n
+pub count_inside-le : (m : ScheduledMessage) (from to k n : ℕ) → k ≤ n
+    → count_inside m from to k ≤ count_inside m from to n
 count_inside-le m from to k n h = count_below-le (is_inside m from to) k n h
 
-pub count_inside-one : (m : Message) (from to n : ℕ) → is_inside m from to n ≡ true
+pub count_inside-one : (m : ScheduledMessage) (from to n : ℕ) → is_inside m from to n ≡ true
     → count_inside m from to (suc n) ≡ count_inside m from to n + 1
 count_inside-one m from to n one =
     count_below_more (is_inside m from to) n ∙ ap (λ (x : Bool). count_inside m from to n + cond x 1 0) one
 
-pub count_inside-none : (m : Message) (from to n : ℕ) → is_inside m from to n ≡ false
+pub count_inside-none : (m : ScheduledMessage) (from to n : ℕ) → is_inside m from to n ≡ false
     → count_inside m from to (suc n) ≡ count_inside m from to n
 count_inside-none m from to n none =
     let nothing : count_inside m from to n + 0 ≡ count_inside m from to n = omega arith in
     count_below_more (is_inside m from to) n ∙ (ap (λ (x : Bool). count_inside m from to n + cond x 1 0) none ∙ nothing)
 
 -- what the test of a broadcast inside a range says
-pub record IsInside (m : Message) (from to j : ℕ) : Type 0 where
+pub record IsInside (m : ScheduledMessage) (from to j : ℕ) : Type 0 where
   pub requested : HasBroadcast m j
   pub standing : IsBeforeStop (release m j) m.stop
   pub released : from ≤ release m j
   pub due_by : due m j ≤ to
 
-pub is_inside-says : (m : Message) (from to j : ℕ) → is_inside m from to j ≡ true → IsInside m from to j
+pub is_inside-says : (m : ScheduledMessage) (from to j : ℕ) → is_inside m from to j ≡ true → IsInside m from to j
 is_inside-says m from to j h =
     let first = and_parts (has_broadcast m j) (is_before_stop (release m j) m.stop &&
     (leb from (release m j) && leb (due m j) to)) h in
@@ -65,7 +67,7 @@ is_inside-says m from to j h =
       due_by = leb-true (due m j) to third.1;
     }
 
-pub is_inside-from : (m : Message) (from to j : ℕ) → IsInside m from to j → is_inside m from to j ≡ true
+pub is_inside-from : (m : ScheduledMessage) (from to j : ℕ) → IsInside m from to j → is_inside m from to j ≡ true
 is_inside-from m from to j fact =
     let third = and_from (leb from (release m j)) (leb (due m j) to) (le-leb from (release m j) fact.released)
     (le-leb (due m j) to fact.due_by) in
@@ -82,7 +84,7 @@ one_more scale pages count load period before upto high enough taken reserved = 
 
 -- the broadcasts below n inside the range have reserved, up to the release of broadcast n or the end of the range, what
 -- their pages take
-inside_below : (m : Message) (from to n b : ℕ) → 0 < m.period → from ≤ b → (release m n ≤ b) ⊎ (to ≤ b)
+inside_below : (m : ScheduledMessage) (from to n b : ℕ) → 0 < m.period → from ≤ b → (release m n ≤ b) ⊎ (to ≤ b)
     → SCALE * (m.pages * count_inside m from to n) + total (load_at m) from ≤ total (load_at m) b
 inside_below m from to zero b period ahead upto =
     let none : SCALE * (m.pages * count_inside m from to 0) ≡ 0 = omega arith in
@@ -111,7 +113,7 @@ inside_below m from to (suc n) b period ahead upto =
     ]
 
 -- nothing is inside a range that ends before it begins
-none_inside : (m : Message) (from to n : ℕ) → to < from → count_inside m from to n ≡ 0
+none_inside : (m : ScheduledMessage) (from to n : ℕ) → to < from → count_inside m from to n ≡ 0
 none_inside m from to zero behind = refl
 none_inside m from to (suc n) behind =
     let before = none_inside m from to n behind in
@@ -126,17 +128,18 @@ none_inside m from to (suc n) behind =
 
 pub demand_is_no_more_than_the_slots : DemandIsNoMoreThanTheSlots
 demand_is_no_more_than_the_slots messages from to periods fit =
-    let count = λ (m : Message). m.pages * count_inside m from to to in
+    let count = λ (m : ScheduledMessage). m.pages * count_inside m from to to in
     elim (cases_lt to from) [
       | inl behind ↦
           let none = sum_by-le_all count (λ m. 0 * 0) messages
           (λ k d h. no_pages (get_or messages k d).pages _ (none_inside (get_or messages k d) from to to behind)) in
-          omega (arith, none, sum_by-times 0 (λ (m : Message). 0) messages)
+          omega (arith, none, sum_by-times 0 (λ (m : ScheduledMessage). 0) messages)
       | inr forward ↦
-          let taken = λ (m : Message). SCALE * count m + total (load_at m) from in
+          let taken = λ (m : ScheduledMessage). SCALE * count m + total (load_at m) from in
           let each = sum_by-le_all taken (λ m. total (load_at m) to) messages
           (λ k d h. inside_below (get_or messages k d) from to to to (periods k d h) forward (inr (omega arith))) in
-          let parts = sum_by-plus (λ (m : Message). SCALE * count m) (λ (m : Message). total (load_at m) from) messages
+          let parts = sum_by-plus (λ (m : ScheduledMessage). SCALE * count m)
+          (λ (m : ScheduledMessage). total (load_at m) from) messages
           in
           let times = sum_by-times SCALE count messages in
           let grown = loads_grow SCALE messages from to forward (fits_by_message messages fit) in

@@ -8,7 +8,7 @@ use Rattle.std.proofs.lemmas.List.{get_or-map, length-map, take_all, take_at, ta
 use Rattle.std.proofs.lemmas.List.{get_or_default, get_or_push, length_push, map-append}
 use Rattle.std.proofs.lemmas.List.Elements.{All-push, All-map}
 use Rattle.std.proofs.lemmas.List.Quantifiers.{all_pairs_push}
-use Rattle.scheduler.specs.Message.{Message}
+use Rattle.scheduler.specs.Message.{ScheduledMessage}
 use Rattle.scheduler.specs.Air.{Air, IsAirOf}
 use Rattle.scheduler.proofs.Lists.{rising-same}
 use Rattle.scheduler.proofs.Rule.{IsAirOf-add, IsAirOf-stop}
@@ -49,7 +49,7 @@ Contains-message log a there = (
 pub standing_number : (all : List Accepted) (slot : ℕ) (a : Accepted) → AllPairs BelowIt all → Contains all a
     → is_live slot a.message ≡ true → All (λ m. m.entry ≡ a.message.entry → m.stop ≡ None) (map (λ x. x.message) all)
 standing_number all slot a rising there live =
-    All-map (λ (m : Message). m.entry ≡ a.message.entry → m.stop ≡ None) (λ (x : Accepted). x.message) all
+    All-map (λ (m : ScheduledMessage). m.entry ≡ a.message.entry → m.stop ≡ None) (λ (x : Accepted). x.message) all
     (λ i d within same.
     ap (λ (x : Accepted). x.message.stop) (same_number all a rising there i d within same)
     ∙ live_is_standing slot a.message live)
@@ -60,7 +60,7 @@ air_without : (stopped : Option Accepted) (slot : ℕ) (all : List Accepted) (ai
     → IsAirOf (map (λ a. a.message) all) air → IsAirOf (map (λ a. a.message) (without stopped slot all)) air
 air_without None slot all air rising live before airs = airs
 air_without (Some a) slot all air rising live before airs =
-    let Airs : List Message → Type 0 = λ messages. IsAirOf messages air in
+    let Airs : List ScheduledMessage → Type 0 = λ messages. IsAirOf messages air in
     subst Airs (sym (messages_stopped a.message.entry slot all))
     (IsAirOf-stop (map (λ (x : Accepted). x.message) all) a.message.entry slot air before
     (standing_number all slot a rising live.0 live.1) airs)
@@ -70,7 +70,7 @@ air_with : (started replaced : Option Accepted) (entry slot : ℕ) (all : List A
     → IsAirOf (map (λ a. a.message) all) air → IsAirOf (map (λ a. a.message) (with started all)) air
 air_with None replaced entry slot all air begun before airs = airs
 air_with (Some a) replaced entry slot all air begun before airs =
-    let Airs : List Message → Type 0 = λ messages. IsAirOf messages air in
+    let Airs : List ScheduledMessage → Type 0 = λ messages. IsAirOf messages air in
     subst Airs (sym (map-append (λ (x : Accepted). x.message) all (a ∷ [])))
     (IsAirOf-add (map (λ (x : Accepted). x.message) all) a.message air
     (omega (arith, before, starts_forward slot replaced all a begun.starts)) airs)

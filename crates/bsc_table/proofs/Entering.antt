@@ -11,7 +11,7 @@ use Rattle.admission.specs.declared.budget.Held.{Held}
 use Rattle.admission.specs.Reservation.{end_of_stopped}
 use Rattle.admission.specs.Waiting.{behind_of}
 use Rattle.admission.specs.Table.{ends_at, passed}
-use Rattle.scheduler.specs.Message.{Message, stopped_if, stopped_at}
+use Rattle.scheduler.specs.Message.{ScheduledMessage, stopped_if, stopped_at}
 use Rattle.scheduler.specs.Air.{Air, layer}
 use Rattle.scheduler.specs.Follows.{PlanState, messages_of, Follows}
 use Rattle.bsc_table.specs.declared.accepted.AcceptedMessage.{AcceptedMessage}
@@ -86,8 +86,10 @@ pub planned_below : (plan : PlanState) (log : List Entry) (air : Air)
     → Follows plan (messages_in log) air
     → All (λ m. m.entry < length log) (messages_of plan)
 planned_below plan log air follows =
-    let Below : List Message → Type 0 = λ messages. All (λ (m : Message). m.entry < length log) messages in
-    subst Below (sym follows.told) (All-map (λ (m : Message). m.entry < length log) (λ (a : Accepted). a.message)
+    let Below : List ScheduledMessage → Type 0 = λ messages. All (λ (m : ScheduledMessage). m.entry < length log)
+    messages in
+    subst Below (sym follows.told) (All-map (λ (m : ScheduledMessage). m.entry < length log)
+    (λ (a : Accepted). a.message)
     (accepted_in log) (numbers_below log))
 
 -- so are those of a budget
@@ -114,11 +116,11 @@ held_below_without slot entry log =
     (claims_below log))
 
 -- a message with another number stays as it is where one is stopped
-pub stopped_beside : (entry slot : ℕ) (messages : List Message) (m : Message)
+pub stopped_beside : (entry slot : ℕ) (messages : List ScheduledMessage) (m : ScheduledMessage)
     → (m.entry ≡ entry → ⊥)
     → stopped_at entry slot (messages ++ m ∷ []) ≡ stopped_at entry slot messages ++ m ∷ []
 stopped_beside entry slot messages m other =
-    let stop : Message → Message = λ x. stopped_if (x.entry == entry) slot x in
+    let stop : ScheduledMessage → ScheduledMessage = λ x. stopped_if (x.entry == entry) slot x in
     map-append stop messages (m ∷ [])
     ∙ ap (λ (b : Bool). stopped_at entry slot messages ++ stopped_if b slot m ∷ []) (ne_eqb m.entry entry other)
 
@@ -133,19 +135,21 @@ pub standing_in : (plan : PlanState) (slot : ℕ) (log : List Entry) (air : Air)
     → is_live slot a.message ≡ true
     → Any (λ m. (m.entry ≡ a.message.entry) × (m.stop ≡ None)) (messages_of plan)
 standing_in plan slot log air a follows there live =
-    let P : List Message → Type 0 = λ messages. Any (λ (m : Message). (m.entry ≡ a.message.entry) × (m.stop ≡ None))
+    let P : List ScheduledMessage → Type 0 = λ messages. Any (λ (m : ScheduledMessage). (m.entry ≡ a.message.entry)
+    × (m.stop ≡ None))
     messages in
     let found = Contains-message log a there in
     subst P (sym follows.told) (found.0, a.message, found.1, found.2, (refl, live_is_standing slot a.message live))
 
 -- also where one more was told
-pub standing_beside : (plan : PlanState) (slot : ℕ) (log : List Entry) (a : Accepted) (told : List Message)
-    (m : Message)
+pub standing_beside : (plan : PlanState) (slot : ℕ) (log : List Entry) (a : Accepted) (told : List ScheduledMessage)
+    (m : ScheduledMessage)
     → messages_of plan ≡ told ++ m ∷ []
     → Any (λ x. (x.entry ≡ a.message.entry) × (x.stop ≡ None)) told
     → Any (λ x. (x.entry ≡ a.message.entry) × (x.stop ≡ None)) (messages_of plan)
 standing_beside plan slot log a told m same found =
-    let P : List Message → Type 0 = λ messages. Any (λ (x : Message). (x.entry ≡ a.message.entry) × (x.stop ≡ None))
+    let P : List ScheduledMessage → Type 0 = λ messages. Any (λ (x : ScheduledMessage). (x.entry ≡ a.message.entry)
+    × (x.stop ≡ None))
     messages in
     let there : Contains (told ++ m ∷ []) found.1 =
     Contains-append_left told (m ∷ []) found.1 (found.0, found.2, found.3) in
@@ -178,7 +182,8 @@ free_of r a legal live front =
     (its_claim (accepted_in r.log) a live.there front) live.live
 
 -- the message of a plan's item
-pub item_message : (m : Message) (told : Message) → told ≡ record m { stop = None } → m.stop ≡ None → told ≡ m
+pub item_message : (m : ScheduledMessage) (told : ScheduledMessage) → told ≡ record m { stop = None } → m.stop ≡ None
+    → told ≡ m
 item_message m told same standing =
     same ∙ ap (λ (stop : Option ℕ). record m { stop = stop }) (sym standing)
 

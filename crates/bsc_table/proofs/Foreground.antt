@@ -3,7 +3,7 @@ use Rattle.std.proofs.Common.{◌==◌, List, get_or, sym, ◌∙◌, arith}
 use Rattle.std.specs.List.{All, Contains}
 use Rattle.std.proofs.lemmas.List.{length-map}
 use Rattle.std.proofs.lemmas.List.Elements.{All-filter, All-contains_itself}
-use Rattle.scheduler.specs.Message.{Message, release, due}
+use Rattle.scheduler.specs.Message.{ScheduledMessage, release, due}
 use Rattle.scheduler.specs.Air.{Air, layer}
 use Rattle.scheduler.specs.Background.{foreground, blank_use, blanked}
 use Rattle.scheduler.proofs.Background.{background_counts_as_idle, blanking_keeps_pages, blanking_keeps_completed}
@@ -13,12 +13,12 @@ use Rattle.bsc_table.proofs.Bounds.{completed_is_at_least}
 use Rattle.bsc_table.proofs.Served.{admitted_load_is_a_guarantee}
 
 -- each of the foreground is one of the messages
-there : (messages : List Message) → All (Contains messages) (foreground messages)
+there : (messages : List ScheduledMessage) → All (Contains messages) (foreground messages)
 there messages = All-filter (λ m. layer m == 0) (Contains messages) messages (All-contains_itself messages)
 
 pub foreground_is_served : ForegroundIsServed
 foreground_is_served messages air rising admitted rule = λ k d within. λ j uncut.
-    let m : Message = get_or (foreground messages) k d in
+    let m : ScheduledMessage = get_or (foreground messages) k d in
     let blank : Air = blanked messages air in
     let long = length-map air (blank_use messages) in
     let alone = admitted_load_is_a_guarantee (foreground messages) blank admitted
@@ -32,7 +32,7 @@ foreground_is_served messages air rising admitted rule = λ k d within. λ j unc
 
 pub foreground_is_at_least : ForegroundIsAtLeast
 foreground_is_at_least messages air slot rising admitted rule played = λ k d within.
-    let m : Message = get_or (foreground messages) k d in
+    let m : ScheduledMessage = get_or (foreground messages) k d in
     let long = length-map air (blank_use messages) in
     let least = completed_is_at_least (foreground messages) (blanked messages air) slot admitted
     (background_counts_as_idle messages air rising rule) (omega (arith, played, long)) k d within in

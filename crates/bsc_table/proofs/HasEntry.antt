@@ -2,7 +2,7 @@
 use Rattle.std.proofs.Common.{◌≡◌, ℕ, ◌+◌, ◌==◌, true, cond, leb, ltb, Option, Some, None, List, length, filter, refl}
 use Rattle.std.proofs.lemmas.Bool.{cond_both}
 use Rattle.admission.specs.declared.measure.TheConstants.{SCALE}
-use Rattle.scheduler.specs.Message.{Message}
+use Rattle.scheduler.specs.Message.{ScheduledMessage}
 use Rattle.scheduler.specs.Air.{Air}
 use Rattle.scheduler.specs.Completed.{completed}
 use Rattle.admission.specs.Load.{load_of}
@@ -45,7 +45,7 @@ of_category category claims slot load place accepts has =
     cond_both (is_background category) (accepts slot) (answer_beside claims slot load place accepts) HasOne
     (λ _. has slot) (λ _. beside)
 
-of_pair : (named : Option Message) (answer : Answer) → HasOne answer → HasOne (unless_accepted named answer)
+of_pair : (named : Option ScheduledMessage) (answer : Answer) → HasOne answer → HasOne (unless_accepted named answer)
 of_pair None answer has = has
 of_pair (Some m) answer has = refl
 
@@ -69,7 +69,7 @@ of_write log air slot id serial (Some replaced) category load =
     (of_category category left slot load (place_after left slot old load)
     (λ start. answers.Replaced start (completed old.message air slot)) (λ start. refl)))
 
-of_status : (air : Air) (slot : ℕ) (named : Option Message) → HasOne (told_of air slot named)
+of_status : (air : Air) (slot : ℕ) (named : Option ScheduledMessage) → HasOne (told_of air slot named)
 of_status air slot None = refl
 of_status air slot (Some m) = refl
 

@@ -14,7 +14,7 @@ use Rattle.scheduler.specs.declared.plan.Rank.TheVariants as ranks
 use Rattle.scheduler.specs.Air.{Air, pages_aired}
 use Rattle.scheduler.specs.Completed.{completed}
 use Rattle.scheduler.specs.Choice.{air_of}
-use Rattle.scheduler.specs.Message.{Message}
+use Rattle.scheduler.specs.Message.{ScheduledMessage}
 use Rattle.scheduler.proofs.Choice.{IsAirOf-air_of}
 use Rattle.admission.specs.declared.measure.TheConstants.{SCALE}
 use Rattle.bsc_table.specs.declared.command.Category.{Category}
@@ -292,9 +292,9 @@ legal_run log clock few within rise formed periods answered played = record {
       (λ e. is_formed-says e.command) log (AllPass-from_list_all (λ (e : Entry). is_formed e.command) log formed);
   answered = answered;
   played = played;
-  aired = IsAirOf-air_of (messages_in log) clock (All-weaker (λ (m : Message). nat_lt 0 m.period ≡ true)
-      (λ (m : Message). 0 < m.period) (λ m. ltb-true 0 m.period) (messages_in log)
-      (AllPass-from_list_all (λ (m : Message). nat_lt 0 m.period) (messages_in log) periods));
+  aired = IsAirOf-air_of (messages_in log) clock (All-weaker (λ (m : ScheduledMessage). nat_lt 0 m.period ≡ true)
+      (λ (m : ScheduledMessage). 0 < m.period) (λ m. ltb-true 0 m.period) (messages_in log)
+      (AllPass-from_list_all (λ (m : ScheduledMessage). nat_lt 0 m.period) (messages_in log) periods));
 }
 
 filled_is_legal : IsLegal (run filled 6)
@@ -330,10 +330,10 @@ filled_is_reached =
     )
 
 -- after five of the slots the half has the least number of whole broadcasts that it may have, and the third the most
-abbrev half : Message
+abbrev half : ScheduledMessage
 half = record { entry = 2; start = 0; pages = 1; period = 2; broadcasts = 0; stop = None; rank = ranks.Normal }
 
-abbrev third : Message
+abbrev third : ScheduledMessage
 third = record { entry = 1; start = 0; pages = 1; period = 3; broadcasts = 0; stop = None; rank = ranks.Normal }
 
 filled_messages : messages_in filled ≡ record {

@@ -5,7 +5,7 @@ use Rattle.std.proofs.Common.{ap, subst, ◌∙◌, arith}
 use Rattle.std.specs.List.{AllPairs, Contains}
 use Rattle.std.proofs.lemmas.Bool.{cases_lt, cases_Bool, false≢true}
 use Rattle.std.proofs.Math.Nat.{mul-le-mul_left, le-mul_of_pos_right}
-use Rattle.scheduler.specs.Message.{Message, release, due, broadcast_at, HasBroadcast, IsBeforeStop}
+use Rattle.scheduler.specs.Message.{ScheduledMessage, release, due, broadcast_at, HasBroadcast, IsBeforeStop}
 use Rattle.scheduler.specs.Air.{Air, airs, pages_aired, IsPending, IsAirOf}
 use Rattle.scheduler.proofs.Air.{broadcast_at-released, broadcast_at-not_due, broadcast_at-only}
 use Rattle.scheduler.proofs.Rule.{pages_aired-at_most}
@@ -16,26 +16,28 @@ use Rattle.bsc_table.proofs.Demand.{IsInside, is_inside-from, count_inside, coun
 use Rattle.bsc_table.proofs.Demand.{count_inside-none}
 
 -- the message has a period and stands in a list with rising numbers, and the air list is by the rule
-pub record IsServed (messages : List Message) (air : Air) (m : Message) : Type 0 where
+pub record IsServed (messages : List ScheduledMessage) (air : Air) (m : ScheduledMessage) : Type 0 where
   pub rising : AllPairs (λ a b. a.entry < b.entry) messages
   pub rule : IsAirOf messages air
   pub here : Contains messages m
   pub period : 0 < m.period
 
 -- what is aired of the message in the range belongs to a broadcast that is released and due inside it
-abbrev pub AiredInside : Message → Air → ℕ → ℕ → Type 0
+abbrev pub AiredInside : ScheduledMessage → Air → ℕ → ℕ → Type 0
 AiredInside m air from to = (t : ℕ) → from ≤ t → t < to → airs m.entry (get_or air t None) ≡ true → (j : ℕ)
     × IsPending m j air t × (from ≤ release m j) × (due m j ≤ to)
 
 -- at a slot of a broadcast's time no other broadcast of the message is pending
-same_broadcast : (m : Message) (i j : ℕ) (air : Air) (t : ℕ) → 0 < m.period → IsPending m i air t → release m j ≤ t
+same_broadcast : (m : ScheduledMessage) (i j : ℕ) (air : Air) (t : ℕ) → 0 < m.period → IsPending m i air t
+    → release m j ≤ t
     → t < due m j → i ≡ j
 same_broadcast m i j air t period p low high =
     let started : m.start ≤ t = omega arith in
     broadcast_at-only m t i period started p.released p.not_due ∙ sym (broadcast_at-only m t j period started low high)
 
 -- a broadcast of which a page is aired is inside
-aired_is_inside : (m : Message) (air : Air) (from to k t : ℕ) → 0 < m.period → AiredInside m air from to → from ≤ t
+aired_is_inside : (m : ScheduledMessage) (air : Air) (from to k t : ℕ) → 0 < m.period → AiredInside m air from to
+    → from ≤ t
     → t < to → release m k ≤ t → t < due m k → airs m.entry (get_or air t None) ≡ true → IsInside m from to k
 aired_is_inside m air from to k t period inside low high released not_due used =
     let found = inside t low high used in
@@ -54,7 +56,8 @@ one_more : (pages count first before upto aired more : ℕ) → before ≤ first
 one_more pages count first before upto aired more taken sums few = omega arith
 
 -- from the range's begin up to a release
-aired_upto_release : (messages : List Message) (air : Air) (m : Message) (from to k : ℕ) → IsServed messages air m
+aired_upto_release : (messages : List ScheduledMessage) (air : Air) (m : ScheduledMessage) (from to k : ℕ)
+    → IsServed messages air m
     → from ≤ release m k → release m k ≤ to → to ≤ length air → AiredInside m air from to
     → pages_before m air (release m k) ≤ pages_before m air from + m.pages * count_inside m from to k
 aired_upto_release messages air m from to zero served ahead upto within inside =
@@ -97,7 +100,8 @@ aired_upto_release messages air m from to (suc k) served ahead upto within insid
     ]
 
 -- over the whole range
-pub aired_inside : (messages : List Message) (air : Air) (m : Message) (from to : ℕ) → IsServed messages air m
+pub aired_inside : (messages : List ScheduledMessage) (air : Air) (m : ScheduledMessage) (from to : ℕ)
+    → IsServed messages air m
     → from ≤ to → to ≤ length air → AiredInside m air from to
     → pages_before m air to ≤ pages_before m air from + m.pages * count_inside m from to to
 aired_inside messages air m from to served ahead within inside =
@@ -132,11 +136,12 @@ aired_inside messages air m from to served ahead within inside =
           ]
     ]
   where
-    due_sooner : (m : Message) (i k b : ℕ) → due m i ≤ b → b < due m k → release m i < release m k
+    due_sooner : (m : ScheduledMessage) (i k b : ℕ) → due m i ≤ b → b < due m k → release m i < release m k
     due_sooner m i k b sooner later = omega arith
 
 -- and one page less, where the broadcast that is due at the range's end lacks one
-pub aired_short : (messages : List Message) (air : Air) (m : Message) (from j : ℕ) → IsServed messages air m
+pub aired_short : (messages : List ScheduledMessage) (air : Air) (m : ScheduledMessage) (from j : ℕ)
+    → IsServed messages air m
     → from ≤ release m j → due m j ≤ length air → HasBroadcast m j → IsBeforeStop (release m j) m.stop
     → pages_aired m.entry air (release m j) (due m j) < m.pages → AiredInside m air from (due m j)
     → pages_before m air (due m j) + 1 ≤ pages_before m air from + m.pages * count_inside m from (due m j) (due m j)

@@ -6,7 +6,7 @@ use Rattle.std.proofs.lemmas.Bool.{cases_Bool, and_parts, eqb-true, eq-eqb, ne_e
 use Rattle.std.proofs.lemmas.Option.{none-some}
 use Rattle.std.specs.Prelude.{nat_lt}
 use Rattle.std.proofs.lemmas.List.Elements.{All-head, All-tail}
-use Rattle.scheduler.specs.Message.{Message, stopped_if}
+use Rattle.scheduler.specs.Message.{ScheduledMessage, stopped_if}
 use Rattle.bsc_table.specs.Record.{Accepted, stop_after, is_of_pair, is_live}
 use Rattle.bsc_table.specs.Book.{stop_numbered}
 
@@ -129,7 +129,7 @@ standing_of : (stop : Option ℕ) → not (is_some stop) ≡ true → stop ≡ N
 standing_of None h = refl
 standing_of (Some s) h = absurd (false≢true h)
 
-pub live_is_standing : (slot : ℕ) (m : Message) → is_live slot m ≡ true → m.stop ≡ None
+pub live_is_standing : (slot : ℕ) (m : ScheduledMessage) → is_live slot m ≡ true → m.stop ≡ None
 live_is_standing slot m live =
     let parts = and_parts (not (is_some m.stop)) ((m.broadcasts == 0) || nat_lt slot
     (m.start + m.broadcasts * m.period))

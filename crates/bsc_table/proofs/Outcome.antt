@@ -11,7 +11,7 @@ use Rattle.std.proofs.lemmas.List.{append-nil, map-id}
 use Rattle.std.proofs.lemmas.List.Elements.{All-contains_itself}
 use Rattle.admission.specs.declared.measure.TheConstants.{SCALE}
 use Rattle.admission.specs.Load.{load_of}
-use Rattle.scheduler.specs.Message.{Message, stopped_at}
+use Rattle.scheduler.specs.Message.{ScheduledMessage, stopped_at}
 use Rattle.scheduler.specs.Air.{Air, layer, layer_of}
 use Rattle.scheduler.specs.Completed.{completed}
 use Rattle.cbs_page.specs.declared.content.Content.{Content}
@@ -256,7 +256,7 @@ pub messages_stopped : (entry slot : ℕ) (all : List Accepted)
     → map (λ a. a.message) (map (stop_numbered entry slot) all) ≡ stopped_at entry slot (map (λ a. a.message) all)
 messages_stopped entry slot [] = refl
 messages_stopped entry slot (a ∷ all) =
-    ap (λ (l : List Message). (stop_numbered entry slot a).message ∷ l) (messages_stopped entry slot all)
+    ap (λ (l : List ScheduledMessage). (stop_numbered entry slot a).message ∷ l) (messages_stopped entry slot all)
 
 -- and as claims
 pub claims_stopped : (entry slot : ℕ) (all : List Accepted)

@@ -10,7 +10,7 @@ use Rattle.std.proofs.lemmas.List.Kept.{AllPairs-filter}
 use Rattle.std.proofs.lemmas.List.Sums.{sum_by-cons}
 use Rattle.admission.specs.Reservation.{is_reserved_at}
 use Rattle.admission.proofs.Reservations.{is_reserved_at-says}
-use Rattle.scheduler.specs.Message.{Message, release, due}
+use Rattle.scheduler.specs.Message.{ScheduledMessage, release, due}
 use Rattle.scheduler.specs.Background.{foreground}
 use Rattle.scheduler.specs.Completed.{completed}
 use Rattle.scheduler.specs.AirLaws.{PagesComeOnce}
@@ -32,18 +32,18 @@ use Rattle.bsc_table.proofs.Reserved.{load_at, loads_by_message}
 use Rattle.bsc_table.proofs.Sound.{HasLoad, IsSound-legal}
 
 -- the messages of accepted ones
-abbrev messages_of : List Accepted → List Message
+abbrev messages_of : List Accepted → List ScheduledMessage
 messages_of all = map (λ a. a.message) all
 
 -- each accepted message has pages and a period
 have_pages : (all : List Accepted) → All HasLoad all → All (λ m. 0 < m.pages) (messages_of all)
 have_pages all loaded =
-    All-map (λ (m : Message). 0 < m.pages) (λ (a : Accepted). a.message) all
+    All-map (λ (m : ScheduledMessage). 0 < m.pages) (λ (a : Accepted). a.message) all
     (All-weaker HasLoad (λ (a : Accepted). 0 < a.message.pages) (λ a h. h.0) all loaded)
 
 have_periods : (all : List Accepted) → All HasLoad all → All (λ m. 0 < m.period) (messages_of all)
 have_periods all loaded =
-    All-map (λ (m : Message). 0 < m.period) (λ (a : Accepted). a.message) all
+    All-map (λ (m : ScheduledMessage). 0 < m.period) (λ (a : Accepted). a.message) all
     (All-weaker HasLoad (λ (a : Accepted). 0 < a.message.period) (λ a h. h.1) all loaded)
 
 -- a message that has started has reserved no less than its own load
@@ -107,21 +107,21 @@ legal_loads_fit r legal =
 numbers_of_messages_rise : (log : List Entry) → AllPairs (λ a b. a.entry < b.entry) (messages_in log)
 numbers_of_messages_rise log = λ i j d before within.
     let all = accepted_in log in
-    let message : Accepted → Message = λ a. a.message in
+    let message : Accepted → ScheduledMessage = λ a. a.message in
     let default : Accepted = record { id = 0; serial = 0; accepted = 0; behind = None; excess = 0; message = d } in
     let long = length-map all message in
-    let first = ap (λ (m : Message). m.entry) (get_or-map message all i default d (omega arith)) in
-    let second = ap (λ (m : Message). m.entry) (get_or-map message all j default d (omega arith)) in
+    let first = ap (λ (m : ScheduledMessage). m.entry) (get_or-map message all i default d (omega arith)) in
+    let second = ap (λ (m : ScheduledMessage). m.entry) (get_or-map message all j default d (omega arith)) in
     omega (arith, first, second, numbers_rise log i j default before (omega arith))
 
 -- so those that aren't background are admitted
 admitted_of : (r : Record) → IsLegal r → AreAdmitted (foreground (messages_in r.log))
 admitted_of r legal =
-    let p : Message → Bool = λ m. layer m == 0 in
+    let p : ScheduledMessage → Bool = λ m. layer m == 0 in
     let messages = messages_in r.log in
     record {
       rising = AllPairs-filter (λ a b. a.entry < b.entry) p messages (numbers_of_messages_rise r.log);
-      periods = All-filter p (λ (m : Message). 0 < m.period) messages
+      periods = All-filter p (λ (m : ScheduledMessage). 0 < m.period) messages
           (have_periods (accepted_in r.log) (IsSound-legal r legal).loaded);
       foreground = λ k d h. eqb-true (layer (get_or (filter p messages) k d)) 0 (filter_passes p messages k d h);
       fit = legal_loads_fit r legal;
@@ -134,7 +134,7 @@ legal_histories_are_served r legal =
 pub legal_histories_are_bounded : LegalHistoriesAreBounded
 legal_histories_are_bounded r legal = λ k d within. λ slot by.
     let messages = messages_in r.log in
-    let m : Message = get_or messages k d in
+    let m : ScheduledMessage = get_or messages k d in
     let here : Contains messages (get_or messages k d) = (
       k,
       within,
@@ -145,7 +145,7 @@ legal_histories_are_bounded r legal = λ k d within. λ slot by.
     let periods = have_periods (accepted_in r.log) (IsSound-legal r legal).loaded in
     let least = foreground_is_at_least messages r.air slot (numbers_of_messages_rise r.log) (admitted_of r legal)
     legal.aired (omega (arith, legal.played)) in
-    let Least : Message → Type 0 = λ o. least_completed o slot ≤ completed o r.air slot in (
+    let Least : ScheduledMessage → Type 0 = λ o. least_completed o slot ≤ completed o r.air slot in (
       λ front. All-contains Least (foreground messages) (get_or messages k d) least
           (Contains-filter (λ o. layer o == 0) messages (get_or messages k d) here (eq-eqb (layer m) 0 front)),
       completed_is_at_most (get_or messages k d) r.air slot (pages k d within) (periods k d within),
@@ -155,8 +155,8 @@ legal_histories_are_bounded r legal = λ k d within. λ slot by.
 pub legal_pages_are_aired_once : PagesComeOnce → LegalPagesAreAiredOnce
 legal_pages_are_aired_once law r legal = λ k d within. λ j page uncut some few.
     let messages = messages_in r.log in
-    let p : Message → Bool = λ m. layer m == 0 in
-    let m : Message = get_or (foreground messages) k d in
+    let p : ScheduledMessage → Bool = λ m. layer m == 0 in
+    let m : ScheduledMessage = get_or (foreground messages) k d in
     let served : pages_aired m.entry r.air (release m j) (due m j) ≡ m.pages = legal_histories_are_served r legal k d
     within j uncut in
     let here = All-filter p (Contains messages) messages (All-contains_itself messages) k d within in

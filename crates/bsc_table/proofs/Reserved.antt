@@ -9,7 +9,7 @@ use Rattle.admission.specs.Load.{load_of}
 use Rattle.admission.specs.Reservation.{Reservation, IsBeforeEnd, IsReservedAt, is_reserved_at, loads_at, natural_end}
 use Rattle.admission.specs.Reservation.{end_of_reservation}
 use Rattle.admission.proofs.Reservations.{is_reserved_at-from, end_of_stopped-covers}
-use Rattle.scheduler.specs.Message.{Message, release, due, HasBroadcast, IsBeforeStop}
+use Rattle.scheduler.specs.Message.{ScheduledMessage, release, due, HasBroadcast, IsBeforeStop}
 use Rattle.bsc_table.proofs.Sums.{total, total-at_least, total-at_most, exchange}
 use Rattle.bsc_table.specs.Guarantee.{reservation_of, LoadsFit, ReservationsCoverBroadcasts}
 
@@ -41,16 +41,16 @@ reservations_cover_broadcasts m j slot has standing released before =
     (omega arith, before_end m.start m.period m.broadcasts j slot m.stop has standing released before)
 
 -- the load that a message has reserved at a slot
-abbrev pub load_at : Message → ℕ → ℕ
+abbrev pub load_at : ScheduledMessage → ℕ → ℕ
 load_at m slot = cond (is_reserved_at slot (reservation_of m)) (load_of m.pages m.period) 0
 
-pub load_at-reserved : (m : Message) (slot : ℕ) → IsReservedAt (reservation_of m) slot
+pub load_at-reserved : (m : ScheduledMessage) (slot : ℕ) → IsReservedAt (reservation_of m) slot
     → load_at m slot ≡ load_of m.pages m.period
 load_at-reserved m slot reserved =
     ap (λ (b : Bool). cond b (load_of m.pages m.period) 0) (is_reserved_at-from slot (reservation_of m) reserved)
 
 -- over a broadcast that was released before its message's stop, the load is reserved in each slot
-pub reserved_over : (m : Message) (j : ℕ) → HasBroadcast m j → IsBeforeStop (release m j) m.stop
+pub reserved_over : (m : ScheduledMessage) (j : ℕ) → HasBroadcast m j → IsBeforeStop (release m j) m.stop
     → total (load_at m) (release m j) + load_of m.pages m.period * m.period ≤ total (load_at m) (due m j)
 reserved_over m j has standing =
     let reach : release m j + m.period ≡ due m j = omega arith in
@@ -70,7 +70,8 @@ sum_by-kept f true x xs = sum_by-cons f x xs
 sum_by-kept f false x xs = omega arith
 
 -- the loads reserved at a slot, message by message
-pub loads_by_message : (messages : List Message) (slot : ℕ) → loads_at (map reservation_of messages) slot ≡ sum_by
+pub loads_by_message : (messages : List ScheduledMessage) (slot : ℕ)
+    → loads_at (map reservation_of messages) slot ≡ sum_by
     (λ m. load_at m slot) messages
 loads_by_message [] slot = refl
 loads_by_message (m ∷ messages) slot =
@@ -84,11 +85,11 @@ loads_by_message (m ∷ messages) slot =
     )
 
 -- where the loads of each slot sum to at most scale, those of a range do to at most so many times that
-pub loads_grow : (scale : ℕ) (messages : List Message) (from to : ℕ) → from ≤ to
+pub loads_grow : (scale : ℕ) (messages : List ScheduledMessage) (from to : ℕ) → from ≤ to
     → ((slot : ℕ) → sum_by (λ m. load_at m slot) messages ≤ scale)
     → sum_by (λ o. total (load_at o) to) messages ≤ sum_by (λ o. total (load_at o) from) messages + scale * (to - from)
 loads_grow scale messages from to forward fits =
-    let f = λ (t : ℕ). sum_by (λ (o : Message). load_at o t) messages in
+    let f = λ (t : ℕ). sum_by (λ (o : ScheduledMessage). load_at o t) messages in
     let reach : from + (to - from) ≡ to = omega arith in
     let grown = total-at_most f scale from (to - from) fits in
     let at_from = exchange load_at messages from in
@@ -97,6 +98,6 @@ loads_grow scale messages from to forward fits =
     omega arith
 
 -- what fits at each slot, message by message
-pub fits_by_message : (messages : List Message) → LoadsFit messages → (slot : ℕ)
+pub fits_by_message : (messages : List ScheduledMessage) → LoadsFit messages → (slot : ℕ)
     → sum_by (λ m. load_at m slot) messages ≤ SCALE
 fits_by_message messages fit slot = omega (arith, fit slot, loads_by_message messages slot)

@@ -5,7 +5,7 @@ use Rattle.std.specs.List.{All, AllPairs}
 use Rattle.std.proofs.lemmas.Bool.{cases_lt, le-leb, lt-leb, cond-true, cond-false}
 use Rattle.std.proofs.lemmas.List.{take-append-le, get_or_append_left}
 use Rattle.std.proofs.lemmas.List.Elements.{All-head, All-tail}
-use Rattle.scheduler.specs.Message.{Message}
+use Rattle.scheduler.specs.Message.{ScheduledMessage}
 use Rattle.scheduler.specs.Air.{Air, IsChosen, IsAirOf}
 use Rattle.scheduler.proofs.Rule.{IsChosen-append}
 use Rattle.bsc_table.specs.declared.command.Command.{Command}
@@ -67,7 +67,7 @@ legal_asked command before after formed legal step =
     ]
 
 -- slots that air what the air rule says keep an air list by the rule
-air_played : (messages : List Message) (air more : Air)
+air_played : (messages : List ScheduledMessage) (air more : Air)
     → IsAirOf messages air
     → ((at : ℕ) → length air ≤ at → at < length (air ++ more)
     → IsChosen messages (air ++ more) at (get_or (air ++ more) at None))

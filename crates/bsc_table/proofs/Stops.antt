@@ -8,7 +8,7 @@ use Rattle.std.proofs.lemmas.Bool.{false≢true}
 use Rattle.std.proofs.lemmas.List.Sums.{sum_by-cons}
 use Rattle.admission.specs.Reservation.{IsBeforeEnd, natural_end, end_of_stopped, end_of_reservation}
 use Rattle.admission.proofs.Reservations.{end_of_stopped-no_later, end_of_stopped-early}
-use Rattle.scheduler.specs.Message.{Message, stopped_if}
+use Rattle.scheduler.specs.Message.{ScheduledMessage, stopped_if}
 use Rattle.bsc_table.specs.Claim.{Claim, is_claimed_at, claim_at, end_of, IsWaiting, stop_claim, stop_claims}
 use Rattle.bsc_table.specs.Record.{is_live}
 use Rattle.bsc_table.specs.Room.{AreInOrder, ClaimsFit}
@@ -32,7 +32,7 @@ in_order-later claims now later le order =
     }
 
 -- what a live message is
-pub standing_of : (slot : ℕ) (m : Message) → is_live slot m ≡ true → m.stop ≡ None
+pub standing_of : (slot : ℕ) (m : ScheduledMessage) → is_live slot m ≡ true → m.stop ≡ None
 standing_of slot m live =
     none m.stop (and_parts (not (is_some m.stop)) ((m.broadcasts == 0) || nat_lt slot
     (m.start + m.broadcasts * m.period)) live).0
@@ -66,7 +66,8 @@ unstopped_live start period broadcasts now slot None some live before =
 unstopped_live start period broadcasts now slot (Some stop) some live before = absurd (false≢true live)
 
 -- the stop of a live message never makes its reservation end later
-stopped_sooner : (m : Message) (says : Bool) (now slot : ℕ) → 0 < m.period → (says ≡ true → is_live now m ≡ true)
+stopped_sooner : (m : ScheduledMessage) (says : Bool) (now slot : ℕ) → 0 < m.period
+    → (says ≡ true → is_live now m ≡ true)
     → IsBeforeEnd slot (end_of (stopped_if says now m)) → IsBeforeEnd slot (end_of m)
 stopped_sooner m false now slot some live before = before
 stopped_sooner m true now slot some live before =

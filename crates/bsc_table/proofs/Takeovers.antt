@@ -3,7 +3,7 @@ use Rattle.std.proofs.Common.{◌≡◌, ℕ, zero, suc, ◌<◌, inl, refl, Som
 use Rattle.std.proofs.Common.{arith}
 use Rattle.scheduler.specs.declared.plan.Rank.TheVariants as ranks
 use Rattle.scheduler.specs.Air.{pages_aired}
-use Rattle.scheduler.specs.Message.{Message}
+use Rattle.scheduler.specs.Message.{ScheduledMessage}
 use Rattle.admission.specs.declared.measure.TheConstants.{SCALE}
 use Rattle.bsc_table.specs.declared.command.Category.TheVariants.{Normal}
 use Rattle.bsc_table.specs.declared.command.Command.{Command}
@@ -207,7 +207,7 @@ passed_answered (suc (suc (suc (suc (suc i))))) d within = absurd (omega arith)
 passed_is_legal : IsLegal (run passed 8)
 passed_is_legal = legal_run passed 8 (omega arith) (omega arith) refl refl refl passed_answered refl
 
-abbrev of_k : Message
+abbrev of_k : ScheduledMessage
 of_k = record { entry = 4; start = 4; pages = 1; period = 4; broadcasts = 0; stop = None; rank = ranks.Normal }
 
 k_is_served : pages_aired 4 (aired passed 8) 4 8 ≡ 1

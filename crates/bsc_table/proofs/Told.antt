@@ -11,7 +11,7 @@ use Rattle.std.proofs.lemmas.List.{get_or-map, length-map, length-take-le, take-
 use Rattle.std.proofs.lemmas.List.Elements.{All-contains, Contains-append_left}
 use Rattle.std.proofs.lemmas.Option.{none-some, same_Some}
 use Rattle.admission.specs.Load.{load_of}
-use Rattle.scheduler.specs.Message.{Message, release, due, has_broadcast, is_before_stop}
+use Rattle.scheduler.specs.Message.{ScheduledMessage, release, due, has_broadcast, is_before_stop}
 use Rattle.scheduler.specs.Air.{Air, layer, pages_aired}
 use Rattle.scheduler.specs.Completed.{completed, is_whole}
 use Rattle.scheduler.proofs.Air.{pages_aired-append}
@@ -228,7 +228,7 @@ continued_by r legal k (suc more) d a within upto here =
     (continued_after (take (k + more) r.log) e slot a before.0 after before.1 before.2))
 
 -- what is aired from a slot on changes nothing of what is whole before it
-is_whole-before : (m : Message) (air : Air) (slot j : ℕ) → slot ≤ length air
+is_whole-before : (m : ScheduledMessage) (air : Air) (slot j : ℕ) → slot ≤ length air
     → is_whole m (take slot air) slot j ≡ is_whole m air slot j
 is_whole-before m air slot j within =
     let front = take slot air in
@@ -245,7 +245,7 @@ before_later_stop slot at (Some stop) later before h = ap (is_before_stop at) h
 before_later_stop slot at None None before h = refl
 before_later_stop slot at None (Some later) before h = lt-ltb at later (omega arith)
 
-is_whole-stopped_later : (m : Message) (later : Option ℕ) (air : Air) (slot j : ℕ) → 0 < m.pages
+is_whole-stopped_later : (m : ScheduledMessage) (later : Option ℕ) (air : Air) (slot j : ℕ) → 0 < m.pages
     → IsLaterStop slot m.stop later → is_whole (record m { stop = later }) air slot j ≡ is_whole m air slot j
 is_whole-stopped_later m later air slot j pages h =
     elim (cases_lt (release m j) slot) [
@@ -262,7 +262,7 @@ completed-continued : (a b : Accepted) (air : Air) (slot : ℕ) → slot ≤ len
     → IsContinued slot a b → completed a.message (take slot air) slot ≡ completed b.message air slot
 completed-continued a b air slot within pages on =
     let m = a.message in
-    let stopped : Message = record m { stop = b.message.stop } in
+    let stopped : ScheduledMessage = record m { stop = b.message.stop } in
     let before = count_below_same (is_whole m (take slot air) slot) (is_whole m air slot) (slot + 1)
     (λ j below. is_whole-before m air slot j within) in
     let later = count_below_same (is_whole stopped air slot) (is_whole m air slot) (slot + 1)
@@ -274,7 +274,7 @@ pages-continued : (slot : ℕ) (a b : Accepted) → IsContinued slot a b → 0 <
 pages-continued slot a b on some = omega (arith, ap (λ (x : Accepted). x.message.pages) on.same)
 
 -- the bounds of a message's number, at each slot up to the clock
-abbrev IsBounded : Record → Message → Type 0
+abbrev IsBounded : Record → ScheduledMessage → Type 0
 IsBounded r m = (slot : ℕ) → slot ≤ r.clock → (layer m ≡ 0 → least_completed m slot ≤ completed m r.air slot)
     × (completed m r.air slot ≤ most_completed m slot)
 
@@ -286,7 +286,7 @@ told_of_continued r e told a b legal by about number on here =
     let loaded = All-contains HasLoad (accepted_in r.log) b (IsSound-legal r legal).loaded here in
     let same = completed-continued a b r.air e.slot (omega (arith, legal.played))
     (pages-continued e.slot a b on loaded.0) on in
-    let message : Accepted → Message = λ x. x.message in
+    let message : Accepted → ScheduledMessage = λ x. x.message in
     let bounds = All-contains (IsBounded r) (messages_in r.log) b.message (legal_histories_are_bounded r legal)
     (Contains-map message (accepted_in r.log) b here) e.slot by in
     let About : Accepted → Type 0 = λ x. IsAbout x.id x.serial e.command in

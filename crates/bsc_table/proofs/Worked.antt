@@ -9,7 +9,7 @@ use Rattle.admission.specs.Reservation.{Reservation, loads_at}
 use Rattle.admission.proofs.Reservations.{loads_at-le, loads_at-le_standing}
 use Rattle.scheduler.specs.declared.plan.Rank.{Rank}
 use Rattle.scheduler.specs.declared.plan.Rank.TheVariants.{High, Normal, Background}
-use Rattle.scheduler.specs.Message.{Message, release, due}
+use Rattle.scheduler.specs.Message.{ScheduledMessage, release, due}
 use Rattle.scheduler.specs.Air.{Air, layer, pages_aired, IsAirOf}
 use Rattle.scheduler.specs.Background.{foreground}
 use Rattle.scheduler.specs.Completed.{completed}
@@ -20,7 +20,7 @@ use Rattle.bsc_table.specs.Bounds.{least_completed, most_completed}
 use Rattle.bsc_table.proofs.Served.{admitted_load_is_a_guarantee}
 
 -- a message that stands until it is stopped
-abbrev message : ℕ → ℕ → ℕ → ℕ → Option ℕ → Rank → Message
+abbrev message : ℕ → ℕ → ℕ → ℕ → Option ℕ → Rank → ScheduledMessage
 message entry start pages period stop rank = record {
   entry = entry;
   start = start;
@@ -31,41 +31,42 @@ message entry start pages period stop rank = record {
   rank = rank;
 }
 
-abbrev Rising : List Message → Type 0
+abbrev Rising : List ScheduledMessage → Type 0
 Rising messages = AllPairs (λ a b. a.entry < b.entry) messages
 
-abbrev HavePeriods : List Message → Type 0
+abbrev HavePeriods : List ScheduledMessage → Type 0
 HavePeriods messages = All (λ m. 0 < m.period) messages
 
-none_of : (P : Message → Type 0) → All P []
+none_of : (P : ScheduledMessage → Type 0) → All P []
 none_of P = λ k d h. absurd (omega arith)
 
-abbrev NoBackground : List Message → Type 0
+abbrev NoBackground : List ScheduledMessage → Type 0
 NoBackground messages = All (λ m. layer m ≡ 0) messages
 
 none_rising : Rising []
 none_rising = λ i j d before within. absurd (omega arith)
 
 -- a list without a stop in the way fits where all its loads together do
-fit_together : (messages : List Message) → sum_by (λ (r : Reservation). r.load) (map reservation_of messages) ≤ SCALE
+fit_together : (messages : List ScheduledMessage) → sum_by (λ (r : Reservation). r.load) (map reservation_of messages)
+    ≤ SCALE
     → LoadsFit messages
 fit_together messages all = λ slot. omega (arith, loads_at-le (map reservation_of messages) slot, all)
 
 -- A: two pages in every fourth slot. B, C, D: one high page in every second, each until the next one is written
-abbrev a : Message
+abbrev a : ScheduledMessage
 a = message 0 0 2 4 None Normal
 
-abbrev b : Message
+abbrev b : ScheduledMessage
 b = message 1 0 1 2 (Some 1) High
 
-abbrev c : Message
+abbrev c : ScheduledMessage
 c = message 2 1 1 2 (Some 2) High
 
-abbrev d : Message
+abbrev d : ScheduledMessage
 d = message 3 2 1 2 None High
 
 -- B is stopped at slot 1, and its load stays reserved up to slot 2: C finds no room
-abbrev by_the_rules : List Message
+abbrev by_the_rules : List ScheduledMessage
 by_the_rules = a ∷ b ∷ []
 
 by_the_rules_aired : air_of by_the_rules 4 ≡ Some (1, 1) ∷ Some (0, 1) ∷ Some (0, 2) ∷ None ∷ []
@@ -73,20 +74,21 @@ by_the_rules_aired = refl
 
 by_the_rules_rise : Rising by_the_rules
 by_the_rules_rise =
-    AllPairs-cons (λ (x : Message) (y : Message). x.entry < y.entry) a (b ∷ [])
-    (All-cons (λ (y : Message). a.entry < y.entry) b [] (omega arith) (none_of (λ y. a.entry < y.entry)))
-    (AllPairs-cons (λ (x : Message) (y : Message). x.entry < y.entry) b [] (none_of (λ y. b.entry < y.entry))
+    AllPairs-cons (λ (x : ScheduledMessage) (y : ScheduledMessage). x.entry < y.entry) a (b ∷ [])
+    (All-cons (λ (y : ScheduledMessage). a.entry < y.entry) b [] (omega arith) (none_of (λ y. a.entry < y.entry)))
+    (AllPairs-cons (λ (x : ScheduledMessage) (y : ScheduledMessage). x.entry < y.entry) b []
+    (none_of (λ y. b.entry < y.entry))
     none_rising)
 
 by_the_rules_foreground : NoBackground by_the_rules
 by_the_rules_foreground =
-    let Alone : Message → Type 0 = λ m. layer m ≡ 0 in
+    let Alone : ScheduledMessage → Type 0 = λ m. layer m ≡ 0 in
     All-cons Alone a (b ∷ []) refl (All-cons Alone b [] refl (none_of Alone))
 
 by_the_rules_have_periods : HavePeriods by_the_rules
 by_the_rules_have_periods =
-    All-cons (λ (m : Message). 0 < m.period) a (b ∷ []) (omega arith)
-    (All-cons (λ (m : Message). 0 < m.period) b [] (omega arith) (none_of (λ m. 0 < m.period)))
+    All-cons (λ (m : ScheduledMessage). 0 < m.period) a (b ∷ []) (omega arith)
+    (All-cons (λ (m : ScheduledMessage). 0 < m.period) b [] (omega arith) (none_of (λ m. 0 < m.period)))
 
 by_the_rules_sum : sum_by (λ (r : Reservation). r.load) (map reservation_of by_the_rules) ≡ SCALE
 by_the_rules_sum = refl
@@ -111,10 +113,10 @@ by_the_rules_demand : demand by_the_rules 0 4 ≡ 3
 by_the_rules_demand = refl
 
 -- were a load freed at the stop itself, each slot would have room, and yet A's broadcast would lack a page
-abbrev all_four : List Message
+abbrev all_four : List ScheduledMessage
 all_four = a ∷ b ∷ c ∷ d ∷ []
 
-abbrev freed_at_once : Message → Reservation
+abbrev freed_at_once : ScheduledMessage → Reservation
 freed_at_once m = record (reservation_of m) { end = m.stop }
 
 freed_at_once_0 : loads_at (map freed_at_once all_four) 0 ≡ SCALE
@@ -138,7 +140,7 @@ a_lacks_a_page = refl
 -- so the guarantee would be false, if a stop freed its message's load at once
 all_four_rise : Rising all_four
 all_four_rise =
-    let Below : Message → Message → Type 0 = λ x y. x.entry < y.entry in
+    let Below : ScheduledMessage → ScheduledMessage → Type 0 = λ x y. x.entry < y.entry in
     AllPairs-cons Below a (b ∷ c ∷ d ∷ []) (All-cons (Below a) b (c ∷ d ∷ []) (omega arith)
     (All-cons (Below a) c (d ∷ []) (omega arith) (All-cons (Below a) d [] (omega arith) (none_of (Below a)))))
     (AllPairs-cons Below b (c ∷ d ∷ []) (All-cons (Below b) c (d ∷ []) (omega arith)
@@ -148,7 +150,7 @@ all_four_rise =
 
 all_four_have_periods : HavePeriods all_four
 all_four_have_periods =
-    let Has : Message → Type 0 = λ m. 0 < m.period in
+    let Has : ScheduledMessage → Type 0 = λ m. 0 < m.period in
     All-cons Has a (b ∷ c ∷ d ∷ []) (omega arith) (All-cons Has b (c ∷ d ∷ []) (omega arith)
     (All-cons Has c (d ∷ []) (omega arith) (All-cons Has d [] (omega arith) (none_of Has))))
 
@@ -166,7 +168,7 @@ freed_at_once_fit (suc (suc slot)) =
     )
 
 abbrev FreedAtOnceIsAGuarantee : Type 0
-FreedAtOnceIsAGuarantee = (messages : List Message) (air : Air)
+FreedAtOnceIsAGuarantee = (messages : List ScheduledMessage) (air : Air)
     → Rising messages
     → HavePeriods messages
     → ((slot : ℕ) → loads_at (map freed_at_once messages) slot ≤ SCALE)
@@ -186,13 +188,13 @@ all_four_over : loads_at (map reservation_of all_four) 1 ≡ 349188840
 all_four_over = refl
 
 -- R, Q, P: a sixth, a third and a half fill each slot
-abbrev r : Message
+abbrev r : ScheduledMessage
 r = message 0 0 1 6 None Normal
 
-abbrev p : Message
+abbrev p : ScheduledMessage
 p = message 2 0 1 2 None Normal
 
-abbrev three : List Message
+abbrev three : List ScheduledMessage
 three = r ∷ message 1 0 1 3 None Normal ∷ p ∷ []
 
 three_aired : air_of three 6 ≡ Some (2, 1) ∷ Some (1, 1) ∷ Some (2, 1) ∷ Some (0, 1) ∷ Some (1, 1) ∷ Some (2, 1) ∷ []
@@ -209,7 +211,7 @@ three_fit = fit_together three (omega (arith, three_sum))
 
 three_rise : Rising three
 three_rise =
-    let Below : Message → Message → Type 0 = λ x y. x.entry < y.entry in
+    let Below : ScheduledMessage → ScheduledMessage → Type 0 = λ x y. x.entry < y.entry in
     let q = message 1 0 1 3 None Normal in
     AllPairs-cons Below r (q ∷ p ∷ []) (All-cons (Below r) q (p ∷ []) (omega arith)
     (All-cons (Below r) p [] (omega arith) (none_of (Below r))))
@@ -218,13 +220,13 @@ three_rise =
 
 three_foreground : NoBackground three
 three_foreground =
-    let Alone : Message → Type 0 = λ m. layer m ≡ 0 in
+    let Alone : ScheduledMessage → Type 0 = λ m. layer m ≡ 0 in
     let q = message 1 0 1 3 None Normal in
     All-cons Alone r (q ∷ p ∷ []) refl (All-cons Alone q (p ∷ []) refl (All-cons Alone p [] refl (none_of Alone)))
 
 three_have_periods : HavePeriods three
 three_have_periods =
-    let Has : Message → Type 0 = λ m. 0 < m.period in
+    let Has : ScheduledMessage → Type 0 = λ m. 0 < m.period in
     let q = message 1 0 1 3 None Normal in
     All-cons Has r (q ∷ p ∷ []) (omega arith) (All-cons Has q (p ∷ []) (omega arith)
     (All-cons Has p [] (omega arith) (none_of Has)))
@@ -238,7 +240,7 @@ r_is_whole =
     (record { requested = inl refl; standing = tt; aired_by = omega arith })
 
 -- Q is replaced at slot 3, on the boundary of its period, by one with the same load
-abbrev replaced : List Message
+abbrev replaced : List ScheduledMessage
 replaced = r ∷ message 1 0 1 3 (Some 3) Normal ∷ p ∷ message 3 3 1 3 None Normal ∷ []
 
 replaced_aired : air_of replaced 6 ≡ Some (2, 1) ∷ Some (1, 1) ∷ Some (2, 1) ∷ Some (0, 1) ∷ Some (2, 1) ∷ Some (3, 1)
@@ -265,7 +267,7 @@ replaced_fit (suc (suc (suc slot))) =
 
 replaced_rise : Rising replaced
 replaced_rise =
-    let Below : Message → Message → Type 0 = λ x y. x.entry < y.entry in
+    let Below : ScheduledMessage → ScheduledMessage → Type 0 = λ x y. x.entry < y.entry in
     let q = message 1 0 1 3 (Some 3) Normal in
     let n = message 3 3 1 3 None Normal in
     AllPairs-cons Below r (q ∷ p ∷ n ∷ []) (All-cons (Below r) q (p ∷ n ∷ []) (omega arith)
@@ -277,7 +279,7 @@ replaced_rise =
 
 replaced_foreground : NoBackground replaced
 replaced_foreground =
-    let Alone : Message → Type 0 = λ m. layer m ≡ 0 in
+    let Alone : ScheduledMessage → Type 0 = λ m. layer m ≡ 0 in
     let q = message 1 0 1 3 (Some 3) Normal in
     let n = message 3 3 1 3 None Normal in
     All-cons Alone r (q ∷ p ∷ n ∷ []) refl (All-cons Alone q (p ∷ n ∷ []) refl
@@ -285,7 +287,7 @@ replaced_foreground =
 
 replaced_have_periods : HavePeriods replaced
 replaced_have_periods =
-    let Has : Message → Type 0 = λ m. 0 < m.period in
+    let Has : ScheduledMessage → Type 0 = λ m. 0 < m.period in
     let q = message 1 0 1 3 (Some 3) Normal in
     let n = message 3 3 1 3 None Normal in
     All-cons Has r (q ∷ p ∷ n ∷ []) (omega arith) (All-cons Has q (p ∷ n ∷ []) (omega arith)
@@ -310,7 +312,7 @@ replaced_late_over : loads_at (map reservation_of (r ∷ message 1 0 1 3 (Some 4
 replaced_late_over = refl
 
 -- two broadcasts, in the slots 0 to 2 and 3 to 5: by slot 10 both are whole, and by slot 4 the first is
-abbrev twice : Message
+abbrev twice : ScheduledMessage
 twice = record (message 0 0 1 3 None Normal) { broadcasts = 2 }
 
 twice_least : least_completed twice 10 ≡ 2
@@ -326,7 +328,7 @@ twice_most_within : most_completed twice 4 ≡ 2
 twice_most_within = refl
 
 -- a broadcast that a stop cuts may be whole or not, as its pages and the others have it
-abbrev cut : ℕ → Message
+abbrev cut : ℕ → ScheduledMessage
 cut pages = message 0 0 pages 4 (Some 3) Normal
 
 cut_least : least_completed (cut 1) 8 ≡ 0
@@ -356,10 +358,10 @@ unbegun_most : most_completed (message 0 5 1 3 None Normal) 4 ≡ 0
 unbegun_most = refl
 
 -- N: a page in every second slot. B: two pages of background in every fourth, beside it
-abbrev beside_background : List Message
+abbrev beside_background : List ScheduledMessage
 beside_background = message 0 0 1 2 None Normal ∷ message 1 0 2 4 None Background ∷ []
 
-abbrev n_alone : List Message
+abbrev n_alone : List ScheduledMessage
 n_alone = message 0 0 1 2 None Normal ∷ []
 
 n_is_alone : foreground beside_background ≡ n_alone

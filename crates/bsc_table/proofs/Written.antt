@@ -4,7 +4,7 @@ use Rattle.std.proofs.Common.{get_or, refl, ap, sym, subst, ◌∙◌, arith}
 use Rattle.std.specs.List.{All}
 use Rattle.std.proofs.lemmas.List.{get_or-map, length-map}
 use Rattle.std.proofs.lemmas.List.Elements.{All-nil, All-cons, All-map, All-append, All-weaker}
-use Rattle.scheduler.specs.Message.{Message}
+use Rattle.scheduler.specs.Message.{ScheduledMessage}
 use Rattle.scheduler.specs.Air.{IsChosen}
 use Rattle.bsc_table.specs.declared.command.Command.{Command}
 use Rattle.bsc_table.specs.declared.command.Command.TheVariants as commands
@@ -98,9 +98,9 @@ pub uses_are_of_writes : UsesAreOfWrites
 uses_are_of_writes r slot entry page d legal within used =
     let Chosen : Option (ℕ × ℕ) → Type 0 = λ u. IsChosen (messages_in r.log) r.air slot u in
     let chosen = subst Chosen used (legal.aired slot (omega (arith, legal.played))) in
-    let m : Message = chosen.1 in
+    let m : ScheduledMessage = chosen.1 in
     let all = accepted_in r.log in
-    let message : Accepted → Message = λ a. a.message in
+    let message : Accepted → ScheduledMessage = λ a. a.message in
     let default : Accepted = record { id = 0; serial = 0; accepted = 0; behind = None; excess = 0; message = m } in
     let long = length-map all message in
     let a : Accepted = get_or all chosen.0 default in
@@ -108,9 +108,9 @@ uses_are_of_writes r slot entry page d legal within used =
     ∙ chosen.3 in
     let written = accepted_are_writes r.log d chosen.0 default (omega (arith, long, chosen.2)) in
     let of_it : entry ≡ a.message.entry = ap (λ (u : ℕ × ℕ). u.0) chosen.4.2
-    ∙ sym (ap (λ (o : Message). o.entry) here) in
+    ∙ sym (ap (λ (o : ScheduledMessage). o.entry) here) in
     let counted = ap (λ (u : ℕ × ℕ). u.1) chosen.4.2 in
-    let pages = ap (λ (o : Message). o.pages) here in
+    let pages = ap (λ (o : ScheduledMessage). o.pages) here in
     let Here : ℕ → Type 0 = λ n. (n < length r.log) × IsWriteBy a (get_or r.log n d).command
     (start_of (get_or r.log n d).answer) in
     let at = subst Here (sym of_it) (written.0, written.1) in (

@@ -13,7 +13,7 @@
 use Rattle.std.specs.Prelude.{ℕ, ◌+◌, ◌==◌, nat_le, nat_lt, if◌then◌else◌, Option, Some, None, List, length, filter}
 use Rattle.admission.specs.declared.measure.TheConstants.{SCALE}
 use Rattle.admission.specs.Load.{load_of}
-use Rattle.scheduler.specs.Message.{Message}
+use Rattle.scheduler.specs.Message.{ScheduledMessage}
 use Rattle.scheduler.specs.Air.{Air}
 use Rattle.scheduler.specs.Completed.{completed}
 use Rattle.bsc_table.specs.declared.command.Category.{Category}
@@ -60,7 +60,7 @@ answer_to_replacement log air slot category load old =
     (λ start. answers.Replaced start (completed old.message air slot))
 
 -- 4, where the pair of a write was accepted before
-abbrev pub unless_accepted : Option Message → Answer → Answer
+abbrev pub unless_accepted : Option ScheduledMessage → Answer → Answer
 unless_accepted (Some m) answer = answers.Cause 0x0D
 unless_accepted None answer = answer
 
@@ -81,7 +81,7 @@ answer_to_kill log air slot id serial =
     of_live slot (accepted_named id serial log) (λ a. answers.Stopped (completed a.message air slot))
 
 -- a status tells the completed broadcasts and the state of a message that was accepted, whether it is live or not
-abbrev pub told_of : Air → ℕ → Option Message → Answer
+abbrev pub told_of : Air → ℕ → Option ScheduledMessage → Answer
 told_of air slot None = answers.Unknown
 told_of air slot (Some m) = answers.Told (completed m air slot) (state_at slot m)
 

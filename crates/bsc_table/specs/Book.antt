@@ -11,7 +11,7 @@ use Rattle.admission.specs.Reservation.{end_of_stopped}
 use Rattle.std.specs.Option.{option_map}
 use Rattle.admission.specs.Waiting.{behind_of}
 use Rattle.admission.specs.Table.{answer_of, answer_for, excess_over}
-use Rattle.scheduler.specs.Message.{Message, stopped_if}
+use Rattle.scheduler.specs.Message.{ScheduledMessage, stopped_if}
 use Rattle.scheduler.specs.Air.{Air}
 use Rattle.scheduler.specs.Follows.{Follows}
 use Rattle.bsc_table.specs.declared.command.Command.{Command}
@@ -200,7 +200,7 @@ HasRoomFor slot lines c (Some behind) =
     × IsHeldFor lines (own_load c.message) behind c.message.start c.excess
 
 -- no message of a pair is live, and one is
-abbrev pub IsNotLive : ℕ → Option Message → Type 0
+abbrev pub IsNotLive : ℕ → Option ScheduledMessage → Type 0
 IsNotLive slot None = ⊤
 IsNotLive slot (Some m) = is_live slot m ≡ false
 

@@ -10,7 +10,7 @@ use Rattle.std.proofs.lemmas.List.{get_or_default, length-map, get_or-map}
 use Rattle.std.proofs.lemmas.List.Sums.{sum_by-cons}
 use Rattle.std.proofs.lemmas.List.Elements.{All-nil, All-cons}
 use Rattle.cbs_page.specs.declared.octets.PageView.{PageView}
-use Rattle.scheduler.specs.Message.{Message}
+use Rattle.scheduler.specs.Message.{ScheduledMessage}
 use Rattle.scheduler.specs.Air.{Air, IsChosen}
 use Rattle.scheduler.specs.Pages.{airs_page}
 use Rattle.handset.specs.Reading.{is_of}
@@ -113,18 +113,18 @@ aired_by_rule : (r : Record) (slot : ℕ) (used : Option (ℕ × ℕ)) → AreSo
     → IsChosen (messages_in r.log) r.air slot used → IsAired r.log used
 aired_by_rule r slot None sound chosen = tt
 aired_by_rule r slot (Some used) sound chosen =
-    let m : Message = chosen.1 in
+    let m : ScheduledMessage = chosen.1 in
     let all = accepted_in r.log in
-    let message : Accepted → Message = λ a. a.message in
+    let message : Accepted → ScheduledMessage = λ a. a.message in
     let default : Accepted = record { id = 0; serial = 0; accepted = 0; behind = None; excess = 0; message = m } in
     let long = length-map (accepted_in r.log) message in
     let within : chosen.0 < length (accepted_in r.log) = let h = chosen.2 in omega (arith, long, h) in
     let a : Accepted = get_or all chosen.0 default in
     let here : a.message ≡ m = sym (get_or-map message all chosen.0 default m within) ∙ chosen.3 in
     let of_it : used.0 ≡ a.message.entry = ap (λ (u : ℕ × ℕ). u.0) chosen.4.2
-    ∙ sym (ap (λ (o : Message). o.entry) here) in
+    ∙ sym (ap (λ (o : ScheduledMessage). o.entry) here) in
     let counted = ap (λ (u : ℕ × ℕ). u.1) chosen.4.2 in
-    let pages = ap (λ (o : Message). o.pages) here in
+    let pages = ap (λ (o : ScheduledMessage). o.pages) here in
     let unfinished = chosen.4.1.pending.unfinished in
     aired_as r.log used a (chosen.0, within, get_or_default all chosen.0 a default within)
     (sound.sent chosen.0 default within) (sym of_it) (omega (arith, counted))

@@ -28,7 +28,7 @@ use Rattle.composition.proofs.Aired.{IsAired, all_aired, can_send_aired, pages_a
 use Rattle.composition.proofs.Composed.{sound_of, pages_before, message_there, messages_rise}
 use Rattle.composition.proofs.Composed.{completed_is_whole_in_blocks, shown_are_the_broadcast}
 use Rattle.bsc_table.specs.Bounds.{least_completed, most_completed}
-use Rattle.scheduler.specs.Message as scheduled
+use Rattle.scheduler.specs.Message.{ScheduledMessage}
 
 pub pages_read_are_those_aired : Laws → PagesReadAreThoseAired
 pages_read_are_those_aired laws r legal =
@@ -126,7 +126,7 @@ texts_are_those_of_contents id serial dcs total number (content ∷ rest) =
     ap (λ text. text_of_page (page_with id serial dcs total number content) ++ text)
     (texts_are_those_of_contents id serial dcs total (number + 1) rest)
 
-abbrev message : Accepted → scheduled.Message
+abbrev message : Accepted → ScheduledMessage
 message a = a.message
 
 pub accepted_are_meant : Laws → AcceptedAreMeant
@@ -156,7 +156,7 @@ accepted_are_meant laws r slot legal by = λ k d within.
         let long = length-map (accepted_in r.log) message in
         let same = get_or-map message (accepted_in r.log) k d d.message within in
         let both = laws.legal_histories_are_bounded r legal k d.message (omega (arith, long, within)) slot by in
-        subst (λ (m : scheduled.Message). (layer m ≡ 0 → least_completed m slot ≤ completed m r.air slot)
+        subst (λ (m : ScheduledMessage). (layer m ≡ 0 → least_completed m slot ≤ completed m r.air slot)
         × (completed m r.air slot ≤ most_completed m slot)) same both
 
     was_whole : (laws : Laws) (r : Record) (slot : ℕ) → IsLegal r → (a : Accepted) → Contains (accepted_in r.log) a

@@ -11,7 +11,7 @@ use Rattle.std.proofs.lemmas.List.Folds.{Any-from_list_any, list_any-from_Any}
 use Rattle.std.proofs.lemmas.List.Sums.{sum_by-cons}
 use Rattle.scheduler.specs.declared.plan.Rank.{Rank}
 use Rattle.scheduler.specs.declared.plan.Rank.TheVariants.{High, Normal, Background}
-use Rattle.scheduler.specs.Message.{Message, release, due, has_broadcast, is_before_stop}
+use Rattle.scheduler.specs.Message.{ScheduledMessage, release, due, has_broadcast, is_before_stop}
 use Rattle.scheduler.specs.Air.{Air, airs, layer, layer_of, pages_aired, IsPending, IsFirst, IsChosen, IsServedBy}
 use Rattle.scheduler.specs.Air.{next_page}
 use Rattle.scheduler.specs.Background.{is_background, foreground, has_background, blank_use, blanked}
@@ -23,13 +23,14 @@ use Rattle.scheduler.proofs.Lists.{rising-same, count_below_same}
 use Rattle.scheduler.proofs.OneAir.{IsAirOf-only}
 
 -- what is true of all that pass is true of all of the filter
-All-passing : (P : Message → Type 0) (p : Message → Bool) (xs : List Message)
+All-passing : (P : ScheduledMessage → Type 0) (p : ScheduledMessage → Bool) (xs : List ScheduledMessage)
     → All (λ x. p x ≡ true → P x) xs
     → All P (filter p xs)
 All-passing P p xs all = λ k d h. All-filter p (λ x. p x ≡ true → P x) xs all k d h (filter_passes p xs k d h)
 
 -- an element that passes is in the filter
-Any-passing : (P : Message → Type 0) (p : Message → Bool) (xs : List Message) (m : Message)
+Any-passing : (P : ScheduledMessage → Type 0) (p : ScheduledMessage → Bool) (xs : List ScheduledMessage)
+    (m : ScheduledMessage)
     → Contains xs m
     → p m ≡ true
     → P m
@@ -48,7 +49,7 @@ Any-passing P p (x ∷ xs) m (suc k, within, is) passes holds =
     ]
 
 -- where numbers rise, two messages of one number are one
-one_number : (messages : List Message) (a b : Message)
+one_number : (messages : List ScheduledMessage) (a b : ScheduledMessage)
     → AllPairs (λ x y. x.entry < y.entry) messages
     → Contains messages a
     → Contains messages b
@@ -57,18 +58,20 @@ one_number : (messages : List Message) (a b : Message)
 one_number messages a b rising here there same =
     let first : get_or messages here.0 a ≡ a = here.2 in
     let second : get_or messages there.0 a ≡ b = get_or_default messages there.0 a b there.1 ∙ there.2 in
-    let numbers = ap (λ (c : Message). c.entry) first ∙ same ∙ sym (ap (λ (c : Message). c.entry) second) in
-    let place = rising-same (λ (c : Message). c.entry) messages rising here.0 there.0 a here.1 there.1 numbers in
+    let numbers = ap (λ (c : ScheduledMessage). c.entry) first ∙ same
+    ∙ sym (ap (λ (c : ScheduledMessage). c.entry) second) in
+    let place = rising-same (λ (c : ScheduledMessage). c.entry) messages rising here.0 there.0 a here.1 there.1 numbers
+    in
     sym first ∙ ap (λ i. get_or messages i a) place ∙ second
 
 -- so the number of a message that isn't background is no background message's
-not_its_number : (messages : List Message) (m : Message)
+not_its_number : (messages : List ScheduledMessage) (m : ScheduledMessage)
     → AllPairs (λ a b. a.entry < b.entry) messages
     → Contains messages m
     → layer m ≡ 0
     → has_background messages m.entry ≡ false
 not_its_number messages m rising here other =
-    let test : Message → Bool = λ x. is_background x && (x.entry == m.entry) in
+    let test : ScheduledMessage → Bool = λ x. is_background x && (x.entry == m.entry) in
     elim (cases_Bool (has_background messages m.entry)) [
       | inr fails ↦ fails
       | inl passes ↦
@@ -79,12 +82,12 @@ not_its_number messages m rising here other =
           absurd (omega (arith, other, eqb-true (layer found.1) 1 parts.0, ap layer same))
     ]
 
-its_number : (messages : List Message) (m : Message)
+its_number : (messages : List ScheduledMessage) (m : ScheduledMessage)
     → Contains messages m
     → layer m ≡ 1
     → has_background messages m.entry ≡ true
 its_number messages m here is =
-    let test : Message → Bool = λ x. is_background x && (x.entry == m.entry) in
+    let test : ScheduledMessage → Bool = λ x. is_background x && (x.entry == m.entry) in
     list_any-from_Any test messages (
       here.0,
       m,
@@ -95,7 +98,7 @@ its_number messages m here is =
     )
 
 -- a slot airs a page of a message that isn't background with and without the others
-airs_same : (messages : List Message) (m : Message)
+airs_same : (messages : List ScheduledMessage) (m : ScheduledMessage)
     → has_background messages m.entry ≡ false
     → (used : Option (ℕ × ℕ))
     → airs m.entry (blank_use messages used) ≡ airs m.entry used
@@ -143,7 +146,7 @@ blanking_keeps_completed messages air m slot rising here other =
     (blanking_keeps_pages messages air m (release m j) (min (due m j) slot) rising here other))
 
 -- what is pending is pending by any air list with the same pages
-IsPending-same_pages : (m : Message) (j : ℕ) (air other : Air) (slot : ℕ)
+IsPending-same_pages : (m : ScheduledMessage) (j : ℕ) (air other : Air) (slot : ℕ)
     → pages_aired m.entry air (release m j) slot ≡ pages_aired m.entry other (release m j) slot
     → IsPending m j air slot
     → IsPending m j other slot
@@ -156,17 +159,17 @@ IsPending-same_pages m j air other slot same p = record {
 }
 
 -- background isn't served before the others
-alone_pending : (m o : Message) (j k : ℕ) → layer m ≡ 1 → layer o ≡ 0 → IsServedBy m j o k → ⊥
+alone_pending : (m o : ScheduledMessage) (j k : ℕ) → layer m ≡ 1 → layer o ≡ 0 → IsServedBy m j o k → ⊥
 alone_pending m o j k is other served =
     elim served [ inl sooner ↦ omega (arith, is, other, sooner) | inr tied ↦ omega (arith, is, other, tied.0) ]
 
-Contains_at : (messages : List Message) (k : ℕ) (d : Message)
+Contains_at : (messages : List ScheduledMessage) (k : ℕ) (d : ScheduledMessage)
     → k < length messages
     → Contains messages (get_or messages k d)
 Contains_at messages k d within = (k, within, get_or_default messages k (get_or messages k d) d within)
 
 -- a message is of the one layer or of the other
-cases_layer : (m : Message) → (layer m ≡ 0) ⊎ (layer m ≡ 1)
+cases_layer : (m : ScheduledMessage) → (layer m ≡ 0) ⊎ (layer m ≡ 1)
 cases_layer m = rank_of m.rank
   where
     rank_of : (rank : Rank) → (layer_of rank ≡ 0) ⊎ (layer_of rank ≡ 1)
@@ -175,19 +178,19 @@ cases_layer m = rank_of m.rank
     rank_of Background = inr refl
 
 -- nothing of the others is pending where nothing is, or where background is first
-none_without : (messages : List Message) (air : Air) (slot : ℕ)
+none_without : (messages : List ScheduledMessage) (air : Air) (slot : ℕ)
     → AllPairs (λ a b. a.entry < b.entry) messages
     → All (λ o. layer o ≡ 0 → (k : ℕ) → ¬ IsPending o k air slot) messages
     → IsChosen (foreground messages) (blanked messages air) slot None
 none_without messages air slot rising none =
     All-passing (λ o. (k : ℕ) → ¬ IsPending o k (blanked messages air) slot) (λ o. layer o == 0) messages
     (λ i d within. λ passes. λ k pending.
-    let o : Message = get_or messages i d in
+    let o : ScheduledMessage = get_or messages i d in
     let other = eqb-true (layer o) 0 passes in
     let same = blanking_keeps_pages messages air o (release o k) slot rising (Contains_at messages i d within) other in
     none i d within other k (IsPending-same_pages o k (blanked messages air) air slot same pending))
 
-chosen_without : (messages : List Message) (air : Air) (slot : ℕ) (used : Option (ℕ × ℕ))
+chosen_without : (messages : List ScheduledMessage) (air : Air) (slot : ℕ) (used : Option (ℕ × ℕ))
     → AllPairs (λ a b. a.entry < b.entry) messages
     → IsChosen messages air slot used
     → IsChosen (foreground messages) (blanked messages air) slot (blank_use messages used)
@@ -195,7 +198,7 @@ chosen_without messages air slot None rising chosen =
     none_without messages air slot rising (λ i d within. λ other k. chosen i d within k)
 chosen_without messages air slot (Some used) rising chosen =
     let blank = blanked messages air in
-    let m : Message = chosen.1 in
+    let m : ScheduledMessage = chosen.1 in
     let here : Contains messages m = (chosen.0, chosen.2, chosen.3) in
     let j : ℕ = chosen.4.0 in
     let first : IsFirst messages air slot m j = chosen.4.1 in
@@ -217,12 +220,12 @@ chosen_without messages air slot (Some used) rising chosen =
             pending = IsPending-same_pages m j air blank slot (sym same) first.pending;
             first = All-passing (λ o. (k : ℕ) → IsPending o k blank slot → IsServedBy m j o k) (λ o. layer o == 0)
                 messages (λ i d within. λ passes. λ k pending.
-                let o : Message = get_or messages i d in
+                let o : ScheduledMessage = get_or messages i d in
                 let pages = blanking_keeps_pages messages air o (release o k) slot rising
                 (Contains_at messages i d within) (eqb-true (layer o) 0 passes) in
                 first.first i d within k (IsPending-same_pages o k blank air slot pages pending));
           } in
-          let P : Message → Type 0 = λ x. (i : ℕ) × IsFirst (foreground messages) blank slot x i
+          let P : ScheduledMessage → Type 0 = λ x. (i : ℕ) × IsFirst (foreground messages) blank slot x i
           × (used ≡ next_page x i blank slot) in
           let found : IsChosen (foreground messages) blank slot (Some used) = Any-passing P (λ o. layer o == 0)
           messages m here (eq-eqb (layer m) 0 other) (j, its_first, its_page) in

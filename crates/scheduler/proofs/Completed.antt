@@ -5,7 +5,7 @@ use Rattle.std.specs.List.{range_with_len}
 use Rattle.std.proofs.lemmas.Bool.{cases_lt, cases_eq, le-leb, lt-leb, ltb-true, lt-ltb, le-ltb, eq-eqb, ne_eqb}
 use Rattle.std.proofs.lemmas.Bool.{and_left, and_right}
 use Rattle.std.proofs.Math.Nat.{le-mul_of_pos_right}
-use Rattle.scheduler.specs.Message.{Message, release, due, has_broadcast, is_before_stop}
+use Rattle.scheduler.specs.Message.{ScheduledMessage, release, due, has_broadcast, is_before_stop}
 use Rattle.scheduler.specs.Air.{Air, airs, pages_aired}
 use Rattle.scheduler.specs.Completed.{completed, is_whole}
 use Rattle.scheduler.specs.Message.{broadcast_at}
@@ -14,7 +14,7 @@ use Rattle.scheduler.proofs.Air.{broadcast_at-not_due, other_broadcast}
 use Rattle.scheduler.proofs.Lists.{count_below_more, count_below_same, count_below_but_one}
 
 -- a broadcast that is released no earlier than the slot is not whole before it
-pub is_whole-unreleased : (m : Message) (air : Air) (slot j : ℕ) → 0 < m.pages → slot ≤ release m j
+pub is_whole-unreleased : (m : ScheduledMessage) (air : Air) (slot j : ℕ) → 0 < m.pages → slot ≤ release m j
     → is_whole m air slot j ≡ false
 is_whole-unreleased m air slot j some h =
     let none = pages_aired-none m.entry air (release m j) (min (due m j) slot) (omega arith) in
@@ -23,7 +23,7 @@ is_whole-unreleased m air slot j some h =
     and_right (has_broadcast m j) _ (and_right (is_before_stop (release m j) m.stop) _ few)
 
 -- the slot after the air list changes nothing of a broadcast that is due by then
-is_whole-due : (m : Message) (air : Air) (used : Option (ℕ × ℕ)) (j : ℕ) → due m j ≤ length air
+is_whole-due : (m : ScheduledMessage) (air : Air) (used : Option (ℕ × ℕ)) (j : ℕ) → due m j ≤ length air
     → is_whole m (air ++ used ∷ []) (length air + 1) j ≡ is_whole m air (length air) j
 is_whole-due m air used j h =
     let now : min (due m j) (length air + 1) ≡ due m j = omega arith in
@@ -36,7 +36,7 @@ is_whole-due m air used j h =
     ap (λ n. has_broadcast m j && (is_before_stop (release m j) m.stop && leb m.pages n)) same
 
 -- nor of one that is not the one under way
-is_whole-other : (m : Message) (air : Air) (used : Option (ℕ × ℕ)) (j : ℕ) → 0 < m.pages → 0 < m.period
+is_whole-other : (m : ScheduledMessage) (air : Air) (used : Option (ℕ × ℕ)) (j : ℕ) → 0 < m.pages → 0 < m.period
     → m.start ≤ length air → j ≢ broadcast_at m (length air) → is_whole m (air ++ used ∷ []) (length air + 1) j ≡
     is_whole m air (length air) j
 is_whole-other m air used j pages period started other =
@@ -47,7 +47,7 @@ is_whole-other m air used j pages period started other =
     ]
 
 -- the broadcast under way, before the slot and after it
-is_whole-now : (m : Message) (air : Air) → 0 < m.period → m.start ≤ length air
+is_whole-now : (m : ScheduledMessage) (air : Air) → 0 < m.period → m.start ≤ length air
     → is_whole m air (length air) (broadcast_at m (length air)) ≡
     (has_broadcast m (broadcast_at m (length air)) && (is_before_stop (release m (broadcast_at m (length air))) m.stop
     && leb m.pages (pages_aired m.entry air (release m (broadcast_at m (length air))) (length air))))
@@ -58,7 +58,7 @@ is_whole-now m air period started =
     ap (λ to. has_broadcast m j && (is_before_stop (release m j) m.stop && leb m.pages
     (pages_aired m.entry air (release m j) to))) upto
 
-is_whole-then : (m : Message) (air : Air) (used : Option (ℕ × ℕ)) → 0 < m.period → m.start ≤ length air
+is_whole-then : (m : ScheduledMessage) (air : Air) (used : Option (ℕ × ℕ)) → 0 < m.period → m.start ≤ length air
     → is_whole m (air ++ used ∷ []) (length air + 1) (broadcast_at m (length air)) ≡
     (has_broadcast m (broadcast_at m (length air)) && (is_before_stop (release m (broadcast_at m (length air))) m.stop
     && leb m.pages (pages_aired m.entry air (release m (broadcast_at m (length air))) (length air) + cond
@@ -114,11 +114,11 @@ one_more_use has before true aired pages ready =
     omega arith
 
 -- how many pages of the broadcast under way are aired so far
-abbrev pub so_far : Message → Air → ℕ
+abbrev pub so_far : ScheduledMessage → Air → ℕ
 so_far m air = pages_aired m.entry air (release m (broadcast_at m (length air))) (length air)
 
 -- the slot after the air list adds a whole broadcast exactly where it airs the last page of one
-pub completed-push : (m : Message) (air : Air) (used : Option (ℕ × ℕ)) → 0 < m.pages → 0 < m.period
+pub completed-push : (m : ScheduledMessage) (air : Air) (used : Option (ℕ × ℕ)) → 0 < m.pages → 0 < m.period
     → m.start ≤ length air → (airs m.entry used ≡ true → (has_broadcast m (broadcast_at m (length air)) ≡ true)
     × (is_before_stop (length air) m.stop ≡ true) × (so_far m air < m.pages))
     → completed m (air ++ used ∷ []) (length air + 1) ≡ completed m air (length air) + cond
@@ -150,7 +150,7 @@ completed-push m air used pages period started ready =
     omega (arith, top, none, but_one, now, then, more)
 
 -- a stop at the slot leaves the broadcasts that are whole before it whole
-is_whole-stopped : (m : Message) (air : Air) (slot j : ℕ) → 0 < m.pages → m.stop ≡ None
+is_whole-stopped : (m : ScheduledMessage) (air : Air) (slot j : ℕ) → 0 < m.pages → m.stop ≡ None
     → is_whole (record m { stop = Some slot }) air slot j ≡ is_whole m air slot j
 is_whole-stopped m air slot j pages free =
     let counted = pages_aired m.entry air (release m j) (min (due m j) slot) in
@@ -165,7 +165,7 @@ is_whole-stopped m air slot j pages free =
           (and_left (ltb (release m j) slot) (leb m.pages counted) (le-ltb (release m j) slot later)) ∙ sym whole
     ]
 
-pub completed-stopped : (m : Message) (air : Air) (slot : ℕ) → 0 < m.pages → m.stop ≡ None
+pub completed-stopped : (m : ScheduledMessage) (air : Air) (slot : ℕ) → 0 < m.pages → m.stop ≡ None
     → completed (record m { stop = Some slot }) air slot ≡ completed m air slot
 completed-stopped m air slot pages free =
     count_below_same (is_whole (record m { stop = Some slot }) air slot) (is_whole m air slot) (slot + 1)

@@ -8,7 +8,7 @@ use Rattle.std.proofs.lemmas.Bool.{eqb-true}
 use Rattle.std.specs.Vec.{with_items}
 use Rattle.scheduler.specs.declared.plan.Item.{Item}
 use Rattle.scheduler.specs.declared.scheduled.Scheduled.{Scheduled}
-use Rattle.scheduler.specs.Message.{Message, stopped_if, stopped_at}
+use Rattle.scheduler.specs.Message.{ScheduledMessage, stopped_if, stopped_at}
 use Rattle.scheduler.specs.Air.{Air, airs, IsChosen}
 use Rattle.scheduler.specs.Completed.{completed}
 use Rattle.scheduler.specs.Follows.{PlanState, Follows, Counts, messages_of, message_of, message_from}
@@ -18,7 +18,7 @@ use Rattle.scheduler.proofs.Counts.{Counts-after, Counts-new, Counts-stopped, Is
 use Rattle.scheduler.proofs.Lists.{rising-map, rising-push, rising-same}
 
 -- the messages are the same where each kept one is
-same_messages : (g : Scheduled → Scheduled) (h : Message → Message)
+same_messages : (g : Scheduled → Scheduled) (h : ScheduledMessage → ScheduledMessage)
     → ((t : Scheduled) → message_of (g t) ≡ h (message_of t))
     → (scheduled : List Scheduled) → map message_of (map g scheduled) ≡ map h (map message_of scheduled)
 same_messages g h same [] = refl
@@ -53,18 +53,20 @@ IsSound-next plan used within sound = record {
   within = omega arith;
 }
 
-pub IsChosen-next : (plan : PlanState) (messages : List Message) (air : Air) (used : Option (ℕ × ℕ)) → IsSound plan
+pub IsChosen-next : (plan : PlanState) (messages : List ScheduledMessage) (air : Air) (used : Option (ℕ × ℕ))
+    → IsSound plan
     → IsChoice plan.scheduled plan.slot used → Follows plan messages air → IsChosen messages air plan.slot used
 IsChosen-next plan messages air used sound choice follows =
     let Choice : ℕ → Type 0 = λ n. IsChoice plan.scheduled n used in
     let Fit : ℕ → Type 0 = λ n. All (λ t. IsFit t n) plan.scheduled in
     let Chosen : ℕ → Type 0 = λ n. IsChosen messages air n used in
-    let ChosenOf : List Message → Type 0 = λ ms. IsChosen ms air (length air) used in
+    let ChosenOf : List ScheduledMessage → Type 0 = λ ms. IsChosen ms air (length air) used in
     subst Chosen (sym follows.asked) (subst ChosenOf follows.told
     (IsChosen-from_choice plan.scheduled air used (subst Fit follows.asked sound.fit) follows.counted
     (subst Choice follows.asked choice)))
 
-pub Follows-next : (plan : PlanState) (messages : List Message) (air : Air) (used : Option (ℕ × ℕ)) → IsSound plan
+pub Follows-next : (plan : PlanState) (messages : List ScheduledMessage) (air : Air) (used : Option (ℕ × ℕ))
+    → IsSound plan
     → IsChoice plan.scheduled plan.slot used → Follows plan messages air
     → Follows (kept_after plan used) messages (air ++ used ∷ [])
 Follows-next plan messages air used sound choice follows =
@@ -101,10 +103,11 @@ IsSound-add plan item above start pages period sound = record {
     numbers : (scheduled : List Scheduled) (n : ℕ) → All (λ m. m.entry < n) (map message_of scheduled)
         → All (λ t. t.item.entry < n) scheduled
     numbers scheduled n h = λ k d within.
-        let e = ap (λ (m : Message). m.entry) (get_or-map message_of scheduled k d (message_of d) within) in
+        let e = ap (λ (m : ScheduledMessage). m.entry) (get_or-map message_of scheduled k d (message_of d) within) in
         omega (arith, e, h k (message_of d) (omega (arith, length-map scheduled message_of, within)))
 
-pub Follows-add : (plan : PlanState) (item : Item) (messages : List Message) (air : Air) → plan.slot ≤ item.start
+pub Follows-add : (plan : PlanState) (item : Item) (messages : List ScheduledMessage) (air : Air)
+    → plan.slot ≤ item.start
     → 0 < item.pages → 0 < item.period → Follows plan messages air
     → Follows (kept_with plan item) (messages ++ message_from item ∷ []) air
 Follows-add plan item messages air start pages period follows = record {
@@ -140,7 +143,7 @@ pub messages_of-stopped : (plan : PlanState) (entry slot : ℕ) → messages_of 
     entry slot (messages_of plan)
 messages_of-stopped plan entry slot =
     same_messages (λ (t : Scheduled). scheduled_stopped (t.item.entry == entry) slot t)
-    (λ (m : Message). stopped_if (m.entry == entry) slot m) (λ t. refl) plan.scheduled
+    (λ (m : ScheduledMessage). stopped_if (m.entry == entry) slot m) (λ t. refl) plan.scheduled
 
 -- a message that stands under its number is the only one under it
 only_standing : (scheduled : List Scheduled) (entry : ℕ) → AllPairs (λ a b. a.item.entry < b.item.entry) scheduled
@@ -151,11 +154,11 @@ only_standing scheduled entry rising standing = λ k d within. λ named.
     let below = length-map scheduled message_of in
     let h : i < length scheduled = omega (arith, below, standing.2) in
     let is = sym (get_or-map message_of scheduled i d standing.1 h) ∙ standing.3 in
-    let entry = ap (λ (m : Message). m.entry) is ∙ standing.4.0 in
+    let entry = ap (λ (m : ScheduledMessage). m.entry) is ∙ standing.4.0 in
     let place = rising-same (λ (t : Scheduled). t.item.entry) scheduled rising k i d within h (named ∙ sym entry) in
-    ap (λ j. (get_or scheduled j d).stop) place ∙ (ap (λ (m : Message). m.stop) is ∙ standing.4.1)
+    ap (λ j. (get_or scheduled j d).stop) place ∙ (ap (λ (m : ScheduledMessage). m.stop) is ∙ standing.4.1)
 
-pub Follows-stop : (plan : PlanState) (entry slot : ℕ) (messages : List Message) (air : Air) → slot ≡ plan.slot
+pub Follows-stop : (plan : PlanState) (entry slot : ℕ) (messages : List ScheduledMessage) (air : Air) → slot ≡ plan.slot
     → Any (λ m. (m.entry ≡ entry) × (m.stop ≡ None)) (messages_of plan) → IsSound plan → Follows plan messages air
     → Follows (kept_stopped plan entry slot) (stopped_at entry slot messages) air
 Follows-stop plan entry slot messages air at standing sound follows =
@@ -174,11 +177,12 @@ Follows-stop plan entry slot messages air at standing sound follows =
     }
 
 -- the completed number that is kept is that of the message
-pub completed-told : (plan : PlanState) (entry result : ℕ) (messages : List Message) (air : Air)
+pub completed-told : (plan : PlanState) (entry result : ℕ) (messages : List ScheduledMessage) (air : Air)
     → All (λ t. t.item.entry ≡ entry → result ≡ t.completed) plan.scheduled → Follows plan messages air
     → All (λ m. m.entry ≡ entry → result ≡ completed m air (length air)) messages
 completed-told plan entry result messages air found follows =
-    let Told : List Message → Type 0 = λ ms. All (λ m. m.entry ≡ entry → result ≡ completed m air (length air)) ms in
+    let Told : List ScheduledMessage → Type 0 = λ ms. All (λ m. m.entry ≡ entry
+    → result ≡ completed m air (length air)) ms in
     subst Told follows.told (All-map (λ m. m.entry ≡ entry → result ≡ completed m air (length air)) message_of
     plan.scheduled (λ k d h. λ named. found k d h named ∙ (follows.counted k d h).completed))
 

@@ -7,7 +7,7 @@ use Rattle.std.proofs.Math.Seq.{take-suc}
 use Rattle.std.proofs.lemmas.Bool.{cases_lt, cases_eq, cases_Bool, eq-eqb, ne_eqb, false≢true}
 use Rattle.std.proofs.lemmas.List.{get_or_push, length_push, length-take-le, take-append-drop}
 use Rattle.std.proofs.lemmas.List.Sums.{sum_by_push}
-use Rattle.scheduler.specs.Message.{Message, release, due, has_broadcast, is_before_stop, broadcast_at}
+use Rattle.scheduler.specs.Message.{ScheduledMessage, release, due, has_broadcast, is_before_stop, broadcast_at}
 use Rattle.scheduler.specs.Air.{Air, airs, pages_aired, IsAirOf}
 use Rattle.scheduler.specs.Completed.{completed, is_whole}
 use Rattle.scheduler.specs.Pages.{airs_page, times_aired}
@@ -24,22 +24,22 @@ abbrev pub one_where : Bool → ℕ
 one_where b = cond b 1 0
 
 -- how often the page stands in the list
-abbrev times : Message → ℕ → Air → ℕ
+abbrev times : ScheduledMessage → ℕ → Air → ℕ
 times m page air = count_by (airs_page m.entry page) air
 
-times-push : (m : Message) (page : ℕ) (air : Air) (used : Option (ℕ × ℕ))
+times-push : (m : ScheduledMessage) (page : ℕ) (air : Air) (used : Option (ℕ × ℕ))
     → times m page (air ++ used ∷ []) ≡ times m page air + one_where (airs_page m.entry page used)
 times-push m page air used = sum_by_push (λ x. cond (airs_page m.entry page x) 1 0) air used
 
 -- the slot after the list airs the next page of the broadcast under way
-record IsNextOf (m : Message) (air : Air) (used : Option (ℕ × ℕ)) : Type 0 where
+record IsNextOf (m : ScheduledMessage) (air : Air) (used : Option (ℕ × ℕ)) : Type 0 where
   started : m.start ≤ length air
   requested : has_broadcast m (broadcast_at m (length air)) ≡ true
   standing : is_before_stop (length air) m.stop ≡ true
   few : so_far m air < m.pages
   page : used ≡ Some (m.entry, so_far m air + 1)
 
-used_is_next : (messages : List Message) (m : Message) (air : Air) (used : Option (ℕ × ℕ))
+used_is_next : (messages : List ScheduledMessage) (m : ScheduledMessage) (air : Air) (used : Option (ℕ × ℕ))
     → AllPairs (λ a b. a.entry < b.entry) messages → Contains messages m → IsAirOf messages (air ++ used ∷ [])
     → airs m.entry used ≡ true → IsNextOf m air used
 used_is_next messages m air used rising here rule named =
@@ -69,7 +69,7 @@ used_is_next messages m air used rising here rule named =
     }
 
 -- which page that is
-pub page_of_next : (m : Message) (page n : ℕ) (used : Option (ℕ × ℕ)) → used ≡ Some (m.entry, n)
+pub page_of_next : (m : ScheduledMessage) (page n : ℕ) (used : Option (ℕ × ℕ)) → used ≡ Some (m.entry, n)
     → one_where (airs_page m.entry page used) ≡ one_where (eqb n page)
 page_of_next m page n used e =
     let One : Option (ℕ × ℕ) → ℕ = λ u. one_where (airs_page m.entry page u) in
@@ -80,16 +80,17 @@ page_of_other n page None other = refl
 page_of_other n page (Some used) other = ap (λ (b : Bool). one_where (b && eqb used.1 page)) other
 
 -- before the start nothing is whole, and nothing is aired
-completed_early : (m : Message) (air : Air) (slot : ℕ) → 0 < m.pages → slot ≤ m.start → completed m air slot ≡ 0
+completed_early : (m : ScheduledMessage) (air : Air) (slot : ℕ) → 0 < m.pages → slot ≤ m.start
+    → completed m air slot ≡ 0
 completed_early m air slot pages early =
     count_below_none (is_whole m air slot) (slot + 1) (λ j h. is_whole-unreleased m air slot j pages (omega arith))
 
-so_far_early : (m : Message) (air : Air) → length air ≤ m.start → so_far m air ≡ 0
+so_far_early : (m : ScheduledMessage) (air : Air) → length air ≤ m.start → so_far m air ≡ 0
 so_far_early m air early =
     pages_aired-none m.entry air (release m (broadcast_at m (length air))) (length air) (omega arith)
 
 -- the pages so far after the slot: none where a new broadcast begins, else with the one that was aired
-so_far-push : (m : Message) (air : Air) (used : Option (ℕ × ℕ)) → 0 < m.period → m.start ≤ length air
+so_far-push : (m : ScheduledMessage) (air : Air) (used : Option (ℕ × ℕ)) → 0 < m.period → m.start ≤ length air
     → (so_far m (air ++ used ∷ []) ≡ 0) ⊎ (so_far m (air ++ used ∷ []) ≡ so_far m air + one_where (airs m.entry used))
 so_far-push m air used period started =
     let slot = length air in
@@ -109,12 +110,12 @@ so_far-push m air used period started =
     ]
 
 -- the counts of a page, after some slots
-record AreCounted (m : Message) (page : ℕ) (air : Air) : Type 0 where
+record AreCounted (m : ScheduledMessage) (page : ℕ) (air : Air) : Type 0 where
   last : times m m.pages air ≡ completed m air (length air)
   whole : completed m air (length air) ≤ times m page air
   under_way : page ≤ so_far m air → so_far m air < m.pages → completed m air (length air) + 1 ≤ times m page air
 
-counted_next : (messages : List Message) (m : Message) (page : ℕ) (air : Air) (used : Option (ℕ × ℕ))
+counted_next : (messages : List ScheduledMessage) (m : ScheduledMessage) (page : ℕ) (air : Air) (used : Option (ℕ × ℕ))
     → AllPairs (λ a b. a.entry < b.entry) messages → Contains messages m → 0 < m.pages → 0 < m.period → 1 ≤ page
     → page ≤ m.pages → IsAirOf messages (air ++ used ∷ []) → AreCounted m page air
     → AreCounted m page (air ++ used ∷ [])
@@ -222,7 +223,7 @@ counted_next messages m page air used rising here pages period some few rule bef
           ]
     ]
 
-counted_front : (messages : List Message) (m : Message) (page : ℕ) (air : Air) (n : ℕ)
+counted_front : (messages : List ScheduledMessage) (m : ScheduledMessage) (page : ℕ) (air : Air) (n : ℕ)
     → AllPairs (λ a b. a.entry < b.entry) messages → Contains messages m → 0 < m.pages → 0 < m.period → 1 ≤ page
     → page ≤ m.pages → IsAirOf messages air → n ≤ length air → AreCounted m page (take n air)
 counted_front messages m page air zero rising here pages period some few rule within =
@@ -244,7 +245,7 @@ counted_front messages m page air (suc n) rising here pages period some few rule
     some few (subst Rule grown front) before)
 
 -- what is whole before a slot is so by the slots before it
-is_whole-front : (m : Message) (air : Air) (slot j : ℕ) → slot ≤ length air
+is_whole-front : (m : ScheduledMessage) (air : Air) (slot j : ℕ) → slot ≤ length air
     → is_whole m (take slot air) slot j ≡ is_whole m air slot j
 is_whole-front m air slot j within =
     let long = length-take-le slot air within in
@@ -253,21 +254,21 @@ is_whole-front m air slot j within =
     let front = pages_aired-append m.entry (take slot air) (drop slot air) (release m j) to (omega (arith, long)) in
     ap (λ n. has_broadcast m j && (is_before_stop (release m j) m.stop && leb m.pages n)) (sym front ∙ whole)
 
-completed-front : (m : Message) (air : Air) (slot : ℕ) → slot ≤ length air
+completed-front : (m : ScheduledMessage) (air : Air) (slot : ℕ) → slot ≤ length air
     → completed m (take slot air) (length (take slot air)) ≡ completed m air slot
 completed-front m air slot within =
     ap (λ n. completed m (take slot air) n) (length-take-le slot air within)
     ∙ count_below_same (is_whole m (take slot air) slot) (is_whole m air slot) (slot + 1)
     (λ j h. is_whole-front m air slot j within)
 
-pub last_page_counts : (messages : List Message) (air : Air) (m : Message) (slot : ℕ)
+pub last_page_counts : (messages : List ScheduledMessage) (air : Air) (m : ScheduledMessage) (slot : ℕ)
     → AllPairs (λ a b. a.entry < b.entry) messages → Contains messages m → 0 < m.pages → 0 < m.period
     → IsAirOf messages air → slot ≤ length air → times_aired m.entry m.pages air slot ≡ completed m air slot
 last_page_counts messages air m slot rising here pages period rule within =
     (counted_front messages m m.pages air slot rising here pages period pages (omega arith) rule within).last
     ∙ completed-front m air slot within
 
-pub no_page_less : (messages : List Message) (air : Air) (m : Message) (page slot : ℕ)
+pub no_page_less : (messages : List ScheduledMessage) (air : Air) (m : ScheduledMessage) (page slot : ℕ)
     → AllPairs (λ a b. a.entry < b.entry) messages → Contains messages m → 1 ≤ page → page ≤ m.pages → 0 < m.period
     → IsAirOf messages air → slot ≤ length air → completed m air slot ≤ times_aired m.entry page air slot
 no_page_less messages air m page slot rising here some few period rule within =

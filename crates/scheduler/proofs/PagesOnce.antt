@@ -5,7 +5,7 @@ use Rattle.std.specs.List.{AllPairs, Contains, between}
 use Rattle.std.proofs.lemmas.Bool.{cases_lt, cases_eq, cases_Bool, eq-eqb, ne_eqb}
 use Rattle.std.proofs.lemmas.List.Edits.{between_more}
 use Rattle.std.proofs.lemmas.List.Sums.{sum_by_push}
-use Rattle.scheduler.specs.Message.{Message, release, due}
+use Rattle.scheduler.specs.Message.{ScheduledMessage, release, due}
 use Rattle.scheduler.specs.Air.{Air, airs, pages_aired, IsAirOf}
 use Rattle.scheduler.specs.Completed.{IsWhole}
 use Rattle.scheduler.specs.Pages.{airs_page, times_between}
@@ -30,7 +30,7 @@ record IsOnce (times aired page : ℕ) : Type 0 where
   there : page ≤ aired → times ≡ 1
   not_yet : aired < page → times ≡ 0
 
-each_once : (messages : List Message) (air : Air) (m : Message) (j page to : ℕ)
+each_once : (messages : List ScheduledMessage) (air : Air) (m : ScheduledMessage) (j page to : ℕ)
     → AllPairs (λ a b. a.entry < b.entry) messages → Contains messages m → IsAirOf messages air → 1 ≤ page
     → to ≤ length air → to ≤ due m j → IsOnce (times_between m.entry page air (release m j) to)
     (pages_aired m.entry air (release m j) to) page
@@ -94,14 +94,14 @@ each_once messages air m j page (suc to) rising here rule some within by_due =
           ]
     ]
 
-pub pages_come_once : (messages : List Message) (air : Air) (m : Message) (j page to : ℕ)
+pub pages_come_once : (messages : List ScheduledMessage) (air : Air) (m : ScheduledMessage) (j page to : ℕ)
     → AllPairs (λ a b. a.entry < b.entry) messages → Contains messages m → IsAirOf messages air → to ≤ length air
     → to ≤ due m j → 1 ≤ page → page ≤ pages_aired m.entry air (release m j) to
     → times_between m.entry page air (release m j) to ≡ 1
 pages_come_once messages air m j page to rising here rule within by_due some aired =
     (each_once messages air m j page to rising here rule some within by_due).there aired
 
-pub whole_is_each_page_once : (messages : List Message) (air : Air) (m : Message) (j page slot : ℕ)
+pub whole_is_each_page_once : (messages : List ScheduledMessage) (air : Air) (m : ScheduledMessage) (j page slot : ℕ)
     → AllPairs (λ a b. a.entry < b.entry) messages → Contains messages m → IsAirOf messages air → slot ≤ length air
     → IsWhole m j air slot → 1 ≤ page → page ≤ m.pages → times_between m.entry page air (release m j)
     (min (due m j) slot) ≡ 1

@@ -8,7 +8,7 @@ use Rattle.std.proofs.lemmas.List.Elements.{All-push, All-take, All-contains, Co
 use Rattle.std.proofs.lemmas.Bool.{false≢true}
 use Rattle.std.proofs.lemmas.Option.{none-some}
 use Rattle.scheduler.specs.declared.scheduled.Scheduled.{Scheduled}
-use Rattle.scheduler.specs.Message.{Message}
+use Rattle.scheduler.specs.Message.{ScheduledMessage}
 use Rattle.scheduler.specs.Air.{IsNoLater, IsServedBy, class}
 use Rattle.scheduler.specs.Follows.{message_of}
 use Rattle.scheduler.specs.PlanSteps.{IsFit, HasStarted, IsServedFirst, IsFirstOf, IsEarlier, is_ready}
@@ -27,7 +27,7 @@ found_completed scheduled i n d rising h named = λ k other within. λ e.
     ∙ get_or_default scheduled k d other within)
 
 -- to be served no later is transitive
-pub IsNoLater-trans : (a b c : Message) (i j k : ℕ) → IsNoLater a i b j → IsNoLater b j c k → IsNoLater a i c k
+pub IsNoLater-trans : (a b c : ScheduledMessage) (i j k : ℕ) → IsNoLater a i b j → IsNoLater b j c k → IsNoLater a i c k
 IsNoLater-trans a b c i j k h g =
     elim h [
       | inl sooner ↦ elim g [ inl again ↦ inl (omega arith) | inr tied ↦ inl (omega arith) ]
@@ -46,11 +46,12 @@ IsNoLater-trans a b c i j k h g =
     ]
 
 -- and holds of a broadcast and itself
-pub IsNoLater-same : (a : Message) (i : ℕ) → IsNoLater a i a i
+pub IsNoLater-same : (a : ScheduledMessage) (i : ℕ) → IsNoLater a i a i
 IsNoLater-same a i = inr (refl, inr (refl, omega arith))
 
 -- the same across layers
-pub IsServedBy-trans : (a b c : Message) (i j k : ℕ) → IsServedBy a i b j → IsServedBy b j c k → IsServedBy a i c k
+pub IsServedBy-trans : (a b c : ScheduledMessage) (i j k : ℕ) → IsServedBy a i b j → IsServedBy b j c k
+    → IsServedBy a i c k
 IsServedBy-trans a b c i j k h g =
     elim h [
       | inl above ↦ elim g [ inl more ↦ inl (omega arith) | inr same ↦ inl (omega (arith, same.0)) ]
@@ -60,7 +61,7 @@ IsServedBy-trans a b c i j k h g =
       ]
     ]
 
-pub IsServedBy-same : (a : Message) (i : ℕ) → IsServedBy a i a i
+pub IsServedBy-same : (a : ScheduledMessage) (i : ℕ) → IsServedBy a i a i
 IsServedBy-same a i = inr (refl, IsNoLater-same a i)
 
 -- one more that is not ready changes nothing

@@ -2,7 +2,7 @@
 use Rattle.std.specs.Prelude.{◌≡◌, ℕ, None, List, length, map, All}
 use Rattle.scheduler.specs.declared.plan.Item.{Item}
 use Rattle.scheduler.specs.declared.scheduled.Scheduled.{Scheduled}
-use Rattle.scheduler.specs.Message.{Message, release, broadcast_at}
+use Rattle.scheduler.specs.Message.{ScheduledMessage, release, broadcast_at}
 use Rattle.scheduler.specs.Air.{Air, pages_aired}
 use Rattle.scheduler.specs.Completed.{completed}
 
@@ -12,7 +12,7 @@ pub record PlanState : Type 0 where
   pub scheduled : List Scheduled
 
 -- the message that an item adds
-abbrev pub message_from : Item → Message
+abbrev pub message_from : Item → ScheduledMessage
 message_from item = record {
   entry = item.entry;
   start = item.start;
@@ -24,7 +24,7 @@ message_from item = record {
 }
 
 -- the message that is kept, with its stop
-abbrev pub message_of : Scheduled → Message
+abbrev pub message_of : Scheduled → ScheduledMessage
 message_of t = record (message_from t.item) { stop = t.stop }
 
 -- the slot that is asked next
@@ -32,7 +32,7 @@ abbrev pub next_slot : PlanState → ℕ
 next_slot plan = plan.slot
 
 -- the messages that were added, with their stops
-abbrev pub messages_of : PlanState → List Message
+abbrev pub messages_of : PlanState → List ScheduledMessage
 messages_of plan = map message_of plan.scheduled
 
 -- the counts of a message are those of the air list: the pages of the broadcast that is under way, and the broadcasts
@@ -44,7 +44,7 @@ pub record Counts (t : Scheduled) (air : Air) : Type 0 where
 
 -- the plan follows the messages and their air list: it was told of these messages, each slot of the list was asked, and
 -- its counts are those of the list
-pub record Follows (plan : PlanState) (messages : List Message) (air : Air) : Type 0 where
+pub record Follows (plan : PlanState) (messages : List ScheduledMessage) (air : Air) : Type 0 where
   pub told : messages_of plan ≡ messages
   pub asked : next_slot plan ≡ length air
   pub counted : All (λ t. Counts t air) plan.scheduled

@@ -3,7 +3,7 @@
 ghost use Rattle.std.specs.Prelude.{◌≡◌, ◌≢◌, ℕ, ◌+◌, ◌<◌, ◌≤◌, ◌==◌, true, MatchBool, List, [], ◌∷◌, ◌++◌, length};
 ghost use Rattle.std.specs.Prelude.{map, codes, Some, All, AllPairs, Any, OnOk, OnErr};
 ghost use Rattle.std.specs.Option.{ForSome};
-ghost use Rattle.scheduler.specs.Message.{Message, stopped_at};
+ghost use Rattle.scheduler.specs.Message.{ScheduledMessage, stopped_at};
 ghost use Rattle.scheduler.specs.Air.{Air, airs, layer_of, class_of, IsChosen};
 ghost use Rattle.scheduler.specs.Completed.{completed};
 ghost use Rattle.scheduler.specs.Follows.{Follows, next_slot, messages_of, message_of, message_from};
@@ -125,7 +125,7 @@ impl Plan {
         requires from_next { next_slot self.old ≤ item.start }
         requires some_pages { 0 < item.pages }
         requires some_period { 0 < item.period }
-        ensures follows { OnOk result ((messages : List Message) (air : Air)
+        ensures follows { OnOk result ((messages : List ScheduledMessage) (air : Air)
             → Follows self.old messages air
             → Follows self.new (messages ++ message_from item ∷ []) air) }
         ensures told { OnOk result (messages_of self.new ≡ messages_of self.old ++ message_from item ∷ []) }
@@ -143,10 +143,10 @@ impl Plan {
     pub fn next(&mut self, slot: u16) -> Option<(u16, u8)>
         requires at_next { slot ≡ next_slot self.old }
         requires within { slot < 65535 }
-        ensures chosen { (messages : List Message) (air : Air)
+        ensures chosen { (messages : List ScheduledMessage) (air : Air)
             → Follows self.old messages air
             → IsChosen messages air slot result }
-        ensures follows { (messages : List Message) (air : Air)
+        ensures follows { (messages : List ScheduledMessage) (air : Air)
             → Follows self.old messages air
             → Follows self.new messages (air ++ result ∷ []) }
         ensures told { messages_of self.new ≡ messages_of self.old }
@@ -163,10 +163,10 @@ impl Plan {
     pub fn stop(&mut self, entry: u16, slot: u16) -> u16
         requires standing { Any (λ m. (m.entry ≡ entry) × (m.stop ≡ None)) (messages_of self.old) }
         requires at_next { slot ≡ next_slot self.old }
-        ensures completed { (messages : List Message) (air : Air)
+        ensures completed { (messages : List ScheduledMessage) (air : Air)
             → Follows self.old messages air
             → All (λ m. m.entry ≡ entry → result ≡ completed m air slot) messages }
-        ensures follows { (messages : List Message) (air : Air)
+        ensures follows { (messages : List ScheduledMessage) (air : Air)
             → Follows self.old messages air
             → Follows self.new (stopped_at entry slot messages) air }
         ensures told { messages_of self.new ≡ stopped_at entry slot (messages_of self.old) }
@@ -180,7 +180,7 @@ impl Plan {
     /// How many broadcasts of the message of `entry` were aired whole in the slots that were asked. It was added.
     pub fn done(&self, entry: u16) -> u16
         requires { Any (λ m. m.entry ≡ entry) (messages_of self.now) }
-        ensures { (messages : List Message) (air : Air)
+        ensures { (messages : List ScheduledMessage) (air : Air)
             → Follows self.now messages air
             → All (λ m. m.entry ≡ entry → result ≡ completed m air (length air)) messages }
     {

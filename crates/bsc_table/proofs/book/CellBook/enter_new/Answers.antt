@@ -1,7 +1,7 @@
 use Rattle.std.proofs.Common.{◌≡◌, ◌<◌, None, List, [], ◌∷◌, ◌++◌, length, map, subst, sym, ap, ◌∙◌, arith}
 use Rattle.std.specs.List.{All}
 use Rattle.admission.specs.declared.budget.Held.{Held}
-use Rattle.scheduler.specs.Message.{Message}
+use Rattle.scheduler.specs.Message.{ScheduledMessage}
 use Rattle.scheduler.specs.Follows.{Follows, message_from}
 use Rattle.bsc_table.specs.declared.entry.Entry.{Entry}
 use Rattle.bsc_table.specs.declared.accepted.AcceptedMessage.{AcceptedMessage}
@@ -22,7 +22,7 @@ add-requires-clause-rising c =
     let start = subst Starts (sym c.self.view_is) c.requires.start in
     let may = start.begun in
     let below = planned_below c.self.inside.plan r.log r.air c.self.invariant.follows in
-    let entry = ap (λ (m : Message). m.entry) c.item.ensures in
+    let entry = ap (λ (m : ScheduledMessage). m.entry) c.item.ensures in
     λ k d h. omega (arith, below k d h, entry, may.numbered)
 
 pub reserve_for-requires-clause-soon : goal.reserve_for-requires-clause-soon
@@ -57,7 +57,7 @@ invariant_of-self-2 c =
     let r : Record = record_of c.self.inside in
     let e : Entry = c.args.entry in
     let new : Accepted = accepted_of c.args.new in
-    let before : List Message = messages_in r.log in
+    let before : List ScheduledMessage = messages_in r.log in
     let inside = sym c.self.view_is in
     let Next : Record → Type 0 = λ x. IsNext x e in
     let Starts : Record → Type 0 = λ x. IsStart x e new in
@@ -75,14 +75,14 @@ invariant_of-self-2 c =
     -- the plan
     let told = item_message new.message (message_from c.item.result) c.item.ensures may.standing in
     let messages = messages_with r.log e (accepted_in r.log) new adds in
-    let FollowsOne : Message → Type 0 = λ m. Follows c.add.new.self (before ++ m ∷ []) r.air in
+    let FollowsOne : ScheduledMessage → Type 0 = λ m. Follows c.add.new.self (before ++ m ∷ []) r.air in
     let follows = subst FollowsOne told (c.in_ok-add.ensures.follows before r.air book.follows) in
     -- the budget
     let claims = claims_with r.log e (accepted_in r.log) new adds in
     let lines = begun_lines (length r.log) r.clock None (accepted_in r.log) (claims_in r.log) new may
     c.self.inside.budget c.reserve_for.new.budget book.held (is_background c.args.new.category)
     (layer_tells c.args.new.category) c.reserve_for.ensures in
-    let FollowsAll : List Message → Type 0 = λ all. Follows c.add.new.self all r.air in
+    let FollowsAll : List ScheduledMessage → Type 0 = λ all. Follows c.add.new.self all r.air in
     let HeldFor : List Claim → Type 0 = λ all. c.reserve_for.new.budget ≡ lines_at r.clock all in
     book_with c.self.inside e c.push_reserved-2.new.self c.push_reserved.new.self c.add.new.self
     c.reserve_for.new.budget

@@ -5,7 +5,7 @@ use Rattle.std.specs.List.{All, Any}
 use Rattle.std.proofs.lemmas.List.Elements.{All-contains}
 use Rattle.admission.specs.declared.budget.Held.{Held}
 use Rattle.admission.specs.Waiting.{behind_of}
-use Rattle.scheduler.specs.Message.{Message, stopped_at}
+use Rattle.scheduler.specs.Message.{ScheduledMessage, stopped_at}
 use Rattle.scheduler.specs.Follows.{Follows, messages_of, message_from}
 use Rattle.bsc_table.specs.declared.entry.Entry.{Entry}
 use Rattle.bsc_table.specs.declared.accepted.AcceptedMessage.{AcceptedMessage}
@@ -29,7 +29,7 @@ add-requires-clause-rising c =
     let change = subst Replaces (sym c.self.view_is) c.requires.replacement in
     let may = change.begun in
     let below = planned_below c.self.inside.plan r.log r.air c.self.invariant.follows in
-    let entry = ap (λ (m : Message). m.entry) c.item.ensures in
+    let entry = ap (λ (m : ScheduledMessage). m.entry) c.item.ensures in
     λ k d h. omega (arith, below k d h, entry, may.numbered)
 
 pub stop-requires-2-clause-standing : goal.stop-requires-2-clause-standing
@@ -110,8 +110,8 @@ invariant_of-self-2 c =
     let new : Accepted = accepted_of c.args.new in
     let entry : ℕ = old.message.entry in
     let rest : List Accepted = map (stop_numbered entry r.clock) (accepted_in r.log) in
-    let before : List Message = messages_in r.log in
-    let after : List Message = stopped_at entry r.clock before in
+    let before : List ScheduledMessage = messages_in r.log in
+    let after : List ScheduledMessage = stopped_at entry r.clock before in
     let inside = sym c.self.view_is in
     let Next : Record → Type 0 = λ x. IsNext x e in
     let Replaces : Record → Type 0 = λ x. IsReplacement x e old new in
@@ -132,10 +132,10 @@ invariant_of-self-2 c =
     -- the plan
     let told = item_message new.message (message_from c.item.result) c.item.ensures may.standing in
     let messages = messages_with r.log e rest new change.after
-    ∙ ap (λ (l : List Message). l ++ new.message ∷ []) same in
-    let FollowsOne : Message → Type 0 = λ m. Follows c.add.new.self (before ++ m ∷ []) r.air in
+    ∙ ap (λ (l : List ScheduledMessage). l ++ new.message ∷ []) same in
+    let FollowsOne : ScheduledMessage → Type 0 = λ m. Follows c.add.new.self (before ++ m ∷ []) r.air in
     let added = subst FollowsOne told (c.in_ok-add.ensures.follows before r.air book.follows) in
-    let FollowsThese : List Message → Type 0 = λ all. Follows c.stop-2.new.self all r.air in
+    let FollowsThese : List ScheduledMessage → Type 0 = λ all. Follows c.stop-2.new.self all r.air in
     let below = number_below r.log old change.stops.there in
     let apart = stopped_beside entry r.clock before new.message (λ equal. omega (arith, below, may.numbered, equal)) in
     let follows = subst FollowsThese apart (c.stop-2.ensures.follows (before ++ new.message ∷ []) r.air added) in

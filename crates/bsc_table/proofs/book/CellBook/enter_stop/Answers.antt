@@ -4,7 +4,7 @@ use Rattle.std.specs.List.{All, Any}
 use Rattle.std.proofs.lemmas.List.Elements.{All-contains}
 use Rattle.admission.specs.declared.budget.Held.{Held}
 use Rattle.admission.specs.Waiting.{behind_of}
-use Rattle.scheduler.specs.Message.{Message}
+use Rattle.scheduler.specs.Message.{ScheduledMessage}
 use Rattle.scheduler.specs.Follows.{Follows}
 use Rattle.bsc_table.specs.declared.entry.Entry.{Entry}
 use Rattle.bsc_table.specs.Record.{Record, Accepted, accepted_in, messages_in, is_background}
@@ -73,7 +73,7 @@ invariant_of-self-2 c =
     let follows = c.stop-2.ensures.follows (messages_in r.log) r.air book.follows in
     let lines = released_lines r old c.self.inside.budget c.release.new.budget book.legal stop.stops book.held
     (is_background c.args.old.now.category) (layer_tells c.args.old.now.category) c.release.ensures in
-    let FollowsAll : List Message → Type 0 = λ all. Follows c.stop-2.new.self all r.air in
+    let FollowsAll : List ScheduledMessage → Type 0 = λ all. Follows c.stop-2.new.self all r.air in
     let claims = claims_without r.log e entry r.clock stop.after in
     let HeldFor : List Claim → Type 0 = λ all. c.release.new.budget ≡ lines_at r.clock all in
     book_with c.self.inside e c.push_reserved.new.self (with_items c.self.inside.accepted c.stop.new.table)
