@@ -1,4 +1,4 @@
--- The bounds on the completed number: what counts as whole had begun, and what was over is whole.
+-- The bounds on the completed number: what counts as completed had begun, and what was over is completed.
 use Rattle.std.proofs.Common.{◌≡◌, ℕ, zero, suc, ◌+◌, ◌-◌, ◌*◌, ◌/◌, ◌%◌, ◌≤◌, ◌<◌, ◌⊎◌, min, Bool, true, cond, get_or}
 use Rattle.std.proofs.Common.{count_by, Option, Some, None, inl, inr, sym, ap, ◌∙◌, arith}
 use Rattle.std.specs.Int.{div_ceil}
@@ -7,14 +7,14 @@ use Rattle.std.proofs.lemmas.Bool.{cases_lt, cases_eq, cases_Bool, false≢true,
 use Rattle.std.proofs.Math.Nat.{le-mul_of_pos_right, mul-le-mul_right, lt_of_mul-lt-mul_right, div-mul-le_self}
 use Rattle.admission.proofs.Loads.{div_ceil-enough}
 use Rattle.scheduler.specs.Message.{release, due, IsBeforeStop}
-use Rattle.scheduler.specs.Completed.{is_whole}
-use Rattle.scheduler.proofs.Completed.{one_if, is_whole-unreleased}
-use Rattle.scheduler.proofs.Rule.{is_whole-says, is_whole-from}
+use Rattle.scheduler.specs.Completed.{is_completed}
+use Rattle.scheduler.proofs.Completed.{one_if, is_completed-unreleased}
+use Rattle.scheduler.proofs.Rule.{is_completed-says, is_completed-from}
 use Rattle.bsc_table.specs.Guarantee.{IsUpToStop}
 use Rattle.bsc_table.specs.Bounds.{sooner_of, stands_until, cut_at, least_completed, most_completed, CompletedIsAtMost}
 use Rattle.bsc_table.specs.Bounds.{CompletedIsAtLeast, BoundsAreNear}
 use Rattle.scheduler.proofs.Lists.{count_below_more}
-use Rattle.bsc_table.proofs.Served.{admitted_broadcasts_are_whole}
+use Rattle.bsc_table.proofs.Served.{admitted_broadcasts_are_completed}
 
 -- of the numbers below n no more than n pass a test
 count_below-le : (p : ℕ → Bool) (n : ℕ) → count_by p (range_with_len 0 n) ≤ n
@@ -105,11 +105,11 @@ was_over start period j slot some over =
 
 pub completed_is_at_most : CompletedIsAtMost
 completed_is_at_most m air slot pages period =
-    count_below-at_most (is_whole m air slot) (most_completed m slot) (slot + 1) (λ j whole.
-    let fact = is_whole-says m air slot j whole in
+    count_below-at_most (is_completed m air slot) (most_completed m slot) (slot + 1) (λ j whole.
+    let fact = is_completed-says m air slot j whole in
     let released : release m j < slot = elim (cases_lt (release m j) slot) [
       | inl before ↦ before
-      | inr later ↦ absurd (false≢true (sym (is_whole-unreleased m air slot j pages later) ∙ whole))
+      | inr later ↦ absurd (false≢true (sym (is_completed-unreleased m air slot j pages later) ∙ whole))
     ] in
     let stood = before_sooner (release m j) slot m.stop released fact.released in
     cut_at-below m.broadcasts (div_ceil (stands_until m slot - m.start) m.period) j
@@ -127,8 +127,9 @@ completed_is_at_least messages air slot admitted rule played = λ k d within.
       | inl more ↦ absurd (omega (arith, (uncut (slot + 1) more).0, le-mul_of_pos_right (slot + 1 + 1) period))
       | inr few ↦ few
     ] in
-    count_below-at_least (is_whole m air slot) (least_completed m slot) (slot + 1) few (λ j h.
-    is_whole-from m air slot j (admitted_broadcasts_are_whole messages air slot admitted rule k d within j (record {
+    count_below-at_least (is_completed m air slot) (least_completed m slot) (slot + 1) few (λ j h.
+    is_completed-from m air slot j (admitted_broadcasts_are_completed messages air slot admitted rule k d within j
+    (record {
       requested = (over j h).1;
       standing = (uncut j h).1;
       aired_by = omega (arith, (uncut j h).0);

@@ -84,7 +84,7 @@ b_starts = refl
 c_has_no_room : answer begun 0 c ≡ answers.Cause 0x06
 c_has_no_room = refl
 
--- B is killed at slot 3, after one of its pages: no broadcast of it is whole, and its load stays up to slot 4
+-- B is killed at slot 3, after one of its pages: no broadcast of it is completed, and its load stays up to slot 4
 b_is_stopped : answer begun 3 (kill 2) ≡ answers.Stopped 0
 b_is_stopped = refl
 
@@ -329,7 +329,8 @@ filled_is_reached =
       ),
     )
 
--- after five of the slots the half has the least number of whole broadcasts that it may have, and the third the most
+-- after five of the slots the half has the least number of completed broadcasts that it may have, and the third the
+-- most
 abbrev half : ScheduledMessage
 half = record { entry = 2; start = 0; pages = 1; period = 2; broadcasts = 0; stop = None; rank = ranks.Normal }
 
@@ -373,7 +374,7 @@ half_is_bounded slot by =
     let bounds = legal_histories_are_bounded (run filled 6) filled_is_legal 2 half (omega arith) slot by in
     (bounds.0 refl, bounds.1)
 
--- the history with a kill and refusals is legal too, so that C, which had to wait for room, is whole by slot 8
+-- the history with a kill and refusals is legal too, so that C, which had to wait for room, is completed by slot 8
 whole_answered : (i : ℕ) (d : Entry) → i < length whole → IsAnswered 8 (take i whole) (aired whole 8) (get_or whole i d)
 whole_answered zero d within = refl
 whole_answered (suc zero) d within = refl

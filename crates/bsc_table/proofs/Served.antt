@@ -11,7 +11,7 @@ use Rattle.scheduler.specs.Message.{ScheduledMessage, release, due}
 use Rattle.scheduler.specs.Air.{Air, airs, pages_aired, IsPending}
 use Rattle.scheduler.proofs.Rule.{pages_aired-at_most}
 use Rattle.bsc_table.specs.Guarantee.{LoadsFit, IsUncut, AirsOneWithin, AdmittedLoadIsAGuarantee}
-use Rattle.bsc_table.specs.Guarantee.{AdmittedBroadcastsAreWhole}
+use Rattle.bsc_table.specs.Guarantee.{AdmittedBroadcastsAreCompleted}
 use Rattle.bsc_table.proofs.Sums.{total, total-at_least, sum_by-plus, exchange, sum_by-le_more}
 use Rattle.bsc_table.proofs.Broadcasts.{uses, pages_before, before_stop-up_to}
 use Rattle.bsc_table.proofs.Inside.{IsServed, AiredInside, aired_inside, aired_short}
@@ -123,8 +123,8 @@ admitted_load_is_a_guarantee messages air admitted rule = λ k d within. λ j un
           absurd (no_lack messages air k d j busy.0 within served admitted.fit busy.1 uncut busy.2 lacks)
     ]
 
-pub admitted_broadcasts_are_whole : AdmittedBroadcastsAreWhole
-admitted_broadcasts_are_whole messages air slot admitted rule = λ k d within. λ j uncut by.
+pub admitted_broadcasts_are_completed : AdmittedBroadcastsAreCompleted
+admitted_broadcasts_are_completed messages air slot admitted rule = λ k d within. λ j uncut by.
     let m = get_or messages k d in
     let all = admitted_load_is_a_guarantee messages air admitted rule k d within j uncut in
     let ahead : release m j < due m j = omega (arith, admitted.periods k d within) in

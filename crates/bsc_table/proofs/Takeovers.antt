@@ -194,7 +194,7 @@ no_place_for_a_65th = refl
 in_place_of_the_waiting : answer many_and_waiting 1 (standing_for 101 102 1 2) ≡ answers.Replaced 2 0
 in_place_of_the_waiting = refl
 
--- the first of these histories is legal, so that K, which had to wait, is whole in its first period
+-- the first of these histories is legal, so that K, which had to wait, is completed in its first period
 passed_answered : (i : ℕ) (d : Entry) → i < length passed → IsAnswered 8 (take i passed) (aired passed 8)
     (get_or passed i d)
 passed_answered zero d within = refl

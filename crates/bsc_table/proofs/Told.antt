@@ -13,9 +13,9 @@ use Rattle.std.proofs.lemmas.Option.{none-some, same_Some}
 use Rattle.admission.specs.Load.{load_of}
 use Rattle.scheduler.specs.Message.{ScheduledMessage, release, due, has_broadcast, is_before_stop}
 use Rattle.scheduler.specs.Air.{Air, layer, pages_aired}
-use Rattle.scheduler.specs.Completed.{completed, is_whole}
+use Rattle.scheduler.specs.Completed.{completed, is_completed}
 use Rattle.scheduler.proofs.Air.{pages_aired-append}
-use Rattle.scheduler.proofs.Completed.{is_whole-unreleased}
+use Rattle.scheduler.proofs.Completed.{is_completed-unreleased}
 use Rattle.bsc_table.specs.declared.command.Category.{Category}
 use Rattle.bsc_table.specs.declared.command.Command.{Command}
 use Rattle.bsc_table.specs.declared.command.Command.TheVariants as commands
@@ -227,10 +227,10 @@ continued_by r legal k (suc more) d a within upto here =
     subst (λ n. Goes (take n r.log)) next (subst Goes (sym grown)
     (continued_after (take (k + more) r.log) e slot a before.0 after before.1 before.2))
 
--- what is aired from a slot on changes nothing of what is whole before it
-is_whole-before : (m : ScheduledMessage) (air : Air) (slot j : ℕ) → slot ≤ length air
-    → is_whole m (take slot air) slot j ≡ is_whole m air slot j
-is_whole-before m air slot j within =
+-- what is aired from a slot on changes nothing of what is completed before it
+is_completed-before : (m : ScheduledMessage) (air : Air) (slot j : ℕ) → slot ≤ length air
+    → is_completed m (take slot air) slot j ≡ is_completed m air slot j
+is_completed-before m air slot j within =
     let front = take slot air in
     let long : length front ≡ slot = length-take-le slot air within in
     let to : ℕ = min (due m j) slot in
@@ -245,28 +245,28 @@ before_later_stop slot at (Some stop) later before h = ap (is_before_stop at) h
 before_later_stop slot at None None before h = refl
 before_later_stop slot at None (Some later) before h = lt-ltb at later (omega arith)
 
-is_whole-stopped_later : (m : ScheduledMessage) (later : Option ℕ) (air : Air) (slot j : ℕ) → 0 < m.pages
-    → IsLaterStop slot m.stop later → is_whole (record m { stop = later }) air slot j ≡ is_whole m air slot j
-is_whole-stopped_later m later air slot j pages h =
+is_completed-stopped_later : (m : ScheduledMessage) (later : Option ℕ) (air : Air) (slot j : ℕ) → 0 < m.pages
+    → IsLaterStop slot m.stop later → is_completed (record m { stop = later }) air slot j ≡ is_completed m air slot j
+is_completed-stopped_later m later air slot j pages h =
     elim (cases_lt (release m j) slot) [
       | inl before ↦
           let aired = leb m.pages (pages_aired m.entry air (release m j) (min (due m j) slot)) in
           ap (λ (b : Bool). has_broadcast m j && (b && aired))
           (before_later_stop slot (release m j) m.stop later before h)
-      | inr after ↦ is_whole-unreleased (record m { stop = later }) air slot j pages after
-          ∙ sym (is_whole-unreleased m air slot j pages after)
+      | inr after ↦ is_completed-unreleased (record m { stop = later }) air slot j pages after
+          ∙ sym (is_completed-unreleased m air slot j pages after)
     ]
 
--- so the number of whole broadcasts before a slot stays
+-- so the number of completed broadcasts before a slot stays
 completed-continued : (a b : Accepted) (air : Air) (slot : ℕ) → slot ≤ length air → 0 < a.message.pages
     → IsContinued slot a b → completed a.message (take slot air) slot ≡ completed b.message air slot
 completed-continued a b air slot within pages on =
     let m = a.message in
     let stopped : ScheduledMessage = record m { stop = b.message.stop } in
-    let before = count_below_same (is_whole m (take slot air) slot) (is_whole m air slot) (slot + 1)
-    (λ j below. is_whole-before m air slot j within) in
-    let later = count_below_same (is_whole stopped air slot) (is_whole m air slot) (slot + 1)
-    (λ j below. is_whole-stopped_later m b.message.stop air slot j pages on.later) in
+    let before = count_below_same (is_completed m (take slot air) slot) (is_completed m air slot) (slot + 1)
+    (λ j below. is_completed-before m air slot j within) in
+    let later = count_below_same (is_completed stopped air slot) (is_completed m air slot) (slot + 1)
+    (λ j below. is_completed-stopped_later m b.message.stop air slot j pages on.later) in
     before ∙ sym later ∙ ap (λ (x : Accepted). completed x.message air slot) (sym on.same)
 
 -- a message that became another has its pages

@@ -96,7 +96,7 @@ by_the_rules_sum = refl
 by_the_rules_fit : LoadsFit by_the_rules
 by_the_rules_fit = fit_together by_the_rules (omega (arith, by_the_rules_sum))
 
--- so A's broadcast, due at slot 4, is aired whole
+-- so A's broadcast, due at slot 4, is completed
 a_is_whole : pages_aired 0 (air_of by_the_rules 4) 0 4 ≡ 2
 a_is_whole =
     admitted_load_is_a_guarantee by_the_rules (air_of by_the_rules 4)
@@ -293,7 +293,7 @@ replaced_have_periods =
     All-cons Has r (q ∷ p ∷ n ∷ []) (omega arith) (All-cons Has q (p ∷ n ∷ []) (omega arith)
     (All-cons Has p (n ∷ []) (omega arith) (All-cons Has n [] (omega arith) (none_of Has))))
 
--- so the new one's first broadcast is whole by slot 6
+-- so the new one's first broadcast is completed by slot 6
 replacement_is_whole : pages_aired 3 (air_of replaced 6) 3 6 ≡ 1
 replacement_is_whole =
     admitted_load_is_a_guarantee replaced (air_of replaced 6)
@@ -311,7 +311,7 @@ replaced_late_over : loads_at (map reservation_of (r ∷ message 1 0 1 3 (Some 4
     Normal ∷ [])) 4 ≡ 310390080
 replaced_late_over = refl
 
--- two broadcasts, in the slots 0 to 2 and 3 to 5: by slot 10 both are whole, and by slot 4 the first is
+-- two broadcasts, in the slots 0 to 2 and 3 to 5: by slot 10 both are completed, and by slot 4 the first is
 abbrev twice : ScheduledMessage
 twice = record (message 0 0 1 3 None Normal) { broadcasts = 2 }
 
@@ -327,7 +327,7 @@ twice_least_within = refl
 twice_most_within : most_completed twice 4 ≡ 2
 twice_most_within = refl
 
--- a broadcast that a stop cuts may be whole or not, as its pages and the others have it
+-- a broadcast that a stop cuts may be completed or not, as its pages and the others have it
 abbrev cut : ℕ → ScheduledMessage
 cut pages = message 0 0 pages 4 (Some 3) Normal
 

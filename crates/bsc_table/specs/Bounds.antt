@@ -1,4 +1,4 @@
--- How many broadcasts of a message are whole before a slot, at least and at most, by the message alone (own).
+-- How many broadcasts of a message are completed before a slot, at least and at most, by the message alone (own).
 use Rattle.std.specs.Prelude.{ℕ, ◌+◌, ◌-◌, ◌/◌, ◌<◌, ◌≤◌, ◌==◌, min, if◌then◌else◌, Option, Some, None, List, length}
 use Rattle.std.specs.Prelude.{All}
 use Rattle.std.specs.Int.{div_ceil}
@@ -30,14 +30,14 @@ least_completed m slot = cut_at m.broadcasts ((stands_until m slot - m.start) / 
 abbrev pub most_completed : ScheduledMessage → ℕ → ℕ
 most_completed m slot = cut_at m.broadcasts (div_ceil (stands_until m slot - m.start) m.period)
 
--- whatever is aired, no more broadcasts are whole than had begun
+-- whatever is aired, no more broadcasts are completed than had begun
 abbrev pub CompletedIsAtMost : Type 0
 CompletedIsAtMost = (m : ScheduledMessage) (air : Air) (slot : ℕ)
     → 0 < m.pages
     → 0 < m.period
     → completed m air slot ≤ most_completed m slot
 
--- where the reserved loads fit at each slot, and the air list is by the rule, all that were over are whole
+-- where the reserved loads fit at each slot, and the air list is by the rule, all that were over are completed
 abbrev pub CompletedIsAtLeast : Type 0
 CompletedIsAtLeast = (messages : List ScheduledMessage) (air : Air) (slot : ℕ)
     → AreAdmitted messages

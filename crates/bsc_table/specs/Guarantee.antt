@@ -10,7 +10,7 @@ use Rattle.scheduler.specs.Message.{is_before_stop}
 use Rattle.scheduler.specs.Air.{Air, layer, pages_aired, IsPending, next_page, IsAirOf}
 use Rattle.scheduler.specs.AirLaws.{NumbersRise}
 use Rattle.scheduler.specs.Background.{foreground}
-use Rattle.scheduler.specs.Completed.{IsWhole}
+use Rattle.scheduler.specs.Completed.{IsCompleted}
 
 -- what a message has reserved: its load, from its start up to the end that its period, its requested broadcasts and its
 -- stop give
@@ -101,12 +101,12 @@ AdmittedLoadIsAGuarantee = (messages : List ScheduledMessage) (air : Air)
     → IsAirOf messages air
     → All (λ m. (j : ℕ) → IsUncut m j air → pages_aired m.entry air (release m j) (due m j) ≡ m.pages) messages
 
--- in other words, each uncut broadcast is whole before each slot from its due slot on
-abbrev pub AdmittedBroadcastsAreWhole : Type 0
-AdmittedBroadcastsAreWhole = (messages : List ScheduledMessage) (air : Air) (slot : ℕ)
+-- in other words, each uncut broadcast is completed before each slot from its due slot on
+abbrev pub AdmittedBroadcastsAreCompleted : Type 0
+AdmittedBroadcastsAreCompleted = (messages : List ScheduledMessage) (air : Air) (slot : ℕ)
     → AreAdmitted messages
     → IsAirOf messages air
-    → All (λ m. (j : ℕ) → IsUncut m j air → due m j ≤ slot → IsWhole m j air slot) messages
+    → All (λ m. (j : ℕ) → IsUncut m j air → due m j ≤ slot → IsCompleted m j air slot) messages
 
 -- among background messages, which reserve nothing: where those that aren't background are admitted, each uncut
 -- broadcast of these has all its pages aired between its release and its due slot

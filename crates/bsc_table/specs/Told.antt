@@ -1,5 +1,5 @@
--- The numbers of whole broadcasts that a cell tells (own): each is that of the message that was asked about, in the end
--- too.
+-- The numbers of completed broadcasts that a cell tells (own): each is that of the message that was asked about, in the
+-- end too.
 use Rattle.std.specs.Prelude.{◌≡◌, ℕ, ◌≤◌, Option, Some, None, All, Any}
 use Rattle.scheduler.specs.Air.{Air, layer}
 use Rattle.scheduler.specs.Completed.{completed}
@@ -12,7 +12,7 @@ use Rattle.bsc_table.specs.Bounds.{least_completed, most_completed}
 use Rattle.bsc_table.specs.Record.{Record, Accepted, accepted_in}
 use Rattle.bsc_table.specs.Legal.{IsLegal}
 
--- how many broadcasts an answer tells to be whole, if it tells that
+-- how many broadcasts an answer tells to be completed, if it tells that
 abbrev pub completed_told : Answer → Option ℕ
 completed_told (answers.Replaced slot completed) = Some completed
 completed_told (answers.Stopped completed) = Some completed
@@ -26,8 +26,8 @@ IsAbout id serial (commands.Write of_id new replaces category period broadcasts 
 IsAbout id serial (commands.Kill of_id of_serial) = (of_id ≡ id) × (of_serial ≡ serial)
 IsAbout id serial (commands.Status of_id of_serial) = (of_id ≡ id) × (of_serial ≡ serial)
 
--- the number that an entry tells is that of the message's broadcasts that are whole before its slot, and lies between
--- its bounds; of a background message it may be less
+-- the number that an entry tells is that of the message's broadcasts that are completed before its slot, and lies
+-- between its bounds; of a background message it may be less
 pub record IsTrulyTold (air : Air) (e : Entry) (told : ℕ) (a : Accepted) : Type 0 where
   pub about : IsAbout a.id a.serial e.command
   pub exact : told ≡ completed a.message air e.slot

@@ -150,7 +150,7 @@ impl CellBook {
         self.air.as_slice()
     }
 
-    /// How many broadcasts of a message were whole before the clock's slot, and how it stands there. None where the
+    /// How many broadcasts of a message were completed before the clock's slot, and how it stands there. None where the
     /// message was never accepted. No memory is taken, and there is no entry.
     pub fn status(&self, id: u16, serial: Serial) -> Option<(u16, State)>
         ensures { MatchOption result
@@ -339,7 +339,7 @@ impl CellBook {
         accepted::named(self.accepted.as_slice(), id, serial)
     }
 
-    /// How many broadcasts of a message were whole before the clock's slot.
+    /// How many broadcasts of a message were completed before the clock's slot.
     fn completed(&self, message: &AcceptedMessage) -> u16
         requires { Contains (accepted_in self.now.log) (accepted_of message.now) }
         ensures { result ≡ completed (accepted_of message.now).message self.now.air self.now.clock }

@@ -15,7 +15,7 @@ pub enum Decision {
     Stops {
         /// The message.
         old: AcceptedMessage,
-        /// How many of its broadcasts are whole.
+        /// How many of its broadcasts are completed.
         completed: u16,
     },
     /// A message starts.
@@ -29,7 +29,7 @@ pub enum Decision {
         old: AcceptedMessage,
         /// The one that starts.
         new: AcceptedMessage,
-        /// How many broadcasts of the live one are whole.
+        /// How many broadcasts of the live one are completed.
         completed: u16,
     },
 }

@@ -1,6 +1,6 @@
 //! What a cell is asked, what it answers, and what it promises of its messages: `orders_of` reads the commands out of a
 //! message of the warning centre; specs/ say what the answer to each command is, over the entries of the cell's log and
-//! what it aired; and whatever was admitted is aired whole in each of its periods, a law over messages, reservations
+//! what it aired; and whatever was admitted is completed in each of its periods, a law over messages, reservations
 //! and an air list alone.
 #![tactic(auto)]
 

@@ -1,7 +1,7 @@
 -- What the crates below promise, as clauses of their public laws: all that the proofs here know of them.
 use Rattle.std.specs.Prelude.{◌≡◌, ◌<◌, false}
 use Rattle.scheduler.specs.AirLaws.{OneAirList, NumbersOnlyOrder, SomeChoice, GrowsByTheChoice, PagesComeInOrder}
-use Rattle.scheduler.specs.AirLaws.{LastPagesAreWholeBroadcasts, NoPageLessOften}
+use Rattle.scheduler.specs.AirLaws.{LastPagesAreCompletedBroadcasts, NoPageLessOften}
 use Rattle.handset.specs.Showing.{ShownAreTheComplete, OnePageShowsOne}
 use Rattle.handset.specs.OneMessage.{CompleteIsWhole, WholeIsTheLeastCount, TextIsTheMessages}
 use Rattle.handset.specs.Tape.{MadeAreTapes}
@@ -12,7 +12,7 @@ use Rattle.bsc_table.specs.Promised.{LegalPairsComeOnce, LegalHistoriesAreBounde
 use Rattle.bsc_table.specs.Told.{LegalAnswersAreTrue}
 
 pub record Laws : Type 0 where
-  pub last_page_counts : LastPagesAreWholeBroadcasts
+  pub last_page_counts : LastPagesAreCompletedBroadcasts
   pub no_page_less : NoPageLessOften
   pub in_order : PagesComeInOrder
   pub one_air : OneAirList

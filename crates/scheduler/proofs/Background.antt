@@ -17,7 +17,7 @@ use Rattle.scheduler.specs.Air.{next_page}
 use Rattle.scheduler.specs.Background.{is_background, foreground, has_background, blank_use, blanked}
 use Rattle.scheduler.specs.BackgroundLaws.{BackgroundCountsAsIdle, BackgroundChangesNothing, BlankingKeepsPages}
 use Rattle.scheduler.specs.BackgroundLaws.{BlankingKeepsCompleted}
-use Rattle.scheduler.specs.Completed.{is_whole}
+use Rattle.scheduler.specs.Completed.{is_completed}
 use Rattle.scheduler.proofs.Completed.{one_if}
 use Rattle.scheduler.proofs.Lists.{rising-same, count_below_same}
 use Rattle.scheduler.proofs.OneAir.{IsAirOf-only}
@@ -141,7 +141,7 @@ blanking_keeps_pages messages air m from to rising here other =
 
 pub blanking_keeps_completed : BlankingKeepsCompleted
 blanking_keeps_completed messages air m slot rising here other =
-    count_below_same (is_whole m (blanked messages air) slot) (is_whole m air slot) (slot + 1) (λ j h.
+    count_below_same (is_completed m (blanked messages air) slot) (is_completed m air slot) (slot + 1) (λ j h.
     ap (λ n. has_broadcast m j && (is_before_stop (release m j) m.stop && leb m.pages n))
     (blanking_keeps_pages messages air m (release m j) (min (due m j) slot) rising here other))
 

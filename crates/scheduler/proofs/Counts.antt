@@ -7,14 +7,14 @@ use Rattle.scheduler.specs.declared.plan.Item.{Item}
 use Rattle.scheduler.specs.declared.scheduled.Scheduled.{Scheduled}
 use Rattle.scheduler.specs.Message.{release, has_broadcast, is_before_stop}
 use Rattle.scheduler.specs.Air.{Air, airs, pages_aired}
-use Rattle.scheduler.specs.Completed.{completed, is_whole}
+use Rattle.scheduler.specs.Completed.{completed, is_completed}
 use Rattle.scheduler.specs.Message.{broadcast_at}
 use Rattle.scheduler.specs.Follows.{message_of, message_from, Counts}
 use Rattle.scheduler.specs.PlanSteps.{IsFit, is_ready, after_slot, scheduled_stopped}
 use Rattle.scheduler.proofs.Air.{pages_aired-none, pages_aired-push, broadcast_at-released, next_release}
 use Rattle.scheduler.proofs.Air.{same_broadcast}
 use Rattle.scheduler.proofs.Lists.{count_below_none}
-use Rattle.scheduler.proofs.Completed.{is_whole-unreleased, completed-push, completed-stopped, one_if, one_if-le}
+use Rattle.scheduler.proofs.Completed.{is_completed-unreleased, completed-push, completed-stopped, one_if, one_if-le}
 
 -- the pages of the broadcast under way, after the slot
 aired_after : (t : Scheduled) (air : Air) (used : Option (ℕ × ℕ)) → IsFit t (length air) → Counts t air
@@ -65,14 +65,14 @@ is_ready-started t slot ready =
     (has_broadcast (message_of t) (broadcast_at (message_of t) slot) &&
     (is_before_stop slot t.stop && ltb t.pages_aired t.item.pages)) ready).0
 
--- before a message's start none of its broadcasts is whole
+-- before a message's start none of its broadcasts is completed
 none_whole : (t : Scheduled) (air : Air) (slot : ℕ) → 0 < t.item.pages → slot ≤ t.item.start
     → completed (message_of t) air slot ≡ 0
 none_whole t air slot pages early =
-    count_below_none (is_whole (message_of t) air slot) (slot + 1)
-    (λ j h. is_whole-unreleased (message_of t) air slot j pages (omega arith))
+    count_below_none (is_completed (message_of t) air slot) (slot + 1)
+    (λ j h. is_completed-unreleased (message_of t) air slot j pages (omega arith))
 
--- the whole broadcasts, after the slot
+-- the completed broadcasts, after the slot
 completed_after : (t : Scheduled) (air : Air) (used : Option (ℕ × ℕ)) → IsFit t (length air) → Counts t air
     → (airs t.item.entry used ≡ true → is_ready t (length air) ≡ true)
     → (after_slot (length air) used t).completed ≡ completed (message_of t) (air ++ used ∷ []) (length air + 1)
@@ -122,8 +122,8 @@ Counts-new item air pages period started =
     let m = message_from item in
     record {
       aired = sym (pages_aired-none m.entry air (release m (broadcast_at m (length air))) (length air) (omega arith));
-      completed = sym (count_below_none (is_whole m air (length air)) (length air + 1)
-          (λ j h. is_whole-unreleased m air (length air) j pages (omega arith)));
+      completed = sym (count_below_none (is_completed m air (length air)) (length air + 1)
+          (λ j h. is_completed-unreleased m air (length air) j pages (omega arith)));
     }
 
 -- what is kept of a message stays true where it, or another, is stopped

@@ -1,4 +1,4 @@
--- By the rule, the last page of a message is aired as often as a broadcast is whole, and no page of it less often.
+-- By the rule, the last page of a message is aired as often as a broadcast is completed, and no page of it less often.
 use Rattle.std.proofs.Common.{◌≡◌, ℕ, zero, suc, ◌+◌, ◌-◌, ◌%◌, ◌≤◌, ◌<◌, ◌⊎◌, Bool, true, false, ◌&&◌, cond, leb, eqb}
 use Rattle.std.proofs.Common.{min, List, [], ◌∷◌, ◌++◌, length, take, drop, get_or, count_by, Option, Some, None, inl}
 use Rattle.std.proofs.Common.{inr, refl, sym, ap, subst, ◌∙◌, arith}
@@ -9,13 +9,13 @@ use Rattle.std.proofs.lemmas.List.{get_or_push, length_push, length-take-le, tak
 use Rattle.std.proofs.lemmas.List.Sums.{sum_by_push}
 use Rattle.scheduler.specs.Message.{ScheduledMessage, release, due, has_broadcast, is_before_stop, broadcast_at}
 use Rattle.scheduler.specs.Air.{Air, airs, pages_aired, IsAirOf}
-use Rattle.scheduler.specs.Completed.{completed, is_whole}
+use Rattle.scheduler.specs.Completed.{completed, is_completed}
 use Rattle.scheduler.specs.Pages.{airs_page, times_aired}
 use Rattle.scheduler.proofs.Air.{pages_aired-none, pages_aired-append, pages_aired-push, broadcast_at-only}
 use Rattle.scheduler.proofs.Air.{broadcast_at-released, next_release, same_broadcast}
 use Rattle.scheduler.proofs.Lists.{count_below_none, count_below_same}
 use Rattle.scheduler.proofs.Message.{has_broadcast-from, is_before_stop-from}
-use Rattle.scheduler.proofs.Completed.{is_whole-unreleased, completed-push, so_far}
+use Rattle.scheduler.proofs.Completed.{is_completed-unreleased, completed-push, so_far}
 use Rattle.scheduler.proofs.Rule.{aired_is_pending, IsPending-unappend}
 use Rattle.scheduler.proofs.OneAir.{IsAirOf-front}
 
@@ -79,11 +79,12 @@ pub page_of_other : (n page : ℕ) (used : Option (ℕ × ℕ)) → airs n used 
 page_of_other n page None other = refl
 page_of_other n page (Some used) other = ap (λ (b : Bool). one_where (b && eqb used.1 page)) other
 
--- before the start nothing is whole, and nothing is aired
+-- before the start nothing is completed, and nothing is aired
 completed_early : (m : ScheduledMessage) (air : Air) (slot : ℕ) → 0 < m.pages → slot ≤ m.start
     → completed m air slot ≡ 0
 completed_early m air slot pages early =
-    count_below_none (is_whole m air slot) (slot + 1) (λ j h. is_whole-unreleased m air slot j pages (omega arith))
+    count_below_none (is_completed m air slot) (slot + 1) (λ j h. is_completed-unreleased m air slot j pages
+    (omega arith))
 
 so_far_early : (m : ScheduledMessage) (air : Air) → length air ≤ m.start → so_far m air ≡ 0
 so_far_early m air early =
@@ -244,10 +245,10 @@ counted_front messages m page air (suc n) rising here pages period some few rule
     subst Counted (sym grown) (counted_next messages m page (take n air) (get_or air n None) rising here pages period
     some few (subst Rule grown front) before)
 
--- what is whole before a slot is so by the slots before it
-is_whole-front : (m : ScheduledMessage) (air : Air) (slot j : ℕ) → slot ≤ length air
-    → is_whole m (take slot air) slot j ≡ is_whole m air slot j
-is_whole-front m air slot j within =
+-- what is completed before a slot is so by the slots before it
+is_completed-front : (m : ScheduledMessage) (air : Air) (slot j : ℕ) → slot ≤ length air
+    → is_completed m (take slot air) slot j ≡ is_completed m air slot j
+is_completed-front m air slot j within =
     let long = length-take-le slot air within in
     let to = min (due m j) slot in
     let whole = ap (λ a. pages_aired m.entry a (release m j) to) (take-append-drop slot air) in
@@ -258,8 +259,8 @@ completed-front : (m : ScheduledMessage) (air : Air) (slot : ℕ) → slot ≤ l
     → completed m (take slot air) (length (take slot air)) ≡ completed m air slot
 completed-front m air slot within =
     ap (λ n. completed m (take slot air) n) (length-take-le slot air within)
-    ∙ count_below_same (is_whole m (take slot air) slot) (is_whole m air slot) (slot + 1)
-    (λ j h. is_whole-front m air slot j within)
+    ∙ count_below_same (is_completed m (take slot air) slot) (is_completed m air slot) (slot + 1)
+    (λ j h. is_completed-front m air slot j within)
 
 pub last_page_counts : (messages : List ScheduledMessage) (air : Air) (m : ScheduledMessage) (slot : ℕ)
     → AllPairs (λ a b. a.entry < b.entry) messages → Contains messages m → 0 < m.pages → 0 < m.period

@@ -7,7 +7,7 @@ use Rattle.std.proofs.lemmas.List.Edits.{between_more}
 use Rattle.std.proofs.lemmas.List.Sums.{sum_by_push}
 use Rattle.scheduler.specs.Message.{ScheduledMessage, release, due}
 use Rattle.scheduler.specs.Air.{Air, airs, pages_aired, IsAirOf}
-use Rattle.scheduler.specs.Completed.{IsWhole}
+use Rattle.scheduler.specs.Completed.{IsCompleted}
 use Rattle.scheduler.specs.Pages.{airs_page, times_between}
 use Rattle.scheduler.proofs.Air.{pages_aired-none, broadcast_at-only}
 use Rattle.scheduler.proofs.Rule.{aired_is_pending, pages_aired-more}
@@ -101,10 +101,11 @@ pub pages_come_once : (messages : List ScheduledMessage) (air : Air) (m : Schedu
 pages_come_once messages air m j page to rising here rule within by_due some aired =
     (each_once messages air m j page to rising here rule some within by_due).there aired
 
-pub whole_is_each_page_once : (messages : List ScheduledMessage) (air : Air) (m : ScheduledMessage) (j page slot : ℕ)
+pub completed_is_each_page_once : (messages : List ScheduledMessage) (air : Air) (m : ScheduledMessage)
+    (j page slot : ℕ)
     → AllPairs (λ a b. a.entry < b.entry) messages → Contains messages m → IsAirOf messages air → slot ≤ length air
-    → IsWhole m j air slot → 1 ≤ page → page ≤ m.pages → times_between m.entry page air (release m j)
+    → IsCompleted m j air slot → 1 ≤ page → page ≤ m.pages → times_between m.entry page air (release m j)
     (min (due m j) slot) ≡ 1
-whole_is_each_page_once messages air m j page slot rising here rule within whole some few =
+completed_is_each_page_once messages air m j page slot rising here rule within whole some few =
     pages_come_once messages air m j page (min (due m j) slot) rising here rule (omega arith) (omega arith) some
     (omega (arith, few, whole.aired))

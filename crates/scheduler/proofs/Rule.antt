@@ -9,11 +9,11 @@ use Rattle.std.proofs.lemmas.Bool.{false≢true}
 use Rattle.std.proofs.lemmas.List.Edits.{between_more}
 use Rattle.std.proofs.lemmas.List.Sums.{sum_by_push}
 use Rattle.std.proofs.Math.Nat.{le-mul_of_pos_right}
-use Rattle.scheduler.proofs.Completed.{one_if, is_whole-unreleased}
+use Rattle.scheduler.proofs.Completed.{one_if, is_completed-unreleased}
 use Rattle.scheduler.specs.Message.{ScheduledMessage, release, due, IsBeforeStop, stopped_if, stopped_at}
 use Rattle.scheduler.specs.Air.{Air, airs, pages_aired, IsPending, IsChosen, IsAirOf, IsNoLater, IsServedBy, layer}
 use Rattle.scheduler.specs.Air.{class, next_page}
-use Rattle.scheduler.specs.Completed.{IsWhole, is_whole}
+use Rattle.scheduler.specs.Completed.{IsCompleted, is_completed}
 use Rattle.scheduler.proofs.Air.{pages_aired-none, pages_aired-append, broadcast_at-only}
 use Rattle.scheduler.proofs.Message.{has_broadcast-says, has_broadcast-from, is_before_stop-says, is_before_stop-from}
 use Rattle.scheduler.proofs.Lists.{rising-same}
@@ -322,10 +322,10 @@ pages_aired-at_most messages air m j (suc to) rising here rule within by_due =
           ]
     ]
 
--- the test of a whole broadcast says what the fact says
-pub is_whole-says : (m : ScheduledMessage) (air : Air) (slot j : ℕ) → is_whole m air slot j ≡ true
-    → IsWhole m j air slot
-is_whole-says m air slot j h =
+-- the test of a completed broadcast says what the fact says
+pub is_completed-says : (m : ScheduledMessage) (air : Air) (slot j : ℕ) → is_completed m air slot j ≡ true
+    → IsCompleted m j air slot
+is_completed-says m air slot j h =
     let first = and_parts _ _ h in
     let second = and_parts _ _ first.1 in
     record {
@@ -334,19 +334,20 @@ is_whole-says m air slot j h =
       aired = leb-true _ _ second.1;
     }
 
-pub is_whole-from : (m : ScheduledMessage) (air : Air) (slot j : ℕ) → IsWhole m j air slot
-    → is_whole m air slot j ≡ true
-is_whole-from m air slot j w =
+pub is_completed-from : (m : ScheduledMessage) (air : Air) (slot j : ℕ) → IsCompleted m j air slot
+    → is_completed m air slot j ≡ true
+is_completed-from m air slot j w =
     and_from _ _ (has_broadcast-from m j w.requested) (and_from _ _
     (is_before_stop-from (release m j) m.stop w.released) (le-leb _ _ w.aired))
 
--- a broadcast that is whole before a slot was released before it, so its number is no greater than the slot's
-pub IsWhole-below : (m : ScheduledMessage) (air : Air) (slot j : ℕ) → 0 < m.pages → 0 < m.period → IsWhole m j air slot
+-- a broadcast that is completed before a slot was released before it, so its number is no greater than the slot's
+pub IsCompleted-below : (m : ScheduledMessage) (air : Air) (slot j : ℕ) → 0 < m.pages → 0 < m.period
+    → IsCompleted m j air slot
     → j < slot + 1
-IsWhole-below m air slot j pages period w =
+IsCompleted-below m air slot j pages period w =
     let grows = le-mul_of_pos_right j period in
     elim (cases_lt (release m j) slot) [
       | inl released ↦ omega arith
-      | inr later ↦ absurd (false≢true (sym (is_whole-unreleased m air slot j pages later)
-          ∙ is_whole-from m air slot j w))
+      | inr later ↦ absurd (false≢true (sym (is_completed-unreleased m air slot j pages later)
+          ∙ is_completed-from m air slot j w))
     ]

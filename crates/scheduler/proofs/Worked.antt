@@ -70,7 +70,7 @@ beside_normal_completed : map (λ m. completed m (air_of beside_normal 8) 8) bes
 beside_normal_completed = refl
 
 -- a page in every slot, up to its stop at slot 3, and two pages of background in every fourth: the first broadcast of
--- these isn't whole at its due slot, and dropped
+-- these isn't completed at its due slot, and dropped
 abbrev after_full : List ScheduledMessage
 after_full = record (message 0 1 1 0 Normal) { stop = Some 3 } ∷ message 1 2 4 0 Background ∷ []
 

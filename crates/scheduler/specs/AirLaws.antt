@@ -3,7 +3,7 @@ use Rattle.std.specs.Prelude.{◌≡◌, ℕ, ◌+◌, ◌<◌, ◌≤◌, min, 
 use Rattle.std.specs.Prelude.{length, map, All, AllPairs, Contains}
 use Rattle.scheduler.specs.Message.{ScheduledMessage, release, due, stopped_at}
 use Rattle.scheduler.specs.Air.{Air, airs, pages_aired, next_page, IsPending, IsChosen, IsAirOf}
-use Rattle.scheduler.specs.Completed.{IsWhole, completed}
+use Rattle.scheduler.specs.Completed.{IsCompleted, completed}
 use Rattle.scheduler.specs.Pages.{times_aired, times_between}
 use Rattle.scheduler.specs.Choice.{choice}
 use Rattle.scheduler.specs.Renumbered.{KeepsOrder, renumbered, use_renumbered}
@@ -103,21 +103,21 @@ PagesComeOnce = (messages : List ScheduledMessage) (air : Air) (message : Schedu
     → page ≤ pages_aired message.entry air (release message j) slot
     → times_between message.entry page air (release message j) slot ≡ 1
 
--- so a broadcast that is whole has each page of its message aired once, from its release up to its due slot
-abbrev pub WholeIsEachPageOnce : Type 0
-WholeIsEachPageOnce = (messages : List ScheduledMessage) (air : Air) (message : ScheduledMessage) (j page slot : ℕ)
+-- so a broadcast that is completed has each page of its message aired once, from its release up to its due slot
+abbrev pub CompletedIsEachPageOnce : Type 0
+CompletedIsEachPageOnce = (messages : List ScheduledMessage) (air : Air) (message : ScheduledMessage) (j page slot : ℕ)
     → NumbersRise messages
     → Contains messages message
     → IsAirOf messages air
     → slot ≤ length air
-    → IsWhole message j air slot
+    → IsCompleted message j air slot
     → 1 ≤ page
     → page ≤ message.pages
     → times_between message.entry page air (release message j) (min (due message j) slot) ≡ 1
 
--- the last page of a message is aired as often as a broadcast of it is whole
-abbrev pub LastPagesAreWholeBroadcasts : Type 0
-LastPagesAreWholeBroadcasts = (messages : List ScheduledMessage) (air : Air) (message : ScheduledMessage) (slot : ℕ)
+-- the last page of a message is aired as often as a broadcast of it is completed
+abbrev pub LastPagesAreCompletedBroadcasts : Type 0
+LastPagesAreCompletedBroadcasts = (messages : List ScheduledMessage) (air : Air) (message : ScheduledMessage) (slot : ℕ)
     → NumbersRise messages
     → Contains messages message
     → 0 < message.pages
@@ -138,10 +138,10 @@ NoPageLessOften = (messages : List ScheduledMessage) (air : Air) (message : Sche
     → slot ≤ length air
     → completed message air slot ≤ times_aired message.entry page air slot
 
--- the completed number leaves out no whole broadcast
+-- the completed number leaves out no completed broadcast
 abbrev pub AllAreCounted : Type 0
 AllAreCounted = (message : ScheduledMessage) (air : Air) (slot j : ℕ)
     → 0 < message.pages
     → 0 < message.period
-    → IsWhole message j air slot
+    → IsCompleted message j air slot
     → j < slot + 1

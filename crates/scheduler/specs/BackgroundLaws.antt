@@ -30,7 +30,7 @@ BlankingKeepsPages = (messages : List ScheduledMessage) (air : Air) (message : S
     → layer message ≡ 0
     → pages_aired message.entry (blanked messages air) from to ≡ pages_aired message.entry air from to
 
--- and the same whole broadcasts
+-- and the same completed broadcasts
 abbrev pub BlankingKeepsCompleted : Type 0
 BlankingKeepsCompleted = (messages : List ScheduledMessage) (air : Air) (message : ScheduledMessage) (slot : ℕ)
     → NumbersRise messages

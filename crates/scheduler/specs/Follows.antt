@@ -36,7 +36,7 @@ abbrev pub messages_of : PlanState → List ScheduledMessage
 messages_of plan = map message_of plan.scheduled
 
 -- the counts of a message are those of the air list: the pages of the broadcast that is under way, and the broadcasts
--- that are whole
+-- that are completed
 pub record Counts (t : Scheduled) (air : Air) : Type 0 where
   pub aired : t.pages_aired ≡ pages_aired t.item.entry air (release (message_of t)
       (broadcast_at (message_of t) (length air))) (length air)

@@ -19,7 +19,7 @@ pub record ScheduledMessage : Type 0 where
 abbrev pub release : ScheduledMessage → ℕ → ℕ
 release m j = m.start + j * m.period
 
--- the slot before which broadcast j is to be whole: the release of the next one
+-- the slot before which broadcast j is to be completed: the release of the next one
 abbrev pub due : ScheduledMessage → ℕ → ℕ
 due m j = m.start + (j + 1) * m.period
 

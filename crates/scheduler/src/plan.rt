@@ -86,7 +86,7 @@ impl std::error::Error for Refused {}
 /// `next(1)` is `None` and `done(0)` is 1.
 ///
 /// `Follows plan messages air` says, in a contract, that a plan stands for these messages and their air list so far.
-/// What is not whole at its due slot is dropped, also where more is asked of the cell than it has slots for.
+/// What is not completed at its due slot is dropped, also where more is asked of the cell than it has slots for.
 #[derive(Drop)]
 pub struct Plan {
     slot: u16,
@@ -158,8 +158,8 @@ impl Plan {
         used
     }
 
-    /// Stops the message of `entry` before `slot`, which is asked next, and tells how many of its broadcasts were aired
-    /// whole. It was added, and not stopped before.
+    /// Stops the message of `entry` before `slot`, which is asked next, and reports how many of its broadcasts were
+    /// completed. It was added, and not stopped before.
     pub fn stop(&mut self, entry: u16, slot: u16) -> u16
         requires standing { Any (λ m. (m.entry ≡ entry) × (m.stop ≡ None)) (messages_of self.old) }
         requires at_next { slot ≡ next_slot self.old }
@@ -177,7 +177,7 @@ impl Plan {
         completed
     }
 
-    /// How many broadcasts of the message of `entry` were aired whole in the slots that were asked. It was added.
+    /// How many broadcasts of the message of `entry` were completed in the slots that were asked. It was added.
     pub fn done(&self, entry: u16) -> u16
         requires { Any (λ m. m.entry ≡ entry) (messages_of self.now) }
         ensures { (messages : List ScheduledMessage) (air : Air)
@@ -311,7 +311,7 @@ fn stop_at(scheduled: &mut [Scheduled], entry: u16, slot: u16)
     }
 }
 
-/// How many broadcasts of the message of `entry` are kept as whole.
+/// How many broadcasts of the message of `entry` are kept as completed.
 fn completed_of(scheduled: &[Scheduled], entry: u16) -> u16
     requires { AllPairs (λ a b. a.item.entry < b.item.entry) scheduled.now }
     ensures { All (λ t. t.item.entry ≡ entry → result ≡ t.completed) scheduled.now }

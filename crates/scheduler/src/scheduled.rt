@@ -18,7 +18,7 @@ pub struct Scheduled {
     pub stop: Option<u16>,
     /// How many pages of the broadcast that is under way were aired.
     pub pages_aired: u8,
-    /// How many broadcasts were aired whole.
+    /// How many broadcasts were completed.
     pub completed: u16,
 }
 
@@ -101,7 +101,7 @@ impl Scheduled {
             Some((entry, _)) => entry == self.item.entry,
         };
         let pages = self.pages_aired + u8::from(is_used);
-        let is_whole = is_used && pages == self.item.pages;
+        let is_completed = is_used && pages == self.item.pages;
         let passed = (u32::from(slot) + 1).saturating_sub(self.item.start);
         Scheduled {
             pages_aired: if passed % u32::from(self.item.period) == 0 {
@@ -109,7 +109,7 @@ impl Scheduled {
             } else {
                 pages
             },
-            completed: self.completed + u16::from(is_whole),
+            completed: self.completed + u16::from(is_completed),
             ..self
         }
     }
