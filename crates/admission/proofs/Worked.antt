@@ -52,16 +52,16 @@ not_begun = refl
 -- a quarter of the slots that ends at slot 4, a half, and a half that waits behind the quarter: until then it holds a
 -- quarter
 abbrev quarter : Held
-quarter = record { entry = 0; load = 58198140; until = Some 4; waits = None }
+quarter = record { entry = 0; load = 58198140; end = Some 4; waits = None }
 
 abbrev half : Held
-half = record { entry = 1; load = 116396280; until = None; waits = None }
+half = record { entry = 1; load = 116396280; end = None; waits = None }
 
 abbrev waiting : Held
 waiting = record {
   entry = 2;
   load = 116396280;
-  until = None;
+  end = None;
   waits = Some
       (record { behind = 0; start = 4; excess = 58198140 });
 }
@@ -79,5 +79,5 @@ full_from_its_start : sum_by (held_at 4) (quarter ∷ half ∷ waiting ∷ []) �
 full_from_its_start = refl
 
 passed_its_start : passed 4 (quarter ∷ half ∷ waiting ∷ []) ≡ half ∷ record
-    { entry = 2; load = 116396280; until = None; waits = None } ∷ []
+    { entry = 2; load = 116396280; end = None; waits = None } ∷ []
 passed_its_start = refl

@@ -55,7 +55,7 @@ StopCovers = (start period periods stop : ℕ)
     → start + periods * period < stop
     → start + (periods + 1) * period ≤ end_of_stopped start period stop
 
--- at no slot do the lines of a budget hold more than now
+-- at no slot do the reservations of a budget hold more than now
 abbrev pub NoSlotOverNow : Type 0
 NoSlotOverNow = (table : List Held) (slot : ℕ) → IsAdmitted table → sum_by (held_at slot) table ≤ sum_by held_now table
 

@@ -34,7 +34,7 @@ pub fn reservation_laws()
     // Each period that begins before the stop lies inside the reservation.
     ensures stop_covers { StopCovers }
 
-    // At no slot do the lines of a budget hold more than now, nor more than `SCALE`.
+    // At no slot do the reservations of a budget hold more than now, nor more than `SCALE`.
     ensures no_slot_over_now { NoSlotOverNow }
     ensures no_slot_over_scale { NoSlotOverScale }
 

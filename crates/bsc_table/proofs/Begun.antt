@@ -11,14 +11,14 @@ use Rattle.bsc_table.specs.Claim.{Claim, own_load, is_claimed_at, claimed_at, st
 use Rattle.bsc_table.specs.Handover.{ahead_of, handover}
 use Rattle.bsc_table.specs.Room.{AreInOrder}
 use Rattle.bsc_table.specs.Begun.{StartsNow, TakesOver, Starts, IsBegun}
-use Rattle.bsc_table.specs.Book.{stop_numbered, lines_at, IsHeldFor, HasRoomFor}
+use Rattle.bsc_table.specs.Book.{stop_numbered, reservations_at, IsHeldFor, HasRoomFor}
 use Rattle.bsc_table.proofs.Ahead.{taken}
 use Rattle.bsc_table.proofs.Outcome.{claims_stopped}
 use Rattle.bsc_table.proofs.Named.{BelowIt}
 use Rattle.bsc_table.proofs.Ranks.{its_claim}
 use Rattle.bsc_table.proofs.Sound.{stops_live}
 use Rattle.bsc_table.proofs.Stopped.{in_order-stop}
-use Rattle.bsc_table.proofs.Lines.{lined, same_room}
+use Rattle.bsc_table.proofs.Lines.{all_behind_one, same_room}
 use Rattle.bsc_table.proofs.Handed.{handed_in}
 
 over_is_later : (slot : ℕ) (old : Accepted) (before : List Accepted) (a : Accepted)
@@ -43,7 +43,7 @@ has_room : (slot load : ℕ) (claims : List Claim)
     → AreInOrder claims slot
     → length (filter (is_claimed_at slot) claims) < 64
     → claimed_at claims slot + load ≤ SCALE
-    → answer_for (lines_at slot claims) load ≡ Ok tt
+    → answer_for (reservations_at slot claims) load ≡ Ok tt
 has_room slot load claims order room fits =
     let places = length (filter (is_claimed_at slot) claims) in
     let yes : answer_by places (claimed_at claims slot) load ≡ Ok tt = rw (
@@ -51,16 +51,16 @@ has_room slot load claims order room fits =
       le-leb (claimed_at claims slot + load) SCALE
           fits,
     ) refl in
-    same_room slot load claims (lined slot claims order) ∙ yes
+    same_room slot load claims (all_behind_one slot claims order) ∙ yes
 
 room_now : (slot : ℕ) (before : List Accepted) (a : Accepted)
     → AreInOrder (claims_of before) slot
     → layer a.message ≡ 0
     → length (filter (is_claimed_at slot) (claims_of before)) < 64
     → StartsNow slot before a
-    → HasRoomFor slot (lines_at slot (claims_of before)) (claim_of a) a.behind
+    → HasRoomFor slot (reservations_at slot (claims_of before)) (claim_of a) a.behind
 room_now slot before a order front room now =
-    subst (HasRoomFor slot (lines_at slot (claims_of before)) (claim_of a)) (sym now.behind)
+    subst (HasRoomFor slot (reservations_at slot (claims_of before)) (claim_of a)) (sym now.behind)
     (omega (arith, now.start), has_room slot (own_load a.message) (claims_of before) order room (now.fits front))
 
 -- a message in the place of none has room
@@ -68,7 +68,7 @@ pub room_for_new : (entry slot : ℕ) (before : List Accepted) (a : Accepted)
     → AreInOrder (claims_of before) slot
     → IsBegun entry slot None before a
     → layer a.message ≡ 0
-    → HasRoomFor slot (lines_at slot (claims_of before)) (claim_of a) a.behind
+    → HasRoomFor slot (reservations_at slot (claims_of before)) (claim_of a) a.behind
 room_for_new entry slot before a order begun front = room_now slot before a order front (begun.room front) begun.starts
 
 -- and so has one in the place of a live one
@@ -79,7 +79,7 @@ pub room_for_replacement : (entry slot : ℕ) (all : List Accepted) (old a : Acc
     → is_live slot old.message ≡ true
     → IsBegun entry slot (Some old) (map (stop_numbered old.message.entry slot) all) a
     → layer a.message ≡ 0
-    → HasRoomFor slot (lines_at slot (stop_claims old.message.entry slot (claims_of all))) (claim_of a) a.behind
+    → HasRoomFor slot (reservations_at slot (stop_claims old.message.entry slot (claims_of all))) (claim_of a) a.behind
 room_for_replacement entry slot all old a order rising here live begun front =
     let of_old = old.message.entry in
     let claims = claims_of all in
@@ -89,7 +89,7 @@ room_for_replacement entry slot all old a order rising here live begun front =
     let kept = in_order-stop claims of_old slot order (stops_live all slot old rising here live) in
     let InOrder : List Claim → Type 0 = λ l. AreInOrder l slot in
     let Room : List Claim → Type 0 = λ l. length (filter (is_claimed_at slot) l) < 64 in
-    let For : List Claim → Type 0 = λ l. HasRoomFor slot (lines_at slot l) (claim_of a) a.behind in
+    let For : List Claim → Type 0 = λ l. HasRoomFor slot (reservations_at slot l) (claim_of a) a.behind in
     elim begun.starts [
       | inl now ↦ subst For same (room_now slot before a (subst InOrder (sym same) kept) front (begun.room front) now)
       | inr over ↦
@@ -101,12 +101,13 @@ room_for_replacement entry slot all old a order rising here live begun front =
           (subst Over same over.over) in
           let fits = has_room slot place.excess left kept (subst Room same (begun.room front))
           (subst Fits same over.fits) in
-          let Started : ℕ → Type 0 = λ start. (slot < start) × (answer_for (lines_at slot left) place.excess ≡ Ok tt)
-          × IsHeldFor (lines_at slot left) (own_load a.message) place.behind start place.excess in
+          let Started : ℕ → Type 0 = λ start. (slot < start) ×
+          (answer_for (reservations_at slot left) place.excess ≡ Ok tt)
+          × IsHeldFor (reservations_at slot left) (own_load a.message) place.behind start place.excess in
           let Reserved : ℕ → Type 0 = λ excess. (slot < a.message.start)
-          × (answer_for (lines_at slot left) excess ≡ Ok tt)
-          × IsHeldFor (lines_at slot left) (own_load a.message) place.behind a.message.start excess in
+          × (answer_for (reservations_at slot left) excess ≡ Ok tt)
+          × IsHeldFor (reservations_at slot left) (own_load a.message) place.behind a.message.start excess in
           let with_start = subst Started (sym over.placed.start) (held.0, fits, held.1) in
-          subst (HasRoomFor slot (lines_at slot left) (claim_of a)) (sym over.placed.behind)
+          subst (HasRoomFor slot (reservations_at slot left) (claim_of a)) (sym over.placed.behind)
           (subst Reserved (sym over.placed.excess) with_start)
     ]

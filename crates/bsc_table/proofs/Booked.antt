@@ -24,11 +24,11 @@ use Rattle.bsc_table.specs.Record.{Record, Accepted, accepted_in, messages_in, i
 use Rattle.bsc_table.specs.Claim.{Claim, is_claimed_at, claimed_at}
 use Rattle.bsc_table.specs.Answer.{answer_at}
 use Rattle.bsc_table.specs.Legal.{IsLegal}
-use Rattle.bsc_table.specs.Book.{IsLiveIn, lines_at, by_room, HasRoom, IsRoom, left_by}
+use Rattle.bsc_table.specs.Book.{IsLiveIn, reservations_at, by_room, HasRoom, IsRoom, left_by}
 use Rattle.bsc_table.proofs.Named.{All-find}
 use Rattle.bsc_table.proofs.Entered.{Contains-message}
-use Rattle.bsc_table.proofs.Entering.{lines_without, left_in_order}
-use Rattle.bsc_table.proofs.Lines.{lined, same_room, lines_are_current, room_without}
+use Rattle.bsc_table.proofs.Entering.{reservations_without, left_in_order}
+use Rattle.bsc_table.proofs.Lines.{all_behind_one, same_room, reservations_are_current, room_without}
 use Rattle.bsc_table.proofs.Sound.{HasLoad, IsSound-legal}
 
 -- so a plan that follows them was told of it
@@ -129,10 +129,10 @@ few_places claims slot load room is full =
 -- whether a load has room beside the accepted messages
 pub room_now : (r : Record) (load : ℕ)
     → IsLegal r
-    → IsRoom (claims_in r.log) r.clock load (answer_for (lines_at r.clock (claims_in r.log)) load)
+    → IsRoom (claims_in r.log) r.clock load (answer_for (reservations_at r.clock (claims_in r.log)) load)
 room_now r load legal =
-    room_beside r.clock load (claims_in r.log) (answer_for (lines_at r.clock (claims_in r.log)) load)
-    (same_room r.clock load (claims_in r.log) (lined r.clock (claims_in r.log) (IsSound-legal r legal).order))
+    room_beside r.clock load (claims_in r.log) (answer_for (reservations_at r.clock (claims_in r.log)) load)
+    (same_room r.clock load (claims_in r.log) (all_behind_one r.clock (claims_in r.log) (IsSound-legal r legal).order))
 
 -- and where a live one of them is stopped: the budget is asked as if that one were gone, where its reservation ends now
 pub room_after_stop : (r : Record) (load : ℕ) (a : Accepted)
@@ -140,17 +140,17 @@ pub room_after_stop : (r : Record) (load : ℕ) (a : Accepted)
     → IsLiveIn r a
     → IsRoom (left_by r a) r.clock load (answer_for (remaining_without
     (cond (end_of_stopped a.message.start a.message.period r.clock == r.clock) (Some a.message.entry) None)
-    (lines_at r.clock (claims_in r.log))) load)
+    (reservations_at r.clock (claims_in r.log))) load)
 room_after_stop r load a legal live =
     let sound = IsSound-legal r legal in
     let slot : ℕ = r.clock in
     let entry : ℕ = a.message.entry in
     let end : ℕ = end_of_stopped a.message.start a.message.period slot in
-    let lines : List Held = lines_at slot (claims_in r.log) in
+    let reservations : List Held = reservations_at slot (claims_in r.log) in
     let left : List Claim = left_by r a in
     let lasts = (All-contains HasLoad (accepted_in r.log) a sound.loaded live.there).1 in
     let later = end_of_stopped-not_before a.message.start a.message.period slot lasts in
-    let asked = room_without slot entry end load lines later (lines_are_current slot (claims_in r.log))
-    ∙ ap (λ (l : List Held). answer_for l load) (lines_without r a legal live) in
-    room_beside slot load left (answer_for (remaining_without (cond (end == slot) (Some entry) None) lines) load)
-    (asked ∙ same_room slot load left (lined slot left (left_in_order r a legal live)))
+    let asked = room_without slot entry end load reservations later (reservations_are_current slot (claims_in r.log))
+    ∙ ap (λ (l : List Held). answer_for l load) (reservations_without r a legal live) in
+    room_beside slot load left (answer_for (remaining_without (cond (end == slot) (Some entry) None) reservations) load)
+    (asked ∙ same_room slot load left (all_behind_one slot left (left_in_order r a legal live)))

@@ -26,14 +26,14 @@ use Rattle.bsc_table.specs.Room.{AreInOrder}
 use Rattle.bsc_table.specs.Begun.{IsBegun}
 use Rattle.bsc_table.specs.Book.{accepted_of, air_told, record_of, accepted_stopped, stop_numbered, IsLiveIn, IsNext}
 use Rattle.bsc_table.specs.Steps.{with_entry}
-use Rattle.bsc_table.specs.Book.{IsBook, line_of, lines_at, left_by}
+use Rattle.bsc_table.specs.Book.{IsBook, reservation_for, reservations_at, left_by}
 use Rattle.bsc_table.proofs.Named.{live_is_standing}
 use Rattle.bsc_table.proofs.Numbers.{numbers_below}
 use Rattle.bsc_table.proofs.Outcome.{entry_with, messages_stopped, claims_stopped}
 use Rattle.bsc_table.proofs.Entered.{IsLegal-entry, Contains-message}
 use Rattle.bsc_table.proofs.Ranks.{all_claims, its_claim, same_claim, same_claims, claims_more}
-use Rattle.bsc_table.proofs.Lines.{live_is_claimed, new_is_claimed, lines_at-new, lines_at-stopped}
-use Rattle.bsc_table.proofs.Handed.{its_line, none_behind_live}
+use Rattle.bsc_table.proofs.Lines.{live_is_claimed, new_is_claimed, reservations_at-new, reservations_at-stopped}
+use Rattle.bsc_table.proofs.Handed.{its_reservation, none_behind_live}
 use Rattle.bsc_table.proofs.Stopped.{in_order-stop}
 use Rattle.bsc_table.proofs.Begun.{starts_forward}
 use Rattle.bsc_table.proofs.Sound.{IsSound-legal, stops_live}
@@ -93,11 +93,11 @@ planned_below plan log air follows =
     (accepted_in log) (numbers_below log))
 
 -- so are those of a budget
-lines_below : (slot n : ℕ) (claims : List Claim)
+reservations_below : (slot n : ℕ) (claims : List Claim)
     → All (λ c. c.message.entry < n) claims
-    → All (λ h. h.entry < n) (lines_at slot claims)
-lines_below slot n claims below =
-    All-map (λ (h : Held). h.entry < n) (line_of slot) (filter (is_claimed_at slot) claims)
+    → All (λ h. h.entry < n) (reservations_at slot claims)
+reservations_below slot n claims below =
+    All-map (λ (h : Held). h.entry < n) (reservation_for slot) (filter (is_claimed_at slot) claims)
     (All-filter (is_claimed_at slot) (λ (c : Claim). c.message.entry < n) claims below)
 
 claims_below : (log : List Entry) → All (λ c. c.message.entry < length log) (claims_in log)
@@ -105,13 +105,13 @@ claims_below log =
     All-filter reserves (λ (c : Claim). c.message.entry < length log) (all_claims (accepted_in log))
     (All-map (λ (c : Claim). c.message.entry < length log) claim_of (accepted_in log) (numbers_below log))
 
-pub held_below : (slot : ℕ) (log : List Entry) → All (λ h. h.entry < length log) (lines_at slot (claims_in log))
-held_below slot log = lines_below slot (length log) (claims_in log) (claims_below log)
+pub held_below : (slot : ℕ) (log : List Entry) → All (λ h. h.entry < length log) (reservations_at slot (claims_in log))
+held_below slot log = reservations_below slot (length log) (claims_in log) (claims_below log)
 
 pub held_below_without : (slot entry : ℕ) (log : List Entry)
-    → All (λ h. h.entry < length log) (lines_at slot (stop_claims entry slot (claims_in log)))
+    → All (λ h. h.entry < length log) (reservations_at slot (stop_claims entry slot (claims_in log)))
 held_below_without slot entry log =
-    lines_below slot (length log) (stop_claims entry slot (claims_in log))
+    reservations_below slot (length log) (stop_claims entry slot (claims_in log))
     (All-map (λ (c : Claim). c.message.entry < length log) (stop_claim entry slot) (claims_in log)
     (claims_below log))
 
@@ -155,28 +155,28 @@ standing_beside plan slot log a told m same found =
     Contains-append_left told (m ∷ []) found.1 (found.0, found.2, found.3) in
     subst P (sym same) (there.0, found.1, there.1, there.2, found.4)
 
--- its line is held
+-- its reservation is held
 pub held_in : (r : Record) (a : Accepted)
     → IsLegal r
     → IsLiveIn r a
     → layer a.message ≡ 0
-    → Any (λ h. h.entry ≡ a.message.entry) (lines_at r.clock (claims_in r.log))
+    → Any (λ h. h.entry ≡ a.message.entry) (reservations_at r.clock (claims_in r.log))
 held_in r a legal live front =
     let order = (IsSound-legal r legal).order in
     let here = its_claim (accepted_in r.log) a live.there front in
     let Stands : Claim → Type 0 = λ c. (c.accepted ≤ r.clock) × (0 < c.message.period) in
     let its = subst Stands here.2 (order.accepted here.0 (claim_of a) here.1, order.periods here.0 (claim_of a) here.1)
     in
-    let line = its_line r.clock (claims_in r.log) (claim_of a) here
+    let reservation = its_reservation r.clock (claims_in r.log) (claim_of a) here
     (live_is_claimed r.clock (claim_of a) its.0 its.1 live.live) in
-    (line.0, line_of r.clock (claim_of a), line.1, line.2, refl)
+    (reservation.0, reservation_for r.clock (claim_of a), reservation.1, reservation.2, refl)
 
 -- and none waits behind it
 pub free_of : (r : Record) (a : Accepted)
     → IsLegal r
     → IsLiveIn r a
     → layer a.message ≡ 0
-    → All (λ h. behind_of h ≢ Some a.message.entry) (lines_at r.clock (claims_in r.log))
+    → All (λ h. behind_of h ≢ Some a.message.entry) (reservations_at r.clock (claims_in r.log))
 free_of r a legal live front =
     none_behind_live r.clock (claims_in r.log) (claim_of a) (IsSound-legal r legal).order
     (its_claim (accepted_in r.log) a live.there front) live.live
@@ -206,7 +206,7 @@ left_in_order r a legal live =
     in_order-stop (claims_in r.log) a.message.entry r.clock sound.order
     (stops_live (accepted_in r.log) r.clock a sound.rising live.there live.live)
 
--- the lines that are left of a budget where a live message was released
+-- the reservations that are left of a budget where a live message was released
 ended_claims : (r : Record) (a : Accepted)
     → IsLegal r
     → IsLiveIn r a
@@ -224,34 +224,34 @@ ended_claims r a legal live = λ k d within. λ same.
       ap (λ (x : Claim). end_of_stopped x.message.start x.message.period r.clock) is,
     )
 
-pub lines_without : (r : Record) (a : Accepted)
+pub reservations_without : (r : Record) (a : Accepted)
     → IsLegal r
     → IsLiveIn r a
     → passed r.clock (ends_at a.message.entry (end_of_stopped a.message.start a.message.period r.clock)
-    (lines_at r.clock (claims_in r.log))) ≡ lines_at r.clock
+    (reservations_at r.clock (claims_in r.log))) ≡ reservations_at r.clock
     (stop_claims a.message.entry r.clock (claims_in r.log))
-lines_without r a legal live =
-    lines_at-stopped r.clock a.message.entry (end_of_stopped a.message.start a.message.period r.clock)
+reservations_without r a legal live =
+    reservations_at-stopped r.clock a.message.entry (end_of_stopped a.message.start a.message.period r.clock)
     (claims_in r.log) (IsSound-legal r legal).order.accepted (ended_claims r a legal live)
 
-pub released_lines : (r : Record) (a : Accepted) (before after : List Held)
+pub released_reservations : (r : Record) (a : Accepted) (before after : List Held)
     → IsLegal r
     → IsLiveIn r a
-    → before ≡ lines_at r.clock (claims_in r.log)
+    → before ≡ reservations_at r.clock (claims_in r.log)
     → (back : Bool)
     → (layer a.message == 0) ≡ not back
     → after ≡ cond back before (passed r.clock (ends_at a.message.entry
     (end_of_stopped a.message.start a.message.period r.clock) before))
-    → after ≡ lines_at r.clock (stop_claims a.message.entry r.clock (claims_in r.log))
-released_lines r a before after legal live held true back released =
+    → after ≡ reservations_at r.clock (stop_claims a.message.entry r.clock (claims_in r.log))
+released_reservations r a before after legal live held true back released =
     let sound = IsSound-legal r legal in
     let other : layer a.message ≡ 0 → ⊥ = λ front. false≢true (sym back ∙ eq-eqb (layer a.message) 0 front) in
-    released ∙ held ∙ ap (lines_at r.clock) (sym (same_claims a.message.entry r.clock (accepted_in r.log) a
+    released ∙ held ∙ ap (reservations_at r.clock) (sym (same_claims a.message.entry r.clock (accepted_in r.log) a
     sound.rising live.there refl other))
-released_lines r a before after legal live held false front released =
-    let left : List Held → List Held = λ lines. passed r.clock
-    (ends_at a.message.entry (end_of_stopped a.message.start a.message.period r.clock) lines) in
-    released ∙ ap left held ∙ lines_without r a legal live
+released_reservations r a before after legal live held false front released =
+    let left : List Held → List Held = λ reservations. passed r.clock
+    (ends_at a.message.entry (end_of_stopped a.message.start a.message.period r.clock) reservations) in
+    released ∙ ap left held ∙ reservations_without r a legal live
 
 -- the claims of a log with an entry that stops a message, and that starts one
 pub claims_without : (log : List Entry) (e : Entry) (entry slot : ℕ)
@@ -264,32 +264,34 @@ pub claims_with : (log : List Entry) (e : Entry) (all : List Accepted) (a : Acce
     → claims_in (log ++ e ∷ []) ≡ claims_of all ++ filter reserves (claim_of a ∷ [])
 claims_with log e all a after = ap claims_of after ∙ claims_more all a
 
--- the lines with the one of a message that begins, if it isn't background
-pub begun_lines : (entry slot : ℕ) (replaced : Option Accepted) (before : List Accepted) (claims : List Claim)
+-- the reservations with the one of a message that begins, if it isn't background
+pub begun_reservations : (entry slot : ℕ) (replaced : Option Accepted) (before : List Accepted) (claims : List Claim)
     (a : Accepted)
     → IsBegun entry slot replaced before a
     → (held after : List Held)
-    → held ≡ lines_at slot claims
+    → held ≡ reservations_at slot claims
     → (back : Bool)
     → (layer a.message == 0) ≡ not back
-    → after ≡ cond back held (held ++ line_of slot (claim_of a) ∷ [])
-    → after ≡ lines_at slot (claims ++ filter reserves (claim_of a ∷ []))
-begun_lines entry slot replaced before claims a begun held after same true back reserved =
+    → after ≡ cond back held (held ++ reservation_for slot (claim_of a) ∷ [])
+    → after ≡ reservations_at slot (claims ++ filter reserves (claim_of a ∷ []))
+begun_reservations entry slot replaced before claims a begun held after same true back reserved =
     let none : filter reserves (claim_of a ∷ []) ≡ [] = ap (λ (b : Bool). cond b (claim_of a ∷ []) []) back in
-    reserved ∙ same ∙ ap (lines_at slot) (sym (append-nil claims) ∙ ap (λ (l : List Claim). claims ++ l) (sym none))
-begun_lines entry slot replaced before claims a begun held after same false front reserved =
+    reserved ∙ same ∙ ap (reservations_at slot) (sym (append-nil claims)
+    ∙ ap (λ (l : List Claim). claims ++ l) (sym none))
+begun_reservations entry slot replaced before claims a begun held after same false front reserved =
     let one : filter reserves (claim_of a ∷ []) ≡ claim_of a ∷ [] = ap (λ (b : Bool). cond b (claim_of a ∷ []) [])
     front in
-    reserved ∙ ap (λ (l : List Held). l ++ line_of slot (claim_of a) ∷ []) same
-    ∙ sym (new_line entry slot replaced before claims a begun)
-    ∙ ap (λ (l : List Claim). lines_at slot (claims ++ l)) (sym one)
+    reserved ∙ ap (λ (l : List Held). l ++ reservation_for slot (claim_of a) ∷ []) same
+    ∙ sym (new_reservation entry slot replaced before claims a begun)
+    ∙ ap (λ (l : List Claim). reservations_at slot (claims ++ l)) (sym one)
   where
-    new_line : (entry slot : ℕ) (replaced : Option Accepted) (before : List Accepted) (claims : List Claim)
+    new_reservation : (entry slot : ℕ) (replaced : Option Accepted) (before : List Accepted) (claims : List Claim)
         (a : Accepted)
         → IsBegun entry slot replaced before a
-        → lines_at slot (claims ++ claim_of a ∷ []) ≡ lines_at slot claims ++ line_of slot (claim_of a) ∷ []
-    new_line entry slot replaced before claims a begun =
-        lines_at-new slot claims (claim_of a) (new_is_claimed slot (claim_of a) begun.accepted
+        → reservations_at slot (claims ++ claim_of a ∷ []) ≡ reservations_at slot claims ++ reservation_for slot
+        (claim_of a) ∷ []
+    new_reservation entry slot replaced before claims a begun =
+        reservations_at-new slot claims (claim_of a) (new_is_claimed slot (claim_of a) begun.accepted
         (starts_forward slot replaced before a begun.starts) begun.some_period begun.standing)
 
 -- a book whose log has the entry that was to come next, and whose table, plan and budget are those of the messages with
@@ -301,13 +303,13 @@ pub book_with : (b : Inside) (e : Entry) (log : Vec Entry) (accepted : Vec Accep
     → log.items ≡ b.log.items ++ e ∷ []
     → map accepted_of accepted.items ≡ accepted_in (b.log.items ++ e ∷ [])
     → Follows plan (messages_in (b.log.items ++ e ∷ [])) (air_told b.air.items)
-    → budget ≡ lines_at b.clock (claims_in (b.log.items ++ e ∷ []))
+    → budget ≡ reservations_at b.clock (claims_in (b.log.items ++ e ∷ []))
     → IsBook (record b { log = log; accepted = accepted; plan = plan; budget = budget })
 book_with b e log accepted plan budget book next grown kept follows held =
     let Legal : List Entry → Type 0 = λ l. IsLegal (record (record_of b) { log = l }) in
     let KeptBy : List Entry → Type 0 = λ l. map accepted_of accepted.items ≡ accepted_in l in
     let FollowsLog : List Entry → Type 0 = λ l. Follows plan (messages_in l) (air_told b.air.items) in
-    let HeldBy : List Entry → Type 0 = λ l. budget ≡ lines_at b.clock (claims_in l) in
+    let HeldBy : List Entry → Type 0 = λ l. budget ≡ reservations_at b.clock (claims_in l) in
     record {
       legal = subst Legal (sym grown) (IsLegal-with (record_of b) e book.legal next);
       short = book.short;

@@ -1,5 +1,5 @@
--- What a budget holds of the message behind which one is to wait: its line has started and ends where that one starts,
--- and no other waits behind it.
+-- What a budget holds of the message behind which one is to wait: its reservation has started and ends where that one
+-- starts, and no other waits behind it.
 use Rattle.std.proofs.Common.{◌≡◌, ◌≢◌, ℕ, zero, suc, ◌-◌, ◌≤◌, ◌<◌, ◌==◌, Bool, true, false, cond, Option, Some, None}
 use Rattle.std.proofs.Common.{List, [], ◌∷◌, filter, get_or, refl, ap, sym, subst, ◌∙◌, inl, inr, arith}
 use Rattle.std.specs.List.{All, Any, Contains, find}
@@ -18,7 +18,7 @@ use Rattle.bsc_table.specs.Record.{is_live}
 use Rattle.bsc_table.specs.Claim.{Claim, end_of, own_load, is_claimed_at, IsWaiting, stop_claims}
 use Rattle.bsc_table.specs.Handover.{Place, handover}
 use Rattle.bsc_table.specs.Room.{AreInOrder}
-use Rattle.bsc_table.specs.Book.{waits_of, line_of, lines_at, IsHeldFor}
+use Rattle.bsc_table.specs.Book.{waits_of, reservation_for, reservations_at, IsHeldFor}
 use Rattle.bsc_table.proofs.Claims.{is_claimed_at-says, is_claimed_at-from}
 use Rattle.bsc_table.proofs.Ahead.{by_number, from_stopped}
 use Rattle.bsc_table.proofs.Stops.{stop_claim-other}
@@ -26,9 +26,9 @@ use Rattle.bsc_table.proofs.Stopped.{not_live, in_order-stop}
 use Rattle.bsc_table.proofs.TakenOver.{is_free, only_live}
 use Rattle.bsc_table.proofs.Lines.{waits_of-started, live_is_claimed}
 
--- a line waits behind the message behind which its claim does, where that has not started
+-- a reservation waits behind the message behind which its claim does, where that has not started
 waits_behind : (slot entry : ℕ) (c : Claim)
-    → behind_of (line_of slot c) ≡ Some entry
+    → behind_of (reservation_for slot c) ≡ Some entry
     → (slot < c.message.start) × (c.behind ≡ Some entry)
 waits_behind slot entry c waits =
     let its : Option Waits → Option ℕ = λ o. option_map (λ (w : Waits). w.behind) o in
@@ -47,23 +47,24 @@ waits_behind slot entry c waits =
     same None = refl
     same (Some n) = refl
 
--- what is true of each claim that is reserved is true of each line
-all_lines : (P : Held → Type 0) (slot : ℕ) (claims : List Claim)
-    → All (λ c. is_claimed_at slot c ≡ true → P (line_of slot c)) claims
-    → All P (lines_at slot claims)
-all_lines P slot claims each =
+-- what is true of each claim that is reserved is true of each reservation
+all_reservations : (P : Held → Type 0) (slot : ℕ) (claims : List Claim)
+    → All (λ c. is_claimed_at slot c ≡ true → P (reservation_for slot c)) claims
+    → All P (reservations_at slot claims)
+all_reservations P slot claims each =
     let Counted : Claim → Type 0 = λ c. is_claimed_at slot c ≡ true in
-    let Line : Claim → Type 0 = λ c. P (line_of slot c) in
+    let Line : Claim → Type 0 = λ c. P (reservation_for slot c) in
     let kept = All-filter (is_claimed_at slot) (λ (c : Claim). Counted c → Line c) claims each in
     let passes = filter_passes (is_claimed_at slot) claims in
-    All-map P (line_of slot) (filter (is_claimed_at slot) claims) (λ k d within. kept k d within (passes k d within))
+    All-map P (reservation_for slot) (filter (is_claimed_at slot) claims)
+    (λ k d within. kept k d within (passes k d within))
 
--- behind a message that none waits for, no line waits
+-- behind a message that none waits for, no reservation waits
 pub none_behind : (slot entry : ℕ) (claims : List Claim)
     → All (λ c. IsWaiting slot c → c.behind ≢ Some entry) claims
-    → All (λ h. behind_of h ≢ Some entry) (lines_at slot claims)
+    → All (λ h. behind_of h ≢ Some entry) (reservations_at slot claims)
 none_behind slot entry claims free =
-    all_lines (λ (h : Held). behind_of h ≢ Some entry) slot claims (λ k d within. λ claimed waits.
+    all_reservations (λ (h : Held). behind_of h ≢ Some entry) slot claims (λ k d within. λ claimed waits.
     let behind = waits_behind slot entry (get_or claims k d) waits in
     free k d within (behind.0, (is_claimed_at-says slot (get_or claims k d) claimed).1) behind.1)
 
@@ -72,7 +73,7 @@ pub none_behind_live : (slot : ℕ) (claims : List Claim) (old : Claim)
     → AreInOrder claims slot
     → Contains claims old
     → is_live slot old.message ≡ true
-    → All (λ h. behind_of h ≢ Some old.message.entry) (lines_at slot claims)
+    → All (λ h. behind_of h ≢ Some old.message.entry) (reservations_at slot claims)
 none_behind_live slot claims old order here live =
     let entry = old.message.entry in
     let only = only_live claims slot old order.rising here live in
@@ -95,36 +96,39 @@ all_that_pass {X = X} p (x ∷ xs) =
     All-cons Passes x xs here (All-weaker (λ y. p y ≡ true → Contains (filter p xs) y) Passes
     (λ y kept passes. more_there (p x) x (filter p xs) y (kept passes)) xs (all_that_pass p xs))
 
--- the line of a claim that is reserved
-pub its_line : (slot : ℕ) (claims : List Claim) (c : Claim)
+-- the reservation of a claim that is reserved
+pub its_reservation : (slot : ℕ) (claims : List Claim) (c : Claim)
     → Contains claims c
     → is_claimed_at slot c ≡ true
-    → Contains (lines_at slot claims) (line_of slot c)
-its_line slot claims c here claimed =
+    → Contains (reservations_at slot claims) (reservation_for slot c)
+its_reservation slot claims c here claimed =
     let Claimed : Claim → Type 0 = λ x. is_claimed_at slot x ≡ true → Contains (filter (is_claimed_at slot) claims) x in
     let kept = All-contains Claimed claims c (all_that_pass (is_claimed_at slot) claims) here claimed in (
       kept.0,
-      omega (arith, kept.1, length-map (filter (is_claimed_at slot) claims) (line_of slot)),
-      get_or-map (line_of slot) (filter (is_claimed_at slot) claims) kept.0 c (line_of slot c) kept.1
-          ∙ ap (line_of slot) kept.2,
+      omega (arith, kept.1, length-map (filter (is_claimed_at slot) claims) (reservation_for slot)),
+      get_or-map (reservation_for slot) (filter (is_claimed_at slot) claims) kept.0 c (reservation_for slot c) kept.1
+          ∙ ap (reservation_for slot) kept.2,
     )
 
 -- the load that is held for an entry
-load_of_entry : (entry load : ℕ) (lines : List Held)
-    → All (λ h. h.entry ≡ entry → h.load ≡ load) lines
-    → Any (λ h. h.entry ≡ entry) lines
-    → load_for entry lines ≡ load
+load_of_entry : (entry load : ℕ) (reservations : List Held)
+    → All (λ h. h.entry ≡ entry → h.load ≡ load) reservations
+    → Any (λ h. h.entry ≡ entry) reservations
+    → load_for entry reservations ≡ load
 load_of_entry entry load [] all found = absurd (omega (arith, found.2))
-load_of_entry entry load (h ∷ lines) all found =
+load_of_entry entry load (h ∷ reservations) all found =
     let Says : Held → Type 0 = λ x. x.entry ≡ entry → x.load ≡ load in
     elim (cases_Bool (h.entry == entry)) [
-      | inl same ↦ ap (λ (b : Bool). load_in (cond b (Some h) (find (λ (x : Held). x.entry == entry) lines))) same
-          ∙ All-head Says h lines all (eqb-true h.entry entry same)
-      | inr other ↦ ap (λ (b : Bool). load_in (cond b (Some h) (find (λ (x : Held). x.entry == entry) lines))) other
-          ∙ load_of_entry entry load lines (All-tail Says h lines all) (later other found)
+      | inl same ↦ ap (λ (b : Bool). load_in (cond b (Some h) (find (λ (x : Held). x.entry == entry) reservations)))
+          same
+          ∙ All-head Says h reservations all (eqb-true h.entry entry same)
+      | inr other ↦ ap (λ (b : Bool). load_in (cond b (Some h) (find (λ (x : Held). x.entry == entry) reservations)))
+          other
+          ∙ load_of_entry entry load reservations (All-tail Says h reservations all) (later other found)
     ]
   where
-    later : (h.entry == entry) ≡ false → Any (λ x. x.entry ≡ entry) (h ∷ lines) → Any (λ x. x.entry ≡ entry) lines
+    later : (h.entry == entry) ≡ false → Any (λ x. x.entry ≡ entry) (h ∷ reservations)
+        → Any (λ x. x.entry ≡ entry) reservations
     later other (zero, x, within, is, same) = absurd (false≢true
         (sym other ∙ eq-eqb h.entry entry (ap (λ (y : Held). y.entry) is ∙ same)))
     later other (suc k, x, within, is, same) = (k, x, omega (arith, within), is, same)
@@ -135,7 +139,8 @@ pub handed_in : (slot load : ℕ) (claims : List Claim) (old : Claim) (place : P
     → Contains claims old
     → is_live slot old.message ≡ true
     → handover (stop_claims old.message.entry slot claims) slot old load ≡ Some place
-    → (slot < place.start) × IsHeldFor (lines_at slot (stop_claims old.message.entry slot claims)) load place.behind
+    → (slot < place.start) × IsHeldFor (reservations_at slot (stop_claims old.message.entry slot claims)) load
+    place.behind
     place.start place.excess
 handed_in slot load claims old place order here live over =
     let entry = old.message.entry in
@@ -147,20 +152,26 @@ handed_in slot load claims old place order here live over =
     let accepted : p.accepted ≤ slot = subst Accepted its.there.2 (kept.accepted its.there.0 p its.there.1) in
     let Before : Option ℕ → Type 0 = λ end. IsBeforeEnd slot end in
     let claimed = is_claimed_at-from slot p (accepted, subst Before (sym its.ends) its.later) in
-    let line = its_line slot left p its.there claimed in
+    let reservation = its_reservation slot left p its.there claimed in
     let behind : p.message.entry ≡ place.behind = sym its.named in
-    let Free : ℕ → Type 0 = λ n. All (λ h. behind_of h ≢ Some n) (lines_at slot left) in
-    let loads = all_lines (λ (h : Held). h.entry ≡ place.behind → h.load ≡ own_load p.message) slot left
+    let Free : ℕ → Type 0 = λ n. All (λ h. behind_of h ≢ Some n) (reservations_at slot left) in
+    let loads = all_reservations (λ (h : Held). h.entry ≡ place.behind → h.load ≡ own_load p.message) slot left
     (λ k d within. λ counted same.
     let c : Claim = get_or left k d in
     let is : get_or left k d ≡ p = by_number left (get_or left k d) p kept.rising
     (k, within, get_or_default left k (get_or left k d) d within) its.there (same ∙ sym behind) in
     ap (λ (x : Claim). own_load x.message) is) in
-    let held = load_of_entry place.behind (own_load p.message) (lines_at slot left) loads
-    (line.0, line_of slot p, line.1, line.2, behind) in (
+    let held = load_of_entry place.behind (own_load p.message) (reservations_at slot left) loads
+    (reservation.0, reservation_for slot p, reservation.1, reservation.2, behind) in (
       its.later,
       record {
-        ends = (line.0, line_of slot p, line.1, line.2, (behind, waits_of-started slot p its.ahead.started, its.ends));
+        ends = (
+          reservation.0,
+          reservation_for slot p,
+          reservation.1,
+          reservation.2,
+          (behind, waits_of-started slot p its.ahead.started, its.ends),
+        );
         free = subst Free behind (none_behind slot p.message.entry left its.ahead.free);
         over = ap (λ (n : ℕ). load - n) held ∙ sym its.excess;
       },
@@ -172,8 +183,8 @@ pub held_ahead : (slot load : ℕ) (claims : List Claim) (old : Claim) (place : 
     → Contains claims old
     → is_live slot old.message ≡ true
     → handover (stop_claims old.message.entry slot claims) slot old load ≡ Some place
-    → Any (λ h. (h.entry ≡ place.behind) × (h.waits ≡ None)) (lines_at slot claims)
-    × (excess_over place.behind load (lines_at slot claims) ≡ place.excess)
+    → Any (λ h. (h.entry ≡ place.behind) × (h.waits ≡ None)) (reservations_at slot claims)
+    × (excess_over place.behind load (reservations_at slot claims) ≡ place.excess)
 held_ahead slot load claims old place order here live over =
     let entry = old.message.entry in
     let its = is_free claims slot load old place order here live over in
@@ -196,16 +207,16 @@ held_ahead slot load claims old place order here live over =
           let ends = ap (λ (x : Claim). end_of x.message) (sym is) ∙ its.ends in
           is_claimed_at-from slot c (stands.0, subst Before (sym ends) its.later)
     ] in
-    let line = its_line slot claims c from.1 claimed in
-    let loads = all_lines (λ (h : Held). h.entry ≡ place.behind → h.load ≡ own_load p.message) slot claims
+    let reservation = its_reservation slot claims c from.1 claimed in
+    let loads = all_reservations (λ (h : Held). h.entry ≡ place.behind → h.load ≡ own_load p.message) slot claims
     (λ k d within. λ counted same.
     let x : Claim = get_or claims k d in
     let is : get_or claims k d ≡ c = by_number claims (get_or claims k d) c order.rising
     (k, within, get_or_default claims k (get_or claims k d) d within) from.1 (same ∙ sym behind) in
     ap (λ (y : Claim). own_load y.message) is ∙ sym (ap (λ (y : Claim). own_load y.message) from.2)) in
-    let held = load_of_entry place.behind (own_load p.message) (lines_at slot claims) loads
-    (line.0, line_of slot c, line.1, line.2, behind) in (
-      (line.0, line_of slot c, line.1, line.2, (behind, waits_of-started slot c started)),
+    let held = load_of_entry place.behind (own_load p.message) (reservations_at slot claims) loads
+    (reservation.0, reservation_for slot c, reservation.1, reservation.2, behind) in (
+      (reservation.0, reservation_for slot c, reservation.1, reservation.2, (behind, waits_of-started slot c started)),
       ap (λ (n : ℕ). load - n) held
           ∙ sym its.excess,
     )

@@ -163,41 +163,41 @@ IsWriteOf a replaced other = ⊥
 abbrev pub DecidesWrites : Record → Accepted → Option ℕ → Decision → Type 0
 DecidesWrites r a replaced d = (write : Command) → IsWriteOf a replaced write → Decides r write d
 
--- what a claim's line of a budget waits for at a slot: up to its start, the end of the one behind which it waits
+-- what a claim's reservation of a budget waits for at a slot: up to its start, the end of the one behind which it waits
 abbrev pub waits_of : ℕ → Claim → Option Waits
 waits_of slot c =
     if nat_lt slot c.message.start
     then option_map (λ behind. record { behind = behind; start = c.message.start; excess = c.excess }) c.behind
     else None
 
--- a claim's line of a budget at a slot
-abbrev pub line_of : ℕ → Claim → Held
-line_of slot c = record {
+-- a claim's reservation of a budget at a slot
+abbrev pub reservation_for : ℕ → Claim → Held
+reservation_for slot c = record {
   entry = c.message.entry;
   load = own_load c.message;
-  until = end_of c.message;
+  end = end_of c.message;
   waits = waits_of slot c;
 }
 
--- the lines that a budget holds at a slot: of the claims that are reserved there
-abbrev pub lines_at : ℕ → List Claim → List Held
-lines_at slot claims = map (line_of slot) (filter (is_claimed_at slot) claims)
+-- the reservations that a budget holds at a slot: of the claims that are reserved there
+abbrev pub reservations_at : ℕ → List Claim → List Held
+reservations_at slot claims = map (reservation_for slot) (filter (is_claimed_at slot) claims)
 
--- the lines of a budget hold the place that a load is to take behind an entry, up to its start: that one has started
--- and ends there, none waits behind it, and the load has so much over its own
-pub record IsHeldFor (lines : List Held) (load behind start excess : ℕ) : Type 0 where
-  pub ends : Any (λ h. (h.entry ≡ behind) × (h.waits ≡ None) × (h.until ≡ Some start)) lines
-  pub free : All (λ h. behind_of h ≢ Some behind) lines
-  pub over : excess_over behind load lines ≡ excess
+-- the reservations of a budget hold the place that a load is to take behind an entry, up to its start: that one has
+-- started and ends there, none waits behind it, and the load has so much over its own
+pub record IsHeldFor (reservations : List Held) (load behind start excess : ℕ) : Type 0 where
+  pub ends : Any (λ h. (h.entry ≡ behind) × (h.waits ≡ None) × (h.end ≡ Some start)) reservations
+  pub free : All (λ h. behind_of h ≢ Some behind) reservations
+  pub over : excess_over behind load reservations ≡ excess
 
--- the lines of a budget have room for a claim, by the one behind which it waits: for its load where it starts by the
--- slot; else for its excess, behind that one
+-- the reservations of a budget have room for a claim, by the one behind which it waits: for its load where it starts by
+-- the slot; else for its excess, behind that one
 abbrev pub HasRoomFor : ℕ → List Held → Claim → Option ℕ → Type 0
-HasRoomFor slot lines c None = (c.message.start ≤ slot) × (answer_for lines (own_load c.message) ≡ Ok tt)
-HasRoomFor slot lines c (Some behind) =
+HasRoomFor slot reservations c None = (c.message.start ≤ slot) × (answer_for reservations (own_load c.message) ≡ Ok tt)
+HasRoomFor slot reservations c (Some behind) =
     (slot < c.message.start)
-    × (answer_for lines c.excess ≡ Ok tt)
-    × IsHeldFor lines (own_load c.message) behind c.message.start c.excess
+    × (answer_for reservations c.excess ≡ Ok tt)
+    × IsHeldFor reservations (own_load c.message) behind c.message.start c.excess
 
 -- no message of a pair is live, and one is
 abbrev pub IsNotLive : ℕ → Option ScheduledMessage → Type 0
@@ -266,7 +266,7 @@ pub record IsBook (b : Inside) : Type 0 where
   pub short : b.slots ≤ 65535
   pub kept : map accepted_of b.accepted.items ≡ accepted_in b.log.items
   pub follows : Follows b.plan (messages_in b.log.items) (air_told b.air.items)
-  pub held : b.budget ≡ lines_at b.clock (claims_in b.log.items)
+  pub held : b.budget ≡ reservations_at b.clock (claims_in b.log.items)
   pub places : vec_len b.air ≡ b.clock
   pub room : b.slots ≤ vec_capacity b.air
 

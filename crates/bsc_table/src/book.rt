@@ -22,7 +22,7 @@ ghost use Rattle.bsc_table.specs.Steps.{opened, entry_by, with_entry, answered_w
 ghost use Rattle.bsc_table.specs.Book.{accepted_of, air_told, IsGoneTo, IsNotLive, IsLiveAs, IsLiveIn, IsNext};
 ghost use Rattle.bsc_table.specs.Book.{IsStop, IsStart, IsReplacement, IsOffered, IsRoom, IsLater, Decides};
 ghost use Rattle.bsc_table.specs.Book.{DecidesWrites, decided_answer, is_accepting};
-ghost use Rattle.bsc_table.specs.Book.{cause_of, left_by, place_of, line_of, HasRoomFor};
+ghost use Rattle.bsc_table.specs.Book.{cause_of, left_by, place_of, reservation_for, HasRoomFor};
 ghost use Rattle.admission.specs.Reservation.{end_of_stopped};
 ghost use Rattle.admission.specs.Waiting.{behind_of};
 ghost use Rattle.admission.specs.Table.{ends_at, passed};
@@ -624,7 +624,7 @@ fn reserve_for(budget: &mut Budget, new: &AcceptedMessage, slot: u16)
     requires room { is_background new.now.category ≡ false
         → HasRoomFor slot budget.old (claim_of (accepted_of new.now)) new.now.behind }
     ensures { budget.new ≡ (if is_background new.now.category then budget.old
-        else budget.old ++ line_of slot (claim_of (accepted_of new.now)) ∷ []) }
+        else budget.old ++ reservation_for slot (claim_of (accepted_of new.now)) ∷ []) }
 {
     if new.category.is_background() {
         return;

@@ -3,7 +3,7 @@ use Rattle.scheduler.specs.Follows.{Follows}
 use Rattle.bsc_table.specs.declared.entry.Entry.{Entry}
 use Rattle.bsc_table.specs.Record.{Record, Accepted, accepted_in, claims_of}
 use Rattle.bsc_table.specs.Legal.{IsLegal}
-use Rattle.bsc_table.specs.Book.{accepted_of, record_of, lines_at, IsNext}
+use Rattle.bsc_table.specs.Book.{accepted_of, record_of, reservations_at, IsNext}
 use Rattle.bsc_table.proofs.Refusals.{refusals_change_nothing}
 use Rattle.bsc_table.proofs.Entering.{IsLegal-with}
 use Rattle.bsc_table.proofs.book.CellBook.enter_alone.Goals as goal
@@ -22,7 +22,7 @@ invariant_of-self-2 c =
     let Kept : List Accepted → Type 0 = λ all. map accepted_of c.self.inside.accepted.items ≡ all in
     let FollowsThem : List Accepted → Type 0 = λ all. Follows c.self.inside.plan
     (map (λ (a : Accepted). a.message) all) r.air in
-    let Holds : List Accepted → Type 0 = λ all. c.self.inside.budget ≡ lines_at r.clock (claims_of all) in
+    let Holds : List Accepted → Type 0 = λ all. c.self.inside.budget ≡ reservations_at r.clock (claims_of all) in
     let after = sym same ∙ ap accepted_in grown in
     record {
       legal = subst Legal grown (IsLegal-with r e book.legal next);

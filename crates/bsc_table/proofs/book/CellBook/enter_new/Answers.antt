@@ -7,12 +7,12 @@ use Rattle.bsc_table.specs.declared.entry.Entry.{Entry}
 use Rattle.bsc_table.specs.declared.accepted.AcceptedMessage.{AcceptedMessage}
 use Rattle.bsc_table.specs.Record.{Record, Accepted, accepted_in, messages_in, claim_of, claims_in, is_background}
 use Rattle.bsc_table.specs.Claim.{Claim}
-use Rattle.bsc_table.specs.Book.{accepted_of, record_of, lines_at, HasRoomFor, IsNext, IsStart}
+use Rattle.bsc_table.specs.Book.{accepted_of, record_of, reservations_at, HasRoomFor, IsNext, IsStart}
 use Rattle.bsc_table.proofs.Begun.{room_for_new}
 use Rattle.bsc_table.proofs.Sound.{IsSound-legal}
 use Rattle.bsc_table.proofs.Ranks.{in_front, layer_tells}
 use Rattle.bsc_table.proofs.Entering.{book_with, messages_with, kept_more, planned_below, held_below, item_message}
-use Rattle.bsc_table.proofs.Entering.{begun_lines, claims_with}
+use Rattle.bsc_table.proofs.Entering.{begun_reservations, claims_with}
 use Rattle.bsc_table.proofs.book.CellBook.enter_new.Goals as goal
 
 pub add-requires-clause-rising : goal.add-requires-clause-rising
@@ -37,7 +37,7 @@ reserve_for-requires-clause-unreserved c =
     let r : Record = record_of c.self.inside in
     let Starts : Record → Type 0 = λ x. IsStart x c.args.entry (accepted_of c.args.new) in
     let start = subst Starts (sym c.self.view_is) c.requires.start in
-    let Below : List Held → Type 0 = λ lines. All (λ (h : Held). h.entry < length r.log) lines in
+    let Below : List Held → Type 0 = λ reservations. All (λ (h : Held). h.entry < length r.log) reservations in
     let below = subst Below (sym c.self.invariant.held) (held_below r.clock r.log) in
     λ k d h same. omega (arith, below k d h, start.begun.numbered, same)
 
@@ -47,7 +47,7 @@ reserve_for-requires-clause-room c =
     let new : Accepted = accepted_of c.args.new in
     let Starts : Record → Type 0 = λ x. IsStart x c.args.entry new in
     let start = subst Starts (sym c.self.view_is) c.requires.start in
-    let Room : List Held → Type 0 = λ lines. HasRoomFor r.clock lines (claim_of new) new.behind in
+    let Room : List Held → Type 0 = λ reservations. HasRoomFor r.clock reservations (claim_of new) new.behind in
     λ is. subst Room (sym c.self.invariant.held) (room_for_new (length r.log) r.clock (accepted_in r.log) new
     (IsSound-legal r c.self.invariant.legal).order start.begun (in_front c.args.new.category is))
 
@@ -79,11 +79,11 @@ invariant_of-self-2 c =
     let follows = subst FollowsOne told (c.in_ok-add.ensures.follows before r.air book.follows) in
     -- the budget
     let claims = claims_with r.log e (accepted_in r.log) new adds in
-    let lines = begun_lines (length r.log) r.clock None (accepted_in r.log) (claims_in r.log) new may
+    let reservations = begun_reservations (length r.log) r.clock None (accepted_in r.log) (claims_in r.log) new may
     c.self.inside.budget c.reserve_for.new.budget book.held (is_background c.args.new.category)
     (layer_tells c.args.new.category) c.reserve_for.ensures in
     let FollowsAll : List ScheduledMessage → Type 0 = λ all. Follows c.add.new.self all r.air in
-    let HeldFor : List Claim → Type 0 = λ all. c.reserve_for.new.budget ≡ lines_at r.clock all in
+    let HeldFor : List Claim → Type 0 = λ all. c.reserve_for.new.budget ≡ reservations_at r.clock all in
     book_with c.self.inside e c.push_reserved-2.new.self c.push_reserved.new.self c.add.new.self
     c.reserve_for.new.budget
-    book next grown more (subst FollowsAll (sym messages) follows) (subst HeldFor (sym claims) lines)
+    book next grown more (subst FollowsAll (sym messages) follows) (subst HeldFor (sym claims) reservations)

@@ -11,14 +11,16 @@ use Rattle.bsc_table.specs.declared.entry.Entry.{Entry}
 use Rattle.bsc_table.specs.declared.accepted.AcceptedMessage.{AcceptedMessage}
 use Rattle.bsc_table.specs.Record.{Record, Accepted, accepted_in, messages_in, claim_of, claims_in, is_background}
 use Rattle.bsc_table.specs.Claim.{Claim, reserves, stop_claims}
-use Rattle.bsc_table.specs.Book.{accepted_of, stop_numbered, record_of, lines_at, HasRoomFor, IsNext, IsReplacement}
+use Rattle.bsc_table.specs.Book.{accepted_of, stop_numbered, record_of, reservations_at, HasRoomFor, IsNext}
+use Rattle.bsc_table.specs.Book.{IsReplacement}
 use Rattle.bsc_table.proofs.Outcome.{messages_stopped, claims_stopped}
 use Rattle.bsc_table.proofs.Begun.{room_for_replacement}
 use Rattle.bsc_table.proofs.Sound.{HasLoad, IsSound-legal}
 use Rattle.bsc_table.proofs.Ranks.{in_front, layer_tells}
-use Rattle.bsc_table.proofs.Entering.{free_of, book_with, table_stopped, released_lines, messages_with, kept_more}
+use Rattle.bsc_table.proofs.Entering.{free_of, book_with, table_stopped, released_reservations, messages_with}
+use Rattle.bsc_table.proofs.Entering.{kept_more}
 use Rattle.bsc_table.proofs.Entering.{planned_below, held_below_without, number_below, standing_in, standing_beside}
-use Rattle.bsc_table.proofs.Entering.{held_in, item_message, begun_lines, claims_with, stopped_beside}
+use Rattle.bsc_table.proofs.Entering.{held_in, item_message, begun_reservations, claims_with, stopped_beside}
 use Rattle.bsc_table.proofs.book.CellBook.enter_replacement.Goals as goal
 
 pub add-requires-clause-rising : goal.add-requires-clause-rising
@@ -58,7 +60,7 @@ release-requires-clause-reserved c =
     let old : Accepted = accepted_of c.args.old.now in
     let Replaces : Record → Type 0 = λ x. IsReplacement x c.args.entry old (accepted_of c.args.new) in
     let change = subst Replaces (sym c.self.view_is) c.requires.replacement in
-    let Has : List Held → Type 0 = λ lines. Any (λ (h : Held). h.entry ≡ old.message.entry) lines in
+    let Has : List Held → Type 0 = λ reservations. Any (λ (h : Held). h.entry ≡ old.message.entry) reservations in
     λ is. subst Has (sym c.self.invariant.held) (held_in r old c.self.invariant.legal change.stops
     (in_front c.args.old.now.category is))
 
@@ -69,11 +71,12 @@ reserve_for-requires-clause-unreserved c =
     let entry : ℕ = old.message.entry in
     let Replaces : Record → Type 0 = λ x. IsReplacement x c.args.entry old (accepted_of c.args.new) in
     let change = subst Replaces (sym c.self.view_is) c.requires.replacement in
-    let lines = released_lines r old c.self.inside.budget c.release.new.budget c.self.invariant.legal change.stops
+    let reservations = released_reservations r old c.self.inside.budget c.release.new.budget c.self.invariant.legal
+    change.stops
     c.self.invariant.held (is_background c.args.old.now.category) (layer_tells c.args.old.now.category)
     c.release.ensures in
     let Below : List Held → Type 0 = λ l. All (λ (h : Held). h.entry < length r.log) l in
-    let below = subst Below (sym lines) (held_below_without r.clock entry r.log) in
+    let below = subst Below (sym reservations) (held_below_without r.clock entry r.log) in
     λ k d h same. omega (arith, below k d h, change.begun.numbered, same)
 
 pub reserve_for-requires-clause-room : goal.reserve_for-requires-clause-room
@@ -83,12 +86,14 @@ reserve_for-requires-clause-room c =
     let new : Accepted = accepted_of c.args.new in
     let Replaces : Record → Type 0 = λ x. IsReplacement x c.args.entry old new in
     let change = subst Replaces (sym c.self.view_is) c.requires.replacement in
-    let lines = released_lines r old c.self.inside.budget c.release.new.budget c.self.invariant.legal change.stops
+    let reservations = released_reservations r old c.self.inside.budget c.release.new.budget c.self.invariant.legal
+    change.stops
     c.self.invariant.held (is_background c.args.old.now.category) (layer_tells c.args.old.now.category)
     c.release.ensures in
     let Room : List Held → Type 0 = λ l. HasRoomFor r.clock l (claim_of new) new.behind in
     let sound = IsSound-legal r c.self.invariant.legal in
-    λ is. subst Room (sym lines) (room_for_replacement (length r.log) r.clock (accepted_in r.log) old new sound.order
+    λ is. subst Room (sym reservations) (room_for_replacement (length r.log) r.clock (accepted_in r.log) old new
+    sound.order
     sound.rising change.stops.there change.stops.live change.begun (in_front c.args.new.category is))
 
 pub release-requires-clause-free : goal.release-requires-clause-free
@@ -96,7 +101,8 @@ release-requires-clause-free c =
     let r : Record = record_of c.self.inside in
     let old : Accepted = accepted_of c.args.old.now in
     let Replaces : Record → Type 0 = λ x. IsReplacement x c.args.entry old (accepted_of c.args.new) in
-    let Free : List Held → Type 0 = λ lines. All (λ (h : Held). behind_of h ≢ Some old.message.entry) lines in
+    let Free : List Held → Type 0 = λ reservations. All (λ (h : Held). behind_of h ≢ Some old.message.entry)
+    reservations in
     let change = subst Replaces (sym c.self.view_is) c.requires.replacement in
     λ is. subst Free (sym c.self.invariant.held) (free_of r old c.self.invariant.legal change.stops
     (in_front c.args.old.now.category is))
@@ -141,15 +147,16 @@ invariant_of-self-2 c =
     let follows = subst FollowsThese apart (c.stop-2.ensures.follows (before ++ new.message ∷ []) r.air added) in
     -- the budget
     let left : List Claim = stop_claims entry r.clock (claims_in r.log) in
-    let released = released_lines r old c.self.inside.budget c.release.new.budget book.legal change.stops book.held
+    let released = released_reservations r old c.self.inside.budget c.release.new.budget book.legal change.stops
+    book.held
     (is_background c.args.old.now.category) (layer_tells c.args.old.now.category) c.release.ensures in
     let claims = claims_with r.log e rest new change.after ∙ ap
     (λ (l : List Claim). l ++ filter reserves (claim_of new ∷ []))
     (claims_stopped entry r.clock (accepted_in r.log)) in
-    let lines = begun_lines (length r.log) r.clock (Some old) rest left new may c.release.new.budget
+    let reservations = begun_reservations (length r.log) r.clock (Some old) rest left new may c.release.new.budget
     c.reserve_for.new.budget released (is_background c.args.new.category) (layer_tells c.args.new.category)
     c.reserve_for.ensures in
-    let HeldFor : List Claim → Type 0 = λ all. c.reserve_for.new.budget ≡ lines_at r.clock all in
+    let HeldFor : List Claim → Type 0 = λ all. c.reserve_for.new.budget ≡ reservations_at r.clock all in
     book_with c.self.inside e c.push_reserved-2.new.self c.push_reserved.new.self c.stop-2.new.self
     c.reserve_for.new.budget book next grown kept (subst FollowsThese (sym messages) follows)
-    (subst HeldFor (sym claims) lines)
+    (subst HeldFor (sym claims) reservations)

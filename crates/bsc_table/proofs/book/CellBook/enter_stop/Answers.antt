@@ -9,10 +9,10 @@ use Rattle.scheduler.specs.Follows.{Follows}
 use Rattle.bsc_table.specs.declared.entry.Entry.{Entry}
 use Rattle.bsc_table.specs.Record.{Record, Accepted, accepted_in, messages_in, is_background}
 use Rattle.bsc_table.specs.Claim.{Claim}
-use Rattle.bsc_table.specs.Book.{accepted_of, stop_numbered, record_of, lines_at, IsNext, IsStop}
+use Rattle.bsc_table.specs.Book.{accepted_of, stop_numbered, record_of, reservations_at, IsNext, IsStop}
 use Rattle.bsc_table.proofs.Sound.{HasLoad, IsSound-legal}
 use Rattle.bsc_table.proofs.Ranks.{in_front, layer_tells}
-use Rattle.bsc_table.proofs.Entering.{messages_without, claims_without, free_of, table_stopped, released_lines}
+use Rattle.bsc_table.proofs.Entering.{messages_without, claims_without, free_of, table_stopped, released_reservations}
 use Rattle.bsc_table.proofs.Entering.{book_with, standing_in, held_in}
 use Rattle.bsc_table.proofs.book.CellBook.enter_stop.Goals as goal
 
@@ -37,7 +37,7 @@ release-requires-clause-reserved c =
     let r : Record = record_of c.self.inside in
     let old : Accepted = accepted_of c.args.old.now in
     let Stops : Record → Type 0 = λ x. IsStop x c.args.entry old in
-    let Has : List Held → Type 0 = λ lines. Any (λ (h : Held). h.entry ≡ old.message.entry) lines in
+    let Has : List Held → Type 0 = λ reservations. Any (λ (h : Held). h.entry ≡ old.message.entry) reservations in
     let stop = subst Stops (sym c.self.view_is) c.requires.stop in
     λ is. subst Has (sym c.self.invariant.held) (held_in r old c.self.invariant.legal stop.stops
     (in_front c.args.old.now.category is))
@@ -47,7 +47,8 @@ release-requires-clause-free c =
     let r : Record = record_of c.self.inside in
     let old : Accepted = accepted_of c.args.old.now in
     let Stops : Record → Type 0 = λ x. IsStop x c.args.entry old in
-    let Free : List Held → Type 0 = λ lines. All (λ (h : Held). behind_of h ≢ Some old.message.entry) lines in
+    let Free : List Held → Type 0 = λ reservations. All (λ (h : Held). behind_of h ≢ Some old.message.entry)
+    reservations in
     let stop = subst Stops (sym c.self.view_is) c.requires.stop in
     λ is. subst Free (sym c.self.invariant.held) (free_of r old c.self.invariant.legal stop.stops
     (in_front c.args.old.now.category is))
@@ -71,11 +72,12 @@ invariant_of-self-2 c =
     -- the plan and the budget
     let messages = messages_without r.log e entry r.clock stop.after in
     let follows = c.stop-2.ensures.follows (messages_in r.log) r.air book.follows in
-    let lines = released_lines r old c.self.inside.budget c.release.new.budget book.legal stop.stops book.held
+    let reservations = released_reservations r old c.self.inside.budget c.release.new.budget book.legal stop.stops
+    book.held
     (is_background c.args.old.now.category) (layer_tells c.args.old.now.category) c.release.ensures in
     let FollowsAll : List ScheduledMessage → Type 0 = λ all. Follows c.stop-2.new.self all r.air in
     let claims = claims_without r.log e entry r.clock stop.after in
-    let HeldFor : List Claim → Type 0 = λ all. c.release.new.budget ≡ lines_at r.clock all in
+    let HeldFor : List Claim → Type 0 = λ all. c.release.new.budget ≡ reservations_at r.clock all in
     book_with c.self.inside e c.push_reserved.new.self (with_items c.self.inside.accepted c.stop.new.table)
     c.stop-2.new.self c.release.new.budget book next grown fewer (subst FollowsAll (sym messages) follows)
-    (subst HeldFor (sym claims) lines)
+    (subst HeldFor (sym claims) reservations)

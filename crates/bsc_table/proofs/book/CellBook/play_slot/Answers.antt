@@ -9,7 +9,7 @@ use Rattle.bsc_table.specs.Legal.{IsLegal}
 use Rattle.bsc_table.specs.Book.{air_told, record_of, IsGoneTo}
 use Rattle.bsc_table.proofs.BookLaws.{IsLegal-next}
 use Rattle.bsc_table.proofs.Sound.{IsSound-legal}
-use Rattle.bsc_table.proofs.Lines.{lines_at-later}
+use Rattle.bsc_table.proofs.Lines.{reservations_at-later}
 use Rattle.bsc_table.proofs.book.CellBook.play_slot.Goals as goal
 
 pub invariant_of-self : goal.invariant_of-self
@@ -26,7 +26,7 @@ invariant_of-self c =
     let FollowsTo : Air → Type 0 = λ air. Follows c.next-used.new.self messages air in
     let accepted : All (λ (k : Claim). k.accepted ≤ r.clock) (claims_in r.log) =
     (IsSound-legal r book.legal).order.accepted in
-    let later = lines_at-later r.clock (r.clock + 1) (claims_in r.log) (omega arith) accepted in
+    let later = reservations_at-later r.clock (r.clock + 1) (claims_in r.log) (omega arith) accepted in
     record {
       legal = subst Legal (sym c.push_aired.ensures.aired) (IsLegal-next r used ahead chosen book.legal);
       short = book.short;
