@@ -32,15 +32,15 @@ use Rattle.bsc_table.proofs.Lines.{all_behind_one, same_room, reservations_are_c
 use Rattle.bsc_table.proofs.Sound.{HasLoad, IsSound-legal}
 
 -- so a plan that follows them was told of it
-pub told_of_it : (plan : PlanState) (log : List Entry) (air : Air) (a : Accepted)
+pub known_to_plan : (plan : PlanState) (log : List Entry) (air : Air) (a : Accepted)
     → Follows plan (messages_in log) air
     → Contains (accepted_in log) a
     → Any (λ m. m.entry ≡ a.message.entry) (messages_of plan)
-told_of_it plan log air a follows there =
+known_to_plan plan log air a follows there =
     let P : List ScheduledMessage → Type 0 = λ messages. Any (λ (m : ScheduledMessage). m.entry ≡ a.message.entry)
     messages in
     let found = Contains-message log a there in
-    subst P (sym follows.told) (found.0, a.message, found.1, found.2, refl)
+    subst P (sym follows.same_messages) (found.0, a.message, found.1, found.2, refl)
 
 -- and what it answers of its number is true of it
 pub completed_of_it : (log : List Entry) (air : Air) (slot told : ℕ) (a : Accepted)
@@ -71,10 +71,10 @@ option_is_there view id serial log found kept same is =
     found_is_there id serial log (view kept) (sym same ∙ ap (option_map view) is)
 
 -- what the refusals of a write for want of room are, by those of a budget
-room_told : (places all : ℕ) (now later : Answer)
+room_answered : (places all : ℕ) (now later : Answer)
     → cond (leb 64 places) (answers.Cause 0x07) (cond (ltb SCALE all) later now) ≡ by_room
     (cond (ltb places 64) (cond (leb all SCALE) (Ok tt) (Err Load)) (Err Table)) now later
-room_told places all now later =
+room_answered places all now later =
     elim (cases_lt places 64) [
       | inl few ↦ elim (cases_lt SCALE all) [
         | inl over ↦ rw (lt-leb 64 places few, lt-ltb SCALE all over, lt-ltb places 64 few, lt-leb all SCALE over) refl
@@ -102,7 +102,7 @@ room_beside slot load claims room says =
     (λ place. cond_both fits (Ok tt) (Err Load) Fits (has_room place) (λ _. tt)) (λ _. tt) in
     record {
       says = says;
-      answered = λ place accepts. room_told places all (accepts slot) (answer_at claims slot accepts place)
+      answered = λ place accepts. room_answered places all (accepts slot) (answer_at claims slot accepts place)
           ∙ ap (λ (x : Result (Unit {0}) NoRoom). by_room x (accepts slot) (answer_at claims slot accepts place))
           (sym says);
       fits = subst Fits (sym says) fits_by;

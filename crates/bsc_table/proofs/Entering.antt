@@ -24,7 +24,7 @@ use Rattle.bsc_table.specs.Answer.{answer_with_room, answer_of}
 use Rattle.bsc_table.specs.Legal.{IsLegal}
 use Rattle.bsc_table.specs.Room.{AreInOrder}
 use Rattle.bsc_table.specs.Begun.{IsBegun}
-use Rattle.bsc_table.specs.Book.{accepted_of, air_told, record_of, accepted_stopped, stop_numbered, IsLiveIn, IsNext}
+use Rattle.bsc_table.specs.Book.{accepted_of, air_pairs, record_of, accepted_stopped, stop_numbered, IsLiveIn, IsNext}
 use Rattle.bsc_table.specs.Steps.{with_entry}
 use Rattle.bsc_table.specs.Book.{IsBook, reservation_for, reservations_at, left_by}
 use Rattle.bsc_table.proofs.Named.{live_is_standing}
@@ -88,7 +88,7 @@ pub planned_below : (plan : PlanState) (log : List Entry) (air : Air)
 planned_below plan log air follows =
     let Below : List ScheduledMessage → Type 0 = λ messages. All (λ (m : ScheduledMessage). m.entry < length log)
     messages in
-    subst Below (sym follows.told) (All-map (λ (m : ScheduledMessage). m.entry < length log)
+    subst Below (sym follows.same_messages) (All-map (λ (m : ScheduledMessage). m.entry < length log)
     (λ (a : Accepted). a.message)
     (accepted_in log) (numbers_below log))
 
@@ -139,7 +139,13 @@ standing_in plan slot log air a follows there live =
     × (m.stop ≡ None))
     messages in
     let found = Contains-message log a there in
-    subst P (sym follows.told) (found.0, a.message, found.1, found.2, (refl, live_is_standing slot a.message live))
+    subst P (sym follows.same_messages) (
+      found.0,
+      a.message,
+      found.1,
+      found.2,
+      (refl, live_is_standing slot a.message live),
+    )
 
 -- also where one more was told
 pub standing_beside : (plan : PlanState) (slot : ℕ) (log : List Entry) (a : Accepted) (told : List ScheduledMessage)
@@ -302,13 +308,13 @@ pub book_with : (b : Inside) (e : Entry) (log : Vec Entry) (accepted : Vec Accep
     → IsNext (record_of b) e
     → log.items ≡ b.log.items ++ e ∷ []
     → map accepted_of accepted.items ≡ accepted_in (b.log.items ++ e ∷ [])
-    → Follows plan (messages_in (b.log.items ++ e ∷ [])) (air_told b.air.items)
+    → Follows plan (messages_in (b.log.items ++ e ∷ [])) (air_pairs b.air.items)
     → budget ≡ reservations_at b.clock (claims_in (b.log.items ++ e ∷ []))
     → IsBook (record b { log = log; accepted = accepted; plan = plan; budget = budget })
 book_with b e log accepted plan budget book next grown kept follows held =
     let Legal : List Entry → Type 0 = λ l. IsLegal (record (record_of b) { log = l }) in
     let KeptBy : List Entry → Type 0 = λ l. map accepted_of accepted.items ≡ accepted_in l in
-    let FollowsLog : List Entry → Type 0 = λ l. Follows plan (messages_in l) (air_told b.air.items) in
+    let FollowsLog : List Entry → Type 0 = λ l. Follows plan (messages_in l) (air_pairs b.air.items) in
     let HeldBy : List Entry → Type 0 = λ l. budget ≡ reservations_at b.clock (claims_in l) in
     record {
       legal = subst Legal (sym grown) (IsLegal-with (record_of b) e book.legal next);

@@ -17,7 +17,8 @@ use Rattle.bsc_table.specs.Handover.{Place}
 use Rattle.bsc_table.specs.Record.{Accepted, accepted_named, message_named, claims_in, is_background, place_after}
 use Rattle.bsc_table.specs.Record.{is_live}
 use Rattle.bsc_table.specs.Answer.{answer_at, answer_beside, answer_for, answer_to_new, answer_to_replacement}
-use Rattle.bsc_table.specs.Answer.{unless_accepted, of_live, answer_to_write, answer_to_kill, told_of, answer_with_room}
+use Rattle.bsc_table.specs.Answer.{unless_accepted, of_live, answer_to_write, answer_to_kill, status_answer}
+use Rattle.bsc_table.specs.Answer.{answer_with_room}
 use Rattle.bsc_table.specs.Steps.{has_entry}
 
 abbrev HasOne : Answer → Type 0
@@ -69,7 +70,7 @@ of_write log air slot id serial (Some replaced) category load =
     (of_category category left slot load (place_after left slot old load)
     (λ start. answers.Replaced start (completed old.message air slot)) (λ start. refl)))
 
-of_status : (air : Air) (slot : ℕ) (named : Option ScheduledMessage) → HasOne (told_of air slot named)
+of_status : (air : Air) (slot : ℕ) (named : Option ScheduledMessage) → HasOne (status_answer air slot named)
 of_status air slot None = refl
 of_status air slot (Some m) = refl
 

@@ -31,10 +31,10 @@ use Rattle.bsc_table.specs.Record.{Record, accepted_in, messages_in, claims_in}
 use Rattle.bsc_table.specs.Claim.{claimed_at}
 use Rattle.bsc_table.specs.Answer.{answer_of}
 use Rattle.bsc_table.specs.Legal.{IsAnswered, IsLegal}
-use Rattle.bsc_table.specs.Told.{IsTrulyTold}
+use Rattle.bsc_table.specs.Reported.{IsTrulyReported}
 use Rattle.bsc_table.specs.Steps.{opened, IsPlayedUpTo, Ask, Play, IsReached}
 use Rattle.bsc_table.proofs.Promised.{legal_histories_are_served, legal_histories_are_bounded}
-use Rattle.bsc_table.proofs.Told.{legal_answers_are_true}
+use Rattle.bsc_table.proofs.Reported.{legal_answers_are_true}
 
 abbrev pub contents : ℕ → List Content
 contents zero = []
@@ -97,8 +97,8 @@ c_has_no_room_yet = refl
 c_starts : answer killed 4 c ≡ answers.Started 4
 c_starts = refl
 
-b_is_told : answer killed 4 (status 2) ≡ answers.Told 0 (states.Stopped 3)
-b_is_told = refl
+b_is_known : answer killed 4 (status 2) ≡ answers.Told 0 (states.Stopped 3)
+b_is_known = refl
 
 b_is_dead : answer killed 4 (kill 2) ≡ answers.Cause 0x02
 b_is_dead = refl
@@ -123,8 +123,8 @@ ended_kill = refl
 ended_status : answer whole 8 (status 1) ≡ answers.Told 4 states.Standing
 ended_status = refl
 
-nothing_told : answer whole 8 (status 9) ≡ answers.Unknown
-nothing_told = refl
+nothing_known : answer whole 8 (status 9) ≡ answers.Unknown
+nothing_known = refl
 
 -- one high page in every second slot, killed at slot 1: the load of the page stays up to slot 2
 abbrev high : ℕ → Command
@@ -392,7 +392,7 @@ c_is_served =
     (record { requested = inl refl; standing = tt; aired_by = omega arith })
 
 -- and the number that B's kill told is true, of B as it was accepted first
-kill_was_true : Any (IsTrulyTold (aired whole 8) (entry (kill 2) 3 (answers.Stopped 0)) 0) (accepted_in whole)
+kill_was_true : Any (IsTrulyReported (aired whole 8) (entry (kill 2) 3 (answers.Stopped 0)) 0) (accepted_in whole)
 kill_was_true = legal_answers_are_true (run whole 8) whole_is_legal 2 (entry (kill 2) 3 (answers.Stopped 0))
     (omega arith) 0 refl
 

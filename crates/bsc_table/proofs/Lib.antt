@@ -10,7 +10,7 @@ mod HasEntry
 pub mod Reserved
 pub mod Served
 pub mod Sums
-pub mod Told
+pub mod Reported
 mod Worked
 pub mod BookLaws
 mod Histories

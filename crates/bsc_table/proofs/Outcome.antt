@@ -25,13 +25,13 @@ use Rattle.bsc_table.specs.declared.entry.Entry.{Entry}
 use Rattle.bsc_table.specs.Orders.{IsBroadcastable, IsWellFormed}
 use Rattle.bsc_table.specs.Record.{Accepted, start_of, is_stop_by, is_stop_of, stopped_by, behind_of, excess_over}
 use Rattle.bsc_table.specs.Record.{written_behind, added_by, accepted_in, rank_of, is_background, place_after}
-use Rattle.bsc_table.specs.Record.{is_of_pair, message_told, message_named, is_live, claim_of, claims_of, claims_in}
+use Rattle.bsc_table.specs.Record.{is_of_pair, message_found, message_named, is_live, claim_of, claims_of, claims_in}
 use Rattle.bsc_table.specs.Claim.{Claim, own_load, reserves, is_claimed_at, claimed_at, stop_claims}
 use Rattle.bsc_table.specs.Handover.{Place, ahead_of, numbered, handover}
 use Rattle.bsc_table.specs.Room.{AreInOrder}
 use Rattle.bsc_table.specs.Begun.{StartsNow, Starts, IsBegun}
 use Rattle.bsc_table.specs.Answer.{answer_at, answer_beside, answer_for, answer_to_new, answer_to_replacement}
-use Rattle.bsc_table.specs.Answer.{unless_accepted, of_live, answer_to_write, answer_to_kill, told_of, before_end}
+use Rattle.bsc_table.specs.Answer.{unless_accepted, of_live, answer_to_write, answer_to_kill, status_answer, before_end}
 use Rattle.bsc_table.specs.Answer.{answer_with_room, answer_of}
 use Rattle.bsc_table.specs.Book.{stop_numbered}
 use Rattle.bsc_table.proofs.Ahead.{taken, from_stopped}
@@ -188,7 +188,7 @@ of_live_cases P slot (Some a) answer refuses accepts =
 pub unless_accepted_cases : (P : Answer → Type 0) (found : Option Accepted) (answer : Answer)
     → ((cause : ℕ) → P (answers.Cause cause))
     → (found ≡ None → P answer)
-    → P (unless_accepted (message_told found) answer)
+    → P (unless_accepted (message_found found) answer)
 unless_accepted_cases P None answer refuses accepts = accepts refl
 unless_accepted_cases P (Some a) answer refuses accepts = refuses 0x0D
 
@@ -441,7 +441,7 @@ outcome_with_room : (slots : ℕ) (log : List Entry) (air : Air) (slot : ℕ) (c
     → IsWellFormed command
     → Outcome log (entry_with command slot (answer_with_room slots log air slot command))
 outcome_with_room slots log air slot (commands.Status id serial) once order formed =
-    let answer = told_of air slot (message_named id serial log) in
+    let answer = status_answer air slot (message_named id serial log) in
     nothing log (entry_with (commands.Status id serial) slot answer) (status_does_nothing log slot id serial answer)
 outcome_with_room slots log air slot (commands.Kill id serial) once order formed =
     let command = commands.Kill id serial in

@@ -21,6 +21,7 @@ use Rattle.bsc_table.specs.declared.command.Command.{Command}
 use Rattle.bsc_table.specs.declared.command.Command.TheVariants as commands
 use Rattle.bsc_table.specs.declared.entry.Answer.{Answer}
 use Rattle.bsc_table.specs.declared.entry.Answer.TheVariants as answers
+use Rattle.bsc_table.specs.declared.entry.State.{State}
 use Rattle.bsc_table.specs.declared.entry.Entry.{Entry}
 use Rattle.bsc_table.specs.Claim.{Claim, is_claimed_at, claimed_at, stop_claims}
 use Rattle.bsc_table.specs.Handover.{Place}
@@ -80,17 +81,25 @@ abbrev pub answer_to_kill : List Entry → Air → ℕ → ℕ → ℕ → Answe
 answer_to_kill log air slot id serial =
     of_live slot (accepted_named id serial log) (λ a. answers.Stopped (completed a.message air slot))
 
--- a status tells the completed broadcasts and the state of a message that was accepted, whether it is live or not
-abbrev pub told_of : Air → ℕ → Option ScheduledMessage → Answer
-told_of air slot None = answers.Unknown
-told_of air slot (Some m) = answers.Told (completed m air slot) (state_at slot m)
+-- how many broadcasts of a message are completed before a slot, and how it stands there, if there is a message
+abbrev pub status_of : Air → ℕ → Option ScheduledMessage → Option (ℕ × State)
+status_of air slot None = None
+status_of air slot (Some m) = Some (completed m air slot, state_at slot m)
+
+-- the answer to a status reports that of a message that was accepted, whether it is live or not
+abbrev pub answer_with_status : Option (ℕ × State) → Answer
+answer_with_status None = answers.Unknown
+answer_with_status (Some status) = answers.Told status.0 status.1
+
+abbrev pub status_answer : Air → ℕ → Option ScheduledMessage → Answer
+status_answer air slot m = answer_with_status (status_of air slot m)
 
 -- 2
 abbrev pub before_end : ℕ → ℕ → Answer → Answer
 before_end slots slot answer = if slot == slots then answers.Cause 0x0A else answer
 
 abbrev pub answer_with_room : ℕ → List Entry → Air → ℕ → Command → Answer
-answer_with_room slots log air slot (commands.Status id serial) = told_of air slot (message_named id serial log)
+answer_with_room slots log air slot (commands.Status id serial) = status_answer air slot (message_named id serial log)
 answer_with_room slots log air slot (commands.Kill id serial) = before_end slots slot
     (answer_to_kill log air slot id serial)
 answer_with_room slots log air slot (commands.Write id serial replaces category period broadcasts dcs contents) =

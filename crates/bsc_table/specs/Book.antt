@@ -38,12 +38,12 @@ use Rattle.bsc_table.specs.Legal.{IsLegal}
 use Rattle.bsc_table.specs.Steps.{entry_by}
 
 -- what a slot airs, as a pair of the entry's number and the page
-abbrev pub use_told : Option Aired → Option (ℕ × ℕ)
-use_told None = None
-use_told (Some aired) = Some (aired.entry, aired.page)
+abbrev pub aired_pair : Option Aired → Option (ℕ × ℕ)
+aired_pair None = None
+aired_pair (Some aired) = Some (aired.entry, aired.page)
 
-abbrev pub air_told : List (Option Aired) → Air
-air_told aired = map use_told aired
+abbrev pub air_pairs : List (Option Aired) → Air
+air_pairs aired = map aired_pair aired
 
 abbrev pub record_of : Inside → Record
 record_of b = record {
@@ -51,7 +51,7 @@ record_of b = record {
   slots = b.slots;
   clock = b.clock;
   log = b.log.items;
-  air = air_told b.air.items;
+  air = air_pairs b.air.items;
 }
 
 -- an accepted message as it is kept
@@ -225,7 +225,7 @@ pub record HasRoom (claims : List Claim) (slot load : ℕ) : Type 0 where
   pub places : length (filter (is_claimed_at slot) claims) < 64
   pub loads : claimed_at claims slot + load ≤ SCALE
 
--- whether it has, as a budget tells: a write is answered so, and accepted now only where the load has room
+-- whether it has, as a budget answers: a write is answered so, and accepted now only where the load has room
 pub record IsRoom (claims : List Claim) (slot load : ℕ) (room : Result (Unit {0}) NoRoom) : Type 0 where
   pub says : room ≡ answer_of (length (filter (is_claimed_at slot) claims)) (claimed_at claims slot) load
   pub answered : (place : Option Place) (accepts : ℕ → Answer)
@@ -265,7 +265,7 @@ pub record IsBook (b : Inside) : Type 0 where
   pub legal : IsLegal (record_of b)
   pub short : b.slots ≤ 65535
   pub kept : map accepted_of b.accepted.items ≡ accepted_in b.log.items
-  pub follows : Follows b.plan (messages_in b.log.items) (air_told b.air.items)
+  pub follows : Follows b.plan (messages_in b.log.items) (air_pairs b.air.items)
   pub held : b.budget ≡ reservations_at b.clock (claims_in b.log.items)
   pub places : vec_len b.air ≡ b.clock
   pub room : b.slots ≤ vec_capacity b.air
@@ -286,5 +286,5 @@ record_of_run r = record {
   slots = r.slots;
   clock = r.slots;
   log = r.log.items;
-  air = air_told r.air.items;
+  air = air_pairs r.air.items;
 }

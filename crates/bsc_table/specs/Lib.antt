@@ -5,7 +5,7 @@ pub mod Record
 pub mod Answer
 pub mod Legal
 pub mod Promised
-pub mod Told
+pub mod Reported
 pub mod Book
 pub mod Refusals
 pub mod Written

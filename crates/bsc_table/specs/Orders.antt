@@ -20,7 +20,7 @@ IsWrite (commands.Kill id serial) = ⊥
 IsWrite (commands.Status id serial) = ⊥
 
 -- what a message of the warning centre can ask to be broadcast: from 1 to 15 pages with at most 82 octets used, a
--- period from 1 to 1,024 slots, and a data coding that tells an alphabet
+-- period from 1 to 1,024 slots, and a data coding that has an alphabet
 pub record IsBroadcastable (period : ℕ) (dcs : Dcs) (contents : List Content) : Type 0 where
   pub some_pages : 1 ≤ length contents
   pub few_pages : length contents ≤ 15

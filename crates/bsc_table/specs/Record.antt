@@ -173,12 +173,12 @@ messages_in log = map (λ a. a.message) (accepted_in log)
 abbrev pub accepted_named : ℕ → ℕ → List Entry → Option Accepted
 accepted_named id serial log = find (is_of_pair id serial) (accepted_in log)
 
-abbrev pub message_told : Option Accepted → Option ScheduledMessage
-message_told None = None
-message_told (Some a) = Some a.message
+abbrev pub message_found : Option Accepted → Option ScheduledMessage
+message_found None = None
+message_found (Some a) = Some a.message
 
 abbrev pub message_named : ℕ → ℕ → List Entry → Option ScheduledMessage
-message_named id serial log = message_told (accepted_named id serial log)
+message_named id serial log = message_found (accepted_named id serial log)
 
 -- a message that wasn't stopped by now is live up to the end of the periods of its requested broadcasts, if they have
 -- an end

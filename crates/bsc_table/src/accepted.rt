@@ -63,7 +63,7 @@ pub struct Place {
 }
 
 impl AcceptedMessage {
-    /// The message as a plan is told of it.
+    /// The message in the form that `Plan::add` takes.
     pub fn item(&self) -> Item
         ensures { message_from result ≡ record ((accepted_of self.now).message) { stop = None } }
     {

@@ -13,13 +13,14 @@ ghost use Rattle.bsc_table.specs.Claim.{stop_claims, is_claimed_at};
 ghost use Rattle.admission.specs.Load.{load_of};
 ghost use Rattle.bsc_table.specs.Record.{Record, accepted_in, is_of_pair, is_background, place_after, message_named};
 ghost use Rattle.bsc_table.specs.Record.{claim_of, claims_in};
-ghost use Rattle.bsc_table.specs.Answer.{told_of, answer_to_kill, answer_to_write, before_end, answer_with_room};
+ghost use Rattle.bsc_table.specs.Answer.{status_of, status_answer, answer_to_kill, answer_to_write, before_end};
+ghost use Rattle.bsc_table.specs.Answer.{answer_with_room};
 ghost use Rattle.bsc_table.specs.Answer.{answer_of};
 ghost use Rattle.bsc_table.specs.Orders.{IsWellFormed};
 ghost use Rattle.bsc_table.specs.Legal.{IsLegal};
 ghost use Rattle.bsc_table.specs.Promised.{IsServed, IsBounded};
 ghost use Rattle.bsc_table.specs.Steps.{opened, entry_by, with_entry, answered_with, IsPlayedUpTo, Ask, Play, IsStep};
-ghost use Rattle.bsc_table.specs.Book.{accepted_of, air_told, IsGoneTo, IsNotLive, IsLiveAs, IsLiveIn, IsNext};
+ghost use Rattle.bsc_table.specs.Book.{accepted_of, air_pairs, IsGoneTo, IsNotLive, IsLiveAs, IsLiveIn, IsNext};
 ghost use Rattle.bsc_table.specs.Book.{IsStop, IsStart, IsReplacement, IsOffered, IsRoom, IsLater, Decides};
 ghost use Rattle.bsc_table.specs.Book.{DecidesWrites, decided_answer, is_accepting};
 ghost use Rattle.bsc_table.specs.Book.{cause_of, left_by, place_of, reservation_for, HasRoomFor};
@@ -145,7 +146,7 @@ impl CellBook {
 
     /// What each played slot aired.
     pub fn air(&self) -> &[Option<Aired>]
-        ensures { air_told result.now ≡ self.now.air }
+        ensures { air_pairs result.now ≡ self.now.air }
     {
         self.air.as_slice()
     }
@@ -153,10 +154,7 @@ impl CellBook {
     /// How many broadcasts of a message were completed before the clock's slot, and how it stands there. None where the
     /// message was never accepted. No memory is taken, and there is no entry.
     pub fn status(&self, id: u16, serial: Serial) -> Option<(u16, State)>
-        ensures { MatchOption result
-            (told_of self.now.air self.now.clock (message_named id serial self.now.log) ≡ answers.Unknown)
-            (λ told. told_of self.now.air self.now.clock (message_named id serial self.now.log) ≡ answers.Told told.0
-            told.1) }
+        ensures { result ≡ status_of self.now.air self.now.clock (message_named id serial self.now.log) }
     {
         let message = self.named(id, serial)?;
         Some((self.completed(&message), message.state(self.clock)))
@@ -205,7 +203,7 @@ impl CellBook {
         }
     }
 
-    /// Plays `k` slots, or those up to the run's end, and tells which they were. No memory is taken.
+    /// Plays `k` slots, or those up to the run's end, and returns which they were. No memory is taken.
     pub fn play(&mut self, k: u16) -> SlotRange
         ensures range { result ≡ record { from = self.old.clock; to = min (self.old.clock + k) self.old.slots } }
         ensures played { IsPlayedUpTo (min (self.old.clock + k) self.old.slots) self.old self.new }
@@ -404,7 +402,7 @@ impl CellBook {
 
     /// The answer to a status.
     fn answer_to_status(&self, id: u16, serial: Serial) -> Answer
-        ensures right { result ≡ told_of self.now.air self.now.clock (message_named id serial self.now.log) }
+        ensures right { result ≡ status_answer self.now.air self.now.clock (message_named id serial self.now.log) }
         ensures noted { is_accepting result ≡ false }
     {
         match self.status(id, serial) {
@@ -649,7 +647,7 @@ fn cause_of(full: NoRoom) -> u8
 /// Adds what a slot airs, where there is room for it.
 fn push_aired(air: &mut Vec<Option<Aired>>, used: Option<(u16, u8)>)
     requires { vec_len air.old < vec_capacity air.old }
-    ensures aired { air_told air.new.items ≡ air_told air.old.items ++ used ∷ [] }
+    ensures aired { air_pairs air.new.items ≡ air_pairs air.old.items ++ used ∷ [] }
     ensures places { vec_len air.new ≡ vec_len air.old + 1 }
     ensures room { vec_capacity air.old ≤ vec_capacity air.new }
 {

@@ -12,7 +12,7 @@ ghost use Rattle.bsc_table.specs.Promised.{LegalPairsComeOnce, LegalClaimsFit, L
 ghost use Rattle.bsc_table.specs.Promised.{LegalHistoriesAreBounded, LegalPagesAreAiredOnce};
 ghost use Rattle.bsc_table.specs.Refusals.{RefusalsChangeNothing, AcceptedEntriesAreAll};
 ghost use Rattle.bsc_table.specs.Written.{AcceptedAreWrites, UsesAreOfWrites, AcceptedRise, AcceptedHaveLoads};
-ghost use Rattle.bsc_table.specs.Told.{LegalAnswersAreTrue};
+ghost use Rattle.bsc_table.specs.Reported.{LegalAnswersAreTrue};
 ghost use Rattle.bsc_table.specs.Steps.{OpenedAreLegal, StepKeepsLegal, StepsKeepLegal};
 
 /// Admitted load is a guarantee: where the loads that are reserved at each slot sum to at most `SCALE`, and each slot
@@ -135,7 +135,7 @@ pub fn legal_histories()
     // background message the least isn't promised.
     ensures legal_histories_are_bounded { LegalHistoriesAreBounded }
 
-    // And each number that was told of a message, in answer to its kill, to its replacement or to a status, is the
+    // And each number that was reported of a message, in answer to its kill, to its replacement or to a status, is the
     // number of its broadcasts that were completed by then, and lies between these bounds.
     ensures legal_answers_are_true { LegalAnswersAreTrue }
 {

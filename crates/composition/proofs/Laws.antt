@@ -9,7 +9,7 @@ use Rattle.bsc_table.specs.Record.{Accepted, is_of_pair}
 use Rattle.bsc_table.specs.Refusals.{AcceptedEntriesAreAll}
 use Rattle.bsc_table.specs.Written.{AcceptedAreWrites, AcceptedRise, AcceptedHaveLoads}
 use Rattle.bsc_table.specs.Promised.{LegalPairsComeOnce, LegalHistoriesAreBounded}
-use Rattle.bsc_table.specs.Told.{LegalAnswersAreTrue}
+use Rattle.bsc_table.specs.Reported.{LegalAnswersAreTrue}
 
 pub record Laws : Type 0 where
   pub last_page_counts : LastPagesAreCompletedBroadcasts

@@ -21,7 +21,8 @@ use Rattle.bsc_table.specs.Legal.{IsLegal}
 use Rattle.composition.proofs.Laws.{Laws}
 use Rattle.composition.specs.Sent.{page_with, page_aired, octets_of_view, blocks_of_slot, blocks_of}
 use Rattle.composition.specs.Composition.{name_accepted, message_accepted, blocks_before, ShownGrowByOne}
-use Rattle.composition.specs.Meaning.{AcceptedAreMeant, NoneAfterTheStop, PagesReadAreThoseAired, ToldIsWholeInBlocks}
+use Rattle.composition.specs.Meaning.{AcceptedAreMeant, NoneAfterTheStop, PagesReadAreThoseAired}
+use Rattle.composition.specs.Meaning.{ReportedIsWholeInBlocks}
 use Rattle.composition.specs.Meaning.{RecordsAreTapes, TextsAreThoseOfContents}
 use Rattle.composition.proofs.Blocks.{CanSend, pages_of_slots, octets_long}
 use Rattle.composition.proofs.Aired.{IsAired, all_aired, can_send_aired, pages_aired_in, same_pair}
@@ -37,10 +38,10 @@ pages_read_are_those_aired laws r legal =
     ∙ pages_of_slots (map (page_aired r.log) r.air) (can_send_aired r.log r.air
     (recursion_from_All (IsAired r.log) r.air (all_aired r sound legal)))
 
-pub told_is_whole_in_blocks : Laws → ToldIsWholeInBlocks
-told_is_whole_in_blocks laws r legal = λ k d within told is.
+pub reported_is_whole_in_blocks : Laws → ReportedIsWholeInBlocks
+reported_is_whole_in_blocks laws r legal = λ k d within reported is.
     let e : Entry = get_or r.log k d in
-    let true_of = laws.legal_answers_are_true r legal k d within told is in
+    let true_of = laws.legal_answers_are_true r legal k d within reported is in
     let a : Accepted = true_of.1 in
     let truly = true_of.4 in
     let count = completed_is_whole_in_blocks laws r legal true_of.0 true_of.1 true_of.2 (get_or r.log k d).slot

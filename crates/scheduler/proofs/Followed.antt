@@ -61,7 +61,7 @@ IsChosen-next plan messages air used sound choice follows =
     let Fit : ℕ → Type 0 = λ n. All (λ t. IsFit t n) plan.scheduled in
     let Chosen : ℕ → Type 0 = λ n. IsChosen messages air n used in
     let ChosenOf : List ScheduledMessage → Type 0 = λ ms. IsChosen ms air (length air) used in
-    subst Chosen (sym follows.asked) (subst ChosenOf follows.told
+    subst Chosen (sym follows.asked) (subst ChosenOf follows.same_messages
     (IsChosen-from_choice plan.scheduled air used (subst Fit follows.asked sound.fit) follows.counted
     (subst Choice follows.asked choice)))
 
@@ -76,7 +76,7 @@ Follows-next plan messages air used sound choice follows =
     let fit = subst Fit follows.asked sound.fit in
     let ready = subst Ready follows.asked (used_is_ready plan.scheduled plan.slot used sound.rising choice) in
     record {
-      told = unchanged_messages (after_slot plan.slot used) (λ t. refl) plan.scheduled ∙ follows.told;
+      same_messages = unchanged_messages (after_slot plan.slot used) (λ t. refl) plan.scheduled ∙ follows.same_messages;
       asked = ap (λ n. n + 1) follows.asked ∙ sym (length_push air used);
       counted = subst After (sym follows.asked) (All-map (λ t. Counts t (air ++ used ∷ []))
           (after_slot (length air) used) plan.scheduled (λ k d h. Counts-after (get_or plan.scheduled k d) air used
@@ -111,7 +111,8 @@ pub Follows-add : (plan : PlanState) (item : Item) (messages : List ScheduledMes
     → 0 < item.pages → 0 < item.period → Follows plan messages air
     → Follows (kept_with plan item) (messages ++ message_from item ∷ []) air
 Follows-add plan item messages air start pages period follows = record {
-  told = map_push message_of plan.scheduled (scheduled_new item) ∙ ap (λ ms. ms ++ message_from item ∷ []) follows.told;
+  same_messages = map_push message_of plan.scheduled (scheduled_new item)
+      ∙ ap (λ ms. ms ++ message_from item ∷ []) follows.same_messages;
   asked = follows.asked;
   counted = All-push (λ t. Counts t air) plan.scheduled (scheduled_new item) follows.counted
       (Counts-new item air pages period (omega (arith, start, follows.asked)));
@@ -168,7 +169,7 @@ Follows-stop plan entry slot messages air at standing sound follows =
     let fit = subst Fit follows.asked sound.fit in
     let free = only_standing plan.scheduled entry sound.rising standing in
     record {
-      told = messages_of-stopped plan entry slot ∙ ap (stopped_at entry slot) follows.told;
+      same_messages = messages_of-stopped plan entry slot ∙ ap (stopped_at entry slot) follows.same_messages;
       asked = follows.asked;
       counted = subst Stopped (sym (at ∙ follows.asked)) (All-map (λ t. Counts t air)
           (λ (t : Scheduled). scheduled_stopped (t.item.entry == entry) (length air) t) plan.scheduled
@@ -177,13 +178,13 @@ Follows-stop plan entry slot messages air at standing sound follows =
     }
 
 -- the completed number that is kept is that of the message
-pub completed-told : (plan : PlanState) (entry result : ℕ) (messages : List ScheduledMessage) (air : Air)
+pub completed-kept : (plan : PlanState) (entry result : ℕ) (messages : List ScheduledMessage) (air : Air)
     → All (λ t. t.item.entry ≡ entry → result ≡ t.completed) plan.scheduled → Follows plan messages air
     → All (λ m. m.entry ≡ entry → result ≡ completed m air (length air)) messages
-completed-told plan entry result messages air found follows =
+completed-kept plan entry result messages air found follows =
     let Told : List ScheduledMessage → Type 0 = λ ms. All (λ m. m.entry ≡ entry
     → result ≡ completed m air (length air)) ms in
-    subst Told follows.told (All-map (λ m. m.entry ≡ entry → result ≡ completed m air (length air)) message_of
+    subst Told follows.same_messages (All-map (λ m. m.entry ≡ entry → result ≡ completed m air (length air)) message_of
     plan.scheduled (λ k d h. λ named. found k d h named ∙ (follows.counted k d h).completed))
 
 -- the same where it is known by a test whether there was room

@@ -45,6 +45,6 @@ pub record Counts (t : Scheduled) (air : Air) : Type 0 where
 -- the plan follows the messages and their air list: it was told of these messages, each slot of the list was asked, and
 -- its counts are those of the list
 pub record Follows (plan : PlanState) (messages : List ScheduledMessage) (air : Air) : Type 0 where
-  pub told : messages_of plan ≡ messages
+  pub same_messages : messages_of plan ≡ messages
   pub asked : next_slot plan ≡ length air
   pub counted : All (λ t. Counts t air) plan.scheduled

@@ -108,7 +108,7 @@ impl Plan {
     /// A plan with no message, for which slot 0 is asked next.
     pub fn new(alloc: Global) -> Self
         ensures follows { Follows result [] [] }
-        ensures told { messages_of result ≡ [] }
+        ensures messages { messages_of result ≡ [] }
         ensures asked { next_slot result ≡ 0 }
     {
         Plan {
@@ -128,7 +128,7 @@ impl Plan {
         ensures follows { OnOk result ((messages : List ScheduledMessage) (air : Air)
             → Follows self.old messages air
             → Follows self.new (messages ++ message_from item ∷ []) air) }
-        ensures told { OnOk result (messages_of self.new ≡ messages_of self.old ++ message_from item ∷ []) }
+        ensures messages { OnOk result (messages_of self.new ≡ messages_of self.old ++ message_from item ∷ []) }
         ensures asked { next_slot self.new ≡ next_slot self.old }
         ensures refused { OnErr result (self.new ≡ self.old) }
     {
@@ -149,7 +149,7 @@ impl Plan {
         ensures follows { (messages : List ScheduledMessage) (air : Air)
             → Follows self.old messages air
             → Follows self.new messages (air ++ result ∷ []) }
-        ensures told { messages_of self.new ≡ messages_of self.old }
+        ensures messages { messages_of self.new ≡ messages_of self.old }
         ensures asked { next_slot self.new ≡ slot + 1 }
     {
         let used = choice(self.scheduled.as_slice(), slot);
@@ -169,7 +169,7 @@ impl Plan {
         ensures follows { (messages : List ScheduledMessage) (air : Air)
             → Follows self.old messages air
             → Follows self.new (stopped_at entry slot messages) air }
-        ensures told { messages_of self.new ≡ stopped_at entry slot (messages_of self.old) }
+        ensures messages { messages_of self.new ≡ stopped_at entry slot (messages_of self.old) }
         ensures asked { next_slot self.new ≡ slot }
     {
         let completed = completed_of(self.scheduled.as_slice(), entry);

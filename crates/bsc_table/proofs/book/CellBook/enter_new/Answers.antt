@@ -73,10 +73,10 @@ invariant_of-self-2 c =
     let more = ap (map accepted_of) kept ∙ kept_more c.self.inside.accepted.items c.args.new (accepted_in r.log)
     book.kept ∙ sym adds in
     -- the plan
-    let told = item_message new.message (message_from c.item.result) c.item.ensures may.standing in
+    let same_item = item_message new.message (message_from c.item.result) c.item.ensures may.standing in
     let messages = messages_with r.log e (accepted_in r.log) new adds in
     let FollowsOne : ScheduledMessage → Type 0 = λ m. Follows c.add.new.self (before ++ m ∷ []) r.air in
-    let follows = subst FollowsOne told (c.in_ok-add.ensures.follows before r.air book.follows) in
+    let follows = subst FollowsOne same_item (c.in_ok-add.ensures.follows before r.air book.follows) in
     -- the budget
     let claims = claims_with r.log e (accepted_in r.log) new adds in
     let reservations = begun_reservations (length r.log) r.clock None (accepted_in r.log) (claims_in r.log) new may

@@ -43,7 +43,7 @@ stop-requires-2-clause-standing c =
     let found = standing_in c.self.inside.plan r.clock r.log r.air old c.self.invariant.follows change.stops.there
     change.stops.live in
     standing_beside c.add.new.self r.clock r.log old (messages_of c.self.inside.plan) (message_from c.item.result)
-    c.in_ok-add.ensures.told found
+    c.in_ok-add.ensures.messages found
 
 pub release-requires-clause-period : goal.release-requires-clause-period
 release-requires-clause-period c =
@@ -136,11 +136,11 @@ invariant_of-self-2 c =
     let kept = ap (map accepted_of) c.push_reserved.ensures.items
     ∙ kept_more (with_items room c.stop.new.table).items c.args.new rest stopped ∙ sym change.after in
     -- the plan
-    let told = item_message new.message (message_from c.item.result) c.item.ensures may.standing in
+    let same_item = item_message new.message (message_from c.item.result) c.item.ensures may.standing in
     let messages = messages_with r.log e rest new change.after
     ∙ ap (λ (l : List ScheduledMessage). l ++ new.message ∷ []) same in
     let FollowsOne : ScheduledMessage → Type 0 = λ m. Follows c.add.new.self (before ++ m ∷ []) r.air in
-    let added = subst FollowsOne told (c.in_ok-add.ensures.follows before r.air book.follows) in
+    let added = subst FollowsOne same_item (c.in_ok-add.ensures.follows before r.air book.follows) in
     let FollowsThese : List ScheduledMessage → Type 0 = λ all. Follows c.stop-2.new.self all r.air in
     let below = number_below r.log old change.stops.there in
     let apart = stopped_beside entry r.clock before new.message (λ equal. omega (arith, below, may.numbered, equal)) in

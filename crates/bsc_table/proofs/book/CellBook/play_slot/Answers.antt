@@ -6,7 +6,7 @@ use Rattle.scheduler.specs.Follows.{Follows}
 use Rattle.bsc_table.specs.Record.{Record, messages_in, claims_in}
 use Rattle.bsc_table.specs.Claim.{Claim}
 use Rattle.bsc_table.specs.Legal.{IsLegal}
-use Rattle.bsc_table.specs.Book.{air_told, record_of, IsGoneTo}
+use Rattle.bsc_table.specs.Book.{air_pairs, record_of, IsGoneTo}
 use Rattle.bsc_table.proofs.BookLaws.{IsLegal-next}
 use Rattle.bsc_table.proofs.Sound.{IsSound-legal}
 use Rattle.bsc_table.proofs.Lines.{reservations_at-later}
@@ -41,7 +41,8 @@ invariant_of-self c =
 pub returns : goal.returns
 returns c =
     let P : Record → Type 0 = λ before. IsGoneTo (before.clock + 1) before
-    (record (record_of c.self.inside) { clock = c.self.inside.clock + 1; air = air_told c.push_aired.new.air.items }) in
+    (record (record_of c.self.inside) { clock = c.self.inside.clock + 1; air = air_pairs c.push_aired.new.air.items })
+    in
     subst P c.self.view_is (record {
       same_cell = refl;
       same_slots = refl;

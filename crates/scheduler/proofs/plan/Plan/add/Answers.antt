@@ -36,8 +36,8 @@ returns-clause-follows c =
       | in-Err w ↦ rw w.result-is tt
     ]
 
-pub returns-clause-told : goal.returns-clause-told
-returns-clause-told c =
+pub returns-clause-messages : goal.returns-clause-messages
+returns-clause-messages c =
     elim c.match-push.branch [
       | in-Ok w ↦ rw w.result-is (
           let items = w.in-Ok.ensures.items ∙ ap (λ x. c.self.inside.scheduled.items ++ x ∷ []) c.new.ensures in

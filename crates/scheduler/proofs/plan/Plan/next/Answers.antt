@@ -58,8 +58,8 @@ returns-clause-follows c = λ messages air follows.
     (subst Choice c.as_slice.ensures.value c.choice-used.ensures)
     (subst SlotFollows (sym at) (subst Same (sym c.self.view_is) follows)))
 
-pub returns-clause-told : goal.returns-clause-told
-returns-clause-told c =
+pub returns-clause-messages : goal.returns-clause-messages
+returns-clause-messages c =
     let over = written_over c.self.inside.scheduled (after_slot c.args.slot c.choice-used.result) _ _
     c.as_mut_slice.ensures.value c.pass.ensures in
     ap (map message_of) over ∙ (unchanged_messages (after_slot c.args.slot c.choice-used.result) (λ t. refl)

@@ -5,7 +5,7 @@ use Rattle.scheduler.specs.Message.{stopped_at}
 use Rattle.scheduler.specs.Completed.{completed}
 use Rattle.scheduler.specs.Follows.{PlanState, Follows, messages_of, message_of, next_slot}
 use Rattle.scheduler.specs.PlanSteps.{IsSound, scheduled_stopped}
-use Rattle.scheduler.proofs.Followed.{IsSound-stop, Follows-stop, completed-told, written_over, messages_of-stopped}
+use Rattle.scheduler.proofs.Followed.{IsSound-stop, Follows-stop, completed-kept, written_over, messages_of-stopped}
 use Rattle.scheduler.proofs.plan.Plan.stop.Goals as goal
 
 pub invariant_of-self : goal.invariant_of-self
@@ -25,7 +25,7 @@ returns-clause-completed c = λ messages air follows.
     let at = c.requires.at_next ∙ follows.asked in
     let Told : ℕ → Type 0 = λ n. All (λ m. m.entry ≡ c.args.entry
     → c.completed_of-completed.result ≡ completed m air n) messages in
-    subst Told (sym at) (completed-told plan c.args.entry c.completed_of-completed.result messages air
+    subst Told (sym at) (completed-kept plan c.args.entry c.completed_of-completed.result messages air
     (subst Found c.as_slice.ensures.value c.completed_of-completed.ensures)
     (subst Same (sym c.self.view_is) follows))
 
@@ -43,8 +43,8 @@ returns-clause-follows c = λ messages air follows.
     subst P (sym over) (Follows-stop plan c.args.entry c.args.slot messages air (subst Next back c.requires.at_next)
     (subst Standing back c.requires.standing) c.self.invariant (subst Same back follows))
 
-pub returns-clause-told : goal.returns-clause-told
-returns-clause-told c =
+pub returns-clause-messages : goal.returns-clause-messages
+returns-clause-messages c =
     let plan : PlanState = record { slot = c.self.inside.slot; scheduled = c.self.inside.scheduled.items } in
     let over = written_over c.self.inside.scheduled (λ (t : Scheduled). scheduled_stopped (t.item.entry == c.args.entry)
     c.args.slot t) _ _ c.as_mut_slice.ensures.value c.stop_at.ensures in

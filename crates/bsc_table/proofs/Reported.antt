@@ -24,13 +24,13 @@ use Rattle.bsc_table.specs.declared.entry.Answer.TheVariants as answers
 use Rattle.bsc_table.specs.declared.entry.Entry.{Entry}
 use Rattle.bsc_table.specs.Bounds.{least_completed, most_completed}
 use Rattle.bsc_table.specs.Record.{Record, Accepted, start_of, is_stop_of, stop_after, stopped_by, added_by}
-use Rattle.bsc_table.specs.Record.{accepted_in, messages_in, is_of_pair, message_told, message_named, place_after}
+use Rattle.bsc_table.specs.Record.{accepted_in, messages_in, is_of_pair, message_found, message_named, place_after}
 use Rattle.bsc_table.specs.Record.{claims_in}
 use Rattle.bsc_table.specs.Claim.{stop_claims}
 use Rattle.bsc_table.specs.Answer.{answer_to_new, answer_to_replacement, unless_accepted, answer_to_write}
-use Rattle.bsc_table.specs.Answer.{answer_to_kill, told_of, answer_with_room, answer_of}
+use Rattle.bsc_table.specs.Answer.{answer_to_kill, status_answer, answer_with_room, answer_of}
 use Rattle.bsc_table.specs.Legal.{IsLegal}
-use Rattle.bsc_table.specs.Told.{completed_told, IsAbout, IsTrulyTold, LegalAnswersAreTrue}
+use Rattle.bsc_table.specs.Reported.{completed_in, IsAbout, IsTrulyReported, LegalAnswersAreTrue}
 use Rattle.bsc_table.proofs.Appended.{accepted_in-push}
 use Rattle.scheduler.proofs.Lists.{count_below_same}
 use Rattle.bsc_table.proofs.Named.{find_passes}
@@ -39,20 +39,20 @@ use Rattle.bsc_table.proofs.Promised.{legal_histories_are_bounded}
 use Rattle.bsc_table.proofs.Sound.{HasLoad, IsSound-legal}
 
 -- the number told is that of an accepted message that the command is about
-record IsTold (log : List Entry) (air : Air) (slot : ℕ) (command : Command) (told : ℕ) : Type 0 where
+record IsReported (log : List Entry) (air : Air) (slot : ℕ) (command : Command) (reported : ℕ) : Type 0 where
   of_message : Accepted
   here : Contains (accepted_in log) of_message
   about : IsAbout of_message.id of_message.serial command
-  number : completed of_message.message air slot ≡ told
+  number : completed of_message.message air slot ≡ reported
 
 -- if the answer tells a number, it is told so
 abbrev TellsTrue : List Entry → Air → ℕ → Command → Answer → Type 0
-TellsTrue log air slot command answer = (told : ℕ) → completed_told answer ≡ Some told
-    → IsTold log air slot command told
+TellsTrue log air slot command answer = (reported : ℕ) → completed_in answer ≡ Some reported
+    → IsReported log air slot command reported
 
 tells_none : (log : List Entry) (air : Air) (slot : ℕ) (command : Command) (answer : Answer)
-    → completed_told answer ≡ None → TellsTrue log air slot command answer
-tells_none log air slot command answer none told says = absurd (none-some told (sym none ∙ says))
+    → completed_in answer ≡ None → TellsTrue log air slot command answer
+tells_none log air slot command answer none reported says = absurd (none-some reported (sym none ∙ says))
 
 -- the pair by which a message was found is its own
 found_pair : (id serial : ℕ) (all : List Accepted) (a : Accepted) → find (is_of_pair id serial) all ≡ Some a
@@ -63,13 +63,13 @@ found_pair id serial all a found =
 
 status_tells : (log : List Entry) (air : Air) (slot id serial : ℕ) (found : Option Accepted)
     → find (is_of_pair id serial) (accepted_in log) ≡ found → TellsTrue log air slot (commands.Status id serial)
-    (told_of air slot (message_told found))
+    (status_answer air slot (message_found found))
 status_tells log air slot id serial None e = tells_none log air slot (commands.Status id serial) answers.Unknown refl
-status_tells log air slot id serial (Some a) e = λ told says. record {
+status_tells log air slot id serial (Some a) e = λ reported says. record {
   of_message = a;
   here = Contains-find (is_of_pair id serial) (accepted_in log) a e;
   about = found_pair id serial (accepted_in log) a e;
-  number = same_Some (completed a.message air slot) told says;
+  number = same_Some (completed a.message air slot) reported says;
 }
 
 kill_tells : (log : List Entry) (air : Air) (slot id serial : ℕ)
@@ -79,11 +79,11 @@ kill_tells log air slot id serial =
     of_live_cases P slot (find (is_of_pair id serial) (accepted_in log))
     (λ a. answers.Stopped (completed a.message air slot))
     (λ cause. tells_none log air slot (commands.Kill id serial) (answers.Cause cause) refl)
-    (λ a found live. λ told says. record {
+    (λ a found live. λ reported says. record {
       of_message = a;
       here = Contains-find (is_of_pair id serial) (accepted_in log) a found;
       about = found_pair id serial (accepted_in log) a found;
-      number = same_Some (completed a.message air slot) told says;
+      number = same_Some (completed a.message air slot) reported says;
     })
 
 -- a write in the place of none tells nothing, one in the place of another tells of that one
@@ -108,13 +108,13 @@ write_tells log air slot load id serial (Some old) category command about =
     refuses (λ a found live. unless_accepted_cases P (find (is_of_pair id serial) (accepted_in log))
     (answer_to_replacement log air slot category load a) refuses (λ fresh.
     let left = stop_claims a.message.entry slot (claims_in log) in
-    let tells : (start : ℕ) → P (answers.Replaced start (completed a.message air slot)) = λ start. λ told says.
+    let tells : (start : ℕ) → P (answers.Replaced start (completed a.message air slot)) = λ start. λ reported says.
     let pair = found_pair id old (accepted_in log) a found in
     record {
       of_message = a;
       here = Contains-find (is_of_pair id old) (accepted_in log) a found;
       about = about a pair.0 (ap (λ n. Some n) pair.1);
-      number = same_Some (completed a.message air slot) told says;
+      number = same_Some (completed a.message air slot) reported says;
     } in
     for_cases P category left slot load (place_after left slot a load)
     (λ start. answers.Replaced start (completed a.message air slot)) refuses (λ room fits. tells slot)
@@ -279,10 +279,11 @@ IsBounded r m = (slot : ℕ) → slot ≤ r.clock → (layer m ≡ 0 → least_c
     × (completed m r.air slot ≤ most_completed m slot)
 
 -- what was told of a message is true of what became of it
-told_of_continued : (r : Record) (e : Entry) (told : ℕ) (a b : Accepted) → IsLegal r → e.slot ≤ r.clock
-    → IsAbout a.id a.serial e.command → completed a.message (take e.slot r.air) e.slot ≡ told → IsContinued e.slot a b
-    → Contains (accepted_in r.log) b → IsTrulyTold r.air e told b
-told_of_continued r e told a b legal by about number on here =
+reported_of_continued : (r : Record) (e : Entry) (reported : ℕ) (a b : Accepted) → IsLegal r → e.slot ≤ r.clock
+    → IsAbout a.id a.serial e.command → completed a.message (take e.slot r.air) e.slot ≡ reported
+    → IsContinued e.slot a b
+    → Contains (accepted_in r.log) b → IsTrulyReported r.air e reported b
+reported_of_continued r e reported a b legal by about number on here =
     let loaded = All-contains HasLoad (accepted_in r.log) b (IsSound-legal r legal).loaded here in
     let same = completed-continued a b r.air e.slot (omega (arith, legal.played))
     (pages-continued e.slot a b on loaded.0) on in
@@ -311,16 +312,16 @@ continued_in r legal k d a within here =
     (on.0, subst Has all on.1, on.2)
 
 pub legal_answers_are_true : LegalAnswersAreTrue
-legal_answers_are_true r legal = λ k d within. λ told says.
+legal_answers_are_true r legal = λ k d within. λ reported says.
     let e : Entry = get_or r.log k d in
     let Tells : Answer → Type 0 = λ answer. TellsTrue (take k r.log) (take e.slot r.air) e.slot e.command answer in
     let tells = subst Tells (sym (legal.answered k d within))
-    (tells_true r.slots (take k r.log) (take e.slot r.air) e.slot e.command) told says in
+    (tells_true r.slots (take k r.log) (take e.slot r.air) e.slot e.command) reported says in
     let on = continued_in r legal k d tells.of_message within tells.here in (
       on.1.0,
       on.0,
       on.1.1,
       on.1.2,
-      told_of_continued r e told tells.of_message on.0 legal (legal.known k d within)
+      reported_of_continued r e reported tells.of_message on.0 legal (legal.known k d within)
           tells.about tells.number on.2 on.1,
     )
