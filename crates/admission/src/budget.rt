@@ -13,7 +13,7 @@ use arrayvec::ArrayVec;
 use std::marker::Model;
 
 /// How many messages may be reserved in a cell at once (own).
-const PLACES: usize = 64;
+const MAX_RESERVED: usize = 64;
 
 /// One reservation of a budget: the load that is reserved for a log entry, up to, and without, the slot at which it
 /// ends.
@@ -337,7 +337,7 @@ fn room(places: usize, sum: u64, load: u64) -> Result<(), NoRoom>
     requires { sum ≤ SCALE }
     ensures { result ≡ answer_of places sum load }
 {
-    if places >= PLACES {
+    if places >= MAX_RESERVED {
         return Err(NoRoom::Table);
     }
     if load > SCALE - sum {

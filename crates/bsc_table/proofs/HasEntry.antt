@@ -16,8 +16,8 @@ use Rattle.bsc_table.specs.Claim.{Claim, is_claimed_at, claimed_at, stop_claims}
 use Rattle.bsc_table.specs.Handover.{Place}
 use Rattle.bsc_table.specs.Record.{Accepted, accepted_named, message_named, claims_in, is_background, place_after}
 use Rattle.bsc_table.specs.Record.{is_live}
-use Rattle.bsc_table.specs.Answer.{answer_at, answer_beside, answer_for, answer_to_new, answer_to_replacement}
-use Rattle.bsc_table.specs.Answer.{unless_accepted, of_live, answer_to_write, answer_to_kill, status_answer}
+use Rattle.bsc_table.specs.Answer.{answer_at, admit_or_refuse, answer_for, answer_to_new, answer_to_replacement}
+use Rattle.bsc_table.specs.Answer.{unless_accepted, if_live, answer_to_write, answer_to_kill, status_answer}
 use Rattle.bsc_table.specs.Answer.{answer_with_room}
 use Rattle.bsc_table.specs.Steps.{has_entry}
 
@@ -40,10 +40,10 @@ of_category category claims slot load place accepts has =
     let now : Answer = cond (ltb SCALE (claimed_at claims slot + load)) later (accepts slot) in
     let fits : HasOne now = cond_both (ltb SCALE (claimed_at claims slot + load)) later (accepts slot) HasOne
     (λ _. of_place claims slot accepts place has) (λ _. has slot) in
-    let beside : HasOne (answer_beside claims slot load place accepts) = cond_both
+    let beside : HasOne (admit_or_refuse claims slot load place accepts) = cond_both
     (leb 64 (length (filter (is_claimed_at slot) claims))) (answers.Cause 0x07) now HasOne (λ _. refl) (λ _. fits)
     in
-    cond_both (is_background category) (accepts slot) (answer_beside claims slot load place accepts) HasOne
+    cond_both (is_background category) (accepts slot) (admit_or_refuse claims slot load place accepts) HasOne
     (λ _. has slot) (λ _. beside)
 
 of_pair : (named : Option ScheduledMessage) (answer : Answer) → HasOne answer → HasOne (unless_accepted named answer)
@@ -52,7 +52,7 @@ of_pair (Some m) answer has = refl
 
 of_one : (slot : ℕ) (found : Option Accepted) (answer : Accepted → Answer)
     → ((a : Accepted) → HasOne (answer a))
-    → HasOne (of_live slot found answer)
+    → HasOne (if_live slot found answer)
 of_one slot None answer has = refl
 of_one slot (Some a) answer has =
     cond_both (is_live slot a.message) (answer a) (answers.Cause 0x02) HasOne (λ _. has a) (λ _. refl)

@@ -30,8 +30,8 @@ use Rattle.bsc_table.specs.Claim.{Claim, own_load, reserves, is_claimed_at, clai
 use Rattle.bsc_table.specs.Handover.{Place, ahead_of, numbered, handover}
 use Rattle.bsc_table.specs.Room.{AreInOrder}
 use Rattle.bsc_table.specs.Begun.{StartsNow, Starts, IsBegun}
-use Rattle.bsc_table.specs.Answer.{answer_at, answer_beside, answer_for, answer_to_new, answer_to_replacement}
-use Rattle.bsc_table.specs.Answer.{unless_accepted, of_live, answer_to_write, answer_to_kill, status_answer, before_end}
+use Rattle.bsc_table.specs.Answer.{answer_at, admit_or_refuse, answer_for, answer_to_new, answer_to_replacement}
+use Rattle.bsc_table.specs.Answer.{unless_accepted, if_live, answer_to_write, answer_to_kill, status_answer, before_end}
 use Rattle.bsc_table.specs.Answer.{answer_with_room, answer_of}
 use Rattle.bsc_table.specs.Book.{stop_numbered}
 use Rattle.bsc_table.proofs.Ahead.{taken, from_stopped}
@@ -179,7 +179,7 @@ before_end_cases P slots slot answer refuses accepts =
 pub of_live_cases : (P : Answer → Type 0) (slot : ℕ) (found : Option Accepted) (answer : Accepted → Answer)
     → ((cause : ℕ) → P (answers.Cause cause))
     → ((a : Accepted) → found ≡ Some a → is_live slot a.message ≡ true → P (answer a))
-    → P (of_live slot found answer)
+    → P (if_live slot found answer)
 of_live_cases P slot None answer refuses accepts = refuses 0x02
 of_live_cases P slot (Some a) answer refuses accepts =
     cond_both (is_live slot a.message) (answer a) (answers.Cause 0x02) P (λ live. accepts a refl live)
@@ -209,7 +209,7 @@ pub beside_cases : (P : Answer → Type 0) (claims : List Claim) (slot load : �
     → (length (filter (is_claimed_at slot) claims) < 64 → claimed_at claims slot + load ≤ SCALE → P (accepts slot))
     → (length (filter (is_claimed_at slot) claims) < 64 → (p : Place) → place ≡ Some p
     → claimed_at claims slot + p.excess ≤ SCALE → P (accepts p.start))
-    → P (answer_beside claims slot load place accepts)
+    → P (admit_or_refuse claims slot load place accepts)
 beside_cases P claims slot load place accepts refuses now later =
     let places : ℕ = length (filter (is_claimed_at slot) claims) in
     let sum : ℕ = claimed_at claims slot + load in
@@ -229,7 +229,7 @@ pub for_cases : (P : Answer → Type 0) (category : Category) (claims : List Cla
     → place ≡ Some p → claimed_at claims slot + p.excess ≤ SCALE → P (accepts p.start))
     → P (answer_for category claims slot load place accepts)
 for_cases P category claims slot load place accepts refuses now later =
-    cond_both (is_background category) (accepts slot) (answer_beside claims slot load place accepts) P
+    cond_both (is_background category) (accepts slot) (admit_or_refuse claims slot load place accepts) P
     (λ is. now (λ front. absurd (not_in_front category is front))
     (λ front. absurd (not_in_front category is front))) (λ is. beside_cases P claims slot load place accepts
     refuses (λ room fits. now (λ _. room) (λ _. fits)) (later (in_front category is)))

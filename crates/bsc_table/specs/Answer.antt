@@ -36,8 +36,8 @@ answer_at claims slot accepts (Some place) =
     if nat_lt SCALE (claimed_at claims slot + place.excess) then answers.Cause 0x06 else accepts place.start
 
 -- 5 and 6, else the answer that accepts, by the slot at which the message starts: at once where its load fits
-abbrev pub answer_beside : List Claim → ℕ → ℕ → Option Place → (ℕ → Answer) → Answer
-answer_beside claims slot load place accepts =
+abbrev pub admit_or_refuse : List Claim → ℕ → ℕ → Option Place → (ℕ → Answer) → Answer
+admit_or_refuse claims slot load place accepts =
     if nat_le 64 (length (filter (is_claimed_at slot) claims)) then answers.Cause 0x07
     else if nat_lt SCALE (claimed_at claims slot + load) then answer_at claims slot accepts place
     else accepts slot
@@ -45,7 +45,7 @@ answer_beside claims slot load place accepts =
 -- 5 and 6 by the category: a background message is accepted at once
 abbrev pub answer_for : Category → List Claim → ℕ → ℕ → Option Place → (ℕ → Answer) → Answer
 answer_for category claims slot load place accepts =
-    if is_background category then accepts slot else answer_beside claims slot load place accepts
+    if is_background category then accepts slot else admit_or_refuse claims slot load place accepts
 
 -- a write in the place of no message: there is no place that it may take over
 abbrev pub answer_to_new : List Entry → ℕ → Category → ℕ → Answer
@@ -66,20 +66,20 @@ unless_accepted (Some m) answer = answers.Cause 0x0D
 unless_accepted None answer = answer
 
 -- 3: what is said of a live message; cause 02 where it isn't live, or was never accepted
-abbrev pub of_live : ℕ → Option Accepted → (Accepted → Answer) → Answer
-of_live slot None answer = answers.Cause 0x02
-of_live slot (Some a) answer = if is_live slot a.message then answer a else answers.Cause 0x02
+abbrev pub if_live : ℕ → Option Accepted → (Accepted → Answer) → Answer
+if_live slot None answer = answers.Cause 0x02
+if_live slot (Some a) answer = if is_live slot a.message then answer a else answers.Cause 0x02
 
 abbrev pub answer_to_write : List Entry → Air → ℕ → ℕ → ℕ → Option ℕ → Category → ℕ → Answer
 answer_to_write log air slot id serial None category load =
     unless_accepted (message_named id serial log) (answer_to_new log slot category load)
 answer_to_write log air slot id serial (Some replaced) category load =
-    of_live slot (accepted_named id replaced log) (λ old.
+    if_live slot (accepted_named id replaced log) (λ old.
     unless_accepted (message_named id serial log) (answer_to_replacement log air slot category load old))
 
 abbrev pub answer_to_kill : List Entry → Air → ℕ → ℕ → ℕ → Answer
 answer_to_kill log air slot id serial =
-    of_live slot (accepted_named id serial log) (λ a. answers.Stopped (completed a.message air slot))
+    if_live slot (accepted_named id serial log) (λ a. answers.Stopped (completed a.message air slot))
 
 -- how many broadcasts of a message are completed before a slot, and how it stands there, if there is a message
 abbrev pub status_of : Air → ℕ → Option ScheduledMessage → Option (ℕ × State)

@@ -33,7 +33,7 @@ use Rattle.bsc_table.specs.Begun.{IsBegun}
 use Rattle.bsc_table.specs.Claim.{Claim, own_load, end_of, is_claimed_at, claimed_at, stop_claims}
 use Rattle.bsc_table.specs.Handover.{Place}
 use Rattle.bsc_table.specs.Orders.{IsWellFormed}
-use Rattle.bsc_table.specs.Answer.{answer_at, answer_beside, answer_with_room}
+use Rattle.bsc_table.specs.Answer.{answer_at, admit_or_refuse, answer_with_room}
 use Rattle.bsc_table.specs.Legal.{IsLegal}
 use Rattle.bsc_table.specs.Steps.{entry_by}
 
@@ -229,7 +229,8 @@ pub record HasRoom (claims : List Claim) (slot load : ℕ) : Type 0 where
 pub record IsRoom (claims : List Claim) (slot load : ℕ) (room : Result (Unit {0}) NoRoom) : Type 0 where
   pub says : room ≡ answer_of (length (filter (is_claimed_at slot) claims)) (claimed_at claims slot) load
   pub answered : (place : Option Place) (accepts : ℕ → Answer)
-      → answer_beside claims slot load place accepts ≡ by_room room (accepts slot) (answer_at claims slot accepts place)
+      → admit_or_refuse claims slot load place accepts ≡ by_room room (accepts slot)
+      (answer_at claims slot accepts place)
   pub fits : OnOk room (HasRoom claims slot load)
 
 -- a place as it is kept

@@ -35,32 +35,13 @@ use crate::entry::{Aired, Answer, Entry, SlotRange, State};
 use crate::record::CellRecord;
 use admission::{Budget, NoRoom};
 use cbs_page::Serial;
-use cbsp_wire::Cell;
+use cbsp_wire::{Cell, cause};
 use scheduler::Plan;
 use std::alloc::Global;
 use std::marker::Model;
 
-/// The causes of refusals, as they are checked (3GPP TS 48.049, 8.2, Cause; which applies when is own). The log is
-/// full.
-const LOG_IS_FULL: u8 = 0x08;
-
-/// The run is over.
-const RUN_IS_OVER: u8 = 0x0A;
-
-/// The message to stop or to replace isn't live.
-const NOT_LIVE: u8 = 0x02;
-
-/// A message of this identifier and serial number was accepted before.
-const ACCEPTED_BEFORE: u8 = 0x0D;
-
-/// 64 messages are reserved.
-const TABLE_IS_FULL: u8 = 0x07;
-
-/// The load doesn't fit beside those that are reserved.
-const LOAD_IS_FULL: u8 = 0x06;
-
 /// How many entries a log has room for (own).
-const ENTRIES: usize = 4096;
+const MAX_ENTRIES: usize = 4096;
 
 /// The book of a cell: the log of its commands with their answers, and what each played slot aired.
 ///
@@ -192,8 +173,8 @@ impl CellBook {
         // A full log takes no memory to say so.
         ensures full { 4096 ≤ length self.old.log → result ≡ answers.Cause 0x08 }
     {
-        if self.log.len() >= ENTRIES {
-            return Answer::Cause(LOG_IS_FULL);
+        if self.log.len() >= MAX_ENTRIES {
+            return Answer::Cause(cause::BSC_MEMORY_EXCEEDED);
         }
         let decision = self.decide(command);
         let answer = decision.answer();
@@ -420,10 +401,10 @@ impl CellBook {
         ensures decides { Decides self.now (commands.Kill id serial) result }
     {
         if self.is_over() {
-            return Decision::Noted(Answer::Cause(RUN_IS_OVER));
+            return Decision::Noted(Answer::Cause(cause::CELL_BROADCAST_NOT_OPERATIONAL));
         }
         match self.live(id, serial) {
-            None => Decision::Noted(Answer::Cause(NOT_LIVE)),
+            None => Decision::Noted(Answer::Cause(cause::MESSAGE_REFERENCE_NOT_IDENTIFIED)),
             Some(old) => Decision::Stops {
                 old,
                 completed: self.completed(&old),
@@ -441,7 +422,7 @@ impl CellBook {
         ensures decides { DecidesWrites self.now (accepted_of new) replaces result }
     {
         if self.is_over() {
-            return Decision::Noted(Answer::Cause(RUN_IS_OVER));
+            return Decision::Noted(Answer::Cause(cause::CELL_BROADCAST_NOT_OPERATIONAL));
         }
         match replaces {
             None => self.decide_new(new),
@@ -458,7 +439,7 @@ impl CellBook {
         ensures decides { DecidesWrites self.now (accepted_of new) None result }
     {
         if self.named(new.id, new.serial).is_some() {
-            return Decision::Noted(Answer::Cause(ACCEPTED_BEFORE));
+            return Decision::Noted(Answer::Cause(cause::MESSAGE_REFERENCE_ALREADY_USED));
         }
         if new.category.is_background() {
             return Decision::Starts { new };
@@ -479,9 +460,9 @@ impl CellBook {
         ensures decides { DecidesWrites self.now (accepted_of new) (Some replaced) result }
     {
         match self.live(new.id, replaced) {
-            None => Decision::Noted(Answer::Cause(NOT_LIVE)),
+            None => Decision::Noted(Answer::Cause(cause::MESSAGE_REFERENCE_NOT_IDENTIFIED)),
             Some(_) if self.named(new.id, new.serial).is_some() => {
-                Decision::Noted(Answer::Cause(ACCEPTED_BEFORE))
+                Decision::Noted(Answer::Cause(cause::MESSAGE_REFERENCE_ALREADY_USED))
             }
             Some(old) if new.category.is_background() => Decision::Replaces {
                 old,
@@ -494,9 +475,9 @@ impl CellBook {
                     new,
                     completed: self.completed(&old),
                 },
-                Err(NoRoom::Table) => Decision::Noted(Answer::Cause(TABLE_IS_FULL)),
+                Err(NoRoom::Table) => Decision::Noted(Answer::Cause(cause::CELL_MEMORY_EXCEEDED)),
                 Err(NoRoom::Load) => match self.later_place(&old, new.load()) {
-                    None => Decision::Noted(Answer::Cause(LOAD_IS_FULL)),
+                    None => Decision::Noted(Answer::Cause(cause::BSC_CAPACITY_EXCEEDED)),
                     Some(place) => Decision::Replaces {
                         old,
                         new: new.waiting_at(place),
@@ -639,8 +620,8 @@ fn cause_of(full: NoRoom) -> u8
     ensures { result ≡ cause_of full }
 {
     match full {
-        NoRoom::Table => TABLE_IS_FULL,
-        NoRoom::Load => LOAD_IS_FULL,
+        NoRoom::Table => cause::CELL_MEMORY_EXCEEDED,
+        NoRoom::Load => cause::BSC_CAPACITY_EXCEEDED,
     }
 }
 

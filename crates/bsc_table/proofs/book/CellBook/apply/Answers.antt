@@ -22,7 +22,7 @@ returns-in-Ok-clause-legal c =
     let e : Entry = entry_with command r.clock answer in
     let next : IsNext r e = record {
       now = refl;
-      room = omega (arith, c.len.ensures, c.self.inside.log.ok.0, c.if-len-ge-ENTRIES.false);
+      room = omega (arith, c.len.ensures, c.self.inside.log.ok.0, c.if-len-ge-MAX_ENTRIES.false);
       formed = c.requires;
       right = subst Right (sym c.self.view_is) c.decide-decision.ensures.right;
     } in
@@ -42,11 +42,11 @@ returns-in-Ok-clause-entered c =
     c.in-Ok.ensures.entered ∙ sym here ∙ ap (λ (a : Answer). answered_with command a r) (sym c.answer-answer.ensures)
 
 -- a full log
-pub returns-then-len-ge-ENTRIES-clause-step : goal.returns-then-len-ge-ENTRIES-clause-step
-returns-then-len-ge-ENTRIES-clause-step c =
+pub returns-then-len-ge-MAX_ENTRIES-clause-step : goal.returns-then-len-ge-MAX_ENTRIES-clause-step
+returns-then-len-ge-MAX_ENTRIES-clause-step c =
     let Full : Record → Type 0 = λ x. 4096 ≤ length x.log in
     let full : Full (record_of c.self.inside) =
-    omega (arith, c.len.ensures, c.self.inside.log.ok.0, c.if-len-ge-ENTRIES.true) in (
+    omega (arith, c.len.ensures, c.self.inside.log.ok.0, c.if-len-ge-MAX_ENTRIES.true) in (
       answers.Cause 0x08,
       inr (sym (cond-true _ _ _ (le-leb 4096 (length c.args.self.now.log) (subst Full c.self.view_is full)))),
       refl,
@@ -60,7 +60,7 @@ returns-in-Ok-clause-step c =
     let answer : Answer = decided_answer c.decide-decision.result in
     let Room : Record → Type 0 = λ x. length x.log < 4096 in
     let room : Room (record_of c.self.inside) =
-    omega (arith, c.len.ensures, c.self.inside.log.ok.0, c.if-len-ge-ENTRIES.false) in
+    omega (arith, c.len.ensures, c.self.inside.log.ok.0, c.if-len-ge-MAX_ENTRIES.false) in
     let right : answer ≡ answer_of r.slots r.log r.air r.clock command = c.decide-decision.ensures.right
     ∙ sym (cond-false _ _ _ (lt-leb 4096 (length r.log) (subst Room c.self.view_is room))) in
     let has : has_entry answer ≡ true = ap has_entry c.decide-decision.ensures.right
