@@ -3,7 +3,7 @@ use Rattle.std.specs.List.{Contains}
 use Rattle.scheduler.specs.Completed.{completed}
 use Rattle.bsc_table.specs.Record.{Record, Accepted, accepted_in, messages_in}
 use Rattle.bsc_table.specs.Book.{accepted_of, record_of}
-use Rattle.bsc_table.proofs.Booked.{known_to_plan, completed_of_it}
+use Rattle.bsc_table.proofs.Cell.PlanOfTable.{known_to_plan, completed_of_it}
 use Rattle.bsc_table.proofs.book.CellBook.completed.Goals as goal
 
 pub done-requires : goal.done-requires

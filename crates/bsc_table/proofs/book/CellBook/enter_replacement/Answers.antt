@@ -13,14 +13,15 @@ use Rattle.bsc_table.specs.Record.{Record, Accepted, accepted_in, messages_in, c
 use Rattle.bsc_table.specs.Claim.{Claim, reserves, stop_claims}
 use Rattle.bsc_table.specs.Book.{accepted_of, stop_numbered, record_of, reservations_at, HasRoomFor, IsNext}
 use Rattle.bsc_table.specs.Book.{IsReplacement}
-use Rattle.bsc_table.proofs.Outcome.{messages_stopped, claims_stopped}
-use Rattle.bsc_table.proofs.Begun.{room_for_replacement}
-use Rattle.bsc_table.proofs.Sound.{HasLoad, IsSound-legal}
-use Rattle.bsc_table.proofs.Ranks.{in_front, layer_tells}
-use Rattle.bsc_table.proofs.Entering.{free_of, book_with, table_stopped, released_reservations, messages_with}
-use Rattle.bsc_table.proofs.Entering.{kept_more}
-use Rattle.bsc_table.proofs.Entering.{planned_below, held_below_without, number_below, standing_in, standing_beside}
-use Rattle.bsc_table.proofs.Entering.{held_in, item_message, begun_reservations, claims_with, stopped_beside}
+use Rattle.bsc_table.proofs.History.NextEntry.{messages_stopped, claims_stopped}
+use Rattle.bsc_table.proofs.History.Begun.{room_for_replacement}
+use Rattle.bsc_table.proofs.History.LegalIsSound.{HasLoad, IsSound-legal}
+use Rattle.bsc_table.proofs.History.Ranks.{in_front, layer_tells}
+use Rattle.bsc_table.proofs.Cell.WithEntry.{free_of, book_with, table_stopped, released_reservations, messages_with}
+use Rattle.bsc_table.proofs.Cell.WithEntry.{kept_more}
+use Rattle.bsc_table.proofs.Cell.WithEntry.{planned_below, held_below_without, number_below, standing_in}
+use Rattle.bsc_table.proofs.Cell.WithEntry.{standing_beside}
+use Rattle.bsc_table.proofs.Cell.WithEntry.{held_in, item_message, begun_reservations, claims_with, stopped_beside}
 use Rattle.bsc_table.proofs.book.CellBook.enter_replacement.Goals as goal
 
 pub add-requires-clause-rising : goal.add-requires-clause-rising

@@ -10,10 +10,11 @@ use Rattle.bsc_table.specs.declared.entry.Entry.{Entry}
 use Rattle.bsc_table.specs.Record.{Record, Accepted, accepted_in, messages_in, is_background}
 use Rattle.bsc_table.specs.Claim.{Claim}
 use Rattle.bsc_table.specs.Book.{accepted_of, stop_numbered, record_of, reservations_at, IsNext, IsStop}
-use Rattle.bsc_table.proofs.Sound.{HasLoad, IsSound-legal}
-use Rattle.bsc_table.proofs.Ranks.{in_front, layer_tells}
-use Rattle.bsc_table.proofs.Entering.{messages_without, claims_without, free_of, table_stopped, released_reservations}
-use Rattle.bsc_table.proofs.Entering.{book_with, standing_in, held_in}
+use Rattle.bsc_table.proofs.History.LegalIsSound.{HasLoad, IsSound-legal}
+use Rattle.bsc_table.proofs.History.Ranks.{in_front, layer_tells}
+use Rattle.bsc_table.proofs.Cell.WithEntry.{messages_without, claims_without, free_of, table_stopped}
+use Rattle.bsc_table.proofs.Cell.WithEntry.{released_reservations}
+use Rattle.bsc_table.proofs.Cell.WithEntry.{book_with, standing_in, held_in}
 use Rattle.bsc_table.proofs.book.CellBook.enter_stop.Goals as goal
 
 pub stop-requires-2-clause-standing : goal.stop-requires-2-clause-standing

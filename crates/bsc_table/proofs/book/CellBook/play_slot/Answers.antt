@@ -7,9 +7,9 @@ use Rattle.bsc_table.specs.Record.{Record, messages_in, claims_in}
 use Rattle.bsc_table.specs.Claim.{Claim}
 use Rattle.bsc_table.specs.Legal.{IsLegal}
 use Rattle.bsc_table.specs.Book.{air_pairs, record_of, IsGoneTo}
-use Rattle.bsc_table.proofs.BookLaws.{IsLegal-next}
-use Rattle.bsc_table.proofs.Sound.{IsSound-legal}
-use Rattle.bsc_table.proofs.Lines.{reservations_at-later}
+use Rattle.bsc_table.proofs.History.LegalWithSlot.{IsLegal-next}
+use Rattle.bsc_table.proofs.History.LegalIsSound.{IsSound-legal}
+use Rattle.bsc_table.proofs.Cell.BudgetOfTable.{reservations_at-later}
 use Rattle.bsc_table.proofs.book.CellBook.play_slot.Goals as goal
 
 pub invariant_of-self : goal.invariant_of-self

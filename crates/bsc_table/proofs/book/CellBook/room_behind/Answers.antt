@@ -7,11 +7,11 @@ use Rattle.admission.specs.Table.{answer_for, remaining_without, excess_over}
 use Rattle.bsc_table.specs.Record.{Record, Accepted, accepted_in, claim_of, claims_in, place_after}
 use Rattle.bsc_table.specs.Handover.{Place}
 use Rattle.bsc_table.specs.Book.{accepted_of, record_of, reservations_at, IsLiveIn, IsRoom, left_by, place_of}
-use Rattle.bsc_table.proofs.Outcome.{taken_after}
-use Rattle.bsc_table.proofs.Ranks.{its_claim}
-use Rattle.bsc_table.proofs.Sound.{HasLoad, IsSound-legal}
-use Rattle.bsc_table.proofs.Handed.{held_ahead}
-use Rattle.bsc_table.proofs.Booked.{room_after_stop}
+use Rattle.bsc_table.proofs.History.NextEntry.{taken_after}
+use Rattle.bsc_table.proofs.History.Ranks.{its_claim}
+use Rattle.bsc_table.proofs.History.LegalIsSound.{HasLoad, IsSound-legal}
+use Rattle.bsc_table.proofs.Cell.HandedOver.{held_ahead}
+use Rattle.bsc_table.proofs.Cell.PlanOfTable.{room_after_stop}
 use Rattle.bsc_table.proofs.book.CellBook.room_behind.Goals as goal
 
 pub leaving_at-requires : goal.leaving_at-requires

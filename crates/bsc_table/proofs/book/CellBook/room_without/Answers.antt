@@ -6,8 +6,8 @@ use Rattle.admission.specs.Table.{answer_for, remaining_without}
 use Rattle.bsc_table.specs.Claim.{stop_claims}
 use Rattle.bsc_table.specs.Record.{Record, Accepted, accepted_in, claims_in}
 use Rattle.bsc_table.specs.Book.{accepted_of, record_of, IsLiveIn, IsRoom}
-use Rattle.bsc_table.proofs.Sound.{HasLoad, IsSound-legal}
-use Rattle.bsc_table.proofs.Booked.{room_after_stop}
+use Rattle.bsc_table.proofs.History.LegalIsSound.{HasLoad, IsSound-legal}
+use Rattle.bsc_table.proofs.Cell.PlanOfTable.{room_after_stop}
 use Rattle.bsc_table.proofs.book.CellBook.room_without.Goals as goal
 
 pub leaving_at-requires : goal.leaving_at-requires
