@@ -5,4 +5,5 @@ pub mod Decisions
 pub mod HandedOver
 pub mod Places
 pub mod PlanOfTable
+pub mod RoomForNew
 pub mod WithEntry

@@ -30,11 +30,13 @@ use Rattle.bsc_table.proofs.Room.StoppedClaims.{stop_claim-other}
 abbrev pub IsBehindOne : ℕ → Claim → Type 0
 IsBehindOne slot c = IsWaiting slot c → (entry : ℕ) × (c.behind ≡ Some entry)
 
+-- of claims in order each that waits does so behind one
 pub all_behind_one : (slot : ℕ) (claims : List Claim) → AreInOrder claims slot → All (IsBehindOne slot) claims
 all_behind_one slot claims order = λ k d within. λ waiting.
     let found = order.handed k d within waiting in
     (found.1.message.entry, found.4.named)
 
+-- a claim that has started waits for nothing
 pub waits_of-started : (slot : ℕ) (c : Claim) → c.message.start ≤ slot → waits_of slot c ≡ None
 waits_of-started slot c started =
     ap (λ (b : Bool). cond b (option_map (λ (behind : ℕ). record
@@ -181,6 +183,7 @@ map_cond : {X Y : Type 0} (f : X → Y) (b : Bool) (x : X) (xs : List X)
 map_cond f true x xs = refl
 map_cond f false x xs = refl
 
+-- reservations that pass to a later slot are those that are held there
 pub reservations_at-later : (slot later : ℕ) (claims : List Claim)
     → slot ≤ later
     → All (λ c. c.accepted ≤ slot) claims
@@ -280,6 +283,7 @@ stands_from slot start period broadcasts forward some =
           rw (ne_eqb broadcasts 0 few) past
     ]
 
+-- a new message is claimed at the slot at which it was accepted
 pub new_is_claimed : (slot : ℕ) (c : Claim)
     → c.accepted ≡ slot
     → slot ≤ c.message.start
@@ -309,6 +313,7 @@ reservations_at-new slot claims c claimed =
 abbrev pub IsCurrent : ℕ → Held → Type 0
 IsCurrent slot h = (is_before_end slot h.end ≡ true) × (started_at slot h ≡ h)
 
+-- no reservation that is held has ended, or waits for a start that has come
 pub reservations_are_current : (slot : ℕ) (claims : List Claim) → All (IsCurrent slot) (reservations_at slot claims)
 reservations_are_current slot claims =
     All-map (IsCurrent slot) (reservation_for slot) (filter (is_claimed_at slot) claims)

@@ -62,6 +62,7 @@ pub messages_with : (log : List Entry) (e : Entry) (all : List Accepted) (a : Ac
 messages_with log e all a after =
     ap (map (λ (x : Accepted). x.message)) after ∙ map-append (λ (x : Accepted). x.message) all (a ∷ [])
 
+-- the messages after a stop, as the accepted ones
 pub messages_without : (log : List Entry) (e : Entry) (entry slot : ℕ)
     → accepted_in (log ++ e ∷ []) ≡ map (stop_numbered entry slot) (accepted_in log)
     → messages_in (log ++ e ∷ []) ≡ stopped_at entry slot (messages_in log)
@@ -106,9 +107,11 @@ claims_below log =
     All-filter reserves (λ (c : Claim). c.message.entry < length log) (all_claims (accepted_in log))
     (All-map (λ (c : Claim). c.message.entry < length log) claim_of (accepted_in log) (numbers_below log))
 
+-- what a budget holds is of entries of the log
 pub held_below : (slot : ℕ) (log : List Entry) → All (λ h. h.entry < length log) (reservations_at slot (claims_in log))
 held_below slot log = reservations_below slot (length log) (claims_in log) (claims_below log)
 
+-- also once a message is stopped
 pub held_below_without : (slot entry : ℕ) (log : List Entry)
     → All (λ h. h.entry < length log) (reservations_at slot (stop_claims entry slot (claims_in log)))
 held_below_without slot entry log =
@@ -125,6 +128,7 @@ stopped_beside entry slot messages m other =
     map-append stop messages (m ∷ [])
     ∙ ap (λ (b : Bool). stopped_at entry slot messages ++ stopped_if b slot m ∷ []) (ne_eqb m.entry entry other)
 
+-- an accepted message's entry is one of the log
 pub number_below : (log : List Entry) (a : Accepted) → Contains (accepted_in log) a → a.message.entry < length log
 number_below log a there =
     All-contains (λ (x : Accepted). x.message.entry < length log) (accepted_in log) a (numbers_below log) there
@@ -231,6 +235,7 @@ ended_claims r a legal live = λ k d within. λ same.
       ap (λ (x : Claim). end_of_stopped x.message.start x.message.period r.clock) is,
     )
 
+-- releasing a live message leaves the reservations of the claims without it
 pub reservations_without : (r : Record) (a : Accepted)
     → IsLegal r
     → IsLiveIn r a
@@ -241,6 +246,7 @@ reservations_without r a legal live =
     reservations_at-stopped r.clock a.message.entry (end_of_stopped a.message.start a.message.period r.clock)
     (claims_in r.log) (IsSound-legal r legal).order.accepted (ended_claims r a legal live)
 
+-- so does `release`, which leaves a background message's budget as it was
 pub released_reservations : (r : Record) (a : Accepted) (before after : List Held)
     → IsLegal r
     → IsLiveIn r a
@@ -266,6 +272,7 @@ pub claims_without : (log : List Entry) (e : Entry) (entry slot : ℕ)
     → claims_in (log ++ e ∷ []) ≡ stop_claims entry slot (claims_in log)
 claims_without log e entry slot after = ap claims_of after ∙ claims_stopped entry slot (accepted_in log)
 
+-- the claims with one more message
 pub claims_with : (log : List Entry) (e : Entry) (all : List Accepted) (a : Accepted)
     → accepted_in (log ++ e ∷ []) ≡ all ++ a ∷ []
     → claims_in (log ++ e ∷ []) ≡ claims_of all ++ filter reserves (claim_of a ∷ [])

@@ -19,6 +19,7 @@ record AreNumbered (all : List Accepted) (place : ℕ) : Type 0 where
   pub rising : AllPairs BelowIt all
   pub below : All (IsBelow place) all
 
+-- what holds of all pairs still does after a function that keeps it
 pub AllPairs-map : (R : Accepted → Accepted → Type 0) (f : Accepted → Accepted)
     → ((a b : Accepted) → R a b → R (f a) (f b)) → (all : List Accepted) → AllPairs R all → AllPairs R (map f all)
 AllPairs-map R f kept all pairs = λ i j d before within.
@@ -79,6 +80,7 @@ pub numbers_rise : (log : List Entry) → AllPairs BelowIt (accepted_in log)
 numbers_rise log =
     (numbered_from [] 0 log (record { rising = λ i j d b w. absurd (omega arith); below = All-nil (IsBelow 0) })).rising
 
+-- an accepted message's entry is one of the log
 pub numbers_below : (log : List Entry) → All (λ a. a.message.entry < length log) (accepted_in log)
 numbers_below log = λ k d h.
     let by = (numbered_from [] 0 log (record {

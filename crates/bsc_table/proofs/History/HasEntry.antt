@@ -74,6 +74,7 @@ of_status : (air : Air) (slot : ℕ) (named : Option ScheduledMessage) → HasOn
 of_status air slot None = refl
 of_status air slot (Some m) = refl
 
+-- each answer in a log with room has an entry
 pub has_entry-with_room : (slots : ℕ) (log : List Entry) (air : Air) (slot : ℕ) (command : Command)
     → HasOne (answer_with_room slots log air slot command)
 has_entry-with_room slots log air slot (commands.Status id serial) = of_status air slot (message_named id serial log)

@@ -111,6 +111,7 @@ pub outcome_now : (r : Record) (command : Command) → IsLegal r → IsWellForme
 outcome_now r command legal formed =
     outcome_of r.slots r.log r.air r.clock command (IsSound-legal r legal).once (IsSound-legal r legal).order formed
 
+-- a legal history stays one with the entry of a well-formed command and its defined answer
 pub IsLegal-entry : (r : Record) (command : Command) → IsLegal r → length r.log < 4096 → IsWellFormed command
     → IsLegal (record r {
       log = r.log ++ entry_with command r.clock (answer_of r.slots r.log r.air r.clock command) ∷

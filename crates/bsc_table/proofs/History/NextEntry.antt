@@ -42,6 +42,7 @@ use Rattle.bsc_table.proofs.History.Pairs.{live_is_standing}
 use Rattle.bsc_table.proofs.History.EntryNumbers.{numbers_rise}
 use Rattle.bsc_table.proofs.History.Ranks.{in_front, not_in_front}
 
+-- an entry, by its parts
 abbrev pub entry_with : Command → ℕ → Answer → Entry
 entry_with command slot answer = record { command = command; slot = slot; answer = answer }
 
@@ -55,6 +56,7 @@ abbrev pub with : Option Accepted → List Accepted → List Accepted
 with None all = all
 with (Some a) all = all ++ a ∷ []
 
+-- what an entry did to the accepted messages of a log: which it stopped, which it started, and that this is all
 pub record Outcome (log : List Entry) (e : Entry) : Type 0 where
   pub stopped : Option Accepted
   pub started : Option Accepted
@@ -176,6 +178,7 @@ pub before_end_cases : (P : Answer → Type 0) (slots slot : ℕ) (answer : Answ
 before_end_cases P slots slot answer refuses accepts =
     cond_both (slot == slots) (answers.Cause 0x0A) answer P (λ _. refuses 0x0A) (λ _. accepts)
 
+-- an answer about a live message has what each refusal has, and what its own answer has
 pub of_live_cases : (P : Answer → Type 0) (slot : ℕ) (found : Option Accepted) (answer : Accepted → Answer)
     → ((cause : ℕ) → P (answers.Cause cause))
     → ((a : Accepted) → found ≡ Some a → is_live slot a.message ≡ true → P (answer a))
@@ -185,6 +188,7 @@ of_live_cases P slot (Some a) answer refuses accepts =
     cond_both (is_live slot a.message) (answer a) (answers.Cause 0x02) P (λ live. accepts a refl live)
     (λ _. refuses 0x02)
 
+-- and so has an answer to a pair that was not accepted before
 pub unless_accepted_cases : (P : Answer → Type 0) (found : Option Accepted) (answer : Answer)
     → ((cause : ℕ) → P (answers.Cause cause))
     → (found ≡ None → P answer)

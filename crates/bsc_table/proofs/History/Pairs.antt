@@ -46,6 +46,7 @@ find_passes p (x ∷ xs) a e =
       | inr fails ↦ find_passes p xs a (rw fails at e)
     ]
 
+-- what is true of all is true of what is found
 pub All-find : {X : Type 0} (P : X → Type 0) (p : X → Bool) (xs : List X) (a : X) → All P xs → find p xs ≡ Some a → P a
 All-find P p [] a all e = absurd (none-some a e)
 All-find P p (x ∷ xs) a all e =
@@ -59,6 +60,7 @@ pub stop_after-false : (stop : Option ℕ) (slot : ℕ) → stop_after stop fals
 stop_after-false None slot = refl
 stop_after-false (Some s) slot = refl
 
+-- what isn't said to stop a message doesn't
 pub stopped_once-false : (says : Bool) (slot : ℕ) (a : Accepted) → says ≡ false → stopped_once says slot a ≡ a
 stopped_once-false says slot a fails =
     let AcceptedMessage : Bool → Type 0 = λ b. stop_after a.message.stop b slot ≡ a.message.stop in
@@ -129,6 +131,7 @@ standing_of : (stop : Option ℕ) → not (is_some stop) ≡ true → stop ≡ N
 standing_of None h = refl
 standing_of (Some s) h = absurd (false≢true h)
 
+-- a live message has no stop
 pub live_is_standing : (slot : ℕ) (m : ScheduledMessage) → is_live slot m ≡ true → m.stop ≡ None
 live_is_standing slot m live =
     let parts = and_parts (not (is_some m.stop)) ((m.broadcasts == 0) || nat_lt slot

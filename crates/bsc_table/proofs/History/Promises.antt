@@ -127,10 +127,12 @@ admitted_of r legal =
       fit = legal_loads_fit r legal;
     }
 
+-- each uncut broadcast of a legal history, but of background, was aired in time
 pub legal_histories_are_served : LegalHistoriesAreServed
 legal_histories_are_served r legal =
     foreground_is_served (messages_in r.log) r.air (numbers_of_messages_rise r.log) (admitted_of r legal) legal.aired
 
+-- and completed numbers lie between their bounds
 pub legal_histories_are_bounded : LegalHistoriesAreBounded
 legal_histories_are_bounded r legal = λ k d within. λ slot by.
     let messages = messages_in r.log in

@@ -20,16 +20,19 @@ in_front High is = refl
 in_front Normal is = refl
 in_front Background is = absurd (false≢true (sym is))
 
+-- a background message isn't in the front layer
 pub not_in_front : (category : Category) → is_background category ≡ true → layer_of (rank_of category) ≡ 0 → ⊥
 not_in_front High is front = false≢true is
 not_in_front Normal is front = false≢true is
 not_in_front Background is front = omega arith
 
+-- and what is in the front layer isn't background
 pub is_front : (category : Category) → layer_of (rank_of category) ≡ 0 → is_background category ≡ false
 is_front High front = refl
 is_front Normal front = refl
 is_front Background front = absurd (omega arith)
 
+-- the test of the layer is that of the category
 pub layer_tells : (category : Category) → (layer_of (rank_of category) == 0) ≡ not (is_background category)
 layer_tells High = refl
 layer_tells Normal = refl
@@ -64,6 +67,7 @@ its_place all a here = (
       ∙ ap claim_of here.2,
 )
 
+-- an accepted message that isn't background has its claim
 pub its_claim : (all : List Accepted) (a : Accepted)
     → Contains all a
     → layer a.message ≡ 0
@@ -139,6 +143,7 @@ pub claims_more : (all : List Accepted) (a : Accepted)
 claims_more all a =
     ap (filter reserves) (map-append claim_of all (a ∷ [])) ∙ filter-append reserves (all_claims all) (claim_of a ∷ [])
 
+-- one more message adds its claim
 pub claims_more_front : (all : List Accepted) (a : Accepted)
     → layer a.message ≡ 0
     → claims_of (all ++ a ∷ []) ≡ claims_of all ++ claim_of a ∷ []
@@ -146,6 +151,7 @@ claims_more_front all a front =
     claims_more all a ∙ ap (λ (b : Bool). claims_of all ++ cond b (claim_of a ∷ []) [])
     (eq-eqb (layer a.message) 0 front)
 
+-- unless it is background
 pub claims_more_back : (all : List Accepted) (a : Accepted)
     → (layer a.message ≡ 0 → ⊥)
     → claims_of (all ++ a ∷ []) ≡ claims_of all

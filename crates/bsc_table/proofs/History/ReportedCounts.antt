@@ -312,6 +312,7 @@ continued_in r legal k d a within here =
     let Has : List Entry → Type 0 = λ log. Contains (accepted_in log) on.0 in
     (on.0, subst Has all on.1, on.2)
 
+-- each number that a legal history reports is true, whatever came after
 pub legal_answers_are_true : LegalAnswersAreTrue
 legal_answers_are_true r legal = λ k d within. λ reported says.
     let e : Entry = get_or r.log k d in

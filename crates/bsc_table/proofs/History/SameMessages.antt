@@ -305,6 +305,7 @@ same_messages log =
     let same : 0 + i ≡ i = omega arith in
     ap (place_in log) same ∙ (let h : place_in log i ≡ 0 + place_in log i = omega arith in h))
 
+-- the accepted entries determine the accepted messages, but for their numbers
 pub accepted_entries_are_all : AcceptedEntriesAreAll
 accepted_entries_are_all log = (
   place_in log,

@@ -22,6 +22,7 @@ use Rattle.bsc_table.specs.Steps.{StepsKeepLegal}
 use Rattle.bsc_table.proofs.History.LegalWithEntry.{IsLegal-entry}
 use Rattle.bsc_table.proofs.History.HasEntry.{has_entry-with_room}
 
+-- a new record is a legal history
 pub opened_are_legal : OpenedAreLegal
 opened_are_legal cell slots = record {
   within = omega arith;
@@ -122,6 +123,7 @@ legal_played slot before after ahead within legal played =
           (air_played (messages_in before.log) before.air more legal.aired chosen));
     }
 
+-- each step keeps a history legal
 pub step_keeps_legal : StepKeepsLegal
 step_keeps_legal (Ask command) before after formed legal step = legal_asked command before after formed legal step
 step_keeps_legal (Play k) before after formed legal step =
@@ -140,6 +142,7 @@ reached_is_legal (step ∷ steps) before reached legal formed reaches =
     let here = step_keeps_legal step before next (All-head IsWellFormedStep step steps formed) legal reaches.1 in
     reached_is_legal steps next reached here (All-tail IsWellFormedStep step steps formed) reaches.2
 
+-- so what any list of steps reaches from a new record on is a legal history
 pub steps_keep_legal : StepsKeepLegal
 steps_keep_legal cell slots steps reached formed reaches =
     reached_is_legal steps (opened cell slots) reached (opened_are_legal cell slots) formed reaches

@@ -79,6 +79,7 @@ written_from log d all place (e ∷ later) there written =
     let next : place + suc i ≡ place + 1 + i = omega arith in
     subst There next (there (suc i) (omega (arith, h)))) after
 
+-- each accepted message is the write at its place of the log
 pub accepted_are_writes : AcceptedAreWrites
 accepted_are_writes log d =
     written_from log d [] 0 log (λ i h.
@@ -94,6 +95,7 @@ has_page a page (commands.Write id serial replaces category period broadcasts dc
 has_page a page (commands.Kill id serial) start h some few = absurd h
 has_page a page (commands.Status id serial) start h some few = absurd h
 
+-- each used slot airs a page of such a write
 pub uses_are_of_writes : UsesAreOfWrites
 uses_are_of_writes r slot entry page d legal within used =
     let Chosen : Option (ℕ × ℕ) → Type 0 = λ u. IsChosen (messages_in r.log) r.air slot u in

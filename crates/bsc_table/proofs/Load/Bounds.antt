@@ -103,6 +103,7 @@ was_over start period j slot some over =
     let grows = le-mul_of_pos_right (j + 1) some in
     omega arith
 
+-- no broadcast counts that had not begun
 pub completed_is_at_most : CompletedIsAtMost
 completed_is_at_most m air slot pages period =
     count_below-at_most (is_completed m air slot) (most_completed m slot) (slot + 1) (λ j whole.
@@ -115,6 +116,7 @@ completed_is_at_most m air slot pages period =
     cut_at-below m.broadcasts (div_ceil (stands_until m slot - m.start) m.period) j
     (had_begun m.start m.period j (stands_until m slot) period stood) fact.requested)
 
+-- each counts whose period was over, if the loads fit and the air list is by the rule
 pub completed_is_at_least : CompletedIsAtLeast
 completed_is_at_least messages air slot admitted rule played = λ k d within.
     let m = get_or messages k d in
@@ -135,6 +137,7 @@ completed_is_at_least messages air slot admitted rule played = λ k d within.
       aired_by = omega (arith, (uncut j h).0);
     }) (uncut j h).0))
 
+-- the two bounds differ by one at most
 pub bounds_are_near : BoundsAreNear
 bounds_are_near m slot =
     let stood : ℕ = stands_until m slot - m.start in

@@ -50,6 +50,7 @@ pages_by_sums_on n air a (suc k) within =
     let more = ap (pages_aired n air a) plus ∙ pages_aired-more n air a (a + k) (omega arith) (omega arith) in
     omega (arith, before, more, ap (total (uses n air)) on)
 
+-- the pages aired in a range are what its slots add to the sum up to its beginning
 pub pages_by_sums : (n : ℕ) (air : Air) (a b : ℕ) → a ≤ b → b ≤ length air
     → pages_aired n air a b + total (uses n air) a ≡ total (uses n air) b
 pages_by_sums n air a b h within =

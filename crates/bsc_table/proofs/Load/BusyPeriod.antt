@@ -134,6 +134,7 @@ pending_throughout m j air t uncut lacks low high = record {
   );
 }
 
+-- a broadcast lacks a page only if others inside a range, and itself, used all slots of it
 pub lack_means_a_busy_period : LackMeansABusyPeriod
 lack_means_a_busy_period messages air alone rule = λ k d inside. λ j uncut lacks.
     let m = get_or messages k d in

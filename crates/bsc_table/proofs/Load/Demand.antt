@@ -32,15 +32,18 @@ count_below-le p k (suc n) h =
 abbrev pub count_inside : ScheduledMessage → ℕ → ℕ → ℕ → ℕ
 count_inside m from to n = count_by (is_inside m from to) (range_with_len 0 n)
 
+-- the count of broadcasts inside a range grows with their number
 pub count_inside-le : (m : ScheduledMessage) (from to k n : ℕ) → k ≤ n
     → count_inside m from to k ≤ count_inside m from to n
 count_inside-le m from to k n h = count_below-le (is_inside m from to) k n h
 
+-- by one, for a broadcast inside
 pub count_inside-one : (m : ScheduledMessage) (from to n : ℕ) → is_inside m from to n ≡ true
     → count_inside m from to (suc n) ≡ count_inside m from to n + 1
 count_inside-one m from to n one =
     count_below_more (is_inside m from to) n ∙ ap (λ (x : Bool). count_inside m from to n + cond x 1 0) one
 
+-- and not for another one
 pub count_inside-none : (m : ScheduledMessage) (from to n : ℕ) → is_inside m from to n ≡ false
     → count_inside m from to (suc n) ≡ count_inside m from to n
 count_inside-none m from to n none =
@@ -67,6 +70,7 @@ is_inside-says m from to j h =
       due_by = leb-true (due m j) to third.1;
     }
 
+-- a broadcast inside passes the test
 pub is_inside-from : (m : ScheduledMessage) (from to j : ℕ) → IsInside m from to j → is_inside m from to j ≡ true
 is_inside-from m from to j fact =
     let third = and_from (leb from (release m j)) (leb (due m j) to) (le-leb from (release m j) fact.released)
@@ -126,6 +130,7 @@ none_inside m from to (suc n) behind =
           omega arith
     ]
 
+-- if the loads fit, the broadcasts inside a range have no more pages than it has slots
 pub demand_is_no_more_than_the_slots : DemandIsNoMoreThanTheSlots
 demand_is_no_more_than_the_slots messages from to periods fit =
     let count = λ (m : ScheduledMessage). m.pages * count_inside m from to to in

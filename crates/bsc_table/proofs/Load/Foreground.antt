@@ -16,6 +16,7 @@ use Rattle.bsc_table.proofs.Load.Guarantee.{admitted_load_is_a_guarantee}
 there : (messages : List ScheduledMessage) → All (Contains messages) (foreground messages)
 there messages = All-filter (λ m. layer m == 0) (Contains messages) messages (All-contains_itself messages)
 
+-- the guarantee holds of messages that aren't background, whatever background there is
 pub foreground_is_served : ForegroundIsServed
 foreground_is_served messages air rising admitted rule = λ k d within. λ j uncut.
     let m : ScheduledMessage = get_or (foreground messages) k d in
@@ -30,6 +31,7 @@ foreground_is_served messages air rising admitted rule = λ k d within. λ j unc
     sym (blanking_keeps_pages messages air m (release m j) (due m j) rising (there messages k d within)
     (admitted.foreground k d within)) ∙ alone
 
+-- and so does the least bound on their completed numbers
 pub foreground_is_at_least : ForegroundIsAtLeast
 foreground_is_at_least messages air slot rising admitted rule played = λ k d within.
     let m : ScheduledMessage = get_or (foreground messages) k d in

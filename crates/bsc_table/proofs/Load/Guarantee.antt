@@ -105,6 +105,7 @@ no_lack messages air k d j from within served fit early uncut busy lacks =
     let grown = pages_grow messages air from to forward busy in
     omega arith
 
+-- no broadcast lacks a page: each uncut one has all its pages aired from its release up to its due slot
 pub admitted_load_is_a_guarantee : AdmittedLoadIsAGuarantee
 admitted_load_is_a_guarantee messages air admitted rule = λ k d within. λ j uncut.
     let m = get_or messages k d in
@@ -123,6 +124,7 @@ admitted_load_is_a_guarantee messages air admitted rule = λ k d within. λ j un
           absurd (no_lack messages air k d j busy.0 within served admitted.fit busy.1 uncut busy.2 lacks)
     ]
 
+-- so it counts as completed from its due slot on
 pub admitted_broadcasts_are_completed : AdmittedBroadcastsAreCompleted
 admitted_broadcasts_are_completed messages air slot admitted rule = λ k d within. λ j uncut by.
     let m = get_or messages k d in

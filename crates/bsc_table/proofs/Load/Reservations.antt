@@ -36,6 +36,7 @@ before_end start period broadcasts j slot (Some stop) has standing released befo
     let covers = end_of_stopped-covers start period j stop some standing in
     omega arith
 
+-- a message is reserved at each slot of each of its broadcasts released before its stop
 pub reservations_cover_broadcasts : ReservationsCoverBroadcasts
 reservations_cover_broadcasts m j slot has standing released before =
     (omega arith, before_end m.start m.period m.broadcasts j slot m.stop has standing released before)

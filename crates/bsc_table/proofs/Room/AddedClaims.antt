@@ -23,6 +23,7 @@ Any-left P claims c found = (
   found.4,
 )
 
+-- claims stay in order with a new one, if another hands over to it alone, or it starts at once
 pub in_order-add : (claims : List Claim) (now : ℕ) (c : Claim) → AreInOrder claims now → IsNew claims now c
     → c.accepted ≤ c.message.start → (IsWaiting now c → Any (λ p. HandsOver p c) claims)
     → All (λ v. IsWaiting now v → IsWaiting now c → v.behind ≢ c.behind) claims → AreInOrder (claims ++ c ∷ []) now
@@ -63,6 +64,7 @@ claim_at-started now c started =
       | inr free ↦ omega (arith, claim_at-free now c free)
     ]
 
+-- a claim that waits takes its excess at most
 pub claim_at-waits : (now : ℕ) (c : Claim) → now < c.message.start → claim_at now c ≤ c.excess
 claim_at-waits now c waits =
     elim (cases_Bool (is_claimed_at now c)) [
@@ -75,6 +77,7 @@ claim_at-waits now c waits =
       | inr free ↦ omega (arith, claim_at-free now c free)
     ]
 
+-- so a message that starts beside loads that leave it room keeps the order and the room
 pub start_keeps_room : StartKeepsRoom
 start_keeps_room claims now c order fit new starts room =
     let never : IsWaiting now c → ⊥ = λ waiting. omega (arith, waiting.0) in

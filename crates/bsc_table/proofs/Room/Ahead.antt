@@ -32,6 +32,7 @@ find-says p (x ∷ claims) c e =
           ((suc rest.0.0, omega (arith, rest.0.1), rest.0.2), rest.1)
     ]
 
+-- if nothing is found, all fail the test
 pub find-none : (p : Claim → Bool) (claims : List Claim) → find p claims ≡ None → All (λ c. p c ≡ false) claims
 find-none p [] e = λ k d h. absurd (omega arith)
 find-none p (x ∷ claims) e =
@@ -101,6 +102,7 @@ taken_of claims now load n place (Some p) e taken =
     taken_before claims now load (Some n) place p says.0 (ap (λ (k : ℕ). Some k) (sym same)) (end_of p.message) refl
     taken
 
+-- a place that is found is that of a claim ahead
 pub taken : (claims : List Claim) (now load : ℕ) (ahead : Option ℕ) (place : Place)
     → place_behind now load (numbered ahead claims) ≡ Some place → Taken claims now load ahead place
 taken claims now load None place e = absurd (none-some place e)

@@ -125,6 +125,7 @@ once claims now order = λ k d within. λ i j e before inside. λ first second.
     let w = waits_for-says now (get_or claims j e) p second in
     order.alone i j e before inside v.0 w.0 (v.1 ∙ sym w.1)
 
+-- of claims in order, what is reserved never rises from now on
 pub reserved_never_rises : ReservedNeverRises
 reserved_never_rises claims now t u order from later =
     let gains = matched (gain t u) (loss t u) (waits_for now) claims (covered claims now t u order from later)

@@ -54,6 +54,7 @@ handed_on claims entry now w live some handed waiting =
           (sym (stop_claim-other entry now w others.0)) over,
     )
 
+-- claims stay in order if a live message is stopped
 pub in_order-stop : (claims : List Claim) (entry now : ℕ) → AreInOrder claims now
     → All (λ c. c.message.entry ≡ entry → is_live now c.message ≡ true) claims
     → AreInOrder (stop_claims entry now claims) now
@@ -73,6 +74,7 @@ in_order-stop claims entry now order live =
           (waits_on now entry (get_or claims j d) (order.periods j d w) second).1);
     }
 
+-- and they keep the room
 pub stop_keeps_room : StopKeepsRoom
 stop_keeps_room claims entry now order live fit =
     (in_order-stop claims entry now order live, ClaimsFit-stop claims entry now order.periods live fit)

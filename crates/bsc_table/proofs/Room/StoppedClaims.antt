@@ -94,6 +94,7 @@ sum_by-map f g [] = refl
 sum_by-map f g (x ∷ xs) =
     sum_by-cons f (g x) (map g xs) ∙ (ap (λ n. f (g x) + n) (sum_by-map f g xs) ∙ sym (sum_by-cons (λ y. f (g y)) x xs))
 
+-- claims that fit still do once a live message is stopped
 pub ClaimsFit-stop : (claims : List Claim) (entry now : ℕ) → All (λ c. 0 < c.message.period) claims
     → All (λ c. c.message.entry ≡ entry → is_live now c.message ≡ true) claims → ClaimsFit claims
     → ClaimsFit (stop_claims entry now claims)

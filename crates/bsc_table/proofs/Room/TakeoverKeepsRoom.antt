@@ -154,6 +154,7 @@ pub record IsFree (claims : List Claim) (now load entry : ℕ) (place : Place) :
   pub later : now < place.start
   pub excess : place.excess ≡ load - own_load p.message
 
+-- a place that is handed over is free: nobody else waits for it
 pub is_free : (claims : List Claim) (now load : ℕ) (old : Claim) (place : Place) → AreInOrder claims now
     → Contains claims old → is_live now old.message ≡ true → handover (stop_claims old.message.entry now claims) now
     old load ≡ Some place → IsFree claims now load old.message.entry place
@@ -184,6 +185,7 @@ is_free claims now load old place order here live over =
       excess = took.excess;
     }
 
+-- so a message that takes over keeps the order and the room
 pub takeover_keeps_room : TakeoverKeepsRoom
 takeover_keeps_room claims now old c place order fit here live over new placed room =
     let entry = old.message.entry in
@@ -224,6 +226,7 @@ find_number claims p (Some c) rising here e =
     ap (λ (x : Claim). Some x) (by_number claims c p rising says.0 here
     (eqb-true c.message.entry p.message.entry says.1))
 
+-- a message that takes over from one that waits can do so, and starts where that one would have
 pub waiting_passes_its_start : WaitingPassesItsStart
 waiting_passes_its_start claims now load old order here live waits =
     let entry = old.message.entry in

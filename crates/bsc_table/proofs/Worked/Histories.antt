@@ -45,12 +45,14 @@ abbrev pub write : ℕ → Option ℕ → Category → ℕ → ℕ → ℕ → C
 write serial replaces category pages period broadcasts = commands.Write 4370 serial replaces category period broadcasts
     (record { 0 = 1 }) (contents pages)
 
+-- a kill and a status of a message of that identifier
 abbrev pub kill : ℕ → Command
 kill serial = commands.Kill 4370 serial
 
 abbrev pub status : ℕ → Command
 status serial = commands.Status 4370 serial
 
+-- an entry, by its parts
 abbrev pub entry : Command → ℕ → Answer → Entry
 entry command slot answer = record { command = command; slot = slot; answer = answer }
 

@@ -14,7 +14,7 @@ use Rattle.bsc_table.specs.Claim.{Claim, reserves, stop_claims}
 use Rattle.bsc_table.specs.Book.{accepted_of, stop_numbered, record_of, reservations_at, HasRoomFor, IsNext}
 use Rattle.bsc_table.specs.Book.{IsReplacement}
 use Rattle.bsc_table.proofs.History.NextEntry.{messages_stopped, claims_stopped}
-use Rattle.bsc_table.proofs.History.Begun.{room_for_replacement}
+use Rattle.bsc_table.proofs.Cell.RoomForNew.{room_for_replacement}
 use Rattle.bsc_table.proofs.History.LegalIsSound.{HasLoad, IsSound-legal}
 use Rattle.bsc_table.proofs.History.Ranks.{in_front, layer_tells}
 use Rattle.bsc_table.proofs.Cell.WithEntry.{free_of, book_with, table_stopped, released_reservations, messages_with}
