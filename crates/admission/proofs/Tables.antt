@@ -19,7 +19,8 @@ use Rattle.admission.specs.declared.budget.NoRoom.TheVariants as no_rooms
 use Rattle.admission.specs.declared.measure.TheConstants.{SCALE}
 use Rattle.admission.specs.Reservation.{is_before_end}
 use Rattle.admission.specs.Waiting.{behind_of, held_now, HandsOver, waits_at, started_at}
-use Rattle.admission.specs.Table.{IsAdmitted, HasPlace, answer_of, load_for, load_in, excess_over, ends_at, ends_if}
+use Rattle.admission.specs.Table.{IsAdmitted, answer_of, load_for, load_in, excess_over, ends_at, ends_if}
+use Rattle.admission.specs.TableSteps.{HasPlace}
 use Rattle.admission.specs.Table.{passed}
 use Rattle.admission.proofs.Rising.{no_slot_over_now, passed_is_held}
 

@@ -4,7 +4,8 @@ ghost use Rattle.std.specs.Prelude.{◌≡◌, ◌≢◌, ℕ, ◌==◌, ◌≤�
 ghost use Rattle.std.specs.Prelude.{OnOk, OnErr, MatchBool};
 ghost use Rattle.std.specs.Option.{option_map};
 ghost use Rattle.admission.specs.Table.{answer_for, answer_of, remaining_without, load_for, excess_over, ends_at};
-ghost use Rattle.admission.specs.Table.{ends_if, passed, IsAdmitted, HasPlace};
+ghost use Rattle.admission.specs.Table.{ends_if, passed, IsAdmitted};
+ghost use Rattle.admission.specs.TableSteps.{HasPlace};
 ghost use Rattle.admission.specs.Waiting.{behind_of, held_now, held_at, waits_at, started_at};
 ghost use Rattle.admission.specs.Reservation.{is_before_end};
 

@@ -7,6 +7,7 @@ pub mod Legal
 pub mod Promised
 pub mod Reported
 pub mod Book
+pub mod BookSteps
 pub mod Refusals
 pub mod Written
 pub mod Claim

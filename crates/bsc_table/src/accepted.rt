@@ -10,7 +10,8 @@ ghost use Rattle.scheduler.specs.Air.{layer};
 ghost use Rattle.bsc_table.specs.Record.{is_of_pair, is_live, state_at, claim_of};
 ghost use Rattle.bsc_table.specs.Handover.{ahead_of, place_before};
 ghost use Rattle.bsc_table.specs.declared.accepted.TheConstants.{LATEST_START};
-ghost use Rattle.bsc_table.specs.Book.{accepted_of, accepted_stopped, place_of, stopped_end};
+ghost use Rattle.bsc_table.specs.Book.{accepted_of};
+ghost use Rattle.bsc_table.specs.BookSteps.{accepted_stopped, place_of, stopped_end};
 
 use crate::command::Category;
 use crate::entry::State;

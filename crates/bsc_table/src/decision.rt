@@ -1,7 +1,7 @@
 //! What a command comes to, before a cell's book is changed.
 
 ghost use Rattle.std.specs.Prelude.{◌≡◌};
-ghost use Rattle.bsc_table.specs.Book.{decided_answer};
+ghost use Rattle.bsc_table.specs.BookSteps.{decided_answer};
 
 use crate::accepted::AcceptedMessage;
 use crate::entry::Answer;

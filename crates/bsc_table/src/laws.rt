@@ -3,8 +3,7 @@
 
 ghost use Rattle.bsc_table.specs.Guarantee.{ReservationsCoverBroadcasts, DemandIsNoMoreThanTheSlots};
 ghost use Rattle.bsc_table.specs.Guarantee.{LackMeansABusyPeriod, AdmittedLoadIsAGuarantee};
-ghost use Rattle.bsc_table.specs.Guarantee.{AdmittedBroadcastsAreCompleted};
-ghost use Rattle.bsc_table.specs.Guarantee.{ForegroundIsServed};
+ghost use Rattle.bsc_table.specs.Guarantee.{AdmittedBroadcastsAreCompleted, ForegroundIsServed};
 ghost use Rattle.bsc_table.specs.Room.{ReservedNeverRises, StopKeepsRoom, StartKeepsRoom, TakeoverKeepsRoom};
 ghost use Rattle.bsc_table.specs.Room.{WaitingPassesItsStart};
 ghost use Rattle.bsc_table.specs.Bounds.{CompletedIsAtMost, CompletedIsAtLeast, ForegroundIsAtLeast, BoundsAreNear};

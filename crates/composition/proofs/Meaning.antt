@@ -22,8 +22,7 @@ use Rattle.composition.proofs.Laws.{Laws}
 use Rattle.composition.specs.Sent.{page_with, page_aired, octets_of_view, blocks_of_slot, blocks_of}
 use Rattle.composition.specs.Composition.{name_accepted, message_accepted, blocks_before, ShownGrowByOne}
 use Rattle.composition.specs.Meaning.{AcceptedAreMeant, NoneAfterTheStop, PagesReadAreThoseAired}
-use Rattle.composition.specs.Meaning.{ReportedIsWholeInBlocks}
-use Rattle.composition.specs.Meaning.{RecordsAreTapes, TextsAreThoseOfContents}
+use Rattle.composition.specs.Meaning.{ReportedIsWholeInBlocks, RecordsAreTapes, TextsAreThoseOfContents}
 use Rattle.composition.proofs.Blocks.{CanSend, pages_of_slots, octets_long}
 use Rattle.composition.proofs.Aired.{IsAired, all_aired, can_send_aired, pages_aired_in, same_pair}
 use Rattle.composition.proofs.Composed.{sound_of, pages_before, message_there, messages_rise}

@@ -8,8 +8,7 @@
 
 ghost use Rattle.composition.specs.Composition.{CompletedIsWholeInBlocks, ShownAreTheBroadcast, ShownGrowByOne};
 ghost use Rattle.composition.specs.Meaning.{PagesReadAreThoseAired, ReportedIsWholeInBlocks, AcceptedAreMeant};
-ghost use Rattle.composition.specs.Meaning.{NoneAfterTheStop};
-ghost use Rattle.composition.specs.Meaning.{RecordsAreTapes, TextsAreThoseOfContents};
+ghost use Rattle.composition.specs.Meaning.{NoneAfterTheStop, RecordsAreTapes, TextsAreThoseOfContents};
 ghost use Rattle.composition.specs.Same.{SameAcceptedSameBlocks};
 
 /// States, as its contract, what the blocks of a cell's legal history show. That the history is legal is the only

@@ -1,11 +1,9 @@
 //! Laws of air lists, over their definitions alone.
 
 ghost use Rattle.scheduler.specs.AirLaws.{OneChoice, SomeChoice, GrowsByTheChoice, FrontsAreByTheRule, OneAirList};
-ghost use Rattle.scheduler.specs.AirLaws.{NumbersOnlyOrder};
-ghost use Rattle.scheduler.specs.AirLaws.{LaterMessagesChangeNothing, LaterStopsChangeNothing, PagesComeInOrder};
-ghost use Rattle.scheduler.specs.AirLaws.{AtMostItsPages};
-ghost use Rattle.scheduler.specs.AirLaws.{PagesComeOnce, CompletedIsEachPageOnce, LastPagesAreCompletedBroadcasts};
-ghost use Rattle.scheduler.specs.AirLaws.{NoPageLessOften, AllAreCounted};
+ghost use Rattle.scheduler.specs.AirLaws.{NumbersOnlyOrder, LaterMessagesChangeNothing, LaterStopsChangeNothing};
+ghost use Rattle.scheduler.specs.AirLaws.{PagesComeInOrder, AtMostItsPages, PagesComeOnce, CompletedIsEachPageOnce};
+ghost use Rattle.scheduler.specs.AirLaws.{LastPagesAreCompletedBroadcasts, NoPageLessOften, AllAreCounted};
 ghost use Rattle.scheduler.specs.BackgroundLaws.{BackgroundCountsAsIdle, BackgroundChangesNothing, BlankingKeepsPages};
 ghost use Rattle.scheduler.specs.BackgroundLaws.{BlankingKeepsCompleted};
 

@@ -17,8 +17,9 @@ use Rattle.bsc_table.specs.Record.{Record, Accepted, accepted_in, is_of_pair, ra
 use Rattle.bsc_table.specs.Record.{is_background, place_after, behind_of, excess_over, write_message}
 use Rattle.bsc_table.specs.Legal.{IsLegal}
 use Rattle.bsc_table.specs.Begun.{StartsNow, Starts, IsBegun}
-use Rattle.bsc_table.specs.Book.{accepted_of, stop_numbered, IsLiveIn, IsLiveAs, IsOffered, HasRoom, Decides}
-use Rattle.bsc_table.specs.Book.{DecidesWrites, place_of, left_by}
+use Rattle.bsc_table.specs.Book.{accepted_of}
+use Rattle.bsc_table.specs.BookSteps.{stop_numbered, IsLiveIn, IsLiveAs, IsOffered, HasRoom, Decides, DecidesWrites}
+use Rattle.bsc_table.specs.BookSteps.{place_of, left_by}
 use Rattle.bsc_table.proofs.History.Pairs.{live_is_standing}
 use Rattle.bsc_table.proofs.History.NextEntry.{new_message, stops_one, starts_one, replaces_one, placed_at, taken_after}
 use Rattle.bsc_table.proofs.History.NextEntry.{claims_stopped}

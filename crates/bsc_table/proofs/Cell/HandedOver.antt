@@ -18,7 +18,8 @@ use Rattle.bsc_table.specs.Record.{is_live}
 use Rattle.bsc_table.specs.Claim.{Claim, end_of, own_load, is_claimed_at, IsWaiting, stop_claims}
 use Rattle.bsc_table.specs.Handover.{Place, handover}
 use Rattle.bsc_table.specs.Room.{AreInOrder}
-use Rattle.bsc_table.specs.Book.{waits_of, reservation_for, reservations_at, IsHeldFor}
+use Rattle.bsc_table.specs.Book.{waits_of, reservation_for, reservations_at}
+use Rattle.bsc_table.specs.BookSteps.{IsHeldFor}
 use Rattle.bsc_table.proofs.Room.Claims.{is_claimed_at-says, is_claimed_at-from}
 use Rattle.bsc_table.proofs.Room.Ahead.{by_number, from_stopped}
 use Rattle.bsc_table.proofs.Room.StoppedClaims.{stop_claim-other}

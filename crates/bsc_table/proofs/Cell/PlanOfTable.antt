@@ -24,7 +24,8 @@ use Rattle.bsc_table.specs.Record.{Record, Accepted, accepted_in, messages_in, i
 use Rattle.bsc_table.specs.Claim.{Claim, is_claimed_at, claimed_at}
 use Rattle.bsc_table.specs.Answer.{answer_at}
 use Rattle.bsc_table.specs.Legal.{IsLegal}
-use Rattle.bsc_table.specs.Book.{IsLiveIn, reservations_at, by_room, HasRoom, IsRoom, left_by}
+use Rattle.bsc_table.specs.Book.{reservations_at}
+use Rattle.bsc_table.specs.BookSteps.{IsLiveIn, by_room, HasRoom, IsRoom, left_by}
 use Rattle.bsc_table.proofs.History.Pairs.{All-find}
 use Rattle.bsc_table.proofs.History.LegalWithEntry.{Contains-message}
 use Rattle.bsc_table.proofs.Cell.WithEntry.{reservations_without, left_in_order}

@@ -1,6 +1,6 @@
 -- There is room in the budget for a message that begins.
-use Rattle.std.proofs.Common.{◌≡◌, ℕ, ◌+◌, ◌≤◌, ◌<◌, true, Some, None, Ok, List, length, map, filter, refl, sym}
-use Rattle.std.proofs.Common.{subst, ◌∙◌, inl, inr, arith}
+use Rattle.std.proofs.Common.{◌≡◌, ℕ, ◌+◌, ◌≤◌, ◌<◌, true, Some, None, Ok, List, length, map, filter, refl, sym, subst}
+use Rattle.std.proofs.Common.{◌∙◌, inl, inr, arith}
 use Rattle.std.specs.List.{AllPairs, Contains}
 use Rattle.std.proofs.lemmas.Bool.{lt-ltb, le-leb}
 use Rattle.scheduler.specs.Air.{layer}
@@ -11,7 +11,8 @@ use Rattle.bsc_table.specs.Claim.{Claim, own_load, is_claimed_at, claimed_at, st
 use Rattle.bsc_table.specs.Handover.{handover}
 use Rattle.bsc_table.specs.Room.{AreInOrder}
 use Rattle.bsc_table.specs.Begun.{StartsNow, IsBegun}
-use Rattle.bsc_table.specs.Book.{stop_numbered, reservations_at, IsHeldFor, HasRoomFor}
+use Rattle.bsc_table.specs.Book.{reservations_at}
+use Rattle.bsc_table.specs.BookSteps.{stop_numbered, IsHeldFor, HasRoomFor}
 use Rattle.bsc_table.proofs.History.NextEntry.{claims_stopped}
 use Rattle.bsc_table.proofs.History.Pairs.{BelowIt}
 use Rattle.bsc_table.proofs.History.Ranks.{its_claim}

@@ -24,9 +24,11 @@ use Rattle.bsc_table.specs.Answer.{answer_with_room, answer_of}
 use Rattle.bsc_table.specs.Legal.{IsLegal}
 use Rattle.bsc_table.specs.Room.{AreInOrder}
 use Rattle.bsc_table.specs.Begun.{IsBegun}
-use Rattle.bsc_table.specs.Book.{accepted_of, air_pairs, record_of, accepted_stopped, stop_numbered, IsLiveIn, IsNext}
+use Rattle.bsc_table.specs.Book.{accepted_of, air_pairs, record_of}
+use Rattle.bsc_table.specs.BookSteps.{accepted_stopped, stop_numbered, IsLiveIn, IsNext}
 use Rattle.bsc_table.specs.Steps.{with_entry}
-use Rattle.bsc_table.specs.Book.{IsBook, reservation_for, reservations_at, left_by}
+use Rattle.bsc_table.specs.Book.{IsBook, reservation_for, reservations_at}
+use Rattle.bsc_table.specs.BookSteps.{left_by}
 use Rattle.bsc_table.proofs.History.Pairs.{live_is_standing}
 use Rattle.bsc_table.proofs.History.EntryNumbers.{numbers_below}
 use Rattle.bsc_table.proofs.History.NextEntry.{entry_with, messages_stopped, claims_stopped}

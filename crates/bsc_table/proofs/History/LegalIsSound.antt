@@ -20,7 +20,7 @@ use Rattle.bsc_table.specs.Handover.{handover}
 use Rattle.bsc_table.specs.Room.{AreInOrder, ClaimsFit, IsNew}
 use Rattle.bsc_table.specs.Legal.{IsLegal}
 use Rattle.bsc_table.specs.Begun.{StartsNow, TakesOver, IsBegun}
-use Rattle.bsc_table.specs.Book.{stop_numbered}
+use Rattle.bsc_table.specs.BookSteps.{stop_numbered}
 use Rattle.bsc_table.proofs.History.Pairs.{OfAnotherPair, BelowIt}
 use Rattle.bsc_table.proofs.History.EntryNumbers.{AllPairs-map, numbers_below}
 use Rattle.bsc_table.proofs.Room.StoppedClaims.{in_order-later}

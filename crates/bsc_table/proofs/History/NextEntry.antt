@@ -33,7 +33,7 @@ use Rattle.bsc_table.specs.Begun.{StartsNow, Starts, IsBegun}
 use Rattle.bsc_table.specs.Answer.{answer_at, admit_or_refuse, answer_for, answer_to_new, answer_to_replacement}
 use Rattle.bsc_table.specs.Answer.{unless_accepted, if_live, answer_to_write, answer_to_kill, status_answer, before_end}
 use Rattle.bsc_table.specs.Answer.{answer_with_room, answer_of}
-use Rattle.bsc_table.specs.Book.{stop_numbered}
+use Rattle.bsc_table.specs.BookSteps.{stop_numbered}
 use Rattle.bsc_table.proofs.Room.Ahead.{taken, from_stopped}
 use Rattle.bsc_table.proofs.Room.TakeoverKeepsRoom.{find_number}
 use Rattle.bsc_table.proofs.History.Accepted.{accepted_in-push}

@@ -8,7 +8,7 @@ use Rattle.std.specs.Prelude.{nat_lt}
 use Rattle.std.proofs.lemmas.List.Elements.{All-head, All-tail}
 use Rattle.scheduler.specs.Message.{ScheduledMessage, stopped_if}
 use Rattle.bsc_table.specs.Record.{Accepted, stop_after, is_of_pair, is_live}
-use Rattle.bsc_table.specs.Book.{stop_numbered}
+use Rattle.bsc_table.specs.BookSteps.{stop_numbered}
 
 -- no later message has the pair of an earlier one
 abbrev pub OfAnotherPair : Accepted → Accepted → Type 0

@@ -20,8 +20,8 @@ use Rattle.bsc_table.specs.Handover.{ahead_of, numbered}
 use Rattle.bsc_table.specs.Record.{Accepted, claim_of, claims_of, start_of, rank_of, is_stop_by, is_stop_of, is_of_pair}
 use Rattle.bsc_table.specs.Record.{stopped_by, replaced_in, behind_of, excess_over, write_message, written_behind}
 use Rattle.bsc_table.specs.Record.{added_by, accepted_after, accepted_from, accepted_in}
-use Rattle.bsc_table.specs.Book.{is_stopped}
-use Rattle.bsc_table.specs.Refusals.{is_accepted, accepted_entries, accepted_renumbered, AcceptedEntriesAreAll}
+use Rattle.bsc_table.specs.Refusals.{is_stopped, is_accepted, accepted_entries, accepted_renumbered}
+use Rattle.bsc_table.specs.Refusals.{AcceptedEntriesAreAll}
 use Rattle.bsc_table.proofs.History.Pairs.{map_agree, stopped_once-false}
 
 -- the place in the log of the entry that stands at a place among the accepted ones; past these, past the log

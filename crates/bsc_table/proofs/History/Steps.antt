@@ -1,6 +1,6 @@
 -- Whatever steps are taken from a new record on, the record that they reach is a legal history.
-use Rattle.std.proofs.Common.{◌≡◌, ℕ, ◌+◌, ◌≤◌, ◌<◌, min, true, Option, None, List, [], ◌∷◌, ◌++◌, length}
-use Rattle.std.proofs.Common.{take, get_or, refl, ap, sym, subst, ◌∙◌, inl, inr, arith}
+use Rattle.std.proofs.Common.{◌≡◌, ℕ, ◌+◌, ◌≤◌, ◌<◌, min, true, Option, None, List, [], ◌∷◌, ◌++◌, length, take, get_or}
+use Rattle.std.proofs.Common.{refl, ap, sym, subst, ◌∙◌, inl, inr, arith}
 use Rattle.std.specs.List.{All, AllPairs}
 use Rattle.std.proofs.lemmas.Bool.{cases_lt, le-leb, lt-leb, cond-true, cond-false}
 use Rattle.std.proofs.lemmas.List.{take-append-le, get_or_append_left}
@@ -16,9 +16,8 @@ use Rattle.bsc_table.specs.Orders.{IsWellFormed}
 use Rattle.bsc_table.specs.Record.{Record, messages_in}
 use Rattle.bsc_table.specs.Answer.{answer_of, answer_with_room}
 use Rattle.bsc_table.specs.Legal.{IsLegal, IsAnswered}
-use Rattle.bsc_table.specs.Steps.{opened, has_entry, answered_with, IsPlayedUpTo, Ask, Play}
-use Rattle.bsc_table.specs.Steps.{StepOfCell, IsStep, IsReached, IsWellFormedStep, OpenedAreLegal, StepKeepsLegal}
-use Rattle.bsc_table.specs.Steps.{StepsKeepLegal}
+use Rattle.bsc_table.specs.Steps.{opened, has_entry, answered_with, IsPlayedUpTo, Ask, Play, StepOfCell, IsStep}
+use Rattle.bsc_table.specs.Steps.{IsReached, IsWellFormedStep, OpenedAreLegal, StepKeepsLegal, StepsKeepLegal}
 use Rattle.bsc_table.proofs.History.LegalWithEntry.{IsLegal-entry}
 use Rattle.bsc_table.proofs.History.HasEntry.{has_entry-with_room}
 

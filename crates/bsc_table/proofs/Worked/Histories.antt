@@ -1,7 +1,6 @@
 -- Legal histories worked by hand: answers, and what is aired.
 use Rattle.std.proofs.Common.{◌≡◌, ℕ, zero, suc, ◌≤◌, ◌<◌, Bool, true, ◌&&◌, inl, inr, refl, Option, Some, None, List}
-use Rattle.std.proofs.Common.{[]}
-use Rattle.std.proofs.Common.{◌∷◌, replicate, ◌++◌, length, take, get_or, arith}
+use Rattle.std.proofs.Common.{[], ◌∷◌, replicate, ◌++◌, length, take, get_or, arith}
 use Rattle.std.specs.Prelude.{nat_le, nat_lt}
 use Rattle.std.specs.List.{All, AllPairs, Any, list_all}
 use Rattle.std.proofs.lemmas.Bool.{and_parts, leb-true, le-leb, ltb-true, eqb-true}

@@ -1,7 +1,7 @@
 use Rattle.std.proofs.Common.{◌<◌, length, arith}
 use Rattle.std.proofs.lemmas.List.{get_or_default}
 use Rattle.std.proofs.lemmas.List.Edits.{map_over_more}
-use Rattle.bsc_table.specs.Book.{accepted_stopped}
+use Rattle.bsc_table.specs.BookSteps.{accepted_stopped}
 use Rattle.bsc_table.proofs.accepted.stop.Goals as goal
 
 pub loop-message-preserved : goal.loop-message-preserved

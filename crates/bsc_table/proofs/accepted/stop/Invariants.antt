@@ -1,5 +1,5 @@
 use Rattle.std.proofs.Common.{◌≡◌, ◌++◌, take, drop, map}
-use Rattle.bsc_table.specs.Book.{accepted_stopped}
+use Rattle.bsc_table.specs.BookSteps.{accepted_stopped}
 use Rattle.bsc_table.proofs.accepted.stop.Given as goal
 
 abbrev pub invariant-loop-message : goal.invariant-loop-message

@@ -3,7 +3,8 @@ use Rattle.std.specs.List.{All}
 use Rattle.admission.specs.declared.budget.Held.{Held}
 use Rattle.admission.specs.declared.measure.TheConstants.{SCALE}
 use Rattle.admission.specs.Waiting.{held_now}
-use Rattle.admission.specs.Table.{HasPlace, IsAdmitted}
+use Rattle.admission.specs.Table.{IsAdmitted}
+use Rattle.admission.specs.TableSteps.{HasPlace}
 use Rattle.admission.proofs.Tables.{IsAdmitted-push, has_room}
 use Rattle.admission.proofs.budget.Budget.add.Goals as goal
 

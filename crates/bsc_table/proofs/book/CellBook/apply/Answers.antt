@@ -7,7 +7,8 @@ use Rattle.bsc_table.specs.Answer.{answer_of, answer_with_room}
 use Rattle.bsc_table.specs.Legal.{IsLegal}
 use Rattle.bsc_table.specs.declared.entry.Answer.{Answer}
 use Rattle.bsc_table.specs.Steps.{with_entry, answered_with, has_entry}
-use Rattle.bsc_table.specs.Book.{record_of, IsNext, decided_answer}
+use Rattle.bsc_table.specs.Book.{record_of}
+use Rattle.bsc_table.specs.BookSteps.{IsNext, decided_answer}
 use Rattle.bsc_table.proofs.History.HasEntry.{has_entry-with_room}
 use Rattle.bsc_table.proofs.History.NextEntry.{entry_with}
 use Rattle.bsc_table.proofs.Cell.WithEntry.{IsLegal-with}

@@ -3,7 +3,8 @@ use Rattle.scheduler.specs.Follows.{Follows}
 use Rattle.bsc_table.specs.declared.entry.Entry.{Entry}
 use Rattle.bsc_table.specs.Record.{Record, Accepted, accepted_in, claims_of}
 use Rattle.bsc_table.specs.Legal.{IsLegal}
-use Rattle.bsc_table.specs.Book.{accepted_of, record_of, reservations_at, IsNext}
+use Rattle.bsc_table.specs.Book.{accepted_of, record_of, reservations_at}
+use Rattle.bsc_table.specs.BookSteps.{IsNext}
 use Rattle.bsc_table.proofs.History.Refusals.{refusals_change_nothing}
 use Rattle.bsc_table.proofs.Cell.WithEntry.{IsLegal-with}
 use Rattle.bsc_table.proofs.book.CellBook.enter_alone.Goals as goal

@@ -7,13 +7,13 @@ use Rattle.bsc_table.specs.declared.entry.Entry.{Entry}
 use Rattle.bsc_table.specs.declared.accepted.AcceptedMessage.{AcceptedMessage}
 use Rattle.bsc_table.specs.Record.{Record, Accepted, accepted_in, messages_in, claim_of, claims_in, is_background}
 use Rattle.bsc_table.specs.Claim.{Claim}
-use Rattle.bsc_table.specs.Book.{accepted_of, record_of, reservations_at, HasRoomFor, IsNext, IsStart}
+use Rattle.bsc_table.specs.Book.{accepted_of, record_of, reservations_at}
+use Rattle.bsc_table.specs.BookSteps.{HasRoomFor, IsNext, IsStart}
 use Rattle.bsc_table.proofs.Cell.RoomForNew.{room_for_new}
 use Rattle.bsc_table.proofs.History.LegalIsSound.{IsSound-legal}
 use Rattle.bsc_table.proofs.History.Ranks.{in_front, layer_tells}
 use Rattle.bsc_table.proofs.Cell.WithEntry.{book_with, messages_with, kept_more, planned_below, held_below}
-use Rattle.bsc_table.proofs.Cell.WithEntry.{item_message}
-use Rattle.bsc_table.proofs.Cell.WithEntry.{begun_reservations, claims_with}
+use Rattle.bsc_table.proofs.Cell.WithEntry.{item_message, begun_reservations, claims_with}
 use Rattle.bsc_table.proofs.book.CellBook.enter_new.Goals as goal
 
 pub add-requires-clause-rising : goal.add-requires-clause-rising

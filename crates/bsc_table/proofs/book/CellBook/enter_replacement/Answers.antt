@@ -11,17 +11,16 @@ use Rattle.bsc_table.specs.declared.entry.Entry.{Entry}
 use Rattle.bsc_table.specs.declared.accepted.AcceptedMessage.{AcceptedMessage}
 use Rattle.bsc_table.specs.Record.{Record, Accepted, accepted_in, messages_in, claim_of, claims_in, is_background}
 use Rattle.bsc_table.specs.Claim.{Claim, reserves, stop_claims}
-use Rattle.bsc_table.specs.Book.{accepted_of, stop_numbered, record_of, reservations_at, HasRoomFor, IsNext}
-use Rattle.bsc_table.specs.Book.{IsReplacement}
+use Rattle.bsc_table.specs.Book.{accepted_of, record_of, reservations_at}
+use Rattle.bsc_table.specs.BookSteps.{stop_numbered, HasRoomFor, IsNext, IsReplacement}
 use Rattle.bsc_table.proofs.History.NextEntry.{messages_stopped, claims_stopped}
 use Rattle.bsc_table.proofs.Cell.RoomForNew.{room_for_replacement}
 use Rattle.bsc_table.proofs.History.LegalIsSound.{HasLoad, IsSound-legal}
 use Rattle.bsc_table.proofs.History.Ranks.{in_front, layer_tells}
 use Rattle.bsc_table.proofs.Cell.WithEntry.{free_of, book_with, table_stopped, released_reservations, messages_with}
-use Rattle.bsc_table.proofs.Cell.WithEntry.{kept_more}
-use Rattle.bsc_table.proofs.Cell.WithEntry.{planned_below, held_below_without, number_below, standing_in}
-use Rattle.bsc_table.proofs.Cell.WithEntry.{standing_beside}
-use Rattle.bsc_table.proofs.Cell.WithEntry.{held_in, item_message, begun_reservations, claims_with, stopped_beside}
+use Rattle.bsc_table.proofs.Cell.WithEntry.{kept_more, planned_below, held_below_without, number_below, standing_in}
+use Rattle.bsc_table.proofs.Cell.WithEntry.{standing_beside, held_in, item_message, begun_reservations, claims_with}
+use Rattle.bsc_table.proofs.Cell.WithEntry.{stopped_beside}
 use Rattle.bsc_table.proofs.book.CellBook.enter_replacement.Goals as goal
 
 pub add-requires-clause-rising : goal.add-requires-clause-rising

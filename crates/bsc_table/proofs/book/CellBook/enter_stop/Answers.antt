@@ -9,12 +9,12 @@ use Rattle.scheduler.specs.Follows.{Follows}
 use Rattle.bsc_table.specs.declared.entry.Entry.{Entry}
 use Rattle.bsc_table.specs.Record.{Record, Accepted, accepted_in, messages_in, is_background}
 use Rattle.bsc_table.specs.Claim.{Claim}
-use Rattle.bsc_table.specs.Book.{accepted_of, stop_numbered, record_of, reservations_at, IsNext, IsStop}
+use Rattle.bsc_table.specs.Book.{accepted_of, record_of, reservations_at}
+use Rattle.bsc_table.specs.BookSteps.{stop_numbered, IsNext, IsStop}
 use Rattle.bsc_table.proofs.History.LegalIsSound.{HasLoad, IsSound-legal}
 use Rattle.bsc_table.proofs.History.Ranks.{in_front, layer_tells}
 use Rattle.bsc_table.proofs.Cell.WithEntry.{messages_without, claims_without, free_of, table_stopped}
-use Rattle.bsc_table.proofs.Cell.WithEntry.{released_reservations}
-use Rattle.bsc_table.proofs.Cell.WithEntry.{book_with, standing_in, held_in}
+use Rattle.bsc_table.proofs.Cell.WithEntry.{released_reservations, book_with, standing_in, held_in}
 use Rattle.bsc_table.proofs.book.CellBook.enter_stop.Goals as goal
 
 pub stop-requires-2-clause-standing : goal.stop-requires-2-clause-standing

@@ -4,7 +4,8 @@ use Rattle.std.specs.Option.{option_map}
 use Rattle.bsc_table.specs.declared.accepted.AcceptedMessage.{AcceptedMessage}
 use Rattle.bsc_table.specs.Record.{Record, Accepted, accepted_in, claim_of, place_after}
 use Rattle.bsc_table.specs.Handover.{ahead_of, place_before}
-use Rattle.bsc_table.specs.Book.{accepted_of, record_of, stopped_end, place_of, left_by, IsLiveIn}
+use Rattle.bsc_table.specs.Book.{accepted_of, record_of}
+use Rattle.bsc_table.specs.BookSteps.{stopped_end, place_of, left_by, IsLiveIn}
 use Rattle.bsc_table.proofs.Cell.Places.{is_reserved_as, none_ahead, found_lasts, place_ahead, place_in_front}
 use Rattle.bsc_table.proofs.History.Ranks.{in_front}
 use Rattle.bsc_table.proofs.book.CellBook.place_after.Goals as goal

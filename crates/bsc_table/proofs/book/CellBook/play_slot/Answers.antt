@@ -6,7 +6,8 @@ use Rattle.scheduler.specs.Follows.{Follows}
 use Rattle.bsc_table.specs.Record.{Record, messages_in, claims_in}
 use Rattle.bsc_table.specs.Claim.{Claim}
 use Rattle.bsc_table.specs.Legal.{IsLegal}
-use Rattle.bsc_table.specs.Book.{air_pairs, record_of, IsGoneTo}
+use Rattle.bsc_table.specs.Book.{air_pairs, record_of}
+use Rattle.bsc_table.specs.BookSteps.{IsGoneTo}
 use Rattle.bsc_table.proofs.History.LegalWithSlot.{IsLegal-next}
 use Rattle.bsc_table.proofs.History.LegalIsSound.{IsSound-legal}
 use Rattle.bsc_table.proofs.Cell.BudgetOfTable.{reservations_at-later}

@@ -1,5 +1,5 @@
 use Rattle.std.proofs.Common.{◌-◌, ◌≤◌}
-use Rattle.bsc_table.specs.Book.{IsGoneTo}
+use Rattle.bsc_table.specs.BookSteps.{IsGoneTo}
 use Rattle.bsc_table.proofs.book.CellBook.play_up_to.Given as goal
 
 abbrev pub invariant-loop-self : goal.invariant-loop-self
