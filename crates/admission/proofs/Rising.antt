@@ -1,5 +1,5 @@
--- What the lines of a budget hold never rises: what a line gains at its start, the one that it waited behind has lost
--- there.
+-- What the reservations of a budget hold never rises: what a reservation gains at its start, the one that it waited
+-- behind has lost there.
 use Rattle.std.proofs.Common.{◌≡◌, ℕ, ◌+◌, ◌-◌, ◌≤◌, ◌<◌, ◌==◌, ◌⊎◌, Bool, true, false, cond, Option, Some, None, List}
 use Rattle.std.proofs.Common.{[], ◌∷◌, get_or, map, filter, sum_by, refl, sym, ap, subst, ◌∙◌, inl, inr, arith}
 use Rattle.std.specs.List.{All, AllPairs}
@@ -16,15 +16,15 @@ use Rattle.admission.specs.Laws.{NoSlotOverNow, HeldNeverRises, NoSlotOverScale,
 use Rattle.admission.proofs.Reservations.{is_before_end-says, is_before_end-from, IsBeforeEnd-earlier}
 use Rattle.admission.proofs.Matched.{sum_by-plus, sum_by-same, sum_by-member, matched}
 
--- what one line holds at a slot
-held_at-gone : (slot : ℕ) (h : Held) → is_before_end slot h.until ≡ false → held_at slot h ≡ 0
+-- what one reservation holds at a slot
+held_at-gone : (slot : ℕ) (h : Held) → is_before_end slot h.end ≡ false → held_at slot h ≡ 0
 held_at-gone slot h over = ap (λ (b : Bool). cond b (share_at slot h.load h.waits) 0) over
 
-held_at-there : (slot : ℕ) (h : Held) → is_before_end slot h.until ≡ true
+held_at-there : (slot : ℕ) (h : Held) → is_before_end slot h.end ≡ true
     → held_at slot h ≡ share_at slot h.load h.waits
 held_at-there slot h there = ap (λ (b : Bool). cond b (share_at slot h.load h.waits) 0) there
 
-held_at-after : (slot end : ℕ) (h : Held) → h.until ≡ Some end → end ≤ slot → held_at slot h ≡ 0
+held_at-after : (slot end : ℕ) (h : Held) → h.end ≡ Some end → end ≤ slot → held_at slot h ≡ 0
 held_at-after slot end h ends over =
     held_at-gone slot h (ap (is_before_end slot) ends ∙ le-ltb slot end over)
 
@@ -42,12 +42,12 @@ share_at-started slot load waits w is over =
     ap (share_at slot load) is ∙ ap (λ (b : Bool). cond b w.excess load) (le-ltb slot w.start over)
 
 held_at-le : (slot : ℕ) (h : Held) → held_at slot h ≤ share_at slot h.load h.waits
-held_at-le slot h = elim (cases_Bool (is_before_end slot h.until)) [
+held_at-le slot h = elim (cases_Bool (is_before_end slot h.end)) [
   | inl there ↦ omega (arith, held_at-there slot h there)
   | inr over ↦ omega (arith, held_at-gone slot h over)
 ]
 
--- a line waits behind an entry
+-- a reservation waits behind an entry
 abbrev is_behind : Option ℕ → ℕ → Bool
 is_behind None entry = false
 is_behind (Some behind) entry = behind == entry
@@ -63,14 +63,14 @@ is_behind-from behind entry h =
 abbrev waits_for : Held → Held → Bool
 waits_for w g = is_behind (behind_of w) g.entry
 
--- a waiting line's excess is held earlier, and it starts by the slot where the load of the one before it was held
--- earlier
+-- a waiting reservation's excess is held earlier, and it starts by the slot where the load of the one before it was
+-- held earlier
 record Starts (early : Held → ℕ) (slot : ℕ) (h : Held) (w : Waits) : Type 0 where
   excess : w.excess ≤ early h
   start : w.start ≤ slot
   load : (g : Held) → HandsOver h.load w g → g.load ≤ early g
 
--- what is held earlier than at the slot: as much at least by each line that doesn't start between the two
+-- what is held earlier than at the slot: as much at least by each reservation that doesn't start between the two
 record IsEarlier (early : Held → ℕ) (slot : ℕ) : Type 0 where
   plain : (h : Held) → h.waits ≡ None → held_at slot h ≤ early h
   waiting : (h : Held) (w : Waits) → h.waits ≡ Some w → (held_at slot h ≤ early h) ⊎ Starts early slot h w
@@ -104,7 +104,7 @@ now_is_earlier slot = record {
 -- and so is a slot before another
 slot_is_earlier : (t u : ℕ) → t ≤ u → IsEarlier (held_at t) u
 slot_is_earlier t u later = record {
-  plain = λ h none. elim (cases_Bool (is_before_end u h.until)) [
+  plain = λ h none. elim (cases_Bool (is_before_end u h.end)) [
     | inr over ↦ omega (arith, held_at-gone u h over)
     | inl there ↦ omega (
       arith,
@@ -115,7 +115,7 @@ slot_is_earlier t u later = record {
       share_at-plain t h.load h.waits none,
     )
   ];
-  waiting = λ h w is. elim (cases_Bool (is_before_end u h.until)) [
+  waiting = λ h w is. elim (cases_Bool (is_before_end u h.end)) [
     | inr over ↦ inl (omega (arith, held_at-gone u h over))
     | inl there ↦
         let at_u = held_at-there u h there in
@@ -149,11 +149,11 @@ slot_is_earlier t u later = record {
   ];
 }
   where
-    sooner : (h : Held) → is_before_end u h.until ≡ true → is_before_end t h.until ≡ true
+    sooner : (h : Held) → is_before_end u h.end ≡ true → is_before_end t h.end ≡ true
     sooner h there =
-        is_before_end-from t h.until (IsBeforeEnd-earlier t u h.until later (is_before_end-says u h.until there))
+        is_before_end-from t h.end (IsBeforeEnd-earlier t u h.end later (is_before_end-says u h.end there))
 
--- what a line gains, and what it loses
+-- what a reservation gains, and what it loses
 abbrev gain : (Held → ℕ) → ℕ → Held → ℕ
 gain early slot h = held_at slot h - early h
 
@@ -165,7 +165,7 @@ waits_or_not : (waits : Option Waits) → (waits ≡ None) ⊎ ((w : Waits) × (
 waits_or_not None = inl refl
 waits_or_not (Some w) = inr (w, refl)
 
--- each gain is covered by the losses of those that the line waits for
+-- each gain is covered by the losses of those that the reservation waits for
 covered : (early : Held → ℕ) (slot : ℕ) (table : List Held) → IsEarlier early slot → IsAdmitted table
     → All (λ h. gain early slot h ≤ sum_by (λ g. cond (waits_for h g) (loss early slot g) 0) table) table
 covered early slot table earlier admitted = λ k d within.
@@ -204,7 +204,7 @@ covered early slot table earlier admitted = λ k d within.
           ]
     ]
 
--- a line that waits behind an entry waits
+-- a reservation that waits behind an entry waits
 the_waits : (entry : ℕ) (waits : Option Waits) → option_map (λ (x : Waits). x.behind) waits ≡ Some entry → (w : Waits)
     × (waits ≡ Some w) × (w.behind ≡ entry)
 the_waits entry None is = absurd (none-some entry is)
@@ -276,7 +276,7 @@ one_more slot false h rest n e = omega (arith, e)
 pub passed_is_held : PassedIsHeld
 passed_is_held [] slot = refl
 passed_is_held (h ∷ table) slot =
-    one_more slot (is_before_end slot h.until) h (filter (λ x. is_before_end slot x.until) table)
+    one_more slot (is_before_end slot h.end) h (filter (λ x. is_before_end slot x.end) table)
     (sum_by (held_at slot) table) (passed_is_held table slot) ∙ sym (sum_by-cons (held_at slot) h table)
 
 -- and at later slots what it was to hold there
@@ -291,26 +291,26 @@ share_later t u load (Some w) later =
 
 held_later : (t u : ℕ) (h : Held) → t ≤ u → held_at u (started_at t h) ≡ held_at u h
 held_later t u h later =
-    ap (λ (n : ℕ). cond (is_before_end u h.until) n 0) (share_later t u h.load h.waits later)
+    ap (λ (n : ℕ). cond (is_before_end u h.end) n 0) (share_later t u h.load h.waits later)
 
 -- what has ended by a slot holds nothing at later ones
-held_at-ended : (t u : ℕ) (h : Held) → t ≤ u → is_before_end t h.until ≡ false → held_at u h ≡ 0
+held_at-ended : (t u : ℕ) (h : Held) → t ≤ u → is_before_end t h.end ≡ false → held_at u h ≡ 0
 held_at-ended t u h later over =
-    elim (cases_Bool (is_before_end u h.until)) [
+    elim (cases_Bool (is_before_end u h.end)) [
       | inr gone ↦ held_at-gone u h gone
-      | inl there ↦ absurd (false≢true (sym over ∙ is_before_end-from t h.until
-          (IsBeforeEnd-earlier t u h.until later (is_before_end-says u h.until there))))
+      | inl there ↦ absurd (false≢true (sym over ∙ is_before_end-from t h.end
+          (IsBeforeEnd-earlier t u h.end later (is_before_end-says u h.end there))))
     ]
 
 pub passed_keeps_later : PassedKeepsLater
 passed_keeps_later [] t u later = refl
 passed_keeps_later (h ∷ table) t u later =
-    let rest : List Held = filter (λ x. is_before_end t x.until) table in
+    let rest : List Held = filter (λ x. is_before_end t x.end) table in
     let after = passed_keeps_later table t u later in
     let Holds : Bool → Type 0 = λ b. sum_by (held_at u) (map (started_at t) (cond b (h ∷ rest) rest)) ≡ sum_by
     (held_at u) (h ∷ table) in
     let first = sum_by-cons (held_at u) h table in
-    elim (cases_Bool (is_before_end t h.until)) [
+    elim (cases_Bool (is_before_end t h.end)) [
       | inl there ↦ subst Holds (sym there) (omega (
         arith,
         after,

@@ -19,11 +19,12 @@ use Rattle.admission.specs.declared.budget.NoRoom.TheVariants as no_rooms
 use Rattle.admission.specs.declared.measure.TheConstants.{SCALE}
 use Rattle.admission.specs.Reservation.{is_before_end}
 use Rattle.admission.specs.Waiting.{behind_of, held_now, HandsOver, waits_at, started_at}
-use Rattle.admission.specs.Table.{IsAdmitted, HasPlace, answer_of, load_for, load_in, excess_over, ends_at, ends_if}
+use Rattle.admission.specs.Table.{IsAdmitted, answer_of, load_for, load_in, excess_over, ends_at, ends_if}
+use Rattle.admission.specs.TableSteps.{HasPlace}
 use Rattle.admission.specs.Table.{passed}
 use Rattle.admission.proofs.Rising.{no_slot_over_now, passed_is_held}
 
--- a line that waits behind no such entry
+-- a reservation that waits behind no such entry
 not_behind : (entry : ℕ) (h : Held) (w : Waits) → h.waits ≡ Some w → behind_of h ≢ Some entry → w.behind ≢ entry
 not_behind entry h w is other same =
     other (ap (λ (o : Option Waits). option_map (λ (x : Waits). x.behind) o) is ∙ ap (λ (n : ℕ). Some n) same)
@@ -47,7 +48,7 @@ place_hands load (Some v) table place w is =
     let P : Waits → Type 0 = λ x. Any (HandsOver load x) table × All (λ h. behind_of h ≢ Some x.behind) table in
     subst P same place
 
--- a table stays admitted where a line is added that has room and a place
+-- a table stays admitted where a reservation is added that has room and a place
 pub IsAdmitted-push : (table : List Held) (new : Held) → IsAdmitted table → All (λ h. h.entry ≢ new.entry) table
     → HasPlace new.load new.waits table → length table < 64 → sum_by held_now table + held_now new ≤ SCALE
     → IsAdmitted (table ++ new ∷ [])
@@ -104,14 +105,14 @@ IsAdmitted-ends_at entry slot table admitted free =
       loads = omega (arith, admitted.loads, same_sums f table (λ h. refl));
       handed = All-map (λ (h : Held). (w : Waits) → h.waits ≡ Some w → Any (HandsOver h.load w) (map f table)) f table
           (λ k d h. λ w e.
-          let line : Held = get_or table k d in
+          let reservation : Held = get_or table k d in
           let found = admitted.handed k d h w e in
           let g : Held = found.1 in
-          let over : HandsOver line.load w g = found.4 in
-          let apart : g.entry ≢ entry = λ same. not_behind entry line w e (free k d h) (over.named ∙ same) in
+          let over : HandsOver reservation.load w g = found.4 in
+          let apart : g.entry ≢ entry = λ same. not_behind entry reservation w e (free k d h) (over.named ∙ same) in
           let stays : f g ≡ g = ap (λ (b : Bool). ends_if b slot g) (ne_eqb g.entry entry apart) in
-          let P : Held → Type 0 = λ x. HandsOver line.load w x in
-          Any-map (HandsOver line.load w) f table (found.0, g, found.2, found.3, subst P (sym stays) over));
+          let P : Held → Type 0 = λ x. HandsOver reservation.load w x in
+          Any-map (HandsOver reservation.load w) f table (found.0, g, found.2, found.3, subst P (sym stays) over));
       alone = pairs_map (λ a b. (v w : Waits) → a.waits ≡ Some v → b.waits ≡ Some w → v.behind ≢ w.behind) f table
           admitted.alone;
     }
@@ -165,7 +166,7 @@ Any-kept P p (h ∷ table) (suc k, x, within, is, holds) =
       | inr fails ↦ subst (λ (b : Bool). Any P (cond b (h ∷ filter p table) (filter p table))) (sym fails) rest
     ]
 
--- a line that has started is at each slot as it was
+-- a reservation that has started is at each slot as it was
 pub started_at-plain : (slot : ℕ) (h : Held) → h.waits ≡ None → started_at slot h ≡ h
 started_at-plain slot h none =
     ap (λ (o : Option Waits). record h { waits = waits_at slot o }) none
@@ -174,7 +175,7 @@ started_at-plain slot h none =
 -- a table stays admitted as slots pass
 pub IsAdmitted-passed : (slot : ℕ) (table : List Held) → IsAdmitted table → IsAdmitted (passed slot table)
 IsAdmitted-passed slot table admitted =
-    let p : Held → Bool = λ h. is_before_end slot h.until in
+    let p : Held → Bool = λ h. is_before_end slot h.end in
     let f : Held → Held = started_at slot in
     let kept = filter p table in
     record {
@@ -191,13 +192,13 @@ IsAdmitted-passed slot table admitted =
       handed = All-map (λ (h : Held). (w : Waits) → h.waits ≡ Some w → Any (HandsOver h.load w) (map f kept)) f kept
           (All-filter p (λ (h : Held). (w : Waits) → waits_at slot h.waits ≡ Some w
           → Any (HandsOver h.load w) (map f kept)) table (λ k d h. λ w e.
-          let line : Held = get_or table k d in
-          let was = still slot line.waits w e in
+          let reservation : Held = get_or table k d in
+          let was = still slot reservation.waits w e in
           let found = admitted.handed k d h w was.0 in
           let g : Held = found.1 in
-          let over : HandsOver line.load w g = found.4 in
+          let over : HandsOver reservation.load w g = found.4 in
           let stays : p g ≡ true = ap (is_before_end slot) over.ends ∙ lt-ltb slot w.start was.1 in
-          let P : Held → Type 0 = λ x. HandsOver line.load w x in
+          let P : Held → Type 0 = λ x. HandsOver reservation.load w x in
           Any-map P f kept (Any-kept (λ x. P (f x)) p table (
             found.0,
             g,
@@ -211,7 +212,7 @@ IsAdmitted-passed slot table admitted =
           v w (still slot (get_or table i d).waits v first).0 (still slot (get_or table j d).waits w second).0));
     }
 
--- the load that is found for an entry is that of its line
+-- the load that is found for an entry is that of its reservation
 pub load_for-is : (entry : ℕ) (table : List Held) (g : Held) → AllPairs (λ a b. a.entry ≢ b.entry) table
     → Contains table g → g.entry ≡ entry → load_for entry table ≡ g.load
 load_for-is entry [] g distinct there is = absurd (omega (arith, there.1))
@@ -240,9 +241,9 @@ has_room places total load done is =
     let both = decided (ltb places 64) (leb (total + load) SCALE) done is in
     (ltb-true places 64 both.0, leb-true (total + load) SCALE both.1)
 
--- a line may wait behind one that has started and ends where it starts, where none waits behind that one
+-- a reservation may wait behind one that has started and ends where it starts, where none waits behind that one
 pub place_behind : (behind load start excess : ℕ) (table : List Held) → AllPairs (λ a b. a.entry ≢ b.entry) table
-    → Any (λ h. (h.entry ≡ behind) × (h.waits ≡ None) × (h.until ≡ Some start)) table
+    → Any (λ h. (h.entry ≡ behind) × (h.waits ≡ None) × (h.end ≡ Some start)) table
     → All (λ h. behind_of h ≢ Some behind) table → excess ≡ excess_over behind load table
     → HasPlace load (Some (record { behind = behind; start = start; excess = excess })) table
 place_behind behind load start excess table distinct ahead free is =

@@ -38,30 +38,30 @@ end_at_start : end_of_reservation 7 4 5 (Some 7) ≡ Some 7
 end_at_start = refl
 
 -- a reservation that ends at slot 6 is counted at slot 5 and not at slot 6
-counted : loads_at (record { number = 0; load = 5; start = 2; end = Some 6 } ∷ record
-    { number = 1; load = 7; start = 6; end = None } ∷ []) 5 ≡ 5
+counted : loads_at (record { entry = 0; load = 5; start = 2; end = Some 6 } ∷ record
+    { entry = 1; load = 7; start = 6; end = None } ∷ []) 5 ≡ 5
 counted = refl
 
-freed : loads_at (record { number = 0; load = 5; start = 2; end = Some 6 } ∷ record
-    { number = 1; load = 7; start = 6; end = None } ∷ []) 6 ≡ 7
+freed : loads_at (record { entry = 0; load = 5; start = 2; end = Some 6 } ∷ record
+    { entry = 1; load = 7; start = 6; end = None } ∷ []) 6 ≡ 7
 freed = refl
 
-not_begun : loads_at (record { number = 0; load = 5; start = 2; end = Some 6 } ∷ []) 1 ≡ 0
+not_begun : loads_at (record { entry = 0; load = 5; start = 2; end = Some 6 } ∷ []) 1 ≡ 0
 not_begun = refl
 
 -- a quarter of the slots that ends at slot 4, a half, and a half that waits behind the quarter: until then it holds a
 -- quarter
 abbrev quarter : Held
-quarter = record { entry = 0; load = 58198140; until = Some 4; waits = None }
+quarter = record { entry = 0; load = 58198140; end = Some 4; waits = None }
 
 abbrev half : Held
-half = record { entry = 1; load = 116396280; until = None; waits = None }
+half = record { entry = 1; load = 116396280; end = None; waits = None }
 
 abbrev waiting : Held
 waiting = record {
   entry = 2;
   load = 116396280;
-  until = None;
+  end = None;
   waits = Some
       (record { behind = 0; start = 4; excess = 58198140 });
 }
@@ -79,5 +79,5 @@ full_from_its_start : sum_by (held_at 4) (quarter ∷ half ∷ waiting ∷ []) �
 full_from_its_start = refl
 
 passed_its_start : passed 4 (quarter ∷ half ∷ waiting ∷ []) ≡ half ∷ record
-    { entry = 2; load = 116396280; until = None; waits = None } ∷ []
+    { entry = 2; load = 116396280; end = None; waits = None } ∷ []
 passed_its_start = refl

@@ -43,10 +43,10 @@ StopBeforeStart = (start period stop : ℕ) → 0 < period → stop ≤ start �
 
 -- a stop never makes a reservation last longer than the message would have stood
 abbrev pub StopNoLater : Type 0
-StopNoLater = (start period requested stop : ℕ)
+StopNoLater = (start period broadcasts stop : ℕ)
     → 0 < period
-    → stop ≤ start + requested * period
-    → end_of_stopped start period stop ≤ start + requested * period
+    → stop ≤ start + broadcasts * period
+    → end_of_stopped start period stop ≤ start + broadcasts * period
 
 -- each period that begins before the stop lies inside the reservation
 abbrev pub StopCovers : Type 0
@@ -55,7 +55,7 @@ StopCovers = (start period periods stop : ℕ)
     → start + periods * period < stop
     → start + (periods + 1) * period ≤ end_of_stopped start period stop
 
--- at no slot do the lines of a budget hold more than now
+-- at no slot do the reservations of a budget hold more than now
 abbrev pub NoSlotOverNow : Type 0
 NoSlotOverNow = (table : List Held) (slot : ℕ) → IsAdmitted table → sum_by (held_at slot) table ≤ sum_by held_now table
 

@@ -3,9 +3,10 @@ use Rattle.std.specs.Prelude.{ℕ, ◌+◌, ◌-◌, ◌*◌, ◌<◌, ◌≤◌
 use Rattle.std.specs.Prelude.{Option, Some, None, List, filter, sum_by, ⊤}
 use Rattle.std.specs.Int.{div_ceil}
 
--- a message's number, its load, the slot from which the load counts, and the slot from which it counts no more, if any
+-- the number of a message's entry in the log, its load, the slot from which the load counts, and the slot from which it
+-- counts no more, if any
 pub record Reservation : Type 0 where
-  pub number : ℕ
+  pub entry : ℕ
   pub load : ℕ
   pub start : ℕ
   pub end : Option ℕ
@@ -34,7 +35,7 @@ loads_at reservations slot = sum_by (λ r. r.load) (filter (is_reserved_at slot)
 -- where a message that is never stopped runs out: after so many periods as broadcasts were requested; never where 0
 -- were
 abbrev pub natural_end : ℕ → ℕ → ℕ → Option ℕ
-natural_end start period requested = if requested == 0 then None else Some (start + requested * period)
+natural_end start period broadcasts = if broadcasts == 0 then None else Some (start + broadcasts * period)
 
 -- where the reservation of a stopped message ends. A stop after its start: at the end of the period in which that is,
 -- the least slot, not before the stop, that is a whole number of periods after the start. A stop at its start or
@@ -44,5 +45,5 @@ end_of_stopped start period stop = min start stop + period * div_ceil (stop - st
 
 -- the end of a message's reservation, by its start, its period, its requested broadcasts and its stop, if any
 abbrev pub end_of_reservation : ℕ → ℕ → ℕ → Option ℕ → Option ℕ
-end_of_reservation start period requested None = natural_end start period requested
-end_of_reservation start period requested (Some stop) = Some (end_of_stopped start period stop)
+end_of_reservation start period broadcasts None = natural_end start period broadcasts
+end_of_reservation start period broadcasts (Some stop) = Some (end_of_stopped start period stop)

@@ -1,13 +1,13 @@
--- The table of a budget (own): the lines in the order of their reserving.
-use Rattle.std.specs.Prelude.{⊤, ◌≡◌, ◌≢◌, Bool, ℕ, ◌+◌, ◌-◌, ◌≤◌, ◌==◌, not, nat_lt, nat_le, if◌then◌else◌, Option}
-use Rattle.std.specs.Prelude.{Some, None, Result, Ok, Err, List, length, filter, map, sum_by, find, All, Any, AllPairs}
+-- The table of a budget (own): the reservations in the order of their reserving.
+use Rattle.std.specs.Prelude.{◌≡◌, ◌≢◌, Bool, ℕ, ◌+◌, ◌-◌, ◌≤◌, ◌==◌, not, nat_lt, nat_le, if◌then◌else◌, Option, Some}
+use Rattle.std.specs.Prelude.{None, Result, Ok, Err, List, length, filter, map, sum_by, find, All, Any, AllPairs}
 use Rattle.admission.specs.declared.budget.Held.{Held}
 use Rattle.admission.specs.declared.budget.Waits.{Waits}
 use Rattle.admission.specs.declared.budget.NoRoom.{NoRoom}
 use Rattle.admission.specs.declared.budget.NoRoom.TheVariants.{Table, Load}
 use Rattle.admission.specs.declared.measure.TheConstants.{SCALE}
 use Rattle.admission.specs.Reservation.{is_before_end}
-use Rattle.admission.specs.Waiting.{behind_of, held_now, HandsOver, started_at}
+use Rattle.admission.specs.Waiting.{held_now, HandsOver, started_at}
 
 -- each entry stands once, there are at most 64, what they hold now is no more than SCALE, each that waits does so
 -- behind one that hands over to it, and no two behind the same
@@ -45,9 +45,9 @@ load_for entry table = load_in (find (λ h. h.entry == entry) table)
 abbrev pub excess_over : ℕ → ℕ → List Held → ℕ
 excess_over entry load table = load - load_for entry table
 
--- the line that ends at the slot, if the test says so, else the line as it is
+-- the reservation that ends at the slot, if the test says so, else the reservation as it is
 abbrev pub ends_if : Bool → ℕ → Held → Held
-ends_if says slot h = record h { until = if says then Some slot else h.until }
+ends_if says slot h = record h { end = if says then Some slot else h.end }
 
 -- the table in which the entry's reservation ends at the slot
 abbrev pub ends_at : ℕ → ℕ → List Held → List Held
@@ -55,10 +55,4 @@ ends_at entry slot table = map (λ h. ends_if (h.entry == entry) slot h) table
 
 -- the table at a slot: without what ended by then, and what has started by then waits no more
 abbrev pub passed : ℕ → List Held → List Held
-passed slot table = map (started_at slot) (filter (λ h. is_before_end slot h.until) table)
-
--- a line of that load that waits so, or not, may be added: where it waits, another hands over to it, and none waits
--- behind that one yet
-abbrev pub HasPlace : ℕ → Option Waits → List Held → Type 0
-HasPlace load None table = ⊤
-HasPlace load (Some w) table = Any (HandsOver load w) table × All (λ h. behind_of h ≢ Some w.behind) table
+passed slot table = map (started_at slot) (filter (λ h. is_before_end slot h.end) table)

@@ -4,7 +4,8 @@ ghost use Rattle.std.specs.Prelude.{◌≡◌, ◌≢◌, ℕ, ◌==◌, ◌≤�
 ghost use Rattle.std.specs.Prelude.{OnOk, OnErr, MatchBool};
 ghost use Rattle.std.specs.Option.{option_map};
 ghost use Rattle.admission.specs.Table.{answer_for, answer_of, remaining_without, load_for, excess_over, ends_at};
-ghost use Rattle.admission.specs.Table.{ends_if, passed, IsAdmitted, HasPlace};
+ghost use Rattle.admission.specs.Table.{ends_if, passed, IsAdmitted};
+ghost use Rattle.admission.specs.TableSteps.{HasPlace};
 ghost use Rattle.admission.specs.Waiting.{behind_of, held_now, held_at, waits_at, started_at};
 ghost use Rattle.admission.specs.Reservation.{is_before_end};
 
@@ -13,11 +14,12 @@ use arrayvec::ArrayVec;
 use std::marker::Model;
 
 /// How many messages may be reserved in a cell at once (own).
-const PLACES: usize = 64;
+const MAX_RESERVED: usize = 64;
 
-/// One line of a budget: the load that is reserved for a log entry, up to, and without, the slot at which it ends.
+/// One reservation of a budget: the load that is reserved for a log entry, up to, and without, the slot at which it
+/// ends.
 ///
-/// A line may wait behind another: up to its start it holds its excess alone, from there on its whole load.
+/// A reservation may wait behind another: up to its start it holds its excess alone, from there on its whole load.
 #[derive(Clone, Copy, Debug, Default, PartialEq, Eq)]
 pub struct Held {
     /// The number of the log entry.
@@ -25,12 +27,12 @@ pub struct Held {
     /// The load, in parts of `SCALE`.
     pub load: u64,
     /// The slot at which the reservation ends. `None` is a reservation with no end yet.
-    pub until: Option<u32>,
-    /// What the line waits for. `None` is a line that has started.
+    pub end: Option<u32>,
+    /// What the reservation waits for. `None` is a reservation that has started.
     pub waits: Option<Waits>,
 }
 
-/// What a line waits for, and what it holds until then.
+/// What a reservation waits for, and what it holds until then.
 #[derive(Clone, Copy, Debug, Default, PartialEq, Eq)]
 pub struct Waits {
     /// The number of the log entry behind which it waits.
@@ -42,7 +44,7 @@ pub struct Waits {
 }
 
 impl Held {
-    /// What the line holds now, in parts of `SCALE`: its excess while it waits, else its whole load.
+    /// What the reservation holds now, in parts of `SCALE`: its excess while it waits, else its whole load.
     fn now(&self) -> u64
         ensures { result ≡ held_now self.now }
     {
@@ -64,9 +66,10 @@ pub enum NoRoom {
 
 /// The loads that are reserved in a cell, in the order in which they were reserved.
 ///
-/// A contract sees a budget as the list of its lines. Each entry stands in it once, there are at most 64 lines, and
-/// what they hold sums to at most `SCALE`, now and at each slot. Each line that waits does so behind one that has
-/// started and ends where it starts, and no two wait behind the same. The slots of `pass_slot` may come in any order.
+/// A contract sees a budget as the list of its reservations. Each entry stands in it once, there are at most 64
+/// reservations, and what they hold sums to at most `SCALE`, now and at each slot. Each reservation that waits does so
+/// behind one that has started and ends where it starts, and no two wait behind the same. The slots of `pass_slot` may
+/// come in any order.
 ///
 /// A third of a cell's slots fits three times: after `reserve(entry, load(1, 3), None)` for three entries,
 /// `fits(1, None)` answers `Err(NoRoom::Load)`. Where entry 2 then ends at slot 6,
@@ -128,13 +131,13 @@ impl Budget {
         requires { All (λ h. h.entry ≢ entry) self.old }
         ensures answer { result ≡ answer_for self.old load }
         ensures reserved { OnOk result
-            (self.new ≡ self.old ++ record { entry = entry; load = load; until = until; waits = None } ∷ []) }
+            (self.new ≡ self.old ++ record { entry = entry; load = load; end = until; waits = None } ∷ []) }
         ensures refused { OnErr result (self.new ≡ self.old) }
     {
         self.add(Held {
             entry,
             load,
-            until,
+            end: until,
             waits: None,
         })
     }
@@ -154,14 +157,14 @@ impl Budget {
         until: Option<u32>,
     ) -> Result<(), NoRoom>
         requires new { All (λ h. h.entry ≢ entry) self.old }
-        requires ends { Any (λ h. (h.entry ≡ behind) × (h.waits ≡ None) × (h.until ≡ Some start)) self.old }
+        requires ends { Any (λ h. (h.entry ≡ behind) × (h.waits ≡ None) × (h.end ≡ Some start)) self.old }
         requires free { All (λ h. behind_of h ≢ Some behind) self.old }
         ensures answer { result ≡ answer_for self.old (excess_over behind load self.old) }
         ensures reserved { OnOk result
             (self.new ≡ self.old ++ record {
               entry = entry;
               load = load;
-              until = until;
+              end = until;
               waits = Some (record { behind = behind; start = start; excess = excess_over behind load self.old });
             } ∷ []) }
         ensures refused { OnErr result (self.new ≡ self.old) }
@@ -170,7 +173,7 @@ impl Budget {
         self.add(Held {
             entry,
             load,
-            until,
+            end: until,
             waits: Some(Waits {
                 behind,
                 start,
@@ -197,7 +200,7 @@ impl Budget {
         self.table = remaining_at(self.table.as_slice(), slot);
     }
 
-    /// The sum of what the lines hold now, in parts of `SCALE`.
+    /// The sum of what the reservations hold now, in parts of `SCALE`.
     pub fn reserved(&self) -> u64
         ensures sum { result ≡ sum_by held_now self.now }
         ensures admitted { IsAdmitted self.now }
@@ -230,12 +233,12 @@ impl Budget {
     /// Whether a load is reserved for `entry`, has started and ends at `slot`, as `reserve_behind` asks of the one
     /// behind which to wait.
     pub fn hands_over_at(&self, entry: u16, slot: u32) -> bool
-        ensures { MatchBool result (Any (λ h. (h.entry ≡ entry) × (h.waits ≡ None) × (h.until ≡ Some slot)) self.now)
-            (All (λ h. ¬ ((h.entry ≡ entry) × (h.waits ≡ None) × (h.until ≡ Some slot))) self.now) }
+        ensures { MatchBool result (Any (λ h. (h.entry ≡ entry) × (h.waits ≡ None) × (h.end ≡ Some slot)) self.now)
+            (All (λ h. ¬ ((h.entry ≡ entry) × (h.waits ≡ None) × (h.end ≡ Some slot))) self.now) }
     {
         self.table.iter().any(|held| held.entry == entry
             && held.waits.is_none()
-            && held.until == Some(slot))
+            && held.end == Some(slot))
     }
 
     /// Whether an entry waits behind `entry`, as `reserve_behind` and `release_at` ask.
@@ -246,16 +249,20 @@ impl Budget {
         self.table.iter().any(|held| is_behind(held.waits, entry))
     }
 
-    /// Adds a line, where there is room for what it holds now.
-    fn add(&mut self, line: Held) -> Result<(), NoRoom>
-        requires new { All (λ h. h.entry ≢ line.entry) self.old }
-        requires handed { HasPlace line.load line.waits self.old }
-        ensures answer { result ≡ answer_for self.old (held_now line) }
-        ensures added { OnOk result (self.new ≡ self.old ++ line ∷ []) }
+    /// Adds a reservation, where there is room for what it holds now.
+    fn add(&mut self, reservation: Held) -> Result<(), NoRoom>
+        requires new { All (λ h. h.entry ≢ reservation.entry) self.old }
+        requires handed { HasPlace reservation.load reservation.waits self.old }
+        ensures answer { result ≡ answer_for self.old (held_now reservation) }
+        ensures added { OnOk result (self.new ≡ self.old ++ reservation ∷ []) }
         ensures refused { OnErr result (self.new ≡ self.old) }
     {
-        room(self.table.len(), total(self.table.as_slice()), line.now())?;
-        self.table.push(line);
+        room(
+            self.table.len(),
+            total(self.table.as_slice()),
+            reservation.now(),
+        )?;
+        self.table.push(reservation);
         Ok(())
     }
 }
@@ -298,7 +305,7 @@ fn load_for(table: &[Held], entry: u16) -> u64
     0
 }
 
-/// The sum of what the lines of a table hold now.
+/// The sum of what the reservations of a table hold now.
 fn total(table: &[Held]) -> u64
     requires { sum_by held_now table.now ≤ SCALE }
     ensures { result ≡ sum_by held_now table.now }
@@ -331,7 +338,7 @@ fn room(places: usize, sum: u64, load: u64) -> Result<(), NoRoom>
     requires { sum ≤ SCALE }
     ensures { result ≡ answer_of places sum load }
 {
-    if places >= PLACES {
+    if places >= MAX_RESERVED {
         return Err(NoRoom::Table);
     }
     if load > SCALE - sum {
@@ -349,13 +356,13 @@ fn end_at(table: &mut [Held], entry: u16, slot: u32)
     }
 }
 
-/// A line, with its end at `slot` where it is of `entry`.
+/// A reservation, with its end at `slot` where it is of `entry`.
 fn ended(held: Held, entry: u16, slot: u32) -> Held
     ensures { result ≡ ends_if (held.entry == entry) slot held }
 {
     if held.entry == entry {
         Held {
-            until: Some(slot),
+            end: Some(slot),
             ..held
         }
     } else {
@@ -363,21 +370,21 @@ fn ended(held: Held, entry: u16, slot: u32) -> Held
     }
 }
 
-/// The lines of a table that are still counted at `slot`, as they are there.
+/// The reservations of a table that are still counted at `slot`, as they are there.
 fn remaining_at(table: &[Held], slot: u16) -> ArrayVec<Held, 64>
     requires { length table.now ≤ 64 }
     ensures { result.items ≡ passed slot table.now }
 {
     let mut remaining: ArrayVec<Held, 64> = ArrayVec::new();
     for held in table {
-        if is_counted(held.until, slot) {
+        if is_counted(held.end, slot) {
             remaining.push(started(*held, slot));
         }
     }
     remaining
 }
 
-/// A line as it is at `slot`: it waits no more, where it starts by then.
+/// A reservation as it is at `slot`: it waits no more, where it starts by then.
 fn started(held: Held, slot: u16) -> Held
     ensures { result ≡ started_at slot held }
 {
@@ -397,11 +404,11 @@ fn still_waits(waits: Option<Waits>, slot: u16) -> Option<Waits>
     }
 }
 
-/// Whether a reservation that ends at `until` is counted at `slot`.
-fn is_counted(until: Option<u32>, slot: u16) -> bool
-    ensures { result ≡ is_before_end slot until }
+/// Whether a reservation that ends at `end` is counted at `slot`.
+fn is_counted(end: Option<u32>, slot: u16) -> bool
+    ensures { result ≡ is_before_end slot end }
 {
-    match until {
+    match end {
         None => true,
         Some(end) => u32::from(slot) < end,
     }

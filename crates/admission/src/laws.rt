@@ -1,9 +1,9 @@
 //! Laws of loads and of reservations, over their definitions alone.
 
 ghost use Rattle.admission.specs.Laws.{PeriodsDivideScale, ScaleIsTheLeast, LoadsAreExact, NoSlotOverAll};
-ghost use Rattle.admission.specs.Laws.{NoSlotOverStanding};
-ghost use Rattle.admission.specs.Laws.{NoSlotOverNow, NoSlotOverScale, HeldNeverRises, PassedIsHeld, PassedKeepsLater};
-ghost use Rattle.admission.specs.Laws.{StopOnBoundary, StopBeforeStart, StopNoLater, StopCovers};
+ghost use Rattle.admission.specs.Laws.{NoSlotOverStanding, NoSlotOverNow, NoSlotOverScale, HeldNeverRises};
+ghost use Rattle.admission.specs.Laws.{PassedIsHeld, PassedKeepsLater, StopOnBoundary, StopBeforeStart, StopNoLater};
+ghost use Rattle.admission.specs.Laws.{StopCovers};
 
 /// States, as its contract, what the parts of a cell's slots are. It does nothing.
 pub fn scale_laws()
@@ -34,7 +34,7 @@ pub fn reservation_laws()
     // Each period that begins before the stop lies inside the reservation.
     ensures stop_covers { StopCovers }
 
-    // At no slot do the lines of a budget hold more than now, nor more than `SCALE`.
+    // At no slot do the reservations of a budget hold more than now, nor more than `SCALE`.
     ensures no_slot_over_now { NoSlotOverNow }
     ensures no_slot_over_scale { NoSlotOverScale }
 

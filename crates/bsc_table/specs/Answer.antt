@@ -13,7 +13,7 @@
 use Rattle.std.specs.Prelude.{ℕ, ◌+◌, ◌==◌, nat_le, nat_lt, if◌then◌else◌, Option, Some, None, List, length, filter}
 use Rattle.admission.specs.declared.measure.TheConstants.{SCALE}
 use Rattle.admission.specs.Load.{load_of}
-use Rattle.scheduler.specs.Message.{Message}
+use Rattle.scheduler.specs.Message.{ScheduledMessage}
 use Rattle.scheduler.specs.Air.{Air}
 use Rattle.scheduler.specs.Completed.{completed}
 use Rattle.bsc_table.specs.declared.command.Category.{Category}
@@ -21,6 +21,7 @@ use Rattle.bsc_table.specs.declared.command.Command.{Command}
 use Rattle.bsc_table.specs.declared.command.Command.TheVariants as commands
 use Rattle.bsc_table.specs.declared.entry.Answer.{Answer}
 use Rattle.bsc_table.specs.declared.entry.Answer.TheVariants as answers
+use Rattle.bsc_table.specs.declared.entry.State.{State}
 use Rattle.bsc_table.specs.declared.entry.Entry.{Entry}
 use Rattle.bsc_table.specs.Claim.{Claim, is_claimed_at, claimed_at, stop_claims}
 use Rattle.bsc_table.specs.Handover.{Place}
@@ -35,8 +36,8 @@ answer_at claims slot accepts (Some place) =
     if nat_lt SCALE (claimed_at claims slot + place.excess) then answers.Cause 0x06 else accepts place.start
 
 -- 5 and 6, else the answer that accepts, by the slot at which the message starts: at once where its load fits
-abbrev pub answer_beside : List Claim → ℕ → ℕ → Option Place → (ℕ → Answer) → Answer
-answer_beside claims slot load place accepts =
+abbrev pub admit_or_refuse : List Claim → ℕ → ℕ → Option Place → (ℕ → Answer) → Answer
+admit_or_refuse claims slot load place accepts =
     if nat_le 64 (length (filter (is_claimed_at slot) claims)) then answers.Cause 0x07
     else if nat_lt SCALE (claimed_at claims slot + load) then answer_at claims slot accepts place
     else accepts slot
@@ -44,7 +45,7 @@ answer_beside claims slot load place accepts =
 -- 5 and 6 by the category: a background message is accepted at once
 abbrev pub answer_for : Category → List Claim → ℕ → ℕ → Option Place → (ℕ → Answer) → Answer
 answer_for category claims slot load place accepts =
-    if is_background category then accepts slot else answer_beside claims slot load place accepts
+    if is_background category then accepts slot else admit_or_refuse claims slot load place accepts
 
 -- a write in the place of no message: there is no place that it may take over
 abbrev pub answer_to_new : List Entry → ℕ → Category → ℕ → Answer
@@ -55,42 +56,50 @@ answer_to_new log slot category load =
 -- started, and from the one behind which that one waits where it hasn't
 abbrev pub answer_to_replacement : List Entry → Air → ℕ → Category → ℕ → Accepted → Answer
 answer_to_replacement log air slot category load old =
-    let left = stop_claims old.message.number slot (claims_in log) in
+    let left = stop_claims old.message.entry slot (claims_in log) in
     answer_for category left slot load (place_after left slot old load)
     (λ start. answers.Replaced start (completed old.message air slot))
 
 -- 4, where the pair of a write was accepted before
-abbrev pub unless_accepted : Option Message → Answer → Answer
+abbrev pub unless_accepted : Option ScheduledMessage → Answer → Answer
 unless_accepted (Some m) answer = answers.Cause 0x0D
 unless_accepted None answer = answer
 
 -- 3: what is said of a live message; cause 02 where it isn't live, or was never accepted
-abbrev pub of_live : ℕ → Option Accepted → (Accepted → Answer) → Answer
-of_live slot None answer = answers.Cause 0x02
-of_live slot (Some a) answer = if is_live slot a.message then answer a else answers.Cause 0x02
+abbrev pub if_live : ℕ → Option Accepted → (Accepted → Answer) → Answer
+if_live slot None answer = answers.Cause 0x02
+if_live slot (Some a) answer = if is_live slot a.message then answer a else answers.Cause 0x02
 
 abbrev pub answer_to_write : List Entry → Air → ℕ → ℕ → ℕ → Option ℕ → Category → ℕ → Answer
 answer_to_write log air slot id serial None category load =
     unless_accepted (message_named id serial log) (answer_to_new log slot category load)
 answer_to_write log air slot id serial (Some replaced) category load =
-    of_live slot (accepted_named id replaced log) (λ old.
+    if_live slot (accepted_named id replaced log) (λ old.
     unless_accepted (message_named id serial log) (answer_to_replacement log air slot category load old))
 
 abbrev pub answer_to_kill : List Entry → Air → ℕ → ℕ → ℕ → Answer
 answer_to_kill log air slot id serial =
-    of_live slot (accepted_named id serial log) (λ a. answers.Stopped (completed a.message air slot))
+    if_live slot (accepted_named id serial log) (λ a. answers.Stopped (completed a.message air slot))
 
--- a status tells the completed broadcasts and the state of a message that was accepted, whether it is live or not
-abbrev pub told_of : Air → ℕ → Option Message → Answer
-told_of air slot None = answers.Unknown
-told_of air slot (Some m) = answers.Told (completed m air slot) (state_at slot m)
+-- how many broadcasts of a message are completed before a slot, and how it stands there, if there is a message
+abbrev pub status_of : Air → ℕ → Option ScheduledMessage → Option (ℕ × State)
+status_of air slot None = None
+status_of air slot (Some m) = Some (completed m air slot, state_at slot m)
+
+-- the answer to a status reports that of a message that was accepted, whether it is live or not
+abbrev pub answer_with_status : Option (ℕ × State) → Answer
+answer_with_status None = answers.Unknown
+answer_with_status (Some status) = answers.Told status.0 status.1
+
+abbrev pub status_answer : Air → ℕ → Option ScheduledMessage → Answer
+status_answer air slot m = answer_with_status (status_of air slot m)
 
 -- 2
 abbrev pub before_end : ℕ → ℕ → Answer → Answer
 before_end slots slot answer = if slot == slots then answers.Cause 0x0A else answer
 
 abbrev pub answer_with_room : ℕ → List Entry → Air → ℕ → Command → Answer
-answer_with_room slots log air slot (commands.Status id serial) = told_of air slot (message_named id serial log)
+answer_with_room slots log air slot (commands.Status id serial) = status_answer air slot (message_named id serial log)
 answer_with_room slots log air slot (commands.Kill id serial) = before_end slots slot
     (answer_to_kill log air slot id serial)
 answer_with_room slots log air slot (commands.Write id serial replaces category period broadcasts dcs contents) =

@@ -28,8 +28,8 @@ Starts slot (Some old) before a = StartsNow slot before a ⊎ TakesOver slot old
 
 -- a message that may be accepted at the slot beside those accepted before, among which the one that it replaces, if it
 -- does, is stopped: it has a page and a period, and there is a place and room for it, unless it is background
-pub record IsBegun (number slot : ℕ) (replaced : Option Accepted) (before : List Accepted) (a : Accepted) : Type 0 where
-  pub numbered : a.message.number ≡ number
+pub record IsBegun (entry slot : ℕ) (replaced : Option Accepted) (before : List Accepted) (a : Accepted) : Type 0 where
+  pub numbered : a.message.entry ≡ entry
   pub accepted : a.accepted ≡ slot
   pub standing : a.message.stop ≡ None
   pub some_pages : 0 < a.message.pages

@@ -1,48 +1,26 @@
--- What a cell's book keeps beside its record (own).
-use Rattle.std.specs.Prelude.{◌≡◌, ◌≢◌, ℕ, ◌+◌, ◌<◌, ⊤, Bool, true, false, not, is_some, ◌||◌, find, nat_lt, ◌≤◌, ◌==◌}
-use Rattle.std.specs.Prelude.{if◌then◌else◌, Option, Some, None, Result, Ok, Err, OnOk, IfSome, List, [], ◌∷◌, ◌++◌}
-use Rattle.std.specs.Prelude.{length, map, filter, All, Any, Contains, vec_len, vec_capacity}
+-- The record of a cell's book, and what the book keeps beside it (own): what a contract sees of a `CellBook`.
+use Rattle.std.specs.Prelude.{◌≡◌, ℕ, nat_lt, ◌≤◌, if◌then◌else◌, Option, Some, None, List, map, filter, vec_len}
+use Rattle.std.specs.Prelude.{vec_capacity}
 use Rattle.admission.specs.declared.budget.Held.{Held}
 use Rattle.admission.specs.declared.budget.Waits.{Waits}
-use Rattle.admission.specs.declared.budget.NoRoom.{NoRoom}
-use Rattle.admission.specs.declared.budget.NoRoom.TheVariants.{Table, Load}
-use Rattle.admission.specs.declared.measure.TheConstants.{SCALE}
-use Rattle.admission.specs.Reservation.{end_of_stopped}
 use Rattle.std.specs.Option.{option_map}
-use Rattle.admission.specs.Waiting.{behind_of}
-use Rattle.admission.specs.Table.{answer_of, answer_for, excess_over}
-use Rattle.scheduler.specs.Message.{Message, stopped_if}
 use Rattle.scheduler.specs.Air.{Air}
 use Rattle.scheduler.specs.Follows.{Follows}
-use Rattle.bsc_table.specs.declared.command.Command.{Command}
-use Rattle.bsc_table.specs.declared.command.Command.TheVariants as commands
-use Rattle.bsc_table.specs.declared.decision.Decision.{Decision}
-use Rattle.bsc_table.specs.declared.decision.Decision.TheVariants as decisions
-use Rattle.bsc_table.specs.declared.entry.Answer.{Answer}
-use Rattle.bsc_table.specs.declared.entry.Answer.TheVariants as answers
 use Rattle.bsc_table.specs.declared.entry.Aired.{Aired}
-use Rattle.bsc_table.specs.declared.entry.Entry.{Entry}
-use Rattle.bsc_table.specs.declared.kept.Kept.{Kept}
-use Rattle.bsc_table.specs.declared.kept.Place.{Place as KeptPlace}
-use Rattle.bsc_table.specs.declared.kept.TheConstants.{LATEST_START}
+use Rattle.bsc_table.specs.declared.accepted.AcceptedMessage.{AcceptedMessage}
 use Rattle.bsc_table.specs.declared.book.CellBook.TheInside.{Inside}
-use Rattle.bsc_table.specs.declared.record.CellRecord.TheInside as kept
-use Rattle.bsc_table.specs.Record.{Record, Accepted, start_of, write_message, accepted_in, messages_in, claims_in}
-use Rattle.bsc_table.specs.Record.{rank_of, place_after, is_of_pair, is_live}
-use Rattle.bsc_table.specs.Begun.{IsBegun}
-use Rattle.bsc_table.specs.Claim.{Claim, own_load, end_of, is_claimed_at, claimed_at, stop_claims}
-use Rattle.bsc_table.specs.Handover.{Place}
-use Rattle.bsc_table.specs.Orders.{IsWellFormed}
-use Rattle.bsc_table.specs.Answer.{answer_at, answer_beside, answer_with_room}
+use Rattle.bsc_table.specs.declared.record.CellRecord.TheInside as run
+use Rattle.bsc_table.specs.Record.{Record, Accepted, accepted_in, messages_in, claims_in, rank_of}
+use Rattle.bsc_table.specs.Claim.{Claim, own_load, end_of, is_claimed_at}
 use Rattle.bsc_table.specs.Legal.{IsLegal}
 
 -- what a slot airs, as a pair of the entry's number and the page
-abbrev pub use_told : Option Aired → Option (ℕ × ℕ)
-use_told None = None
-use_told (Some aired) = Some (aired.entry, aired.page)
+abbrev pub aired_pair : Option Aired → Option (ℕ × ℕ)
+aired_pair None = None
+aired_pair (Some aired) = Some (aired.entry, aired.page)
 
-abbrev pub air_told : List (Option Aired) → Air
-air_told aired = map use_told aired
+abbrev pub air_pairs : List (Option Aired) → Air
+air_pairs aired = map aired_pair aired
 
 abbrev pub record_of : Inside → Record
 record_of b = record {
@@ -50,11 +28,11 @@ record_of b = record {
   slots = b.slots;
   clock = b.clock;
   log = b.log.items;
-  air = air_told b.air.items;
+  air = air_pairs b.air.items;
 }
 
 -- an accepted message as it is kept
-abbrev pub accepted_of : Kept → Accepted
+abbrev pub accepted_of : AcceptedMessage → Accepted
 accepted_of k = record {
   id = k.id;
   serial = k.serial;
@@ -62,220 +40,35 @@ accepted_of k = record {
   behind = k.behind;
   excess = k.excess;
   message = record {
-    number = k.number;
+    entry = k.entry;
     start = k.start;
     pages = k.pages;
     period = k.period;
-    requested = k.broadcasts;
+    broadcasts = k.broadcasts;
     stop = k.stop;
     rank = rank_of k.category;
   };
 }
 
--- what is kept, with the message of that number stopped at the slot
-abbrev pub kept_stopped : ℕ → ℕ → Kept → Kept
-kept_stopped number slot k = record k { stop = if k.number == number then Some slot else k.stop }
-
--- the message of that number stopped at the slot
-abbrev pub stop_numbered : ℕ → ℕ → Accepted → Accepted
-stop_numbered number slot a = record a { message = stopped_if (a.message.number == number) slot a.message }
-
--- an entry that is to come next: at the clock, with the right answer to a well-formed command, where the log has room
-pub record IsNext (r : Record) (e : Entry) : Type 0 where
-  pub now : e.slot ≡ r.clock
-  pub room : length r.log < 4096
-  pub formed : IsWellFormed e.command
-  pub right : e.answer ≡ answer_with_room r.slots r.log r.air r.clock e.command
-
--- a message was accepted, and is live
-pub record IsLiveIn (r : Record) (a : Accepted) : Type 0 where
-  pub there : Contains (accepted_in r.log) a
-  pub live : is_live r.clock a.message ≡ true
-
--- an entry stops a message and no other
-pub record IsStop (r : Record) (e : Entry) (old : Accepted) : Type 0 where
-  pub stops : IsLiveIn r old
-  pub after : accepted_in (r.log ++ e ∷ []) ≡ map (stop_numbered old.message.number r.clock) (accepted_in r.log)
-
--- an entry starts a message
-pub record IsStart (r : Record) (e : Entry) (new : Accepted) : Type 0 where
-  pub begun : IsBegun (length r.log) r.clock None (accepted_in r.log) new
-  pub after : accepted_in (r.log ++ e ∷ []) ≡ accepted_in r.log ++ new ∷ []
-
--- an entry stops a message and starts one in its place
-pub record IsReplacement (r : Record) (e : Entry) (old new : Accepted) : Type 0 where
-  pub stops : IsLiveIn r old
-  pub begun : IsBegun (length r.log) r.clock (Some old)
-      (map (stop_numbered old.message.number r.clock) (accepted_in r.log)) new
-  pub after : accepted_in (r.log ++ e ∷ []) ≡ map (stop_numbered old.message.number r.clock) (accepted_in r.log) ++ new
-      ∷ []
-
--- a record with one more entry
-abbrev pub with_entry : Entry → Record → Record
-with_entry e r = record r { log = r.log ++ e ∷ [] }
-
--- an answer has an entry, but for cause 08 and the want of memory
-abbrev pub has_entry : Answer → Bool
-has_entry (answers.Cause cause) = not (cause == 0x08)
-has_entry answers.Refused = false
-has_entry other = true
-
--- a record after a command was answered: with an entry where the answer has one, and otherwise as it was
-abbrev pub answered_with : Command → Answer → Record → Record
-answered_with command answer r =
-    if has_entry answer then with_entry (record { command = command; slot = r.clock; answer = answer }) r else r
-
--- an answer that kills
-abbrev pub is_stopped : Answer → Bool
-is_stopped (answers.Stopped completed) = true
-is_stopped other = false
-
--- an answer that accepts a write or a kill
-abbrev pub is_accepting : Answer → Bool
-is_accepting answer = is_some (start_of answer) || is_stopped answer
-
--- the next entry, of a command with its answer
-abbrev pub entry_by : Record → Command → Answer → Entry
-entry_by r command answer = record { command = command; slot = r.clock; answer = answer }
-
--- the answer of a decision
-abbrev pub decided_answer : Decision → Answer
-decided_answer (decisions.Noted answer) = answer
-decided_answer (decisions.Stops old completed) = answers.Stopped completed
-decided_answer (decisions.Starts new) = answers.Started new.accepted
-decided_answer (decisions.Replaces old new completed) = answers.Replaced new.start completed
-
--- what a decision says of the messages is what its entry does to them; one that is only noted accepts nothing, and a
--- message that replaces another starts so soon that the end of its broadcasts has room in 32 bits
-abbrev pub Does : Record → Entry → Decision → Type 0
-Does r e (decisions.Noted answer) = is_accepting answer ≡ false
-Does r e (decisions.Stops old completed) = IsStop r e (accepted_of old)
-Does r e (decisions.Starts new) = IsStart r e (accepted_of new)
-Does r e (decisions.Replaces old new completed) =
-    IsReplacement r e (accepted_of old) (accepted_of new) × (new.start < LATEST_START)
-
--- so it is with the entry of this command, which comes next
-abbrev pub Decides : Record → Command → Decision → Type 0
-Decides r command d = Does r (entry_by r command (decided_answer d)) d
-
--- a message that a write offers now: it would have the next entry's number, be accepted at the clock, and begin there
-pub record IsOffered (r : Record) (a : Accepted) : Type 0 where
-  pub numbered : a.message.number ≡ length r.log
-  pub accepted : a.accepted ≡ r.clock
-  pub begins : a.message.start ≡ r.clock
-  pub behind : a.behind ≡ None
-  pub excess : a.excess ≡ 0
-  pub standing : a.message.stop ≡ None
-  pub some_pages : 0 < a.message.pages
-  pub some_period : 0 < a.message.period
-
--- a write of that message, in the place of the one of this serial number or of none
-abbrev pub IsWriteOf : Accepted → Option ℕ → Command → Type 0
-IsWriteOf a replaced (commands.Write id serial replaces category period broadcasts dcs contents) =
-    (replaces ≡ replaced)
-    × (write_message a.message.number a.accepted a.message.start a.behind a.excess id serial (length contents) period
-    broadcasts (rank_of category) ≡ a)
-IsWriteOf a replaced other = ⊥
-
--- and with that of each such write
-abbrev pub DecidesWrites : Record → Accepted → Option ℕ → Decision → Type 0
-DecidesWrites r a replaced d = (write : Command) → IsWriteOf a replaced write → Decides r write d
-
--- what a claim's line of a budget waits for at a slot: up to its start, the end of the one behind which it waits
+-- what a claim's reservation of a budget waits for at a slot: up to its start, the end of the one behind which it waits
 abbrev pub waits_of : ℕ → Claim → Option Waits
 waits_of slot c =
     if nat_lt slot c.message.start
     then option_map (λ behind. record { behind = behind; start = c.message.start; excess = c.excess }) c.behind
     else None
 
--- a claim's line of a budget at a slot
-abbrev pub line_of : ℕ → Claim → Held
-line_of slot c = record {
-  entry = c.message.number;
+-- a claim's reservation of a budget at a slot
+abbrev pub reservation_for : ℕ → Claim → Held
+reservation_for slot c = record {
+  entry = c.message.entry;
   load = own_load c.message;
-  until = end_of c.message;
+  end = end_of c.message;
   waits = waits_of slot c;
 }
 
--- the lines that a budget holds at a slot: of the claims that are reserved there
-abbrev pub lines_at : ℕ → List Claim → List Held
-lines_at slot claims = map (line_of slot) (filter (is_claimed_at slot) claims)
-
--- the lines of a budget hold the place that a load is to take behind an entry, up to its start: that one has started
--- and ends there, none waits behind it, and the load has so much over its own
-pub record IsHeldFor (lines : List Held) (load behind start excess : ℕ) : Type 0 where
-  pub ends : Any (λ h. (h.entry ≡ behind) × (h.waits ≡ None) × (h.until ≡ Some start)) lines
-  pub free : All (λ h. behind_of h ≢ Some behind) lines
-  pub over : excess_over behind load lines ≡ excess
-
--- the lines of a budget have room for a claim, by the one behind which it waits: for its load where it starts by the
--- slot; else for its excess, behind that one
-abbrev pub HasRoomFor : ℕ → List Held → Claim → Option ℕ → Type 0
-HasRoomFor slot lines c None = (c.message.start ≤ slot) × (answer_for lines (own_load c.message) ≡ Ok tt)
-HasRoomFor slot lines c (Some behind) =
-    (slot < c.message.start)
-    × (answer_for lines c.excess ≡ Ok tt)
-    × IsHeldFor lines (own_load c.message) behind c.message.start c.excess
-
--- no message of a pair is live, and one is
-abbrev pub IsNotLive : ℕ → Option Message → Type 0
-IsNotLive slot None = ⊤
-IsNotLive slot (Some m) = is_live slot m ≡ false
-
-pub record IsLiveAs (slot id serial : ℕ) (log : List Entry) (a : Accepted) : Type 0 where
-  pub found : find (is_of_pair id serial) (accepted_in log) ≡ Some a
-  pub live : is_live slot a.message ≡ true
-
--- the causes of a refusal for want of room
-abbrev pub cause_of : NoRoom → ℕ
-cause_of Table = 0x07
-cause_of Load = 0x06
-
--- the answer to a write, by whether its load has room: the one that accepts it now, that for a full table, or that
--- where its load has no room now
-abbrev pub by_room : Result (Unit {0}) NoRoom → Answer → Answer → Answer
-by_room (Ok done) now later = now
-by_room (Err Table) now later = answers.Cause (cause_of Table)
-by_room (Err Load) now later = later
-
--- a load has room beside claims at a slot
-pub record HasRoom (claims : List Claim) (slot load : ℕ) : Type 0 where
-  pub places : length (filter (is_claimed_at slot) claims) < 64
-  pub loads : claimed_at claims slot + load ≤ SCALE
-
--- whether it has, as a budget tells: a write is answered so, and accepted now only where the load has room
-pub record IsRoom (claims : List Claim) (slot load : ℕ) (room : Result (Unit {0}) NoRoom) : Type 0 where
-  pub says : room ≡ answer_of (length (filter (is_claimed_at slot) claims)) (claimed_at claims slot) load
-  pub answered : (place : Option Place) (accepts : ℕ → Answer)
-      → answer_beside claims slot load place accepts ≡ by_room room (accepts slot) (answer_at claims slot accepts place)
-  pub fits : OnOk room (HasRoom claims slot load)
-
--- a place as it is kept
-abbrev pub place_of : KeptPlace → Place
-place_of p = record { behind = p.behind; start = p.start; excess = p.excess }
-
--- the end of the reservation of a message that is kept, where it was stopped
-abbrev pub stopped_end : Kept → Option ℕ
-stopped_end k = option_map (λ stop. end_of_stopped k.start k.period stop) k.stop
-
--- the claims of a record, with a message stopped now
-abbrev pub left_by : Record → Accepted → List Claim
-left_by r old = stop_claims old.message.number r.clock (claims_in r.log)
-
--- the answer at a place, where there is one with room
-abbrev pub by_place : Option KeptPlace → (ℕ → Answer) → Answer
-by_place None accepts = answers.Cause 0x06
-by_place (Some p) accepts = accepts p.start
-
--- the place at which a message of that load may take over from a live one, if there is one with room: so is a write
--- in its place answered, where that has no room now
-pub record IsLater (r : Record) (old : Accepted) (load : ℕ) (later : Option KeptPlace) : Type 0 where
-  pub answered : (accepts : ℕ → Answer)
-      → answer_at (left_by r old) r.clock accepts (place_after (left_by r old) r.clock old load) ≡ by_place later
-      accepts
-  pub there : IfSome later (λ p. place_after (left_by r old) r.clock old load ≡ Some (place_of p))
-  pub fits : IfSome later (λ p. claimed_at (left_by r old) r.clock + p.excess ≤ SCALE)
-  pub soon : IfSome later (λ p. p.start < LATEST_START)
+-- the reservations that a budget holds at a slot: of the claims that are reserved there
+abbrev pub reservations_at : ℕ → List Claim → List Held
+reservations_at slot claims = map (reservation_for slot) (filter (is_claimed_at slot) claims)
 
 -- a book: its record is a legal history, it keeps the accepted messages, its plan follows them and what was aired, its
 -- budget holds what they have reserved at the clock, and there is room for what all slots will air
@@ -283,26 +76,17 @@ pub record IsBook (b : Inside) : Type 0 where
   pub legal : IsLegal (record_of b)
   pub short : b.slots ≤ 65535
   pub kept : map accepted_of b.accepted.items ≡ accepted_in b.log.items
-  pub follows : Follows b.plan (messages_in b.log.items) (air_told b.air.items)
-  pub held : b.budget ≡ lines_at b.clock (claims_in b.log.items)
+  pub follows : Follows b.plan (messages_in b.log.items) (air_pairs b.air.items)
+  pub held : b.budget ≡ reservations_at b.clock (claims_in b.log.items)
   pub places : vec_len b.air ≡ b.clock
   pub room : b.slots ≤ vec_capacity b.air
 
--- a book after some of its slots were played: the clock stands at the slot after them, what was aired is added to, and
--- nothing else has changed
-pub record IsPlayedUpTo (slot : ℕ) (before after : Record) : Type 0 where
-  pub same_cell : after.cell ≡ before.cell
-  pub same_slots : after.slots ≡ before.slots
-  pub same_log : after.log ≡ before.log
-  pub clock_at : after.clock ≡ slot
-  pub more_air : (more : Air) × (after.air ≡ before.air ++ more)
-
 -- the record of a run that is over
-abbrev pub record_kept : kept.Inside → Record
-record_kept r = record {
+abbrev pub record_of_run : run.Inside → Record
+record_of_run r = record {
   cell = r.cell;
   slots = r.slots;
   clock = r.slots;
   log = r.log.items;
-  air = air_told r.air.items;
+  air = air_pairs r.air.items;
 }

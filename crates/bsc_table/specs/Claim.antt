@@ -3,23 +3,23 @@
 use Rattle.std.specs.Prelude.{ℕ, ◌<◌, ◌≤◌, ◌==◌, Bool, ◌&&◌, nat_le, nat_lt, if◌then◌else◌, Option, List, map, sum_by}
 use Rattle.admission.specs.Load.{load_of}
 use Rattle.admission.specs.Reservation.{IsBeforeEnd, is_before_end, end_of_reservation}
-use Rattle.scheduler.specs.Message.{Message, stopped_if}
+use Rattle.scheduler.specs.Message.{ScheduledMessage, stopped_if}
 use Rattle.scheduler.specs.Air.{layer}
 
 -- a message with the slot in which it was accepted, the number of the message behind which it waits up to its start,
 -- if it took over, and the load that it reserves up to its start
 pub record Claim : Type 0 where
-  pub message : Message
+  pub message : ScheduledMessage
   pub accepted : ℕ
   pub behind : Option ℕ
   pub excess : ℕ
 
 -- the end of a message's reservation
-abbrev pub end_of : Message → Option ℕ
-end_of m = end_of_reservation m.start m.period m.requested m.stop
+abbrev pub end_of : ScheduledMessage → Option ℕ
+end_of m = end_of_reservation m.start m.period m.broadcasts m.stop
 
 -- the load that is its own from its start on
-abbrev pub own_load : Message → ℕ
+abbrev pub own_load : ScheduledMessage → ℕ
 own_load m = load_of m.pages m.period
 
 -- reserved from its acceptance up to, and without, its end
@@ -50,7 +50,7 @@ IsWaiting slot c = (slot < c.message.start) × IsBeforeEnd slot (end_of c.messag
 
 -- the claims, with the message of that number stopped at the slot
 abbrev pub stop_claim : ℕ → ℕ → Claim → Claim
-stop_claim number slot c = record c { message = stopped_if (c.message.number == number) slot c.message }
+stop_claim entry slot c = record c { message = stopped_if (c.message.entry == entry) slot c.message }
 
 abbrev pub stop_claims : ℕ → ℕ → List Claim → List Claim
-stop_claims number slot claims = map (stop_claim number slot) claims
+stop_claims entry slot claims = map (stop_claim entry slot) claims

@@ -11,18 +11,18 @@ pub record Place : Type 0 where
 -- the number of the message that stands before one that replaces the old one at the slot: the old one, where it has
 -- started; else the one behind which the old one waits
 abbrev pub ahead_of : ℕ → Claim → Option ℕ
-ahead_of slot old = if nat_le old.message.start slot then Some old.message.number else old.behind
+ahead_of slot old = if nat_le old.message.start slot then Some old.message.entry else old.behind
 
 abbrev pub numbered : Option ℕ → List Claim → Option Claim
 numbered None claims = None
-numbered (Some number) claims = find (λ c. c.message.number == number) claims
+numbered (Some entry) claims = find (λ c. c.message.entry == entry) claims
 
 -- behind that message from the slot up to its end, if that is later than the slot
 abbrev pub place_before : ℕ → ℕ → Claim → Option ℕ → Option Place
 place_before slot load p None = None
 place_before slot load p (Some end) =
     if nat_lt slot end then Some (record {
-      behind = p.message.number;
+      behind = p.message.entry;
       start = end;
       excess = load - own_load p.message;
     }) else None

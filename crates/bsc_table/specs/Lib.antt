@@ -5,11 +5,13 @@ pub mod Record
 pub mod Answer
 pub mod Legal
 pub mod Promised
-pub mod Told
+pub mod Reported
 pub mod Book
+pub mod BookSteps
 pub mod Refusals
 pub mod Written
 pub mod Claim
 pub mod Handover
 pub mod Room
 pub mod Begun
+pub mod Steps

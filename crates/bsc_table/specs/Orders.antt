@@ -20,7 +20,7 @@ IsWrite (commands.Kill id serial) = ⊥
 IsWrite (commands.Status id serial) = ⊥
 
 -- what a message of the warning centre can ask to be broadcast: from 1 to 15 pages with at most 82 octets used, a
--- period from 1 to 1,024 slots, and a data coding that tells an alphabet
+-- period from 1 to 1,024 slots, and a data coding that has an alphabet
 pub record IsBroadcastable (period : ℕ) (dcs : Dcs) (contents : List Content) : Type 0 where
   pub some_pages : 1 ≤ length contents
   pub few_pages : length contents ≤ 15
@@ -52,20 +52,20 @@ is_basic None = true
 is_basic (Some n) = n == 0
 
 -- cells and a command to them, where the message is for the basic channel; else cause 0C
-abbrev pub on_basic : Option ℕ → List Cell → Command → Result (List Cell × Command) ℕ
-on_basic channel cells command = if is_basic channel then Ok (cells, command) else Err 0x0C
+abbrev pub if_basic_channel : Option ℕ → List Cell → Command → Result (List Cell × Command) ℕ
+if_basic_channel channel cells command = if is_basic channel then Ok (cells, command) else Err 0x0C
 
 -- a write with the category that it has, if any; else cause 01
-abbrev pub with_category : Option Category → (Category → Result (List Cell × Command) ℕ)
+abbrev pub if_category_known : Option Category → (Category → Result (List Cell × Command) ℕ)
     → Result (List Cell × Command) ℕ
-with_category None order = Err 0x01
-with_category (Some category) order = order category
+if_category_known None order = Err 0x01
+if_category_known (Some category) order = order category
 
 -- the cells that a message names and the command to them, or the first cause that applies: 04 for a reply, 01 for the
 -- category, 0C for the channel
 abbrev pub order_of : Message → Result (List Cell × Command) ℕ
 order_of (messages.Write id new_serial old_serial cells channel category period broadcasts dcs contents) =
-    with_category (category_of category) (λ known. on_basic channel cells
+    if_category_known (category_of category) (λ known. if_basic_channel channel cells
     (commands.Write id new_serial old_serial known period broadcasts dcs contents))
-order_of (messages.Kill id old_serial cells channel) = on_basic channel cells (commands.Kill id old_serial)
+order_of (messages.Kill id old_serial cells channel) = if_basic_channel channel cells (commands.Kill id old_serial)
 order_of reply = Err 0x04

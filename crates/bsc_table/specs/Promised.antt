@@ -26,15 +26,15 @@ abbrev pub LegalLoadsFit : Type 0
 LegalLoadsFit = (r : Record) → IsLegal r → LoadsFit (foreground (messages_in r.log))
 
 -- each broadcast of an accepted message that isn't background, that was requested, that no stop cuts, and that is due
--- by the clock was aired whole: from its release up to its due slot the cell aired as many pages of the message as it
+-- by the clock was completed: from its release up to its due slot the cell aired as many pages of the message as it
 -- has
 abbrev pub IsServed : Record → Type 0
 IsServed r =
-    All (λ m. (j : ℕ) → IsUncut m j r.air → pages_aired m.number r.air (release m j) (due m j) ≡ m.pages)
+    All (λ m. (j : ℕ) → IsUncut m j r.air → pages_aired m.entry r.air (release m j) (due m j) ≡ m.pages)
     (foreground (messages_in r.log))
 
--- before each slot up to the clock, the number of whole broadcasts of an accepted message lies between its bounds; of a
--- background message it may be less
+-- before each slot up to the clock, the number of completed broadcasts of an accepted message lies between its bounds;
+-- of a background message it may be less
 abbrev pub IsBounded : Record → Type 0
 IsBounded r =
     All (λ m. (slot : ℕ) → slot ≤ r.clock
@@ -53,4 +53,4 @@ abbrev pub LegalPagesAreAiredOnce : Type 0
 LegalPagesAreAiredOnce = (r : Record)
     → IsLegal r
     → All (λ m. (j page : ℕ) → IsUncut m j r.air → 1 ≤ page → page ≤ m.pages
-    → times_between m.number page r.air (release m j) (due m j) ≡ 1) (foreground (messages_in r.log))
+    → times_between m.entry page r.air (release m j) (due m j) ≡ 1) (foreground (messages_in r.log))

@@ -5,7 +5,7 @@ use Rattle.admission.specs.Load.{load_of}
 use Rattle.cbsp_wire.specs.declared.message.Cell.{Cell}
 use Rattle.scheduler.specs.declared.plan.Rank.{Rank}
 use Rattle.scheduler.specs.declared.plan.Rank.TheVariants as ranks
-use Rattle.scheduler.specs.Message.{Message}
+use Rattle.scheduler.specs.Message.{ScheduledMessage}
 use Rattle.scheduler.specs.Air.{Air, layer}
 use Rattle.bsc_table.specs.declared.command.Category.{Category}
 use Rattle.bsc_table.specs.declared.command.Category.TheVariants.{High, Normal, Background}
@@ -37,7 +37,7 @@ pub record Accepted : Type 0 where
   pub accepted : ℕ
   pub behind : Option ℕ
   pub excess : ℕ
-  pub message : Message
+  pub message : ScheduledMessage
 
 -- what an accepted message claims of the cell's slots
 abbrev pub claim_of : Accepted → Claim
@@ -128,11 +128,11 @@ write_message place slot start behind excess id serial pages period broadcasts r
   behind = behind;
   excess = excess;
   message = record {
-    number = place;
+    entry = place;
     start = start;
     pages = pages;
     period = period;
-    requested = broadcasts;
+    broadcasts = broadcasts;
     stop = None;
     rank = rank;
   };
@@ -166,24 +166,24 @@ accepted_from all place (e ∷ later) = accepted_from (accepted_after all place 
 abbrev pub accepted_in : List Entry → List Accepted
 accepted_in log = accepted_from [] 0 log
 
-abbrev pub messages_in : List Entry → List Message
+abbrev pub messages_in : List Entry → List ScheduledMessage
 messages_in log = map (λ a. a.message) (accepted_in log)
 
 -- the accepted message of a pair, if there is one, and its message
 abbrev pub accepted_named : ℕ → ℕ → List Entry → Option Accepted
 accepted_named id serial log = find (is_of_pair id serial) (accepted_in log)
 
-abbrev pub message_told : Option Accepted → Option Message
-message_told None = None
-message_told (Some a) = Some a.message
+abbrev pub message_found : Option Accepted → Option ScheduledMessage
+message_found None = None
+message_found (Some a) = Some a.message
 
-abbrev pub message_named : ℕ → ℕ → List Entry → Option Message
-message_named id serial log = message_told (accepted_named id serial log)
+abbrev pub message_named : ℕ → ℕ → List Entry → Option ScheduledMessage
+message_named id serial log = message_found (accepted_named id serial log)
 
 -- a message that wasn't stopped by now is live up to the end of the periods of its requested broadcasts, if they have
 -- an end
-abbrev pub is_live : ℕ → Message → Bool
-is_live slot m = not (is_some m.stop) && ((m.requested == 0) || nat_lt slot (m.start + m.requested * m.period))
+abbrev pub is_live : ℕ → ScheduledMessage → Bool
+is_live slot m = not (is_some m.stop) && ((m.broadcasts == 0) || nat_lt slot (m.start + m.broadcasts * m.period))
 
 -- how an accepted message stands before a slot
 abbrev pub unstopped_state : Bool → State
@@ -194,7 +194,7 @@ abbrev pub state_by : Option ℕ → Bool → State
 state_by (Some slot) live = states.Stopped slot
 state_by None live = unstopped_state live
 
-abbrev pub state_at : ℕ → Message → State
+abbrev pub state_at : ℕ → ScheduledMessage → State
 state_at slot m = state_by m.stop (is_live slot m)
 
 -- what the accepted messages of a log claim of the cell's slots

@@ -1,11 +1,21 @@
 -- The entries of a log that were accepted, and what the others do (own): nothing.
-use Rattle.std.specs.Prelude.{◌≡◌, ℕ, Bool, false, List, [], ◌∷◌, ◌++◌, map, filter}
+use Rattle.std.specs.Prelude.{◌≡◌, ℕ, Bool, true, false, is_some, ◌||◌, List, [], ◌∷◌, ◌++◌, map, filter}
 use Rattle.std.specs.List.{slice_get}
 use Rattle.std.specs.Option.{option_map}
 use Rattle.scheduler.specs.Renumbered.{KeepsOrder, renumbered}
 use Rattle.bsc_table.specs.declared.entry.Entry.{Entry}
-use Rattle.bsc_table.specs.Record.{Accepted, accepted_in}
-use Rattle.bsc_table.specs.Book.{is_accepting}
+use Rattle.bsc_table.specs.Record.{Accepted, start_of, accepted_in}
+use Rattle.bsc_table.specs.declared.entry.Answer.{Answer}
+use Rattle.bsc_table.specs.declared.entry.Answer.TheVariants as answers
+
+-- an answer that kills
+abbrev pub is_stopped : Answer → Bool
+is_stopped (answers.Stopped completed) = true
+is_stopped other = false
+
+-- an answer that accepts a write or a kill
+abbrev pub is_accepting : Answer → Bool
+is_accepting answer = is_some (start_of answer) || is_stopped answer
 
 -- an entry that was accepted: a write that starts a message, or a kill that stops one
 abbrev pub is_accepted : Entry → Bool

@@ -9,7 +9,7 @@ use Rattle.bsc_table.specs.Handover.{Place, handover, IsPlacedAt}
 -- p hands its slots over to w: p had started when w was accepted, p is stopped, p's reservation ends where w starts,
 -- and until then w reserves what its load has over p's
 pub record HandsOver (p w : Claim) : Type 0 where
-  pub named : w.behind ≡ Some p.message.number
+  pub named : w.behind ≡ Some p.message.entry
   pub there : p.accepted ≤ w.accepted
   pub started : p.message.start ≤ w.accepted
   pub stopped : is_some p.message.stop ≡ true
@@ -19,7 +19,7 @@ pub record HandsOver (p w : Claim) : Type 0 where
 -- claims in order at a slot: all were accepted by then and start no sooner than they were accepted, each has a
 -- period, each that waits does so behind one that hands over to it, and no two wait behind the same
 pub record AreInOrder (claims : List Claim) (now : ℕ) : Type 0 where
-  pub rising : AllPairs (λ a b. a.message.number < b.message.number) claims
+  pub rising : AllPairs (λ a b. a.message.entry < b.message.entry) claims
   pub accepted : All (λ c. c.accepted ≤ now) claims
   pub forward : All (λ c. c.accepted ≤ c.message.start) claims
   pub periods : All (λ c. 0 < c.message.period) claims
@@ -40,16 +40,16 @@ ClaimsFit claims = (slot : ℕ) → claimed_at claims slot ≤ SCALE
 
 -- a stop of a live message keeps the order, and the room
 abbrev pub StopKeepsRoom : Type 0
-StopKeepsRoom = (claims : List Claim) (number now : ℕ)
+StopKeepsRoom = (claims : List Claim) (entry now : ℕ)
     → AreInOrder claims now
-    → All (λ c. c.message.number ≡ number → is_live now c.message ≡ true) claims
+    → All (λ c. c.message.entry ≡ entry → is_live now c.message ≡ true) claims
     → ClaimsFit claims
-    → AreInOrder (stop_claims number now claims) now × ClaimsFit (stop_claims number now claims)
+    → AreInOrder (stop_claims entry now claims) now × ClaimsFit (stop_claims entry now claims)
 
 -- a message that is accepted at the slot, with a number above the others
 pub record IsNew (claims : List Claim) (now : ℕ) (c : Claim) : Type 0 where
   pub accepted : c.accepted ≡ now
-  pub greatest : All (λ other. other.message.number < c.message.number) claims
+  pub greatest : All (λ other. other.message.entry < c.message.entry) claims
   pub period : 0 < c.message.period
   pub standing : c.message.stop ≡ None
 
@@ -70,12 +70,12 @@ TakeoverKeepsRoom = (claims : List Claim) (now : ℕ) (old c : Claim) (place : P
     → ClaimsFit claims
     → Contains claims old
     → is_live now old.message ≡ true
-    → handover (stop_claims old.message.number now claims) now old (own_load c.message) ≡ Some place
-    → IsNew (stop_claims old.message.number now claims) now c
+    → handover (stop_claims old.message.entry now claims) now old (own_load c.message) ≡ Some place
+    → IsNew (stop_claims old.message.entry now claims) now c
     → IsPlacedAt place c
-    → claimed_at (stop_claims old.message.number now claims) now + place.excess ≤ SCALE
-    → AreInOrder (stop_claims old.message.number now claims ++ c ∷ []) now
-    × ClaimsFit (stop_claims old.message.number now claims ++ c ∷ [])
+    → claimed_at (stop_claims old.message.entry now claims) now + place.excess ≤ SCALE
+    → AreInOrder (stop_claims old.message.entry now claims ++ c ∷ []) now
+    × ClaimsFit (stop_claims old.message.entry now claims ++ c ∷ [])
 
 -- one that takes over from a waiting message can do so, and starts where that one would have
 abbrev pub WaitingPassesItsStart : Type 0
@@ -84,5 +84,5 @@ WaitingPassesItsStart = (claims : List Claim) (now load : ℕ) (old : Claim)
     → Contains claims old
     → is_live now old.message ≡ true
     → now < old.message.start
-    → (place : Place) × (handover (stop_claims old.message.number now claims) now old load ≡ Some place)
+    → (place : Place) × (handover (stop_claims old.message.entry now claims) now old load ≡ Some place)
     × (place.start ≡ old.message.start)

@@ -17,10 +17,10 @@ IsWriteBy a (commands.Status id serial) start = ⊥
 -- each accepted message is the write that stands in the log at its number, and was accepted at that entry's slot
 abbrev pub AcceptedAreWrites : Type 0
 AcceptedAreWrites = (log : List Entry) (d : Entry)
-    → All (λ a. (a.message.number < length log)
-    × IsWriteBy a (slice_index_or log a.message.number d).command
-    (start_of (slice_index_or log a.message.number d).answer)
-    × (a.accepted ≡ (slice_index_or log a.message.number d).slot)) (accepted_in log)
+    → All (λ a. (a.message.entry < length log)
+    × IsWriteBy a (slice_index_or log a.message.entry d).command
+    (start_of (slice_index_or log a.message.entry d).answer)
+    × (a.accepted ≡ (slice_index_or log a.message.entry d).slot)) (accepted_in log)
 
 -- a write, with a page of this number, whose answer starts a message
 abbrev pub HasPage : ℕ → Command → Option ℕ → Type 0
@@ -31,16 +31,16 @@ HasPage page (commands.Status id serial) start = ⊥
 
 -- a slot that airs something airs a page of an accepted write of the log
 abbrev pub UsesAreOfWrites : Type 0
-UsesAreOfWrites = (r : Record) (slot number page : ℕ) (d : Entry)
+UsesAreOfWrites = (r : Record) (slot entry page : ℕ) (d : Entry)
     → IsLegal r
     → slot < r.clock
-    → slice_index_or r.air slot None ≡ Some (number, page)
-    → (number < length r.log)
-    × HasPage page (slice_index_or r.log number d).command (start_of (slice_index_or r.log number d).answer)
+    → slice_index_or r.air slot None ≡ Some (entry, page)
+    → (entry < length r.log)
+    × HasPage page (slice_index_or r.log entry d).command (start_of (slice_index_or r.log entry d).answer)
 
 -- each later accepted message has a greater number
 abbrev pub AcceptedRise : Type 0
-AcceptedRise = (log : List Entry) → AllPairs (λ a b. a.message.number < b.message.number) (accepted_in log)
+AcceptedRise = (log : List Entry) → AllPairs (λ a b. a.message.entry < b.message.entry) (accepted_in log)
 
 -- and each has a page and a period
 abbrev pub AcceptedHaveLoads : Type 0

@@ -8,57 +8,40 @@ ghost use Rattle.std.specs.Option.{MatchOption, option_map};
 ghost use Rattle.scheduler.specs.Completed.{completed};
 ghost use Rattle.bsc_table.specs.declared.entry.Answer.TheVariants as answers;
 ghost use Rattle.bsc_table.specs.declared.command.Command.TheVariants as commands;
-ghost use Rattle.bsc_table.specs.declared.kept.TheConstants.{LATEST_START};
+ghost use Rattle.bsc_table.specs.declared.accepted.TheConstants.{LATEST_START};
 ghost use Rattle.bsc_table.specs.Claim.{stop_claims, is_claimed_at};
 ghost use Rattle.admission.specs.Load.{load_of};
 ghost use Rattle.bsc_table.specs.Record.{Record, accepted_in, is_of_pair, is_background, place_after, message_named};
 ghost use Rattle.bsc_table.specs.Record.{claim_of, claims_in};
-ghost use Rattle.bsc_table.specs.Answer.{told_of, answer_to_kill, answer_to_write, before_end, answer_with_room};
-ghost use Rattle.bsc_table.specs.Answer.{answer_of};
+ghost use Rattle.bsc_table.specs.Answer.{status_of, status_answer, answer_to_kill, answer_to_write, before_end};
+ghost use Rattle.bsc_table.specs.Answer.{answer_with_room, answer_of};
 ghost use Rattle.bsc_table.specs.Orders.{IsWellFormed};
 ghost use Rattle.bsc_table.specs.Legal.{IsLegal};
 ghost use Rattle.bsc_table.specs.Promised.{IsServed, IsBounded};
-ghost use Rattle.bsc_table.specs.Book.{accepted_of, air_told, IsPlayedUpTo, IsNotLive, IsLiveAs, IsLiveIn, IsNext};
-ghost use Rattle.bsc_table.specs.Book.{IsStop, IsStart, IsReplacement, IsOffered, IsRoom, IsLater, Decides};
-ghost use Rattle.bsc_table.specs.Book.{DecidesWrites, decided_answer, is_accepting, entry_by, with_entry};
-ghost use Rattle.bsc_table.specs.Book.{answered_with, cause_of, left_by, place_of, line_of, HasRoomFor};
+ghost use Rattle.bsc_table.specs.Steps.{opened, entry_by, with_entry, answered_with, IsPlayedUpTo, Ask, Play, IsStep};
+ghost use Rattle.bsc_table.specs.Book.{accepted_of, air_pairs, reservation_for};
+ghost use Rattle.bsc_table.specs.BookSteps.{IsGoneTo, IsNotLive, IsLiveAs, IsLiveIn, IsNext, IsStop, IsStart};
+ghost use Rattle.bsc_table.specs.BookSteps.{IsReplacement, IsOffered, IsRoom, IsLater, Decides, DecidesWrites};
+ghost use Rattle.bsc_table.specs.BookSteps.{decided_answer, cause_of, left_by, place_of, HasRoomFor};
+ghost use Rattle.bsc_table.specs.Refusals.{is_accepting};
 ghost use Rattle.admission.specs.Reservation.{end_of_stopped};
 ghost use Rattle.admission.specs.Waiting.{behind_of};
 ghost use Rattle.admission.specs.Table.{ends_at, passed};
 
+use crate::accepted::{self, AcceptedMessage, Place};
 use crate::command::{Command, Refused};
 use crate::decision::Decision;
 use crate::entry::{Aired, Answer, Entry, SlotRange, State};
-use crate::kept::{self, Kept, Place};
 use crate::record::CellRecord;
 use admission::{Budget, NoRoom};
 use cbs_page::Serial;
-use cbsp_wire::Cell;
+use cbsp_wire::{Cell, cause};
 use scheduler::Plan;
 use std::alloc::Global;
 use std::marker::Model;
 
-/// The causes of refusals, as they are checked (3GPP TS 48.049, 8.2, Cause; which applies when is own). The log is
-/// full.
-const LOG_IS_FULL: u8 = 0x08;
-
-/// The run is over.
-const RUN_IS_OVER: u8 = 0x0A;
-
-/// The message to stop or to replace isn't live.
-const NOT_LIVE: u8 = 0x02;
-
-/// A message of this identifier and serial number was accepted before.
-const ACCEPTED_BEFORE: u8 = 0x0D;
-
-/// 64 messages are reserved.
-const TABLE_IS_FULL: u8 = 0x07;
-
-/// The load doesn't fit beside those that are reserved.
-const LOAD_IS_FULL: u8 = 0x06;
-
 /// How many entries a log has room for (own).
-const ENTRIES: usize = 4096;
+const MAX_ENTRIES: usize = 4096;
 
 /// The book of a cell: the log of its commands with their answers, and what each played slot aired.
 ///
@@ -70,7 +53,7 @@ pub struct CellBook {
     clock: u16,
     log: Vec<Entry>,
     air: Vec<Option<Aired>>,
-    accepted: Vec<Kept>,
+    accepted: Vec<AcceptedMessage>,
     plan: Plan,
     budget: Budget,
 }
@@ -94,13 +77,7 @@ impl CellBook {
     ///
     /// `Refused` for want of memory, which a run of no slots doesn't take.
     pub fn open(alloc: Global, cell: Cell, slots: u16) -> Result<CellBook, Refused>
-        ensures opened { IfOk result (λ book. book ≡ record {
-          cell = cell;
-          slots = slots;
-          clock = 0;
-          log = [];
-          air = [];
-        }) }
+        ensures opened { IfOk result (λ book. book ≡ opened cell slots) }
         ensures refused { IfErr result (λ refused. 0 < slots) }
     {
         let air = Vec::with_capacity(alloc, usize::from(slots))?;
@@ -150,18 +127,15 @@ impl CellBook {
 
     /// What each played slot aired.
     pub fn air(&self) -> &[Option<Aired>]
-        ensures { air_told result.now ≡ self.now.air }
+        ensures { air_pairs result.now ≡ self.now.air }
     {
         self.air.as_slice()
     }
 
-    /// How many broadcasts of a message were whole before the clock's slot, and how it stands there. None where the
+    /// How many broadcasts of a message were completed before the clock's slot, and how it stands there. None where the
     /// message was never accepted. No memory is taken, and there is no entry.
     pub fn status(&self, id: u16, serial: Serial) -> Option<(u16, State)>
-        ensures { MatchOption result
-            (told_of self.now.air self.now.clock (message_named id serial self.now.log) ≡ answers.Unknown)
-            (λ told. told_of self.now.air self.now.clock (message_named id serial self.now.log) ≡ answers.Told told.0
-            told.1) }
+        ensures { result ≡ status_of self.now.air self.now.clock (message_named id serial self.now.log) }
     {
         let message = self.named(id, serial)?;
         Some((self.completed(&message), message.state(self.clock)))
@@ -193,13 +167,14 @@ impl CellBook {
         ensures answered { (result ≡ answers.Refused)
             ⊎ (result ≡ answer_of self.old.slots self.old.log self.old.air self.old.clock command.now) }
         ensures entered { self.new ≡ answered_with command.now result self.old }
+        ensures step { IsStep (Ask command.now) self.old self.new }
         ensures legal { IsLegal self.new }
 
         // A full log takes no memory to say so.
         ensures full { 4096 ≤ length self.old.log → result ≡ answers.Cause 0x08 }
     {
-        if self.log.len() >= ENTRIES {
-            return Answer::Cause(LOG_IS_FULL);
+        if self.log.len() >= MAX_ENTRIES {
+            return Answer::Cause(cause::BSC_MEMORY_EXCEEDED);
         }
         let decision = self.decide(command);
         let answer = decision.answer();
@@ -209,10 +184,11 @@ impl CellBook {
         }
     }
 
-    /// Plays `k` slots, or those up to the run's end, and tells which they were. No memory is taken.
+    /// Plays `k` slots, or those up to the run's end, and returns which they were. No memory is taken.
     pub fn play(&mut self, k: u16) -> SlotRange
         ensures range { result ≡ record { from = self.old.clock; to = min (self.old.clock + k) self.old.slots } }
         ensures played { IsPlayedUpTo (min (self.old.clock + k) self.old.slots) self.old self.new }
+        ensures step { IsStep (Play k) self.old self.new }
         ensures legal { IsLegal self.new }
         ensures served { IsServed self.new }
         ensures bounded { IsBounded self.new }
@@ -275,27 +251,27 @@ impl CellBook {
         ensures refused { OnErr result (self.new ≡ self.old) }
     {
         self.log.reserve(1)?;
-        push_within(&mut self.log, entry);
+        self.log.push_reserved(entry);
         Ok(())
     }
 
     /// Enters an entry that stops a message.
-    fn enter_stop(&mut self, entry: Entry, old: &Kept) -> Result<(), Refused>
+    fn enter_stop(&mut self, entry: Entry, old: &AcceptedMessage) -> Result<(), Refused>
         requires next { IsNext self.old entry }
         requires stop { IsStop self.old entry (accepted_of old.now) }
         ensures entered { OnOk result (self.new ≡ with_entry entry self.old) }
         ensures refused { OnErr result (self.new ≡ self.old) }
     {
         self.log.reserve(1)?;
-        kept::stop(self.accepted.as_mut_slice(), old.number, self.clock);
-        let _ = self.plan.stop(old.number, self.clock);
+        accepted::stop(self.accepted.as_mut_slice(), old.entry, self.clock);
+        let _ = self.plan.stop(old.entry, self.clock);
         release(&mut self.budget, old, self.clock);
-        push_within(&mut self.log, entry);
+        self.log.push_reserved(entry);
         Ok(())
     }
 
     /// Enters an entry that starts a message.
-    fn enter_new(&mut self, entry: Entry, new: Kept) -> Result<(), Refused>
+    fn enter_new(&mut self, entry: Entry, new: AcceptedMessage) -> Result<(), Refused>
         requires next { IsNext self.old entry }
         requires start { IsStart self.old entry (accepted_of new) }
         ensures entered { OnOk result (self.new ≡ with_entry entry self.old) }
@@ -305,13 +281,18 @@ impl CellBook {
         self.accepted.reserve(1)?;
         self.plan.add(new.item())?;
         reserve_for(&mut self.budget, &new, self.clock);
-        push_within(&mut self.accepted, new);
-        push_within(&mut self.log, entry);
+        self.accepted.push_reserved(new);
+        self.log.push_reserved(entry);
         Ok(())
     }
 
     /// Enters an entry that stops a message and starts one in its place.
-    fn enter_replacement(&mut self, entry: Entry, old: &Kept, new: Kept) -> Result<(), Refused>
+    fn enter_replacement(
+        &mut self,
+        entry: Entry,
+        old: &AcceptedMessage,
+        new: AcceptedMessage,
+    ) -> Result<(), Refused>
         requires next { IsNext self.old entry }
         requires replacement { IsReplacement self.old entry (accepted_of old.now) (accepted_of new) }
         requires soon { new.start < LATEST_START }
@@ -321,32 +302,32 @@ impl CellBook {
         self.log.reserve(1)?;
         self.accepted.reserve(1)?;
         self.plan.add(new.item())?;
-        kept::stop(self.accepted.as_mut_slice(), old.number, self.clock);
-        let _ = self.plan.stop(old.number, self.clock);
+        accepted::stop(self.accepted.as_mut_slice(), old.entry, self.clock);
+        let _ = self.plan.stop(old.entry, self.clock);
         release(&mut self.budget, old, self.clock);
         reserve_for(&mut self.budget, &new, self.clock);
-        push_within(&mut self.accepted, new);
-        push_within(&mut self.log, entry);
+        self.accepted.push_reserved(new);
+        self.log.push_reserved(entry);
         Ok(())
     }
 
     /// The message of a pair, if one was accepted.
-    fn named(&self, id: u16, serial: Serial) -> Option<Kept>
+    fn named(&self, id: u16, serial: Serial) -> Option<AcceptedMessage>
         ensures { option_map accepted_of result ≡ find (is_of_pair id serial) (accepted_in self.now.log) }
     {
-        kept::named(self.accepted.as_slice(), id, serial)
+        accepted::named(self.accepted.as_slice(), id, serial)
     }
 
-    /// How many broadcasts of a message were whole before the clock's slot.
-    fn completed(&self, message: &Kept) -> u16
+    /// How many broadcasts of a message were completed before the clock's slot.
+    fn completed(&self, message: &AcceptedMessage) -> u16
         requires { Contains (accepted_in self.now.log) (accepted_of message.now) }
         ensures { result ≡ completed (accepted_of message.now).message self.now.air self.now.clock }
     {
-        self.plan.done(message.number)
+        self.plan.done(message.entry)
     }
 
     /// The message of a pair, if it is live.
-    fn live(&self, id: u16, serial: Serial) -> Option<Kept>
+    fn live(&self, id: u16, serial: Serial) -> Option<AcceptedMessage>
         ensures { MatchOption result
             (IsNotLive self.now.clock (message_named id serial self.now.log))
             (λ kept. IsLiveAs self.now.clock id serial self.now.log (accepted_of kept)) }
@@ -381,10 +362,10 @@ impl CellBook {
                 contents,
                 ..
             } => {
-                let new = Kept {
+                let new = AcceptedMessage {
                     id: *id,
                     serial: *serial,
-                    number: self.log.len() as u16,
+                    entry: self.log.len() as u16,
                     accepted: self.clock,
                     behind: None,
                     excess: 0,
@@ -402,7 +383,7 @@ impl CellBook {
 
     /// The answer to a status.
     fn answer_to_status(&self, id: u16, serial: Serial) -> Answer
-        ensures right { result ≡ told_of self.now.air self.now.clock (message_named id serial self.now.log) }
+        ensures right { result ≡ status_answer self.now.air self.now.clock (message_named id serial self.now.log) }
         ensures noted { is_accepting result ≡ false }
     {
         match self.status(id, serial) {
@@ -420,10 +401,10 @@ impl CellBook {
         ensures decides { Decides self.now (commands.Kill id serial) result }
     {
         if self.is_over() {
-            return Decision::Noted(Answer::Cause(RUN_IS_OVER));
+            return Decision::Noted(Answer::Cause(cause::CELL_BROADCAST_NOT_OPERATIONAL));
         }
         match self.live(id, serial) {
-            None => Decision::Noted(Answer::Cause(NOT_LIVE)),
+            None => Decision::Noted(Answer::Cause(cause::MESSAGE_REFERENCE_NOT_IDENTIFIED)),
             Some(old) => Decision::Stops {
                 old,
                 completed: self.completed(&old),
@@ -432,7 +413,7 @@ impl CellBook {
     }
 
     /// What a write comes to.
-    fn decide_write(&self, new: Kept, replaces: Option<Serial>) -> Decision
+    fn decide_write(&self, new: AcceptedMessage, replaces: Option<Serial>) -> Decision
         requires legal { IsLegal self.now }
         requires offered { IsOffered self.now (accepted_of new) }
         ensures right { decided_answer result
@@ -441,7 +422,7 @@ impl CellBook {
         ensures decides { DecidesWrites self.now (accepted_of new) replaces result }
     {
         if self.is_over() {
-            return Decision::Noted(Answer::Cause(RUN_IS_OVER));
+            return Decision::Noted(Answer::Cause(cause::CELL_BROADCAST_NOT_OPERATIONAL));
         }
         match replaces {
             None => self.decide_new(new),
@@ -450,7 +431,7 @@ impl CellBook {
     }
 
     /// What a write in the place of no message comes to before the run's end.
-    fn decide_new(&self, new: Kept) -> Decision
+    fn decide_new(&self, new: AcceptedMessage) -> Decision
         requires { IsOffered self.now (accepted_of new) }
         ensures right { decided_answer result
             ≡ answer_to_write self.now.log self.now.air self.now.clock new.id new.serial None new.category
@@ -458,7 +439,7 @@ impl CellBook {
         ensures decides { DecidesWrites self.now (accepted_of new) None result }
     {
         if self.named(new.id, new.serial).is_some() {
-            return Decision::Noted(Answer::Cause(ACCEPTED_BEFORE));
+            return Decision::Noted(Answer::Cause(cause::MESSAGE_REFERENCE_ALREADY_USED));
         }
         if new.category.is_background() {
             return Decision::Starts { new };
@@ -470,7 +451,7 @@ impl CellBook {
     }
 
     /// What a write in the place of the message of this serial number comes to before the run's end.
-    fn decide_replacement(&self, new: Kept, replaced: Serial) -> Decision
+    fn decide_replacement(&self, new: AcceptedMessage, replaced: Serial) -> Decision
         requires legal { IsLegal self.now }
         requires offered { IsOffered self.now (accepted_of new) }
         ensures right { decided_answer result
@@ -479,9 +460,9 @@ impl CellBook {
         ensures decides { DecidesWrites self.now (accepted_of new) (Some replaced) result }
     {
         match self.live(new.id, replaced) {
-            None => Decision::Noted(Answer::Cause(NOT_LIVE)),
+            None => Decision::Noted(Answer::Cause(cause::MESSAGE_REFERENCE_NOT_IDENTIFIED)),
             Some(_) if self.named(new.id, new.serial).is_some() => {
-                Decision::Noted(Answer::Cause(ACCEPTED_BEFORE))
+                Decision::Noted(Answer::Cause(cause::MESSAGE_REFERENCE_ALREADY_USED))
             }
             Some(old) if new.category.is_background() => Decision::Replaces {
                 old,
@@ -494,9 +475,9 @@ impl CellBook {
                     new,
                     completed: self.completed(&old),
                 },
-                Err(NoRoom::Table) => Decision::Noted(Answer::Cause(TABLE_IS_FULL)),
+                Err(NoRoom::Table) => Decision::Noted(Answer::Cause(cause::CELL_MEMORY_EXCEEDED)),
                 Err(NoRoom::Load) => match self.later_place(&old, new.load()) {
-                    None => Decision::Noted(Answer::Cause(LOAD_IS_FULL)),
+                    None => Decision::Noted(Answer::Cause(cause::BSC_CAPACITY_EXCEEDED)),
                     Some(place) => Decision::Replaces {
                         old,
                         new: new.waiting_at(place),
@@ -515,16 +496,16 @@ impl CellBook {
     }
 
     /// Whether a load has room, where a live message counts as stopped.
-    fn room_without(&self, old: &Kept, load: u64) -> Result<(), NoRoom>
+    fn room_without(&self, old: &AcceptedMessage, load: u64) -> Result<(), NoRoom>
         requires { IsLiveIn self.now (accepted_of old.now) }
-        ensures { IsRoom (stop_claims old.now.number self.now.clock (claims_in self.now.log)) self.now.clock load
+        ensures { IsRoom (stop_claims old.now.entry self.now.clock (claims_in self.now.log)) self.now.clock load
             result }
     {
         self.budget.fits(load, old.leaving_at(self.clock))
     }
 
     /// The place at which a message of this load may take over from a live one, where there is room for its excess.
-    fn later_place(&self, old: &Kept, load: u64) -> Option<Place>
+    fn later_place(&self, old: &AcceptedMessage, load: u64) -> Option<Place>
         requires live { IsLiveIn self.now (accepted_of old.now) }
         requires room { length (filter (is_claimed_at self.now.clock) (left_by self.now (accepted_of old.now))) < 64 }
         ensures { IsLater self.now (accepted_of old.now) load result }
@@ -538,7 +519,7 @@ impl CellBook {
 
     /// The place at which a message of this load may take over from a live one: behind that one, where it has started,
     /// else behind the one behind which it waits.
-    fn place_after(&self, old: &Kept, load: u64) -> Option<Place>
+    fn place_after(&self, old: &AcceptedMessage, load: u64) -> Option<Place>
         requires { IsLiveIn self.now (accepted_of old.now) }
         ensures place { option_map place_of result
             ≡ place_after (left_by self.now (accepted_of old.now)) self.now.clock (accepted_of old.now) load }
@@ -547,15 +528,15 @@ impl CellBook {
         if old.category.is_background() {
             return None;
         }
-        let number = old.ahead_at(self.clock)?;
-        let ahead = kept::reserved(self.accepted.as_slice(), number)?;
-        let stopped = ahead.stopped_if(old.number, self.clock);
+        let entry = old.ahead_at(self.clock)?;
+        let ahead = accepted::reserved(self.accepted.as_slice(), entry)?;
+        let stopped = ahead.stopped_if(old.entry, self.clock);
         stopped.place_behind(self.clock, load)
     }
 
     /// Whether there is room for what a load has over that of the message behind which it is to wait, where a live
     /// message counts as stopped.
-    fn room_behind(&self, old: &Kept, load: u64, place: Place) -> Result<(), NoRoom>
+    fn room_behind(&self, old: &AcceptedMessage, load: u64, place: Place) -> Result<(), NoRoom>
         requires live { IsLiveIn self.now (accepted_of old.now) }
         requires place { place_after (left_by self.now (accepted_of old.now)) self.now.clock (accepted_of old.now) load
             ≡ Some (place_of place) }
@@ -577,7 +558,7 @@ impl CellBook {
     fn play_up_to(&mut self, to: u16)
         requires ahead { self.old.clock ≤ to }
         requires within { to ≤ self.old.slots }
-        ensures { IsPlayedUpTo to self.old self.new }
+        ensures { IsGoneTo to self.old self.new }
     {
         while self.clock() < to {
             self.play_slot();
@@ -587,10 +568,10 @@ impl CellBook {
     /// Plays the slot at which the clock stands.
     fn play_slot(&mut self)
         requires { self.old.clock < self.old.slots }
-        ensures { IsPlayedUpTo (self.old.clock + 1) self.old self.new }
+        ensures { IsGoneTo (self.old.clock + 1) self.old self.new }
     {
         let used = self.plan.next(self.clock);
-        put(&mut self.air, used);
+        push_aired(&mut self.air, used);
         self.clock += 1;
         self.budget.pass_slot(self.clock);
     }
@@ -598,39 +579,39 @@ impl CellBook {
 
 /// Gives the reservation of a message that is stopped at `slot` its end, unless it is background, which has none. None
 /// waits behind a message that is stopped now.
-fn release(budget: &mut Budget, old: &Kept, slot: u16)
+fn release(budget: &mut Budget, old: &AcceptedMessage, slot: u16)
     requires period { 0 < old.now.period }
-    requires reserved { is_background old.now.category ≡ false → Any (λ h. h.entry ≡ old.now.number) budget.old }
-    requires free { is_background old.now.category ≡ false → All (λ h. behind_of h ≢ Some old.now.number) budget.old }
+    requires reserved { is_background old.now.category ≡ false → Any (λ h. h.entry ≡ old.now.entry) budget.old }
+    requires free { is_background old.now.category ≡ false → All (λ h. behind_of h ≢ Some old.now.entry) budget.old }
     ensures { budget.new ≡ (if is_background old.now.category then budget.old
-        else passed slot (ends_at old.now.number (end_of_stopped old.now.start old.now.period slot) budget.old)) }
+        else passed slot (ends_at old.now.entry (end_of_stopped old.now.start old.now.period slot) budget.old)) }
 {
     if old.category.is_background() {
         return;
     }
-    budget.release_at(old.number, old.end_if_stopped(slot));
+    budget.release_at(old.entry, old.end_if_stopped(slot));
     budget.pass_slot(slot);
 }
 
 /// Reserves what a message takes that was accepted at `slot`: its load from now on, or, where it waits behind another
 /// one, its excess up to its start and its load from there on; nothing where it is background.
-fn reserve_for(budget: &mut Budget, new: &Kept, slot: u16)
+fn reserve_for(budget: &mut Budget, new: &AcceptedMessage, slot: u16)
     requires period { 0 < new.now.period }
     requires soon { new.now.start < LATEST_START }
     requires standing { new.now.stop ≡ None }
-    requires unreserved { All (λ h. h.entry ≢ new.now.number) budget.old }
+    requires unreserved { All (λ h. h.entry ≢ new.now.entry) budget.old }
     requires room { is_background new.now.category ≡ false
         → HasRoomFor slot budget.old (claim_of (accepted_of new.now)) new.now.behind }
     ensures { budget.new ≡ (if is_background new.now.category then budget.old
-        else budget.old ++ line_of slot (claim_of (accepted_of new.now)) ∷ []) }
+        else budget.old ++ reservation_for slot (claim_of (accepted_of new.now)) ∷ []) }
 {
     if new.category.is_background() {
         return;
     }
     let end = new.natural_end();
     let _ = match new.behind {
-        None => budget.reserve(new.number, new.load(), end),
-        Some(behind) => budget.reserve_behind(new.number, new.load(), behind, new.start, end),
+        None => budget.reserve(new.entry, new.load(), end),
+        Some(behind) => budget.reserve_behind(new.entry, new.load(), behind, new.start, end),
     };
 }
 
@@ -639,25 +620,15 @@ fn cause_of(full: NoRoom) -> u8
     ensures { result ≡ cause_of full }
 {
     match full {
-        NoRoom::Table => TABLE_IS_FULL,
-        NoRoom::Load => LOAD_IS_FULL,
+        NoRoom::Table => cause::CELL_MEMORY_EXCEEDED,
+        NoRoom::Load => cause::BSC_CAPACITY_EXCEEDED,
     }
 }
 
-/// Adds an item, where there is room for it.
-fn push_within<T: Drop>(list: &mut Vec<T>, item: T)
-    requires { vec_len list.old < vec_capacity list.old }
-    ensures items { list.new.items ≡ list.old.items ++ item ∷ [] }
-    ensures len { vec_len list.new ≡ vec_len list.old + 1 }
-    ensures capacity { vec_capacity list.old ≤ vec_capacity list.new }
-{
-    let _ = list.push(item);
-}
-
 /// Adds what a slot airs, where there is room for it.
-fn put(air: &mut Vec<Option<Aired>>, used: Option<(u16, u8)>)
+fn push_aired(air: &mut Vec<Option<Aired>>, used: Option<(u16, u8)>)
     requires { vec_len air.old < vec_capacity air.old }
-    ensures aired { air_told air.new.items ≡ air_told air.old.items ++ used ∷ [] }
+    ensures aired { air_pairs air.new.items ≡ air_pairs air.old.items ++ used ∷ [] }
     ensures places { vec_len air.new ≡ vec_len air.old + 1 }
     ensures room { vec_capacity air.old ≤ vec_capacity air.new }
 {
@@ -665,5 +636,5 @@ fn put(air: &mut Vec<Option<Aired>>, used: Option<(u16, u8)>)
         None => None,
         Some((entry, page)) => Some(Aired { entry, page }),
     };
-    push_within(air, aired);
+    air.push_reserved(aired);
 }

@@ -65,7 +65,7 @@ impl Category {
 /// What a cell is asked to do.
 #[derive(Debug, Drop)]
 pub enum Command {
-    /// Broadcast this message, in place of an older one where one is told (3GPP TS 48.049, 8.1, WRITE-REPLACE).
+    /// Broadcast this message, in place of an older one if one is named (3GPP TS 48.049, 8.1, WRITE-REPLACE).
     Write {
         /// The message identifier.
         id: u16,

@@ -1,10 +1,10 @@
 //! What a command comes to, before a cell's book is changed.
 
 ghost use Rattle.std.specs.Prelude.{◌≡◌};
-ghost use Rattle.bsc_table.specs.Book.{decided_answer};
+ghost use Rattle.bsc_table.specs.BookSteps.{decided_answer};
 
+use crate::accepted::AcceptedMessage;
 use crate::entry::Answer;
-use crate::kept::Kept;
 
 /// What a command comes to.
 #[derive(Clone, Copy, Debug, PartialEq, Eq)]
@@ -14,22 +14,22 @@ pub enum Decision {
     /// A live message is stopped.
     Stops {
         /// The message.
-        old: Kept,
-        /// How many of its broadcasts are whole.
+        old: AcceptedMessage,
+        /// How many of its broadcasts are completed.
         completed: u16,
     },
     /// A message starts.
     Starts {
         /// The message.
-        new: Kept,
+        new: AcceptedMessage,
     },
     /// A message starts in the place of a live one, which is stopped.
     Replaces {
         /// The live one.
-        old: Kept,
+        old: AcceptedMessage,
         /// The one that starts.
-        new: Kept,
-        /// How many broadcasts of the live one are whole.
+        new: AcceptedMessage,
+        /// How many broadcasts of the live one are completed.
         completed: u16,
     },
 }

@@ -28,17 +28,17 @@ pub enum Answer {
     Replaced {
         /// The slot from which it stands: that of the answer, or a later one, where it takes over.
         slot: u32,
-        /// How many broadcasts of the replaced message were whole.
+        /// How many broadcasts of the replaced message were completed.
         completed: u16,
     },
     /// The message stands no more.
     Stopped {
-        /// How many of its broadcasts were whole.
+        /// How many of its broadcasts were completed.
         completed: u16,
     },
     /// The answer to a status.
     Told {
-        /// How many of its broadcasts are whole.
+        /// How many of its broadcasts are completed.
         completed: u16,
         /// How it stands.
         state: State,

@@ -2,8 +2,8 @@
 //! cell's legal history.
 
 ghost use Rattle.bsc_table.specs.Guarantee.{ReservationsCoverBroadcasts, DemandIsNoMoreThanTheSlots};
-ghost use Rattle.bsc_table.specs.Guarantee.{LackMeansABusyPeriod, AdmittedLoadIsAGuarantee, AdmittedBroadcastsAreWhole};
-ghost use Rattle.bsc_table.specs.Guarantee.{ForegroundIsServed};
+ghost use Rattle.bsc_table.specs.Guarantee.{LackMeansABusyPeriod, AdmittedLoadIsAGuarantee};
+ghost use Rattle.bsc_table.specs.Guarantee.{AdmittedBroadcastsAreCompleted, ForegroundIsServed};
 ghost use Rattle.bsc_table.specs.Room.{ReservedNeverRises, StopKeepsRoom, StartKeepsRoom, TakeoverKeepsRoom};
 ghost use Rattle.bsc_table.specs.Room.{WaitingPassesItsStart};
 ghost use Rattle.bsc_table.specs.Bounds.{CompletedIsAtMost, CompletedIsAtLeast, ForegroundIsAtLeast, BoundsAreNear};
@@ -11,10 +11,11 @@ ghost use Rattle.bsc_table.specs.Promised.{LegalPairsComeOnce, LegalClaimsFit, L
 ghost use Rattle.bsc_table.specs.Promised.{LegalHistoriesAreBounded, LegalPagesAreAiredOnce};
 ghost use Rattle.bsc_table.specs.Refusals.{RefusalsChangeNothing, AcceptedEntriesAreAll};
 ghost use Rattle.bsc_table.specs.Written.{AcceptedAreWrites, UsesAreOfWrites, AcceptedRise, AcceptedHaveLoads};
-ghost use Rattle.bsc_table.specs.Told.{LegalAnswersAreTrue};
+ghost use Rattle.bsc_table.specs.Reported.{LegalAnswersAreTrue};
+ghost use Rattle.bsc_table.specs.Steps.{OpenedAreLegal, StepKeepsLegal, StepsKeepLegal};
 
 /// Admitted load is a guarantee: where the loads that are reserved at each slot sum to at most `SCALE`, and each slot
-/// airs what the air rule says, each broadcast is aired whole within its own period, from its release up to its due
+/// airs what the air rule says, each broadcast is completed within its own period, from its release up to its due
 /// slot. Nothing is promised of a broadcast that its message's stop or the end of the run cuts, nor of messages whose
 /// loads were freed sooner than at the end of the period in which they were stopped. Own rules, of no standard.
 ///
@@ -32,8 +33,8 @@ pub fn guarantee()
     // So none does.
     ensures admitted_load_is_a_guarantee { AdmittedLoadIsAGuarantee }
 
-    // In the words of the completed number: from its due slot on, each counts as whole.
-    ensures admitted_broadcasts_are_whole { AdmittedBroadcastsAreWhole }
+    // In the words of the completed number: from its due slot on, each counts as completed.
+    ensures admitted_broadcasts_are_completed { AdmittedBroadcastsAreCompleted }
 
     // Background messages, which reserve nothing, take no page from the others.
     ensures foreground_is_served { ForegroundIsServed }
@@ -78,6 +79,20 @@ pub fn completed_bounds()
     ensures bounds_are_near { BoundsAreNear }
 {}
 
+/// What a cell's record can become, step by step: a step is a command that is asked, or a play of some slots. Each call
+/// of `CellBook::apply` and `CellBook::play` is such a step. Own rules, of no standard.
+///
+/// Does nothing: its contract is the law.
+pub fn steps_of_a_cell()
+    // A new record is a legal history, and each step keeps it one: a command of a message of the warning centre, or a
+    // status, and a play of any number of slots.
+    ensures opened_are_legal { OpenedAreLegal }
+    ensures step_keeps_legal { StepKeepsLegal }
+
+    // So is the record that any list of steps reaches from a new one on, for every cell and every number of slots.
+    ensures steps_keep_legal { StepsKeepLegal }
+{}
+
 /// What a cell promises of each message that it accepted. Its history is legal: the commands are such as a message of
 /// the warning centre can ask for, they came in the order of their slots, each was answered by the rules, and each slot
 /// aired what the air rule says. No other premise is made.
@@ -110,17 +125,17 @@ pub fn legal_histories()
     ensures legal_loads_fit { LegalLoadsFit }
 
     // Each broadcast of a message that isn't background, that was requested, that is due by the clock and that no stop
-    // cut was aired whole, from its release up to the slot in which it was due, and each of its pages once.
+    // cut was completed, from its release up to the slot in which it was due, and each of its pages once.
     ensures legal_histories_are_served { LegalHistoriesAreServed }
     ensures legal_pages_are_aired_once { LegalPagesAreAiredOnce }
 
-    // So before each slot up to the clock, the broadcasts of a message that are whole are at least those requested
+    // So before each slot up to the clock, the broadcasts of a message that are completed are at least those requested
     // whose period was over while it stood, and at most those requested whose period had begun while it stood. For a
     // background message the least isn't promised.
     ensures legal_histories_are_bounded { LegalHistoriesAreBounded }
 
-    // And each number that was told of a message, in answer to its kill, to its replacement or to a status, is the
-    // number of its broadcasts that were whole by then, and lies between these bounds.
+    // And each number that was reported of a message, in answer to its kill, to its replacement or to a status, is the
+    // number of its broadcasts that were completed by then, and lies between these bounds.
     ensures legal_answers_are_true { LegalAnswersAreTrue }
 {
     scheduler::air_laws();

@@ -5,7 +5,7 @@ ghost use Rattle.cbsp_wire.specs.Meaning.{IsMessage};
 ghost use Rattle.bsc_table.specs.Orders.{IsWellFormed, order_of, category_of, is_basic};
 
 use crate::command::{Category, Command};
-use cbsp_wire::{Cell, Message};
+use cbsp_wire::{Cell, Message, cause};
 
 /// The category that a value stands for: 0 high, 1 background, 2 normal, and normal where it is absent. None for any
 /// other value.
@@ -60,10 +60,10 @@ pub fn orders_of(message: Message) -> Result<(Vec<Cell>, Command), u8>
             contents,
         } => {
             let Some(category) = category_of(category) else {
-                return Err(0x01);
+                return Err(cause::PARAMETER_VALUE_INVALID);
             };
             if !is_basic(channel) {
-                return Err(0x0C);
+                return Err(cause::EXTENDED_CHANNEL_NOT_SUPPORTED);
             }
             let command = Command::Write {
                 id,
@@ -84,7 +84,7 @@ pub fn orders_of(message: Message) -> Result<(Vec<Cell>, Command), u8>
             channel,
         } => {
             if !is_basic(channel) {
-                return Err(0x0C);
+                return Err(cause::EXTENDED_CHANNEL_NOT_SUPPORTED);
             }
             Ok((
                 cells.list,
@@ -94,6 +94,6 @@ pub fn orders_of(message: Message) -> Result<(Vec<Cell>, Command), u8>
                 },
             ))
         }
-        _ => Err(0x04),
+        _ => Err(cause::UNRECOGNISED_MESSAGE),
     }
 }

@@ -2,7 +2,7 @@
 
 ghost use Rattle.std.specs.Prelude.{◌≡◌};
 ghost use Rattle.bsc_table.specs.Legal.{IsLegal};
-ghost use Rattle.bsc_table.specs.Book.{air_told};
+ghost use Rattle.bsc_table.specs.Book.{air_pairs};
 ghost use Rattle.bsc_table.specs.Promised.{IsServed, IsBounded};
 
 use crate::entry::{Aired, Entry};
@@ -23,12 +23,12 @@ impl Model for CellRecord {
 
     ghost Value = { Record };
 
-    ghost use Rattle.bsc_table.specs.Book.{record_kept};
+    ghost use Rattle.bsc_table.specs.Book.{record_of_run};
     ghost use Rattle.bsc_table.specs.Legal.{IsLegal};
 
-    ghost view = { record_kept };
+    ghost view = { record_of_run };
 
-    ghost invariant = { λ r. IsLegal (record_kept r) };
+    ghost invariant = { λ r. IsLegal (record_of_run r) };
 }
 
 impl CellRecord {
@@ -39,7 +39,7 @@ impl CellRecord {
           slots = slots;
           clock = slots;
           log = log.items;
-          air = air_told
+          air = air_pairs
               air.items;
         }) }
         ensures same { result ≡ record {
@@ -47,7 +47,7 @@ impl CellRecord {
           slots = slots;
           clock = slots;
           log = log.items;
-          air = air_told
+          air = air_pairs
               air.items;
         } }
         ensures served { IsServed result }
@@ -88,7 +88,7 @@ impl CellRecord {
 
     /// What each slot aired.
     pub fn air(&self) -> &[Option<Aired>]
-        ensures { air_told result.now ≡ self.now.air }
+        ensures { air_pairs result.now ≡ self.now.air }
     {
         self.air.as_slice()
     }

@@ -10,7 +10,7 @@ use Rattle.std.proofs.lemmas.List.{get_or_default, length-map, get_or-map}
 use Rattle.std.proofs.lemmas.List.Sums.{sum_by-cons}
 use Rattle.std.proofs.lemmas.List.Elements.{All-nil, All-cons}
 use Rattle.cbs_page.specs.declared.octets.PageView.{PageView}
-use Rattle.scheduler.specs.Message.{Message}
+use Rattle.scheduler.specs.Message.{ScheduledMessage}
 use Rattle.scheduler.specs.Air.{Air, IsChosen}
 use Rattle.scheduler.specs.Pages.{airs_page}
 use Rattle.handset.specs.Reading.{is_of}
@@ -60,7 +60,7 @@ same_pair log a b sound mine other id serial =
     pair_of x y i s = ap (λ b. b && eqb y.serial x.serial) (eq-eqb y.id x.id i) ∙ eq-eqb y.serial x.serial s
 
 same_number : (log : List Entry) (a b : Accepted) → AreSound log → Contains (accepted_in log) a
-    → Contains (accepted_in log) b → b.message.number ≡ a.message.number → a ≡ b
+    → Contains (accepted_in log) b → b.message.entry ≡ a.message.entry → a ≡ b
 same_number log a b sound mine other number =
     same_by BelowIt (accepted_in log) a b sound.rising mine other (λ below. omega (arith, below, number))
     (λ below. omega (arith, below, number))
@@ -69,7 +69,7 @@ same_number log a b sound mine other number =
 pub record IsAiredAs (log : List Entry) (used : ℕ × ℕ) : Type 0 where
   pub of : Accepted
   pub there : Contains (accepted_in log) of
-  pub number_is : of.message.number ≡ used.0
+  pub number_is : of.message.entry ≡ used.0
   pub page : PageView
   pub aired : page_aired log (Some used) ≡ Some page
   pub id_is : page.id ≡ of.id
@@ -86,7 +86,7 @@ no_page : PageView
 no_page = record { serial = 0; id = 0; dcs = record { 0 = 0 }; number = 0; total = 0; content = [] }
 
 aired_as : (log : List Entry) (used : ℕ × ℕ) (a : Accepted) → Contains (accepted_in log) a
-    → IsSentMessage a (sent_by log a) → a.message.number ≡ used.0 → 1 ≤ used.1 → used.1 ≤ a.message.pages
+    → IsSentMessage a (sent_by log a) → a.message.entry ≡ used.0 → 1 ≤ used.1 → used.1 ≤ a.message.pages
     → IsAiredAs log used
 aired_as log used a there sent number some few =
     let place : ℕ = used.1 - 1 in
@@ -113,18 +113,18 @@ aired_by_rule : (r : Record) (slot : ℕ) (used : Option (ℕ × ℕ)) → AreSo
     → IsChosen (messages_in r.log) r.air slot used → IsAired r.log used
 aired_by_rule r slot None sound chosen = tt
 aired_by_rule r slot (Some used) sound chosen =
-    let m : Message = chosen.1 in
+    let m : ScheduledMessage = chosen.1 in
     let all = accepted_in r.log in
-    let message : Accepted → Message = λ a. a.message in
+    let message : Accepted → ScheduledMessage = λ a. a.message in
     let default : Accepted = record { id = 0; serial = 0; accepted = 0; behind = None; excess = 0; message = m } in
     let long = length-map (accepted_in r.log) message in
     let within : chosen.0 < length (accepted_in r.log) = let h = chosen.2 in omega (arith, long, h) in
     let a : Accepted = get_or all chosen.0 default in
     let here : a.message ≡ m = sym (get_or-map message all chosen.0 default m within) ∙ chosen.3 in
-    let of_it : used.0 ≡ a.message.number = ap (λ (u : ℕ × ℕ). u.0) chosen.4.2
-    ∙ sym (ap (λ (o : Message). o.number) here) in
+    let of_it : used.0 ≡ a.message.entry = ap (λ (u : ℕ × ℕ). u.0) chosen.4.2
+    ∙ sym (ap (λ (o : ScheduledMessage). o.entry) here) in
     let counted = ap (λ (u : ℕ × ℕ). u.1) chosen.4.2 in
-    let pages = ap (λ (o : Message). o.pages) here in
+    let pages = ap (λ (o : ScheduledMessage). o.pages) here in
     let unfinished = chosen.4.1.pending.unfinished in
     aired_as r.log used a (chosen.0, within, get_or_default all chosen.0 a default within)
     (sound.sent chosen.0 default within) (sym of_it) (omega (arith, counted))
@@ -179,7 +179,7 @@ abbrev one_where : Bool → ℕ
 one_where b = cond b 1 0
 
 test_is : (log : List Entry) (a : Accepted) (number : ℕ) (used : ℕ × ℕ) (h : IsAiredAs log used) → AreSound log
-    → Contains (accepted_in log) a → is_numbered (name_accepted a) number h.page ≡ airs_page a.message.number number
+    → Contains (accepted_in log) a → is_numbered (name_accepted a) number h.page ≡ airs_page a.message.entry number
     (Some used)
 test_is log a number used h sound there =
     ap (λ n. is_of (name_accepted a) h.page && eqb n number) h.numbered ∙ ap (λ b. b && eqb used.1 number) same
@@ -190,26 +190,26 @@ test_is log a number used h sound there =
         let serial : h.page.serial ≡ a.serial = h.serial_is ∙ sym (ap (λ (x : Accepted). x.serial) is) in
         ap (λ b. b && eqb h.page.serial a.serial) (eq-eqb h.page.id a.id id) ∙ eq-eqb h.page.serial a.serial serial
 
-    same : is_of (name_accepted a) h.page ≡ eqb used.0 a.message.number
+    same : is_of (name_accepted a) h.page ≡ eqb used.0 a.message.entry
     same =
-        elim (cases_eq used.0 a.message.number) [
+        elim (cases_eq used.0 a.message.entry) [
           | inl is ↦ owned (same_number log a h.of sound there h.there (h.number_is ∙ is))
-              ∙ sym (eq-eqb used.0 a.message.number is)
+              ∙ sym (eq-eqb used.0 a.message.entry is)
           | inr apart ↦ elim (cases_Bool (is_of (name_accepted a) h.page)) [
-            | inr other ↦ other ∙ sym (ne_eqb used.0 a.message.number apart)
-            | inl own ↦ absurd (apart (sym h.number_is ∙ sym (ap (λ (x : Accepted). x.message.number)
+            | inr other ↦ other ∙ sym (ne_eqb used.0 a.message.entry apart)
+            | inl own ↦ absurd (apart (sym h.number_is ∙ sym (ap (λ (x : Accepted). x.message.entry)
                 (own_message log a used h sound there own))))
           ]
         ]
 
 pub counted : (log : List Entry) (a : Accepted) (number : ℕ) (uses : Air) → AreSound log → Contains (accepted_in log) a
     → AllByRecursion (IsAired log) uses → count_of (name_accepted a) (pages_aired_in log uses) number ≡ count_by
-    (airs_page a.message.number number) uses
+    (airs_page a.message.entry number) uses
 counted log a number [] sound there all = refl
 counted log a number (None ∷ uses) sound there all =
     let rest = counted log a number uses sound there all.1 in
-    let one = sum_by-cons (λ u. cond (airs_page a.message.number number u) 1 0) None uses in
-    rest ∙ (let e : count_by (airs_page a.message.number number) uses ≡ count_by (airs_page a.message.number number)
+    let one = sum_by-cons (λ u. cond (airs_page a.message.entry number u) 1 0) None uses in
+    rest ∙ (let e : count_by (airs_page a.message.entry number) uses ≡ count_by (airs_page a.message.entry number)
     (None ∷ uses) = omega (arith, one) in e)
 counted log a number (Some used ∷ uses) sound there all =
     let h : IsAiredAs log used = all.0 in
@@ -219,5 +219,5 @@ counted log a number (Some used ∷ uses) sound there all =
     ∙ sum_by-cons (λ p. cond (is_numbered (name_accepted a) number p) 1 0) h.page (pages_aired_in log uses)
     ∙ ap (λ b. one_where b + count_by (is_numbered (name_accepted a) number) (pages_aired_in log uses))
     (test_is log a number used h sound there)
-    ∙ ap (λ n. one_where (airs_page a.message.number number (Some used)) + n) rest
-    ∙ sym (sum_by-cons (λ u. cond (airs_page a.message.number number u) 1 0) (Some used) uses)
+    ∙ ap (λ n. one_where (airs_page a.message.entry number (Some used)) + n) rest
+    ∙ sym (sum_by-cons (λ u. cond (airs_page a.message.entry number u) 1 0) (Some used) uses)

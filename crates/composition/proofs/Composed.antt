@@ -11,7 +11,7 @@ use Rattle.std.proofs.lemmas.List.{length-map, get_or-map, get_or_default, take-
 use Rattle.std.proofs.lemmas.List.Elements.{All-take, recursion_from_All}
 use Rattle.std.proofs.lemmas.List.Folds.{flat_map-map}
 use Rattle.cbs_page.specs.declared.octets.PageView.{PageView}
-use Rattle.scheduler.specs.Message as scheduled
+use Rattle.scheduler.specs.Message.{ScheduledMessage}
 use Rattle.scheduler.specs.Air.{Air}
 use Rattle.scheduler.specs.Completed.{completed}
 use Rattle.handset.specs.Reading.{Name, is_of, pages_named, agreeing, total_in, is_complete, Message, message_of}
@@ -43,13 +43,13 @@ abbrev complete_by : List PageView → Bool
 complete_by ps = not (eqb (total_in ps) 0) && list_all (λ number. is_some (find (λ page. eqb page.number number) ps))
     (range_with_len 1 (total_in ps))
 
-abbrev message : Accepted → scheduled.Message
+abbrev message : Accepted → ScheduledMessage
 message a = a.message
 
-abbrev accepted_as : scheduled.Message → Accepted
+abbrev accepted_as : ScheduledMessage → Accepted
 accepted_as m = record { id = 0; serial = 0; accepted = 0; behind = None; excess = 0; message = m }
 
-pub messages_rise : (laws : Laws) (log : List Entry) → AllPairs (λ (a b : scheduled.Message). a.number < b.number)
+pub messages_rise : (laws : Laws) (log : List Entry) → AllPairs (λ (a b : ScheduledMessage). a.entry < b.entry)
     (messages_in log)
 messages_rise laws log = λ i j d before within.
     let all = accepted_in log in
@@ -57,8 +57,8 @@ messages_rise laws log = λ i j d before within.
     let one = get_or-map message (accepted_in log) i (accepted_as d) d (omega (arith, long, before, within)) in
     let two = get_or-map message (accepted_in log) j (accepted_as d) d (omega (arith, long, within)) in
     let rises = laws.accepted_rise log i j (accepted_as d) before (omega (arith, long, within)) in
-    subst (λ (x : scheduled.Message). x.number < (get_or (messages_in log) j d).number) (sym one)
-    (subst (λ (y : scheduled.Message). (get_or (accepted_in log) i (accepted_as d)).message.number < y.number)
+    subst (λ (x : ScheduledMessage). x.entry < (get_or (messages_in log) j d).entry) (sym one)
+    (subst (λ (y : ScheduledMessage). (get_or (accepted_in log) i (accepted_as d)).message.entry < y.entry)
     (sym two) rises)
 
 pub message_there : (log : List Entry) (a : Accepted) → Contains (accepted_in log) a

@@ -1,7 +1,7 @@
 -- What the crates below promise, as clauses of their public laws: all that the proofs here know of them.
 use Rattle.std.specs.Prelude.{◌≡◌, ◌<◌, false}
 use Rattle.scheduler.specs.AirLaws.{OneAirList, NumbersOnlyOrder, SomeChoice, GrowsByTheChoice, PagesComeInOrder}
-use Rattle.scheduler.specs.AirLaws.{LastPagesAreWholeBroadcasts, NoPageLessOften}
+use Rattle.scheduler.specs.AirLaws.{LastPagesAreCompletedBroadcasts, NoPageLessOften}
 use Rattle.handset.specs.Showing.{ShownAreTheComplete, OnePageShowsOne}
 use Rattle.handset.specs.OneMessage.{CompleteIsWhole, WholeIsTheLeastCount, TextIsTheMessages}
 use Rattle.handset.specs.Tape.{MadeAreTapes}
@@ -9,10 +9,10 @@ use Rattle.bsc_table.specs.Record.{Accepted, is_of_pair}
 use Rattle.bsc_table.specs.Refusals.{AcceptedEntriesAreAll}
 use Rattle.bsc_table.specs.Written.{AcceptedAreWrites, AcceptedRise, AcceptedHaveLoads}
 use Rattle.bsc_table.specs.Promised.{LegalPairsComeOnce, LegalHistoriesAreBounded}
-use Rattle.bsc_table.specs.Told.{LegalAnswersAreTrue}
+use Rattle.bsc_table.specs.Reported.{LegalAnswersAreTrue}
 
 pub record Laws : Type 0 where
-  pub last_page_counts : LastPagesAreWholeBroadcasts
+  pub last_page_counts : LastPagesAreCompletedBroadcasts
   pub no_page_less : NoPageLessOften
   pub in_order : PagesComeInOrder
   pub one_air : OneAirList
@@ -37,7 +37,7 @@ abbrev pub OfAnotherPair : Accepted → Accepted → Type 0
 OfAnotherPair a b = is_of_pair a.id a.serial b ≡ false
 
 abbrev pub BelowIt : Accepted → Accepted → Type 0
-BelowIt a b = a.message.number < b.message.number
+BelowIt a b = a.message.entry < b.message.entry
 
 abbrev pub HasLoad : Accepted → Type 0
 HasLoad a = (0 < a.message.pages) × (0 < a.message.period)

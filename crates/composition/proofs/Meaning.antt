@@ -21,14 +21,14 @@ use Rattle.bsc_table.specs.Legal.{IsLegal}
 use Rattle.composition.proofs.Laws.{Laws}
 use Rattle.composition.specs.Sent.{page_with, page_aired, octets_of_view, blocks_of_slot, blocks_of}
 use Rattle.composition.specs.Composition.{name_accepted, message_accepted, blocks_before, ShownGrowByOne}
-use Rattle.composition.specs.Meaning.{AcceptedAreMeant, NoneAfterTheStop, PagesReadAreThoseAired, ToldIsWholeInBlocks}
-use Rattle.composition.specs.Meaning.{RecordsAreTapes, TextsAreThoseOfContents}
+use Rattle.composition.specs.Meaning.{AcceptedAreMeant, NoneAfterTheStop, PagesReadAreThoseAired}
+use Rattle.composition.specs.Meaning.{ReportedIsWholeInBlocks, RecordsAreTapes, TextsAreThoseOfContents}
 use Rattle.composition.proofs.Blocks.{CanSend, pages_of_slots, octets_long}
 use Rattle.composition.proofs.Aired.{IsAired, all_aired, can_send_aired, pages_aired_in, same_pair}
 use Rattle.composition.proofs.Composed.{sound_of, pages_before, message_there, messages_rise}
 use Rattle.composition.proofs.Composed.{completed_is_whole_in_blocks, shown_are_the_broadcast}
 use Rattle.bsc_table.specs.Bounds.{least_completed, most_completed}
-use Rattle.scheduler.specs.Message as scheduled
+use Rattle.scheduler.specs.Message.{ScheduledMessage}
 
 pub pages_read_are_those_aired : Laws → PagesReadAreThoseAired
 pages_read_are_those_aired laws r legal =
@@ -37,10 +37,10 @@ pages_read_are_those_aired laws r legal =
     ∙ pages_of_slots (map (page_aired r.log) r.air) (can_send_aired r.log r.air
     (recursion_from_All (IsAired r.log) r.air (all_aired r sound legal)))
 
-pub told_is_whole_in_blocks : Laws → ToldIsWholeInBlocks
-told_is_whole_in_blocks laws r legal = λ k d within told is.
+pub reported_is_whole_in_blocks : Laws → ReportedIsWholeInBlocks
+reported_is_whole_in_blocks laws r legal = λ k d within reported is.
     let e : Entry = get_or r.log k d in
-    let true_of = laws.legal_answers_are_true r legal k d within told is in
+    let true_of = laws.legal_answers_are_true r legal k d within reported is in
     let a : Accepted = true_of.1 in
     let truly = true_of.4 in
     let count = completed_is_whole_in_blocks laws r legal true_of.0 true_of.1 true_of.2 (get_or r.log k d).slot
@@ -126,7 +126,7 @@ texts_are_those_of_contents id serial dcs total number (content ∷ rest) =
     ap (λ text. text_of_page (page_with id serial dcs total number content) ++ text)
     (texts_are_those_of_contents id serial dcs total (number + 1) rest)
 
-abbrev message : Accepted → scheduled.Message
+abbrev message : Accepted → ScheduledMessage
 message a = a.message
 
 pub accepted_are_meant : Laws → AcceptedAreMeant
@@ -156,7 +156,7 @@ accepted_are_meant laws r slot legal by = λ k d within.
         let long = length-map (accepted_in r.log) message in
         let same = get_or-map message (accepted_in r.log) k d d.message within in
         let both = laws.legal_histories_are_bounded r legal k d.message (omega (arith, long, within)) slot by in
-        subst (λ (m : scheduled.Message). (layer m ≡ 0 → least_completed m slot ≤ completed m r.air slot)
+        subst (λ (m : ScheduledMessage). (layer m ≡ 0 → least_completed m slot ≤ completed m r.air slot)
         × (completed m r.air slot ≤ most_completed m slot)) same both
 
     was_whole : (laws : Laws) (r : Record) (slot : ℕ) → IsLegal r → (a : Accepted) → Contains (accepted_in r.log) a

@@ -5,7 +5,7 @@ use Rattle.std.proofs.Common.{sym, ap, subst, ◌∙◌, arith}
 use Rattle.std.specs.List.{All, slice_get}
 use Rattle.std.proofs.lemmas.List.{length-map, get_or-map, length_push}
 use Rattle.std.proofs.lemmas.Simd.{map-map}
-use Rattle.scheduler.specs.Message as scheduled
+use Rattle.scheduler.specs.Message.{ScheduledMessage}
 use Rattle.scheduler.specs.Air.{Air, IsAirOf, IsChosen}
 use Rattle.scheduler.specs.Choice.{choice, air_of}
 use Rattle.scheduler.specs.Renumbered.{renumbered, use_renumbered}
@@ -18,7 +18,7 @@ use Rattle.composition.specs.Sent.{page_aired, pages_of_entry, blocks_of_slot, b
 use Rattle.composition.specs.Same.{SameAcceptedSameBlocks}
 use Rattle.composition.proofs.Composed.{messages_rise}
 
-abbrev message : Accepted → scheduled.Message
+abbrev message : Accepted → ScheduledMessage
 message a = a.message
 
 -- the places of the accepted entries
@@ -33,12 +33,12 @@ messages_of_both laws log =
     ∙ sym (map-map (renumbered (place_in laws log)) message (accepted_in (accepted_entries log)))
 
 -- the air list of the accepted entries alone
-length-air_of : (messages : List scheduled.Message) (n : ℕ) → length (air_of messages n) ≡ n
+length-air_of : (messages : List ScheduledMessage) (n : ℕ) → length (air_of messages n) ≡ n
 length-air_of messages zero = refl
 length-air_of messages (suc n) = length_push (air_of messages n) (choice messages (air_of messages n) n)
     ∙ (let before = length-air_of messages n in omega (arith, before))
 
-periods : (laws : Laws) (r : Record) → IsLegal r → All (λ (m : scheduled.Message). 0 < m.period)
+periods : (laws : Laws) (r : Record) → IsLegal r → All (λ (m : ScheduledMessage). 0 < m.period)
     (messages_in (accepted_entries r.log))
 periods laws r legal = λ k d within.
     let front = accepted_in (accepted_entries r.log) in
@@ -51,10 +51,10 @@ periods laws r legal = λ k d within.
     let loaded = all k (accepted_renumbered (place_in laws r.log) a) (omega (arith, many, long, within)) in
     let there = get_or-map (accepted_renumbered (place_in laws r.log)) (accepted_in (accepted_entries r.log)) k a
     (accepted_renumbered (place_in laws r.log) a) (omega (arith, long, within)) in
-    subst (λ (m : scheduled.Message). 0 < m.period) (sym read) (subst HasLoad there loaded).1
+    subst (λ (m : ScheduledMessage). 0 < m.period) (sym read) (subst HasLoad there loaded).1
 
-air_by_rule : (laws : Laws) (messages : List scheduled.Message) (n : ℕ)
-    → All (λ (m : scheduled.Message). 0 < m.period) messages → IsAirOf messages (air_of messages n)
+air_by_rule : (laws : Laws) (messages : List ScheduledMessage) (n : ℕ)
+    → All (λ (m : ScheduledMessage). 0 < m.period) messages → IsAirOf messages (air_of messages n)
 air_by_rule laws messages zero all = λ slot within. absurd (omega (arith, within))
 air_by_rule laws messages (suc n) all =
     let before = air_of messages n in

@@ -91,7 +91,7 @@ sent_by_command a (commands.Kill id serial) start write formed = absurd write
 sent_by_command a (commands.Status id serial) start write formed = absurd write
 
 abbrev pub sent_by : List Entry → Accepted → List PageView
-sent_by log a = pages_of_entry (slice_get log a.message.number)
+sent_by log a = pages_of_entry (slice_get log a.message.entry)
 
 no_entry : Entry
 no_entry = record { command = commands.Status 0 0; slot = 0; answer = answers.Unknown }
@@ -99,11 +99,11 @@ no_entry = record { command = commands.Status 0 0; slot = 0; answer = answers.Un
 pub all_sent : (laws : Laws) (r : Record) → IsLegal r → All (λ a. IsSentMessage a (sent_by r.log a)) (accepted_in r.log)
 all_sent laws r legal = λ k d within.
     let a : Accepted = get_or (accepted_in r.log) k d in
-    let n : ℕ = a.message.number in
+    let n : ℕ = a.message.entry in
     let write = laws.accepted_are_writes r.log no_entry k d within in
-    let e : Entry = get_or r.log (get_or (accepted_in r.log) k d).message.number no_entry in
-    let found = slice_get-get_or r.log (get_or (accepted_in r.log) k d).message.number no_entry write.0 in
-    let formed : IsWellFormed e.command = legal.formed (get_or (accepted_in r.log) k d).message.number no_entry write.0
+    let e : Entry = get_or r.log (get_or (accepted_in r.log) k d).message.entry no_entry in
+    let found = slice_get-get_or r.log (get_or (accepted_in r.log) k d).message.entry no_entry write.0 in
+    let formed : IsWellFormed e.command = legal.formed (get_or (accepted_in r.log) k d).message.entry no_entry write.0
     in
     subst (λ o. IsSentMessage (get_or (accepted_in r.log) k d) (pages_of_entry o)) (sym found)
     (sent_by_command (get_or (accepted_in r.log) k d) e.command (start_of e.answer) write.1 formed)

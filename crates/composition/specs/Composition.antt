@@ -23,7 +23,7 @@ abbrev pub message_accepted : List Entry → Accepted → Message
 message_accepted log a = record {
   id = a.id;
   serial = a.serial;
-  text = encode_utf8_all (flat_map text_of_page (pages_of_entry (slice_get log a.message.number)));
+  text = encode_utf8_all (flat_map text_of_page (pages_of_entry (slice_get log a.message.entry)));
 }
 
 -- the blocks of the slots before this one, four for each

@@ -12,7 +12,7 @@ use Rattle.handset.specs.Counting.{whole_in}
 use Rattle.handset.specs.Tape.{IsTape, tape_octets, most_slots}
 use Rattle.bsc_table.specs.Record.{Record, Accepted, accepted_in}
 use Rattle.bsc_table.specs.Bounds.{least_completed, most_completed}
-use Rattle.bsc_table.specs.Told.{completed_told, IsAbout}
+use Rattle.bsc_table.specs.Reported.{completed_in, IsAbout}
 use Rattle.bsc_table.specs.Legal.{IsLegal}
 use Rattle.composition.specs.Sent.{page_aired, pages_from, blocks_of}
 use Rattle.composition.specs.Composition.{name_accepted, message_accepted, blocks_before}
@@ -29,13 +29,13 @@ TextsAreThoseOfContents = (id serial dcs total number : ℕ) (contents : List Co
     → flat_map text_of_page (pages_from id serial dcs total number contents)
     ≡ flat_map (λ c. text_in (alphabet_of dcs) c.octets) contents
 
--- each number that a cell tells is the number of whole broadcasts, of the message that was asked about, in the blocks
--- before the slot at which it was told
-abbrev pub ToldIsWholeInBlocks : Type 0
-ToldIsWholeInBlocks = (r : Record)
+-- each number that a cell reports is the number of whole broadcasts, of the message that was asked about, in the blocks
+-- before the slot at which it was reported
+abbrev pub ReportedIsWholeInBlocks : Type 0
+ReportedIsWholeInBlocks = (r : Record)
     → IsLegal r
-    → All (λ e. (told : ℕ) → completed_told e.answer ≡ Some told
-    → Any (λ a. IsAbout a.id a.serial e.command × (told ≡ whole_in (name_accepted a) (blocks_before e.slot r)))
+    → All (λ e. (reported : ℕ) → completed_in e.answer ≡ Some reported
+    → Any (λ a. IsAbout a.id a.serial e.command × (reported ≡ whole_in (name_accepted a) (blocks_before e.slot r)))
     (accepted_in r.log)) r.log
 
 -- what an accepted message means: of its broadcasts as many are whole in the blocks before a slot as its bounds say,
@@ -56,7 +56,7 @@ abbrev pub NoneAfterTheStop : Type 0
 NoneAfterTheStop = (r : Record) (slot : ℕ)
     → IsLegal r
     → slot < r.clock
-    → All (λ a. airs a.message.number (slice_index_or r.air slot None) ≡ true → IsBeforeStop slot a.message.stop)
+    → All (λ a. airs a.message.entry (slice_index_or r.air slot None) ≡ true → IsBeforeStop slot a.message.stop)
     (accepted_in r.log)
 
 -- the octets of a record whose run is over are a tape, and its reading is what the blocks show

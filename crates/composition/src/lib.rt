@@ -1,5 +1,5 @@
 //! What the blocks of a cell's record show: a handset that reads them shows each accepted message exactly from its
-//! first whole broadcast on, with its texts, and the numbers that the cell tells are the counts of whole broadcasts
+//! first whole broadcast on, with its texts, and the numbers that the cell reports are the counts of whole broadcasts
 //! in the blocks.
 //!
 //! Nothing here runs: the crate is one law over the definitions of the crates below it, proved from their public laws
@@ -7,9 +7,8 @@
 #![tactic(auto)]
 
 ghost use Rattle.composition.specs.Composition.{CompletedIsWholeInBlocks, ShownAreTheBroadcast, ShownGrowByOne};
-ghost use Rattle.composition.specs.Meaning.{PagesReadAreThoseAired, ToldIsWholeInBlocks, AcceptedAreMeant};
-ghost use Rattle.composition.specs.Meaning.{NoneAfterTheStop};
-ghost use Rattle.composition.specs.Meaning.{RecordsAreTapes, TextsAreThoseOfContents};
+ghost use Rattle.composition.specs.Meaning.{PagesReadAreThoseAired, ReportedIsWholeInBlocks, AcceptedAreMeant};
+ghost use Rattle.composition.specs.Meaning.{NoneAfterTheStop, RecordsAreTapes, TextsAreThoseOfContents};
 ghost use Rattle.composition.specs.Same.{SameAcceptedSameBlocks};
 
 /// States, as its contract, what the blocks of a cell's legal history show. That the history is legal is the only
@@ -29,8 +28,9 @@ pub fn composition_laws()
     ensures shown_are_the_broadcast { ShownAreTheBroadcast }
     ensures shown_grow_by_one { ShownGrowByOne }
 
-    // Each number that a cell tells of a message is the number of its whole broadcasts in the blocks before that slot.
-    ensures told_is_whole_in_blocks { ToldIsWholeInBlocks }
+    // Each number that a cell reports of a message is the number of its whole broadcasts in the blocks before that
+    // slot.
+    ensures reported_is_whole_in_blocks { ReportedIsWholeInBlocks }
 
     // So orders mean what they say, in words of their own: of each accepted message as many broadcasts are whole in
     // the blocks as its start, its period and its stop say, up to the one that is not over, and it is shown exactly

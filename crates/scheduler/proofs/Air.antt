@@ -5,7 +5,7 @@ use Rattle.std.proofs.lemmas.List.{drop-append-le, take-append-le, take_all, len
 use Rattle.std.proofs.lemmas.List.Sums.{sum_by_push, count_by-le-length}
 use Rattle.std.proofs.lemmas.Bool.{cases_lt}
 use Rattle.std.proofs.Math.Nat.{lt_of_mul-lt-mul_right}
-use Rattle.scheduler.specs.Message.{Message, release, due}
+use Rattle.scheduler.specs.Message.{ScheduledMessage, release, due}
 use Rattle.scheduler.specs.Air.{Air, airs, pages_aired}
 use Rattle.scheduler.specs.Message.{broadcast_at}
 
@@ -54,15 +54,16 @@ pages_aired-push n air used from h =
     (sym before)))
 
 -- the broadcast in whose time a slot lies was released by then, and is not due
-pub broadcast_at-released : (m : Message) (slot : ℕ) → 0 < m.period → m.start ≤ slot
+pub broadcast_at-released : (m : ScheduledMessage) (slot : ℕ) → 0 < m.period → m.start ≤ slot
     → release m (broadcast_at m slot) ≤ slot
 broadcast_at-released m slot h started = omega arith
 
-pub broadcast_at-not_due : (m : Message) (slot : ℕ) → 0 < m.period → m.start ≤ slot → slot < due m (broadcast_at m slot)
+pub broadcast_at-not_due : (m : ScheduledMessage) (slot : ℕ) → 0 < m.period → m.start ≤ slot
+    → slot < due m (broadcast_at m slot)
 broadcast_at-not_due m slot h started = omega arith
 
 -- and no other is
-pub broadcast_at-only : (m : Message) (slot j : ℕ) → 0 < m.period → m.start ≤ slot → release m j ≤ slot
+pub broadcast_at-only : (m : ScheduledMessage) (slot j : ℕ) → 0 < m.period → m.start ≤ slot → release m j ≤ slot
     → slot < due m j → j ≡ broadcast_at m slot
 broadcast_at-only m slot j h started released not_due =
     let mine = broadcast_at-released m slot h started in
@@ -74,7 +75,7 @@ broadcast_at-only m slot j h started released not_due =
     omega arith
 
 -- a broadcast other than that is due by the slot, or released after it
-pub other_broadcast : (m : Message) (slot j : ℕ) → 0 < m.period → m.start ≤ slot → j ≢ broadcast_at m slot
+pub other_broadcast : (m : ScheduledMessage) (slot j : ℕ) → 0 < m.period → m.start ≤ slot → j ≢ broadcast_at m slot
     → (due m j ≤ slot) ⊎ (slot < release m j)
 other_broadcast m slot j h started other =
     elim (cases_lt slot (release m j)) [
@@ -86,11 +87,13 @@ other_broadcast m slot j h started other =
     ]
 
 -- where a whole number of periods is over at the next slot, the next broadcast is released there; else the same goes on
-pub next_release : (m : Message) (slot : ℕ) → 0 < m.period → m.start ≤ slot → (slot + 1 - m.start) % m.period ≡ 0
+pub next_release : (m : ScheduledMessage) (slot : ℕ) → 0 < m.period → m.start ≤ slot
+    → (slot + 1 - m.start) % m.period ≡ 0
     → release m (broadcast_at m (slot + 1)) ≡ slot + 1
 next_release m slot h started over = omega arith
 
-pub same_broadcast : (m : Message) (slot : ℕ) → 0 < m.period → m.start ≤ slot → (slot + 1 - m.start) % m.period ≢ 0
+pub same_broadcast : (m : ScheduledMessage) (slot : ℕ) → 0 < m.period → m.start ≤ slot
+    → (slot + 1 - m.start) % m.period ≢ 0
     → broadcast_at m (slot + 1) ≡ broadcast_at m slot
 same_broadcast m slot h started goes_on =
     let released : release m (broadcast_at m (slot + 1)) ≤ slot = omega arith in

@@ -7,7 +7,7 @@ use Rattle.std.proofs.lemmas.List.{length_push}
 use Rattle.std.proofs.lemmas.List.Elements.{All-nil, All-cons, Contains-append_right}
 use Rattle.std.proofs.lemmas.Bool.{and_parts, and_from, or_cases, leb-true, le-leb, lt-ltb, ltb-true, eqb-true, eq-eqb}
 use Rattle.std.proofs.lemmas.Bool.{false≢true}
-use Rattle.scheduler.specs.Message.{Message}
+use Rattle.scheduler.specs.Message.{ScheduledMessage}
 use Rattle.scheduler.specs.Air.{Air, IsPending, IsChosen, IsAirOf, IsNoLater, IsServedBy, class}
 use Rattle.scheduler.specs.Choice.{is_pending, is_no_later, is_served_by, first_of, first_pending, used_by, choice}
 use Rattle.scheduler.specs.Choice.{air_of}
@@ -18,7 +18,7 @@ use Rattle.scheduler.proofs.Rule.{IsAirOf-next, IsServedBy-total}
 use Rattle.scheduler.proofs.Ready.{IsServedBy-same, IsServedBy-trans}
 
 -- the tests say what the facts say
-IsPending-from_test : (m : Message) (air : Air) (slot : ℕ) → 0 < m.period → is_pending air slot m ≡ true
+IsPending-from_test : (m : ScheduledMessage) (air : Air) (slot : ℕ) → 0 < m.period → is_pending air slot m ≡ true
     → IsPending m (broadcast_at m slot) air slot
 IsPending-from_test m air slot period h =
     let first = and_parts _ _ h in
@@ -33,12 +33,12 @@ IsPending-from_test m air slot period h =
       unfinished = ltb-true _ _ third.1;
     }
 
-pending_now : (m : Message) (j : ℕ) (air : Air) (slot : ℕ) → 0 < m.period → IsPending m j air slot
+pending_now : (m : ScheduledMessage) (j : ℕ) (air : Air) (slot : ℕ) → 0 < m.period → IsPending m j air slot
     → j ≡ broadcast_at m slot
 pending_now m j air slot period p =
     broadcast_at-only m slot j period (omega (arith, p.released)) p.released p.not_due
 
-test_from_IsPending : (m : Message) (j : ℕ) (air : Air) (slot : ℕ) → 0 < m.period → IsPending m j air slot
+test_from_IsPending : (m : ScheduledMessage) (j : ℕ) (air : Air) (slot : ℕ) → 0 < m.period → IsPending m j air slot
     → is_pending air slot m ≡ true
 test_from_IsPending m j air slot period p =
     let Now : ℕ → Type 0 = λ i. IsPending m i air slot in
@@ -48,7 +48,7 @@ test_from_IsPending m j air slot period p =
     (lt-ltb _ _ q.unfinished)))
 
 -- of two, the one or the other is served no later, as the test says
-IsNoLater-from_test : (slot : ℕ) (a b : Message) → is_no_later slot a b ≡ true
+IsNoLater-from_test : (slot : ℕ) (a b : ScheduledMessage) → is_no_later slot a b ≡ true
     → IsNoLater a (broadcast_at a slot) b (broadcast_at b slot)
 IsNoLater-from_test slot a b h =
     elim (or_cases _ _ h) [
@@ -58,8 +58,8 @@ IsNoLater-from_test slot a b h =
           inr (eqb-true _ _ parts.0, in_class parts.1)
     ]
   where
-    in_class : (ltb (class a) (class b) || (eqb (class a) (class b) && leb a.number b.number)) ≡ true
-        → (class a < class b) ⊎ ((class a ≡ class b) × (a.number ≤ b.number))
+    in_class : (ltb (class a) (class b) || (eqb (class a) (class b) && leb a.entry b.entry)) ≡ true
+        → (class a < class b) ⊎ ((class a ≡ class b) × (a.entry ≤ b.entry))
     in_class h = elim (or_cases _ _ h) [
       | inl above ↦ inl (ltb-true _ _ above)
       | inr same ↦ let parts = and_parts _ _ same in inr (eqb-true _ _ parts.0, leb-true _ _ parts.1)
@@ -72,7 +72,7 @@ or_right : (x y : Bool) → y ≡ true → (x || y) ≡ true
 or_right true y h = refl
 or_right false y h = h
 
-test_from_IsNoLater : (slot : ℕ) (a b : Message) → IsNoLater a (broadcast_at a slot) b (broadcast_at b slot)
+test_from_IsNoLater : (slot : ℕ) (a b : ScheduledMessage) → IsNoLater a (broadcast_at a slot) b (broadcast_at b slot)
     → is_no_later slot a b ≡ true
 test_from_IsNoLater slot a b h =
     elim h [
@@ -80,14 +80,14 @@ test_from_IsNoLater slot a b h =
       | inr tied ↦ or_right _ _ (and_from _ _ (eq-eqb _ _ tied.0) (in_class tied.1))
     ]
   where
-    in_class : ((class a < class b) ⊎ ((class a ≡ class b) × (a.number ≤ b.number)))
-        → (ltb (class a) (class b) || (eqb (class a) (class b) && leb a.number b.number)) ≡ true
+    in_class : ((class a < class b) ⊎ ((class a ≡ class b) × (a.entry ≤ b.entry)))
+        → (ltb (class a) (class b) || (eqb (class a) (class b) && leb a.entry b.entry)) ≡ true
     in_class x = elim x [
       | inl above ↦ or_left _ _ (lt-ltb _ _ above)
       | inr same ↦ or_right _ _ (and_from _ _ (eq-eqb _ _ same.0) (le-leb _ _ same.1))
     ]
 
-IsServedBy-from_test : (slot : ℕ) (a b : Message)
+IsServedBy-from_test : (slot : ℕ) (a b : ScheduledMessage)
     → is_served_by slot a b ≡ true
     → IsServedBy a (broadcast_at a slot) b (broadcast_at b slot)
 IsServedBy-from_test slot a b h =
@@ -98,7 +98,7 @@ IsServedBy-from_test slot a b h =
           inr (eqb-true _ _ parts.0, IsNoLater-from_test slot a b parts.1)
     ]
 
-test_from_IsServedBy : (slot : ℕ) (a b : Message)
+test_from_IsServedBy : (slot : ℕ) (a b : ScheduledMessage)
     → IsServedBy a (broadcast_at a slot) b (broadcast_at b slot)
     → is_served_by slot a b ≡ true
 test_from_IsServedBy slot a b h =
@@ -107,7 +107,7 @@ test_from_IsServedBy slot a b h =
       | inr same ↦ or_right _ _ (and_from _ _ (eq-eqb _ _ same.0) (test_from_IsNoLater slot a b same.1))
     ]
 
-IsServedBy-from_failed_test : (slot : ℕ) (a b : Message)
+IsServedBy-from_failed_test : (slot : ℕ) (a b : ScheduledMessage)
     → is_served_by slot a b ≡ false
     → IsServedBy b (broadcast_at b slot) a (broadcast_at a slot)
 IsServedBy-from_failed_test slot a b h =
@@ -117,14 +117,15 @@ IsServedBy-from_failed_test slot a b h =
     ]
 
 -- what is the first of some messages
-abbrev IsFirstIn : List Message → Air → ℕ → Option Message → Type 0
+abbrev IsFirstIn : List ScheduledMessage → Air → ℕ → Option ScheduledMessage → Type 0
 IsFirstIn messages air slot None = All (λ m. is_pending air slot m ≡ false) messages
 IsFirstIn messages air slot (Some first) =
     Contains messages first × (is_pending air slot first ≡ true)
     × All (λ m. is_pending air slot m ≡ true → IsServedBy first (broadcast_at first slot) m (broadcast_at m slot))
     messages
 
-IsFirstIn-cons : (messages : List Message) (air : Air) (slot : ℕ) (m : Message) (says : Bool) (rest : Option Message)
+IsFirstIn-cons : (messages : List ScheduledMessage) (air : Air) (slot : ℕ) (m : ScheduledMessage) (says : Bool)
+    (rest : Option ScheduledMessage)
     → is_pending air slot m ≡ says → IsFirstIn messages air slot rest
     → IsFirstIn (m ∷ messages) air slot (first_of slot says m rest)
 IsFirstIn-cons messages air slot m false None is h = All-cons (λ o. is_pending air slot o ≡ false) m messages is h
@@ -159,20 +160,20 @@ IsFirstIn-cons messages air slot m true (Some first) is h = picked (is_served_by
           m messages (λ e. IsServedBy-from_failed_test slot m first test) h.2,
     )
 
-first_pending-first : (messages : List Message) (air : Air) (slot : ℕ)
+first_pending-first : (messages : List ScheduledMessage) (air : Air) (slot : ℕ)
     → IsFirstIn messages air slot (first_pending messages air slot)
 first_pending-first [] air slot = All-nil (λ m. is_pending air slot m ≡ false)
 first_pending-first (m ∷ messages) air slot =
     IsFirstIn-cons messages air slot m (is_pending air slot m) (first_pending messages air slot) refl
     (first_pending-first messages air slot)
 
-IsChosen-from_first : (messages : List Message) (air : Air) (slot : ℕ) (first : Option Message)
+IsChosen-from_first : (messages : List ScheduledMessage) (air : Air) (slot : ℕ) (first : Option ScheduledMessage)
     → All (λ m. 0 < m.period) messages → IsFirstIn messages air slot first
     → IsChosen messages air slot (used_by air slot first)
 IsChosen-from_first messages air slot None periods h = λ k d within. λ j p. false≢true
     (sym (h k d within) ∙ test_from_IsPending (get_or messages k d) j air slot (periods k d within) p)
 IsChosen-from_first messages air slot (Some first) periods h =
-    let Period : Message → Type 0 = λ m. 0 < m.period in
+    let Period : ScheduledMessage → Type 0 = λ m. 0 < m.period in
     let period = subst Period h.0.2 (periods h.0.0 first h.0.1) in (
       h.0.0,
       first,
@@ -188,7 +189,7 @@ IsChosen-from_first messages air slot (Some first) periods h =
       ),
     )
   where
-    served : (m : Message)
+    served : (m : ScheduledMessage)
         → (is_pending air slot m ≡ true → IsServedBy first (broadcast_at first slot) m (broadcast_at m slot))
         → 0 < m.period
         → (j : ℕ)
@@ -199,20 +200,20 @@ IsChosen-from_first messages air slot (Some first) periods h =
         subst Later (sym (pending_now m j air slot some p)) (known (test_from_IsPending m j air slot some p))
 
 -- each slot has a choice
-pub IsChosen-choice : (messages : List Message) (air : Air) (slot : ℕ) → All (λ m. 0 < m.period) messages
+pub IsChosen-choice : (messages : List ScheduledMessage) (air : Air) (slot : ℕ) → All (λ m. 0 < m.period) messages
     → IsChosen messages air slot (choice messages air slot)
 IsChosen-choice messages air slot periods =
     IsChosen-from_first messages air slot (first_pending messages air slot) periods
     (first_pending-first messages air slot)
 
 -- and messages have an air list
-length-air_of : (messages : List Message) (n : ℕ) → length (air_of messages n) ≡ n
+length-air_of : (messages : List ScheduledMessage) (n : ℕ) → length (air_of messages n) ≡ n
 length-air_of messages zero = refl
 length-air_of messages (suc n) =
     let before = length-air_of messages n in
     omega (arith, length_push (air_of messages n) (choice messages (air_of messages n) n), before)
 
-pub IsAirOf-air_of : (messages : List Message) (n : ℕ) → All (λ m. 0 < m.period) messages
+pub IsAirOf-air_of : (messages : List ScheduledMessage) (n : ℕ) → All (λ m. 0 < m.period) messages
     → IsAirOf messages (air_of messages n)
 IsAirOf-air_of messages zero periods = λ slot within. absurd (omega arith)
 IsAirOf-air_of messages (suc n) periods =

@@ -1,21 +1,21 @@
 -- Lemmas on the tests of a message's broadcasts.
 use Rattle.std.proofs.Common.{◌≡◌, ℕ, Bool, true, false, ◌||◌, ltb, eqb, Option, Some, None, inl, inr, refl, ap}
 use Rattle.std.proofs.lemmas.Bool.{or_cases, lt-ltb, ltb-true, eq-eqb, eqb-true}
-use Rattle.scheduler.specs.Message.{Message, HasBroadcast, IsBeforeStop, has_broadcast, is_before_stop}
+use Rattle.scheduler.specs.Message.{ScheduledMessage, HasBroadcast, IsBeforeStop, has_broadcast, is_before_stop}
 
 -- the tests say what the facts say
-pub has_broadcast-says : (m : Message) (j : ℕ) → has_broadcast m j ≡ true → HasBroadcast m j
+pub has_broadcast-says : (m : ScheduledMessage) (j : ℕ) → has_broadcast m j ≡ true → HasBroadcast m j
 has_broadcast-says m j h =
-    elim (or_cases (eqb m.requested 0) (ltb j m.requested) h) [
-      | inl always ↦ inl (eqb-true m.requested 0 always)
-      | inr below ↦ inr (ltb-true j m.requested below)
+    elim (or_cases (eqb m.broadcasts 0) (ltb j m.broadcasts) h) [
+      | inl always ↦ inl (eqb-true m.broadcasts 0 always)
+      | inr below ↦ inr (ltb-true j m.broadcasts below)
     ]
 
-pub has_broadcast-from : (m : Message) (j : ℕ) → HasBroadcast m j → has_broadcast m j ≡ true
+pub has_broadcast-from : (m : ScheduledMessage) (j : ℕ) → HasBroadcast m j → has_broadcast m j ≡ true
 has_broadcast-from m j h =
     elim h [
-      | inl always ↦ ap (λ (b : Bool). b || ltb j m.requested) (eq-eqb m.requested 0 always)
-      | inr below ↦ or_right (eqb m.requested 0) (ltb j m.requested) (lt-ltb j m.requested below)
+      | inl always ↦ ap (λ (b : Bool). b || ltb j m.broadcasts) (eq-eqb m.broadcasts 0 always)
+      | inr below ↦ or_right (eqb m.broadcasts 0) (ltb j m.broadcasts) (lt-ltb j m.broadcasts below)
     ]
   where
     or_right : (x y : Bool) → y ≡ true → (x || y) ≡ true

@@ -7,25 +7,27 @@ use Rattle.std.proofs.lemmas.List.{get_or_default, take_more}
 use Rattle.std.proofs.lemmas.List.Elements.{All-push, All-take, All-contains, Contains-push, Contains-append_left}
 use Rattle.std.proofs.lemmas.Bool.{false≢true}
 use Rattle.std.proofs.lemmas.Option.{none-some}
-use Rattle.scheduler.specs.declared.tracked.Tracked.{Tracked}
-use Rattle.scheduler.specs.Message.{Message}
+use Rattle.scheduler.specs.declared.scheduled.Scheduled.{Scheduled}
+use Rattle.scheduler.specs.Message.{ScheduledMessage}
 use Rattle.scheduler.specs.Air.{IsNoLater, IsServedBy, class}
 use Rattle.scheduler.specs.Follows.{message_of}
-use Rattle.scheduler.specs.Kept.{IsFit, HasStarted, IsServedFirst, IsFirstOf, IsEarlier, is_ready}
+use Rattle.scheduler.specs.PlanSteps.{IsFit, HasStarted, IsServedFirst, IsFirstOf, IsEarlier, is_ready}
 use Rattle.scheduler.proofs.Counts.{is_ready-started}
 use Rattle.scheduler.proofs.Lists.{rising-same}
 
 -- the message of a number is at one place, so what is found first is the only one
-pub found_completed : (tracked : List Tracked) (i n : ℕ) (d : Tracked)
-    → AllPairs (λ a b. a.item.entry < b.item.entry) tracked → i < length tracked → (get_or tracked i d).item.entry ≡ n
-    → All (λ t. t.item.entry ≡ n → (get_or tracked i d).completed ≡ t.completed) tracked
-found_completed tracked i n d rising h named = λ k other within. λ e.
-    let same = rising-same (λ (t : Tracked). t.item.entry) tracked rising i k d h within
-    (named ∙ (sym e ∙ ap (λ (t : Tracked). t.item.entry) (get_or_default tracked k other d within))) in
-    ap (λ (t : Tracked). t.completed) (ap (λ j. get_or tracked j d) same ∙ get_or_default tracked k d other within)
+pub found_completed : (scheduled : List Scheduled) (i n : ℕ) (d : Scheduled)
+    → AllPairs (λ a b. a.item.entry < b.item.entry) scheduled → i < length scheduled
+    → (get_or scheduled i d).item.entry ≡ n
+    → All (λ t. t.item.entry ≡ n → (get_or scheduled i d).completed ≡ t.completed) scheduled
+found_completed scheduled i n d rising h named = λ k other within. λ e.
+    let same = rising-same (λ (t : Scheduled). t.item.entry) scheduled rising i k d h within
+    (named ∙ (sym e ∙ ap (λ (t : Scheduled). t.item.entry) (get_or_default scheduled k other d within))) in
+    ap (λ (t : Scheduled). t.completed) (ap (λ j. get_or scheduled j d) same
+    ∙ get_or_default scheduled k d other within)
 
 -- to be served no later is transitive
-pub IsNoLater-trans : (a b c : Message) (i j k : ℕ) → IsNoLater a i b j → IsNoLater b j c k → IsNoLater a i c k
+pub IsNoLater-trans : (a b c : ScheduledMessage) (i j k : ℕ) → IsNoLater a i b j → IsNoLater b j c k → IsNoLater a i c k
 IsNoLater-trans a b c i j k h g =
     elim h [
       | inl sooner ↦ elim g [ inl again ↦ inl (omega arith) | inr tied ↦ inl (omega arith) ]
@@ -35,20 +37,21 @@ IsNoLater-trans a b c i j k h g =
       ]
     ]
   where
-    in_class : ((class a < class b) ⊎ ((class a ≡ class b) × (a.number ≤ b.number)))
-        → ((class b < class c) ⊎ ((class b ≡ class c) × (b.number ≤ c.number)))
-        → (class a < class c) ⊎ ((class a ≡ class c) × (a.number ≤ c.number))
+    in_class : ((class a < class b) ⊎ ((class a ≡ class b) × (a.entry ≤ b.entry)))
+        → ((class b < class c) ⊎ ((class b ≡ class c) × (b.entry ≤ c.entry)))
+        → (class a < class c) ⊎ ((class a ≡ class c) × (a.entry ≤ c.entry))
     in_class x y = elim x [
       | inl above ↦ elim y [ inl more ↦ inl (omega arith) | inr tied ↦ inl (omega arith) ]
       | inr tied ↦ elim y [ inl more ↦ inl (omega arith) | inr again ↦ inr (omega arith, omega arith) ]
     ]
 
 -- and holds of a broadcast and itself
-pub IsNoLater-same : (a : Message) (i : ℕ) → IsNoLater a i a i
+pub IsNoLater-same : (a : ScheduledMessage) (i : ℕ) → IsNoLater a i a i
 IsNoLater-same a i = inr (refl, inr (refl, omega arith))
 
 -- the same across layers
-pub IsServedBy-trans : (a b c : Message) (i j k : ℕ) → IsServedBy a i b j → IsServedBy b j c k → IsServedBy a i c k
+pub IsServedBy-trans : (a b c : ScheduledMessage) (i j k : ℕ) → IsServedBy a i b j → IsServedBy b j c k
+    → IsServedBy a i c k
 IsServedBy-trans a b c i j k h g =
     elim h [
       | inl above ↦ elim g [ inl more ↦ inl (omega arith) | inr same ↦ inl (omega (arith, same.0)) ]
@@ -58,11 +61,11 @@ IsServedBy-trans a b c i j k h g =
       ]
     ]
 
-pub IsServedBy-same : (a : Message) (i : ℕ) → IsServedBy a i a i
+pub IsServedBy-same : (a : ScheduledMessage) (i : ℕ) → IsServedBy a i a i
 IsServedBy-same a i = inr (refl, IsNoLater-same a i)
 
 -- one more that is not ready changes nothing
-pub IsFirstOf-push_not : (seen : List Tracked) (slot : ℕ) (first : Option Tracked) (x : Tracked)
+pub IsFirstOf-push_not : (seen : List Scheduled) (slot : ℕ) (first : Option Scheduled) (x : Scheduled)
     → is_ready x slot ≡ false → IsFirstOf seen slot first → IsFirstOf (seen ++ x ∷ []) slot first
 IsFirstOf-push_not seen slot None x not h = All-push (λ t. is_ready t slot ≡ false) seen x h not
 IsFirstOf-push_not seen slot (Some t) x not h = (
@@ -75,11 +78,11 @@ IsFirstOf-push_not seen slot (Some t) x not h = (
 )
 
 -- of one more that is ready and the first so far, the one that is served no later is first
-pub IsFirstOf-push_ready : (seen : List Tracked) (slot : ℕ) (first : Option Tracked) (x t : Tracked)
+pub IsFirstOf-push_ready : (seen : List Scheduled) (slot : ℕ) (first : Option Scheduled) (x t : Scheduled)
     → is_ready x slot ≡ true → IsEarlier slot first x t → IsFirstOf seen slot first
     → IsFirstOf (seen ++ x ∷ []) slot (Some t)
 IsFirstOf-push_ready seen slot None x t ready e h =
-    let P : Tracked → Type 0 = λ y. IsFirstOf (seen ++ x ∷ []) slot (Some y) in
+    let P : Scheduled → Type 0 = λ y. IsFirstOf (seen ++ x ∷ []) slot (Some y) in
     subst P (sym e) (
       Contains-push seen x,
       record {
@@ -91,7 +94,7 @@ IsFirstOf-push_ready seen slot None x t ready e h =
 IsFirstOf-push_ready seen slot (Some a) x t ready e h =
     elim e [
       | inl stays ↦
-          let P : Tracked → Type 0 = λ y. IsFirstOf (seen ++ x ∷ []) slot (Some y) in
+          let P : Scheduled → Type 0 = λ y. IsFirstOf (seen ++ x ∷ []) slot (Some y) in
           subst P (sym stays.0) (
             Contains-append_left seen (x ∷ []) a h.0,
             record {
@@ -101,7 +104,7 @@ IsFirstOf-push_ready seen slot (Some a) x t ready e h =
             },
           )
       | inr goes ↦
-          let P : Tracked → Type 0 = λ y. IsFirstOf (seen ++ x ∷ []) slot (Some y) in
+          let P : Scheduled → Type 0 = λ y. IsFirstOf (seen ++ x ∷ []) slot (Some y) in
           subst P (sym goes.0) (
             Contains-push seen x,
             record {
@@ -114,31 +117,33 @@ IsFirstOf-push_ready seen slot (Some a) x t ready e h =
     ]
 
 -- the same for the next element of a list that is gone through
-pub IsFirstOf-more_not : (tracked : List Tracked) (slot i : ℕ) (first : Option Tracked) (d : Tracked)
-    → i < length tracked → is_ready (get_or tracked i d) slot ≡ false → IsFirstOf (take i tracked) slot first
-    → IsFirstOf (take (i + 1) tracked) slot first
-IsFirstOf-more_not tracked slot i first d h not seen =
-    rw (take_more tracked i d h) (IsFirstOf-push_not (take i tracked) slot first (get_or tracked i d) not seen)
+pub IsFirstOf-more_not : (scheduled : List Scheduled) (slot i : ℕ) (first : Option Scheduled) (d : Scheduled)
+    → i < length scheduled → is_ready (get_or scheduled i d) slot ≡ false → IsFirstOf (take i scheduled) slot first
+    → IsFirstOf (take (i + 1) scheduled) slot first
+IsFirstOf-more_not scheduled slot i first d h not seen =
+    rw (take_more scheduled i d h) (IsFirstOf-push_not (take i scheduled) slot first (get_or scheduled i d) not seen)
 
-pub IsFirstOf-more_ready : (tracked : List Tracked) (slot i : ℕ) (first : Option Tracked) (d t : Tracked)
-    → i < length tracked → is_ready (get_or tracked i d) slot ≡ true → IsEarlier slot first (get_or tracked i d) t
-    → IsFirstOf (take i tracked) slot first → IsFirstOf (take (i + 1) tracked) slot (Some t)
-IsFirstOf-more_ready tracked slot i first d t h ready earlier seen =
-    rw (take_more tracked i d h) (IsFirstOf-push_ready (take i tracked) slot first (get_or tracked i d) t ready earlier
+pub IsFirstOf-more_ready : (scheduled : List Scheduled) (slot i : ℕ) (first : Option Scheduled) (d t : Scheduled)
+    → i < length scheduled → is_ready (get_or scheduled i d) slot ≡ true → IsEarlier slot first (get_or scheduled i d) t
+    → IsFirstOf (take i scheduled) slot first → IsFirstOf (take (i + 1) scheduled) slot (Some t)
+IsFirstOf-more_ready scheduled slot i first d t h ready earlier seen =
+    rw (take_more scheduled i d h) (IsFirstOf-push_ready (take i scheduled) slot first (get_or scheduled i d) t ready
+    earlier
     seen)
 
 -- the first so far is fit, and has started
-pub first_started : (tracked : List Tracked) (slot i : ℕ) (first : Option Tracked) → All (λ t. IsFit t slot) tracked
-    → IsFirstOf (take i tracked) slot first → ForSome first (λ t. HasStarted t slot)
-first_started tracked slot i None fit h = λ x is. absurd (none-some x is)
-first_started tracked slot i (Some t) fit h = λ x is.
-    let Fit : Tracked → Type 0 = λ y. IsFit y slot in
-    let Started : Tracked → Type 0 = λ y. HasStarted y slot in
+pub first_started : (scheduled : List Scheduled) (slot i : ℕ) (first : Option Scheduled)
+    → All (λ t. IsFit t slot) scheduled
+    → IsFirstOf (take i scheduled) slot first → ForSome first (λ t. HasStarted t slot)
+first_started scheduled slot i None fit h = λ x is. absurd (none-some x is)
+first_started scheduled slot i (Some t) fit h = λ x is.
+    let Fit : Scheduled → Type 0 = λ y. IsFit y slot in
+    let Started : Scheduled → Type 0 = λ y. HasStarted y slot in
     let same : t ≡ x = cc in
     subst Started same (record {
-      fit = All-contains Fit (take i tracked) t (All-take Fit i tracked fit) h.0;
+      fit = All-contains Fit (take i scheduled) t (All-take Fit i scheduled fit) h.0;
       started = is_ready-started t slot h.1.ready;
     })
 
-pub ready_started : (t : Tracked) (slot : ℕ) → IsFit t slot → is_ready t slot ≡ true → HasStarted t slot
+pub ready_started : (t : Scheduled) (slot : ℕ) → IsFit t slot → is_ready t slot ≡ true → HasStarted t slot
 ready_started t slot fit ready = record { fit = fit; started = is_ready-started t slot ready }

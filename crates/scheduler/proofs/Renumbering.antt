@@ -6,7 +6,7 @@ use Rattle.std.proofs.lemmas.Bool.Decides.{eqb_tells}
 use Rattle.std.proofs.lemmas.List.{get_or-map, length-map, take-map, drop-map}
 use Rattle.std.proofs.lemmas.List.Elements.{All-map}
 use Rattle.std.proofs.lemmas.List.Sums.{sum_by-cons}
-use Rattle.scheduler.specs.Message.{Message, release}
+use Rattle.scheduler.specs.Message.{ScheduledMessage, release}
 use Rattle.scheduler.specs.Air.{Air, airs, pages_aired, class, IsPending, IsNoLater, IsServedBy, IsChosen, IsAirOf}
 use Rattle.scheduler.specs.Renumbered.{KeepsOrder, renumbered, use_renumbered}
 
@@ -71,48 +71,49 @@ same_pages f keeps n air from to =
     ∙ take-map (use_renumbered f) (to - from) (drop from air) in
     ap (count_by (airs (f n))) cut ∙ same_count f keeps n (take (to - from) (drop from air))
 
-pending_renumbered : (f : ℕ → ℕ) → KeepsOrder f → (m : Message) (j : ℕ) (air : Air) (slot : ℕ) → IsPending m j air slot
+pending_renumbered : (f : ℕ → ℕ) → KeepsOrder f → (m : ScheduledMessage) (j : ℕ) (air : Air) (slot : ℕ)
+    → IsPending m j air slot
     → IsPending (renumbered f m) j (map (use_renumbered f) air) slot
 pending_renumbered f keeps m j air slot p = record {
   requested = p.requested;
   released = p.released;
   not_due = p.not_due;
   standing = p.standing;
-  unfinished = omega (arith, p.unfinished, same_pages f keeps m.number air (release m j) slot);
+  unfinished = omega (arith, p.unfinished, same_pages f keeps m.entry air (release m j) slot);
 }
 
-pending_as_before : (f : ℕ → ℕ) → KeepsOrder f → (m : Message) (j : ℕ) (air : Air) (slot : ℕ)
+pending_as_before : (f : ℕ → ℕ) → KeepsOrder f → (m : ScheduledMessage) (j : ℕ) (air : Air) (slot : ℕ)
     → IsPending (renumbered f m) j (map (use_renumbered f) air) slot → IsPending m j air slot
 pending_as_before f keeps m j air slot p = record {
   requested = p.requested;
   released = p.released;
   not_due = p.not_due;
   standing = p.standing;
-  unfinished = omega (arith, p.unfinished, same_pages f keeps m.number air (release m j) slot);
+  unfinished = omega (arith, p.unfinished, same_pages f keeps m.entry air (release m j) slot);
 }
 
-no_later_renumbered : (f : ℕ → ℕ) → KeepsOrder f → (a b : Message) (i j : ℕ) → IsNoLater a i b j
+no_later_renumbered : (f : ℕ → ℕ) → KeepsOrder f → (a b : ScheduledMessage) (i j : ℕ) → IsNoLater a i b j
     → IsNoLater (renumbered f a) i (renumbered f b) j
 no_later_renumbered f keeps a b i j h =
     elim h [ inl sooner ↦ inl sooner | inr tied ↦ inr (tied.0, in_class tied.1) ]
   where
-    in_class : ((class a < class b) ⊎ ((class a ≡ class b) × (a.number ≤ b.number)))
-        → (class a < class b) ⊎ ((class a ≡ class b) × (f a.number ≤ f b.number))
+    in_class : ((class a < class b) ⊎ ((class a ≡ class b) × (a.entry ≤ b.entry)))
+        → (class a < class b) ⊎ ((class a ≡ class b) × (f a.entry ≤ f b.entry))
     in_class x = elim x [
       | inl above ↦ inl above
       | inr same ↦ inr
-          (same.0, keeps_no_later f keeps a.number b.number same.1)
+          (same.0, keeps_no_later f keeps a.entry b.entry same.1)
     ]
 
 served_renumbered : (f : ℕ → ℕ)
     → KeepsOrder f
-    → (a b : Message) (i j : ℕ)
+    → (a b : ScheduledMessage) (i j : ℕ)
     → IsServedBy a i b j
     → IsServedBy (renumbered f a) i (renumbered f b) j
 served_renumbered f keeps a b i j h =
     elim h [ inl above ↦ inl above | inr same ↦ inr (same.0, no_later_renumbered f keeps a b i j same.1) ]
 
-chosen_renumbered : (f : ℕ → ℕ) → KeepsOrder f → (messages : List Message) (air : Air) (slot : ℕ)
+chosen_renumbered : (f : ℕ → ℕ) → KeepsOrder f → (messages : List ScheduledMessage) (air : Air) (slot : ℕ)
     (used : Option (ℕ × ℕ)) → IsChosen messages air slot used
     → IsChosen (map (renumbered f) messages) (map (use_renumbered f) air) slot (use_renumbered f used)
 chosen_renumbered f keeps messages air slot None x =
@@ -133,12 +134,13 @@ chosen_renumbered f keeps messages air slot (Some used) x =
               (λ k d within. λ i p. served_renumbered f keeps m (get_or messages k d) x.4.0 i
               (x.4.1.first k d within i (pending_as_before f keeps (get_or messages k d) i air slot p)));
         },
-        ap (λ (u : ℕ × ℕ). (f u.0, u.1)) x.4.2 ∙ ap (λ n. (f m.number, n + 1))
-            (sym (same_pages f keeps m.number air (release m x.4.0) slot)),
+        ap (λ (u : ℕ × ℕ). (f u.0, u.1)) x.4.2 ∙ ap (λ n. (f m.entry, n + 1))
+            (sym (same_pages f keeps m.entry air (release m x.4.0) slot)),
       ),
     )
 
-pub IsAirOf-renumbered : (messages : List Message) (air : Air) (f : ℕ → ℕ) → KeepsOrder f → IsAirOf messages air
+pub IsAirOf-renumbered : (messages : List ScheduledMessage) (air : Air) (f : ℕ → ℕ) → KeepsOrder f
+    → IsAirOf messages air
     → IsAirOf (map (renumbered f) messages) (map (use_renumbered f) air)
 IsAirOf-renumbered messages air f keeps rule = λ slot within.
     let long = length-map air (use_renumbered f) in

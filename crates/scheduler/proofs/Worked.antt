@@ -2,24 +2,24 @@
 use Rattle.std.proofs.Common.{◌≡◌, ℕ, refl, Some, None, List, [], ◌∷◌, map}
 use Rattle.scheduler.specs.declared.plan.Rank.{Rank}
 use Rattle.scheduler.specs.declared.plan.Rank.TheVariants.{High, Normal, Background}
-use Rattle.scheduler.specs.Message.{Message}
+use Rattle.scheduler.specs.Message.{ScheduledMessage}
 use Rattle.scheduler.specs.Background.{foreground, blanked}
 use Rattle.scheduler.specs.Completed.{completed}
 use Rattle.scheduler.specs.Choice.{air_of}
 
-abbrev message : ℕ → ℕ → ℕ → ℕ → Rank → Message
-message number pages period requested rank = record {
-  number = number;
+abbrev message : ℕ → ℕ → ℕ → ℕ → Rank → ScheduledMessage
+message entry pages period broadcasts rank = record {
+  entry = entry;
   start = 0;
   pages = pages;
   period = period;
-  requested = requested;
+  broadcasts = broadcasts;
   stop = None;
   rank = rank;
 }
 
 -- a page in every second slot, and two pages in every fourth
-abbrev two : List Message
+abbrev two : List ScheduledMessage
 two = message 0 1 2 0 Normal ∷ message 1 2 4 0 Normal ∷ []
 
 two_aired : air_of two 4 ≡ Some (0, 1) ∷ Some (1, 1) ∷ Some (0, 1) ∷ Some (1, 2) ∷ []
@@ -36,7 +36,7 @@ high_first : air_of (message 0 1 2 0 Normal ∷ message 1 1 2 0 High ∷ []) 2 �
 high_first = refl
 
 -- a sixth, a third and a half fill each slot
-abbrev three : List Message
+abbrev three : List ScheduledMessage
 three = message 0 1 6 0 Normal ∷ message 1 1 3 0 Normal ∷ message 2 1 2 0 Normal ∷ []
 
 three_aired : air_of three 6 ≡ Some (2, 1) ∷ Some (1, 1) ∷ Some (2, 1) ∷ Some (0, 1) ∷ Some (1, 1) ∷ Some (2, 1) ∷ []
@@ -59,7 +59,7 @@ dropped_completed : completed (message 4 3 2 0 Normal) (air_of (message 4 3 2 0 
 dropped_completed = refl
 
 -- a page in every second slot, and two pages of background in every fourth
-abbrev beside_normal : List Message
+abbrev beside_normal : List ScheduledMessage
 beside_normal = message 0 1 2 0 Normal ∷ message 1 2 4 0 Background ∷ []
 
 beside_normal_aired : air_of beside_normal 8 ≡ Some (0, 1) ∷ Some (1, 1) ∷ Some (0, 1) ∷ Some (1, 2) ∷ Some (0, 1) ∷
@@ -70,8 +70,8 @@ beside_normal_completed : map (λ m. completed m (air_of beside_normal 8) 8) bes
 beside_normal_completed = refl
 
 -- a page in every slot, up to its stop at slot 3, and two pages of background in every fourth: the first broadcast of
--- these isn't whole at its due slot, and dropped
-abbrev after_full : List Message
+-- these isn't completed at its due slot, and dropped
+abbrev after_full : List ScheduledMessage
 after_full = record (message 0 1 1 0 Normal) { stop = Some 3 } ∷ message 1 2 4 0 Background ∷ []
 
 after_full_aired : air_of after_full 8 ≡ Some (0, 1) ∷ Some (0, 1) ∷ Some (0, 1) ∷ Some (1, 1) ∷ Some (1, 1) ∷ Some

@@ -3,7 +3,7 @@ use Rattle.std.specs.Prelude.{◌≡◌, ℕ, ◌+◌, ◌<◌, ◌≤◌, ◌==
 use Rattle.std.specs.Prelude.{slice_range, slice_index_or, count_by, All, Any}
 use Rattle.scheduler.specs.declared.plan.Rank.{Rank}
 use Rattle.scheduler.specs.declared.plan.Rank.TheVariants.{High, Normal, Background}
-use Rattle.scheduler.specs.Message.{Message, release, due, HasBroadcast, IsBeforeStop}
+use Rattle.scheduler.specs.Message.{ScheduledMessage, release, due, HasBroadcast, IsBeforeStop}
 
 -- for each slot in order the number and the page that it airs, if it airs one
 abbrev pub Air : Type 0
@@ -11,21 +11,21 @@ Air = List (Option (ℕ × ℕ))
 
 -- the slot airs a page of that number
 abbrev pub airs : ℕ → Option (ℕ × ℕ) → Bool
-airs number None = false
-airs number (Some used) = used.0 == number
+airs entry None = false
+airs entry (Some used) = used.0 == entry
 
 -- how many of the slots from `from` up to, and without, `to` air a page of that number
 abbrev pub pages_aired : ℕ → Air → ℕ → ℕ → ℕ
-pages_aired number air from to = count_by (airs number) (slice_range air from to)
+pages_aired entry air from to = count_by (airs entry) (slice_range air from to)
 
 -- broadcast j of the message may use the slot: it was requested, it is released and not due, the message was not
 -- stopped by then, and of its pages fewer were aired since its release than it has
-pub record IsPending (m : Message) (j : ℕ) (air : Air) (slot : ℕ) : Type 0 where
+pub record IsPending (m : ScheduledMessage) (j : ℕ) (air : Air) (slot : ℕ) : Type 0 where
   pub requested : HasBroadcast m j
   pub released : release m j ≤ slot
   pub not_due : slot < due m j
   pub standing : IsBeforeStop slot m.stop
-  pub unfinished : pages_aired m.number air (release m j) slot < m.pages
+  pub unfinished : pages_aired m.entry air (release m j) slot < m.pages
 
 -- background comes after all others
 abbrev pub layer_of : Rank → ℕ
@@ -33,7 +33,7 @@ layer_of High = 0
 layer_of Normal = 0
 layer_of Background = 1
 
-abbrev pub layer : Message → ℕ
+abbrev pub layer : ScheduledMessage → ℕ
 layer m = layer_of m.rank
 
 -- within a layer, high comes before normal
@@ -42,35 +42,36 @@ class_of High = 0
 class_of Normal = 1
 class_of Background = 1
 
-abbrev pub class : Message → ℕ
+abbrev pub class : ScheduledMessage → ℕ
 class m = class_of m.rank
 
 -- within a layer, broadcast i of a comes no later than broadcast j of b: by their due slots, then their classes, then
 -- their numbers
-abbrev pub IsNoLater : Message → ℕ → Message → ℕ → Type 0
+abbrev pub IsNoLater : ScheduledMessage → ℕ → ScheduledMessage → ℕ → Type 0
 IsNoLater a i b j =
-    (due a i < due b j) ⊎ ((due a i ≡ due b j) × ((class a < class b) ⊎ ((class a ≡ class b) × (a.number ≤ b.number))))
+    (due a i < due b j) ⊎ ((due a i ≡ due b j) × ((class a < class b) ⊎ ((class a ≡ class b) × (a.entry ≤ b.entry))))
 
 -- broadcast i of a is served no later than broadcast j of b: where it is of the lower layer, and within a layer as
 -- above
-abbrev pub IsServedBy : Message → ℕ → Message → ℕ → Type 0
+abbrev pub IsServedBy : ScheduledMessage → ℕ → ScheduledMessage → ℕ → Type 0
 IsServedBy a i b j = (layer a < layer b) ⊎ ((layer a ≡ layer b) × IsNoLater a i b j)
 
 -- broadcast j of the message is pending, and served no later than any pending broadcast
-pub record IsFirst (messages : List Message) (air : Air) (slot : ℕ) (m : Message) (j : ℕ) : Type 0 where
-  pub pending : IsPending m j air slot
-  pub first : All (λ other. (k : ℕ) → IsPending other k air slot → IsServedBy m j other k) messages
+pub record IsFirst (messages : List ScheduledMessage) (air : Air) (slot : ℕ) (m : ScheduledMessage) (j : ℕ) : Type 0
+  where
+    pub pending : IsPending m j air slot
+    pub first : All (λ other. (k : ℕ) → IsPending other k air slot → IsServedBy m j other k) messages
 
 -- the message's number, with the page after those that were aired since the release of broadcast j
-abbrev pub next_page : Message → ℕ → Air → ℕ → ℕ × ℕ
-next_page m j air slot = (m.number, pages_aired m.number air (release m j) slot + 1)
+abbrev pub next_page : ScheduledMessage → ℕ → Air → ℕ → ℕ × ℕ
+next_page m j air slot = (m.entry, pages_aired m.entry air (release m j) slot + 1)
 
 -- what the slot airs by the rule: the next page of the first pending broadcast, and nothing where none is pending
-abbrev pub IsChosen : List Message → Air → ℕ → Option (ℕ × ℕ) → Type 0
+abbrev pub IsChosen : List ScheduledMessage → Air → ℕ → Option (ℕ × ℕ) → Type 0
 IsChosen messages air slot None = All (λ m. (j : ℕ) → ¬ IsPending m j air slot) messages
 IsChosen messages air slot (Some used) =
     Any (λ m. (j : ℕ) × IsFirst messages air slot m j × (used ≡ next_page m j air slot)) messages
 
 -- each slot of the air list airs what the rule says
-abbrev pub IsAirOf : List Message → Air → Type 0
+abbrev pub IsAirOf : List ScheduledMessage → Air → Type 0
 IsAirOf messages air = (slot : ℕ) → slot < length air → IsChosen messages air slot (slice_index_or air slot None)

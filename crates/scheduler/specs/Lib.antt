@@ -5,7 +5,7 @@ pub mod BackgroundLaws
 pub mod Choice
 pub mod Completed
 pub mod Follows
-pub mod Kept
+pub mod PlanSteps
 pub mod Message
 pub mod Pages
 pub mod Renumbered

@@ -1,13 +1,13 @@
 -- Messages and air lists under other numbers (own).
 use Rattle.std.specs.Prelude.{ℕ, ◌<◌, Option, Some, None}
-use Rattle.scheduler.specs.Message.{Message}
+use Rattle.scheduler.specs.Message.{ScheduledMessage}
 
 -- a lesser number stays lesser
 abbrev pub KeepsOrder : (ℕ → ℕ) → Type 0
 KeepsOrder f = (a b : ℕ) → a < b → f a < f b
 
-abbrev pub renumbered : (ℕ → ℕ) → Message → Message
-renumbered f m = record m { number = f m.number }
+abbrev pub renumbered : (ℕ → ℕ) → ScheduledMessage → ScheduledMessage
+renumbered f m = record m { entry = f m.entry }
 
 abbrev pub use_renumbered : (ℕ → ℕ) → Option (ℕ × ℕ) → Option (ℕ × ℕ)
 use_renumbered f None = None

@@ -1,11 +1,9 @@
 //! Laws of air lists, over their definitions alone.
 
 ghost use Rattle.scheduler.specs.AirLaws.{OneChoice, SomeChoice, GrowsByTheChoice, FrontsAreByTheRule, OneAirList};
-ghost use Rattle.scheduler.specs.AirLaws.{NumbersOnlyOrder};
-ghost use Rattle.scheduler.specs.AirLaws.{LaterMessagesChangeNothing, LaterStopsChangeNothing, PagesComeInOrder};
-ghost use Rattle.scheduler.specs.AirLaws.{AtMostItsPages};
-ghost use Rattle.scheduler.specs.AirLaws.{PagesComeOnce, WholeIsEachPageOnce, LastPagesAreWholeBroadcasts};
-ghost use Rattle.scheduler.specs.AirLaws.{NoPageLessOften, AllAreCounted};
+ghost use Rattle.scheduler.specs.AirLaws.{NumbersOnlyOrder, LaterMessagesChangeNothing, LaterStopsChangeNothing};
+ghost use Rattle.scheduler.specs.AirLaws.{PagesComeInOrder, AtMostItsPages, PagesComeOnce, CompletedIsEachPageOnce};
+ghost use Rattle.scheduler.specs.AirLaws.{LastPagesAreCompletedBroadcasts, NoPageLessOften, AllAreCounted};
 ghost use Rattle.scheduler.specs.BackgroundLaws.{BackgroundCountsAsIdle, BackgroundChangesNothing, BlankingKeepsPages};
 ghost use Rattle.scheduler.specs.BackgroundLaws.{BlankingKeepsCompleted};
 
@@ -34,16 +32,16 @@ pub fn air_laws()
     // No broadcast has more pages aired, by its due slot, than its message has.
     ensures at_most_its_pages { AtMostItsPages }
 
-    // Each page that is aired of a broadcast is aired once: so a broadcast that is whole has each page of its message
-    // once.
+    // Each page that is aired of a broadcast is aired once: so a broadcast that is completed has each page of its
+    // message once.
     ensures pages_come_once { PagesComeOnce }
-    ensures whole_is_each_page_once { WholeIsEachPageOnce }
+    ensures completed_is_each_page_once { CompletedIsEachPageOnce }
 
-    // The last page of a message is aired as often as a broadcast of it is whole, and none of its pages less often.
-    ensures last_page_counts { LastPagesAreWholeBroadcasts }
+    // The last page of a message is aired as often as a broadcast of it is completed, and none of its pages less often.
+    ensures last_page_counts { LastPagesAreCompletedBroadcasts }
     ensures no_page_less { NoPageLessOften }
 
-    // The completed number leaves out no whole broadcast.
+    // The completed number leaves out no completed broadcast.
     ensures all_counted { AllAreCounted }
 {}
 
@@ -55,7 +53,7 @@ pub fn background_laws()
     ensures counts_as_idle { BackgroundCountsAsIdle }
     ensures changes_nothing { BackgroundChangesNothing }
 
-    // Of each message that isn't background it has the same pages, and the same whole broadcasts.
+    // Of each message that isn't background it has the same pages, and the same completed broadcasts.
     ensures keeps_pages { BlankingKeepsPages }
     ensures keeps_completed { BlankingKeepsCompleted }
 {}

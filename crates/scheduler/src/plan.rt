@@ -3,13 +3,14 @@
 ghost use Rattle.std.specs.Prelude.{◌≡◌, ◌≢◌, ℕ, ◌+◌, ◌<◌, ◌≤◌, ◌==◌, true, MatchBool, List, [], ◌∷◌, ◌++◌, length};
 ghost use Rattle.std.specs.Prelude.{map, codes, Some, All, AllPairs, Any, OnOk, OnErr};
 ghost use Rattle.std.specs.Option.{ForSome};
-ghost use Rattle.scheduler.specs.Message.{Message, stopped_at};
+ghost use Rattle.scheduler.specs.Message.{ScheduledMessage, stopped_at};
 ghost use Rattle.scheduler.specs.Air.{Air, airs, layer_of, class_of, IsChosen};
 ghost use Rattle.scheduler.specs.Completed.{completed};
 ghost use Rattle.scheduler.specs.Follows.{Follows, next_slot, messages_of, message_of, message_from};
-ghost use Rattle.scheduler.specs.Kept.{IsFit, HasStarted, IsFirstOf, IsEarlier, IsChoice, after_slot, stopped_kept};
+ghost use Rattle.scheduler.specs.PlanSteps.{IsFit, HasStarted, IsFirstOf, IsEarlier, IsChoice, after_slot};
+ghost use Rattle.scheduler.specs.PlanSteps.{scheduled_stopped};
 
-use crate::tracked::Tracked;
+use crate::scheduled::Scheduled;
 use std::alloc::Global;
 use std::fmt;
 use std::marker::Model;
@@ -85,34 +86,34 @@ impl std::error::Error for Refused {}
 /// `next(1)` is `None` and `done(0)` is 1.
 ///
 /// `Follows plan messages air` says, in a contract, that a plan stands for these messages and their air list so far.
-/// What is not whole at its due slot is dropped, also where more is asked of the cell than it has slots for.
+/// What is not completed at its due slot is dropped, also where more is asked of the cell than it has slots for.
 #[derive(Drop)]
 pub struct Plan {
     slot: u16,
-    tracked: Vec<Tracked>,
+    scheduled: Vec<Scheduled>,
 }
 
 impl Model for Plan {
-    ghost use Rattle.scheduler.specs.Follows.{Kept};
-    ghost use Rattle.scheduler.specs.Kept.{IsSound};
+    ghost use Rattle.scheduler.specs.Follows.{PlanState};
+    ghost use Rattle.scheduler.specs.PlanSteps.{IsSound};
 
-    ghost Value = { Kept };
+    ghost Value = { PlanState };
 
-    ghost view = { λ p. record { slot = p.slot; tracked = p.tracked.items } };
+    ghost view = { λ p. record { slot = p.slot; scheduled = p.scheduled.items } };
 
-    ghost invariant = { λ p. IsSound (record { slot = p.slot; tracked = p.tracked.items }) };
+    ghost invariant = { λ p. IsSound (record { slot = p.slot; scheduled = p.scheduled.items }) };
 }
 
 impl Plan {
     /// A plan with no message, for which slot 0 is asked next.
     pub fn new(alloc: Global) -> Self
         ensures follows { Follows result [] [] }
-        ensures told { messages_of result ≡ [] }
+        ensures messages { messages_of result ≡ [] }
         ensures asked { next_slot result ≡ 0 }
     {
         Plan {
             slot: 0,
-            tracked: Vec::new(alloc),
+            scheduled: Vec::new(alloc),
         }
     }
 
@@ -120,18 +121,18 @@ impl Plan {
     /// of the messages added before, and it has a page or more and a period of 1 slot or more. After `Err` the plan
     /// is unchanged.
     pub fn add(&mut self, item: Item) -> Result<(), Refused>
-        requires rising { All (λ m. m.number < item.entry) (messages_of self.old) }
+        requires rising { All (λ m. m.entry < item.entry) (messages_of self.old) }
         requires from_next { next_slot self.old ≤ item.start }
         requires some_pages { 0 < item.pages }
         requires some_period { 0 < item.period }
-        ensures follows { OnOk result ((messages : List Message) (air : Air)
+        ensures follows { OnOk result ((messages : List ScheduledMessage) (air : Air)
             → Follows self.old messages air
             → Follows self.new (messages ++ message_from item ∷ []) air) }
-        ensures told { OnOk result (messages_of self.new ≡ messages_of self.old ++ message_from item ∷ []) }
+        ensures messages { OnOk result (messages_of self.new ≡ messages_of self.old ++ message_from item ∷ []) }
         ensures asked { next_slot self.new ≡ next_slot self.old }
         ensures refused { OnErr result (self.new ≡ self.old) }
     {
-        match self.tracked.push(Tracked::new(item)) {
+        match self.scheduled.push(Scheduled::new(item)) {
             Ok(()) => Ok(()),
             Err(_) => Err(Refused),
         }
@@ -142,48 +143,48 @@ impl Plan {
     pub fn next(&mut self, slot: u16) -> Option<(u16, u8)>
         requires at_next { slot ≡ next_slot self.old }
         requires within { slot < 65535 }
-        ensures chosen { (messages : List Message) (air : Air)
+        ensures chosen { (messages : List ScheduledMessage) (air : Air)
             → Follows self.old messages air
             → IsChosen messages air slot result }
-        ensures follows { (messages : List Message) (air : Air)
+        ensures follows { (messages : List ScheduledMessage) (air : Air)
             → Follows self.old messages air
             → Follows self.new messages (air ++ result ∷ []) }
-        ensures told { messages_of self.new ≡ messages_of self.old }
+        ensures messages { messages_of self.new ≡ messages_of self.old }
         ensures asked { next_slot self.new ≡ slot + 1 }
     {
-        let used = choice(self.tracked.as_slice(), slot);
-        pass(self.tracked.as_mut_slice(), slot, used);
+        let used = choice(self.scheduled.as_slice(), slot);
+        pass(self.scheduled.as_mut_slice(), slot, used);
         self.slot = slot + 1;
         used
     }
 
-    /// Stops the message of `entry` before `slot`, which is asked next, and tells how many of its broadcasts were aired
-    /// whole. It was added, and not stopped before.
+    /// Stops the message of `entry` before `slot`, which is asked next, and reports how many of its broadcasts were
+    /// completed. It was added, and not stopped before.
     pub fn stop(&mut self, entry: u16, slot: u16) -> u16
-        requires standing { Any (λ m. (m.number ≡ entry) × (m.stop ≡ None)) (messages_of self.old) }
+        requires standing { Any (λ m. (m.entry ≡ entry) × (m.stop ≡ None)) (messages_of self.old) }
         requires at_next { slot ≡ next_slot self.old }
-        ensures completed { (messages : List Message) (air : Air)
+        ensures completed { (messages : List ScheduledMessage) (air : Air)
             → Follows self.old messages air
-            → All (λ m. m.number ≡ entry → result ≡ completed m air slot) messages }
-        ensures follows { (messages : List Message) (air : Air)
+            → All (λ m. m.entry ≡ entry → result ≡ completed m air slot) messages }
+        ensures follows { (messages : List ScheduledMessage) (air : Air)
             → Follows self.old messages air
             → Follows self.new (stopped_at entry slot messages) air }
-        ensures told { messages_of self.new ≡ stopped_at entry slot (messages_of self.old) }
+        ensures messages { messages_of self.new ≡ stopped_at entry slot (messages_of self.old) }
         ensures asked { next_slot self.new ≡ slot }
     {
-        let completed = completed_of(self.tracked.as_slice(), entry);
-        stop_at(self.tracked.as_mut_slice(), entry, slot);
+        let completed = completed_of(self.scheduled.as_slice(), entry);
+        stop_at(self.scheduled.as_mut_slice(), entry, slot);
         completed
     }
 
-    /// How many broadcasts of the message of `entry` were aired whole in the slots that were asked. It was added.
+    /// How many broadcasts of the message of `entry` were completed in the slots that were asked. It was added.
     pub fn done(&self, entry: u16) -> u16
-        requires { Any (λ m. m.number ≡ entry) (messages_of self.now) }
-        ensures { (messages : List Message) (air : Air)
+        requires { Any (λ m. m.entry ≡ entry) (messages_of self.now) }
+        ensures { (messages : List ScheduledMessage) (air : Air)
             → Follows self.now messages air
-            → All (λ m. m.number ≡ entry → result ≡ completed m air (length air)) messages }
+            → All (λ m. m.entry ≡ entry → result ≡ completed m air (length air)) messages }
     {
-        completed_of(self.tracked.as_slice(), entry)
+        completed_of(self.scheduled.as_slice(), entry)
     }
 
     /// The slot that is asked next, from 0 to 65,535.
@@ -196,74 +197,74 @@ impl Plan {
     /// Whether the number is above those of the messages that were added, as `add` asks.
     pub fn is_above_all(&self, entry: u16) -> bool
         ensures { MatchBool result
-            (All (λ m. m.number < entry) (messages_of self.now))
-            (Any (λ m. entry ≤ m.number) (messages_of self.now)) }
+            (All (λ m. m.entry < entry) (messages_of self.now))
+            (Any (λ m. entry ≤ m.entry) (messages_of self.now)) }
     {
-        are_below(self.tracked.as_slice(), entry)
+        are_below(self.scheduled.as_slice(), entry)
     }
 
     /// Whether the message of `entry` was added, as `done` asks.
     pub fn is_added(&self, entry: u16) -> bool
         ensures { MatchBool result
-            (Any (λ m. m.number ≡ entry) (messages_of self.now))
-            (All (λ m. m.number ≢ entry) (messages_of self.now)) }
+            (Any (λ m. m.entry ≡ entry) (messages_of self.now))
+            (All (λ m. m.entry ≢ entry) (messages_of self.now)) }
     {
-        has_entry(self.tracked.as_slice(), entry)
+        has_entry(self.scheduled.as_slice(), entry)
     }
 
     /// Whether the message of `entry` was added, and not stopped, as `stop` asks.
     pub fn is_standing(&self, entry: u16) -> bool
         ensures { MatchBool result
-            (Any (λ m. (m.number ≡ entry) × (m.stop ≡ None)) (messages_of self.now))
-            (All (λ m. m.number ≡ entry → m.stop ≢ None) (messages_of self.now)) }
+            (Any (λ m. (m.entry ≡ entry) × (m.stop ≡ None)) (messages_of self.now))
+            (All (λ m. m.entry ≡ entry → m.stop ≢ None) (messages_of self.now)) }
     {
-        has_standing(self.tracked.as_slice(), entry)
+        has_standing(self.scheduled.as_slice(), entry)
     }
 }
 
 /// Whether all numbers of what is kept are below `entry`.
-fn are_below(tracked: &[Tracked], entry: u16) -> bool
-    ensures { MatchBool result (All (λ t. t.item.entry < entry) tracked.now)
-        (Any (λ t. entry ≤ t.item.entry) tracked.now) }
+fn are_below(scheduled: &[Scheduled], entry: u16) -> bool
+    ensures { MatchBool result (All (λ t. t.item.entry < entry) scheduled.now)
+        (Any (λ t. entry ≤ t.item.entry) scheduled.now) }
 {
-    tracked.iter().all(|one| one.item.entry < entry)
+    scheduled.iter().all(|one| one.item.entry < entry)
 }
 
 /// Whether a message of `entry` is kept.
-fn has_entry(tracked: &[Tracked], entry: u16) -> bool
-    ensures { MatchBool result (Any (λ t. t.item.entry ≡ entry) tracked.now)
-        (All (λ t. t.item.entry ≢ entry) tracked.now) }
+fn has_entry(scheduled: &[Scheduled], entry: u16) -> bool
+    ensures { MatchBool result (Any (λ t. t.item.entry ≡ entry) scheduled.now)
+        (All (λ t. t.item.entry ≢ entry) scheduled.now) }
 {
-    tracked.iter().any(|one| one.item.entry == entry)
+    scheduled.iter().any(|one| one.item.entry == entry)
 }
 
 /// Whether a message of `entry` is kept that was not stopped.
-fn has_standing(tracked: &[Tracked], entry: u16) -> bool
+fn has_standing(scheduled: &[Scheduled], entry: u16) -> bool
     ensures { MatchBool result
-        (Any (λ t. (t.item.entry ≡ entry) × (t.stop ≡ None)) tracked.now)
-        (All (λ t. t.item.entry ≡ entry → t.stop ≢ None) tracked.now) }
+        (Any (λ t. (t.item.entry ≡ entry) × (t.stop ≡ None)) scheduled.now)
+        (All (λ t. t.item.entry ≡ entry → t.stop ≢ None) scheduled.now) }
 {
-    tracked
+    scheduled
         .iter()
         .any(|one| one.item.entry == entry && one.stop.is_none())
 }
 
 /// What a slot airs by what is kept: the next page of the first message that is ready.
-fn choice(tracked: &[Tracked], slot: u16) -> Option<(u16, u8)>
-    requires { All (λ t. IsFit t slot) tracked.now }
-    ensures { IsChoice tracked.now slot result }
+fn choice(scheduled: &[Scheduled], slot: u16) -> Option<(u16, u8)>
+    requires { All (λ t. IsFit t slot) scheduled.now }
+    ensures { IsChoice scheduled.now slot result }
 {
-    let first = first_ready(tracked, slot)?;
-    Some((first.item.entry, first.aired + 1))
+    let first = first_ready(scheduled, slot)?;
+    Some((first.item.entry, first.pages_aired + 1))
 }
 
 /// The first message that is ready at `slot`.
-fn first_ready(tracked: &[Tracked], slot: u16) -> Option<Tracked>
-    requires { All (λ t. IsFit t slot) tracked.now }
-    ensures { IsFirstOf tracked.now slot result }
+fn first_ready(scheduled: &[Scheduled], slot: u16) -> Option<Scheduled>
+    requires { All (λ t. IsFit t slot) scheduled.now }
+    ensures { IsFirstOf scheduled.now slot result }
 {
-    let mut first: Option<Tracked> = None;
-    for candidate in tracked {
+    let mut first: Option<Scheduled> = None;
+    for candidate in scheduled {
         if candidate.is_ready(slot) {
             first = Some(earlier(first, *candidate, slot));
         }
@@ -272,7 +273,7 @@ fn first_ready(tracked: &[Tracked], slot: u16) -> Option<Tracked>
 }
 
 /// The one of two that is served first at `slot`.
-fn earlier(first: Option<Tracked>, candidate: Tracked, slot: u16) -> Tracked
+fn earlier(first: Option<Scheduled>, candidate: Scheduled, slot: u16) -> Scheduled
     requires first_started { ForSome first (λ t. HasStarted t slot) }
     requires candidate_started { HasStarted candidate slot }
     ensures { IsEarlier slot first candidate result }
@@ -290,32 +291,32 @@ fn earlier(first: Option<Tracked>, candidate: Tracked, slot: u16) -> Tracked
 }
 
 /// Goes past a slot and its use.
-fn pass(tracked: &mut [Tracked], slot: u16, used: Option<(u16, u8)>)
-    requires fit { All (λ t. IsFit t slot) tracked.old }
+fn pass(scheduled: &mut [Scheduled], slot: u16, used: Option<(u16, u8)>)
+    requires fit { All (λ t. IsFit t slot) scheduled.old }
     requires within { slot < 65535 }
-    requires ready { All (λ t. airs t.item.entry used ≡ true → t.aired < t.item.pages) tracked.old }
-    ensures { tracked.new ≡ map (after_slot slot used) tracked.old }
+    requires ready { All (λ t. airs t.item.entry used ≡ true → t.pages_aired < t.item.pages) scheduled.old }
+    ensures { scheduled.new ≡ map (after_slot slot used) scheduled.old }
 {
-    for one in tracked.iter_mut() {
+    for one in scheduled.iter_mut() {
         *one = one.after_slot(slot, used);
     }
 }
 
 /// Stops the message of `entry` before `slot`.
-fn stop_at(tracked: &mut [Tracked], entry: u16, slot: u16)
-    ensures { tracked.new ≡ map (λ t. stopped_kept (t.item.entry == entry) slot t) tracked.old }
+fn stop_at(scheduled: &mut [Scheduled], entry: u16, slot: u16)
+    ensures { scheduled.new ≡ map (λ t. scheduled_stopped (t.item.entry == entry) slot t) scheduled.old }
 {
-    for one in tracked.iter_mut() {
+    for one in scheduled.iter_mut() {
         *one = one.stopped_if(entry, slot);
     }
 }
 
-/// How many broadcasts of the message of `entry` are kept as whole.
-fn completed_of(tracked: &[Tracked], entry: u16) -> u16
-    requires { AllPairs (λ a b. a.item.entry < b.item.entry) tracked.now }
-    ensures { All (λ t. t.item.entry ≡ entry → result ≡ t.completed) tracked.now }
+/// How many broadcasts of the message of `entry` are kept as completed.
+fn completed_of(scheduled: &[Scheduled], entry: u16) -> u16
+    requires { AllPairs (λ a b. a.item.entry < b.item.entry) scheduled.now }
+    ensures { All (λ t. t.item.entry ≡ entry → result ≡ t.completed) scheduled.now }
 {
-    for one in tracked {
+    for one in scheduled {
         if one.item.entry == entry {
             return one.completed;
         }

@@ -1,7 +1,7 @@
 use Rattle.composition.proofs.Composed.{completed_is_whole_in_blocks, shown_are_the_broadcast}
 use Rattle.composition.proofs.Same.{same_accepted_same_blocks}
 use Rattle.composition.proofs.Meaning.{accepted_are_meant, none_after_the_stop, pages_read_are_those_aired}
-use Rattle.composition.proofs.Meaning.{told_is_whole_in_blocks, shown_grow_by_one, records_are_tapes}
+use Rattle.composition.proofs.Meaning.{reported_is_whole_in_blocks, shown_grow_by_one, records_are_tapes}
 use Rattle.composition.proofs.Meaning.{texts_are_those_of_contents}
 use Rattle.composition.proofs.Laws.{Laws}
 use Rattle.composition.proofs.composition_laws.Goals as goal
@@ -37,7 +37,7 @@ returns c =
       pages_read_are_those_aired = pages_read_are_those_aired laws;
       accepted_are_meant = accepted_are_meant laws;
       none_after_the_stop = none_after_the_stop laws;
-      told_is_whole_in_blocks = told_is_whole_in_blocks laws;
+      reported_is_whole_in_blocks = reported_is_whole_in_blocks laws;
       shown_grow_by_one = shown_grow_by_one laws;
       records_are_tapes = records_are_tapes laws;
       texts_are_those_of_contents = texts_are_those_of_contents;

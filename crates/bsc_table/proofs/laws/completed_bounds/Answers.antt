@@ -1,5 +1,5 @@
-use Rattle.bsc_table.proofs.Bounds.{completed_is_at_most, completed_is_at_least, bounds_are_near}
-use Rattle.bsc_table.proofs.Foreground.{foreground_is_at_least}
+use Rattle.bsc_table.proofs.Load.Bounds.{completed_is_at_most, completed_is_at_least, bounds_are_near}
+use Rattle.bsc_table.proofs.Load.Foreground.{foreground_is_at_least}
 use Rattle.bsc_table.proofs.laws.completed_bounds.Goals as goal
 
 pub returns : goal.returns

@@ -1,8 +1,8 @@
-use Rattle.bsc_table.proofs.Demand.{demand_is_no_more_than_the_slots}
-use Rattle.bsc_table.proofs.Reserved.{reservations_cover_broadcasts}
-use Rattle.bsc_table.proofs.Busy.{lack_means_a_busy_period}
-use Rattle.bsc_table.proofs.Served.{admitted_load_is_a_guarantee, admitted_broadcasts_are_whole}
-use Rattle.bsc_table.proofs.Foreground.{foreground_is_served}
+use Rattle.bsc_table.proofs.Load.Demand.{demand_is_no_more_than_the_slots}
+use Rattle.bsc_table.proofs.Load.Reservations.{reservations_cover_broadcasts}
+use Rattle.bsc_table.proofs.Load.BusyPeriod.{lack_means_a_busy_period}
+use Rattle.bsc_table.proofs.Load.Guarantee.{admitted_load_is_a_guarantee, admitted_broadcasts_are_completed}
+use Rattle.bsc_table.proofs.Load.Foreground.{foreground_is_served}
 use Rattle.bsc_table.proofs.laws.guarantee.Goals as goal
 
 pub returns : goal.returns
@@ -11,6 +11,6 @@ returns c = record {
   lack_means_a_busy_period = lack_means_a_busy_period;
   demand_is_no_more_than_the_slots = demand_is_no_more_than_the_slots;
   admitted_load_is_a_guarantee = admitted_load_is_a_guarantee;
-  admitted_broadcasts_are_whole = admitted_broadcasts_are_whole;
+  admitted_broadcasts_are_completed = admitted_broadcasts_are_completed;
   foreground_is_served = foreground_is_served;
 }

@@ -1,11 +1,11 @@
-use Rattle.bsc_table.proofs.Sound.{IsSound-legal}
-use Rattle.bsc_table.proofs.Numbers.{numbers_rise}
-use Rattle.bsc_table.proofs.Promised.{legal_loads_fit, legal_histories_are_served, legal_histories_are_bounded}
-use Rattle.bsc_table.proofs.Promised.{legal_pages_are_aired_once}
-use Rattle.bsc_table.proofs.Told.{legal_answers_are_true}
-use Rattle.bsc_table.proofs.Refusals.{refusals_change_nothing}
-use Rattle.bsc_table.proofs.SameMessages.{accepted_entries_are_all}
-use Rattle.bsc_table.proofs.Written.{accepted_are_writes, uses_are_of_writes}
+use Rattle.bsc_table.proofs.History.LegalIsSound.{IsSound-legal}
+use Rattle.bsc_table.proofs.History.EntryNumbers.{numbers_rise}
+use Rattle.bsc_table.proofs.History.Promises.{legal_loads_fit, legal_histories_are_served, legal_histories_are_bounded}
+use Rattle.bsc_table.proofs.History.Promises.{legal_pages_are_aired_once}
+use Rattle.bsc_table.proofs.History.ReportedCounts.{legal_answers_are_true}
+use Rattle.bsc_table.proofs.History.Refusals.{refusals_change_nothing}
+use Rattle.bsc_table.proofs.History.SameMessages.{accepted_entries_are_all}
+use Rattle.bsc_table.proofs.History.Written.{accepted_are_writes, uses_are_of_writes}
 use Rattle.bsc_table.proofs.laws.legal_histories.Goals as goal
 
 pub returns : goal.returns

@@ -1,7 +1,7 @@
-use Rattle.bsc_table.proofs.Rising.{reserved_never_rises}
-use Rattle.bsc_table.proofs.Stopped.{stop_keeps_room}
-use Rattle.bsc_table.proofs.Added.{start_keeps_room}
-use Rattle.bsc_table.proofs.TakenOver.{takeover_keeps_room, waiting_passes_its_start}
+use Rattle.bsc_table.proofs.Room.NeverRises.{reserved_never_rises}
+use Rattle.bsc_table.proofs.Room.StopKeepsRoom.{stop_keeps_room}
+use Rattle.bsc_table.proofs.Room.AddedClaims.{start_keeps_room}
+use Rattle.bsc_table.proofs.Room.TakeoverKeepsRoom.{takeover_keeps_room, waiting_passes_its_start}
 use Rattle.bsc_table.proofs.laws.room_laws.Goals as goal
 
 pub returns : goal.returns

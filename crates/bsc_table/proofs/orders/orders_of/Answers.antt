@@ -1,4 +1,4 @@
-use Rattle.bsc_table.proofs.Ordered.{meant_broadcastable}
+use Rattle.bsc_table.proofs.Cell.CommandOfMessage.{meant_broadcastable}
 use Rattle.bsc_table.proofs.orders.orders_of.Goals as goal
 
 pub returns-in-Write-clause-formed : goal.returns-in-Write-clause-formed

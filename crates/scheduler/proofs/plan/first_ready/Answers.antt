@@ -6,7 +6,7 @@ use Rattle.scheduler.proofs.plan.first_ready.Goals.{then-is_ready, else-is_ready
 
 pub earlier-requires-clause-first_started : goal.earlier-requires-clause-first_started
 earlier-requires-clause-first_started c =
-    first_started c.args.tracked.now c.args.slot c.loop-candidate.candidate-index c.loop-candidate.first c.requires
+    first_started c.args.scheduled.now c.args.slot c.loop-candidate.candidate-index c.loop-candidate.first c.requires
     c.loop-candidate.invariant
 
 pub earlier-requires-clause-candidate_started : goal.earlier-requires-clause-candidate_started
@@ -17,14 +17,14 @@ earlier-requires-clause-candidate_started c =
 pub loop-candidate-preserved : goal.loop-candidate-preserved
 loop-candidate-preserved c =
     elim c.if-is_ready.branch [
-      | then-is_ready w ↦ rw w.first-is (IsFirstOf-more_ready c.args.tracked.now c.args.slot
+      | then-is_ready w ↦ rw w.first-is (IsFirstOf-more_ready c.args.scheduled.now c.args.slot
           c.loop-candidate.candidate-index c.loop-candidate.first _ _ (omega arith)
           (sym c.is_ready.ensures ∙ w.if-is_ready.true) w.earlier.ensures c.loop-candidate.invariant)
-      | else-is_ready w ↦ rw w.first-is (IsFirstOf-more_not c.args.tracked.now c.args.slot
+      | else-is_ready w ↦ rw w.first-is (IsFirstOf-more_not c.args.scheduled.now c.args.slot
           c.loop-candidate.candidate-index c.loop-candidate.first _ (omega arith)
           (sym c.is_ready.ensures ∙ w.if-is_ready.false) c.loop-candidate.invariant)
     ]
 
 pub returns : goal.returns
-returns c = rw (take_all c.loop-candidate.candidate-index c.args.tracked.now (omega arith)) at
+returns c = rw (take_all c.loop-candidate.candidate-index c.args.scheduled.now (omega arith)) at
     c.loop-candidate.invariant

@@ -1,13 +1,17 @@
-use Rattle.std.proofs.Common.{◌≡◌, Bool, true, cond, refl, ap, subst, sym, ◌∙◌, arith}
+use Rattle.std.proofs.Common.{◌≡◌, ◌≤◌, ◌<◌, Bool, true, cond, length, refl, ap, subst, sym, ◌∙◌, inl, inr, arith}
+use Rattle.std.proofs.lemmas.Bool.{le-leb, lt-leb, cond-true, cond-false}
+use Rattle.bsc_table.specs.declared.entry.Answer.TheVariants as answers
 use Rattle.bsc_table.specs.declared.entry.Entry.{Entry}
 use Rattle.bsc_table.specs.Record.{Record}
-use Rattle.bsc_table.specs.Answer.{answer_with_room}
+use Rattle.bsc_table.specs.Answer.{answer_of, answer_with_room}
 use Rattle.bsc_table.specs.Legal.{IsLegal}
 use Rattle.bsc_table.specs.declared.entry.Answer.{Answer}
-use Rattle.bsc_table.specs.Book.{record_of, IsNext, with_entry, decided_answer, answered_with, has_entry}
-use Rattle.bsc_table.proofs.HasEntry.{has_entry-with_room}
-use Rattle.bsc_table.proofs.Outcome.{entry_with}
-use Rattle.bsc_table.proofs.Entering.{IsLegal-with}
+use Rattle.bsc_table.specs.Steps.{with_entry, answered_with, has_entry}
+use Rattle.bsc_table.specs.Book.{record_of}
+use Rattle.bsc_table.specs.BookSteps.{IsNext, decided_answer}
+use Rattle.bsc_table.proofs.History.HasEntry.{has_entry-with_room}
+use Rattle.bsc_table.proofs.History.NextEntry.{entry_with}
+use Rattle.bsc_table.proofs.Cell.WithEntry.{IsLegal-with}
 use Rattle.bsc_table.proofs.book.CellBook.apply.Goals as goal
 
 pub returns-in-Ok-clause-legal : goal.returns-in-Ok-clause-legal
@@ -19,7 +23,7 @@ returns-in-Ok-clause-legal c =
     let e : Entry = entry_with command r.clock answer in
     let next : IsNext r e = record {
       now = refl;
-      room = omega (arith, c.len.ensures, c.self.inside.log.ok.0, c.if-len-ge-ENTRIES.false);
+      room = omega (arith, c.len.ensures, c.self.inside.log.ok.0, c.if-len-ge-MAX_ENTRIES.false);
       formed = c.requires;
       right = subst Right (sym c.self.view_is) c.decide-decision.ensures.right;
     } in
@@ -37,3 +41,33 @@ returns-in-Ok-clause-entered c =
     ∙ has_entry-with_room r.slots r.log r.air r.clock command in
     let here : answered_with command answer r ≡ entered = ap (λ (b : Bool). cond b entered r) has in
     c.in-Ok.ensures.entered ∙ sym here ∙ ap (λ (a : Answer). answered_with command a r) (sym c.answer-answer.ensures)
+
+-- a full log
+pub returns-then-len-ge-MAX_ENTRIES-clause-step : goal.returns-then-len-ge-MAX_ENTRIES-clause-step
+returns-then-len-ge-MAX_ENTRIES-clause-step c =
+    let Full : Record → Type 0 = λ x. 4096 ≤ length x.log in
+    let full : Full (record_of c.self.inside) =
+    omega (arith, c.len.ensures, c.self.inside.log.ok.0, c.if-len-ge-MAX_ENTRIES.true) in (
+      answers.Cause 0x08,
+      inr (sym (cond-true _ _ _ (le-leb 4096 (length c.args.self.now.log) (subst Full c.self.view_is full)))),
+      refl,
+    )
+
+-- the answer of the decision
+pub returns-in-Ok-clause-step : goal.returns-in-Ok-clause-step
+returns-in-Ok-clause-step c =
+    let r : Record = c.args.self.now in
+    let command = c.args.command.now in
+    let answer : Answer = decided_answer c.decide-decision.result in
+    let Room : Record → Type 0 = λ x. length x.log < 4096 in
+    let room : Room (record_of c.self.inside) =
+    omega (arith, c.len.ensures, c.self.inside.log.ok.0, c.if-len-ge-MAX_ENTRIES.false) in
+    let right : answer ≡ answer_of r.slots r.log r.air r.clock command = c.decide-decision.ensures.right
+    ∙ sym (cond-false _ _ _ (lt-leb 4096 (length r.log) (subst Room c.self.view_is room))) in
+    let has : has_entry answer ≡ true = ap has_entry c.decide-decision.ensures.right
+    ∙ has_entry-with_room r.slots r.log r.air r.clock command in
+    (answer, inr right, c.in-Ok.ensures.entered ∙ sym (cond-true _ _ _ has))
+
+-- out of memory
+pub returns-in-Err-clause-step : goal.returns-in-Err-clause-step
+returns-in-Err-clause-step c = (answers.Refused, inl refl, c.in-Err.ensures.refused)

@@ -1,7 +1,7 @@
 use Rattle.std.proofs.Common.{subst}
 use Rattle.bsc_table.specs.Promised.{IsServed, IsBounded}
 use Rattle.bsc_table.specs.Book.{record_of}
-use Rattle.bsc_table.proofs.Promised.{legal_histories_are_served, legal_histories_are_bounded}
+use Rattle.bsc_table.proofs.History.Promises.{legal_histories_are_served, legal_histories_are_bounded}
 use Rattle.bsc_table.proofs.book.CellBook.clock.Goals as goal
 
 pub returns-clause-served : goal.returns-clause-served

@@ -3,7 +3,7 @@ use Rattle.std.specs.List.{Contains}
 use Rattle.scheduler.specs.Completed.{completed}
 use Rattle.bsc_table.specs.Record.{Record, Accepted, accepted_in, messages_in}
 use Rattle.bsc_table.specs.Book.{accepted_of, record_of}
-use Rattle.bsc_table.proofs.Booked.{told_of_it, completed_of_it}
+use Rattle.bsc_table.proofs.Cell.PlanOfTable.{known_to_plan, completed_of_it}
 use Rattle.bsc_table.proofs.book.CellBook.completed.Goals as goal
 
 pub done-requires : goal.done-requires
@@ -12,7 +12,7 @@ done-requires c =
     let r : Record = record_of c.self.inside in
     let a : Accepted = accepted_of c.args.message.now in
     let There : Record → Type 0 = λ x. Contains (accepted_in x.log) a in
-    told_of_it c.self.inside.plan r.log r.air a book.follows (subst There (sym c.self.view_is) c.requires)
+    known_to_plan c.self.inside.plan r.log r.air a book.follows (subst There (sym c.self.view_is) c.requires)
 
 pub returns : goal.returns
 returns c =

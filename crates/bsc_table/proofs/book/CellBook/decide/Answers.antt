@@ -2,7 +2,7 @@ use Rattle.std.proofs.Common.{◌≡◌, ℕ, length, refl, ap, sym, subst, None
 use Rattle.bsc_table.specs.declared.command.Command.{Command}
 use Rattle.bsc_table.specs.declared.command.Command.TheVariants as commands
 use Rattle.bsc_table.specs.Record.{rank_of, write_message}
-use Rattle.bsc_table.specs.Book.{Decides}
+use Rattle.bsc_table.specs.BookSteps.{Decides}
 use Rattle.bsc_table.proofs.book.CellBook.decide.Goals as goal
 
 pub returns-in-Write-clause-decides : goal.returns-in-Write-clause-decides

@@ -1,6 +1,6 @@
 use Rattle.bsc_table.specs.Book.{accepted_of}
-use Rattle.bsc_table.proofs.Booked.{found_is_there}
-use Rattle.bsc_table.proofs.Decided.{kills}
+use Rattle.bsc_table.proofs.Cell.PlanOfTable.{found_is_there}
+use Rattle.bsc_table.proofs.Cell.Decisions.{kills}
 use Rattle.bsc_table.proofs.book.CellBook.decide_kill.Goals as goal
 
 pub completed-requires : goal.completed-requires

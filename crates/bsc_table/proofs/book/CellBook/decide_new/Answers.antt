@@ -1,8 +1,8 @@
 use Rattle.std.proofs.Common.{subst, sym, ◌∙◌}
 use Rattle.std.proofs.lemmas.Bool.{false≢true}
 use Rattle.bsc_table.specs.Record.{claims_in}
-use Rattle.bsc_table.specs.Book.{HasRoom}
-use Rattle.bsc_table.proofs.Decided.{starts}
+use Rattle.bsc_table.specs.BookSteps.{HasRoom}
+use Rattle.bsc_table.proofs.Cell.Decisions.{starts}
 use Rattle.bsc_table.proofs.book.CellBook.decide_new.Goals as goal
 
 pub returns-in-Ok-clause-decides : goal.returns-in-Ok-clause-decides

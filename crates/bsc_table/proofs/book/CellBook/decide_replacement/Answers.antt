@@ -2,13 +2,14 @@ use Rattle.std.proofs.Common.{◌≡◌, ◌<◌, ℕ, Some, Err, subst, sym, ap
 use Rattle.std.proofs.lemmas.Bool.{false≢true}
 use Rattle.admission.specs.declared.budget.NoRoom.{NoRoom}
 use Rattle.bsc_table.specs.declared.decision.Decision.TheVariants as decisions
-use Rattle.bsc_table.specs.declared.kept.Kept.{Kept}
-use Rattle.bsc_table.specs.declared.kept.Place.{Place}
+use Rattle.bsc_table.specs.declared.accepted.AcceptedMessage.{AcceptedMessage}
+use Rattle.bsc_table.specs.declared.accepted.Place.{Place}
 use Rattle.bsc_table.specs.Record.{place_after}
-use Rattle.bsc_table.specs.declared.kept.TheConstants.{LATEST_START}
-use Rattle.bsc_table.specs.Book.{accepted_of, HasRoom, DecidesWrites, IsLater, place_of, left_by}
-use Rattle.bsc_table.proofs.Booked.{few_places}
-use Rattle.bsc_table.proofs.Decided.{live_in, replaces, takes_over}
+use Rattle.bsc_table.specs.declared.accepted.TheConstants.{LATEST_START}
+use Rattle.bsc_table.specs.Book.{accepted_of}
+use Rattle.bsc_table.specs.BookSteps.{HasRoom, DecidesWrites, IsLater, place_of, left_by}
+use Rattle.bsc_table.proofs.Cell.PlanOfTable.{few_places}
+use Rattle.bsc_table.proofs.Cell.Decisions.{live_in, replaces, takes_over}
 use Rattle.bsc_table.proofs.book.CellBook.decide_replacement.Goals as goal
 
 pub room_without-requires : goal.room_without-requires
@@ -51,8 +52,8 @@ completed-requires-in-Some-later_place c =
 pub returns-in-Some-later_place-clause-decides : goal.returns-in-Some-later_place-clause-decides
 returns-in-Some-later_place-clause-decides c =
     let r = c.args.self.now in
-    let old : Kept = c.in-Some.field-0 in
-    let new : Kept = c.args.new in
+    let old : AcceptedMessage = c.in-Some.field-0 in
+    let new : AcceptedMessage = c.args.new in
     let place : Place = c.in-Some-later_place.place in
     let left = left_by r (accepted_of old) in
     let later : IsLater r (accepted_of old) c.load-in-Err-Load.result (Some place) = subst
@@ -62,7 +63,7 @@ returns-in-Some-later_place-clause-decides c =
     let full = c.in-Err-Load.is ∙ ap (λ (x : NoRoom). Err x) c.in-Err-Load.field-0-is in
     let room = few_places left r.clock c.load.result c.room_without.result c.room_without.ensures full in
     let front = sym c.is_background.ensures ∙ c.if-is_background.false in
-    let Decide : Kept → Type 0 = λ k. DecidesWrites r (accepted_of new) (Some c.args.replaced)
+    let Decide : AcceptedMessage → Type 0 = λ k. DecidesWrites r (accepted_of new) (Some c.args.replaced)
     (decisions.Replaces old k c.completed-in-Some-later_place.result) in
     subst Decide (sym c.waiting_at.ensures) (takes_over r old new place c.args.replaced
     c.completed-in-Some-later_place.result c.requires.legal c.in-Some.ensures c.requires.offered room front over

@@ -1,18 +1,19 @@
 use Rattle.std.proofs.Common.{◌≡◌, ◌<◌, None, List, [], ◌∷◌, ◌++◌, length, map, subst, sym, ap, ◌∙◌, arith}
 use Rattle.std.specs.List.{All}
 use Rattle.admission.specs.declared.budget.Held.{Held}
-use Rattle.scheduler.specs.Message.{Message}
+use Rattle.scheduler.specs.Message.{ScheduledMessage}
 use Rattle.scheduler.specs.Follows.{Follows, message_from}
 use Rattle.bsc_table.specs.declared.entry.Entry.{Entry}
-use Rattle.bsc_table.specs.declared.kept.Kept.{Kept}
+use Rattle.bsc_table.specs.declared.accepted.AcceptedMessage.{AcceptedMessage}
 use Rattle.bsc_table.specs.Record.{Record, Accepted, accepted_in, messages_in, claim_of, claims_in, is_background}
 use Rattle.bsc_table.specs.Claim.{Claim}
-use Rattle.bsc_table.specs.Book.{accepted_of, record_of, lines_at, HasRoomFor, IsNext, IsStart}
-use Rattle.bsc_table.proofs.Begun.{room_for_new}
-use Rattle.bsc_table.proofs.Sound.{IsSound-legal}
-use Rattle.bsc_table.proofs.Ranks.{in_front, layer_tells}
-use Rattle.bsc_table.proofs.Entering.{book_with, messages_with, kept_more, planned_below, held_below, item_message}
-use Rattle.bsc_table.proofs.Entering.{begun_lines, claims_with}
+use Rattle.bsc_table.specs.Book.{accepted_of, record_of, reservations_at}
+use Rattle.bsc_table.specs.BookSteps.{HasRoomFor, IsNext, IsStart}
+use Rattle.bsc_table.proofs.Cell.RoomForNew.{room_for_new}
+use Rattle.bsc_table.proofs.History.LegalIsSound.{IsSound-legal}
+use Rattle.bsc_table.proofs.History.Ranks.{in_front, layer_tells}
+use Rattle.bsc_table.proofs.Cell.WithEntry.{book_with, messages_with, kept_more, planned_below, held_below}
+use Rattle.bsc_table.proofs.Cell.WithEntry.{item_message, begun_reservations, claims_with}
 use Rattle.bsc_table.proofs.book.CellBook.enter_new.Goals as goal
 
 pub add-requires-clause-rising : goal.add-requires-clause-rising
@@ -22,7 +23,7 @@ add-requires-clause-rising c =
     let start = subst Starts (sym c.self.view_is) c.requires.start in
     let may = start.begun in
     let below = planned_below c.self.inside.plan r.log r.air c.self.invariant.follows in
-    let entry = ap (λ (m : Message). m.number) c.item.ensures in
+    let entry = ap (λ (m : ScheduledMessage). m.entry) c.item.ensures in
     λ k d h. omega (arith, below k d h, entry, may.numbered)
 
 pub reserve_for-requires-clause-soon : goal.reserve_for-requires-clause-soon
@@ -37,7 +38,7 @@ reserve_for-requires-clause-unreserved c =
     let r : Record = record_of c.self.inside in
     let Starts : Record → Type 0 = λ x. IsStart x c.args.entry (accepted_of c.args.new) in
     let start = subst Starts (sym c.self.view_is) c.requires.start in
-    let Below : List Held → Type 0 = λ lines. All (λ (h : Held). h.entry < length r.log) lines in
+    let Below : List Held → Type 0 = λ reservations. All (λ (h : Held). h.entry < length r.log) reservations in
     let below = subst Below (sym c.self.invariant.held) (held_below r.clock r.log) in
     λ k d h same. omega (arith, below k d h, start.begun.numbered, same)
 
@@ -47,7 +48,7 @@ reserve_for-requires-clause-room c =
     let new : Accepted = accepted_of c.args.new in
     let Starts : Record → Type 0 = λ x. IsStart x c.args.entry new in
     let start = subst Starts (sym c.self.view_is) c.requires.start in
-    let Room : List Held → Type 0 = λ lines. HasRoomFor r.clock lines (claim_of new) new.behind in
+    let Room : List Held → Type 0 = λ reservations. HasRoomFor r.clock reservations (claim_of new) new.behind in
     λ is. subst Room (sym c.self.invariant.held) (room_for_new (length r.log) r.clock (accepted_in r.log) new
     (IsSound-legal r c.self.invariant.legal).order start.begun (in_front c.args.new.category is))
 
@@ -57,7 +58,7 @@ invariant_of-self-2 c =
     let r : Record = record_of c.self.inside in
     let e : Entry = c.args.entry in
     let new : Accepted = accepted_of c.args.new in
-    let before : List Message = messages_in r.log in
+    let before : List ScheduledMessage = messages_in r.log in
     let inside = sym c.self.view_is in
     let Next : Record → Type 0 = λ x. IsNext x e in
     let Starts : Record → Type 0 = λ x. IsStart x e new in
@@ -67,21 +68,23 @@ invariant_of-self-2 c =
     let adds = start.after in
     let sound = IsSound-legal r book.legal in
     -- the log and what is kept
-    let grown = c.push_within-2.ensures.items ∙ ap (λ (l : List Entry). l ++ e ∷ []) c.reserve.ensures.items in
-    let kept = c.push_within.ensures.items ∙ ap (λ (l : List Kept). l ++ c.args.new ∷ []) c.reserve-2.ensures.items in
+    let grown = c.push_reserved-2.ensures.items ∙ ap (λ (l : List Entry). l ++ e ∷ []) c.reserve.ensures.items in
+    let kept = c.push_reserved.ensures.items ∙ ap (λ (l : List AcceptedMessage). l ++ c.args.new ∷ [])
+    c.reserve-2.ensures.items in
     let more = ap (map accepted_of) kept ∙ kept_more c.self.inside.accepted.items c.args.new (accepted_in r.log)
     book.kept ∙ sym adds in
     -- the plan
-    let told = item_message new.message (message_from c.item.result) c.item.ensures may.standing in
+    let same_item = item_message new.message (message_from c.item.result) c.item.ensures may.standing in
     let messages = messages_with r.log e (accepted_in r.log) new adds in
-    let FollowsOne : Message → Type 0 = λ m. Follows c.add.new.self (before ++ m ∷ []) r.air in
-    let follows = subst FollowsOne told (c.in_ok-add.ensures.follows before r.air book.follows) in
+    let FollowsOne : ScheduledMessage → Type 0 = λ m. Follows c.add.new.self (before ++ m ∷ []) r.air in
+    let follows = subst FollowsOne same_item (c.in_ok-add.ensures.follows before r.air book.follows) in
     -- the budget
     let claims = claims_with r.log e (accepted_in r.log) new adds in
-    let lines = begun_lines (length r.log) r.clock None (accepted_in r.log) (claims_in r.log) new may
+    let reservations = begun_reservations (length r.log) r.clock None (accepted_in r.log) (claims_in r.log) new may
     c.self.inside.budget c.reserve_for.new.budget book.held (is_background c.args.new.category)
     (layer_tells c.args.new.category) c.reserve_for.ensures in
-    let FollowsAll : List Message → Type 0 = λ all. Follows c.add.new.self all r.air in
-    let HeldFor : List Claim → Type 0 = λ all. c.reserve_for.new.budget ≡ lines_at r.clock all in
-    book_with c.self.inside e c.push_within-2.new.list c.push_within.new.list c.add.new.self c.reserve_for.new.budget
-    book next grown more (subst FollowsAll (sym messages) follows) (subst HeldFor (sym claims) lines)
+    let FollowsAll : List ScheduledMessage → Type 0 = λ all. Follows c.add.new.self all r.air in
+    let HeldFor : List Claim → Type 0 = λ all. c.reserve_for.new.budget ≡ reservations_at r.clock all in
+    book_with c.self.inside e c.push_reserved-2.new.self c.push_reserved.new.self c.add.new.self
+    c.reserve_for.new.budget
+    book next grown more (subst FollowsAll (sym messages) follows) (subst HeldFor (sym claims) reservations)

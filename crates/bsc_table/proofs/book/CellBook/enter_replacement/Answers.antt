@@ -5,20 +5,22 @@ use Rattle.std.specs.List.{All, Any}
 use Rattle.std.proofs.lemmas.List.Elements.{All-contains}
 use Rattle.admission.specs.declared.budget.Held.{Held}
 use Rattle.admission.specs.Waiting.{behind_of}
-use Rattle.scheduler.specs.Message.{Message, stopped_at}
+use Rattle.scheduler.specs.Message.{ScheduledMessage, stopped_at}
 use Rattle.scheduler.specs.Follows.{Follows, messages_of, message_from}
 use Rattle.bsc_table.specs.declared.entry.Entry.{Entry}
-use Rattle.bsc_table.specs.declared.kept.Kept.{Kept}
+use Rattle.bsc_table.specs.declared.accepted.AcceptedMessage.{AcceptedMessage}
 use Rattle.bsc_table.specs.Record.{Record, Accepted, accepted_in, messages_in, claim_of, claims_in, is_background}
 use Rattle.bsc_table.specs.Claim.{Claim, reserves, stop_claims}
-use Rattle.bsc_table.specs.Book.{accepted_of, stop_numbered, record_of, lines_at, HasRoomFor, IsNext, IsReplacement}
-use Rattle.bsc_table.proofs.Outcome.{messages_stopped, claims_stopped}
-use Rattle.bsc_table.proofs.Begun.{room_for_replacement}
-use Rattle.bsc_table.proofs.Sound.{HasLoad, IsSound-legal}
-use Rattle.bsc_table.proofs.Ranks.{in_front, layer_tells}
-use Rattle.bsc_table.proofs.Entering.{free_of, book_with, table_stopped, released_lines, messages_with, kept_more}
-use Rattle.bsc_table.proofs.Entering.{planned_below, held_below_without, number_below, standing_in, standing_beside}
-use Rattle.bsc_table.proofs.Entering.{held_in, item_message, begun_lines, claims_with, stopped_beside}
+use Rattle.bsc_table.specs.Book.{accepted_of, record_of, reservations_at}
+use Rattle.bsc_table.specs.BookSteps.{stop_numbered, HasRoomFor, IsNext, IsReplacement}
+use Rattle.bsc_table.proofs.History.NextEntry.{messages_stopped, claims_stopped}
+use Rattle.bsc_table.proofs.Cell.RoomForNew.{room_for_replacement}
+use Rattle.bsc_table.proofs.History.LegalIsSound.{HasLoad, IsSound-legal}
+use Rattle.bsc_table.proofs.History.Ranks.{in_front, layer_tells}
+use Rattle.bsc_table.proofs.Cell.WithEntry.{free_of, book_with, table_stopped, released_reservations, messages_with}
+use Rattle.bsc_table.proofs.Cell.WithEntry.{kept_more, planned_below, held_below_without, number_below, standing_in}
+use Rattle.bsc_table.proofs.Cell.WithEntry.{standing_beside, held_in, item_message, begun_reservations, claims_with}
+use Rattle.bsc_table.proofs.Cell.WithEntry.{stopped_beside}
 use Rattle.bsc_table.proofs.book.CellBook.enter_replacement.Goals as goal
 
 pub add-requires-clause-rising : goal.add-requires-clause-rising
@@ -29,7 +31,7 @@ add-requires-clause-rising c =
     let change = subst Replaces (sym c.self.view_is) c.requires.replacement in
     let may = change.begun in
     let below = planned_below c.self.inside.plan r.log r.air c.self.invariant.follows in
-    let entry = ap (λ (m : Message). m.number) c.item.ensures in
+    let entry = ap (λ (m : ScheduledMessage). m.entry) c.item.ensures in
     λ k d h. omega (arith, below k d h, entry, may.numbered)
 
 pub stop-requires-2-clause-standing : goal.stop-requires-2-clause-standing
@@ -41,7 +43,7 @@ stop-requires-2-clause-standing c =
     let found = standing_in c.self.inside.plan r.clock r.log r.air old c.self.invariant.follows change.stops.there
     change.stops.live in
     standing_beside c.add.new.self r.clock r.log old (messages_of c.self.inside.plan) (message_from c.item.result)
-    c.in_ok-add.ensures.told found
+    c.in_ok-add.ensures.messages found
 
 pub release-requires-clause-period : goal.release-requires-clause-period
 release-requires-clause-period c =
@@ -58,7 +60,7 @@ release-requires-clause-reserved c =
     let old : Accepted = accepted_of c.args.old.now in
     let Replaces : Record → Type 0 = λ x. IsReplacement x c.args.entry old (accepted_of c.args.new) in
     let change = subst Replaces (sym c.self.view_is) c.requires.replacement in
-    let Has : List Held → Type 0 = λ lines. Any (λ (h : Held). h.entry ≡ old.message.number) lines in
+    let Has : List Held → Type 0 = λ reservations. Any (λ (h : Held). h.entry ≡ old.message.entry) reservations in
     λ is. subst Has (sym c.self.invariant.held) (held_in r old c.self.invariant.legal change.stops
     (in_front c.args.old.now.category is))
 
@@ -66,14 +68,15 @@ pub reserve_for-requires-clause-unreserved : goal.reserve_for-requires-clause-un
 reserve_for-requires-clause-unreserved c =
     let r : Record = record_of c.self.inside in
     let old : Accepted = accepted_of c.args.old.now in
-    let number : ℕ = old.message.number in
+    let entry : ℕ = old.message.entry in
     let Replaces : Record → Type 0 = λ x. IsReplacement x c.args.entry old (accepted_of c.args.new) in
     let change = subst Replaces (sym c.self.view_is) c.requires.replacement in
-    let lines = released_lines r old c.self.inside.budget c.release.new.budget c.self.invariant.legal change.stops
+    let reservations = released_reservations r old c.self.inside.budget c.release.new.budget c.self.invariant.legal
+    change.stops
     c.self.invariant.held (is_background c.args.old.now.category) (layer_tells c.args.old.now.category)
     c.release.ensures in
     let Below : List Held → Type 0 = λ l. All (λ (h : Held). h.entry < length r.log) l in
-    let below = subst Below (sym lines) (held_below_without r.clock number r.log) in
+    let below = subst Below (sym reservations) (held_below_without r.clock entry r.log) in
     λ k d h same. omega (arith, below k d h, change.begun.numbered, same)
 
 pub reserve_for-requires-clause-room : goal.reserve_for-requires-clause-room
@@ -83,12 +86,14 @@ reserve_for-requires-clause-room c =
     let new : Accepted = accepted_of c.args.new in
     let Replaces : Record → Type 0 = λ x. IsReplacement x c.args.entry old new in
     let change = subst Replaces (sym c.self.view_is) c.requires.replacement in
-    let lines = released_lines r old c.self.inside.budget c.release.new.budget c.self.invariant.legal change.stops
+    let reservations = released_reservations r old c.self.inside.budget c.release.new.budget c.self.invariant.legal
+    change.stops
     c.self.invariant.held (is_background c.args.old.now.category) (layer_tells c.args.old.now.category)
     c.release.ensures in
     let Room : List Held → Type 0 = λ l. HasRoomFor r.clock l (claim_of new) new.behind in
     let sound = IsSound-legal r c.self.invariant.legal in
-    λ is. subst Room (sym lines) (room_for_replacement (length r.log) r.clock (accepted_in r.log) old new sound.order
+    λ is. subst Room (sym reservations) (room_for_replacement (length r.log) r.clock (accepted_in r.log) old new
+    sound.order
     sound.rising change.stops.there change.stops.live change.begun (in_front c.args.new.category is))
 
 pub release-requires-clause-free : goal.release-requires-clause-free
@@ -96,7 +101,8 @@ release-requires-clause-free c =
     let r : Record = record_of c.self.inside in
     let old : Accepted = accepted_of c.args.old.now in
     let Replaces : Record → Type 0 = λ x. IsReplacement x c.args.entry old (accepted_of c.args.new) in
-    let Free : List Held → Type 0 = λ lines. All (λ (h : Held). behind_of h ≢ Some old.message.number) lines in
+    let Free : List Held → Type 0 = λ reservations. All (λ (h : Held). behind_of h ≢ Some old.message.entry)
+    reservations in
     let change = subst Replaces (sym c.self.view_is) c.requires.replacement in
     λ is. subst Free (sym c.self.invariant.held) (free_of r old c.self.invariant.legal change.stops
     (in_front c.args.old.now.category is))
@@ -108,10 +114,10 @@ invariant_of-self-2 c =
     let e : Entry = c.args.entry in
     let old : Accepted = accepted_of c.args.old.now in
     let new : Accepted = accepted_of c.args.new in
-    let number : ℕ = old.message.number in
-    let rest : List Accepted = map (stop_numbered number r.clock) (accepted_in r.log) in
-    let before : List Message = messages_in r.log in
-    let after : List Message = stopped_at number r.clock before in
+    let entry : ℕ = old.message.entry in
+    let rest : List Accepted = map (stop_numbered entry r.clock) (accepted_in r.log) in
+    let before : List ScheduledMessage = messages_in r.log in
+    let after : List ScheduledMessage = stopped_at entry r.clock before in
     let inside = sym c.self.view_is in
     let Next : Record → Type 0 = λ x. IsNext x e in
     let Replaces : Record → Type 0 = λ x. IsReplacement x e old new in
@@ -119,37 +125,38 @@ invariant_of-self-2 c =
     let change = subst Replaces inside c.requires.replacement in
     let may = change.begun in
     let sound = IsSound-legal r book.legal in
-    let same = messages_stopped number r.clock (accepted_in r.log) in
+    let same = messages_stopped entry r.clock (accepted_in r.log) in
     -- the log and what is kept
-    let grown = c.push_within-2.ensures.items ∙ ap (λ (l : List Entry). l ++ e ∷ []) c.reserve.ensures.items in
+    let grown = c.push_reserved-2.ensures.items ∙ ap (λ (l : List Entry). l ++ e ∷ []) c.reserve.ensures.items in
     let room = c.reserve-2.new.self in
-    let stopped = table_stopped room c.as_mut_slice.result.now c.stop.new.table number r.clock
+    let stopped = table_stopped room c.as_mut_slice.result.now c.stop.new.table entry r.clock
     c.as_mut_slice.ensures.value c.as_mut_slice.ensures.len c.stop.ensures
-    ∙ ap (λ (l : List Kept). map (stop_numbered number r.clock) (map accepted_of l)) c.reserve-2.ensures.items
-    ∙ ap (map (stop_numbered number r.clock)) book.kept in
-    let kept = ap (map accepted_of) c.push_within.ensures.items
+    ∙ ap (λ (l : List AcceptedMessage). map (stop_numbered entry r.clock) (map accepted_of l)) c.reserve-2.ensures.items
+    ∙ ap (map (stop_numbered entry r.clock)) book.kept in
+    let kept = ap (map accepted_of) c.push_reserved.ensures.items
     ∙ kept_more (with_items room c.stop.new.table).items c.args.new rest stopped ∙ sym change.after in
     -- the plan
-    let told = item_message new.message (message_from c.item.result) c.item.ensures may.standing in
+    let same_item = item_message new.message (message_from c.item.result) c.item.ensures may.standing in
     let messages = messages_with r.log e rest new change.after
-    ∙ ap (λ (l : List Message). l ++ new.message ∷ []) same in
-    let FollowsOne : Message → Type 0 = λ m. Follows c.add.new.self (before ++ m ∷ []) r.air in
-    let added = subst FollowsOne told (c.in_ok-add.ensures.follows before r.air book.follows) in
-    let FollowsThese : List Message → Type 0 = λ all. Follows c.stop-2.new.self all r.air in
+    ∙ ap (λ (l : List ScheduledMessage). l ++ new.message ∷ []) same in
+    let FollowsOne : ScheduledMessage → Type 0 = λ m. Follows c.add.new.self (before ++ m ∷ []) r.air in
+    let added = subst FollowsOne same_item (c.in_ok-add.ensures.follows before r.air book.follows) in
+    let FollowsThese : List ScheduledMessage → Type 0 = λ all. Follows c.stop-2.new.self all r.air in
     let below = number_below r.log old change.stops.there in
-    let apart = stopped_beside number r.clock before new.message (λ equal. omega (arith, below, may.numbered, equal)) in
+    let apart = stopped_beside entry r.clock before new.message (λ equal. omega (arith, below, may.numbered, equal)) in
     let follows = subst FollowsThese apart (c.stop-2.ensures.follows (before ++ new.message ∷ []) r.air added) in
     -- the budget
-    let left : List Claim = stop_claims number r.clock (claims_in r.log) in
-    let released = released_lines r old c.self.inside.budget c.release.new.budget book.legal change.stops book.held
+    let left : List Claim = stop_claims entry r.clock (claims_in r.log) in
+    let released = released_reservations r old c.self.inside.budget c.release.new.budget book.legal change.stops
+    book.held
     (is_background c.args.old.now.category) (layer_tells c.args.old.now.category) c.release.ensures in
     let claims = claims_with r.log e rest new change.after ∙ ap
     (λ (l : List Claim). l ++ filter reserves (claim_of new ∷ []))
-    (claims_stopped number r.clock (accepted_in r.log)) in
-    let lines = begun_lines (length r.log) r.clock (Some old) rest left new may c.release.new.budget
+    (claims_stopped entry r.clock (accepted_in r.log)) in
+    let reservations = begun_reservations (length r.log) r.clock (Some old) rest left new may c.release.new.budget
     c.reserve_for.new.budget released (is_background c.args.new.category) (layer_tells c.args.new.category)
     c.reserve_for.ensures in
-    let HeldFor : List Claim → Type 0 = λ all. c.reserve_for.new.budget ≡ lines_at r.clock all in
-    book_with c.self.inside e c.push_within-2.new.list c.push_within.new.list c.stop-2.new.self
+    let HeldFor : List Claim → Type 0 = λ all. c.reserve_for.new.budget ≡ reservations_at r.clock all in
+    book_with c.self.inside e c.push_reserved-2.new.self c.push_reserved.new.self c.stop-2.new.self
     c.reserve_for.new.budget book next grown kept (subst FollowsThese (sym messages) follows)
-    (subst HeldFor (sym claims) lines)
+    (subst HeldFor (sym claims) reservations)

@@ -4,16 +4,17 @@ use Rattle.std.specs.List.{All, Any}
 use Rattle.std.proofs.lemmas.List.Elements.{All-contains}
 use Rattle.admission.specs.declared.budget.Held.{Held}
 use Rattle.admission.specs.Waiting.{behind_of}
-use Rattle.scheduler.specs.Message.{Message}
+use Rattle.scheduler.specs.Message.{ScheduledMessage}
 use Rattle.scheduler.specs.Follows.{Follows}
 use Rattle.bsc_table.specs.declared.entry.Entry.{Entry}
 use Rattle.bsc_table.specs.Record.{Record, Accepted, accepted_in, messages_in, is_background}
 use Rattle.bsc_table.specs.Claim.{Claim}
-use Rattle.bsc_table.specs.Book.{accepted_of, stop_numbered, record_of, lines_at, IsNext, IsStop}
-use Rattle.bsc_table.proofs.Sound.{HasLoad, IsSound-legal}
-use Rattle.bsc_table.proofs.Ranks.{in_front, layer_tells}
-use Rattle.bsc_table.proofs.Entering.{messages_without, claims_without, free_of, table_stopped, released_lines}
-use Rattle.bsc_table.proofs.Entering.{book_with, standing_in, held_in}
+use Rattle.bsc_table.specs.Book.{accepted_of, record_of, reservations_at}
+use Rattle.bsc_table.specs.BookSteps.{stop_numbered, IsNext, IsStop}
+use Rattle.bsc_table.proofs.History.LegalIsSound.{HasLoad, IsSound-legal}
+use Rattle.bsc_table.proofs.History.Ranks.{in_front, layer_tells}
+use Rattle.bsc_table.proofs.Cell.WithEntry.{messages_without, claims_without, free_of, table_stopped}
+use Rattle.bsc_table.proofs.Cell.WithEntry.{released_reservations, book_with, standing_in, held_in}
 use Rattle.bsc_table.proofs.book.CellBook.enter_stop.Goals as goal
 
 pub stop-requires-2-clause-standing : goal.stop-requires-2-clause-standing
@@ -37,7 +38,7 @@ release-requires-clause-reserved c =
     let r : Record = record_of c.self.inside in
     let old : Accepted = accepted_of c.args.old.now in
     let Stops : Record → Type 0 = λ x. IsStop x c.args.entry old in
-    let Has : List Held → Type 0 = λ lines. Any (λ (h : Held). h.entry ≡ old.message.number) lines in
+    let Has : List Held → Type 0 = λ reservations. Any (λ (h : Held). h.entry ≡ old.message.entry) reservations in
     let stop = subst Stops (sym c.self.view_is) c.requires.stop in
     λ is. subst Has (sym c.self.invariant.held) (held_in r old c.self.invariant.legal stop.stops
     (in_front c.args.old.now.category is))
@@ -47,7 +48,8 @@ release-requires-clause-free c =
     let r : Record = record_of c.self.inside in
     let old : Accepted = accepted_of c.args.old.now in
     let Stops : Record → Type 0 = λ x. IsStop x c.args.entry old in
-    let Free : List Held → Type 0 = λ lines. All (λ (h : Held). behind_of h ≢ Some old.message.number) lines in
+    let Free : List Held → Type 0 = λ reservations. All (λ (h : Held). behind_of h ≢ Some old.message.entry)
+    reservations in
     let stop = subst Stops (sym c.self.view_is) c.requires.stop in
     λ is. subst Free (sym c.self.invariant.held) (free_of r old c.self.invariant.legal stop.stops
     (in_front c.args.old.now.category is))
@@ -58,24 +60,25 @@ invariant_of-self-2 c =
     let r : Record = record_of c.self.inside in
     let e : Entry = c.args.entry in
     let old : Accepted = accepted_of c.args.old.now in
-    let number : ℕ = old.message.number in
+    let entry : ℕ = old.message.entry in
     let Next : Record → Type 0 = λ x. IsNext x e in
     let Stops : Record → Type 0 = λ x. IsStop x e old in
     let next = subst Next (sym c.self.view_is) c.requires.next in
     let stop = subst Stops (sym c.self.view_is) c.requires.stop in
     -- the log and what is kept
-    let grown = c.push_within.ensures.items ∙ ap (λ (l : List Entry). l ++ e ∷ []) c.reserve.ensures.items in
-    let fewer = table_stopped c.self.inside.accepted c.as_mut_slice.result.now c.stop.new.table number r.clock
+    let grown = c.push_reserved.ensures.items ∙ ap (λ (l : List Entry). l ++ e ∷ []) c.reserve.ensures.items in
+    let fewer = table_stopped c.self.inside.accepted c.as_mut_slice.result.now c.stop.new.table entry r.clock
     c.as_mut_slice.ensures.value c.as_mut_slice.ensures.len c.stop.ensures
-    ∙ ap (map (stop_numbered number r.clock)) book.kept ∙ sym stop.after in
+    ∙ ap (map (stop_numbered entry r.clock)) book.kept ∙ sym stop.after in
     -- the plan and the budget
-    let messages = messages_without r.log e number r.clock stop.after in
+    let messages = messages_without r.log e entry r.clock stop.after in
     let follows = c.stop-2.ensures.follows (messages_in r.log) r.air book.follows in
-    let lines = released_lines r old c.self.inside.budget c.release.new.budget book.legal stop.stops book.held
+    let reservations = released_reservations r old c.self.inside.budget c.release.new.budget book.legal stop.stops
+    book.held
     (is_background c.args.old.now.category) (layer_tells c.args.old.now.category) c.release.ensures in
-    let FollowsAll : List Message → Type 0 = λ all. Follows c.stop-2.new.self all r.air in
-    let claims = claims_without r.log e number r.clock stop.after in
-    let HeldFor : List Claim → Type 0 = λ all. c.release.new.budget ≡ lines_at r.clock all in
-    book_with c.self.inside e c.push_within.new.list (with_items c.self.inside.accepted c.stop.new.table)
+    let FollowsAll : List ScheduledMessage → Type 0 = λ all. Follows c.stop-2.new.self all r.air in
+    let claims = claims_without r.log e entry r.clock stop.after in
+    let HeldFor : List Claim → Type 0 = λ all. c.release.new.budget ≡ reservations_at r.clock all in
+    book_with c.self.inside e c.push_reserved.new.self (with_items c.self.inside.accepted c.stop.new.table)
     c.stop-2.new.self c.release.new.budget book next grown fewer (subst FollowsAll (sym messages) follows)
-    (subst HeldFor (sym claims) lines)
+    (subst HeldFor (sym claims) reservations)

@@ -1,22 +1,23 @@
 use Rattle.std.proofs.Common.{◌≡◌, ◌<◌, ℕ, Bool, Some, None, List, map, subst, sym, ap, ◌∙◌}
 use Rattle.std.specs.List.{find}
 use Rattle.std.specs.Option.{option_map}
-use Rattle.bsc_table.specs.declared.kept.Kept.{Kept}
+use Rattle.bsc_table.specs.declared.accepted.AcceptedMessage.{AcceptedMessage}
 use Rattle.bsc_table.specs.Record.{Record, Accepted, accepted_in, claim_of, place_after}
 use Rattle.bsc_table.specs.Handover.{ahead_of, place_before}
-use Rattle.bsc_table.specs.Book.{accepted_of, record_of, stopped_end, place_of, left_by, IsLiveIn}
-use Rattle.bsc_table.proofs.Placed.{is_reserved_as, none_ahead, found_lasts, place_ahead, place_in_front}
-use Rattle.bsc_table.proofs.Ranks.{in_front}
+use Rattle.bsc_table.specs.Book.{accepted_of, record_of}
+use Rattle.bsc_table.specs.BookSteps.{stopped_end, place_of, left_by, IsLiveIn}
+use Rattle.bsc_table.proofs.Cell.Places.{is_reserved_as, none_ahead, found_lasts, place_ahead, place_in_front}
+use Rattle.bsc_table.proofs.History.Ranks.{in_front}
 use Rattle.bsc_table.proofs.book.CellBook.place_after.Goals as goal
 
 pub returns-in_err-ahead-clause-place : goal.returns-in_err-ahead-clause-place
 returns-in_err-ahead-clause-place c =
     let r : Record = record_of c.self.inside in
     let old : Accepted = accepted_of c.args.old.now in
-    let number : ℕ = c.in_ok-number.number in
-    let p : Accepted → Bool = is_reserved_as number in
-    let ahead : ahead_of r.clock (claim_of old) ≡ Some number = sym c.ahead_at.ensures ∙ c.in_ok-number.was in
-    let table = ap (λ (l : List Kept). find p (map accepted_of l)) c.as_slice.ensures.value
+    let entry : ℕ = c.in_ok-entry.entry in
+    let p : Accepted → Bool = is_reserved_as entry in
+    let ahead : ahead_of r.clock (claim_of old) ≡ Some entry = sym c.ahead_at.ensures ∙ c.in_ok-entry.was in
+    let table = ap (λ (l : List AcceptedMessage). find p (map accepted_of l)) c.as_slice.ensures.value
     ∙ ap (find p) c.self.invariant.kept in
     let found : find p (accepted_in r.log) ≡ None = sym table ∙ sym c.reserved.ensures
     ∙ ap (option_map accepted_of) c.in_err-ahead.was in
@@ -24,29 +25,29 @@ returns-in_err-ahead-clause-place c =
     let front = in_front c.args.old.now.category (sym c.is_background.ensures ∙ c.if-is_background.false) in
     ap (option_map place_of) c.from_residual-in_err-ahead.ensures
     ∙ subst Over c.self.view_is (sym (place_in_front (left_by r old) r.clock c.args.load old front
-    ∙ none_ahead r old number c.args.load ahead found))
+    ∙ none_ahead r old entry c.args.load ahead found))
 
 pub place_behind-requires : goal.place_behind-requires
 place_behind-requires c =
     let r : Record = record_of c.self.inside in
-    let number : ℕ = c.in_ok-number.number in
-    let p : Accepted → Bool = is_reserved_as number in
-    let table = ap (λ (l : List Kept). find p (map accepted_of l)) c.as_slice.ensures.value
+    let entry : ℕ = c.in_ok-entry.entry in
+    let p : Accepted → Bool = is_reserved_as entry in
+    let table = ap (λ (l : List AcceptedMessage). find p (map accepted_of l)) c.as_slice.ensures.value
     ∙ ap (find p) c.self.invariant.kept in
     let found : find p (accepted_in r.log) ≡ Some (accepted_of c.in_ok-ahead.ahead) = sym table
     ∙ sym c.reserved.ensures ∙ ap (option_map accepted_of) c.in_ok-ahead.was in
-    let lasts = found_lasts r number (accepted_of c.in_ok-ahead.ahead) c.self.invariant.legal found in
-    subst (λ (k : Kept). 0 < k.period) (sym c.stopped_if-stopped.ensures) lasts
+    let lasts = found_lasts r entry (accepted_of c.in_ok-ahead.ahead) c.self.invariant.legal found in
+    subst (λ (k : AcceptedMessage). 0 < k.period) (sym c.stopped_if-stopped.ensures) lasts
 
 pub returns-clause-place : goal.returns-clause-place
 returns-clause-place c =
     let r : Record = record_of c.self.inside in
     let old : Accepted = accepted_of c.args.old.now in
-    let k : Kept = c.in_ok-ahead.ahead in
-    let number : ℕ = c.in_ok-number.number in
-    let p : Accepted → Bool = is_reserved_as number in
-    let ahead : ahead_of r.clock (claim_of old) ≡ Some number = sym c.ahead_at.ensures ∙ c.in_ok-number.was in
-    let table = ap (λ (l : List Kept). find p (map accepted_of l)) c.as_slice.ensures.value
+    let k : AcceptedMessage = c.in_ok-ahead.ahead in
+    let entry : ℕ = c.in_ok-entry.entry in
+    let p : Accepted → Bool = is_reserved_as entry in
+    let ahead : ahead_of r.clock (claim_of old) ≡ Some entry = sym c.ahead_at.ensures ∙ c.in_ok-entry.was in
+    let table = ap (λ (l : List AcceptedMessage). find p (map accepted_of l)) c.as_slice.ensures.value
     ∙ ap (find p) c.self.invariant.kept in
     let found : find p (accepted_in r.log) ≡ Some (accepted_of k) = sym table ∙ sym c.reserved.ensures
     ∙ ap (option_map accepted_of) c.in_ok-ahead.was in
@@ -54,8 +55,8 @@ returns-clause-place c =
     let Over : Record → Type 0 = λ x. option_map place_of c.place_behind.result ≡ place_after (left_by x old) x.clock
     old c.args.load in
     let front = in_front c.args.old.now.category (sym c.is_background.ensures ∙ c.if-is_background.false) in
-    let same = ap (λ (s : Kept). place_before r.clock c.args.load (claim_of (accepted_of s)) (stopped_end s))
+    let same = ap (λ (s : AcceptedMessage). place_before r.clock c.args.load (claim_of (accepted_of s)) (stopped_end s))
     c.stopped_if-stopped.ensures in
     subst Over c.self.view_is (c.place_behind.ensures.place ∙ same
-    ∙ place_ahead r old number c.args.load k c.self.invariant.legal live front ahead found
+    ∙ place_ahead r old entry c.args.load k c.self.invariant.legal live front ahead found
     ∙ sym (place_in_front (left_by r old) r.clock c.args.load old front))

@@ -6,10 +6,11 @@ use Rattle.scheduler.specs.Follows.{Follows}
 use Rattle.bsc_table.specs.Record.{Record, messages_in, claims_in}
 use Rattle.bsc_table.specs.Claim.{Claim}
 use Rattle.bsc_table.specs.Legal.{IsLegal}
-use Rattle.bsc_table.specs.Book.{air_told, record_of, IsPlayedUpTo}
-use Rattle.bsc_table.proofs.BookLaws.{IsLegal-next}
-use Rattle.bsc_table.proofs.Sound.{IsSound-legal}
-use Rattle.bsc_table.proofs.Lines.{lines_at-later}
+use Rattle.bsc_table.specs.Book.{air_pairs, record_of}
+use Rattle.bsc_table.specs.BookSteps.{IsGoneTo}
+use Rattle.bsc_table.proofs.History.LegalWithSlot.{IsLegal-next}
+use Rattle.bsc_table.proofs.History.LegalIsSound.{IsSound-legal}
+use Rattle.bsc_table.proofs.Cell.BudgetOfTable.{reservations_at-later}
 use Rattle.bsc_table.proofs.book.CellBook.play_slot.Goals as goal
 
 pub invariant_of-self : goal.invariant_of-self
@@ -26,25 +27,27 @@ invariant_of-self c =
     let FollowsTo : Air → Type 0 = λ air. Follows c.next-used.new.self messages air in
     let accepted : All (λ (k : Claim). k.accepted ≤ r.clock) (claims_in r.log) =
     (IsSound-legal r book.legal).order.accepted in
-    let later = lines_at-later r.clock (r.clock + 1) (claims_in r.log) (omega arith) accepted in
+    let later = reservations_at-later r.clock (r.clock + 1) (claims_in r.log) (omega arith) accepted in
     record {
-      legal = subst Legal (sym c.put.ensures.aired) (IsLegal-next r used ahead chosen book.legal);
+      legal = subst Legal (sym c.push_aired.ensures.aired) (IsLegal-next r used ahead chosen book.legal);
       short = book.short;
       kept = book.kept;
-      follows = subst FollowsTo (sym c.put.ensures.aired) (c.next-used.ensures.follows messages r.air book.follows);
+      follows = subst FollowsTo (sym c.push_aired.ensures.aired)
+          (c.next-used.ensures.follows messages r.air book.follows);
       held = c.pass_slot.ensures ∙ ap (passed (r.clock + 1)) book.held ∙ later;
-      places = omega (arith, c.put.ensures.places, book.places);
-      room = omega (arith, c.put.ensures.room, book.room);
+      places = omega (arith, c.push_aired.ensures.places, book.places);
+      room = omega (arith, c.push_aired.ensures.room, book.room);
     }
 
 pub returns : goal.returns
 returns c =
-    let P : Record → Type 0 = λ before. IsPlayedUpTo (before.clock + 1) before
-    (record (record_of c.self.inside) { clock = c.self.inside.clock + 1; air = air_told c.put.new.air.items }) in
+    let P : Record → Type 0 = λ before. IsGoneTo (before.clock + 1) before
+    (record (record_of c.self.inside) { clock = c.self.inside.clock + 1; air = air_pairs c.push_aired.new.air.items })
+    in
     subst P c.self.view_is (record {
       same_cell = refl;
       same_slots = refl;
       same_log = refl;
       clock_at = refl;
-      more_air = (c.next-used.result ∷ [], c.put.ensures.aired);
+      more_air = (c.next-used.result ∷ [], c.push_aired.ensures.aired);
     })

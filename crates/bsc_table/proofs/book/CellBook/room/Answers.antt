@@ -2,8 +2,9 @@ use Rattle.std.proofs.Common.{List, subst, sym, ap, ◌∙◌}
 use Rattle.admission.specs.declared.budget.Held.{Held}
 use Rattle.admission.specs.Table.{answer_for}
 use Rattle.bsc_table.specs.Record.{Record, claims_in}
-use Rattle.bsc_table.specs.Book.{record_of, IsRoom}
-use Rattle.bsc_table.proofs.Booked.{room_now}
+use Rattle.bsc_table.specs.Book.{record_of}
+use Rattle.bsc_table.specs.BookSteps.{IsRoom}
+use Rattle.bsc_table.proofs.Cell.PlanOfTable.{room_now}
 use Rattle.bsc_table.proofs.book.CellBook.room.Goals as goal
 
 pub returns : goal.returns

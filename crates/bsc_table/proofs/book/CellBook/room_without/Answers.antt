@@ -5,9 +5,10 @@ use Rattle.admission.specs.Reservation.{end_of_stopped}
 use Rattle.admission.specs.Table.{answer_for, remaining_without}
 use Rattle.bsc_table.specs.Claim.{stop_claims}
 use Rattle.bsc_table.specs.Record.{Record, Accepted, accepted_in, claims_in}
-use Rattle.bsc_table.specs.Book.{accepted_of, record_of, IsLiveIn, IsRoom}
-use Rattle.bsc_table.proofs.Sound.{HasLoad, IsSound-legal}
-use Rattle.bsc_table.proofs.Booked.{room_after_stop}
+use Rattle.bsc_table.specs.Book.{accepted_of, record_of}
+use Rattle.bsc_table.specs.BookSteps.{IsLiveIn, IsRoom}
+use Rattle.bsc_table.proofs.History.LegalIsSound.{HasLoad, IsSound-legal}
+use Rattle.bsc_table.proofs.Cell.PlanOfTable.{room_after_stop}
 use Rattle.bsc_table.proofs.book.CellBook.room_without.Goals as goal
 
 pub leaving_at-requires : goal.leaving_at-requires
@@ -27,9 +28,9 @@ returns c =
     let asked = c.fits.ensures ∙ ap (λ (leaving : Option ℕ). answer_for
     (remaining_without leaving c.self.inside.budget) load) c.leaving_at.ensures
     ∙ ap (λ (l : List Held). answer_for (remaining_without
-    (cond (end_of_stopped a.message.start a.message.period r.clock == r.clock) (Some a.message.number) None) l)
+    (cond (end_of_stopped a.message.start a.message.period r.clock == r.clock) (Some a.message.entry) None) l)
     load) book.held in
-    let Room : Record → Type 0 = λ x. IsRoom (stop_claims a.message.number x.clock (claims_in x.log)) x.clock load
+    let Room : Record → Type 0 = λ x. IsRoom (stop_claims a.message.entry x.clock (claims_in x.log)) x.clock load
     c.fits.result in
-    subst Room c.self.view_is (subst (IsRoom (stop_claims a.message.number r.clock (claims_in r.log)) r.clock load)
+    subst Room c.self.view_is (subst (IsRoom (stop_claims a.message.entry r.clock (claims_in r.log)) r.clock load)
     (sym asked) (room_after_stop r load a book.legal live))

@@ -1,5 +1,5 @@
 use Rattle.bsc_table.specs.Book.{accepted_of}
-use Rattle.bsc_table.proofs.Booked.{option_is_there}
+use Rattle.bsc_table.proofs.Cell.PlanOfTable.{option_is_there}
 use Rattle.bsc_table.proofs.book.CellBook.status.Goals as goal
 
 pub completed-requires : goal.completed-requires

@@ -1,4 +1,4 @@
-use Rattle.bsc_table.proofs.Promised.{legal_histories_are_served, legal_histories_are_bounded}
+use Rattle.bsc_table.proofs.History.Promises.{legal_histories_are_served, legal_histories_are_bounded}
 use Rattle.bsc_table.proofs.record.CellRecord.of.Goals as goal
 
 pub returns-clause-served : goal.returns-clause-served

@@ -1,13 +1,13 @@
 use Rattle.std.proofs.Common.{subst}
 use Rattle.bsc_table.specs.Promised.{IsServed, IsBounded}
-use Rattle.bsc_table.specs.Book.{record_kept}
-use Rattle.bsc_table.proofs.Promised.{legal_histories_are_served, legal_histories_are_bounded}
+use Rattle.bsc_table.specs.Book.{record_of_run}
+use Rattle.bsc_table.proofs.History.Promises.{legal_histories_are_served, legal_histories_are_bounded}
 use Rattle.bsc_table.proofs.record.CellRecord.slots.Goals as goal
 
 pub returns-clause-served : goal.returns-clause-served
 returns-clause-served c =
-    subst IsServed c.self.view_is (legal_histories_are_served (record_kept c.self.inside) c.self.invariant)
+    subst IsServed c.self.view_is (legal_histories_are_served (record_of_run c.self.inside) c.self.invariant)
 
 pub returns-clause-bounded : goal.returns-clause-bounded
 returns-clause-bounded c =
-    subst IsBounded c.self.view_is (legal_histories_are_bounded (record_kept c.self.inside) c.self.invariant)
+    subst IsBounded c.self.view_is (legal_histories_are_bounded (record_of_run c.self.inside) c.self.invariant)

@@ -2,16 +2,16 @@ use Rattle.std.proofs.Common.{◌≡◌, ◌≢◌, None, ap, ◌∙◌, map, su
 use Rattle.std.specs.Bool.{MatchBool}
 use Rattle.std.specs.List.{All, Any}
 use Rattle.std.proofs.lemmas.List.Elements.{All-map}
-use Rattle.scheduler.specs.Message.{Message}
+use Rattle.scheduler.specs.Message.{ScheduledMessage}
 use Rattle.scheduler.specs.Follows.{message_of, messages_of}
 use Rattle.scheduler.proofs.Lists.{Any-map, MatchBool-both}
 use Rattle.scheduler.proofs.plan.Plan.is_standing.Goals as goal
 
 pub returns : goal.returns
 returns c =
-    let P : Message → Type 0 = λ (m : Message). (m.number ≡ c.args.entry) × (m.stop ≡ None) in
-    let Q : Message → Type 0 = λ (m : Message). m.number ≡ c.args.entry → m.stop ≢ None in
-    let Says : List Message → Type 0 = λ ms. MatchBool c.has_standing.result (Any P ms) (All Q ms) in
+    let P : ScheduledMessage → Type 0 = λ (m : ScheduledMessage). (m.entry ≡ c.args.entry) × (m.stop ≡ None) in
+    let Q : ScheduledMessage → Type 0 = λ (m : ScheduledMessage). m.entry ≡ c.args.entry → m.stop ≢ None in
+    let Says : List ScheduledMessage → Type 0 = λ ms. MatchBool c.has_standing.result (Any P ms) (All Q ms) in
     let kept = ap (map message_of) c.as_slice.ensures.value ∙ ap messages_of c.self.view_is in
     subst Says kept (MatchBool-both c.has_standing.result _ _ _ _ (Any-map P message_of c.as_slice.result.now)
     (All-map Q message_of c.as_slice.result.now) c.has_standing.ensures)

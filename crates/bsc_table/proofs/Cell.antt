@@ -1,0 +1,9 @@
+-- A cell's book: its decisions, and what its table, its plan and its budget hold of its history.
+pub mod BudgetOfTable
+pub mod CommandOfMessage
+pub mod Decisions
+pub mod HandedOver
+pub mod Places
+pub mod PlanOfTable
+pub mod RoomForNew
+pub mod WithEntry

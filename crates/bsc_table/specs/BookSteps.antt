@@ -1,0 +1,201 @@
+-- What a book's calls do in steps (own): contracts of private functions alone speak of it.
+use Rattle.std.specs.Prelude.{◌≡◌, ◌≢◌, ℕ, ◌+◌, ◌<◌, ⊤, true, false, find, ◌≤◌, ◌==◌, if◌then◌else◌, Option, Some, None}
+use Rattle.std.specs.Prelude.{Result, Ok, Err, OnOk, IfSome, List, [], ◌∷◌, ◌++◌, length, map, filter, All, Any}
+use Rattle.std.specs.Prelude.{Contains}
+use Rattle.admission.specs.declared.budget.Held.{Held}
+use Rattle.admission.specs.declared.budget.NoRoom.{NoRoom}
+use Rattle.admission.specs.declared.budget.NoRoom.TheVariants.{Table, Load}
+use Rattle.admission.specs.declared.measure.TheConstants.{SCALE}
+use Rattle.admission.specs.Reservation.{end_of_stopped}
+use Rattle.std.specs.Option.{option_map}
+use Rattle.admission.specs.Waiting.{behind_of}
+use Rattle.admission.specs.Table.{answer_of, answer_for, excess_over}
+use Rattle.scheduler.specs.Message.{ScheduledMessage, stopped_if}
+use Rattle.scheduler.specs.Air.{Air}
+use Rattle.bsc_table.specs.declared.command.Command.{Command}
+use Rattle.bsc_table.specs.declared.command.Command.TheVariants as commands
+use Rattle.bsc_table.specs.declared.decision.Decision.{Decision}
+use Rattle.bsc_table.specs.declared.decision.Decision.TheVariants as decisions
+use Rattle.bsc_table.specs.declared.entry.Answer.{Answer}
+use Rattle.bsc_table.specs.declared.entry.Answer.TheVariants as answers
+use Rattle.bsc_table.specs.declared.entry.Entry.{Entry}
+use Rattle.bsc_table.specs.declared.accepted.AcceptedMessage.{AcceptedMessage}
+use Rattle.bsc_table.specs.declared.accepted.Place.{Place as FoundPlace}
+use Rattle.bsc_table.specs.declared.accepted.TheConstants.{LATEST_START}
+use Rattle.bsc_table.specs.Record.{Record, Accepted, write_message, accepted_in, claims_in, rank_of, place_after}
+use Rattle.bsc_table.specs.Record.{is_of_pair, is_live}
+use Rattle.bsc_table.specs.Begun.{IsBegun}
+use Rattle.bsc_table.specs.Claim.{Claim, own_load, is_claimed_at, claimed_at, stop_claims}
+use Rattle.bsc_table.specs.Handover.{Place}
+use Rattle.bsc_table.specs.Orders.{IsWellFormed}
+use Rattle.bsc_table.specs.Answer.{answer_at, admit_or_refuse, answer_with_room}
+use Rattle.bsc_table.specs.Steps.{entry_by}
+use Rattle.bsc_table.specs.Book.{accepted_of}
+use Rattle.bsc_table.specs.Refusals.{is_accepting}
+
+-- what is kept, with the message of that number stopped at the slot
+abbrev pub accepted_stopped : ℕ → ℕ → AcceptedMessage → AcceptedMessage
+accepted_stopped entry slot k = record k { stop = if k.entry == entry then Some slot else k.stop }
+
+-- the message of that number stopped at the slot
+abbrev pub stop_numbered : ℕ → ℕ → Accepted → Accepted
+stop_numbered entry slot a = record a { message = stopped_if (a.message.entry == entry) slot a.message }
+
+-- an entry that is to come next: at the clock, with the right answer to a well-formed command, where the log has room
+pub record IsNext (r : Record) (e : Entry) : Type 0 where
+  pub now : e.slot ≡ r.clock
+  pub room : length r.log < 4096
+  pub formed : IsWellFormed e.command
+  pub right : e.answer ≡ answer_with_room r.slots r.log r.air r.clock e.command
+
+-- a message was accepted, and is live
+pub record IsLiveIn (r : Record) (a : Accepted) : Type 0 where
+  pub there : Contains (accepted_in r.log) a
+  pub live : is_live r.clock a.message ≡ true
+
+-- an entry stops a message and no other
+pub record IsStop (r : Record) (e : Entry) (old : Accepted) : Type 0 where
+  pub stops : IsLiveIn r old
+  pub after : accepted_in (r.log ++ e ∷ []) ≡ map (stop_numbered old.message.entry r.clock) (accepted_in r.log)
+
+-- an entry starts a message
+pub record IsStart (r : Record) (e : Entry) (new : Accepted) : Type 0 where
+  pub begun : IsBegun (length r.log) r.clock None (accepted_in r.log) new
+  pub after : accepted_in (r.log ++ e ∷ []) ≡ accepted_in r.log ++ new ∷ []
+
+-- an entry stops a message and starts one in its place
+pub record IsReplacement (r : Record) (e : Entry) (old new : Accepted) : Type 0 where
+  pub stops : IsLiveIn r old
+  pub begun : IsBegun (length r.log) r.clock (Some old)
+      (map (stop_numbered old.message.entry r.clock) (accepted_in r.log)) new
+  pub after : accepted_in (r.log ++ e ∷ []) ≡ map (stop_numbered old.message.entry r.clock) (accepted_in r.log) ++ new
+      ∷ []
+
+-- the answer of a decision
+abbrev pub decided_answer : Decision → Answer
+decided_answer (decisions.Noted answer) = answer
+decided_answer (decisions.Stops old completed) = answers.Stopped completed
+decided_answer (decisions.Starts new) = answers.Started new.accepted
+decided_answer (decisions.Replaces old new completed) = answers.Replaced new.start completed
+
+-- what a decision says of the messages is what its entry does to them; one that is only noted accepts nothing, and a
+-- message that replaces another starts so soon that the end of its broadcasts has room in 32 bits
+abbrev pub Does : Record → Entry → Decision → Type 0
+Does r e (decisions.Noted answer) = is_accepting answer ≡ false
+Does r e (decisions.Stops old completed) = IsStop r e (accepted_of old)
+Does r e (decisions.Starts new) = IsStart r e (accepted_of new)
+Does r e (decisions.Replaces old new completed) =
+    IsReplacement r e (accepted_of old) (accepted_of new) × (new.start < LATEST_START)
+
+-- so it is with the entry of this command, which comes next
+abbrev pub Decides : Record → Command → Decision → Type 0
+Decides r command d = Does r (entry_by r command (decided_answer d)) d
+
+-- a message that a write offers now: it would have the next entry's number, be accepted at the clock, and begin there
+pub record IsOffered (r : Record) (a : Accepted) : Type 0 where
+  pub numbered : a.message.entry ≡ length r.log
+  pub accepted : a.accepted ≡ r.clock
+  pub begins : a.message.start ≡ r.clock
+  pub behind : a.behind ≡ None
+  pub excess : a.excess ≡ 0
+  pub standing : a.message.stop ≡ None
+  pub some_pages : 0 < a.message.pages
+  pub some_period : 0 < a.message.period
+
+-- a write of that message, in the place of the one of this serial number or of none
+abbrev pub IsWriteOf : Accepted → Option ℕ → Command → Type 0
+IsWriteOf a replaced (commands.Write id serial replaces category period broadcasts dcs contents) =
+    (replaces ≡ replaced)
+    × (write_message a.message.entry a.accepted a.message.start a.behind a.excess id serial (length contents) period
+    broadcasts (rank_of category) ≡ a)
+IsWriteOf a replaced other = ⊥
+
+-- and with that of each such write
+abbrev pub DecidesWrites : Record → Accepted → Option ℕ → Decision → Type 0
+DecidesWrites r a replaced d = (write : Command) → IsWriteOf a replaced write → Decides r write d
+
+-- the reservations of a budget hold the place that a load is to take behind an entry, up to its start: that one has
+-- started and ends there, none waits behind it, and the load has so much over its own
+pub record IsHeldFor (reservations : List Held) (load behind start excess : ℕ) : Type 0 where
+  pub ends : Any (λ h. (h.entry ≡ behind) × (h.waits ≡ None) × (h.end ≡ Some start)) reservations
+  pub free : All (λ h. behind_of h ≢ Some behind) reservations
+  pub over : excess_over behind load reservations ≡ excess
+
+-- the reservations of a budget have room for a claim, by the one behind which it waits: for its load where it starts by
+-- the slot; else for its excess, behind that one
+abbrev pub HasRoomFor : ℕ → List Held → Claim → Option ℕ → Type 0
+HasRoomFor slot reservations c None = (c.message.start ≤ slot) × (answer_for reservations (own_load c.message) ≡ Ok tt)
+HasRoomFor slot reservations c (Some behind) =
+    (slot < c.message.start)
+    × (answer_for reservations c.excess ≡ Ok tt)
+    × IsHeldFor reservations (own_load c.message) behind c.message.start c.excess
+
+-- no message of a pair is live, and one is
+abbrev pub IsNotLive : ℕ → Option ScheduledMessage → Type 0
+IsNotLive slot None = ⊤
+IsNotLive slot (Some m) = is_live slot m ≡ false
+
+pub record IsLiveAs (slot id serial : ℕ) (log : List Entry) (a : Accepted) : Type 0 where
+  pub found : find (is_of_pair id serial) (accepted_in log) ≡ Some a
+  pub live : is_live slot a.message ≡ true
+
+-- the causes of a refusal for want of room
+abbrev pub cause_of : NoRoom → ℕ
+cause_of Table = 0x07
+cause_of Load = 0x06
+
+-- the answer to a write, by whether its load has room: the one that accepts it now, that for a full table, or that
+-- where its load has no room now
+abbrev pub by_room : Result (Unit {0}) NoRoom → Answer → Answer → Answer
+by_room (Ok done) now later = now
+by_room (Err Table) now later = answers.Cause (cause_of Table)
+by_room (Err Load) now later = later
+
+-- a load has room beside claims at a slot
+pub record HasRoom (claims : List Claim) (slot load : ℕ) : Type 0 where
+  pub places : length (filter (is_claimed_at slot) claims) < 64
+  pub loads : claimed_at claims slot + load ≤ SCALE
+
+-- whether it has, as a budget answers: a write is answered so, and accepted now only where the load has room
+pub record IsRoom (claims : List Claim) (slot load : ℕ) (room : Result (Unit {0}) NoRoom) : Type 0 where
+  pub says : room ≡ answer_of (length (filter (is_claimed_at slot) claims)) (claimed_at claims slot) load
+  pub answered : (place : Option Place) (accepts : ℕ → Answer)
+      → admit_or_refuse claims slot load place accepts ≡ by_room room (accepts slot)
+      (answer_at claims slot accepts place)
+  pub fits : OnOk room (HasRoom claims slot load)
+
+-- a place as it is kept
+abbrev pub place_of : FoundPlace → Place
+place_of p = record { behind = p.behind; start = p.start; excess = p.excess }
+
+-- the end of the reservation of a message that is kept, where it was stopped
+abbrev pub stopped_end : AcceptedMessage → Option ℕ
+stopped_end k = option_map (λ stop. end_of_stopped k.start k.period stop) k.stop
+
+-- the claims of a record, with a message stopped now
+abbrev pub left_by : Record → Accepted → List Claim
+left_by r old = stop_claims old.message.entry r.clock (claims_in r.log)
+
+-- the answer at a place, where there is one with room
+abbrev pub by_place : Option FoundPlace → (ℕ → Answer) → Answer
+by_place None accepts = answers.Cause 0x06
+by_place (Some p) accepts = accepts p.start
+
+-- the place at which a message of that load may take over from a live one, if there is one with room: so is a write
+-- in its place answered, where that has no room now
+pub record IsLater (r : Record) (old : Accepted) (load : ℕ) (later : Option FoundPlace) : Type 0 where
+  pub answered : (accepts : ℕ → Answer)
+      → answer_at (left_by r old) r.clock accepts (place_after (left_by r old) r.clock old load) ≡ by_place later
+      accepts
+  pub there : IfSome later (λ p. place_after (left_by r old) r.clock old load ≡ Some (place_of p))
+  pub fits : IfSome later (λ p. claimed_at (left_by r old) r.clock + p.excess ≤ SCALE)
+  pub soon : IfSome later (λ p. p.start < LATEST_START)
+
+-- a book after some of its slots were played: the clock is at the slot after them, and nothing but the air list has
+-- changed, which is longer
+pub record IsGoneTo (slot : ℕ) (before after : Record) : Type 0 where
+  pub same_cell : after.cell ≡ before.cell
+  pub same_slots : after.slots ≡ before.slots
+  pub same_log : after.log ≡ before.log
+  pub clock_at : after.clock ≡ slot
+  pub more_air : (more : Air) × (after.air ≡ before.air ++ more)
