@@ -1,5 +1,5 @@
 -- What whole reads and writes do to the octets that a reader has left and a writer holds, where they are known (own).
-use Rattle.std.specs.Prelude.{◌≡◌, ℕ, ◌+◌, ◌<◌, ◌≤◌, List, ◌++◌, Option, length, take}
+use Rattle.std.specs.Prelude.{◌≡◌, ℕ, ◌+◌, ◌<◌, ◌≤◌, List, ◌++◌, Option, IfSome, length, take}
 use Rattle.std.specs.Io.KnownBytes.{Appends, Consumes, IsAtEnd}
 
 -- the reader gave these octets, and was at its end if they are at most `limit`; they are never more than one above
@@ -22,3 +22,10 @@ pub record Moved (old new : Option (List ℕ)) (before after : List ℕ) : Type 
   pub octets : List ℕ
   pub consumed : Consumes old new octets
   pub appended : after ≡ before ++ octets
+
+-- a writer was given the output of an input: where the input is known, an output of it, and at any reader an output of
+-- some input. `IsOutput` says what is written for which input, and `old` and `new` are what the writer held before and
+-- after
+pub record WritesOutput (IsOutput : List ℕ → List ℕ → Type 0) (input old new : Option (List ℕ)) : Type 0 where
+  pub of_input : IfSome input (λ octets. (output : List ℕ) × IsOutput octets output × Appends old new output)
+  pub of_some : (octets output : List ℕ) × IsOutput octets output × Appends old new output

@@ -1,9 +1,10 @@
 //! Whole transfers: all octets of a slice to a sink, all octets of a source up to a limit.
 
-ghost use Rattle.std.specs.Prelude.{◌≡◌, ◌↔◌, ◌+◌, ◌<◌, ◌≤◌, ℕ, List, ◌++◌, false, true, length, take, vec_len, Some};
-ghost use Rattle.std.specs.Prelude.{IfOk, IfSome, IsErr, IsErrOf, OnErr, OnOk, IsTrue};
+ghost use Rattle.std.specs.Prelude.{◌≡◌, ◌+◌, ◌<◌, ◌≤◌, ℕ, List, ◌++◌, false, true, is_err, length, take, vec_len};
+ghost use Rattle.std.specs.Prelude.{IfOk, IfSome, OnErr, OnOk};
 ghost use Rattle.std.specs.Io.KnownBytes.{Appends, Consumes, IsAtEnd, Keeps};
 ghost use Rattle.device_ends.specs.Moves.{AppendsFront, ConsumesSome, Moved, ReadsUpTo};
+ghost use Rattle.device_ends.specs.ReadFault.{reports_device};
 ghost use Rattle.device_ends.specs.Sink.{sink_failed, writer_of};
 ghost use Rattle.device_ends.specs.Source.{reader_of, source_failed};
 
@@ -22,7 +23,7 @@ pub fn write_front<W: Write>(sink: &mut Sink<W>, octets: &[u8]) -> usize
         (take result octets.now) }
     ensures whole { sink_failed sink.new ≡ false → result ≡ length octets.now }
     ensures front { sink_failed sink.new ≡ true → 0 < length octets.now → result < length octets.now }
-    ensures stays { sink_failed sink.old ≡ true → sink.new ≡ sink.old }
+    ensures failed_stays { sink_failed sink.old ≡ true → sink.new ≡ sink.old }
 {
     let mut out = 0;
     while out < octets.len() {
@@ -40,9 +41,8 @@ pub fn write_all<W: Write>(sink: &mut Sink<W>, octets: &[u8]) -> Result<(), Fail
         (W.contents (writer_of sink.new)) octets.now) }
     ensures err { OnErr result (AppendsFront (W.contents (writer_of sink.old))
         (W.contents (writer_of sink.new)) octets.now) }
-    ensures failed { IsErr result ↔ IsTrue (sink_failed sink.new) }
-    ensures sound { OnOk result (sink_failed sink.new ≡ false) }
-    ensures stays { sink_failed sink.old ≡ true → sink.new ≡ sink.old }
+    ensures failed { sink_failed sink.new ≡ is_err result }
+    ensures failed_stays { sink_failed sink.old ≡ true → sink.new ≡ sink.old }
 {
     write_front(sink, octets);
     if sink.failed() { Err(Failed) } else { Ok(()) }
@@ -68,10 +68,8 @@ pub fn read_up_to<R: Read>(
 
     // At any reader.
     ensures bound { IfOk result (λ octets. vec_len octets ≤ limit + 1) }
-    ensures device { IsErrOf result ReadFault.Device ↔ IsTrue (source_failed source.new) }
-    ensures sound { OnOk result (source_failed source.new ≡ false) }
-    ensures refused { IsErrOf result ReadFault.Refused → source_failed source.new ≡ false }
-    ensures stays { source_failed source.old ≡ true → source.new ≡ source.old }
+    ensures failed { source_failed source.new ≡ reports_device result }
+    ensures failed_stays { source_failed source.old ≡ true → source.new ≡ source.old }
 {
     let most = limit + 1;
     let mut octets = Vec::new(alloc);
@@ -97,10 +95,8 @@ fn read_piece<R: Read>(
     ensures end { IfOk result (λ count. count ≡ 0 → IsAtEnd (R.remaining (reader_of source.new))) }
     ensures err { OnErr result (Keeps (R.remaining (reader_of source.old))
         (R.remaining (reader_of source.new))) }
-    ensures device { IsErrOf result ReadFault.Device ↔ IsTrue (source_failed source.new) }
-    ensures sound { OnOk result (source_failed source.new ≡ false) }
-    ensures refused { IsErrOf result ReadFault.Refused → source_failed source.new ≡ false }
-    ensures stays { source_failed source.old ≡ true → source.new ≡ source.old }
+    ensures failed { source_failed source.new ≡ reports_device result }
+    ensures failed_stays { source_failed source.old ≡ true → source.new ≡ source.old }
 {
     if source.failed() {
         return Err(ReadFault::Device);

@@ -1,7 +1,7 @@
 -- Tapes: the blocks that a cell's broadcast channel sent, slot by slot, and what a handset shows of them. The format is
 -- this project's own.
 use Rattle.std.specs.Prelude.{◌≡◌, ℕ, ◌+◌, ◌*◌, ◌/◌, ◌%◌, ◌<◌, ◌≤◌, List, [], ◌∷◌, ◌++◌, length, map, slice_index}
-use Rattle.std.specs.Prelude.{Option, IfSome}
+use Rattle.std.specs.Prelude.{Option, IfSome, Bool, false, true, Result, Ok, Err}
 use Rattle.std.specs.List.{flat_map, AllByRecursion}
 use Rattle.cbsp_wire.specs.declared.message.Cell.{Cell}
 use Rattle.handset.specs.declared.tape.Reading.{Reading}
@@ -166,6 +166,14 @@ IsNextFault input fault.Short = IsCut input
 IsNextFault input fault.Long = IsOversized input
 IsNextFault input fault.ReadFailed = Unit {0}
 IsNextFault input fault.Refused = Unit {0}
+
+-- a result reports that the reader failed
+abbrev pub reports_read_failed : {T : Type 0} → Result T TapeFault → Bool
+reports_read_failed (Ok _) = false
+reports_read_failed (Err fault.Short) = false
+reports_read_failed (Err fault.Long) = false
+reports_read_failed (Err fault.ReadFailed) = true
+reports_read_failed (Err fault.Refused) = false
 
 -- the octets that are made of a cell, a number of slots and their blocks are a tape, and say and show just these
 abbrev pub MadeAreTapes : Type 0

@@ -1,6 +1,7 @@
 -- The program's statuses. Own.
 use Rattle.std.specs.Prelude.{◌≡◌, ◌≢◌, ℕ, ◌<◌, ◌≤◌, ◌⊎◌, false, true, List, length, Option, IfSome, IsTrue}
 use Rattle.std.specs.Io.KnownBytes.{Appends, Keeps}
+use Rattle.device_ends.specs.Moves.{WritesOutput}
 use Rattle.device_ends.specs.Sink.{sink_failed}
 use Rattle.device_ends.specs.Source.{source_failed}
 use Rattle.device_ends.specs.declared.reading.Source.{Source}
@@ -47,11 +48,6 @@ WritesSome old new = (output : List ℕ) × (0 < length output) × Appends old n
 -- What status 0 says: `input` is what the reader had left, if that is known, and `old` and `new` are what the writer
 -- held before and after.
 
--- what was written is the output for the input, and at any reader the output for some input
-pub record WroteOutput (IsOutput : List ℕ → List ℕ → Type 0) (input old new : Option (List ℕ)) : Type 0 where
-  pub wrote : IfSome input (λ octets. (output : List ℕ) × IsOutput octets output × Appends old new output)
-  pub some : (octets output : List ℕ) × IsOutput octets output × Appends old new output
-
 -- the words ask for help or for the version, and something was written
 pub record WroteText (words : List (List ℕ)) (old new : Option (List ℕ)) : Type 0 where
   pub asked : asks_for_text words ≡ true
@@ -63,12 +59,12 @@ pub record WrotePages (words : List (List ℕ)) (input old new : Option (List �
   pub id : ℕ
   pub serial : ℕ
   pub asked : IsPageOrder words language id serial
-  pub wrote : WroteOutput (IsPageOutput language id serial) input old new
+  pub wrote : WritesOutput (IsPageOutput language id serial) input old new
 
 -- the words ask for `read`, and what was written is the table of what the tapes show
 pub record WroteTable (words : List (List ℕ)) (input old new : Option (List ℕ)) : Type 0 where
   pub asked : IsReadOrder words
-  pub wrote : WroteOutput IsReadOutput input old new
+  pub wrote : WritesOutput IsReadOutput input old new
 
 abbrev pub WroteWhatIsAsked : (words : List (List ℕ)) (input old new : Option (List ℕ)) → Type 0
 WroteWhatIsAsked words input old new = WroteText words old new ⊎
@@ -104,7 +100,7 @@ pub record IsStatusOfSink {W : Type 0} (status : ℕ) (old new : Sink W) (before
   -- with 0 something was written
   pub wrote : status ≡ 0 → WritesSome before after
   -- with 1, 2 and 4 nothing was
-  pub nothing : status ≢ 0 → status ≢ 3 → Keeps before after
+  pub nothing_written : status ≢ 0 → status ≢ 3 → Keeps before after
   -- and the sink is as it was
   pub untouched : status ≢ 0 → status ≢ 3 → new ≡ old
 
@@ -116,5 +112,5 @@ pub record IsRunBetween {R W : Type 0} (status : ℕ) (source : Source R) (old n
   pub understood : status ≢ 2
   -- 3 is answered only if one of the ends has failed
   pub device : status ≡ 3 → OneHasFailed source new
-  -- and always if one has, if the sink was sound before
+  -- and always if one has, if the sink had not failed before
   pub failed : sink_failed old ≡ false → OneHasFailed source new → status ≡ 3

@@ -2,13 +2,13 @@
 
 ghost use Rattle.std.specs.Prelude.{◌≡◌, ◌≢◌, ◌≤◌, ◌⊎◌, ℕ, List, false, true, map, IfSome};
 ghost use Rattle.std.specs.Io.KnownBytes.{Appends, Keeps};
+ghost use Rattle.device_ends.specs.Moves.{WritesOutput};
 ghost use Rattle.device_ends.specs.Sink.{sink_failed, writer_of};
 ghost use Rattle.device_ends.specs.Source.{reader_of, source_failed};
 ghost use Rattle.warnc_engine.specs.PageOutput.{IsPageOutput};
 ghost use Rattle.warnc_engine.specs.ReadOutput.{IsReadOutput};
 ghost use Rattle.warnc.specs.Status.{status_of_fault, status_of_table_fault, IsNoTapes, IsRefused, IsRunBetween};
-ghost use Rattle.warnc.specs.Status.{IsStatusOfSink, OneHasFailed, RefusesInput, WritesSome, WroteOutput};
-ghost use Rattle.warnc.specs.Status.{WroteWhatIsAsked};
+ghost use Rattle.warnc.specs.Status.{IsStatusOfSink, OneHasFailed, RefusesInput, WritesSome, WroteWhatIsAsked};
 
 use crate::command::{Order, PageOptions, asks_for_text, order_of};
 use cbs_page::TextFault;
@@ -67,7 +67,7 @@ pub fn run_ends<S: AsStr, R: Read, W: Write, F: Write>(
     ensures done { result ≡ DONE → WroteWhatIsAsked (map S.text words.now) (R.remaining (reader_of source.old))
         (W.contents (writer_of sink.old)) (W.contents (writer_of sink.new)) }
     ensures wrote { result ≡ DONE → WritesSome (W.contents (writer_of sink.old)) (W.contents (writer_of sink.new)) }
-    ensures nothing { (result ≢ DONE) → (result ≢ DEVICE)
+    ensures nothing_written { (result ≢ DONE) → (result ≢ DEVICE)
         → Keeps (W.contents (writer_of sink.old)) (W.contents (writer_of sink.new)) }
     ensures untouched { (result ≢ DONE) → (result ≢ DEVICE) → sink.new ≡ sink.old }
     ensures refused { result ≡ REFUSED_INPUT
@@ -98,9 +98,9 @@ fn run_page<R: Read, W: Write, F: Write>(
     faults: &mut F,
 ) -> u8
     ensures done { result ≡ DONE →
-        WroteOutput (IsPageOutput options.now.language.now options.now.id options.now.serial)
+        WritesOutput (IsPageOutput options.now.language.now options.now.id options.now.serial)
         (R.remaining (reader_of source.old)) (W.contents (writer_of sink.old)) (W.contents (writer_of sink.new)) }
-    ensures ends { IsRunBetween result source.new sink.old sink.new
+    ensures any_device { IsRunBetween result source.new sink.old sink.new
         (W.contents (writer_of sink.old)) (W.contents (writer_of sink.new)) }
     ensures refused { result ≡ REFUSED_INPUT → IfSome (R.remaining (reader_of source.old))
         (IsRefused options.now.language.now) }
@@ -140,9 +140,9 @@ fn run_read<R: Read, W: Write, F: Write>(
     sink: &mut Sink<W>,
     faults: &mut F,
 ) -> u8
-    ensures done { result ≡ DONE → WroteOutput IsReadOutput
+    ensures done { result ≡ DONE → WritesOutput IsReadOutput
         (R.remaining (reader_of source.old)) (W.contents (writer_of sink.old)) (W.contents (writer_of sink.new)) }
-    ensures ends { IsRunBetween result source.new sink.old sink.new
+    ensures any_device { IsRunBetween result source.new sink.old sink.new
         (W.contents (writer_of sink.old)) (W.contents (writer_of sink.new)) }
     ensures refused { result ≡ REFUSED_INPUT → IfSome (R.remaining (reader_of source.old)) IsNoTapes }
 {

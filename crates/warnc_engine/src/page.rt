@@ -1,9 +1,8 @@
 //! The command `page`: one text to the blocks of its pages, and what a handset shows of them.
 
-ghost use Rattle.std.specs.Prelude.{◌≡◌, ◌≤◌, ◌+◌, ◌++◌, ℕ, List, length, string_bytes, IfErr, IfOk, IfSome, OnOk};
-ghost use Rattle.std.specs.Io.KnownBytes.{Appends};
+ghost use Rattle.std.specs.Prelude.{◌≡◌, ◌≤◌, ◌+◌, ◌++◌, length, string_bytes, IfErr, IfOk, IfSome, OnOk};
 ghost use Rattle.std.specs.List.{flat_map};
-ghost use Rattle.device_ends.specs.Moves.{ConsumesSome};
+ghost use Rattle.device_ends.specs.Moves.{ConsumesSome, WritesOutput};
 ghost use Rattle.device_ends.specs.Sink.{writer_of};
 ghost use Rattle.device_ends.specs.Source.{reader_of};
 ghost use Rattle.handset.specs.Keeping.{HasRead, message_shown, messages_of};
@@ -56,10 +55,9 @@ pub fn page_stream<R: Read, W: Write>(
     id: u16,
     serial: Serial,
 ) -> Result<(), PageFault>
-    // What was written is what the definitions make of the octets that were read.
-    ensures ok { OnOk result (IfSome (R.remaining (reader_of source.old)) (λ input.
-        (output : List ℕ) × IsPageOutput language.now id serial input output
-        × Appends (W.contents (writer_of sink.old)) (W.contents (writer_of sink.new)) output)) }
+    // What was written is what the definitions make of the octets that were read, at any reader of some octets.
+    ensures ok { OnOk result (WritesOutput (IsPageOutput language.now id serial) (R.remaining (reader_of source.old))
+        (W.contents (writer_of sink.old)) (W.contents (writer_of sink.new))) }
     ensures fault { IfErr result (λ fault. IfSome (R.remaining (reader_of source.old)) (λ input.
         IsStreamFault language.now id serial input (W.contents (writer_of sink.old)) (W.contents (writer_of sink.new))
         fault)) }
@@ -69,8 +67,8 @@ pub fn page_stream<R: Read, W: Write>(
         (MOST_OCTETS + 1) }
 
     // At any reader and any writer.
-    ensures ends { IsStreamBetween (IsPageOutput language.now id serial) PageFault.Read PageFault.Write result
-        source.old source.new sink.old sink.new (W.contents (writer_of sink.old)) (W.contents (writer_of sink.new)) }
+    ensures any_device { IsStreamBetween PageFault.Read PageFault.Write result source.old source.new
+        sink.old sink.new (W.contents (writer_of sink.old)) (W.contents (writer_of sink.new)) }
 {
     let input = match read_up_to(source, alloc, MOST_OCTETS) {
         Ok(input) => input,

@@ -1,7 +1,8 @@
 //! The command `read`: tapes to a table of what a handset shows of them.
 
-ghost use Rattle.std.specs.Prelude.{◌≡◌, ℕ, List, IfErr, IfSome, OnOk};
-ghost use Rattle.std.specs.Io.KnownBytes.{Appends, IsAtEnd};
+ghost use Rattle.std.specs.Prelude.{◌≡◌, IfErr, IfSome, OnOk};
+ghost use Rattle.std.specs.Io.KnownBytes.{IsAtEnd};
+ghost use Rattle.device_ends.specs.Moves.{WritesOutput};
 ghost use Rattle.device_ends.specs.Sink.{writer_of};
 ghost use Rattle.device_ends.specs.Source.{reader_of};
 ghost use Rattle.warnc_engine.specs.ReadOutput.{table_fault_of, IsReadOutput, IsReadFault, IsReadTo};
@@ -42,10 +43,9 @@ pub fn read_stream<R: Read, W: Write>(
     source: &mut Source<R>,
     sink: &mut Sink<W>,
 ) -> Result<(), TableFault>
-    // What was written is the table of what the tapes show, by the octets that were read.
-    ensures ok { OnOk result (IfSome (R.remaining (reader_of source.old)) (λ input.
-        (output : List ℕ) × IsReadOutput input output
-        × Appends (W.contents (writer_of sink.old)) (W.contents (writer_of sink.new)) output)) }
+    // What was written is the table of what the tapes show, at any reader of some tapes.
+    ensures ok { OnOk result (WritesOutput IsReadOutput (R.remaining (reader_of source.old))
+        (W.contents (writer_of sink.old)) (W.contents (writer_of sink.new))) }
     ensures fault { IfErr result (λ fault. IfSome (R.remaining (reader_of source.old)) (λ input.
         IsReadFault input (W.contents (writer_of sink.old)) (W.contents (writer_of sink.new)) fault)) }
 
@@ -54,8 +54,8 @@ pub fn read_stream<R: Read, W: Write>(
     ensures extent { IfErr result (IsReadTo (R.remaining (reader_of source.old)) (R.remaining (reader_of source.new))) }
 
     // At any reader and any writer.
-    ensures ends { IsStreamBetween IsReadOutput TableFault.Read TableFault.Write result
-        source.old source.new sink.old sink.new (W.contents (writer_of sink.old)) (W.contents (writer_of sink.new)) }
+    ensures any_device { IsStreamBetween TableFault.Read TableFault.Write result source.old source.new
+        sink.old sink.new (W.contents (writer_of sink.old)) (W.contents (writer_of sink.new)) }
 {
     if source.failed() {
         return Err(TableFault::Read);
