@@ -7,6 +7,7 @@
 
 pub mod coding;
 pub mod content;
+mod laws;
 pub mod octets;
 pub mod paging;
 mod piece;
@@ -15,7 +16,8 @@ pub mod text;
 
 pub use coding::{Alphabet, Dcs, language_dcs};
 pub use content::Content;
+pub use laws::paging_laws;
 pub use octets::{PageView, page_bytes, read_page};
-pub use paging::{MAX_PAGES, Paged, TextFault, paginate, paging_law};
+pub use paging::{MAX_PAGES, Paged, TextFault, paginate};
 pub use serial::Serial;
 pub use text::{Refused, page_text};

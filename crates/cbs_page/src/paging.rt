@@ -5,9 +5,9 @@ ghost use Rattle.std.specs.Prelude.{◌≡◌, ◌≢◌, ◌≤◌, [], ◌∷�
 ghost use Rattle.std.specs.List.{list_all};
 ghost use Rattle.std.specs.Str.{chars};
 ghost use Rattle.gsm_alphabet.specs.Alphabet.{code_of};
-ghost use Rattle.cbs_page.specs.Paging.{PagingIsUnique};
-ghost use Rattle.cbs_page.specs.Text.{is_bad, alphabet_for, coding_for, TakesPages, AreContentsOf, HoldText};
-ghost use Rattle.cbs_page.specs.Text.{IsTextFault, IsPagedText, ShowsText};
+ghost use Rattle.cbs_page.specs.PagingSteps.{HoldText, TakesPages};
+ghost use Rattle.cbs_page.specs.Text.{is_bad, alphabet_for, coding_for, AreContentsOf, IsTextFault, IsPagedText};
+ghost use Rattle.cbs_page.specs.Text.{ShowsText};
 
 use crate::coding::{Alphabet, Dcs, language_dcs};
 use crate::content::Content;
@@ -89,12 +89,6 @@ pub fn paginate(alloc: Global, text: &str, language: &str) -> Result<Paged, Text
         Err(_) => Err(TextFault::Refused),
     }
 }
-
-/// A text has one list of pages at most: what `paginate` answers, and whether that is too many, is determined. Does
-/// nothing: its contract is the law.
-pub fn paging_law()
-    ensures { PagingIsUnique }
-{}
 
 /// Whether a character can't be sent.
 fn is_bad_character(character: char) -> bool

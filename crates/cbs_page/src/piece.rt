@@ -2,7 +2,7 @@
 
 ghost use Rattle.std.specs.Prelude.{◌≡◌, ℕ, ◌+◌, ◌<◌, ◌≤◌, [], ◌++◌, length};
 ghost use Rattle.cbs_page.specs.Text.{capacity, codes_of, cost_of, IsContentOf};
-ghost use Rattle.cbs_page.specs.Piece.{alphabet_in, codes_in, AreCodes};
+ghost use Rattle.cbs_page.specs.PagingSteps.{alphabet_in, codes_in, AreCodes};
 
 use crate::coding::Alphabet;
 use crate::content::Content;

@@ -6,7 +6,7 @@ ghost use Rattle.std.specs.List.{list_all};
 ghost use Rattle.gsm_alphabet.specs.Alphabet.{text_of_septets};
 ghost use Rattle.ucs2_text.specs.Ucs2.{character_of_unit};
 ghost use Rattle.cbs_page.specs.Page.{is_readable};
-ghost use Rattle.cbs_page.specs.Plain.{is_plain};
+ghost use Rattle.cbs_page.specs.TextSteps.{is_plain};
 ghost use Rattle.cbs_page.specs.Text.{text_of_page, without_trailing};
 
 use crate::coding::Alphabet;

@@ -3,10 +3,11 @@
 ghost use Rattle.std.specs.Prelude.{◌≡◌, ◌+◌, ◌<◌, ◌≤◌, ℕ, List, ◌++◌, false, true, is_err, length, take, vec_len};
 ghost use Rattle.std.specs.Prelude.{IfOk, IfSome, OnErr, OnOk};
 ghost use Rattle.std.specs.Io.KnownBytes.{Appends, Consumes, IsAtEnd, Keeps};
-ghost use Rattle.device_ends.specs.Moves.{AppendsFront, ConsumesSome, Moved, ReadsUpTo};
+ghost use Rattle.device_ends.specs.Moves.{AppendsFront, ConsumesSome, ReadsUpTo};
 ghost use Rattle.device_ends.specs.ReadFault.{reports_device};
 ghost use Rattle.device_ends.specs.Sink.{sink_failed, writer_of};
 ghost use Rattle.device_ends.specs.Source.{reader_of, source_failed};
+ghost use Rattle.device_ends.specs.TransferSteps.{Moved};
 
 use crate::fault::ReadFault;
 use crate::{Failed, Sink, Source};

@@ -14,7 +14,8 @@ use Rattle.cbs_page.specs.Text.{text_of_page}
 use Rattle.handset.specs.Reading.{Name, name_of, is_of, pages_named, agrees_with, agreeing, pages_of, total_in}
 use Rattle.handset.specs.Reading.{is_complete, Message, message_of, completed_by, completed_after, readable_pages}
 use Rattle.handset.specs.Reading.{shown_in}
-use Rattle.handset.specs.Showing.{name_shown, ShownAreTheComplete, OnePageShowsOne}
+use Rattle.handset.specs.Laws.{ShownAreTheComplete, OnePageShowsOne}
+use Rattle.handset.specs.Showing.{name_shown}
 use Rattle.handset.proofs.ReadingLaws.{completed_after-append}
 use Rattle.handset.proofs.Lists.{option_or-some}
 use Rattle.handset.proofs.PageLaws.{pages_of-other, name_is}

@@ -7,7 +7,7 @@ use Rattle.std.specs.Simd.{first_chunks}
 use Rattle.handset.specs.Reading.{shown_in}
 use Rattle.handset.specs.Tape.{TapeReading, IsTape, AreTapesWithin, BeginsWith, IsCut, IsLongWithin, IsOversized}
 use Rattle.handset.specs.Tape.{IsShortWithin, slots_in, told_by, most_slots, most_tapes}
-use Rattle.handset.specs.TapeLaw.{TapeHasKind, TapesHaveKind}
+use Rattle.handset.specs.Laws.{TapeHasKind, TapesHaveKind}
 use Rattle.handset.proofs.TapeLaws.{slots-header, chunks_joined, chunks_long, chunks_each}
 
 -- the tape that stands in front of an input that is long enough for it
@@ -59,7 +59,7 @@ none_left : (octets : List ℕ) → length octets ≤ 0 → octets ≡ []
 none_left [] none = refl
 none_left (octet ∷ octets) none = absurd (omega arith)
 
-pub tape_has_kind : (input : List ℕ) → TapeHasKind input
+pub tape_has_kind : TapeHasKind
 tape_has_kind input =
     elim (cases_lt (length input) 8) [
       | inl short ↦ inr (inl (λ headed. absurd (omega (arith, short, headed))))
@@ -193,5 +193,5 @@ kind_in (suc room) input =
           ]
     ]
 
-pub tapes_have_kind : (input : List ℕ) → TapesHaveKind input
+pub tapes_have_kind : TapesHaveKind
 tapes_have_kind input = kind_in most_tapes input

@@ -7,7 +7,7 @@ use Rattle.std.proofs.Math.Seq.{take-append_seam}
 use Rattle.handset.specs.Reading.{shown_in}
 use Rattle.handset.specs.Tape.{TapeReading, IsTape, AreJoined, AreTapes, IsShort, IsLong, IsCut, IsOversized}
 use Rattle.handset.specs.Tape.{octets_of_blocks, slots_in, told_by, most_slots, most_tapes}
-use Rattle.handset.specs.TapeLaw.{TapeIsOneKind, TapesAreOneKind}
+use Rattle.handset.specs.Laws.{TapeIsOneKind, TapesAreOneKind}
 use Rattle.handset.proofs.TapeLaws.{tape_long}
 
 -- two ways to cut a list at one place
@@ -172,7 +172,7 @@ short_and_long input short long =
     let bound : slots_in long.rest ≤ most_slots = cut.few oversized.headed in
     omega (arith, many, bound)
 
-pub tapes_are_one_kind : (input : List ℕ) → TapesAreOneKind input
+pub tapes_are_one_kind : TapesAreOneKind
 tapes_are_one_kind input = record {
   unique = λ readings others are twin.
       (same_stop most_tapes readings others input [] input [] refl are.joined twin.joined are.few twin.few
@@ -182,7 +182,7 @@ tapes_are_one_kind input = record {
   apart = short_and_long input;
 }
 
-pub tape_is_one_kind : (input : List ℕ) → TapeIsOneKind input
+pub tape_is_one_kind : TapeIsOneKind
 tape_is_one_kind input = record {
   unique = reading_same input;
   not_short = λ reading is short.

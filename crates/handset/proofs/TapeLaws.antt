@@ -14,10 +14,10 @@ use Rattle.handset.specs.Reading.{Message, shown_in}
 use Rattle.handset.specs.Keeping.{HandsetState, HasRead}
 use Rattle.handset.specs.declared.tape.TapeFault.{TapeFault}
 use Rattle.handset.specs.declared.tape.TapeFault.TheVariants as fault
-use Rattle.handset.specs.Tape.{TapeReading, IsNextFault, IsTapeFault, IsTapesFault, IsTape, IsLongTape, IsShortTape}
+use Rattle.handset.specs.Tape.{TapeReading, IsTapeFault, IsTapesFault, IsTape, IsLongTape, IsShortTape}
 use Rattle.handset.specs.Tape.{AreSlots, AreJoined, AreTapes, BeginsWith, IsShort, IsLong, IsCut, IsOversized}
 use Rattle.handset.specs.Tape.{octets_of_blocks, slots_in, told_by, most_slots, most_tapes}
-use Rattle.handset.specs.TapeSteps.{ReadsBlocks, ReadsPiece, ReadsTape}
+use Rattle.handset.specs.TapeSteps.{IsNextFault, ReadsBlocks, ReadsPiece, ReadsTape}
 
 -- the reader gave the blocks of this many slots, and a handset has read them
 pub record Fed (old new : Option (List ℕ)) (slots : ℕ) (handset : HandsetState) : Type 0 where

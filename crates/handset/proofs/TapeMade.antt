@@ -1,6 +1,7 @@
 -- The octets that are made of a cell, a number of slots and their blocks are a tape, and say and show just these.
 use Rattle.std.proofs.Common.{◌≡◌, ℕ, ◌+◌, ◌*◌, ◌/◌, ◌%◌, ◌<◌, ◌≤◌, List, [], ◌∷◌, refl, sym, subst, arith}
-use Rattle.handset.specs.Tape.{AreSlots, MadeAreTapes, slots_in, most_slots}
+use Rattle.handset.specs.Laws.{MadeAreTapes}
+use Rattle.handset.specs.Tape.{AreSlots, slots_in, most_slots}
 
 pair_back : (n : ℕ) → 256 * (n / 256) + n % 256 ≡ n
 pair_back n = omega arith

@@ -4,7 +4,7 @@ pub mod KeepingSteps
 pub mod Tape
 pub mod TapeExtent
 pub mod TapeSteps
-pub mod TapeLaw
 pub mod Counting
 pub mod Showing
 pub mod OneMessage
+pub mod Laws

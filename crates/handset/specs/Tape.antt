@@ -160,13 +160,6 @@ IsTapesFault input fault.Long = IsLong input
 IsTapesFault input fault.ReadFailed = Unit {0}
 IsTapesFault input fault.Refused = Unit {0}
 
--- the same of the next tape
-abbrev pub IsNextFault : List ℕ → TapeFault → Type 0
-IsNextFault input fault.Short = IsCut input
-IsNextFault input fault.Long = IsOversized input
-IsNextFault input fault.ReadFailed = Unit {0}
-IsNextFault input fault.Refused = Unit {0}
-
 -- a result reports that the reader failed
 abbrev pub reports_read_failed : {T : Type 0} → Result T TapeFault → Bool
 reports_read_failed (Ok _) = false
@@ -174,9 +167,3 @@ reports_read_failed (Err fault.Short) = false
 reports_read_failed (Err fault.Long) = false
 reports_read_failed (Err fault.ReadFailed) = true
 reports_read_failed (Err fault.Refused) = false
-
--- the octets that are made of a cell, a number of slots and their blocks are a tape, and say and show just these
-abbrev pub MadeAreTapes : Type 0
-MadeAreTapes =
-    (cell : Cell) → (slots : ℕ) → (blocks : List (List ℕ)) → slots ≤ most_slots → AreSlots slots blocks →
-    IsTape (tape_octets cell slots blocks) (record { cell = cell; slots = slots; shown = shown_in blocks })

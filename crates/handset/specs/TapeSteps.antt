@@ -56,3 +56,10 @@ NextStopsAt old new fault.ReadFailed = (part : List ℕ) × Consumes old new par
 NextStopsAt old new fault.Refused =
     (part : List ℕ) × Consumes old new part
     × (8 ≤ length part → slots_in part ≤ most_slots) × (8 ≤ length part → length part ≤ tape_length part)
+
+-- why an input gives no next tape, but for out of memory and a reader that failed
+abbrev pub IsNextFault : List ℕ → TapeFault → Type 0
+IsNextFault input fault.Short = IsCut input
+IsNextFault input fault.Long = IsOversized input
+IsNextFault input fault.ReadFailed = Unit {0}
+IsNextFault input fault.Refused = Unit {0}

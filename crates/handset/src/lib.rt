@@ -15,9 +15,8 @@ mod pages;
 mod tape;
 
 pub use handset::Handset;
-pub use laws::reading_laws;
+pub use laws::{reading_laws, tape_laws};
 pub use messages::{Refused, Shown};
 pub use tape::{
     MAX_SLOTS, MAX_TAPES, Reading, TakesReadings, TapeFault, read_each, read_tape, read_tapes,
-    tapes_law,
 };

@@ -12,12 +12,11 @@ ghost use Rattle.handset.specs.Reading.{shown_in};
 ghost use Rattle.handset.specs.Keeping.{HasRead, messages_of};
 ghost use Rattle.handset.specs.Tape.{TapeReading, cell_in, slots_in, most_slots, most_tapes, reading_of, readings_of};
 ghost use Rattle.handset.specs.Tape.{AreTapes, AreTaken, reports_read_failed};
-ghost use Rattle.handset.specs.Tape.{IsNextFault, IsTape, IsTapeFault, IsTapesFault, MadeAreTapes};
+ghost use Rattle.handset.specs.Tape.{IsTape, IsTapeFault, IsTapesFault};
 ghost use Rattle.handset.specs.declared.tape.TapeFault.TheVariants.{ReadFailed, Refused};
-ghost use Rattle.handset.specs.TapeLaw.{TapeHasKind, TapeIsOneKind, TapesAreOneKind, TapesHaveKind};
 ghost use Rattle.handset.specs.TapeExtent.{StopsAt};
-ghost use Rattle.handset.specs.TapeSteps.{NextStopsAt, ReadsBlocks, ReadsCount, ReadsFewer, ReadsPiece, ReadsTape};
-ghost use Rattle.handset.specs.TapeSteps.{StopsInOctets};
+ghost use Rattle.handset.specs.TapeSteps.{IsNextFault, NextStopsAt, ReadsBlocks, ReadsCount, ReadsFewer, ReadsPiece};
+ghost use Rattle.handset.specs.TapeSteps.{ReadsTape, StopsInOctets};
 
 use crate::input::read_front;
 use crate::{Handset, Shown};
@@ -351,16 +350,3 @@ fn read_piece<R: Read>(
     handset.accept_all(blocks)?;
     Ok(())
 }
-
-/// Laws of tapes. It does nothing: its contract is the statement.
-///
-/// Each input is of exactly one kind (readable, short or long), read as one tape and as tapes up to the end, and its
-/// readings are unique. The octets that are made of a cell, a number of slots and blocks are a tape that says and
-/// shows these.
-pub fn tapes_law()
-    ensures tape { (input : List ℕ) → TapeIsOneKind input }
-    ensures tape_kinds { (input : List ℕ) → TapeHasKind input }
-    ensures tapes { (input : List ℕ) → TapesAreOneKind input }
-    ensures tapes_kinds { (input : List ℕ) → TapesHaveKind input }
-    ensures made { MadeAreTapes }
-{}

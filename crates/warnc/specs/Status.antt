@@ -1,6 +1,6 @@
 -- The program's statuses. Own.
-use Rattle.std.specs.Prelude.{◌≡◌, ◌≢◌, ℕ, ◌<◌, ◌≤◌, ◌⊎◌, false, true, List, length, Option, IfSome, IsTrue}
-use Rattle.std.specs.Io.KnownBytes.{Appends, Keeps}
+use Rattle.std.specs.Prelude.{◌≡◌, ℕ, ◌<◌, ◌⊎◌, true, List, length, Option, IfSome}
+use Rattle.std.specs.Io.KnownBytes.{Appends}
 use Rattle.device_ends.specs.Moves.{WritesOutput}
 use Rattle.device_ends.specs.Sink.{sink_failed}
 use Rattle.device_ends.specs.Source.{source_failed}
@@ -13,8 +13,6 @@ use Rattle.warnc_engine.specs.ReadOutput.{IsReadOutput}
 use Rattle.cbs_page.specs.declared.paging.TextFault.TheVariants as text
 use Rattle.warnc_engine.specs.declared.page.PageFault.{PageFault}
 use Rattle.warnc_engine.specs.declared.page.PageFault.TheVariants as fault
-use Rattle.warnc_engine.specs.declared.read.TableFault.{TableFault}
-use Rattle.warnc_engine.specs.declared.read.TableFault.TheVariants as table
 
 -- 1 if the input is refused, 3 if a device failed, 4 if there was no memory
 abbrev pub status_of_fault : PageFault → ℕ
@@ -25,13 +23,6 @@ status_of_fault (fault.Text text.Refused) = 4
 status_of_fault (fault.Text _) = 1
 status_of_fault fault.Refused = 4
 status_of_fault fault.Write = 3
-
-abbrev pub status_of_table_fault : TableFault → ℕ
-status_of_table_fault table.Short = 1
-status_of_table_fault table.Long = 1
-status_of_table_fault table.Read = 3
-status_of_table_fault table.Refused = 4
-status_of_table_fault table.Write = 3
 
 -- the input is refused: a text of this language has a fault of status 1
 abbrev pub IsRefused : (language input : List ℕ) → Type 0
@@ -91,26 +82,3 @@ RefusesInput words input = RefusesText words input ⊎ RefusesTapes words input
 -- one of the two ends has failed
 abbrev pub OneHasFailed : {R W : Type 0} → Source R → Sink W → Type 0
 OneHasFailed source sink = (source_failed source ≡ true) ⊎ (sink_failed sink ≡ true)
-
--- what a status says of a sink: `old` and `new` are the sink before and after, and `before` and `after` what its writer
--- holds
-pub record IsStatusOfSink {W : Type 0} (status : ℕ) (old new : Sink W) (before after : Option (List ℕ)) : Type 0 where
-  -- there are five statuses
-  pub statuses : status ≤ 4
-  -- with 0 something was written
-  pub wrote : status ≡ 0 → WritesSome before after
-  -- with 1, 2 and 4 nothing was
-  pub nothing_written : status ≢ 0 → status ≢ 3 → Keeps before after
-  -- and the sink is as it was
-  pub untouched : status ≢ 0 → status ≢ 3 → new ≡ old
-
--- what the status of a command that was understood says of both ends. The source is that after the run
-pub record IsRunBetween {R W : Type 0} (status : ℕ) (source : Source R) (old new : Sink W)
-    (before after : Option (List ℕ)) : Type 0 where
-  pub sink : IsStatusOfSink status old new before after
-  -- it is no mistake of the words
-  pub understood : status ≢ 2
-  -- 3 is answered only if one of the ends has failed
-  pub device : status ≡ 3 → OneHasFailed source new
-  -- and always if one has, if the sink had not failed before
-  pub failed : sink_failed old ≡ false → OneHasFailed source new → status ≡ 3

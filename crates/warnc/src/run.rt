@@ -7,8 +7,9 @@ ghost use Rattle.device_ends.specs.Sink.{sink_failed, writer_of};
 ghost use Rattle.device_ends.specs.Source.{reader_of, source_failed};
 ghost use Rattle.warnc_engine.specs.PageOutput.{IsPageOutput};
 ghost use Rattle.warnc_engine.specs.ReadOutput.{IsReadOutput};
-ghost use Rattle.warnc.specs.Status.{status_of_fault, status_of_table_fault, IsNoTapes, IsRefused, IsRunBetween};
-ghost use Rattle.warnc.specs.Status.{IsStatusOfSink, OneHasFailed, RefusesInput, WritesSome, WroteWhatIsAsked};
+ghost use Rattle.warnc.specs.RunSteps.{status_of_table_fault, IsRunBetween, IsStatusOfSink};
+ghost use Rattle.warnc.specs.Status.{status_of_fault, IsNoTapes, IsRefused, OneHasFailed, RefusesInput, WritesSome};
+ghost use Rattle.warnc.specs.Status.{WroteWhatIsAsked};
 
 use crate::command::{Order, PageOptions, asks_for_text, order_of};
 use cbs_page::TextFault;

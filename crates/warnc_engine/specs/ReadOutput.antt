@@ -9,7 +9,6 @@ use Rattle.device_ends.specs.Moves.{AppendsFront}
 use Rattle.handset.specs.Reading.{Message}
 use Rattle.handset.specs.Tape.{TapeReading, AreTapes, IsShort, IsLong, most_tapes}
 use Rattle.handset.specs.TapeExtent.{StopsAt}
-use Rattle.handset.specs.declared.tape.TapeFault.{TapeFault}
 use Rattle.handset.specs.declared.tape.TapeFault.TheVariants as tape
 use Rattle.warnc_engine.specs.declared.read.TableFault.{TableFault}
 use Rattle.warnc_engine.specs.declared.read.TableFault.TheVariants as fault
@@ -46,13 +45,6 @@ pub record IsReadOutput (input output : List ℕ) : Type 0 where
   pub readings : List TapeReading
   pub tapes : AreTapes input readings
   pub written : output ≡ table_of readings
-
--- what a fault of tapes is told as
-abbrev pub table_fault_of : TapeFault → TableFault
-table_fault_of tape.Short = fault.Short
-table_fault_of tape.Long = fault.Long
-table_fault_of tape.ReadFailed = fault.Read
-table_fault_of tape.Refused = fault.Refused
 
 -- why no table is written, want of memory and devices aside; after a fault of the writer a front of the table is out,
 -- and after any other fault nothing is

@@ -5,7 +5,8 @@ ghost use Rattle.std.specs.Io.KnownBytes.{IsAtEnd};
 ghost use Rattle.device_ends.specs.Moves.{WritesOutput};
 ghost use Rattle.device_ends.specs.Sink.{writer_of};
 ghost use Rattle.device_ends.specs.Source.{reader_of};
-ghost use Rattle.warnc_engine.specs.ReadOutput.{table_fault_of, IsReadOutput, IsReadFault, IsReadTo};
+ghost use Rattle.warnc_engine.specs.ReadOutput.{IsReadOutput, IsReadFault, IsReadTo};
+ghost use Rattle.warnc_engine.specs.ReadSteps.{table_fault_of};
 ghost use Rattle.warnc_engine.specs.Stream.{IsStreamBetween};
 
 use crate::table::Table;

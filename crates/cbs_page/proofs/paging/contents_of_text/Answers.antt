@@ -4,7 +4,7 @@ use Rattle.std.proofs.lemmas.Iterator.{YieldsList-from_chars}
 use Rattle.std.proofs.lemmas.Iterator.Consumers.{YieldsList-turn, YieldsList-end}
 use Rattle.std.proofs.lemmas.List.{length_push}
 use Rattle.cbs_page.specs.Text.{capacity, codes_of, IsContentOf}
-use Rattle.cbs_page.specs.Piece.{codes_in}
+use Rattle.cbs_page.specs.PagingSteps.{codes_in}
 use Rattle.cbs_page.proofs.Cutting.{cuts_from}
 use Rattle.cbs_page.proofs.CuttingLaws.{HasCut, HasCut-takes, HasCut-begins, HasCut-end}
 use Rattle.cbs_page.proofs.PaginateLaws.{has_pages}

@@ -1,7 +1,7 @@
 use Rattle.std.proofs.Common.{◌≡◌, ◌≤◌, length}
 use Rattle.std.specs.Str.{chars}
 use Rattle.cbs_page.specs.Text.{capacity}
-use Rattle.cbs_page.specs.Piece.{alphabet_in, codes_in, AreCodes}
+use Rattle.cbs_page.specs.PagingSteps.{alphabet_in, codes_in, AreCodes}
 use Rattle.cbs_page.proofs.CuttingLaws.{HasCut}
 use Rattle.cbs_page.proofs.paging.contents_of_text.Given as goal
 

@@ -10,7 +10,8 @@ use Rattle.std.proofs.lemmas.Str.{encodes-chars, scalars-chars, chars-nil}
 use Rattle.cbs_page.specs.declared.coding.Alphabet.{Alphabet}
 use Rattle.cbs_page.specs.declared.content.Content.{Content}
 use Rattle.cbs_page.specs.Coding.{language_value}
-use Rattle.cbs_page.specs.Text.{capacity, codes_of, cost_of, alphabet_for, coding_for, is_bad, TakesPages, HoldText}
+use Rattle.cbs_page.specs.Text.{capacity, codes_of, cost_of, alphabet_for, coding_for, is_bad}
+use Rattle.cbs_page.specs.PagingSteps.{HoldText, TakesPages}
 use Rattle.std.proofs.lemmas.List.{length-map}
 use Rattle.cbs_page.proofs.CuttingLaws.{AreContentsOf-length}
 use Rattle.cbs_page.proofs.PagingLaws.{one_paging}

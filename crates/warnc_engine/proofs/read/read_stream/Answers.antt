@@ -21,7 +21,8 @@ returns-in-Ok-write_all-clause-ok g c =
     record {
       of_input =
           output_then
-          (Appends (g.W.Write.contents (writer_of c.args.sink.now)) (g.W.Write.contents (writer_of c.write_all.new.sink)))
+          (Appends (g.W.Write.contents (writer_of c.args.sink.now))
+          (g.W.Write.contents (writer_of c.write_all.new.sink)))
           taken _ written c.in-Ok-write_all.ensures.ok;
       of_some = (
         taken.of_some.0,

@@ -1,6 +1,6 @@
 -- Each law is a lemma of Ucs2Laws.
 use Rattle.ucs2_text.proofs.Ucs2Laws as laws
-use Rattle.ucs2_text.proofs.law.ucs2_law.Goals as goal
+use Rattle.ucs2_text.proofs.laws.ucs2_laws.Goals as goal
 
 pub returns : goal.returns
 returns c = record {

@@ -1,5 +1,5 @@
--- Septets that show the characters of their own numbers, as most of ASCII does in the GSM 7-bit alphabet (3GPP TS
--- 23.038, clause 6.2.1).
+-- A step of reading a page's text: septets that show the characters of their own numbers, as most of ASCII does in the
+-- GSM 7-bit alphabet (3GPP TS 23.038, clause 6.2.1). The contracts of private functions alone speak of it.
 use Rattle.std.specs.Prelude.{ℕ, ◌==◌, ◌&&◌, ◌||◌, nat_le, nat_lt, Bool}
 
 -- LF, CR, the space to `#`, `%` to `?`, and the letters without marks: not `$`, `@` and what ASCII has between and

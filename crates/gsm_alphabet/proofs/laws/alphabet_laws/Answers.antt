@@ -1,6 +1,6 @@
 -- Each law is a lemma of AlphabetLaws.
 use Rattle.gsm_alphabet.proofs.AlphabetLaws as laws
-use Rattle.gsm_alphabet.proofs.law.alphabet_law.Goals as goal
+use Rattle.gsm_alphabet.proofs.laws.alphabet_laws.Goals as goal
 
 pub returns : goal.returns
 returns c = record {

@@ -1,4 +1,4 @@
--- What the definitions of Ucs2 promise together: own statements, over every list of units or octets.
+-- Laws of UCS-2 text (own), over every list of units or octets.
 use Rattle.std.specs.Prelude.{◌≡◌, ℕ, ◌-◌, ◌<◌, ◌≤◌, All, IsSomeAnd, List, ◌++◌, length, replicate}
 use Rattle.std.specs.Char.{IsScalar}
 use Rattle.ucs2_text.specs.Ucs2.{unit_of_character, character_of_unit, octets_of_units, units_of_octets}

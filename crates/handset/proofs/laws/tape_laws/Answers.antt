@@ -1,7 +1,7 @@
 use Rattle.handset.proofs.TapeCases.{tape_has_kind, tapes_have_kind}
 use Rattle.handset.proofs.TapeMade.{made_is_tape}
 use Rattle.handset.proofs.TapeKinds.{tape_is_one_kind, tapes_are_one_kind}
-use Rattle.handset.proofs.tape.tapes_law.Goals as goal
+use Rattle.handset.proofs.laws.tape_laws.Goals as goal
 
 pub returns-clause-tape : goal.returns-clause-tape
 returns-clause-tape c = tape_is_one_kind

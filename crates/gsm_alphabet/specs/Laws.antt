@@ -1,4 +1,4 @@
--- What the definitions of Alphabet promise together: own statements, over every character and every septet list.
+-- Laws of the alphabet (own), over every character and every septet list.
 use Rattle.std.specs.Prelude.{◌≡◌, ◌≢◌, ◌↔◌, ℕ, ◌<◌, ◌≤◌, Some, All, List, ◌∷◌, ◌++◌, length}
 use Rattle.std.specs.Char.{IsScalar}
 use Rattle.std.specs.List.{flat_map}
