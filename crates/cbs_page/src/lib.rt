@@ -5,12 +5,12 @@
 //! text's pages, joined, are the text.
 #![tactic(auto)]
 
+mod builder;
 pub mod coding;
 pub mod content;
 mod laws;
 pub mod octets;
 pub mod paging;
-mod piece;
 pub mod serial;
 pub mod text;
 

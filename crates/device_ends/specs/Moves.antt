@@ -17,7 +17,7 @@ abbrev pub AppendsFront : Option (List ℕ) → Option (List ℕ) → List ℕ �
 AppendsFront old new octets =
     (n : ℕ) × (0 < length octets → n < length octets) × Appends old new (take n octets)
 
--- a writer was given the output of an input: where the input is known, an output of it, and at any reader an output of
+-- a writer was given the output of an input: if the input is known, an output of it, and at any reader an output of
 -- some input. `IsOutput` says what is written for which input, and `old` and `new` are what the writer held before and
 -- after
 pub record WritesOutput (IsOutput : List ℕ → List ℕ → Type 0) (input old new : Option (List ℕ)) : Type 0 where

@@ -1,4 +1,4 @@
-//! A reader whose failure stays seen.
+//! A reader whose failure is sticky.
 
 ghost use Rattle.std.specs.Prelude.{◌≡◌, false, true, is_err};
 ghost use Rattle.std.specs.Io.{ReadsAtMost};
@@ -41,10 +41,10 @@ impl<R> Source<R> {
 impl<R: Read> Source<R> {
     ghost use Rattle.device_ends.specs.Source.{reader_of, source_failed};
 
-    /// Reads some octets into the front of the buffer, by one read of the reader, and answers how
+    /// Reads some octets into the front of the buffer, by one read of the reader, and returns how
     /// many: 0 only at the end, or for an empty buffer.
     ///
-    /// Answers [`Failed`] where the reader answers an error, and from then on, with no further read.
+    /// Returns [`Failed`] if the reader returns an error, and from then on, with no further read.
     pub fn read(&mut self, buffer: &mut [u8]) -> Result<usize, Failed>
         ensures bound { ReadsAtMost result buffer.new }
         ensures octets { ReadConsumes (R.remaining (reader_of self.old))

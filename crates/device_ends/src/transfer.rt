@@ -17,7 +17,7 @@ use std::io::{Read, Write};
 /// How many octets a piece of [`read_up_to`] has at most.
 const PIECE: usize = 4096;
 
-/// Writes octets until all are out or the sink has failed, and answers how many are out.
+/// Writes octets until all are out or the sink has failed, and returns how many are out.
 pub fn write_front<W: Write>(sink: &mut Sink<W>, octets: &[u8]) -> usize
     ensures bound { result ≤ length octets.now }
     ensures octets { Appends (W.contents (writer_of sink.old)) (W.contents (writer_of sink.new))
@@ -36,7 +36,7 @@ pub fn write_front<W: Write>(sink: &mut Sink<W>, octets: &[u8]) -> usize
     out
 }
 
-/// Writes all octets. Answers [`Failed`] where the sink has failed, and then a front of them is out.
+/// Writes all octets. Returns [`Failed`] if the sink has failed, and then a front of them is out.
 pub fn write_all<W: Write>(sink: &mut Sink<W>, octets: &[u8]) -> Result<(), Failed>
     ensures ok { OnOk result (Appends (W.contents (writer_of sink.old))
         (W.contents (writer_of sink.new)) octets.now) }
@@ -50,10 +50,10 @@ pub fn write_all<W: Write>(sink: &mut Sink<W>, octets: &[u8]) -> Result<(), Fail
 }
 
 /// Reads to the end, but stops once it has `limit + 1` octets: so the input was longer than `limit`
-/// exactly where more than `limit` octets are answered.
+/// exactly if more than `limit` octets are returned.
 ///
-/// Answers [`ReadFault::Device`] exactly where the source has failed, and [`ReadFault::Refused`]
-/// where memory was refused. After either, at most `limit` octets were read and are gone.
+/// Returns [`ReadFault::Device`] exactly if the source has failed, and [`ReadFault::Refused`]
+/// if memory was refused. After either, at most `limit` octets were read and are gone.
 pub fn read_up_to<R: Read>(
     source: &mut Source<R>,
     alloc: Global,
@@ -82,7 +82,7 @@ pub fn read_up_to<R: Read>(
     Ok(octets)
 }
 
-/// One read onto the end of the octets, up to `most` in all. Answers how many: 0 only at the end.
+/// One read onto the end of the octets, up to `most` in all. Returns how many: 0 only at the end.
 fn read_piece<R: Read>(
     source: &mut Source<R>,
     octets: &mut Vec<u8>,

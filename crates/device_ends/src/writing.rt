@@ -1,4 +1,4 @@
-//! A writer whose failure stays seen.
+//! A writer whose failure is sticky.
 
 ghost use Rattle.std.specs.Prelude.{◌≡◌, ◌<◌, false, true, is_err, length, IfOk};
 ghost use Rattle.std.specs.Io.{WritesAtMost};
@@ -42,10 +42,10 @@ impl<W> Sink<W> {
 impl<W: Write> Sink<W> {
     ghost use Rattle.device_ends.specs.Sink.{sink_failed, writer_of};
 
-    /// Writes a front of the octets, by one write of the writer, and answers how many: at least one
-    /// where there is one.
+    /// Writes a front of the octets, by one write of the writer, and returns how many: at least one
+    /// if there is one.
     ///
-    /// Answers [`Failed`] where the writer answers an error or takes none of one octet or more, and
+    /// Returns [`Failed`] if the writer returns an error or takes none of one octet or more, and
     /// from then on, with no further write. What a failed call was given is not written.
     pub fn write(&mut self, octets: &[u8]) -> Result<usize, Failed>
         ensures bound { WritesAtMost result octets.now }

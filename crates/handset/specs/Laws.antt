@@ -6,11 +6,11 @@ use Rattle.std.specs.Option.{option_to_list}
 use Rattle.cbs_page.specs.declared.octets.PageView.{PageView}
 use Rattle.cbs_page.specs.Text.{text_of_page}
 use Rattle.cbsp_wire.specs.declared.message.Cell.{Cell}
-use Rattle.handset.specs.Reading.{Name, is_complete, text_of, Message, readable_pages, shown_in}
+use Rattle.handset.specs.Reception.{Name, is_complete, text_of, ShownMessage, readable_pages, shown_in}
 use Rattle.handset.specs.Counting.{whole_among}
 use Rattle.handset.specs.Showing.{AreTheComplete}
 use Rattle.handset.specs.OneMessage.{AreFrom, IsLeastCount, IsMessage}
-use Rattle.handset.specs.Tape.{TapeReading, tape_octets, most_slots, AreSlots, IsTape, IsShortTape, IsLongTape}
+use Rattle.handset.specs.Tape.{TapeReading, tape_octets, max_slots, AreSlots, IsTape, IsShortTape, IsLongTape}
 use Rattle.handset.specs.Tape.{AreTapes, IsShort, IsLong}
 
 -- any list of blocks shows the messages that its pages make complete
@@ -21,7 +21,7 @@ ShownAreTheComplete = (blocks : List (List ℕ)) → AreTheComplete (readable_pa
 abbrev pub OnePageShowsOne : Type 0
 OnePageShowsOne = (blocks more : List (List ℕ)) (page : Option PageView)
     → readable_pages more ≡ readable_pages blocks ++ option_to_list page
-    → (message : Option Message) × (shown_in more ≡ shown_in blocks ++ option_to_list message)
+    → (message : Option ShownMessage) × (shown_in more ≡ shown_in blocks ++ option_to_list message)
 
 -- a message is complete exactly if a whole broadcast of it was read; here its pages may be any
 abbrev pub CompleteIsWhole : Type 0
@@ -76,5 +76,5 @@ TapesHaveKind =
 -- the octets that are made of a cell, a number of slots and their blocks are a tape, and say and show just these
 abbrev pub MadeAreTapes : Type 0
 MadeAreTapes =
-    (cell : Cell) → (slots : ℕ) → (blocks : List (List ℕ)) → slots ≤ most_slots → AreSlots slots blocks →
+    (cell : Cell) → (slots : ℕ) → (blocks : List (List ℕ)) → slots ≤ max_slots → AreSlots slots blocks →
     IsTape (tape_octets cell slots blocks) (record { cell = cell; slots = slots; shown = shown_in blocks })

@@ -1,4 +1,4 @@
-pub mod Reading
+pub mod Reception
 pub mod Keeping
 pub mod KeepingSteps
 pub mod Tape

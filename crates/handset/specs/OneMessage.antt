@@ -2,7 +2,7 @@
 use Rattle.std.specs.Prelude.{◌≡◌, ℕ, ◌+◌, ◌<◌, ◌≤◌, true, List, length, slice_index_or, count_by, All}
 use Rattle.std.specs.Prelude.{Contains}
 use Rattle.cbs_page.specs.declared.octets.PageView.{PageView}
-use Rattle.handset.specs.Reading.{Name, is_of}
+use Rattle.handset.specs.Reception.{Name, is_of}
 use Rattle.handset.specs.Keeping.{is_numbered}
 
 -- the page at this place of a message: it has the message's name, the place counted from 1 as its number, and the total

@@ -1,16 +1,16 @@
 -- What a list of blocks shows, without an order (own): each message that its pages make complete, once, and no other.
 use Rattle.std.specs.Prelude.{◌≡◌, ◌≢◌, true, List, All, AllPairs, Contains}
 use Rattle.cbs_page.specs.declared.octets.PageView.{PageView}
-use Rattle.handset.specs.Reading.{Name, is_complete, Message, message_of}
+use Rattle.handset.specs.Reception.{Name, is_complete, ShownMessage, message_of}
 
 -- the name of a message that is shown
-abbrev pub name_shown : Message → Name
+abbrev pub name_shown : ShownMessage → Name
 name_shown m = record { id = m.id; serial = m.serial }
 
 -- these messages are those that the pages make complete: each is complete, and is what its pages say; each complete
 -- message is
 -- among them; and no two have one name
-pub record AreTheComplete (pages : List PageView) (shown : List Message) : Type 0 where
+pub record AreTheComplete (pages : List PageView) (shown : List ShownMessage) : Type 0 where
   pub complete : All (λ m. is_complete (name_shown m) pages ≡ true) shown
   pub meant : All (λ m. m ≡ message_of (name_shown m) pages) shown
   pub all : (name : Name) → is_complete name pages ≡ true → Contains shown (message_of name pages)

@@ -1,16 +1,16 @@
 //! Tapes (this project's own format): what a cell's broadcast channel sent, slot by slot, and what a handset shows of
 //! it. A tape is its cell (LAC 2 octets, CI 2), the number of its slots (4), and four blocks of 23 octets for each,
 //! high octets first; several tapes follow each other with nothing between. `specs/Tape.antt` says which octets are
-//! tapes, and what is told of them.
+//! tapes, and what they say and show.
 
 ghost use Rattle.std.specs.Prelude.{◌≡◌, ◌≢◌, ◌+◌, ◌*◌, ◌<◌, ◌≤◌, ◌++◌, ℕ, List, false, true, is_err, length, IfErr};
 ghost use Rattle.std.specs.Prelude.{IfOk, IfSome, IfNone, OnOk, vec_len, [], ◌∷◌, MatchBool};
 ghost use Rattle.std.specs.Io.KnownBytes.{Consumes, IsAtEnd};
 ghost use Rattle.std.specs.Option.{option_to_list};
 ghost use Rattle.device_ends.specs.Source.{reader_of, source_failed};
-ghost use Rattle.handset.specs.Reading.{shown_in};
+ghost use Rattle.handset.specs.Reception.{shown_in};
 ghost use Rattle.handset.specs.Keeping.{HasRead, messages_of};
-ghost use Rattle.handset.specs.Tape.{TapeReading, cell_in, slots_in, most_slots, most_tapes, reading_of, readings_of};
+ghost use Rattle.handset.specs.Tape.{TapeReading, cell_in, slots_in, max_slots, max_tapes, reading_of, readings_of};
 ghost use Rattle.handset.specs.Tape.{AreTapes, AreTaken, reports_read_failed};
 ghost use Rattle.handset.specs.Tape.{IsTape, IsTapeFault, IsTapesFault};
 ghost use Rattle.handset.specs.declared.tape.TapeFault.TheVariants.{ReadFailed, Refused};
@@ -143,7 +143,7 @@ pub fn read_tapes<R: Read>(alloc: Global, source: &mut Source<R>) -> Result<Vec<
 
     // How far the source was read: to its end, or as the fault says and no further.
     ensures whole { OnOk result (IsAtEnd (R.remaining (reader_of source.new))) }
-    ensures extent { IfErr result (λ fault. StopsAt most_tapes (R.remaining (reader_of source.old))
+    ensures extent { IfErr result (λ fault. StopsAt max_tapes (R.remaining (reader_of source.old))
         (R.remaining (reader_of source.new)) fault) }
 
     // At any reader.
@@ -191,7 +191,7 @@ pub fn read_each<R: Read, T: TakesReadings>(
 
     // How far the source was read: to its end, or as the fault says and no further.
     ensures whole { OnOk result (IsAtEnd (R.remaining (reader_of source.new))) }
-    ensures extent { IfErr result (λ fault. StopsAt most_tapes (R.remaining (reader_of source.old))
+    ensures extent { IfErr result (λ fault. StopsAt max_tapes (R.remaining (reader_of source.old))
         (R.remaining (reader_of source.new)) fault) }
 
     // At any reader.
@@ -304,7 +304,7 @@ fn read_slots<R: Read>(
     slots: u32,
 ) -> Result<Vec<Shown>, TapeFault>
     requires not_failed { source_failed source.old ≡ false }
-    requires few { slots ≤ most_slots }
+    requires few { slots ≤ max_slots }
     requires piece { length piece.old ≡ 65504 }
     ensures shown { IfOk result (λ shown. ReadsBlocks (R.remaining (reader_of source.old))
         (R.remaining (reader_of source.new)) slots (messages_of shown.items)) }

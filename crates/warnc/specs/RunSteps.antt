@@ -9,8 +9,8 @@ use Rattle.warnc.specs.CommandLine.{IsPageOrder, IsReadOrder}
 use Rattle.warnc.specs.Status.{OneHasFailed, WritesSome}
 use Rattle.warnc.specs.declared.command.Order.{Order}
 use Rattle.warnc.specs.declared.command.Order.TheVariants.{Page, Read}
-use Rattle.warnc_engine.specs.declared.read.TableFault.{TableFault}
-use Rattle.warnc_engine.specs.declared.read.TableFault.TheVariants as table
+use Rattle.warnc_engine.specs.declared.read.ReadCommandFault.{ReadCommandFault}
+use Rattle.warnc_engine.specs.declared.read.ReadCommandFault.TheVariants as table
 
 -- the words ask for what `order` says
 abbrev pub IsOrdered : (words : List (List ℕ)) → Order → Type 0
@@ -18,12 +18,12 @@ IsOrdered words (Page options) = IsPageOrder words options.language.now options.
 IsOrdered words Read = IsReadOrder words
 
 -- the status of a fault of `read`: 1 if the input is refused, 3 if a device failed, 4 if there was no memory
-abbrev pub status_of_table_fault : TableFault → ℕ
-status_of_table_fault table.Short = 1
-status_of_table_fault table.Long = 1
-status_of_table_fault table.Read = 3
-status_of_table_fault table.Refused = 4
-status_of_table_fault table.Write = 3
+abbrev pub status_of_read_fault : ReadCommandFault → ℕ
+status_of_read_fault table.Short = 1
+status_of_read_fault table.Long = 1
+status_of_read_fault table.ReadFailed = 3
+status_of_read_fault table.Refused = 4
+status_of_read_fault table.WriteFailed = 3
 
 -- what a status says of a sink: `old` and `new` are the sink before and after, and `before` and `after` what its writer
 -- holds
@@ -43,7 +43,7 @@ pub record IsRunBetween {R W : Type 0} (status : ℕ) (source : Source R) (old n
   pub sink : IsStatusOfSink status old new before after
   -- it is no mistake of the words
   pub understood : status ≢ 2
-  -- 3 is answered only if one of the ends has failed
+  -- it is 3 only if one of the ends has failed
   pub device : status ≡ 3 → OneHasFailed source new
   -- and always if one has, if the sink had not failed before
   pub failed : sink_failed old ≡ false → OneHasFailed source new → status ≡ 3

@@ -15,18 +15,18 @@ use Rattle.warnc_engine.specs.declared.page.PageFault.{PageFault}
 use Rattle.warnc_engine.specs.declared.page.PageFault.TheVariants as fault
 
 -- 1 if the input is refused, 3 if a device failed, 4 if there was no memory
-abbrev pub status_of_fault : PageFault → ℕ
-status_of_fault fault.Read = 3
-status_of_fault fault.TooLong = 1
-status_of_fault fault.NotUtf8 = 1
-status_of_fault (fault.Text text.Refused) = 4
-status_of_fault (fault.Text _) = 1
-status_of_fault fault.Refused = 4
-status_of_fault fault.Write = 3
+abbrev pub status_of_page_fault : PageFault → ℕ
+status_of_page_fault fault.ReadFailed = 3
+status_of_page_fault fault.TooLong = 1
+status_of_page_fault fault.NotUtf8 = 1
+status_of_page_fault (fault.Text text.Refused) = 4
+status_of_page_fault (fault.Text _) = 1
+status_of_page_fault fault.Refused = 4
+status_of_page_fault fault.WriteFailed = 3
 
 -- the input is refused: a text of this language has a fault of status 1
 abbrev pub IsRefused : (language input : List ℕ) → Type 0
-IsRefused language input = (fault : PageFault) × IsPageFault language input fault × (status_of_fault fault ≡ 1)
+IsRefused language input = (fault : PageFault) × IsPageFault language input fault × (status_of_page_fault fault ≡ 1)
 
 -- the input is refused: it is no whole tapes
 abbrev pub IsNoTapes : (input : List ℕ) → Type 0

@@ -4,8 +4,8 @@ use Rattle.std.specs.Prelude.{◌≡◌, ℕ, List, Some, false}
 use Rattle.csv.specs.Writing.{default_writer, fields_written, has_written, text_written, writer_setup}
 use Rattle.handset.specs.declared.tape.TapeFault.{TapeFault}
 use Rattle.handset.specs.declared.tape.TapeFault.TheVariants as tape
-use Rattle.warnc_engine.specs.declared.read.TableFault.{TableFault}
-use Rattle.warnc_engine.specs.declared.read.TableFault.TheVariants as fault
+use Rattle.warnc_engine.specs.declared.read.ReadCommandFault.{ReadCommandFault}
+use Rattle.warnc_engine.specs.declared.read.ReadCommandFault.TheVariants as fault
 use Rattle.warnc_engine.specs.declared.table.Table.{Table}
 
 -- the table has these octets, and the last of its rows is ended
@@ -16,8 +16,8 @@ pub record IsTable (table : Table) (octets : List ℕ) : Type 0 where
   pub clean : has_written table.writer ≡ false
 
 -- the fault that a fault of tapes is reported as
-abbrev pub table_fault_of : TapeFault → TableFault
-table_fault_of tape.Short = fault.Short
-table_fault_of tape.Long = fault.Long
-table_fault_of tape.ReadFailed = fault.Read
-table_fault_of tape.Refused = fault.Refused
+abbrev pub fault_of_tapes : TapeFault → ReadCommandFault
+fault_of_tapes tape.Short = fault.Short
+fault_of_tapes tape.Long = fault.Long
+fault_of_tapes tape.ReadFailed = fault.ReadFailed
+fault_of_tapes tape.Refused = fault.Refused

@@ -10,7 +10,7 @@ invariant-loop-character l = record {
   finite : (goal.iterator-loop-character).can_next l.character-iterator
       × (goal.iterator-loop-character).is_finite l.character-iterator;
   same : alphabet_in l.piece ≡ l.alphabet;
-  sound : AreCodes l.piece;
+  codes : AreCodes l.piece;
   within : length (codes_in l.piece) ≤ capacity l.alphabet;
   made : HasCut l.alphabet (chars l.text) (length l.yielded) (codes_in l.piece) l.pages.items;
 }

@@ -67,7 +67,7 @@ pages_of name pages = agreeing (pages_named name pages)
 abbrev pub page_numbered : Name → List PageView → ℕ → Option PageView
 page_numbered name pages number = find (λ page. page.number == number) (pages_of name pages)
 
--- the total that its first page tells; 0 where no page came
+-- the total that its first page has; 0 if no page came
 abbrev pub total_in : List PageView → ℕ
 total_in [] = 0
 total_in (first ∷ rest) = first.total
@@ -90,25 +90,25 @@ text_of name pages =
     flat_map (λ number. option_map_or text_of_page (page_numbered name pages number) []) (numbers_of name pages)
 
 -- what is shown of a message: its name, and its text as UTF-8
-pub record Message : Type 0 where
+pub record ShownMessage : Type 0 where
   pub id : ℕ
   pub serial : ℕ
   pub text : List ℕ
 
-abbrev pub message_of : Name → List PageView → Message
+abbrev pub message_of : Name → List PageView → ShownMessage
 message_of name pages = record { id = name.id; serial = name.serial; text = encode_utf8_all (text_of name pages) }
 
 -- the message that this page makes complete, after those before it
-abbrev pub completed_by : List PageView → PageView → List Message
+abbrev pub completed_by : List PageView → PageView → List ShownMessage
 completed_by before page =
     if not (is_complete (name_of page) before) && is_complete (name_of page) (before ++ page ∷ [])
     then message_of (name_of page) (before ++ page ∷ []) ∷ [] else []
 
 -- the messages that these pages make complete, after those before them
-abbrev pub completed_after : List PageView → List PageView → List Message
+abbrev pub completed_after : List PageView → List PageView → List ShownMessage
 completed_after before [] = []
 completed_after before (page ∷ rest) = completed_by before page ++ completed_after (before ++ page ∷ []) rest
 
 -- the messages that a list of blocks shows, each once, in the order in which their last missing pages came
-abbrev pub shown_in : List (List ℕ) → List Message
+abbrev pub shown_in : List (List ℕ) → List ShownMessage
 shown_in blocks = completed_after [] (readable_pages blocks)

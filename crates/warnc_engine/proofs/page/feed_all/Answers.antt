@@ -1,6 +1,6 @@
 use Rattle.std.proofs.Common.{[], take, arith}
 use Rattle.std.proofs.lemmas.List.{take_more}
-use Rattle.warnc_engine.proofs.page.read.Goals as goal
+use Rattle.warnc_engine.proofs.page.feed_all.Goals as goal
 
 pub loop-block-preserved : goal.loop-block-preserved
 loop-block-preserved c =

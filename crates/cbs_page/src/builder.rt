@@ -16,7 +16,7 @@ const ESCAPE: u8 = 0x1B;
 
 /// The codes of a page, at most its capacity.
 #[derive(Drop)]
-pub enum Piece {
+pub enum PageBuilder {
     /// Septets.
     Gsm(ArrayVec<u8, 93>),
     /// Units of 16 bits.
@@ -35,7 +35,7 @@ impl Alphabet {
         }
     }
 
-    /// How many codes a character has: one or two septets, or one unit, and 0 where the alphabet doesn't have it.
+    /// How many codes a character has: one or two septets, or one unit, and 0 if the alphabet doesn't have it.
     pub fn cost(self, character: char) -> usize
         ensures value { result ≡ cost_of self character }
         ensures small { result ≤ 2 }
@@ -54,27 +54,27 @@ impl Alphabet {
     }
 }
 
-impl Piece {
+impl PageBuilder {
     /// A page that has taken nothing.
-    pub fn new(alphabet: Alphabet) -> Piece
+    pub fn new(alphabet: Alphabet) -> PageBuilder
         ensures empty { codes_in result ≡ [] }
         ensures same { alphabet_in result ≡ alphabet }
-        ensures sound { AreCodes result }
+        ensures codes { AreCodes result }
     {
         match alphabet {
-            Alphabet::Gsm => Piece::Gsm(ArrayVec::new()),
-            Alphabet::Ucs2 => Piece::Ucs2(ArrayVec::new()),
+            Alphabet::Gsm => PageBuilder::Gsm(ArrayVec::new()),
+            Alphabet::Ucs2 => PageBuilder::Ucs2(ArrayVec::new()),
         }
     }
 
     /// A page that has taken one character, for which each page has room.
-    pub fn of(alphabet: Alphabet, character: char) -> Piece
+    pub fn with_first(alphabet: Alphabet, character: char) -> PageBuilder
         ensures taken { codes_in result ≡ codes_of alphabet character }
         ensures same { alphabet_in result ≡ alphabet }
-        ensures sound { AreCodes result }
+        ensures codes { AreCodes result }
     {
-        let mut piece = Piece::new(alphabet);
-        piece.take(character);
+        let mut piece = PageBuilder::new(alphabet);
+        piece.push(character);
         piece
     }
 
@@ -83,22 +83,22 @@ impl Piece {
         ensures { result ≡ length (codes_in self.now) }
     {
         match self {
-            Piece::Gsm(septets) => septets.len(),
-            Piece::Ucs2(units) => units.len(),
+            PageBuilder::Gsm(septets) => septets.len(),
+            PageBuilder::Ucs2(units) => units.len(),
         }
     }
 
     /// Takes a character that has room.
-    pub fn take(&mut self, character: char)
+    pub fn push(&mut self, character: char)
         requires room { length (codes_in self.old) + cost_of (alphabet_in self.old) character ≤ capacity
             (alphabet_in self.old) }
-        requires were_sound { AreCodes self.old }
+        requires codes { AreCodes self.old }
         ensures taken { codes_in self.new ≡ codes_in self.old ++ codes_of (alphabet_in self.old) character }
         ensures same { alphabet_in self.new ≡ alphabet_in self.old }
-        ensures sound { AreCodes self.new }
+        ensures codes { AreCodes self.new }
     {
         match self {
-            Piece::Gsm(septets) => match encode_char(character) {
+            PageBuilder::Gsm(septets) => match encode_char(character) {
                 Some(Code::One(septet)) => septets.push(septet),
                 Some(Code::Ext(septet)) => {
                     septets.push(ESCAPE);
@@ -106,7 +106,7 @@ impl Piece {
                 }
                 None => {}
             },
-            Piece::Ucs2(units) => {
+            PageBuilder::Ucs2(units) => {
                 if let Some(unit) = unit_of(character) {
                     units.push(unit);
                 }
@@ -120,11 +120,11 @@ impl Piece {
         ensures { IsContentOf (alphabet_in self.now) (codes_in self.now) result }
     {
         match self {
-            Piece::Gsm(septets) => Content {
+            PageBuilder::Gsm(septets) => Content {
                 used: ((7 * septets.len() + 7) / 8) as u8,
                 octets: pack(septets),
             },
-            Piece::Ucs2(units) => Content {
+            PageBuilder::Ucs2(units) => Content {
                 used: (2 * units.len()) as u8,
                 octets: put_units(units),
             },
