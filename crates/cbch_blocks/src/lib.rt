@@ -1,5 +1,5 @@
 //! The blocks that a cell's broadcast channel (CBCH) sends in a slot: the four that carry a page (3GPP TS 44.012), and
-//! the four of an idle slot. What each is made of is told in `specs/Blocks.antt`, and nothing here allocates.
+//! the four of an idle slot. What each is made of is said in `specs/Blocks.antt`, and nothing here allocates.
 #![tactic(auto)]
 
 ghost use Rattle.std.specs.Prelude.{◌≡◌, ◌∷◌, length};

@@ -1,4 +1,4 @@
-//! The blocks of the page whose text is "@", and those of an idle slot, as the formats tell them.
+//! The blocks of the page whose text is "@", and those of an idle slot, as the formats have them.
 
 use super::*;
 

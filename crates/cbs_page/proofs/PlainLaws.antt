@@ -6,7 +6,7 @@ use Rattle.std.specs.Prelude.{◌&&◌, ◌||◌, encode_utf8_all}
 use Rattle.std.proofs.lemmas.Bool.{and_parts, eqb-true, ltb-true}
 use Rattle.std.proofs.lemmas.Str.{encode_ascii}
 use Rattle.gsm_alphabet.specs.Alphabet.{main_character, main_table, text_after, text_of_septets}
-use Rattle.cbs_page.specs.Plain.{is_plain}
+use Rattle.cbs_page.specs.TextSteps.{is_plain}
 
 -- a test holds of each number below one
 abbrev all_below : ℕ → (ℕ → Bool) → Bool

@@ -3,5 +3,6 @@ pub mod Serial
 pub mod Page
 pub mod Paging
 pub mod Text
-pub mod Piece
-pub mod Plain
+pub mod Laws
+pub mod PagingSteps
+pub mod TextSteps

@@ -19,9 +19,3 @@ pub record IsPaging (cost : ℕ → ℕ) (limit : ℕ) (text : List ℕ) (pieces
   pub nonempty : AllByRecursion (λ piece. piece ≢ []) pieces
   pub within : AllByRecursion (λ piece. sum_by cost piece ≤ limit) pieces
   pub filled : AreFilled cost limit pieces
-
--- a text has one list of pages at most
-abbrev pub PagingIsUnique : Type 0
-PagingIsUnique =
-    (cost : ℕ → ℕ) (limit : ℕ) (text : List ℕ) (pieces others : List (List ℕ)) →
-    IsPaging cost limit text pieces → IsPaging cost limit text others → pieces ≡ others

@@ -52,10 +52,6 @@ IsPagingIn alphabet text pieces = IsPaging (cost_of alphabet) (capacity alphabet
 abbrev pub IsPagingOf : List ℕ → List (List ℕ) → Type 0
 IsPagingOf text pieces = IsPagingIn (alphabet_for text) text pieces
 
--- a text takes so many pages in an alphabet
-abbrev pub TakesPages : Alphabet → List ℕ → ℕ → Type 0
-TakesPages alphabet text count = (pieces : List (List ℕ)) × IsPagingIn alphabet text pieces × (count ≡ length pieces)
-
 -- the content of a page that shows a piece: its codes and then CR to the end, and the octets that the codes begin in
 abbrev pub IsContentOf : Alphabet → List ℕ → Content → Type 0
 IsContentOf Gsm codes content = (content.used ≡ (7 * length codes + 7) / 8) × IsPacked codes content.octets
@@ -68,12 +64,6 @@ AreContentsOf alphabet [] (content ∷ contents) = ⊥
 AreContentsOf alphabet (codes ∷ rest) [] = ⊥
 AreContentsOf alphabet (codes ∷ rest) (content ∷ contents) =
     IsContentOf alphabet codes content × AreContentsOf alphabet rest contents
-
--- contents of the pages of a text in an alphabet, one each
-abbrev pub HoldText : Alphabet → List ℕ → List Content → Type 0
-HoldText alphabet text contents =
-    (pieces : List (List ℕ)) × IsPagingIn alphabet text pieces
-    × AreContentsOf alphabet (map (flat_map (codes_of alphabet)) pieces) contents
 
 -- a list without the elements at its end that pass a test
 abbrev pub without_trailing : {X : Type 0} → (X → Bool) → List X → List X

@@ -1,4 +1,4 @@
-//! Data coding: the octet of a page that tells its language and its alphabet (3GPP TS 23.038, clause 5).
+//! Data coding: the octet of a page that says its language and its alphabet (3GPP TS 23.038, clause 5).
 
 ghost use Rattle.std.specs.Prelude.{◌≡◌};
 ghost use Rattle.cbs_page.specs.Coding.{alphabet_of, language_value};
@@ -17,7 +17,7 @@ pub enum Alphabet {
 pub struct Dcs(pub u8);
 
 impl Dcs {
-    /// UCS-2 with no language told: the value of every text that the GSM 7-bit alphabet can't spell.
+    /// UCS-2 with no language: the value of every text that the GSM 7-bit alphabet can't spell.
     pub const UCS2: Dcs = Dcs(0x48);
 
     /// The alphabet that the value stands for. None for reserved values, 8-bit data, compressed text, and values with a
@@ -34,7 +34,7 @@ impl Dcs {
 }
 
 /// The data coding value of a GSM 7-bit text in the language that the word names (ISO 639 codes, and `und` for a
-/// language that isn't told), or None for any other word.
+/// language that isn't named), or None for any other word.
 #[tactic(auto, unfolding(crate::specs::Coding::language_value))]
 pub fn language_dcs(language: &str) -> Option<u8>
     ensures { result ≡ language_value language.now }

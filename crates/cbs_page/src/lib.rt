@@ -5,17 +5,19 @@
 //! text's pages, joined, are the text.
 #![tactic(auto)]
 
+mod builder;
 pub mod coding;
 pub mod content;
+mod laws;
 pub mod octets;
 pub mod paging;
-mod piece;
 pub mod serial;
 pub mod text;
 
 pub use coding::{Alphabet, Dcs, language_dcs};
 pub use content::Content;
+pub use laws::paging_laws;
 pub use octets::{PageView, page_bytes, read_page};
-pub use paging::{MAX_PAGES, Paged, TextFault, paginate, paging_law};
+pub use paging::{MAX_PAGES, Paged, TextFault, paginate};
 pub use serial::Serial;
 pub use text::{Refused, page_text};

@@ -53,7 +53,7 @@ pub fn page_bytes(
     octets
 }
 
-/// The page's number and the total in a page parameter, with 1 of 1 where either half is 0.
+/// The page's number and the total in a page parameter, with 1 of 1 if either half is 0.
 fn page_place(parameter: u8) -> (u8, u8)
     ensures { result ≡ place_of parameter }
 {

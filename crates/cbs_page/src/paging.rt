@@ -5,13 +5,13 @@ ghost use Rattle.std.specs.Prelude.{◌≡◌, ◌≢◌, ◌≤◌, [], ◌∷�
 ghost use Rattle.std.specs.List.{list_all};
 ghost use Rattle.std.specs.Str.{chars};
 ghost use Rattle.gsm_alphabet.specs.Alphabet.{code_of};
-ghost use Rattle.cbs_page.specs.Paging.{PagingIsUnique};
-ghost use Rattle.cbs_page.specs.Text.{is_bad, alphabet_for, coding_for, TakesPages, AreContentsOf, HoldText};
-ghost use Rattle.cbs_page.specs.Text.{IsTextFault, IsPagedText, ShowsText};
+ghost use Rattle.cbs_page.specs.PagingSteps.{HoldText, TakesPages};
+ghost use Rattle.cbs_page.specs.Text.{is_bad, alphabet_for, coding_for, AreContentsOf, IsTextFault, IsPagedText};
+ghost use Rattle.cbs_page.specs.Text.{ShowsText};
 
+use crate::builder::PageBuilder;
 use crate::coding::{Alphabet, Dcs, language_dcs};
 use crate::content::Content;
-use crate::piece::Piece;
 use gsm_alphabet::encode_char;
 use std::alloc::{AllocError, Global};
 use thiserror::Error;
@@ -31,7 +31,7 @@ pub struct Paged {
     pub pages: Vec<Content>,
 }
 
-/// Why a text isn't sent. Where several apply, the first of this list is told.
+/// Why a text isn't sent. If several apply, it is the first of this list.
 #[derive(Clone, Copy, Debug, PartialEq, Eq, Error)]
 pub enum TextFault {
     /// No language has this word.
@@ -55,8 +55,8 @@ pub enum TextFault {
     Refused,
 }
 
-/// The pages of a text in a language. The text is GSM 7-bit where that alphabet has each of its characters, with the
-/// language's data coding value, and UCS-2 otherwise. The error is the first of `TextFault` that applies, with want of
+/// The pages of a text in a language. The text is GSM 7-bit if that alphabet has each of its characters, with the
+/// language's data coding value, and UCS-2 otherwise. The error is the first of `TextFault` that applies, with out of
 /// memory last.
 pub fn paginate(alloc: Global, text: &str, language: &str) -> Result<Paged, TextFault>
     ensures sent { IfOk result (IsPagedText language.now (chars text.now)) }
@@ -70,9 +70,8 @@ pub fn paginate(alloc: Global, text: &str, language: &str) -> Result<Paged, Text
     if text.is_empty() {
         return Err(TextFault::Empty);
     }
-    match bad_place(text) {
-        Some(place) => return Err(TextFault::BadCharacter { place }),
-        None => {}
+    if let Some(place) = bad_place(text) {
+        return Err(TextFault::BadCharacter { place });
     }
     if has_too_many_characters(text) {
         return Err(TextFault::TooManyPages);
@@ -89,12 +88,6 @@ pub fn paginate(alloc: Global, text: &str, language: &str) -> Result<Paged, Text
         Err(_) => Err(TextFault::Refused),
     }
 }
-
-/// A text has one list of pages at most: what `paginate` answers, and whether that is too many, is determined. Does
-/// nothing: its contract is the law.
-pub fn paging_law()
-    ensures { PagingIsUnique }
-{}
 
 /// Whether a character can't be sent.
 fn is_bad_character(character: char) -> bool
@@ -142,7 +135,7 @@ fn has_code(character: char) -> bool
     encode_char(character).is_some()
 }
 
-/// The data coding of a text in this alphabet, where its language has this value.
+/// The data coding of a text in this alphabet, if its language has this value.
 fn coding(alphabet: Alphabet, value: u8) -> Dcs
     ensures { result.0 ≡ coding_for alphabet value }
 {
@@ -183,13 +176,13 @@ fn contents_of_text(
 {
     let capacity = alphabet.capacity();
     let mut pages = Vec::new(alloc);
-    let mut piece = Piece::new(alphabet);
+    let mut piece = PageBuilder::new(alphabet);
     for character in text.chars() {
         if piece.len() + alphabet.cost(character) <= capacity {
-            piece.take(character);
+            piece.push(character);
         } else {
             pages.push(piece.content())?;
-            piece = Piece::of(alphabet, character);
+            piece = PageBuilder::with_first(alphabet, character);
         }
     }
     pages.push(piece.content())?;

@@ -23,7 +23,7 @@ impl Model for Serial {
 
 impl Serial {
     /// The serial number of a scope (0 cell wide and immediate, 1 PLMN wide, 2 location or service area wide, 3 cell
-    /// wide and normal), a message code (0 to 1,023) and an update number (0 to 15). None where one is out of its
+    /// wide and normal), a message code (0 to 1,023) and an update number (0 to 15). None if one is out of its
     /// range.
     pub fn new(scope: u8, code: u16, update: u8) -> Option<Serial>
         ensures { SomeIff result (AreSerialFields scope code update) (serial_number scope code update) }

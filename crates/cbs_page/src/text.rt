@@ -6,7 +6,7 @@ ghost use Rattle.std.specs.List.{list_all};
 ghost use Rattle.gsm_alphabet.specs.Alphabet.{text_of_septets};
 ghost use Rattle.ucs2_text.specs.Ucs2.{character_of_unit};
 ghost use Rattle.cbs_page.specs.Page.{is_readable};
-ghost use Rattle.cbs_page.specs.Plain.{is_plain};
+ghost use Rattle.cbs_page.specs.TextSteps.{is_plain};
 ghost use Rattle.cbs_page.specs.Text.{text_of_page, without_trailing};
 
 use crate::coding::Alphabet;
@@ -39,7 +39,8 @@ impl From<AllocError> for Refused {
 }
 
 /// The text that a readable page shows: the carriage returns at its end are dropped first, then the rest is decoded. A
-/// surrogate unit shows U+FFFD, and an escape alone at the end shows a space. The only error is want of memory.
+/// surrogate unit shows U+FFFD, and an escape alone at the end shows a space. The only error is that memory was
+/// refused.
 pub fn page_text(alloc: Global, view: &PageView) -> Result<String, Refused>
     requires { IsTrue (is_readable view.now) }
     ensures { IfOk result (λ text. string_bytes text ≡ encode_utf8_all (text_of_page view.now)) }

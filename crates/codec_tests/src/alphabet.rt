@@ -1,7 +1,7 @@
 //! Values on which two independent programs agree both ways; a carriage return and what an escape shows before other
 //! septets are from the standard.
 
-use gsm_alphabet::{Code, alphabet_law, decode_ext, decode_one, encode_char};
+use gsm_alphabet::{Code, alphabet_laws, decode_ext, decode_one, encode_char};
 use std::process::Abort;
 
 /// The characters of one septet.
@@ -182,5 +182,5 @@ fn shows_every_septet(rt: HostRuntime) {
     assert_eq!(rt; decode_ext(0x1B), ' ');
     assert_eq!(rt; decode_ext(0x0A), '\n');
     assert_eq!(rt; decode_ext(0x41), 'A');
-    alphabet_law();
+    alphabet_laws();
 }

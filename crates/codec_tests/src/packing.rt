@@ -3,7 +3,7 @@
 ghost use Rattle.std.specs.Prelude.{◌<◌, All};
 
 use arrayvec::ArrayVec;
-use septets::{OCTETS, SEPTETS, pack, packing_law, unpack};
+use septets::{OCTETS, SEPTETS, pack, packing_laws, unpack};
 use std::process::Abort;
 
 /// The septets of a text, and the octets of its page, in hex.
@@ -136,7 +136,7 @@ fn packs_and_unpacks_outside_pages(rt: HostRuntime) {
     for (codes, text) in PAGES {
         expect_page(&rt, codes, text);
     }
-    packing_law();
+    packing_laws();
 }
 
 #[test]

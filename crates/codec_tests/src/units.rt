@@ -2,7 +2,7 @@
 
 use arrayvec::ArrayVec;
 use std::process::Abort;
-use ucs2_text::{char_of, put_units, ucs2_law, unit_of, units_of};
+use ucs2_text::{char_of, put_units, ucs2_laws, unit_of, units_of};
 
 /// A text and the octets of its units.
 const TEXTS: [(&str, &[u8]); 10] = [
@@ -116,5 +116,5 @@ fn knows_the_ends_of_its_range(rt: HostRuntime) {
     }
     assert_eq!(rt; char_of(0xD7FF), '\u{D7FF}');
     assert_eq!(rt; char_of(0xE000), '\u{E000}');
-    ucs2_law();
+    ucs2_laws();
 }

@@ -13,7 +13,7 @@ use Rattle.cbs_page.specs.declared.octets.PageView.{PageView}
 use Rattle.scheduler.specs.Message.{ScheduledMessage}
 use Rattle.scheduler.specs.Air.{Air, IsChosen}
 use Rattle.scheduler.specs.Pages.{airs_page}
-use Rattle.handset.specs.Reading.{is_of}
+use Rattle.handset.specs.Reception.{is_of}
 use Rattle.handset.specs.Keeping.{is_numbered}
 use Rattle.handset.specs.OneMessage.{AreFrom, count_of}
 use Rattle.bsc_table.specs.declared.entry.Entry.{Entry}

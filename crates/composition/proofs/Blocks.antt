@@ -8,7 +8,7 @@ use Rattle.std.proofs.lemmas.List.{take-append-drop, take_all, length-drop, drop
 use Rattle.std.specs.List.{flat_map, AllByRecursion}
 use Rattle.cbs_page.specs.declared.octets.PageView.{PageView}
 use Rattle.cbs_page.specs.Page.{place_of, view_of, is_readable}
-use Rattle.handset.specs.Reading.{page_octets, pages_read, readable_pages}
+use Rattle.handset.specs.Reception.{page_octets, pages_read, readable_pages}
 use Rattle.cbch_blocks.specs.Blocks.{blocks_of_page}
 use Rattle.composition.specs.Sent.{octets_of_view, blocks_of_slot}
 

@@ -14,8 +14,8 @@ use Rattle.cbs_page.specs.declared.octets.PageView.{PageView}
 use Rattle.scheduler.specs.Message.{ScheduledMessage}
 use Rattle.scheduler.specs.Air.{Air}
 use Rattle.scheduler.specs.Completed.{completed}
-use Rattle.handset.specs.Reading.{Name, is_of, pages_named, agreeing, total_in, is_complete, Message, message_of}
-use Rattle.handset.specs.Reading.{readable_pages, shown_in}
+use Rattle.handset.specs.Reception.{Name, is_of, pages_named, agreeing, total_in, is_complete, ShownMessage, message_of}
+use Rattle.handset.specs.Reception.{readable_pages, shown_in}
 use Rattle.handset.specs.Counting.{whole_among}
 use Rattle.handset.specs.Showing.{name_shown, AreTheComplete}
 use Rattle.handset.specs.OneMessage.{AreFrom}
@@ -179,7 +179,7 @@ shown_are_the_broadcast laws r slot legal by =
     let read = all_read laws r slot legal by in
     record {
       each = λ k d within.
-          let m : Message = get_or (shown_in (blocks_before slot r)) k d in
+          let m : ShownMessage = get_or (shown_in (blocks_before slot r)) k d in
           let whole = shows.complete k d within in
           let named : (a : Accepted) × Contains (accepted_in r.log) a
           × (name_shown (get_or (shown_in (blocks_before slot r)) k d) ≡ name_accepted a) =
@@ -212,9 +212,9 @@ shown_are_the_broadcast laws r slot legal by =
     message_is r slot a sent read whole =
         let text = laws.text_is_the_messages (name_accepted a) (sent_by r.log a)
         (readable_pages (blocks_before slot r)) (is_message a (sent_by r.log a) sent) read.from whole in
-        ap (λ t. let m : Message = record { id = a.id; serial = a.serial; text = encode_utf8_all t } in m) text
+        ap (λ t. let m : ShownMessage = record { id = a.id; serial = a.serial; text = encode_utf8_all t } in m) text
 
-    each_is : (r : Record) (slot : ℕ) (m : Message) (a : Accepted) → Contains (accepted_in r.log) a
+    each_is : (r : Record) (slot : ℕ) (m : ShownMessage) (a : Accepted) → Contains (accepted_in r.log) a
         → name_shown m ≡ name_accepted a → All (λ a. IsSentMessage a (sent_by r.log a) × IsRead r slot a)
         (accepted_in r.log) → is_complete (name_shown m) (readable_pages (blocks_before slot r)) ≡ true
         → m ≡ message_of (name_shown m) (readable_pages (blocks_before slot r))

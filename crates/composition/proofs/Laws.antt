@@ -2,9 +2,9 @@
 use Rattle.std.specs.Prelude.{◌≡◌, ◌<◌, false}
 use Rattle.scheduler.specs.AirLaws.{OneAirList, NumbersOnlyOrder, SomeChoice, GrowsByTheChoice, PagesComeInOrder}
 use Rattle.scheduler.specs.AirLaws.{LastPagesAreCompletedBroadcasts, NoPageLessOften}
-use Rattle.handset.specs.Showing.{ShownAreTheComplete, OnePageShowsOne}
-use Rattle.handset.specs.OneMessage.{CompleteIsWhole, WholeIsTheLeastCount, TextIsTheMessages}
-use Rattle.handset.specs.Tape.{MadeAreTapes}
+use Rattle.handset.specs.Laws.{ShownAreTheComplete, OnePageShowsOne}
+use Rattle.handset.specs.Laws.{CompleteIsWhole, WholeIsTheLeastCount, TextIsTheMessages}
+use Rattle.handset.specs.Laws.{MadeAreTapes}
 use Rattle.bsc_table.specs.Record.{Accepted, is_of_pair}
 use Rattle.bsc_table.specs.Refusals.{AcceptedEntriesAreAll}
 use Rattle.bsc_table.specs.Written.{AcceptedAreWrites, AcceptedRise, AcceptedHaveLoads}

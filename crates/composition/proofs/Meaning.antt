@@ -12,7 +12,7 @@ use Rattle.cbs_page.specs.declared.octets.PageView.{PageView}
 use Rattle.cbs_page.specs.Text.{text_of_page}
 use Rattle.scheduler.specs.Air.{Air, layer}
 use Rattle.scheduler.specs.Completed.{completed}
-use Rattle.handset.specs.Reading.{Message, pages_read, shown_in}
+use Rattle.handset.specs.Reception.{ShownMessage, pages_read, shown_in}
 use Rattle.handset.specs.Counting.{whole_in}
 use Rattle.handset.specs.Tape.{AreSlots}
 use Rattle.bsc_table.specs.declared.entry.Entry.{Entry}
@@ -66,7 +66,7 @@ shown_grow_by_one laws r slot legal within =
     let inside : slot < length r.air = let played = legal.played in omega (arith, played, within) in
     let before = pages_aired_in r.log (take slot r.air) in
     let page = page_aired r.log (get_or r.air slot None) in
-    subst (λ n. (more : Option Message) × (shown_in (blocks_before n r) ≡ shown_in (blocks_before slot r) ++
+    subst (λ n. (more : Option ShownMessage) × (shown_in (blocks_before n r) ≡ shown_in (blocks_before slot r) ++
     option_to_list more)) (sym next)
     (laws.one_page_shows_one (blocks_before slot r) (blocks_before (suc slot) r) page
     (pages_before r (suc slot) sound legal ∙ pages_grow r.log r.air slot inside
@@ -160,13 +160,14 @@ accepted_are_meant laws r slot legal by = λ k d within.
         × (completed m r.air slot ≤ most_completed m slot)) same both
 
     was_whole : (laws : Laws) (r : Record) (slot : ℕ) → IsLegal r → (a : Accepted) → Contains (accepted_in r.log) a
-        → {m : Message} → Any (λ b. (1 ≤ completed b.message r.air slot) × (m ≡ message_accepted r.log b))
+        → {m : ShownMessage} → Any (λ b. (1 ≤ completed b.message r.air slot) × (m ≡ message_accepted r.log b))
         (accepted_in r.log) → m ≡ message_accepted r.log a → 1 ≤ completed a.message r.air slot
     was_whole laws r slot legal a there is same =
         let both = sym is.4.1 ∙ same in
         let sound = sound_of laws r legal in
-        let one : a ≡ is.1 = same_pair r.log a is.1 sound there (is.0, is.2, is.3) (ap (λ (x : Message). x.id) both)
-        (ap (λ (x : Message). x.serial) both) in
+        let one : a ≡ is.1 = same_pair r.log a is.1 sound there (is.0, is.2, is.3)
+        (ap (λ (x : ShownMessage). x.id) both)
+        (ap (λ (x : ShownMessage). x.serial) both) in
         subst (λ (x : Accepted). 1 ≤ completed x.message r.air slot) (sym one) is.4.0
 
 pub none_after_the_stop : Laws → NoneAfterTheStop

@@ -5,7 +5,7 @@ use Rattle.bsc_table.specs.declared.command.Category.TheVariants.{Normal}
 use Rattle.bsc_table.specs.declared.entry.Answer.TheVariants as answers
 use Rattle.bsc_table.specs.declared.entry.Entry.{Entry}
 use Rattle.scheduler.specs.Air.{Air}
-use Rattle.handset.specs.Reading.{Name, shown_in, pages_read}
+use Rattle.handset.specs.Reception.{Name, shown_in, pages_read}
 use Rattle.handset.specs.Counting.{whole_in}
 use Rattle.composition.specs.Sent.{blocks_of_uses}
 

@@ -6,7 +6,7 @@ use Rattle.std.specs.Option.{option_to_list}
 use Rattle.std.specs.List.{flat_map, slice_get}
 use Rattle.cbs_page.specs.Text.{text_of_page}
 use Rattle.scheduler.specs.Completed.{completed}
-use Rattle.handset.specs.Reading.{Name, Message, shown_in}
+use Rattle.handset.specs.Reception.{Name, ShownMessage, shown_in}
 use Rattle.handset.specs.Counting.{whole_in}
 use Rattle.handset.specs.Showing.{name_shown}
 use Rattle.bsc_table.specs.declared.entry.Entry.{Entry}
@@ -19,7 +19,7 @@ abbrev pub name_accepted : Accepted → Name
 name_accepted a = record { id = a.id; serial = a.serial }
 
 -- what a handset is to show of an accepted message: its pair, and the texts of its write's pages, joined
-abbrev pub message_accepted : List Entry → Accepted → Message
+abbrev pub message_accepted : List Entry → Accepted → ShownMessage
 message_accepted log a = record {
   id = a.id;
   serial = a.serial;
@@ -39,7 +39,7 @@ CompletedIsWholeInBlocks = (r : Record)
     → whole_in (name_accepted a) (blocks_before slot r) ≡ completed a.message r.air slot) (accepted_in r.log)
 
 -- what is shown before a slot: the accepted messages of which a broadcast is whole by then, each once, and nothing else
-pub record AreTheBroadcast (r : Record) (slot : ℕ) (shown : List Message) : Type 0 where
+pub record AreTheBroadcast (r : Record) (slot : ℕ) (shown : List ShownMessage) : Type 0 where
   pub each : All (λ m. Any (λ a. (1 ≤ completed a.message r.air slot) × (m ≡ message_accepted r.log a))
       (accepted_in r.log)) shown
   pub all : All (λ a. 1 ≤ completed a.message r.air slot → Contains shown (message_accepted r.log a))
@@ -57,5 +57,5 @@ abbrev pub ShownGrowByOne : Type 0
 ShownGrowByOne = (r : Record) (slot : ℕ)
     → IsLegal r
     → slot < r.clock
-    → (more : Option Message) × (shown_in (blocks_before (slot + 1) r) ≡ shown_in (blocks_before slot r) ++
+    → (more : Option ShownMessage) × (shown_in (blocks_before (slot + 1) r) ≡ shown_in (blocks_before slot r) ++
     option_to_list more)

@@ -7,9 +7,9 @@ use Rattle.cbs_page.specs.declared.content.Content.{Content}
 use Rattle.cbs_page.specs.Text.{text_of_page, text_in}
 use Rattle.scheduler.specs.Message.{IsBeforeStop}
 use Rattle.scheduler.specs.Air.{layer, airs}
-use Rattle.handset.specs.Reading.{pages_read, shown_in}
+use Rattle.handset.specs.Reception.{pages_read, shown_in}
 use Rattle.handset.specs.Counting.{whole_in}
-use Rattle.handset.specs.Tape.{IsTape, tape_octets, most_slots}
+use Rattle.handset.specs.Tape.{IsTape, tape_octets, max_slots}
 use Rattle.bsc_table.specs.Record.{Record, Accepted, accepted_in}
 use Rattle.bsc_table.specs.Bounds.{least_completed, most_completed}
 use Rattle.bsc_table.specs.Reported.{completed_in, IsAbout}
@@ -64,6 +64,6 @@ abbrev pub RecordsAreTapes : Type 0
 RecordsAreTapes = (r : Record)
     → IsLegal r
     → r.clock ≡ r.slots
-    → r.slots ≤ most_slots
+    → r.slots ≤ max_slots
     → IsTape (tape_octets r.cell r.slots (blocks_of r)) (record
     { cell = r.cell; slots = r.slots; shown = shown_in (blocks_of r) })

@@ -52,5 +52,5 @@ pub fn composition_laws()
     scheduler::air_laws();
     bsc_table::legal_histories();
     handset::reading_laws();
-    handset::tapes_law();
+    handset::tape_laws();
 }

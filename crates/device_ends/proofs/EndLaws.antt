@@ -7,7 +7,8 @@ use Rattle.std.proofs.lemmas.Bool.{cases_lt}
 use Rattle.std.proofs.lemmas.List.{take-append-le}
 use Rattle.std.specs.Io.KnownBytes.{Appends}
 use Rattle.std.proofs.KnownBytes.{Appends-trans, Consumes-trans}
-use Rattle.device_ends.specs.Moves.{AppendsFront, Moved, ReadsUpTo}
+use Rattle.device_ends.specs.Moves.{AppendsFront, ReadsUpTo}
+use Rattle.device_ends.specs.TransferSteps.{Moved}
 
 -- a front of the octets went out, and then a front of the rest
 pub Appends-more : (a b c : Option (List ℕ)) (octets : List ℕ) (out count : ℕ) → Appends a b (take out octets)

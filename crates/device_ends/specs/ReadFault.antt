@@ -1,5 +1,5 @@
--- The text of a read fault.
-use Rattle.std.specs.Prelude.{ℕ, List, codes}
+-- Faults of whole reads: what each is printed as, and which of them reports the device.
+use Rattle.std.specs.Prelude.{ℕ, List, Bool, false, true, Result, Ok, Err, codes}
 use Rattle.device_ends.specs.declared.fault.ReadFault.{ReadFault}
 use Rattle.device_ends.specs.declared.fault.ReadFault.TheVariants.{Device, Refused}
 
@@ -7,3 +7,9 @@ use Rattle.device_ends.specs.declared.fault.ReadFault.TheVariants.{Device, Refus
 abbrev pub text_of : ReadFault → List ℕ
 text_of Device = codes "device failed"
 text_of Refused = codes "memory refused"
+
+-- a result reports that the device failed
+abbrev pub reports_device : {T : Type 0} → Result T ReadFault → Bool
+reports_device (Ok _) = false
+reports_device (Err Device) = true
+reports_device (Err Refused) = false

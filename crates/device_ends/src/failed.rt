@@ -1,4 +1,4 @@
-//! What a failed end answers.
+//! What a failed end returns.
 
 ghost use Rattle.std.specs.Prelude.{Some, codes};
 

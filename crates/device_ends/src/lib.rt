@@ -1,8 +1,8 @@
-//! Readers and writers whose failure stays seen.
+//! Readers and writers whose failure is sticky.
 //!
 //! A [`Source`] gives the octets of a [`std::io::Read`] and a [`Sink`] takes those of a
-//! [`std::io::Write`]. Once either answers [`Failed`] it has failed for good, and gives or takes
-//! nothing more: so a caller that was answered a fault elsewhere can still tell whether the device
+//! [`std::io::Write`]. Once either returns [`Failed`] it has failed for good, and gives or takes
+//! nothing more: so a caller that was given a fault elsewhere can still see whether the device
 //! was to blame. [`memory`] has a reader and a writer over memory for tests.
 #![tactic(auto)]
 

@@ -1,6 +1,6 @@
-//! A reader whose failure stays seen.
+//! A reader whose failure is sticky.
 
-ghost use Rattle.std.specs.Prelude.{◌≡◌, ◌↔◌, false, true, IsErr, OnErr, OnOk, IsTrue};
+ghost use Rattle.std.specs.Prelude.{◌≡◌, false, true, is_err};
 ghost use Rattle.std.specs.Io.{ReadsAtMost};
 ghost use Rattle.std.specs.Io.KnownBytes.{ReadConsumes};
 
@@ -22,7 +22,7 @@ impl<R> Source<R> {
     /// A source of the reader's octets, which has not failed.
     pub fn new(reader: R) -> Self
         ensures reader { reader_of result ≡ reader }
-        ensures sound { source_failed result ≡ false }
+        ensures not_failed { source_failed result ≡ false }
     {
         Source {
             reader,
@@ -41,22 +41,19 @@ impl<R> Source<R> {
 impl<R: Read> Source<R> {
     ghost use Rattle.device_ends.specs.Source.{reader_of, source_failed};
 
-    /// Reads some octets into the front of the buffer, by one read of the reader, and answers how
+    /// Reads some octets into the front of the buffer, by one read of the reader, and returns how
     /// many: 0 only at the end, or for an empty buffer.
     ///
-    /// Answers [`Failed`] where the reader answers an error, and from then on, with no further read.
+    /// Returns [`Failed`] if the reader returns an error, and from then on, with no further read.
     pub fn read(&mut self, buffer: &mut [u8]) -> Result<usize, Failed>
         ensures bound { ReadsAtMost result buffer.new }
         ensures octets { ReadConsumes (R.remaining (reader_of self.old))
             (R.remaining (reader_of self.new)) result buffer.new }
 
-        ensures failed { IsErr result ↔ IsTrue (source_failed self.new) }
-        ensures ok { OnOk result (source_failed self.new ≡ false) }
-        ensures err { OnErr result (source_failed self.new ≡ true) }
+        ensures failed { source_failed self.new ≡ is_err result }
 
-        // A source that has failed reads nothing.
-        ensures answers_failed { source_failed self.old ≡ true → IsErr result }
-        ensures stays { source_failed self.old ≡ true → self.new ≡ self.old }
+        // A source that has failed reads nothing more, and stays failed.
+        ensures failed_stays { source_failed self.old ≡ true → self.new ≡ self.old }
         ensures untouched { source_failed self.old ≡ true → buffer.new ≡ buffer.old }
     {
         if self.failed {

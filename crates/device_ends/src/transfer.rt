@@ -1,11 +1,13 @@
 //! Whole transfers: all octets of a slice to a sink, all octets of a source up to a limit.
 
-ghost use Rattle.std.specs.Prelude.{◌≡◌, ◌↔◌, ◌+◌, ◌<◌, ◌≤◌, ℕ, List, ◌++◌, false, true, length, take, vec_len, Some};
-ghost use Rattle.std.specs.Prelude.{IfOk, IfSome, IsErr, IsErrOf, OnErr, OnOk, IsTrue};
+ghost use Rattle.std.specs.Prelude.{◌≡◌, ◌+◌, ◌<◌, ◌≤◌, ℕ, List, ◌++◌, false, true, is_err, length, take, vec_len};
+ghost use Rattle.std.specs.Prelude.{IfOk, IfSome, OnErr, OnOk};
 ghost use Rattle.std.specs.Io.KnownBytes.{Appends, Consumes, IsAtEnd, Keeps};
-ghost use Rattle.device_ends.specs.Moves.{AppendsFront, ConsumesSome, Moved, ReadsUpTo};
+ghost use Rattle.device_ends.specs.Moves.{AppendsFront, ConsumesSome, ReadsUpTo};
+ghost use Rattle.device_ends.specs.ReadFault.{reports_device};
 ghost use Rattle.device_ends.specs.Sink.{sink_failed, writer_of};
 ghost use Rattle.device_ends.specs.Source.{reader_of, source_failed};
+ghost use Rattle.device_ends.specs.TransferSteps.{Moved};
 
 use crate::fault::ReadFault;
 use crate::{Failed, Sink, Source};
@@ -15,14 +17,14 @@ use std::io::{Read, Write};
 /// How many octets a piece of [`read_up_to`] has at most.
 const PIECE: usize = 4096;
 
-/// Writes octets until all are out or the sink has failed, and answers how many are out.
+/// Writes octets until all are out or the sink has failed, and returns how many are out.
 pub fn write_front<W: Write>(sink: &mut Sink<W>, octets: &[u8]) -> usize
     ensures bound { result ≤ length octets.now }
     ensures octets { Appends (W.contents (writer_of sink.old)) (W.contents (writer_of sink.new))
         (take result octets.now) }
     ensures whole { sink_failed sink.new ≡ false → result ≡ length octets.now }
     ensures front { sink_failed sink.new ≡ true → 0 < length octets.now → result < length octets.now }
-    ensures stays { sink_failed sink.old ≡ true → sink.new ≡ sink.old }
+    ensures failed_stays { sink_failed sink.old ≡ true → sink.new ≡ sink.old }
 {
     let mut out = 0;
     while out < octets.len() {
@@ -34,25 +36,24 @@ pub fn write_front<W: Write>(sink: &mut Sink<W>, octets: &[u8]) -> usize
     out
 }
 
-/// Writes all octets. Answers [`Failed`] where the sink has failed, and then a front of them is out.
+/// Writes all octets. Returns [`Failed`] if the sink has failed, and then a front of them is out.
 pub fn write_all<W: Write>(sink: &mut Sink<W>, octets: &[u8]) -> Result<(), Failed>
     ensures ok { OnOk result (Appends (W.contents (writer_of sink.old))
         (W.contents (writer_of sink.new)) octets.now) }
     ensures err { OnErr result (AppendsFront (W.contents (writer_of sink.old))
         (W.contents (writer_of sink.new)) octets.now) }
-    ensures failed { IsErr result ↔ IsTrue (sink_failed sink.new) }
-    ensures sound { OnOk result (sink_failed sink.new ≡ false) }
-    ensures stays { sink_failed sink.old ≡ true → sink.new ≡ sink.old }
+    ensures failed { sink_failed sink.new ≡ is_err result }
+    ensures failed_stays { sink_failed sink.old ≡ true → sink.new ≡ sink.old }
 {
     write_front(sink, octets);
     if sink.failed() { Err(Failed) } else { Ok(()) }
 }
 
 /// Reads to the end, but stops once it has `limit + 1` octets: so the input was longer than `limit`
-/// exactly where more than `limit` octets are answered.
+/// exactly if more than `limit` octets are returned.
 ///
-/// Answers [`ReadFault::Device`] exactly where the source has failed, and [`ReadFault::Refused`]
-/// where memory was refused. After either, at most `limit` octets were read and are gone.
+/// Returns [`ReadFault::Device`] exactly if the source has failed, and [`ReadFault::Refused`]
+/// if memory was refused. After either, at most `limit` octets were read and are gone.
 pub fn read_up_to<R: Read>(
     source: &mut Source<R>,
     alloc: Global,
@@ -68,10 +69,8 @@ pub fn read_up_to<R: Read>(
 
     // At any reader.
     ensures bound { IfOk result (λ octets. vec_len octets ≤ limit + 1) }
-    ensures device { IsErrOf result ReadFault.Device ↔ IsTrue (source_failed source.new) }
-    ensures sound { OnOk result (source_failed source.new ≡ false) }
-    ensures refused { IsErrOf result ReadFault.Refused → source_failed source.new ≡ false }
-    ensures stays { source_failed source.old ≡ true → source.new ≡ source.old }
+    ensures failed { source_failed source.new ≡ reports_device result }
+    ensures failed_stays { source_failed source.old ≡ true → source.new ≡ source.old }
 {
     let most = limit + 1;
     let mut octets = Vec::new(alloc);
@@ -83,7 +82,7 @@ pub fn read_up_to<R: Read>(
     Ok(octets)
 }
 
-/// One read onto the end of the octets, up to `most` in all. Answers how many: 0 only at the end.
+/// One read onto the end of the octets, up to `most` in all. Returns how many: 0 only at the end.
 fn read_piece<R: Read>(
     source: &mut Source<R>,
     octets: &mut Vec<u8>,
@@ -97,10 +96,8 @@ fn read_piece<R: Read>(
     ensures end { IfOk result (λ count. count ≡ 0 → IsAtEnd (R.remaining (reader_of source.new))) }
     ensures err { OnErr result (Keeps (R.remaining (reader_of source.old))
         (R.remaining (reader_of source.new))) }
-    ensures device { IsErrOf result ReadFault.Device ↔ IsTrue (source_failed source.new) }
-    ensures sound { OnOk result (source_failed source.new ≡ false) }
-    ensures refused { IsErrOf result ReadFault.Refused → source_failed source.new ≡ false }
-    ensures stays { source_failed source.old ≡ true → source.new ≡ source.old }
+    ensures failed { source_failed source.new ≡ reports_device result }
+    ensures failed_stays { source_failed source.old ≡ true → source.new ≡ source.old }
 {
     if source.failed() {
         return Err(ReadFault::Device);

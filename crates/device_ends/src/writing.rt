@@ -1,6 +1,6 @@
-//! A writer whose failure stays seen.
+//! A writer whose failure is sticky.
 
-ghost use Rattle.std.specs.Prelude.{◌≡◌, ◌<◌, ◌↔◌, false, true, length, IfOk, IsErr, OnErr, OnOk, IsTrue};
+ghost use Rattle.std.specs.Prelude.{◌≡◌, ◌<◌, false, true, is_err, length, IfOk};
 ghost use Rattle.std.specs.Io.{WritesAtMost};
 ghost use Rattle.std.specs.Io.KnownBytes.{WriteAppends};
 
@@ -23,7 +23,7 @@ impl<W> Sink<W> {
     /// A sink over the writer, which has not failed.
     pub fn new(writer: W) -> Self
         ensures writer { writer_of result ≡ writer }
-        ensures sound { sink_failed result ≡ false }
+        ensures not_failed { sink_failed result ≡ false }
     {
         Sink {
             writer,
@@ -42,10 +42,10 @@ impl<W> Sink<W> {
 impl<W: Write> Sink<W> {
     ghost use Rattle.device_ends.specs.Sink.{sink_failed, writer_of};
 
-    /// Writes a front of the octets, by one write of the writer, and answers how many: at least one
-    /// where there is one.
+    /// Writes a front of the octets, by one write of the writer, and returns how many: at least one
+    /// if there is one.
     ///
-    /// Answers [`Failed`] where the writer answers an error or takes none of one octet or more, and
+    /// Returns [`Failed`] if the writer returns an error or takes none of one octet or more, and
     /// from then on, with no further write. What a failed call was given is not written.
     pub fn write(&mut self, octets: &[u8]) -> Result<usize, Failed>
         ensures bound { WritesAtMost result octets.now }
@@ -53,13 +53,10 @@ impl<W: Write> Sink<W> {
             (W.contents (writer_of self.new)) result octets.now }
         ensures takes { IfOk result (λ count. 0 < length octets.now → 0 < count) }
 
-        ensures failed { IsErr result ↔ IsTrue (sink_failed self.new) }
-        ensures ok { OnOk result (sink_failed self.new ≡ false) }
-        ensures err { OnErr result (sink_failed self.new ≡ true) }
+        ensures failed { sink_failed self.new ≡ is_err result }
 
-        // A sink that has failed writes nothing.
-        ensures answers_failed { sink_failed self.old ≡ true → IsErr result }
-        ensures stays { sink_failed self.old ≡ true → self.new ≡ self.old }
+        // A sink that has failed writes nothing more, and stays failed.
+        ensures failed_stays { sink_failed self.old ≡ true → self.new ≡ self.old }
     {
         if self.failed {
             return Err(Failed);

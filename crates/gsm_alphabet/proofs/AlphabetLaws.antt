@@ -15,9 +15,9 @@ use Rattle.gsm_alphabet.specs.declared.Code.TheVariants.{One, Ext}
 use Rattle.gsm_alphabet.specs.Alphabet.{main_table, extension_table, look_up, septet_in, character_in, code_by, code_of}
 use Rattle.gsm_alphabet.specs.Alphabet.{IsInAlphabet, IsExtension, septets_of, septets_of_code, main_character}
 use Rattle.gsm_alphabet.specs.Alphabet.{extension_character, character_of_code, text_of_septets, text_after}
-use Rattle.gsm_alphabet.specs.AlphabetLaw.{IsBasicScalar, TextBeginsWithCharacter, TextBeginsWithCharacters}
-use Rattle.gsm_alphabet.specs.AlphabetLaw.{TextComesBack, TakesOneOrTwo, SeptetsAreSmall, OnlyReturnTakesReturn}
-use Rattle.gsm_alphabet.specs.AlphabetLaw.{ShowsBasicScalars, HasBasicScalars, EntriesAreCodes}
+use Rattle.gsm_alphabet.specs.Laws.{IsBasicScalar, TextBeginsWithCharacter, TextBeginsWithCharacters}
+use Rattle.gsm_alphabet.specs.Laws.{TextComesBack, TakesOneOrTwo, SeptetsAreSmall, OnlyReturnTakesReturn}
+use Rattle.gsm_alphabet.specs.Laws.{ShowsBasicScalars, HasBasicScalars, EntriesAreCodes}
 
 -- two codes are the same
 is_same : Code → Code → Bool

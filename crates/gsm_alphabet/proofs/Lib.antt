@@ -1,3 +1,3 @@
 pub mod Tables
 pub mod AlphabetLaws
-pub mod AlphabetExamples
+mod Worked

@@ -1,2 +1,2 @@
 pub mod Alphabet
-pub mod AlphabetLaw
+pub mod Laws

@@ -14,7 +14,7 @@ pub enum Code {
 }
 
 mod alphabet;
-mod law;
+mod laws;
 
 pub use alphabet::{decode_ext, decode_one, encode_char};
-pub use law::alphabet_law;
+pub use laws::alphabet_laws;

@@ -4,7 +4,7 @@ use Rattle.std.proofs.Common.{sym, ◌∙◌, ap, arith, inl, inr, append-nil, a
 use Rattle.std.specs.Prelude.{◌⊎◌, ◌&&◌}
 use Rattle.std.proofs.lemmas.Bool.{cases_eq, ne_eqb}
 use Rattle.cbs_page.specs.Page.{view_of}
-use Rattle.handset.specs.Reading.{page_octets, type_of, page_types, pages_read}
+use Rattle.handset.specs.Reception.{page_octets, type_of, page_types, pages_read}
 use Rattle.handset.specs.Keeping.{IsUnderWay}
 use Rattle.handset.specs.KeepingSteps.{under_way_with, page_ended}
 

@@ -9,7 +9,7 @@ use Rattle.std.proofs.lemmas.Option.{same_Some}
 use Rattle.std.proofs.lemmas.List.Elements.{All-push}
 use Rattle.cbs_page.specs.declared.octets.PageView.{PageView}
 use Rattle.cbs_page.specs.Page.{is_readable}
-use Rattle.handset.specs.Reading.{Name, name_of, is_of}
+use Rattle.handset.specs.Reception.{Name, name_of, is_of}
 use Rattle.handset.specs.Keeping.{same_name, kept_of}
 use Rattle.handset.specs.KeepingSteps.{name_at, KeepsPage}
 use Rattle.handset.proofs.PageLaws.{name_is}

@@ -13,10 +13,10 @@ use Rattle.std.proofs.lemmas.List.Sums.{sum_by-cons}
 use Rattle.std.proofs.lemmas.List.FromFn.{length-range_with_len, get_or-range_with_len}
 use Rattle.cbs_page.specs.declared.octets.PageView.{PageView}
 use Rattle.cbs_page.specs.Text.{text_of_page}
-use Rattle.handset.specs.Reading.{Name, is_of, pages_named, agrees_with, agreeing, pages_of, total_in}
+use Rattle.handset.specs.Reception.{Name, is_of, pages_named, agrees_with, agreeing, pages_of, total_in}
 use Rattle.handset.specs.Counting.{least, least_with}
-use Rattle.handset.specs.OneMessage.{IsPageAt, IsMessage, AreFrom, count_of, CompleteIsWhole}
-use Rattle.handset.specs.OneMessage.{WholeIsTheLeastCount, TextIsTheMessages}
+use Rattle.handset.specs.Laws.{CompleteIsWhole, WholeIsTheLeastCount, TextIsTheMessages}
+use Rattle.handset.specs.OneMessage.{IsPageAt, IsMessage, AreFrom, count_of}
 use Rattle.handset.proofs.Showing.{of_number, all_there, texts, complete_by, text_by}
 
 -- 1 if a test holds, else 0

@@ -13,8 +13,8 @@ use Rattle.std.proofs.lemmas.List.Folds.{find-append, list_all_at}
 use Rattle.std.proofs.lemmas.List.FromFn.{length-range_with_len, get_or-range_with_len}
 use Rattle.cbs_page.specs.declared.octets.PageView.{PageView}
 use Rattle.cbs_page.specs.Text.{text_of_page}
-use Rattle.handset.specs.Reading.{Name, name_of, is_of, pages_named, agrees_with, agreeing, pages_of, page_numbered}
-use Rattle.handset.specs.Reading.{total_in, total_of, is_complete, text_of, Message, message_of, completed_by}
+use Rattle.handset.specs.Reception.{Name, name_of, is_of, pages_named, agrees_with, agreeing, pages_of, page_numbered}
+use Rattle.handset.specs.Reception.{total_in, total_of, is_complete, text_of, ShownMessage, message_of, completed_by}
 use Rattle.handset.specs.Keeping.{is_numbered, AreKept}
 use Rattle.handset.specs.KeepingSteps.{agrees_with_first, counts, pages_with, total_kept, is_whole, text_kept}
 use Rattle.handset.specs.KeepingSteps.{message_kept, message_whole, message_ended}
@@ -241,7 +241,7 @@ text_is name kept pages are =
 message_is : (name : Name) (kept pages : List PageView) → AreKept name kept pages →
     message_of name pages ≡ message_kept name kept
 message_is name kept pages are =
-    ap (λ text. let m : Message = record { id = name.id; serial = name.serial; text = encode_utf8_all text } in m)
+    ap (λ text. let m : ShownMessage = record { id = name.id; serial = name.serial; text = encode_utf8_all text } in m)
     (text_is name kept pages are)
 
 -- a message whose page of some number up to its total is missing isn't whole
@@ -281,10 +281,10 @@ not_whole-before kept page counted low high =
         (not-true (is_some (find (is_numbered (name_of page) page.number) kept)) parts.0)
 
 -- what is shown where a message wasn't whole before, and is now
-abbrev shown_by : Bool → Bool → Message → List Message
+abbrev shown_by : Bool → Bool → ShownMessage → List ShownMessage
 shown_by before now message = cond (not before && now) (message ∷ []) []
 
-not_twice : (whole : Bool) (message : Message) → shown_by whole whole message ≡ []
+not_twice : (whole : Bool) (message : ShownMessage) → shown_by whole whole message ≡ []
 not_twice true message = refl
 not_twice false message = refl
 

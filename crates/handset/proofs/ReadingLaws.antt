@@ -8,8 +8,8 @@ use Rattle.std.proofs.lemmas.List.Elements.{filter-append}
 use Rattle.cbs_page.specs.declared.octets.PageView.{PageView}
 use Rattle.cbs_page.specs.Page.{view_of, place_of, is_readable}
 use Rattle.cbs_page.specs.Coding.{alphabet_of}
-use Rattle.handset.specs.Reading.{Name, name_of, type_of, page_octets, pages_read, readable_pages, completed_by}
-use Rattle.handset.specs.Reading.{completed_after, shown_in}
+use Rattle.handset.specs.Reception.{Name, name_of, type_of, page_octets, pages_read, readable_pages, completed_by}
+use Rattle.handset.specs.Reception.{completed_after, shown_in}
 use Rattle.handset.specs.Keeping.{HandsetState, kept_of, AreKept, IsUnderWay, HasRead}
 use Rattle.handset.specs.KeepingSteps.{under_way_with, page_ended, pages_with_read, TakesPage, message_ended_read}
 use Rattle.handset.proofs.BlockLaws.{under_way-more, pages-more}

@@ -11,10 +11,11 @@ use Rattle.std.proofs.lemmas.List.Kept.{AllPairs-cons}
 use Rattle.std.proofs.lemmas.List.Folds.{find-append}
 use Rattle.cbs_page.specs.declared.octets.PageView.{PageView}
 use Rattle.cbs_page.specs.Text.{text_of_page}
-use Rattle.handset.specs.Reading.{Name, name_of, is_of, pages_named, agrees_with, agreeing, pages_of, total_in}
-use Rattle.handset.specs.Reading.{is_complete, Message, message_of, completed_by, completed_after, readable_pages}
-use Rattle.handset.specs.Reading.{shown_in}
-use Rattle.handset.specs.Showing.{name_shown, ShownAreTheComplete, OnePageShowsOne}
+use Rattle.handset.specs.Reception.{Name, name_of, is_of, pages_named, agrees_with, agreeing, pages_of, total_in}
+use Rattle.handset.specs.Reception.{is_complete, ShownMessage, message_of, completed_by, completed_after}
+use Rattle.handset.specs.Reception.{readable_pages, shown_in}
+use Rattle.handset.specs.Laws.{ShownAreTheComplete, OnePageShowsOne}
+use Rattle.handset.specs.Showing.{name_shown}
 use Rattle.handset.proofs.ReadingLaws.{completed_after-append}
 use Rattle.handset.proofs.Lists.{option_or-some}
 use Rattle.handset.proofs.PageLaws.{pages_of-other, name_is}
@@ -84,7 +85,7 @@ stays_by (first ∷ rest) more whole =
     )
 
 -- a message of this name with this text
-abbrev message_with : Name → List ℕ → Message
+abbrev message_with : Name → List ℕ → ShownMessage
 message_with name text = record { id = name.id; serial = name.serial; text = encode_utf8_all text }
 
 -- the same of any pages
@@ -115,7 +116,7 @@ completes_its_own name before page lacked whole =
     ]
 
 -- the messages that are complete with all pages, and were not with those before
-record AreNew (before pages : List PageView) (shown : List Message) : Type 0 where
+record AreNew (before pages : List PageView) (shown : List ShownMessage) : Type 0 where
   fresh : All (λ m. is_complete (name_shown m) before ≡ false) shown
   complete : All (λ m. is_complete (name_shown m) pages ≡ true) shown
   meant : All (λ m. m ≡ message_of (name_shown m) pages) shown
@@ -124,7 +125,8 @@ record AreNew (before pages : List PageView) (shown : List Message) : Type 0 whe
   once : AllPairs (λ a b. name_shown a ≢ name_shown b) shown
 
 -- what a list contains it contains with one more in front
-Contains-later : (m : Message) (shown : List Message) (x : Message) → Contains shown x → Contains (m ∷ shown) x
+Contains-later : (m : ShownMessage) (shown : List ShownMessage) (x : ShownMessage) → Contains shown x
+    → Contains (m ∷ shown) x
 Contains-later m shown x there = (suc there.0, omega (arith, there.1), there.2)
 
 -- with no page more no message is new
@@ -138,7 +140,7 @@ new_none before = record {
 }
 
 -- with one page more, the message that it completes is new, if it completes one
-new_more : (before rest pages : List PageView) (page : PageView) (tail : List Message) →
+new_more : (before rest pages : List PageView) (page : PageView) (tail : List ShownMessage) →
     (before ++ page ∷ []) ++ rest ≡ pages → AreNew (before ++ page ∷ []) pages tail →
     AreNew before pages (completed_by before page ++ tail)
 new_more before rest pages page tail joined new =
@@ -153,7 +155,7 @@ new_more before rest pages page tail joined new =
           let parts =
           and_parts (not (is_complete (name_of page) before))
           (is_complete (name_of page) (before ++ page ∷ [])) completes in
-          let m : Message = message_of (name_of page) (before ++ page ∷ []) in
+          let m : ShownMessage = message_of (name_of page) (before ++ page ∷ []) in
           let stays = complete_stays (name_of page) (before ++ page ∷ []) rest parts.1 in
           let whole : is_complete (name_of page) pages ≡ true =
           ap (is_complete (name_of page)) (sym joined) ∙ stays.0 in
@@ -219,7 +221,7 @@ shown_are_the_complete blocks =
 
 -- one page completes one message at most
 one_shown : (before : List PageView) (page : Option PageView) →
-    (more : Option Message) × (completed_after before (option_to_list page) ≡ option_to_list more)
+    (more : Option ShownMessage) × (completed_after before (option_to_list page) ≡ option_to_list more)
 one_shown before None = (None, refl)
 one_shown before (Some page) =
     elim (cases_Bool (not (is_complete (name_of page) before) && is_complete (name_of page) (before ++ page ∷ []))) [

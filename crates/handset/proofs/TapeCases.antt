@@ -4,10 +4,10 @@ use Rattle.std.proofs.Common.{suc, refl, sym, ap, ◌∙◌, subst, arith, appen
 use Rattle.std.proofs.lemmas.Bool.{cases_lt}
 use Rattle.std.proofs.lemmas.List.{length-drop, length-take-le, take-append-drop}
 use Rattle.std.specs.Simd.{first_chunks}
-use Rattle.handset.specs.Reading.{shown_in}
+use Rattle.handset.specs.Reception.{shown_in}
 use Rattle.handset.specs.Tape.{TapeReading, IsTape, AreTapesWithin, BeginsWith, IsCut, IsLongWithin, IsOversized}
-use Rattle.handset.specs.Tape.{IsShortWithin, slots_in, told_by, most_slots, most_tapes}
-use Rattle.handset.specs.TapeLaw.{TapeHasKind, TapesHaveKind}
+use Rattle.handset.specs.Tape.{IsShortWithin, slots_in, reading_from, max_slots, max_tapes}
+use Rattle.handset.specs.Laws.{TapeHasKind, TapesHaveKind}
 use Rattle.handset.proofs.TapeLaws.{slots-header, chunks_joined, chunks_long, chunks_each}
 
 -- the tape that stands in front of an input that is long enough for it
@@ -19,7 +19,7 @@ record Front (input : List ℕ) : Type 0 where
   is : IsTape tape reading
   long : length after + (8 + 92 * slots_in input) ≡ length input
 
-front_of : (input : List ℕ) → 8 ≤ length input → slots_in input ≤ most_slots → 8 + 92 * slots_in input ≤ length input →
+front_of : (input : List ℕ) → 8 ≤ length input → slots_in input ≤ max_slots → 8 + 92 * slots_in input ≤ length input →
     Front input
 front_of input headed few whole =
     let slots : ℕ = slots_in input in
@@ -35,7 +35,7 @@ front_of input headed few whole =
     record {
       tape = header ++ body;
       after = after;
-      reading = told_by header (shown_in chunks);
+      reading = reading_from header (shown_in chunks);
       split =
           sym (take-append-drop 8 input)
           ∙ ap (λ l. header ++ l) (sym (take-append-drop (92 * slots) (drop 8 input)))
@@ -45,12 +45,12 @@ front_of input headed few whole =
         blocks = chunks;
         joined = ap (λ l. header ++ l) (sym (chunks_joined (4 * slots) body (omega (arith, long))));
         eight = eight;
-        few = subst (λ n. n ≤ most_slots) (sym says) few;
+        few = subst (λ n. n ≤ max_slots) (sym says) few;
         slots = record {
           four = chunks_long (4 * slots) body ∙ ap (λ n. 4 * n) (sym says);
           each = chunks_each (4 * slots) body (omega (arith, long));
         };
-        told = refl;
+        reading_is = refl;
       };
       long = omega (arith, rest, length-drop (92 * slots) (drop 8 input));
     }
@@ -59,12 +59,12 @@ none_left : (octets : List ℕ) → length octets ≤ 0 → octets ≡ []
 none_left [] none = refl
 none_left (octet ∷ octets) none = absurd (omega arith)
 
-pub tape_has_kind : (input : List ℕ) → TapeHasKind input
+pub tape_has_kind : TapeHasKind
 tape_has_kind input =
     elim (cases_lt (length input) 8) [
       | inl short ↦ inr (inl (λ headed. absurd (omega (arith, short, headed))))
       | inr headed ↦
-          elim (cases_lt most_slots (slots_in input)) [
+          elim (cases_lt max_slots (slots_in input)) [
             | inl many ↦ inr (inr (headed, λ few. absurd (omega (arith, many, few))))
             | inr few ↦
                 elim (cases_lt (length input) (8 + 92 * slots_in input)) [
@@ -179,7 +179,7 @@ kind_in (suc room) input =
                   inside = λ headed. absurd (omega (arith, short, headed));
                 })))
             | inr headed ↦
-                elim (cases_lt most_slots (slots_in input)) [
+                elim (cases_lt max_slots (slots_in input)) [
                   | inl many ↦ inr (inr (oversized_in room input (record { headed = headed; many = many })))
                   | inr few ↦
                       elim (cases_lt (length input) (8 + 92 * slots_in input)) [
@@ -193,5 +193,5 @@ kind_in (suc room) input =
           ]
     ]
 
-pub tapes_have_kind : (input : List ℕ) → TapesHaveKind input
-tapes_have_kind input = kind_in most_tapes input
+pub tapes_have_kind : TapesHaveKind
+tapes_have_kind input = kind_in max_tapes input

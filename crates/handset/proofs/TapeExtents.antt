@@ -7,7 +7,7 @@ use Rattle.std.proofs.KnownBytes.{Consumes-trans, Consumes-nil, Consumes-kept}
 use Rattle.std.proofs.lemmas.List.{length-append, length-take-le}
 use Rattle.handset.specs.declared.tape.TapeFault.{TapeFault}
 use Rattle.handset.specs.declared.tape.TapeFault.TheVariants as fault
-use Rattle.handset.specs.Tape.{TapeReading, slots_in, most_slots}
+use Rattle.handset.specs.Tape.{TapeReading, slots_in, max_slots}
 use Rattle.handset.specs.Tape.{octets_of_blocks}
 use Rattle.handset.specs.Keeping.{HandsetState}
 use Rattle.handset.specs.TapeExtent.{AreGone, StopsAt}
@@ -54,7 +54,7 @@ fed-stops a b c slots more all size handset why fed stops within whole =
 
 -- a header that may be, and some octets of its blocks
 pub stops-in-blocks : (a b c : Option (List ℕ)) (header : List ℕ) (why : TapeFault) → Consumes a b header →
-    length header ≡ 8 → slots_in header ≤ most_slots → StopsInOctets b c (92 * slots_in header) why →
+    length header ≡ 8 → slots_in header ≤ max_slots → StopsInOctets b c (92 * slots_in header) why →
     NextStopsAt a c why
 stops-in-blocks a b c header fault.Short consumed eight few stops = stops
 stops-in-blocks a b c header fault.Long consumed eight few stops = absurd stops
@@ -66,7 +66,7 @@ stops-in-blocks a b c header fault.ReadFailed consumed eight few stops =
       Consumes-trans a b c header stops.0 consumed stops.1,
       λ some. record {
         some = some;
-        few = λ _. subst (λ n. n ≤ most_slots) (sym says) few;
+        few = λ _. subst (λ n. n ≤ max_slots) (sym says) few;
         inside =
             λ _.
             subst (λ n. length (header ++ stops.0) < 8 + 92 * n) (sym says) (omega (arith, long, eight, stops.2));
@@ -77,7 +77,7 @@ stops-in-blocks a b c header fault.Refused consumed eight few stops =
     let says : slots_in (header ++ stops.0) ≡ slots_in header = slots-header header stops.0 eight in (
       header ++ stops.0,
       Consumes-trans a b c header stops.0 consumed stops.1,
-      λ _. subst (λ n. n ≤ most_slots) (sym says) few,
+      λ _. subst (λ n. n ≤ max_slots) (sym says) few,
       λ _. subst (λ n. length (header ++ stops.0) ≤ 8 + 92 * n) (sym says) (omega (arith, long, eight, stops.2)),
     )
 
@@ -95,7 +95,7 @@ stops-in-header a b reads = (
 
 -- a header that says too many slots
 pub stops-at-oversized : (a b : Option (List ℕ)) (header : List ℕ) → Consumes a b header → length header ≡ 8 →
-    most_slots < slots_in header → NextStopsAt a b fault.Long
+    max_slots < slots_in header → NextStopsAt a b fault.Long
 stops-at-oversized a b header consumed eight many =
     (header, consumed, record { headed = omega (arith, eight); many = many }, eight)
 
@@ -190,12 +190,12 @@ stops-at-reading most a b c readings reading reads few next =
     let tape : (8 ≤ length next.octets) × (slots_in (next.octets ++ []) ≡ reading.slots)
     × (length next.octets ≡ 8 + 92 * reading.slots) = tape_long next.octets [] reading next.tape in
     let says : slots_in next.octets ≡ reading.slots = ap slots_in (sym (append-nil next.octets)) ∙ tape.1 in
-    let told : reading.slots ≡ slots_in next.tape.header = ap (λ r. r.slots) next.tape.told in
+    let told : reading.slots ≡ slots_in next.tape.header = ap (λ r. r.slots) next.tape.reading_is in
     record {
       readings = readings;
       part = next.octets;
       gone = gone a b c readings next.octets reads next.consumed;
       few = few;
-      slots = λ _. subst (λ n. n ≤ most_slots) (sym (says ∙ told)) next.tape.few;
+      slots = λ _. subst (λ n. n ≤ max_slots) (sym (says ∙ told)) next.tape.few;
       inside = λ _. subst (λ n. length next.octets ≤ 8 + 92 * n) (sym says) (omega (arith, tape.2));
     }

@@ -4,10 +4,10 @@ use Rattle.std.proofs.Common.{◌∙◌, subst, arith, append_assoc, append-nil}
 use Rattle.std.specs.List.{AllByRecursion}
 use Rattle.std.proofs.lemmas.List.{length-append}
 use Rattle.std.proofs.Math.Seq.{take-append_seam}
-use Rattle.handset.specs.Reading.{shown_in}
+use Rattle.handset.specs.Reception.{shown_in}
 use Rattle.handset.specs.Tape.{TapeReading, IsTape, AreJoined, AreTapes, IsShort, IsLong, IsCut, IsOversized}
-use Rattle.handset.specs.Tape.{octets_of_blocks, slots_in, told_by, most_slots, most_tapes}
-use Rattle.handset.specs.TapeLaw.{TapeIsOneKind, TapesAreOneKind}
+use Rattle.handset.specs.Tape.{octets_of_blocks, slots_in, reading_from, max_slots, max_tapes}
+use Rattle.handset.specs.Laws.{TapeIsOneKind, TapesAreOneKind}
 use Rattle.handset.proofs.TapeLaws.{tape_long}
 
 -- two ways to cut a list at one place
@@ -54,34 +54,34 @@ reading_same octets reading other tape twin =
     let blocks : tape.blocks ≡ twin.blocks =
     blocks_same tape.blocks twin.blocks tape.slots.each twin.slots.each
     (back_same tape.header (octets_of_blocks tape.blocks) twin.header (octets_of_blocks twin.blocks) same long) in
-    tape.told ∙ ap (λ h. told_by h (shown_in tape.blocks)) header ∙ ap (λ b. told_by twin.header (shown_in b)) blocks
-    ∙ sym twin.told
+    tape.reading_is ∙ ap (λ h. reading_from h (shown_in tape.blocks)) header
+    ∙ ap (λ b. reading_from twin.header (shown_in b)) blocks ∙ sym twin.reading_is
 
 -- a tape that stands in front is told by what it stands in
 tape_in_front : (input tape after : List ℕ) (reading : TapeReading) → input ≡ tape ++ after → IsTape tape reading →
-    (8 ≤ length input) × (slots_in input ≤ most_slots) × (length tape ≡ 8 + 92 * slots_in input)
+    (8 ≤ length input) × (slots_in input ≤ max_slots) × (length tape ≡ 8 + 92 * slots_in input)
     × (length input ≡ length tape + length after)
 tape_in_front input tape after reading split is =
     let long : length input ≡ length tape + length after = ap length split ∙ length-append tape after in
     let whole : (8 ≤ length tape) × (slots_in (tape ++ after) ≡ reading.slots)
     × (length tape ≡ 8 + 92 * reading.slots) = tape_long tape after reading is in
     let says : slots_in input ≡ reading.slots = ap slots_in split ∙ whole.1 in
-    let told : reading.slots ≡ slots_in is.header = ap (λ r. r.slots) is.told in
-    let few : slots_in is.header ≤ most_slots = is.few in (
+    let told : reading.slots ≡ slots_in is.header = ap (λ r. r.slots) is.reading_is in
+    let few : slots_in is.header ≤ max_slots = is.few in (
       omega (arith, long, whole.0),
-      subst (λ n. n ≤ most_slots) (sym (says ∙ told)) few,
+      subst (λ n. n ≤ max_slots) (sym (says ∙ told)) few,
       whole.2 ∙ ap (λ n. 8 + 92 * n) (sym says),
       long,
     )
 
 -- no tape stands in front
 abbrev Stops : List ℕ → Type 0
-Stops rest = 8 ≤ length rest → slots_in rest ≤ most_slots → length rest < 8 + 92 * slots_in rest
+Stops rest = 8 ≤ length rest → slots_in rest ≤ max_slots → length rest < 8 + 92 * slots_in rest
 
 no_tape : (rest tape after : List ℕ) (reading : TapeReading) → Stops rest → rest ≡ tape ++ after → IsTape tape reading →
     ⊥
 no_tape rest tape after reading stops split is =
-    let front : (8 ≤ length rest) × (slots_in rest ≤ most_slots) × (length tape ≡ 8 + 92 * slots_in rest)
+    let front : (8 ≤ length rest) × (slots_in rest ≤ max_slots) × (length tape ≡ 8 + 92 * slots_in rest)
     × (length rest ≡ length tape + length after) =
     tape_in_front rest tape after reading split is in
     let short : length rest < 8 + 92 * slots_in rest = stops front.0 front.1 in
@@ -127,78 +127,78 @@ cut_stops : (rest : List ℕ) → IsCut rest → Stops rest
 cut_stops rest cut headed few = cut.inside headed
 
 oversized_stops : (rest : List ℕ) → IsOversized rest → Stops rest
-oversized_stops rest oversized headed few = let many : most_slots < slots_in rest = oversized.many in
+oversized_stops rest oversized headed few = let many : max_slots < slots_in rest = oversized.many in
     absurd (omega (arith, many, few))
 
 tapes_and_short : (input : List ℕ) (readings : List TapeReading) → AreTapes input readings → ¬ IsShort input
 tapes_and_short input readings are short =
     let same : (readings ≡ short.readings) × ([] ≡ short.rest) =
-    same_stop most_tapes readings short.readings input [] short.begins.front short.rest
+    same_stop max_tapes readings short.readings input [] short.begins.front short.rest
     (append-nil input ∙ short.begins.split) are.joined short.begins.joined
     are.few (omega (arith, short.few)) (λ _. nothing_stops) (λ _. cut_stops short.rest short.cut) in
     let some : 0 < length short.rest = short.cut.some in
     let none : 0 ≡ length short.rest = ap length same.1 in
     omega (arith, some, none)
 
-long_stops : (input : List ℕ) (long : IsLong input) → length long.readings < most_tapes → Stops long.rest
+long_stops : (input : List ℕ) (long : IsLong input) → length long.readings < max_tapes → Stops long.rest
 long_stops input long less = oversized_stops long.rest (long.oversized less)
 
 tapes_and_long : (input : List ℕ) (readings : List TapeReading) → AreTapes input readings → ¬ IsLong input
 tapes_and_long input readings are long =
     let same : (readings ≡ long.readings) × ([] ≡ long.rest) =
-    same_stop most_tapes readings long.readings input [] long.begins.front long.rest
+    same_stop max_tapes readings long.readings input [] long.begins.front long.rest
     (append-nil input ∙ long.begins.split) are.joined long.begins.joined
     are.few long.few (λ _. nothing_stops) (long_stops input long) in
     let none : 0 ≡ length long.rest = ap length same.1 in
-    let full : length long.readings ≡ most_tapes → ⊥ = λ all. let some : 0 < length long.rest = long.more all in
+    let full : length long.readings ≡ max_tapes → ⊥ = λ all. let some : 0 < length long.rest = long.more all in
     omega (arith, some, none) in
-    let open_ : length long.readings < most_tapes → ⊥ = λ less. let some : 8 ≤ length long.rest =
+    let open_ : length long.readings < max_tapes → ⊥ = λ less. let some : 8 ≤ length long.rest =
     (long.oversized less).headed in omega (arith, some, none) in
-    let few : length long.readings ≤ most_tapes = long.few in
+    let few : length long.readings ≤ max_tapes = long.few in
     omega (arith, full, open_, few)
 
 short_and_long : (input : List ℕ) → IsShort input → ¬ IsLong input
 short_and_long input short long =
     let same : (short.readings ≡ long.readings) × (short.rest ≡ long.rest) =
-    same_stop most_tapes short.readings long.readings short.begins.front short.rest long.begins.front long.rest
+    same_stop max_tapes short.readings long.readings short.begins.front short.rest long.begins.front long.rest
     (sym short.begins.split ∙ long.begins.split) short.begins.joined long.begins.joined
     (omega (arith, short.few)) long.few (λ _. cut_stops short.rest short.cut) (long_stops input long) in
-    let few : length short.readings < most_tapes = short.few in
+    let few : length short.readings < max_tapes = short.few in
     let count : length short.readings ≡ length long.readings = ap length same.0 in
-    let less : length long.readings < most_tapes = omega (arith, few, count) in
+    let less : length long.readings < max_tapes = omega (arith, few, count) in
     let oversized : IsOversized long.rest = long.oversized less in
     let cut : IsCut long.rest = subst IsCut same.1 short.cut in
-    let many : most_slots < slots_in long.rest = oversized.many in
-    let bound : slots_in long.rest ≤ most_slots = cut.few oversized.headed in
+    let many : max_slots < slots_in long.rest = oversized.many in
+    let bound : slots_in long.rest ≤ max_slots = cut.few oversized.headed in
     omega (arith, many, bound)
 
-pub tapes_are_one_kind : (input : List ℕ) → TapesAreOneKind input
+pub tapes_are_one_kind : TapesAreOneKind
 tapes_are_one_kind input = record {
   unique = λ readings others are twin.
-      (same_stop most_tapes readings others input [] input [] refl are.joined twin.joined are.few twin.few
+      (same_stop max_tapes readings others input [] input [] refl are.joined twin.joined are.few twin.few
       (λ _. nothing_stops) (λ _. nothing_stops)).0;
   not_short = tapes_and_short input;
   not_long = tapes_and_long input;
   apart = short_and_long input;
 }
 
-pub tape_is_one_kind : (input : List ℕ) → TapeIsOneKind input
+pub tape_is_one_kind : TapeIsOneKind
 tape_is_one_kind input = record {
   unique = reading_same input;
   not_short = λ reading is short.
-      let front : (8 ≤ length input) × (slots_in input ≤ most_slots) × (length input ≡ 8 + 92 * slots_in input)
+      let front : (8 ≤ length input) × (slots_in input ≤ max_slots) × (length input ≡ 8 + 92 * slots_in input)
       × (length input ≡ length input + 0) =
       tape_in_front input input [] reading (sym (append-nil input)) is in
       let less : length input < 8 + 92 * slots_in input = (short front.0).1 in
       omega (arith, less, front.2);
   not_long = λ reading is long.
-      let front : (8 ≤ length input) × (slots_in input ≤ most_slots) × (length input ≡ 8 + 92 * slots_in input)
+      let front : (8 ≤ length input) × (slots_in input ≤ max_slots) × (length input ≡ 8 + 92 * slots_in input)
       × (length input ≡ length input + 0) =
       tape_in_front input input [] reading (sym (append-nil input)) is in
       let more : 8 + 92 * slots_in input < length input = long.1 front.1 in
       omega (arith, more, front.2);
   apart = λ short long.
-      let both : (slots_in input ≤ most_slots) × (length input < 8 + 92 * slots_in input) = short long.0 in
+      let both : (slots_in input ≤ max_slots) × (length input < 8 + 92 * slots_in input) = short long.0 in
       let more : 8 + 92 * slots_in input < length input = long.1 both.0 in
       omega (arith, more, both.1);
 }

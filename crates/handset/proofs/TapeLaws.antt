@@ -10,14 +10,14 @@ use Rattle.std.proofs.Math.Seq.{take-append-add}
 use Rattle.std.proofs.lemmas.Grind.{flat_map-append}
 use Rattle.std.proofs.lemmas.List.{length-append, length-drop, length-take-le, take-append-drop, take-append-le}
 use Rattle.std.proofs.Math.ListN.{get_or-append}
-use Rattle.handset.specs.Reading.{Message, shown_in}
+use Rattle.handset.specs.Reception.{ShownMessage, shown_in}
 use Rattle.handset.specs.Keeping.{HandsetState, HasRead}
 use Rattle.handset.specs.declared.tape.TapeFault.{TapeFault}
 use Rattle.handset.specs.declared.tape.TapeFault.TheVariants as fault
-use Rattle.handset.specs.Tape.{TapeReading, IsNextFault, IsTapeFault, IsTapesFault, IsTape, IsLongTape, IsShortTape}
+use Rattle.handset.specs.Tape.{TapeReading, IsTapeFault, IsTapesFault, IsTape, IsLongTape, IsShortTape}
 use Rattle.handset.specs.Tape.{AreSlots, AreJoined, AreTapes, BeginsWith, IsShort, IsLong, IsCut, IsOversized}
-use Rattle.handset.specs.Tape.{octets_of_blocks, slots_in, told_by, most_slots, most_tapes}
-use Rattle.handset.specs.TapeSteps.{ReadsBlocks, ReadsPiece, ReadsTape}
+use Rattle.handset.specs.Tape.{octets_of_blocks, slots_in, reading_from, max_slots, max_tapes}
+use Rattle.handset.specs.TapeSteps.{IsNextFault, ReadsBlocks, ReadsPiece, ReadsTape}
 
 -- the reader gave the blocks of this many slots, and a handset has read them
 pub record Fed (old new : Option (List ℕ)) (slots : ℕ) (handset : HandsetState) : Type 0 where
@@ -127,7 +127,7 @@ Fed-more a b c slots more all size before after fed piece sum whole =
       read = piece.read fed.blocks fed.read;
     }
 
-pub Fed-whole : (old new : Option (List ℕ)) (slots all : ℕ) (handset : HandsetState) (shown : List Message) →
+pub Fed-whole : (old new : Option (List ℕ)) (slots all : ℕ) (handset : HandsetState) (shown : List ShownMessage) →
     Fed old new slots handset → slots ≡ all →
     ((blocks : List (List ℕ)) → HasRead handset blocks → shown ≡ shown_in blocks) → ReadsBlocks old new all shown
 Fed-whole old new slots all handset shown fed same shows = record {
@@ -163,9 +163,9 @@ slots-header header rest eight =
     rw (e4, e5, e6, e7) refl
 
 -- a header and its blocks are a tape
-pub ReadsTape-from : (a b c : Option (List ℕ)) (header : List ℕ) (shown : List Message) → length header ≡ 8 →
-    slots_in header ≤ most_slots →
-    Consumes a b header → ReadsBlocks b c (slots_in header) shown → ReadsTape a c (told_by header shown)
+pub ReadsTape-from : (a b c : Option (List ℕ)) (header : List ℕ) (shown : List ShownMessage) → length header ≡ 8 →
+    slots_in header ≤ max_slots →
+    Consumes a b header → ReadsBlocks b c (slots_in header) shown → ReadsTape a c (reading_from header shown)
 ReadsTape-from a b c header shown eight few consumed blocks = record {
   octets = header ++ octets_of_blocks blocks.blocks;
   consumed = Consumes-trans a b c header (octets_of_blocks blocks.blocks) consumed blocks.consumed;
@@ -176,7 +176,7 @@ ReadsTape-from a b c header shown eight few consumed blocks = record {
     eight = eight;
     few = few;
     slots = blocks.slots_are;
-    told = ap (told_by header) blocks.same;
+    reading_is = ap (reading_from header) blocks.same;
   };
 }
 
@@ -198,7 +198,7 @@ header-end (Some left) (Some rest) [] consumed end none = consumed ∙ end
 header-end (Some left) (Some rest) (octet ∷ octets) consumed end none = absurd (omega arith)
 
 pub header-oversized : (a b : Option (List ℕ)) (header : List ℕ) → Consumes a b header → length header ≡ 8 →
-    most_slots < slots_in header →
+    max_slots < slots_in header →
     IfSome a IsOversized
 header-oversized None b header consumed eight many = tt
 header-oversized (Some left) None header consumed eight many = absurd consumed
@@ -207,11 +207,11 @@ header-oversized (Some left) (Some rest) header consumed eight many =
     let says : slots_in left ≡ slots_in header = ap slots_in consumed ∙ slots-header header rest eight in
     record {
       headed = omega (arith, long, eight);
-      many = subst (λ n. most_slots < n) (sym says) many;
+      many = subst (λ n. max_slots < n) (sym says) many;
     }
 
 pub blocks-cut : (a b : Option (List ℕ)) (header : List ℕ) → Consumes a b header → length header ≡ 8 →
-    slots_in header ≤ most_slots →
+    slots_in header ≤ max_slots →
     IfSome b (λ left. length left < 92 * slots_in header) → IfSome a IsCut
 blocks-cut a b header consumed eight few short =
     behind (λ left. length left < 92 * slots_in header) IsCut a b header consumed short (λ rest less.
@@ -219,7 +219,7 @@ blocks-cut a b header consumed eight few short =
     let says : slots_in (header ++ rest) ≡ slots_in header = slots-header header rest eight in
     record {
       some = omega (arith, long, eight);
-      few = λ _. subst (λ n. n ≤ most_slots) (sym says) few;
+      few = λ _. subst (λ n. n ≤ max_slots) (sym says) few;
       inside = λ _. subst (λ n. length (header ++ rest) < 8 + 92 * n) (sym says) (omega (arith, long, eight, less));
     })
 
@@ -237,7 +237,7 @@ tape_long octets rest reading tape =
     ap (λ o. slots_in (o ++ rest)) tape.joined
     ∙ ap slots_in (append_assoc tape.header (octets_of_blocks tape.blocks) rest)
     ∙ slots-header tape.header (octets_of_blocks tape.blocks ++ rest) eight in
-    let told : reading.slots ≡ slots_in tape.header = ap (λ r. r.slots) tape.told in
+    let told : reading.slots ≡ slots_in tape.header = ap (λ r. r.slots) tape.reading_is in
     let long : length octets ≡ length tape.header + length (octets_of_blocks tape.blocks) =
     ap length tape.joined ∙ length-append tape.header (octets_of_blocks tape.blocks) in
     let four : length tape.blocks ≡ 4 * slots_in tape.header = tape.slots.four in
@@ -264,7 +264,7 @@ cut_is_short input cut headed = (cut.few headed, cut.inside headed)
 
 pub oversized_is_long : (input : List ℕ) → IsOversized input → IsLongTape input
 oversized_is_long input oversized =
-    (oversized.headed, λ few. let many : most_slots < slots_in input = oversized.many in absurd (omega arith))
+    (oversized.headed, λ few. let many : max_slots < slots_in input = oversized.many in absurd (omega arith))
 
 -- why there is no tape: it ends before the first octet, or inside, or says too many slots
 pub end_is_short : (a : Option (List ℕ)) → IsAtEnd a → IfSome a IsShortTape
@@ -307,7 +307,7 @@ ReadsTapes-more a b c readings reading reads next = record {
 }
 
 pub tapes_whole : (a b : Option (List ℕ)) (readings : List TapeReading) → ReadsTapes a b readings → IsAtEnd b →
-    length readings ≤ most_tapes →
+    length readings ≤ max_tapes →
     IfSome a (λ input. AreTapes input readings)
 tapes_whole a b readings reads end few =
     at_end (λ input. AreTapes input readings) a b reads.octets reads.consumed end
@@ -319,14 +319,14 @@ begins : (a b : Option (List ℕ)) (readings : List TapeReading) (reads : ReadsT
 begins a b readings reads rest = record { front = reads.octets; split = refl; joined = reads.joined }
 
 pub tapes_cut : (a b : Option (List ℕ)) (readings : List TapeReading) → ReadsTapes a b readings → IfSome b IsCut →
-    length readings < most_tapes →
+    length readings < max_tapes →
     IfSome a IsShort
 tapes_cut a b readings reads cut few =
     behind IsCut IsShort a b reads.octets reads.consumed cut (λ rest inside.
     record { readings = readings; rest = rest; begins = begins a b readings reads rest; few = few; cut = inside })
 
 pub tapes_oversized : (a b : Option (List ℕ)) (readings : List TapeReading) → ReadsTapes a b readings →
-    IfSome b IsOversized → length readings < most_tapes →
+    IfSome b IsOversized → length readings < max_tapes →
     IfSome a IsLong
 tapes_oversized a b readings reads oversized few =
     behind IsOversized IsLong a b reads.octets reads.consumed oversized (λ rest many.
@@ -340,7 +340,7 @@ tapes_oversized a b readings reads oversized few =
     })
 
 pub tapes_go_on : (a b : Option (List ℕ)) (readings : List TapeReading) → ReadsTapes a b readings →
-    IfSome b (λ left. 0 < length left) → length readings ≡ most_tapes →
+    IfSome b (λ left. 0 < length left) → length readings ≡ max_tapes →
     IfSome a IsLong
 tapes_go_on a b readings reads more all =
     behind (λ left. 0 < length left) IsLong a b reads.octets reads.consumed more (λ rest some.
@@ -354,7 +354,7 @@ tapes_go_on a b readings reads more all =
     })
 
 pub next_is_tapes : (a b : Option (List ℕ)) (readings : List TapeReading) (why : TapeFault) → ReadsTapes a b readings →
-    length readings < most_tapes →
+    length readings < max_tapes →
     IfSome b (λ left. IsNextFault left why) → IfSome a (λ input. IsTapesFault input why)
 next_is_tapes a b readings fault.Short reads few next = tapes_cut a b readings reads next few
 next_is_tapes a b readings fault.Long reads few next = tapes_oversized a b readings reads next few

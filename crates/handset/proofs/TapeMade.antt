@@ -1,6 +1,7 @@
 -- The octets that are made of a cell, a number of slots and their blocks are a tape, and say and show just these.
 use Rattle.std.proofs.Common.{◌≡◌, ℕ, ◌+◌, ◌*◌, ◌/◌, ◌%◌, ◌<◌, ◌≤◌, List, [], ◌∷◌, refl, sym, subst, arith}
-use Rattle.handset.specs.Tape.{AreSlots, MadeAreTapes, slots_in, most_slots}
+use Rattle.handset.specs.Laws.{MadeAreTapes}
+use Rattle.handset.specs.Tape.{AreSlots, slots_in, max_slots}
 
 pair_back : (n : ℕ) → 256 * (n / 256) + n % 256 ≡ n
 pair_back n = omega arith
@@ -20,7 +21,7 @@ made_is_tape cell slots blocks few are =
       blocks = blocks;
       joined = refl;
       eight = refl;
-      few = subst (λ n. n ≤ most_slots) (sym says) few;
+      few = subst (λ n. n ≤ max_slots) (sym says) few;
       slots = subst (λ n. AreSlots n blocks) (sym says) are;
-      told = rw (pair_back cell.lac, pair_back cell.ci, four_back slots (omega (arith, few))) refl;
+      reading_is = rw (pair_back cell.lac, pair_back cell.ci, four_back slots (omega (arith, few))) refl;
     }

@@ -1,7 +1,7 @@
 -- What some lists of blocks show, computed. The pages are in UCS-2, so that their octets are the text's own.
 use Rattle.std.proofs.Common.{◌≡◌, ℕ, ◌++◌, List, [], ◌∷◌, replicate, refl}
 use Rattle.std.specs.List.{flat_map}
-use Rattle.handset.specs.Reading.{shown_in}
+use Rattle.handset.specs.Reception.{shown_in}
 use lib.Utf8.{encode}
 
 -- so many of the carriage returns that fill a page

@@ -3,7 +3,7 @@
 -- that number was read, and the least of these counts.
 use Rattle.std.specs.Prelude.{ℕ, ◌==◌, min, List, [], ◌∷◌, map, count_by}
 use Rattle.cbs_page.specs.declared.octets.PageView.{PageView}
-use Rattle.handset.specs.Reading.{Name, pages_of, numbers_of, readable_pages}
+use Rattle.handset.specs.Reception.{Name, pages_of, numbers_of, readable_pages}
 
 -- how often the message's page of this number was read
 abbrev pub times_read : Name → List PageView → ℕ → ℕ

@@ -7,14 +7,14 @@ use Rattle.handset.specs.declared.blocks.PartialPage.{PartialPage}
 use Rattle.handset.specs.declared.blocks.Stage.{Stage}
 use Rattle.handset.specs.declared.blocks.Stage.TheVariants as stage
 use Rattle.handset.specs.declared.messages.Shown.{Shown}
-use Rattle.handset.specs.Reading.{type_of, page_types, pages_read, readable_pages, Name, is_of, page_numbered, Message}
-use Rattle.handset.specs.Reading.{shown_in}
+use Rattle.handset.specs.Reception.{type_of, page_types, pages_read, readable_pages, Name, is_of, page_numbered}
+use Rattle.handset.specs.Reception.{ShownMessage, shown_in}
 
 -- the messages that were shown, as contracts see them
-abbrev pub message_shown : Shown → Message
+abbrev pub message_shown : Shown → ShownMessage
 message_shown shown = record { id = shown.id; serial = shown.serial; text = string_bytes shown.text }
 
-abbrev pub messages_of : List Shown → List Message
+abbrev pub messages_of : List Shown → List ShownMessage
 messages_of shown = map message_shown shown
 
 -- two names are the same
@@ -30,7 +30,7 @@ kept_of pages name = unwrap_or (lookup (same_name name) pages) []
 pub record HandsetState : Type 0 where
   pub under_way : List (List ℕ)
   pub pages : List (Name × List PageView)
-  pub shown : List Message
+  pub shown : List ShownMessage
 
 -- the blocks of a page that has begun
 abbrev pub blocks_at : Stage → (first second third : List ℕ) → List (List ℕ)

@@ -6,7 +6,7 @@ use Rattle.std.specs.List.{flat_map, list_all, range_with_len}
 use Rattle.cbs_page.specs.declared.octets.PageView.{PageView}
 use Rattle.cbs_page.specs.Page.{view_of, is_readable}
 use Rattle.cbs_page.specs.Text.{text_of_page}
-use Rattle.handset.specs.Reading.{type_of, page_octets, Name, name_of, is_of, agrees_with, Message}
+use Rattle.handset.specs.Reception.{type_of, page_octets, Name, name_of, is_of, agrees_with, ShownMessage}
 use Rattle.handset.specs.Keeping.{is_numbered, kept_of}
 
 -- the blocks of a page that isn't whole, with one more: a first block begins a page, and the next one goes on with it
@@ -44,7 +44,7 @@ pages_and pages page name = if is_of name page then pages name ++ page ∷ [] el
 abbrev pub pages_with : (Name → List PageView) → PageView → Name → List PageView
 pages_with pages page = if counts (pages (name_of page)) page then pages_and pages page else pages
 
--- the total that the first page of a message tells, and whether all its pages are among those that are kept
+-- the total that the first page of a message has, and whether all its pages are among those that are kept
 abbrev pub total_kept : Name → List PageView → ℕ
 total_kept name pages = option_map_or (λ page. page.total) (find (is_of name) pages) 0
 
@@ -58,15 +58,15 @@ text_kept name pages =
     flat_map (λ number. option_map_or text_of_page (find (is_numbered name number) pages) [])
     (range_with_len 1 (total_kept name pages))
 
-abbrev pub message_kept : Name → List PageView → Message
+abbrev pub message_kept : Name → List PageView → ShownMessage
 message_kept name pages = record { id = name.id; serial = name.serial; text = encode_utf8_all (text_kept name pages) }
 
 -- the message that a page is of, where it is whole
-abbrev pub message_whole : List PageView → PageView → List Message
+abbrev pub message_whole : List PageView → PageView → List ShownMessage
 message_whole pages page = if is_whole (name_of page) pages then message_kept (name_of page) pages ∷ [] else []
 
 -- the message that a page makes whole
-abbrev pub message_ended : List PageView → PageView → List Message
+abbrev pub message_ended : List PageView → PageView → List ShownMessage
 message_ended pages page = if counts pages page then message_whole (pages ++ page ∷ []) page else []
 
 -- the same of a page that was read; one that isn't readable is passed over
@@ -82,5 +82,5 @@ abbrev pub TakesPage : (old new : List (Name × List PageView)) → PageView →
 TakesPage old new page = (name : Name) → kept_of new name ≡ pages_with_read (kept_of old) page name
 
 -- the message that a page that was read makes whole
-abbrev pub message_ended_read : List PageView → PageView → List Message
+abbrev pub message_ended_read : List PageView → PageView → List ShownMessage
 message_ended_read pages page = if is_readable page then message_ended pages page else []

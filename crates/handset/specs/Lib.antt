@@ -1,10 +1,10 @@
-pub mod Reading
+pub mod Reception
 pub mod Keeping
 pub mod KeepingSteps
 pub mod Tape
 pub mod TapeExtent
 pub mod TapeSteps
-pub mod TapeLaw
 pub mod Counting
 pub mod Showing
 pub mod OneMessage
+pub mod Laws

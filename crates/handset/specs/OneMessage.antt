@@ -1,12 +1,9 @@
 -- What is read of a message if all pages of its name are pages of one message that was sent (own).
-use Rattle.std.specs.Prelude.{◌≡◌, ℕ, ◌+◌, ◌<◌, ◌≤◌, true, nat_le, List, length, slice_index_or, count_by, All}
+use Rattle.std.specs.Prelude.{◌≡◌, ℕ, ◌+◌, ◌<◌, ◌≤◌, true, List, length, slice_index_or, count_by, All}
 use Rattle.std.specs.Prelude.{Contains}
-use Rattle.std.specs.List.{flat_map}
 use Rattle.cbs_page.specs.declared.octets.PageView.{PageView}
-use Rattle.cbs_page.specs.Text.{text_of_page}
-use Rattle.handset.specs.Reading.{Name, is_of, is_complete, text_of}
+use Rattle.handset.specs.Reception.{Name, is_of}
 use Rattle.handset.specs.Keeping.{is_numbered}
-use Rattle.handset.specs.Counting.{whole_among}
 
 -- the page at this place of a message: it has the message's name, the place counted from 1 as its number, and the total
 -- and the
@@ -40,23 +37,3 @@ pub record IsLeastCount (name : Name) (pages : List PageView) (total least : ℕ
   pub high : number ≤ total
   pub reached : count_of name pages number ≡ least
   pub below : (n : ℕ) → 1 ≤ n → n ≤ total → least ≤ count_of name pages n
-
--- a message is complete exactly if a whole broadcast of it was read; here its pages may be any
-abbrev pub CompleteIsWhole : Type 0
-CompleteIsWhole = (name : Name) (pages : List PageView) → is_complete name pages ≡ nat_le 1 (whole_among name pages)
-
--- if all pages of a name are pages of one message, its whole broadcasts are the least count of its pages
-abbrev pub WholeIsTheLeastCount : Type 0
-WholeIsTheLeastCount = (name : Name) (sent pages : List PageView) (least : ℕ)
-    → IsMessage name sent
-    → AreFrom name sent pages
-    → IsLeastCount name pages (length sent) least
-    → whole_among name pages ≡ least
-
--- and its text, once it is complete, joins the texts of the pages that were sent
-abbrev pub TextIsTheMessages : Type 0
-TextIsTheMessages = (name : Name) (sent pages : List PageView)
-    → IsMessage name sent
-    → AreFrom name sent pages
-    → is_complete name pages ≡ true
-    → text_of name pages ≡ flat_map text_of_page sent

@@ -1,27 +1,27 @@
 -- Tapes: the blocks that a cell's broadcast channel sent, slot by slot, and what a handset shows of them. The format is
 -- this project's own.
 use Rattle.std.specs.Prelude.{◌≡◌, ℕ, ◌+◌, ◌*◌, ◌/◌, ◌%◌, ◌<◌, ◌≤◌, List, [], ◌∷◌, ◌++◌, length, map, slice_index}
-use Rattle.std.specs.Prelude.{Option, IfSome}
+use Rattle.std.specs.Prelude.{Option, IfSome, Bool, false, true, Result, Ok, Err}
 use Rattle.std.specs.List.{flat_map, AllByRecursion}
 use Rattle.cbsp_wire.specs.declared.message.Cell.{Cell}
 use Rattle.handset.specs.declared.tape.Reading.{Reading}
 use Rattle.handset.specs.declared.tape.TapeFault.{TapeFault}
 use Rattle.handset.specs.declared.tape.TapeFault.TheVariants as fault
-use Rattle.handset.specs.Reading.{Message, shown_in}
+use Rattle.handset.specs.Reception.{ShownMessage, shown_in}
 use Rattle.handset.specs.Keeping.{messages_of}
 
 -- the most slots of a tape, and the most tapes of an input
-abbrev pub most_slots : ℕ
-most_slots = 65535
+abbrev pub max_slots : ℕ
+max_slots = 65535
 
-abbrev pub most_tapes : ℕ
-most_tapes = 64
+abbrev pub max_tapes : ℕ
+max_tapes = 64
 
--- what is told of a tape: its cell, how many slots it has, and the messages that its blocks show
+-- what a tape says and shows: its cell, how many slots it has, and the messages that its blocks show
 pub record TapeReading : Type 0 where
   pub cell : Cell
   pub slots : ℕ
-  pub shown : List Message
+  pub shown : List ShownMessage
 
 abbrev pub reading_of : Reading → TapeReading
 reading_of reading = record { cell = reading.cell; slots = reading.slots; shown = messages_of reading.shown.items }
@@ -52,8 +52,8 @@ abbrev pub slots_in : List ℕ → ℕ
 slots_in octets =
     16777216 * slice_index octets 4 + 65536 * slice_index octets 5 + 256 * slice_index octets 6 + slice_index octets 7
 
-abbrev pub told_by : List ℕ → List Message → TapeReading
-told_by header shown = record { cell = cell_in header; slots = slots_in header; shown = shown }
+abbrev pub reading_from : List ℕ → List ShownMessage → TapeReading
+reading_from header shown = record { cell = cell_in header; slots = slots_in header; shown = shown }
 
 -- how many octets the whole tape has that begins so
 abbrev pub tape_length : List ℕ → ℕ
@@ -71,9 +71,9 @@ pub record IsTape (octets : List ℕ) (reading : TapeReading) : Type 0 where
   pub blocks : List (List ℕ)
   pub joined : octets ≡ header ++ octets_of_blocks blocks
   pub eight : length header ≡ 8
-  pub few : slots_in header ≤ most_slots
+  pub few : slots_in header ≤ max_slots
   pub slots : AreSlots (slots_in header) blocks
-  pub told : reading ≡ told_by header (shown_in blocks)
+  pub reading_is : reading ≡ reading_from header (shown_in blocks)
 
 -- octets are whole tapes, one after another, with these readings
 abbrev pub AreJoined : List ℕ → List TapeReading → Type 0
@@ -84,21 +84,21 @@ AreJoined octets (reading ∷ rest) =
 -- the end comes inside a tape: in its header, or in the blocks of a header that may be
 pub record IsCut (octets : List ℕ) : Type 0 where
   pub some : 0 < length octets
-  pub few : 8 ≤ length octets → slots_in octets ≤ most_slots
+  pub few : 8 ≤ length octets → slots_in octets ≤ max_slots
   pub inside : 8 ≤ length octets → length octets < tape_length octets
 
 -- a header says more slots than a tape has
 pub record IsOversized (octets : List ℕ) : Type 0 where
   pub headed : 8 ≤ length octets
-  pub many : most_slots < slots_in octets
+  pub many : max_slots < slots_in octets
 
 -- one tape and then the end; an input that ends before its tape does; and one that goes on after it, or whose header
 -- says too many slots
 abbrev pub IsShortTape : List ℕ → Type 0
-IsShortTape input = (8 ≤ length input) → (slots_in input ≤ most_slots) × (length input < tape_length input)
+IsShortTape input = (8 ≤ length input) → (slots_in input ≤ max_slots) × (length input < tape_length input)
 
 abbrev pub IsLongTape : List ℕ → Type 0
-IsLongTape input = (8 ≤ length input) × (slots_in input ≤ most_slots → tape_length input < length input)
+IsLongTape input = (8 ≤ length input) × (slots_in input ≤ max_slots → tape_length input < length input)
 
 -- an input begins with whole tapes, which have these readings, and a rest follows them
 pub record BeginsWith (input : List ℕ) (readings : List TapeReading) (rest : List ℕ) : Type 0 where
@@ -130,13 +130,13 @@ pub record IsLongWithin (most : ℕ) (input : List ℕ) : Type 0 where
 
 -- the same of the most tapes that an input may have
 abbrev pub AreTapes : List ℕ → List TapeReading → Type 0
-AreTapes input readings = AreTapesWithin most_tapes input readings
+AreTapes input readings = AreTapesWithin max_tapes input readings
 
 abbrev pub IsShort : List ℕ → Type 0
-IsShort input = IsShortWithin most_tapes input
+IsShort input = IsShortWithin max_tapes input
 
 abbrev pub IsLong : List ℕ → Type 0
-IsLong input = IsLongWithin most_tapes input
+IsLong input = IsLongWithin max_tapes input
 
 -- what takes readings took those of the input's tapes, in order, and of some octets' tapes where the input isn't known;
 -- `HasTaken` says which readings it has
@@ -160,15 +160,10 @@ IsTapesFault input fault.Long = IsLong input
 IsTapesFault input fault.ReadFailed = Unit {0}
 IsTapesFault input fault.Refused = Unit {0}
 
--- the same of the next tape
-abbrev pub IsNextFault : List ℕ → TapeFault → Type 0
-IsNextFault input fault.Short = IsCut input
-IsNextFault input fault.Long = IsOversized input
-IsNextFault input fault.ReadFailed = Unit {0}
-IsNextFault input fault.Refused = Unit {0}
-
--- the octets that are made of a cell, a number of slots and their blocks are a tape, and say and show just these
-abbrev pub MadeAreTapes : Type 0
-MadeAreTapes =
-    (cell : Cell) → (slots : ℕ) → (blocks : List (List ℕ)) → slots ≤ most_slots → AreSlots slots blocks →
-    IsTape (tape_octets cell slots blocks) (record { cell = cell; slots = slots; shown = shown_in blocks })
+-- a result reports that the reader failed
+abbrev pub reports_read_failed : {T : Type 0} → Result T TapeFault → Bool
+reports_read_failed (Ok _) = false
+reports_read_failed (Err fault.Short) = false
+reports_read_failed (Err fault.Long) = false
+reports_read_failed (Err fault.ReadFailed) = true
+reports_read_failed (Err fault.Refused) = false

@@ -3,7 +3,7 @@ use Rattle.std.specs.Prelude.{◌≡◌, ℕ, ◌<◌, ◌≤◌, List, ◌++◌
 use Rattle.std.specs.Io.KnownBytes.{Consumes, IsAtEnd}
 use Rattle.handset.specs.declared.tape.TapeFault.{TapeFault}
 use Rattle.handset.specs.declared.tape.TapeFault.TheVariants as fault
-use Rattle.handset.specs.Tape.{TapeReading, AreJoined, IsCut, IsOversized, most_slots, slots_in, tape_length}
+use Rattle.handset.specs.Tape.{TapeReading, AreJoined, IsCut, IsOversized, max_slots, slots_in, tape_length}
 
 -- whole tapes with these readings are gone of the input, and then this part
 pub record AreGone (old new : Option (List ℕ)) (readings : List TapeReading) (part : List ℕ) : Type 0 where
@@ -36,7 +36,7 @@ pub record StopsWithin (most : ℕ) (old new : Option (List ℕ)) : Type 0 where
   pub part : List ℕ
   pub gone : AreGone old new readings part
   pub few : length readings < most
-  pub slots : 8 ≤ length part → slots_in part ≤ most_slots
+  pub slots : 8 ≤ length part → slots_in part ≤ max_slots
   pub inside : 8 ≤ length part → length part ≤ tape_length part
 
 -- how far an input of at most this many tapes was read when it gave no readings, by the fault; a short input is read to

@@ -3,12 +3,12 @@
 use Rattle.std.specs.Prelude.{◌≡◌, ℕ, ◌+◌, ◌/◌, ◌<◌, ◌≤◌, List, ◌++◌, Option, length}
 use Rattle.std.specs.Simd.{first_chunks}
 use Rattle.std.specs.Io.KnownBytes.{Consumes, IsAtEnd}
-use Rattle.handset.specs.Reading.{Message, shown_in}
+use Rattle.handset.specs.Reception.{ShownMessage, shown_in}
 use Rattle.handset.specs.Keeping.{HandsetState, HasRead}
 use Rattle.handset.specs.declared.tape.TapeFault.{TapeFault}
 use Rattle.handset.specs.declared.tape.TapeFault.TheVariants as fault
 use Rattle.handset.specs.Tape.{TapeReading, IsTape, AreSlots, IsCut, IsOversized, octets_of_blocks, slots_in}
-use Rattle.handset.specs.Tape.{most_slots}
+use Rattle.handset.specs.Tape.{max_slots}
 use Rattle.handset.specs.Tape.{tape_length}
 
 -- the reader gave this many octets, and a handset has read the blocks that they are
@@ -21,7 +21,7 @@ pub record ReadsPiece (old new : Option (List ℕ)) (count : ℕ) (before after 
       HasRead before blocks → HasRead after (blocks ++ first_chunks 23 (count / 23) octets)
 
 -- the reader gave the blocks of this many slots, and these are the messages that they show
-pub record ReadsBlocks (old new : Option (List ℕ)) (slots : ℕ) (shown : List Message) : Type 0 where
+pub record ReadsBlocks (old new : Option (List ℕ)) (slots : ℕ) (shown : List ShownMessage) : Type 0 where
   pub blocks : List (List ℕ)
   pub consumed : Consumes old new (octets_of_blocks blocks)
   pub slots_are : AreSlots slots blocks
@@ -55,4 +55,11 @@ NextStopsAt old new fault.Long = (part : List ℕ) × Consumes old new part × I
 NextStopsAt old new fault.ReadFailed = (part : List ℕ) × Consumes old new part × (0 < length part → IsCut part)
 NextStopsAt old new fault.Refused =
     (part : List ℕ) × Consumes old new part
-    × (8 ≤ length part → slots_in part ≤ most_slots) × (8 ≤ length part → length part ≤ tape_length part)
+    × (8 ≤ length part → slots_in part ≤ max_slots) × (8 ≤ length part → length part ≤ tape_length part)
+
+-- why an input gives no next tape, but for out of memory and a reader that failed
+abbrev pub IsNextFault : List ℕ → TapeFault → Type 0
+IsNextFault input fault.Short = IsCut input
+IsNextFault input fault.Long = IsOversized input
+IsNextFault input fault.ReadFailed = Unit {0}
+IsNextFault input fault.Refused = Unit {0}

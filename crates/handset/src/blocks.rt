@@ -3,7 +3,7 @@
 
 ghost use Rattle.std.specs.Prelude.{◌≡◌, ◌++◌, ◌∷◌, [], drop};
 ghost use Rattle.std.specs.Option.{option_to_list};
-ghost use Rattle.handset.specs.Reading.{page_octets};
+ghost use Rattle.handset.specs.Reception.{page_octets};
 ghost use Rattle.handset.specs.Keeping.{blocks_of};
 ghost use Rattle.handset.specs.KeepingSteps.{under_way_with, page_ended};
 

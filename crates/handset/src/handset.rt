@@ -5,7 +5,7 @@ ghost use Rattle.std.specs.Prelude.{◌≡◌, ◌++◌, ◌∷◌, [], ℕ, Lis
 ghost use Rattle.std.specs.Option.{option_to_list};
 ghost use Rattle.handset.specs.Keeping.{HasRead, kept_of, messages_of};
 ghost use Rattle.handset.specs.KeepingSteps.{TakesPage, message_ended_read};
-ghost use Rattle.handset.specs.Reading.{name_of, shown_in};
+ghost use Rattle.handset.specs.Reception.{name_of, shown_in};
 
 use crate::blocks::PartialPage;
 use crate::messages::{Refused, Shown, is_counted, message_if_complete};

@@ -1,6 +1,6 @@
 //! Octets of a source: a buffer full, and whether there are more.
 
-ghost use Rattle.std.specs.Prelude.{◌≡◌, ◌↔◌, ◌<◌, ◌≤◌, false, length, take, IfErr, IfOk, IsErr, OnOk, IsTrue, IfSome};
+ghost use Rattle.std.specs.Prelude.{◌≡◌, ◌<◌, ◌≤◌, false, is_err, length, take, IfErr, IfOk};
 ghost use Rattle.std.specs.Io.KnownBytes.{Consumes, IsAtEnd};
 ghost use Rattle.device_ends.specs.Source.{reader_of, source_failed};
 ghost use Rattle.handset.specs.TapeSteps.{ReadsFewer};
@@ -17,8 +17,7 @@ pub fn read_front<R: Read>(source: &mut Source<R>, buffer: &mut [u8]) -> Result<
     ensures end { IfOk result (λ count. count < length buffer.old → IsAtEnd (R.remaining (reader_of source.new))) }
     ensures stopped { IfErr result (λ _. ReadsFewer (R.remaining (reader_of source.old))
         (R.remaining (reader_of source.new)) (length buffer.old)) }
-    ensures sound { OnOk result (source_failed source.new ≡ false) }
-    ensures failed { IsErr result ↔ IsTrue (source_failed source.new) }
+    ensures failed { source_failed source.new ≡ is_err result }
 {
     let mut filled = 0;
     while filled < buffer.len() {

@@ -1,7 +1,8 @@
-//! Laws of reading, over lists of blocks alone.
+//! Laws of reading: over lists of blocks, and over octets of tapes, alone.
 
-ghost use Rattle.handset.specs.OneMessage.{CompleteIsWhole, TextIsTheMessages, WholeIsTheLeastCount};
-ghost use Rattle.handset.specs.Showing.{OnePageShowsOne, ShownAreTheComplete};
+ghost use Rattle.handset.specs.Laws.{ShownAreTheComplete, OnePageShowsOne, CompleteIsWhole, WholeIsTheLeastCount};
+ghost use Rattle.handset.specs.Laws.{TextIsTheMessages};
+ghost use Rattle.handset.specs.Laws.{TapeIsOneKind, TapeHasKind, TapesAreOneKind, TapesHaveKind, MadeAreTapes};
 
 /// Laws of what a list of blocks shows. It does nothing: its contract is the statement.
 ///
@@ -14,4 +15,17 @@ pub fn reading_laws()
     ensures complete_is_whole { CompleteIsWhole }
     ensures whole_is_the_least_count { WholeIsTheLeastCount }
     ensures text_is_the_messages { TextIsTheMessages }
+{}
+
+/// Laws of tapes. It does nothing: its contract is the statement.
+///
+/// Each input is of exactly one kind (readable, short or long), read as one tape and as tapes up to the end, and its
+/// readings are unique. The octets that are made of a cell, a number of slots and blocks are a tape that says and
+/// shows these.
+pub fn tape_laws()
+    ensures tape { TapeIsOneKind }
+    ensures tape_kinds { TapeHasKind }
+    ensures tapes { TapesAreOneKind }
+    ensures tapes_kinds { TapesHaveKind }
+    ensures made { MadeAreTapes }
 {}

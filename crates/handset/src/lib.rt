@@ -1,7 +1,7 @@
 //! The handset: what a phone shows of the blocks that a cell broadcasts (3GPP TS 44.012, and TS 23.041, clause 9.4.1).
 //!
 //! A `Handset` is fed one block of 23 octets after another, over any list of blocks, and returns each message at the
-//! block that makes it complete, once. What it shows is what `specs/Reading.antt` says of the whole list. `read_tape`
+//! block that makes it complete, once. What it shows is what `specs/Reception.antt` says of the whole list. `read_tape`
 //! and `read_tapes` read such blocks from tapes, as `specs/Tape.antt` defines them, and hold no more of a tape than a
 //! piece of it.
 #![tactic(auto)]
@@ -15,9 +15,8 @@ mod pages;
 mod tape;
 
 pub use handset::Handset;
-pub use laws::reading_laws;
+pub use laws::{reading_laws, tape_laws};
 pub use messages::{Refused, Shown};
 pub use tape::{
     MAX_SLOTS, MAX_TAPES, Reading, TakesReadings, TapeFault, read_each, read_tape, read_tapes,
-    tapes_law,
 };

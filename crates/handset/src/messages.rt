@@ -3,7 +3,7 @@
 ghost use Rattle.std.specs.Prelude.{◌≡◌, ◌&&◌, ◌++◌, ◌∷◌, [], All, IfOk, IsTrue, find, encode_utf8_all, string_bytes};
 ghost use Rattle.std.specs.Option.{option_copied, option_to_list};
 ghost use Rattle.cbs_page.specs.Page.{is_readable};
-ghost use Rattle.handset.specs.Reading.{name_of, is_of};
+ghost use Rattle.handset.specs.Reception.{name_of, is_of};
 ghost use Rattle.handset.specs.Keeping.{is_numbered, messages_of};
 ghost use Rattle.handset.specs.KeepingSteps.{agrees_with_first, counts, is_whole, message_whole, text_kept, total_kept};
 

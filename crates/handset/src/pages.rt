@@ -4,7 +4,7 @@ ghost use Rattle.std.specs.Prelude.{◌≡◌, [], All, IsTrue, OnErr, OnOk};
 ghost use Rattle.cbs_page.specs.Page.{is_readable};
 ghost use Rattle.handset.specs.Keeping.{kept_of};
 ghost use Rattle.handset.specs.KeepingSteps.{KeepsPage};
-ghost use Rattle.handset.specs.Reading.{name_of};
+ghost use Rattle.handset.specs.Reception.{name_of};
 
 use crate::messages::Refused;
 use cbs_page::PageView;
@@ -26,7 +26,7 @@ impl Model for Pages {
     ghost use Rattle.cbs_page.specs.Page.{is_readable};
     ghost use Rattle.handset.specs.Keeping.{kept_of};
     ghost use Rattle.handset.specs.KeepingSteps.{name_at};
-    ghost use Rattle.handset.specs.Reading.{Name};
+    ghost use Rattle.handset.specs.Reception.{Name};
 
     ghost Value = { List (Name × List PageView) };
 

@@ -1,23 +1,22 @@
 //! Tapes (this project's own format): what a cell's broadcast channel sent, slot by slot, and what a handset shows of
 //! it. A tape is its cell (LAC 2 octets, CI 2), the number of its slots (4), and four blocks of 23 octets for each,
 //! high octets first; several tapes follow each other with nothing between. `specs/Tape.antt` says which octets are
-//! tapes, and what is told of them.
+//! tapes, and what they say and show.
 
-ghost use Rattle.std.specs.Prelude.{◌≡◌, ◌≢◌, ◌↔◌, ◌+◌, ◌*◌, ◌<◌, ◌≤◌, ◌++◌, ℕ, List, false, true, length, IfErr, IfOk};
-ghost use Rattle.std.specs.Prelude.{IfSome, IfNone, IsErrOf, IsErr, IsTrue, OnOk, vec_len, [], ◌∷◌, MatchBool};
+ghost use Rattle.std.specs.Prelude.{◌≡◌, ◌≢◌, ◌+◌, ◌*◌, ◌<◌, ◌≤◌, ◌++◌, ℕ, List, false, true, is_err, length, IfErr};
+ghost use Rattle.std.specs.Prelude.{IfOk, IfSome, IfNone, OnOk, vec_len, [], ◌∷◌, MatchBool};
 ghost use Rattle.std.specs.Io.KnownBytes.{Consumes, IsAtEnd};
 ghost use Rattle.std.specs.Option.{option_to_list};
 ghost use Rattle.device_ends.specs.Source.{reader_of, source_failed};
-ghost use Rattle.handset.specs.Reading.{shown_in};
+ghost use Rattle.handset.specs.Reception.{shown_in};
 ghost use Rattle.handset.specs.Keeping.{HasRead, messages_of};
-ghost use Rattle.handset.specs.Tape.{TapeReading, cell_in, slots_in, most_slots, most_tapes, reading_of, readings_of};
-ghost use Rattle.handset.specs.Tape.{AreTapes, AreTaken};
-ghost use Rattle.handset.specs.Tape.{IsNextFault, IsTape, IsTapeFault, IsTapesFault, MadeAreTapes};
+ghost use Rattle.handset.specs.Tape.{TapeReading, cell_in, slots_in, max_slots, max_tapes, reading_of, readings_of};
+ghost use Rattle.handset.specs.Tape.{AreTapes, AreTaken, reports_read_failed};
+ghost use Rattle.handset.specs.Tape.{IsTape, IsTapeFault, IsTapesFault};
 ghost use Rattle.handset.specs.declared.tape.TapeFault.TheVariants.{ReadFailed, Refused};
-ghost use Rattle.handset.specs.TapeLaw.{TapeHasKind, TapeIsOneKind, TapesAreOneKind, TapesHaveKind};
 ghost use Rattle.handset.specs.TapeExtent.{StopsAt};
-ghost use Rattle.handset.specs.TapeSteps.{NextStopsAt, ReadsBlocks, ReadsCount, ReadsFewer, ReadsPiece, ReadsTape};
-ghost use Rattle.handset.specs.TapeSteps.{StopsInOctets};
+ghost use Rattle.handset.specs.TapeSteps.{IsNextFault, NextStopsAt, ReadsBlocks, ReadsCount, ReadsFewer, ReadsPiece};
+ghost use Rattle.handset.specs.TapeSteps.{ReadsTape, StopsInOctets};
 
 use crate::input::read_front;
 use crate::{Handset, Shown};
@@ -114,9 +113,8 @@ pub fn read_tape<R: Read>(alloc: Global, source: &mut Source<R>) -> Result<Readi
 
     // At any reader.
     ensures tape { IfOk result (λ reading. (octets : List ℕ) × IsTape octets (reading_of reading)) }
-    ensures read { IsErrOf result TapeFault.ReadFailed ↔ IsTrue (source_failed source.new) }
-    ensures sound { OnOk result (source_failed source.new ≡ false) }
-    ensures stays { source_failed source.old ≡ true → source.new ≡ source.old }
+    ensures failed { source_failed source.new ≡ reports_read_failed result }
+    ensures failed_stays { source_failed source.old ≡ true → source.new ≡ source.old }
 {
     if source.failed() {
         return Err(TapeFault::ReadFailed);
@@ -145,14 +143,13 @@ pub fn read_tapes<R: Read>(alloc: Global, source: &mut Source<R>) -> Result<Vec<
 
     // How far the source was read: to its end, or as the fault says and no further.
     ensures whole { OnOk result (IsAtEnd (R.remaining (reader_of source.new))) }
-    ensures extent { IfErr result (λ fault. StopsAt most_tapes (R.remaining (reader_of source.old))
+    ensures extent { IfErr result (λ fault. StopsAt max_tapes (R.remaining (reader_of source.old))
         (R.remaining (reader_of source.new)) fault) }
 
     // At any reader.
     ensures tapes { IfOk result (λ readings. (octets : List ℕ) × AreTapes octets (readings_of readings.items)) }
-    ensures read { IsErrOf result TapeFault.ReadFailed ↔ IsTrue (source_failed source.new) }
-    ensures sound { OnOk result (source_failed source.new ≡ false) }
-    ensures stays { source_failed source.old ≡ true → source.new ≡ source.old }
+    ensures failed { source_failed source.new ≡ reports_read_failed result }
+    ensures failed_stays { source_failed source.old ≡ true → source.new ≡ source.old }
 {
     let mut readings = Vec::new(alloc);
     read_each(alloc, source, &mut readings)?;
@@ -194,13 +191,12 @@ pub fn read_each<R: Read, T: TakesReadings>(
 
     // How far the source was read: to its end, or as the fault says and no further.
     ensures whole { OnOk result (IsAtEnd (R.remaining (reader_of source.new))) }
-    ensures extent { IfErr result (λ fault. StopsAt most_tapes (R.remaining (reader_of source.old))
+    ensures extent { IfErr result (λ fault. StopsAt max_tapes (R.remaining (reader_of source.old))
         (R.remaining (reader_of source.new)) fault) }
 
     // At any reader.
-    ensures read { IsErrOf result TapeFault.ReadFailed ↔ IsTrue (source_failed source.new) }
-    ensures sound { OnOk result (source_failed source.new ≡ false) }
-    ensures stays { source_failed source.old ≡ true → source.new ≡ source.old }
+    ensures failed { source_failed source.new ≡ reports_read_failed result }
+    ensures failed_stays { source_failed source.old ≡ true → source.new ≡ source.old }
 {
     if source.failed() {
         return Err(TapeFault::ReadFailed);
@@ -238,8 +234,7 @@ fn is_at_end<R: Read>(source: &mut Source<R>) -> Result<bool, Failed>
         (ReadsCount (R.remaining (reader_of source.old)) (R.remaining (reader_of source.new)) 1)) }
     ensures stopped { IfErr result (λ _. ReadsFewer (R.remaining (reader_of source.old))
         (R.remaining (reader_of source.new)) 1) }
-    ensures sound { OnOk result (source_failed source.new ≡ false) }
-    ensures failed { IsErr result ↔ IsTrue (source_failed source.new) }
+    ensures failed { source_failed source.new ≡ is_err result }
 {
     let mut octet = [0];
     let count = read_front(source, &mut octet)?;
@@ -252,7 +247,7 @@ fn next_tape<R: Read>(
     source: &mut Source<R>,
     piece: &mut [u8],
 ) -> Result<Option<Reading>, TapeFault>
-    requires sound { source_failed source.old ≡ false }
+    requires not_failed { source_failed source.old ≡ false }
     requires piece { length piece.old ≡ 65504 }
     ensures tape { IfOk result (λ next. IfSome next (λ reading. ReadsTape (R.remaining (reader_of source.old))
         (R.remaining (reader_of source.new)) (reading_of reading))) }
@@ -262,8 +257,7 @@ fn next_tape<R: Read>(
         (R.remaining (reader_of source.new)) fault) }
     ensures fault { IfErr result (λ fault. IfSome (R.remaining (reader_of source.old)) (λ left.
         IsNextFault left fault)) }
-    ensures read { IsErrOf result TapeFault.ReadFailed ↔ IsTrue (source_failed source.new) }
-    ensures sound { OnOk result (source_failed source.new ≡ false) }
+    ensures failed { source_failed source.new ≡ reports_read_failed result }
 {
     let mut header = [0; 8];
     let count = read_front(source, &mut header)?;
@@ -309,8 +303,8 @@ fn read_slots<R: Read>(
     piece: &mut [u8],
     slots: u32,
 ) -> Result<Vec<Shown>, TapeFault>
-    requires sound { source_failed source.old ≡ false }
-    requires few { slots ≤ most_slots }
+    requires not_failed { source_failed source.old ≡ false }
+    requires few { slots ≤ max_slots }
     requires piece { length piece.old ≡ 65504 }
     ensures shown { IfOk result (λ shown. ReadsBlocks (R.remaining (reader_of source.old))
         (R.remaining (reader_of source.new)) slots (messages_of shown.items)) }
@@ -319,8 +313,7 @@ fn read_slots<R: Read>(
     ensures extent { IfErr result (λ fault. StopsInOctets (R.remaining (reader_of source.old))
         (R.remaining (reader_of source.new)) (92 * slots) fault) }
     ensures fits { IfErr result (λ fault. fault ≢ TapeFault.Long) }
-    ensures read { IsErrOf result TapeFault.ReadFailed ↔ IsTrue (source_failed source.new) }
-    ensures sound { OnOk result (source_failed source.new ≡ false) }
+    ensures failed { source_failed source.new ≡ reports_read_failed result }
 {
     let mut handset = Handset::new(alloc);
     let mut left = slots as usize;
@@ -347,8 +340,7 @@ fn read_piece<R: Read>(
     ensures extent { IfErr result (λ fault. StopsInOctets (R.remaining (reader_of source.old))
         (R.remaining (reader_of source.new)) (length piece.old) fault) }
     ensures fits { IfErr result (λ fault. fault ≢ TapeFault.Long) }
-    ensures read { IsErrOf result TapeFault.ReadFailed ↔ IsTrue (source_failed source.new) }
-    ensures sound { OnOk result (source_failed source.new ≡ false) }
+    ensures failed { source_failed source.new ≡ reports_read_failed result }
 {
     let count = read_front(source, piece)?;
     if count < piece.len() {
@@ -358,16 +350,3 @@ fn read_piece<R: Read>(
     handset.accept_all(blocks)?;
     Ok(())
 }
-
-/// Laws of tapes. It does nothing: its contract is the statement.
-///
-/// Each input is of exactly one kind (readable, short or long), read as one tape and as tapes up to the end, and its
-/// readings are unique. The octets that are made of a cell, a number of slots and blocks are a tape that says and
-/// shows these.
-pub fn tapes_law()
-    ensures tape { (input : List ℕ) → TapeIsOneKind input }
-    ensures tape_kinds { (input : List ℕ) → TapeHasKind input }
-    ensures tapes { (input : List ℕ) → TapesAreOneKind input }
-    ensures tapes_kinds { (input : List ℕ) → TapesHaveKind input }
-    ensures made { MadeAreTapes }
-{}

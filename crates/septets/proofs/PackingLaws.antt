@@ -9,8 +9,8 @@ use Rattle.std.proofs.lemmas.List.Elements.{All-append, All-replicate, All-from_
 use Rattle.std.proofs.lemmas.List.FromFn.{fill_by_all, length-map-range_with_len, get_or-map-range_with_len}
 use Rattle.std.proofs.lemmas.Nat.Bits.{same_from_bits_below, bit_at-lt, bit_at-zero}
 use borrow.Author.Count.{below_none, below_more}
-use Rattle.septets.specs.Packing.{filled, octet_bit, septet_bit, of_seven_bits, septet_at, unpacked, PackingIsUnique}
-use Rattle.septets.specs.Packing.{UnpackingGivesBack, UnpackingIsBitwise, SpareBitsAreIgnored}
+use Rattle.septets.specs.Packing.{filled, octet_bit, septet_bit, of_seven_bits, septet_at, unpacked}
+use Rattle.septets.specs.Laws.{PackingIsUnique, SpareBitsAreIgnored, UnpackingGivesBack, UnpackingIsBitwise}
 
 -- a bit of the septets, by the place of its septet and its own place there
 pub septet_bit-at : (septets : List ℕ) (i place j : ℕ) → i / 7 ≡ place → i % 7 ≡ j

@@ -2,15 +2,17 @@
 //!
 //! Bit `i` of the octets is bit `i mod 7` of septet `i div 7` (3GPP TS 23.038, 6.1.2.2): [`pack`]
 //! fills a page with carriage return and writes its octets, [`unpack`] reads the 93 septets of any
-//! octets, and [`packing_law`] says that the two are inverse to each other. Nothing here allocates.
+//! octets, and [`packing_laws`] says that the two are inverse to each other. Nothing here allocates.
 #![tactic(auto)]
 
 ghost use Rattle.std.specs.Prelude.{◌≡◌, ◌+◌, ◌*◌, ◌<◌, ℕ, All, slice_index};
 ghost use Rattle.std.specs.Int.{bit_at};
-ghost use Rattle.septets.specs.Packing.{IsPacked, IsUnpacked, PackingIsUnique, SpareBitsAreIgnored, UnpackingGivesBack};
-ghost use Rattle.septets.specs.Packing.{UnpackingIsBitwise, filled, septet_at, septet_bit, unpacked};
+ghost use Rattle.septets.specs.Packing.{filled, septet_at, septet_bit, unpacked, IsPacked, IsUnpacked};
+
+mod laws;
 
 use arrayvec::ArrayVec;
+pub use laws::packing_laws;
 
 /// How many septets a page has (TS 23.038, 6.1.2.2).
 pub const SEPTETS: usize = 93;
@@ -50,14 +52,6 @@ pub fn unpack(octets: &[u8; 82]) -> [u8; 93]
     }
     septets
 }
-
-/// Packing is unique, and unpacking gives back what was packed. Does nothing: its contract is the law.
-pub fn packing_law()
-    ensures unique { PackingIsUnique }
-    ensures gives_back { UnpackingGivesBack }
-    ensures bitwise { UnpackingIsBitwise }
-    ensures spare { SpareBitsAreIgnored }
-{}
 
 /// How many groups of eight septets a page has, each in seven octets; five septets follow.
 const GROUPS: usize = 11;

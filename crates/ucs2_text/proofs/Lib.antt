@@ -1,3 +1,3 @@
 pub mod Places
 pub mod Ucs2Laws
-pub mod Ucs2Examples
+mod Worked

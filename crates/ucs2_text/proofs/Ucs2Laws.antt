@@ -9,8 +9,8 @@ use Rattle.std.proofs.Math.Utf8.{scalar_cases}
 use Rattle.std.specs.Char.{IsScalar}
 use Rattle.std.specs.List.{flat_map}
 use Rattle.ucs2_text.specs.Ucs2.{character_of_unit, octets_of_unit, page_units, units_of_octets}
-use Rattle.ucs2_text.specs.Ucs2Law.{UnitsComeBack, OctetsComeBack, PutsWholePages, ReadsWholePages, CharactersComeBack}
-use Rattle.ucs2_text.specs.Ucs2Law.{UnitsShowScalars}
+use Rattle.ucs2_text.specs.Laws.{UnitsComeBack, OctetsComeBack, PutsWholePages, ReadsWholePages, CharactersComeBack}
+use Rattle.ucs2_text.specs.Laws.{UnitsShowScalars}
 use Rattle.ucs2_text.proofs.Places.{length-octets_of_units, length-units_of_octets}
 
 -- the octets of some units make those units

@@ -1,2 +1,2 @@
 pub mod Ucs2
-pub mod Ucs2Law
+pub mod Laws

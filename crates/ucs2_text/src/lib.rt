@@ -6,10 +6,10 @@
 ghost use Rattle.std.specs.Prelude.{◌≡◌};
 ghost use Rattle.ucs2_text.specs.Ucs2.{unit_of_character, character_of_unit};
 
-mod law;
+mod laws;
 mod octets;
 
-pub use law::ucs2_law;
+pub use laws::ucs2_laws;
 pub use octets::{put_units, units_of};
 
 /// The unit of `character`, or `None` above U+FFFF, where no unit holds it: `unit_of('é')` is `Some(0x00E9)`.

@@ -1,6 +1,6 @@
 -- How a word's place among the words, and the word after it, give an option its value.
 use Rattle.std.proofs.Common.{◌≡◌, ℕ, ◌+◌, ◌<◌, List, length, map, ap, sym, ◌∙◌, inl, inr, refl, ◌∷◌, ◌++◌}
-use Rattle.std.proofs.Common.{slice_index_or, Bool, true, Option, Some}
+use Rattle.std.proofs.Common.{slice_index_or, Some}
 use Rattle.std.specs.Option.{option_map}
 use Rattle.std.specs.Prelude.{slice_get}
 use Rattle.std.proofs.lemmas.Option.{slice_get-map, slice_get_read}

@@ -1,12 +1,10 @@
 -- What the words of a command line ask for: word 0 is the program's name, and word 1 names the command. Own.
-use Rattle.std.specs.Prelude.{◌≡◌, ℕ, ◌+◌, ◌*◌, ◌||◌, ◌⊎◌, Bool, IsTrue, List, ◌∷◌, ◌++◌, Option, Some, codes}
+use Rattle.std.specs.Prelude.{◌≡◌, ℕ, ◌+◌, ◌||◌, ◌⊎◌, Bool, List, ◌∷◌, ◌++◌, Some, codes}
 use Rattle.std.specs.Prelude.{slice_get}
 use Rattle.std.specs.List.{list_any}
 use Rattle.std.specs.Str.{bytes_eq}
 use Rattle.std.specs.Str.Parse.{IsNumeral, digits_value, without_leading_plus}
 use Rattle.cbs_page.specs.Serial.{serial_number, AreSerialFields}
-use Rattle.warnc.specs.declared.command.Order.{Order}
-use Rattle.warnc.specs.declared.command.Order.TheVariants.{Page, Read}
 
 -- the words give the option of this name this value: as the word after its name, or in one word with it, after `=`
 abbrev pub GivesValue : (words : List (List ℕ)) (name value : List ℕ) → Type 0
@@ -38,11 +36,6 @@ pub record IsPageOrder (words : List (List ℕ)) (language : List ℕ) (id seria
 -- the words ask for `read`
 abbrev pub IsReadOrder : (words : List (List ℕ)) → Type 0
 IsReadOrder words = slice_get words 1 ≡ Some (codes "read")
-
--- the words ask for what `order` says
-abbrev pub IsOrdered : (words : List (List ℕ)) → Order → Type 0
-IsOrdered words (Page options) = IsPageOrder words options.language.now options.id options.serial
-IsOrdered words Read = IsReadOrder words
 
 -- a word that asks for help or for the version
 abbrev pub is_text_word : List ℕ → Bool

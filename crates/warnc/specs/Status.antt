@@ -1,6 +1,7 @@
 -- The program's statuses. Own.
-use Rattle.std.specs.Prelude.{◌≡◌, ◌≢◌, ℕ, ◌<◌, ◌≤◌, ◌⊎◌, false, true, List, length, Option, IfSome, IsTrue}
-use Rattle.std.specs.Io.KnownBytes.{Appends, Keeps}
+use Rattle.std.specs.Prelude.{◌≡◌, ℕ, ◌<◌, ◌⊎◌, true, List, length, Option, IfSome}
+use Rattle.std.specs.Io.KnownBytes.{Appends}
+use Rattle.device_ends.specs.Moves.{WritesOutput}
 use Rattle.device_ends.specs.Sink.{sink_failed}
 use Rattle.device_ends.specs.Source.{source_failed}
 use Rattle.device_ends.specs.declared.reading.Source.{Source}
@@ -12,29 +13,20 @@ use Rattle.warnc_engine.specs.ReadOutput.{IsReadOutput}
 use Rattle.cbs_page.specs.declared.paging.TextFault.TheVariants as text
 use Rattle.warnc_engine.specs.declared.page.PageFault.{PageFault}
 use Rattle.warnc_engine.specs.declared.page.PageFault.TheVariants as fault
-use Rattle.warnc_engine.specs.declared.read.TableFault.{TableFault}
-use Rattle.warnc_engine.specs.declared.read.TableFault.TheVariants as table
 
 -- 1 if the input is refused, 3 if a device failed, 4 if there was no memory
-abbrev pub status_of_fault : PageFault → ℕ
-status_of_fault fault.Read = 3
-status_of_fault fault.TooLong = 1
-status_of_fault fault.NotUtf8 = 1
-status_of_fault (fault.Text text.Refused) = 4
-status_of_fault (fault.Text _) = 1
-status_of_fault fault.Refused = 4
-status_of_fault fault.Write = 3
-
-abbrev pub status_of_table_fault : TableFault → ℕ
-status_of_table_fault table.Short = 1
-status_of_table_fault table.Long = 1
-status_of_table_fault table.Read = 3
-status_of_table_fault table.Refused = 4
-status_of_table_fault table.Write = 3
+abbrev pub status_of_page_fault : PageFault → ℕ
+status_of_page_fault fault.ReadFailed = 3
+status_of_page_fault fault.TooLong = 1
+status_of_page_fault fault.NotUtf8 = 1
+status_of_page_fault (fault.Text text.Refused) = 4
+status_of_page_fault (fault.Text _) = 1
+status_of_page_fault fault.Refused = 4
+status_of_page_fault fault.WriteFailed = 3
 
 -- the input is refused: a text of this language has a fault of status 1
 abbrev pub IsRefused : (language input : List ℕ) → Type 0
-IsRefused language input = (fault : PageFault) × IsPageFault language input fault × (status_of_fault fault ≡ 1)
+IsRefused language input = (fault : PageFault) × IsPageFault language input fault × (status_of_page_fault fault ≡ 1)
 
 -- the input is refused: it is no whole tapes
 abbrev pub IsNoTapes : (input : List ℕ) → Type 0
@@ -47,11 +39,6 @@ WritesSome old new = (output : List ℕ) × (0 < length output) × Appends old n
 -- What status 0 says: `input` is what the reader had left, if that is known, and `old` and `new` are what the writer
 -- held before and after.
 
--- what was written is the output for the input, and at any reader the output for some input
-pub record WroteOutput (IsOutput : List ℕ → List ℕ → Type 0) (input old new : Option (List ℕ)) : Type 0 where
-  pub wrote : IfSome input (λ octets. (output : List ℕ) × IsOutput octets output × Appends old new output)
-  pub some : (octets output : List ℕ) × IsOutput octets output × Appends old new output
-
 -- the words ask for help or for the version, and something was written
 pub record WroteText (words : List (List ℕ)) (old new : Option (List ℕ)) : Type 0 where
   pub asked : asks_for_text words ≡ true
@@ -63,12 +50,12 @@ pub record WrotePages (words : List (List ℕ)) (input old new : Option (List �
   pub id : ℕ
   pub serial : ℕ
   pub asked : IsPageOrder words language id serial
-  pub wrote : WroteOutput (IsPageOutput language id serial) input old new
+  pub wrote : WritesOutput (IsPageOutput language id serial) input old new
 
 -- the words ask for `read`, and what was written is the table of what the tapes show
 pub record WroteTable (words : List (List ℕ)) (input old new : Option (List ℕ)) : Type 0 where
   pub asked : IsReadOrder words
-  pub wrote : WroteOutput IsReadOutput input old new
+  pub wrote : WritesOutput IsReadOutput input old new
 
 abbrev pub WroteWhatIsAsked : (words : List (List ℕ)) (input old new : Option (List ℕ)) → Type 0
 WroteWhatIsAsked words input old new = WroteText words old new ⊎
@@ -95,26 +82,3 @@ RefusesInput words input = RefusesText words input ⊎ RefusesTapes words input
 -- one of the two ends has failed
 abbrev pub OneHasFailed : {R W : Type 0} → Source R → Sink W → Type 0
 OneHasFailed source sink = (source_failed source ≡ true) ⊎ (sink_failed sink ≡ true)
-
--- what a status says of a sink: `old` and `new` are the sink before and after, and `before` and `after` what its writer
--- holds
-pub record IsStatusOfSink {W : Type 0} (status : ℕ) (old new : Sink W) (before after : Option (List ℕ)) : Type 0 where
-  -- there are five statuses
-  pub statuses : status ≤ 4
-  -- with 0 something was written
-  pub wrote : status ≡ 0 → WritesSome before after
-  -- with 1, 2 and 4 nothing was
-  pub nothing : status ≢ 0 → status ≢ 3 → Keeps before after
-  -- and the sink is as it was
-  pub untouched : status ≢ 0 → status ≢ 3 → new ≡ old
-
--- what the status of a command that was understood says of both ends. The source is that after the run
-pub record IsRunBetween {R W : Type 0} (status : ℕ) (source : Source R) (old new : Sink W)
-    (before after : Option (List ℕ)) : Type 0 where
-  pub sink : IsStatusOfSink status old new before after
-  -- it is no mistake of the words
-  pub understood : status ≢ 2
-  -- 3 is answered only if one of the ends has failed
-  pub device : status ≡ 3 → OneHasFailed source new
-  -- and always if one has, if the sink was sound before
-  pub failed : sink_failed old ≡ false → OneHasFailed source new → status ≡ 3

@@ -1,7 +1,8 @@
 //! The command line: which words are taken, and what they mean.
 
 ghost use Rattle.std.specs.Prelude.{◌≡◌, IfOk, IfSome, codes, map, slice_get};
-ghost use Rattle.warnc.specs.CommandLine.{asks_for_text, is_text_word, GivesNumber, GivesValue, IsOrdered, IsPageOrder};
+ghost use Rattle.warnc.specs.CommandLine.{asks_for_text, is_text_word, GivesNumber, GivesValue, IsPageOrder};
+ghost use Rattle.warnc.specs.RunSteps.{IsOrdered};
 
 use cbs_page::Serial;
 use clap::{Arg, Command, Error, value_parser};

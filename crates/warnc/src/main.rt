@@ -12,22 +12,22 @@ use std::process::ExitCode;
 use std::{env, io};
 
 fn main(rt: HostRuntime) -> ExitCode {
-    ExitCode::from(status(&rt))
+    ExitCode::from(run_process(&rt))
 }
 
 /// The status of the run that the process's words ask for.
-fn status(rt: &HostRuntime) -> u8
+fn run_process(rt: &HostRuntime) -> u8
     ensures { result ≤ 4 }
 {
     let words: Vec<String> = match env::args(rt) {
         Ok(words) => match words.collect(rt.alloc()) {
             Ok(words) => words,
-            Err(_) => return tell(rt, "out of memory", MEMORY),
+            Err(_) => return report(rt, "out of memory", MEMORY),
         },
         Err(error) if error.kind() == io::ErrorKind::OutOfMemory => {
-            return tell(rt, "out of memory", MEMORY);
+            return report(rt, "out of memory", MEMORY);
         }
-        Err(_) => return tell(rt, "words are not UTF-8", USAGE),
+        Err(_) => return report(rt, "words are not UTF-8", USAGE),
     };
     run(
         rt,
@@ -38,8 +38,8 @@ fn status(rt: &HostRuntime) -> u8
     )
 }
 
-/// Tells what is wrong with the words, and answers the status.
-fn tell(rt: &HostRuntime, fault: &str, status: u8) -> u8
+/// Reports what is wrong with the words, and returns the status.
+fn report(rt: &HostRuntime, fault: &str, status: u8) -> u8
     ensures { result ≡ status }
 {
     let _ = writeln!(rt.stderr(), "warnc: {fault}");

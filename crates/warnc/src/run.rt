@@ -2,13 +2,14 @@
 
 ghost use Rattle.std.specs.Prelude.{◌≡◌, ◌≢◌, ◌≤◌, ◌⊎◌, ℕ, List, false, true, map, IfSome};
 ghost use Rattle.std.specs.Io.KnownBytes.{Appends, Keeps};
+ghost use Rattle.device_ends.specs.Moves.{WritesOutput};
 ghost use Rattle.device_ends.specs.Sink.{sink_failed, writer_of};
 ghost use Rattle.device_ends.specs.Source.{reader_of, source_failed};
 ghost use Rattle.warnc_engine.specs.PageOutput.{IsPageOutput};
 ghost use Rattle.warnc_engine.specs.ReadOutput.{IsReadOutput};
-ghost use Rattle.warnc.specs.Status.{status_of_fault, status_of_table_fault, IsNoTapes, IsRefused, IsRunBetween};
-ghost use Rattle.warnc.specs.Status.{IsStatusOfSink, OneHasFailed, RefusesInput, WritesSome, WroteOutput};
-ghost use Rattle.warnc.specs.Status.{WroteWhatIsAsked};
+ghost use Rattle.warnc.specs.RunSteps.{status_of_read_fault, IsRunBetween, IsStatusOfSink};
+ghost use Rattle.warnc.specs.Status.{status_of_page_fault, IsNoTapes, IsRefused, OneHasFailed, RefusesInput};
+ghost use Rattle.warnc.specs.Status.{WritesSome, WroteWhatIsAsked};
 
 use crate::command::{Order, PageOptions, asks_for_text, order_of};
 use cbs_page::TextFault;
@@ -19,7 +20,7 @@ use std::alloc::Global;
 use std::convert::AsStr;
 use std::io::{Read, Write};
 use warnc_engine::page::{PageFault, page_stream};
-use warnc_engine::read::{TableFault, read_stream};
+use warnc_engine::read::{ReadCommandFault, read_stream};
 
 /// All was done, or help was written.
 pub const DONE: u8 = 0;
@@ -36,11 +37,11 @@ pub const DEVICE: u8 = 3;
 /// There was no memory.
 pub const MEMORY: u8 = 4;
 
-/// Runs the command that the words ask for (the first is the program's name), from a reader to a writer, and answers
+/// Runs the command that the words ask for (the first is the program's name), from a reader to a writer, and returns
 /// the status: 0 done, 1 refused input, 2 command line, 3 device, 4 memory. A fault is one line for `faults`, `warnc: `
 /// and the text, or the text that clap has; what `faults` doesn't take changes no status. Help goes to the writer.
 ///
-/// This wraps both ends, and is `run_ends` on them: whose contract says what is written.
+/// This wraps both ends, and is `run_between` on them: whose contract says what is written.
 pub fn run<T: AllocGlobal, S: AsStr, R: Read, W: Write, F: Write>(
     rt: &T,
     words: &[S],
@@ -53,11 +54,11 @@ pub fn run<T: AllocGlobal, S: AsStr, R: Read, W: Write, F: Write>(
 {
     let mut source = Source::new(reader);
     let mut sink = Sink::new(writer);
-    run_ends(rt.alloc(), words, &mut source, &mut sink, faults)
+    run_between(rt.alloc(), words, &mut source, &mut sink, faults)
 }
 
 /// The same, between two ends. With status 0 what the words ask for is written, with 1, 2 and 4 nothing is.
-pub fn run_ends<S: AsStr, R: Read, W: Write, F: Write>(
+pub fn run_between<S: AsStr, R: Read, W: Write, F: Write>(
     alloc: Global,
     words: &[S],
     source: &mut Source<R>,
@@ -67,7 +68,7 @@ pub fn run_ends<S: AsStr, R: Read, W: Write, F: Write>(
     ensures done { result ≡ DONE → WroteWhatIsAsked (map S.text words.now) (R.remaining (reader_of source.old))
         (W.contents (writer_of sink.old)) (W.contents (writer_of sink.new)) }
     ensures wrote { result ≡ DONE → WritesSome (W.contents (writer_of sink.old)) (W.contents (writer_of sink.new)) }
-    ensures nothing { (result ≢ DONE) → (result ≢ DEVICE)
+    ensures nothing_written { (result ≢ DONE) → (result ≢ DEVICE)
         → Keeps (W.contents (writer_of sink.old)) (W.contents (writer_of sink.new)) }
     ensures untouched { (result ≢ DONE) → (result ≢ DEVICE) → sink.new ≡ sink.old }
     ensures refused { result ≡ REFUSED_INPUT
@@ -89,7 +90,7 @@ pub fn run_ends<S: AsStr, R: Read, W: Write, F: Write>(
     }
 }
 
-/// Runs `page`, and answers the status.
+/// Runs `page`, and returns the status.
 fn run_page<R: Read, W: Write, F: Write>(
     alloc: Global,
     options: &PageOptions,
@@ -98,9 +99,9 @@ fn run_page<R: Read, W: Write, F: Write>(
     faults: &mut F,
 ) -> u8
     ensures done { result ≡ DONE →
-        WroteOutput (IsPageOutput options.now.language.now options.now.id options.now.serial)
+        WritesOutput (IsPageOutput options.now.language.now options.now.id options.now.serial)
         (R.remaining (reader_of source.old)) (W.contents (writer_of sink.old)) (W.contents (writer_of sink.new)) }
-    ensures ends { IsRunBetween result source.new sink.old sink.new
+    ensures any_device { IsRunBetween result source.new sink.old sink.new
         (W.contents (writer_of sink.old)) (W.contents (writer_of sink.new)) }
     ensures refused { result ≡ REFUSED_INPUT → IfSome (R.remaining (reader_of source.old))
         (IsRefused options.now.language.now) }
@@ -116,33 +117,33 @@ fn run_page<R: Read, W: Write, F: Write>(
         Ok(()) => DONE,
         Err(fault) => {
             let _ = writeln!(faults, "warnc: {fault}");
-            status(fault)
+            status_of_page(fault)
         }
     }
 }
 
 /// The status of a fault of `page`.
-fn status(fault: PageFault) -> u8
-    ensures { result ≡ status_of_fault fault }
+fn status_of_page(fault: PageFault) -> u8
+    ensures { result ≡ status_of_page_fault fault }
 {
     match fault {
         PageFault::TooLong | PageFault::NotUtf8 => REFUSED_INPUT,
         PageFault::Text(TextFault::Refused) | PageFault::Refused => MEMORY,
         PageFault::Text(_) => REFUSED_INPUT,
-        PageFault::Read | PageFault::Write => DEVICE,
+        PageFault::ReadFailed | PageFault::WriteFailed => DEVICE,
     }
 }
 
-/// Runs `read`, and answers the status.
+/// Runs `read`, and returns the status.
 fn run_read<R: Read, W: Write, F: Write>(
     alloc: Global,
     source: &mut Source<R>,
     sink: &mut Sink<W>,
     faults: &mut F,
 ) -> u8
-    ensures done { result ≡ DONE → WroteOutput IsReadOutput
+    ensures done { result ≡ DONE → WritesOutput IsReadOutput
         (R.remaining (reader_of source.old)) (W.contents (writer_of sink.old)) (W.contents (writer_of sink.new)) }
-    ensures ends { IsRunBetween result source.new sink.old sink.new
+    ensures any_device { IsRunBetween result source.new sink.old sink.new
         (W.contents (writer_of sink.old)) (W.contents (writer_of sink.new)) }
     ensures refused { result ≡ REFUSED_INPUT → IfSome (R.remaining (reader_of source.old)) IsNoTapes }
 {
@@ -150,19 +151,19 @@ fn run_read<R: Read, W: Write, F: Write>(
         Ok(()) => DONE,
         Err(fault) => {
             let _ = writeln!(faults, "warnc: {fault}");
-            status_of_table(fault)
+            status_of_read(fault)
         }
     }
 }
 
 /// The status of a fault of `read`.
-fn status_of_table(fault: TableFault) -> u8
-    ensures { result ≡ status_of_table_fault fault }
+fn status_of_read(fault: ReadCommandFault) -> u8
+    ensures { result ≡ status_of_read_fault fault }
 {
     match fault {
-        TableFault::Short | TableFault::Long => REFUSED_INPUT,
-        TableFault::Read | TableFault::Write => DEVICE,
-        TableFault::Refused => MEMORY,
+        ReadCommandFault::Short | ReadCommandFault::Long => REFUSED_INPUT,
+        ReadCommandFault::ReadFailed | ReadCommandFault::WriteFailed => DEVICE,
+        ReadCommandFault::Refused => MEMORY,
     }
 }
 

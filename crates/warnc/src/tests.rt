@@ -8,7 +8,7 @@ use std::io;
 use std::io::Read;
 use std::process::Abort;
 use std::test::Fail;
-use warnc_engine::page::MOST_OCTETS;
+use warnc_engine::page::MAX_INPUT;
 
 /// What a run gives.
 #[derive(Drop)]
@@ -171,7 +171,7 @@ fn a_text_past_the_bound_is_too_long(rt: HostRuntime) -> Result<(), Fail> {
     assert_eq!(rt; status, 1);
     assert_eq!(rt; faults.contents(), b"warnc: text is too long\n".as_slice());
     assert_eq!(rt; writer.contents(), b"".as_slice());
-    assert_eq!(rt; MOST_OCTETS, 16_777_216);
+    assert_eq!(rt; MAX_INPUT, 16_777_216);
     Ok(())
 }
 
@@ -329,7 +329,7 @@ impl Read for FailsAfter {
 #[test]
 fn nothing_is_read_past_what_decides(rt: HostRuntime) {
     let mut reader = FailsAfter {
-        left: MOST_OCTETS + 1,
+        left: MAX_INPUT + 1,
     };
     let mut writer = MemoryWriter::new(rt.alloc(), 100, None);
     let mut faults = MemoryWriter::new(rt.alloc(), 100, None);

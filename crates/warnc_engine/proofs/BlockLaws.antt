@@ -7,7 +7,7 @@ use Rattle.std.specs.List.{flat_map, AllByRecursion}
 use Rattle.cbs_page.specs.declared.content.Content.{Content}
 use Rattle.cbs_page.specs.declared.octets.PageView.{PageView}
 use Rattle.cbs_page.specs.Page.{octets_of_page, place_of, view_of}
-use Rattle.handset.specs.Reading.{page_octets, pages_read}
+use Rattle.handset.specs.Reception.{page_octets, pages_read}
 use Rattle.cbch_blocks.specs.Blocks.{blocks_of_page}
 use Rattle.warnc_engine.specs.PageOutput.{pages_from}
 

@@ -11,8 +11,8 @@ use Rattle.cbs_page.specs.declared.content.Content.{Content}
 use Rattle.cbs_page.specs.declared.octets.PageView.{PageView}
 use Rattle.cbs_page.specs.Coding.{alphabet_of}
 use Rattle.cbs_page.specs.Text.{text_in, text_of_page}
-use Rattle.handset.specs.Reading.{Name, is_of, agrees_with, agreeing, pages_of, total_in, is_complete, text_of}
-use Rattle.handset.specs.Reading.{message_of, completed_by, completed_after}
+use Rattle.handset.specs.Reception.{Name, is_of, agrees_with, agreeing, pages_of, total_in, is_complete, text_of}
+use Rattle.handset.specs.Reception.{message_of, completed_by, completed_after}
 use Rattle.warnc_engine.proofs.BlockLaws.{view, views_from}
 
 filter_all : (p : PageView → Bool) (pages : List PageView) → AllByRecursion (λ page. p page ≡ true) pages

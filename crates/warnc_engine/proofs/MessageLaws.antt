@@ -13,7 +13,7 @@ use Rattle.cbs_page.specs.Text.{codes_of, alphabet_for, text_in, IsPagedText, Sh
 use Rattle.cbs_page.proofs.CodingLaws.{alphabet_of_coding}
 use Rattle.cbs_page.proofs.CuttingLaws.{AreContentsOf-length}
 use Rattle.cbs_page.proofs.TextLaws.{contents-length}
-use Rattle.handset.specs.Reading.{pages_read, readable_pages, completed_after, shown_in}
+use Rattle.handset.specs.Reception.{pages_read, readable_pages, completed_after, shown_in}
 use Rattle.warnc_engine.specs.PageOutput.{pages_from, blocks_of_message}
 use Rattle.warnc_engine.proofs.BlockLaws.{views_from, pages_in_blocks, views_back, pages_are_whole}
 use Rattle.warnc_engine.proofs.ComesBack.{message_in_order}

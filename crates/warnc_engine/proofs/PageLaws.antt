@@ -3,7 +3,7 @@ use Rattle.std.proofs.Common.{◌≡◌, ℕ, ◌+◌, ◌<◌, ◌≤◌, List,
 use Rattle.std.proofs.Common.{IfSome}
 use Rattle.std.specs.Io.KnownBytes.{Keeps}
 use Rattle.std.proofs.lemmas.List.{length-take, take_all}
-use Rattle.warnc_engine.specs.PageOutput.{most_octets, IsPageFault, IsStreamFault}
+use Rattle.warnc_engine.specs.PageOutput.{max_input, IsPageFault, IsStreamFault}
 use Rattle.warnc_engine.specs.declared.page.PageFault.{PageFault}
 use Rattle.warnc_engine.specs.declared.page.PageFault.TheVariants as fault
 
@@ -13,31 +13,31 @@ whole_input n input read is short =
     is ∙ take_all (n + 1) input (omega arith)
 
 pub fault_of_whole : (language input read : List ℕ) (id serial : ℕ) (old new : Option (List ℕ)) (fault : PageFault)
-    → read ≡ take (most_octets + 1) input →
+    → read ≡ take (max_input + 1) input →
     IsPageFault language read fault → Keeps old new → IsStreamFault language id serial input old new fault
-fault_of_whole language input read id serial old new fault.Read is told kept = absurd told
+fault_of_whole language input read id serial old new fault.ReadFailed is told kept = absurd told
 fault_of_whole language input read id serial old new fault.TooLong is told kept =
-    let some : length read ≡ min (most_octets + 1) (length input) = ap length is
-    ∙ length-take (most_octets + 1) input in
-    let long : most_octets < length read = told in
+    let some : length read ≡ min (max_input + 1) (length input) = ap length is
+    ∙ length-take (max_input + 1) input in
+    let long : max_input < length read = told in
     (omega arith, kept)
 fault_of_whole language input read id serial old new fault.NotUtf8 is told kept = (
-  subst (λ (xs : List ℕ). IsPageFault language xs fault.NotUtf8) (whole_input most_octets input read is told.0)
+  subst (λ (xs : List ℕ). IsPageFault language xs fault.NotUtf8) (whole_input max_input input read is told.0)
       told,
   kept,
 )
 fault_of_whole language input read id serial old new (fault.Text text_fault) is told kept = (
   subst (λ (xs : List ℕ). IsPageFault language xs (fault.Text text_fault))
-      (whole_input most_octets input read is told.0) told,
+      (whole_input max_input input read is told.0) told,
   kept,
 )
 fault_of_whole language input read id serial old new fault.Refused is told kept = kept
-fault_of_whole language input read id serial old new fault.Write is told kept = absurd told
+fault_of_whole language input read id serial old new fault.WriteFailed is told kept = absurd told
 
 -- the same, where the reader's octets are known
 pub fault_of_read : (left : Option (List ℕ)) (language read : List ℕ) (id serial : ℕ) (old new : Option (List ℕ))
     (fault : PageFault) →
-    IfSome left (λ input. read ≡ take (most_octets + 1) input) → IsPageFault language read fault → Keeps old new →
+    IfSome left (λ input. read ≡ take (max_input + 1) input) → IsPageFault language read fault → Keeps old new →
     IfSome left (λ input. IsStreamFault language id serial input old new fault)
 fault_of_read None language read id serial old new fault is told kept = tt
 fault_of_read (Some input) language read id serial old new fault is told kept =

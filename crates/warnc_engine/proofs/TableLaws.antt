@@ -8,7 +8,7 @@ use Rattle.std.proofs.lemmas.Option.{IfSome_then}
 use Rattle.handset.specs.Tape.{TapeReading, AreTaken}
 use Rattle.warnc_engine.specs.declared.table.Table.{Table}
 use Rattle.warnc_engine.specs.ReadOutput.{header_row, reading_rows, table_of, IsReadOutput}
-use Rattle.warnc_engine.specs.Table.{IsTable}
+use Rattle.warnc_engine.specs.ReadSteps.{IsTable}
 
 flat_map-one_more : {X Y : Type 0} (of : X → Y) (f : Y → List ℕ) (xs : List X) (i : ℕ) (d : X) (front : List ℕ)
     → i < length xs →

@@ -1,4 +1,4 @@
 pub mod PageOutput
 pub mod ReadOutput
 pub mod Stream
-pub mod Table
+pub mod ReadSteps

@@ -12,15 +12,15 @@ use Rattle.cbs_page.specs.declared.paging.Paged.{Paged}
 use Rattle.cbs_page.specs.Page.{octets_of_page}
 use Rattle.cbs_page.specs.Text.{IsPagedText, IsTextFault}
 use Rattle.device_ends.specs.Moves.{AppendsFront}
-use Rattle.handset.specs.Reading.{Message, shown_in}
+use Rattle.handset.specs.Reception.{ShownMessage, shown_in}
 use Rattle.cbch_blocks.specs.Blocks.{blocks_of_page}
 use Rattle.cbs_page.specs.declared.paging.TextFault.TheVariants as text
 use Rattle.warnc_engine.specs.declared.page.PageFault.{PageFault}
 use Rattle.warnc_engine.specs.declared.page.PageFault.TheVariants as fault
 
 -- the most octets that are read
-abbrev pub most_octets : ℕ
-most_octets = 16777216
+abbrev pub max_input : ℕ
+max_input = 16777216
 
 -- one LF at the end is no part of the text
 abbrev pub without_final_lf : List ℕ → List ℕ
@@ -42,7 +42,7 @@ abbrev pub block_line : List ℕ → List ℕ
 block_line block = encode_lower block ++ 10 ∷ []
 
 -- a shown message's line: its identifier, its serial number in four lower hexadecimal digits, and its text
-abbrev pub message_line : Message → List ℕ
+abbrev pub message_line : ShownMessage → List ℕ
 message_line message =
     decimal message.id ++ 32 ∷ encode_lower ((message.serial / 256) ∷ (message.serial % 256) ∷ []) ++ 32 ∷ message.text
     ++ 10 ∷ []
@@ -53,7 +53,7 @@ lines_of blocks = flat_map block_line blocks ++ flat_map message_line (shown_in 
 -- what is written for the octets that were read: the lines of the blocks that carry the text, and these blocks show the
 -- text, once
 pub record IsPageOutput (language : List ℕ) (id serial : ℕ) (input output : List ℕ) : Type 0 where
-  pub bounded : length input ≤ most_octets
+  pub bounded : length input ≤ max_input
   pub utf8 : IsUtf8 (without_final_lf input)
   pub paged : Paged
   pub sent : IsPagedText language (chars (without_final_lf input)) paged
@@ -61,27 +61,27 @@ pub record IsPageOutput (language : List ℕ) (id serial : ℕ) (input output : 
   pub shown : shown_in (blocks_of_message id serial paged)
       ≡ record { id = id; serial = serial; text = without_final_lf input } ∷ []
 
--- why nothing is: the first of these that applies, want of memory and devices aside. Want of memory is told as
--- `Refused` alone
+-- why nothing is written: the first of these that applies, out of memory and devices aside. Out of memory is reported
+-- as `Refused` alone
 abbrev pub IsPageFault : (language input : List ℕ) → PageFault → Type 0
-IsPageFault language input fault.TooLong = most_octets < length input
-IsPageFault language input fault.NotUtf8 = (length input ≤ most_octets) × ¬ IsUtf8 (without_final_lf input)
+IsPageFault language input fault.TooLong = max_input < length input
+IsPageFault language input fault.NotUtf8 = (length input ≤ max_input) × ¬ IsUtf8 (without_final_lf input)
 IsPageFault language input (fault.Text text_fault) =
-    (length input ≤ most_octets) × IsUtf8 (without_final_lf input)
+    (length input ≤ max_input) × IsUtf8 (without_final_lf input)
     × IsTextFault language (chars (without_final_lf input)) text_fault × (text_fault ≢ text.Refused)
 IsPageFault language input fault.Refused = Unit {0}
-IsPageFault language input fault.Read = ⊥
-IsPageFault language input fault.Write = ⊥
+IsPageFault language input fault.ReadFailed = ⊥
+IsPageFault language input fault.WriteFailed = ⊥
 
 -- the same of a run from a reader to a writer, of which these are the octets before and after: after a fault of the
 -- writer some of the output is out, and after any other fault nothing is
 abbrev pub IsStreamFault : (language : List ℕ) (id serial : ℕ) (input : List ℕ) (old new : Option (List ℕ)) → PageFault
     → Type 0
-IsStreamFault language id serial input old new fault.Read = Keeps old new
+IsStreamFault language id serial input old new fault.ReadFailed = Keeps old new
 IsStreamFault language id serial input old new fault.TooLong = IsPageFault language input fault.TooLong × Keeps old new
 IsStreamFault language id serial input old new fault.NotUtf8 = IsPageFault language input fault.NotUtf8 × Keeps old new
 IsStreamFault language id serial input old new (fault.Text text_fault) =
     IsPageFault language input (fault.Text text_fault) × Keeps old new
 IsStreamFault language id serial input old new fault.Refused = Keeps old new
-IsStreamFault language id serial input old new fault.Write =
+IsStreamFault language id serial input old new fault.WriteFailed =
     (output : List ℕ) × IsPageOutput language id serial input output × AppendsFront old new output

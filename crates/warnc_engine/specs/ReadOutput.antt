@@ -6,13 +6,12 @@ use Rattle.std.specs.List.{flat_map}
 use Rattle.csv.specs.Writing.{default_writer, row_text}
 use Rattle.hex.specs.Hex.{encode_lower}
 use Rattle.device_ends.specs.Moves.{AppendsFront}
-use Rattle.handset.specs.Reading.{Message}
-use Rattle.handset.specs.Tape.{TapeReading, AreTapes, IsShort, IsLong, most_tapes}
+use Rattle.handset.specs.Reception.{ShownMessage}
+use Rattle.handset.specs.Tape.{TapeReading, AreTapes, IsShort, IsLong, max_tapes}
 use Rattle.handset.specs.TapeExtent.{StopsAt}
-use Rattle.handset.specs.declared.tape.TapeFault.{TapeFault}
 use Rattle.handset.specs.declared.tape.TapeFault.TheVariants as tape
-use Rattle.warnc_engine.specs.declared.read.TableFault.{TableFault}
-use Rattle.warnc_engine.specs.declared.read.TableFault.TheVariants as fault
+use Rattle.warnc_engine.specs.declared.read.ReadCommandFault.{ReadCommandFault}
+use Rattle.warnc_engine.specs.declared.read.ReadCommandFault.TheVariants as fault
 
 -- a row of the table, as CSV quotes its fields
 abbrev pub row : List (List ℕ) → List ℕ
@@ -24,13 +23,13 @@ header_row = row (codes "lac" ∷ codes "ci" ∷ codes "id" ∷ codes "serial" �
 
 -- the row of a message that a cell showed, after the digits of the cell's numbers: its identifier is decimal, its
 -- serial number has four lower hexadecimal digits
-abbrev pub row_of_message : (lac ci : List ℕ) → Message → List ℕ
+abbrev pub row_of_message : (lac ci : List ℕ) → ShownMessage → List ℕ
 row_of_message lac ci message =
     row (lac ∷ ci ∷ decimal message.id ∷ encode_lower ((message.serial / 256) ∷ (message.serial % 256) ∷ []) ∷
     message.text ∷ [])
 
 -- the numbers of the cell are decimal
-abbrev pub message_row : (lac ci : ℕ) → Message → List ℕ
+abbrev pub message_row : (lac ci : ℕ) → ShownMessage → List ℕ
 message_row lac ci message = row_of_message (decimal lac) (decimal ci) message
 
 -- the rows of what a tape shows, in the order in which it is shown
@@ -47,26 +46,20 @@ pub record IsReadOutput (input output : List ℕ) : Type 0 where
   pub tapes : AreTapes input readings
   pub written : output ≡ table_of readings
 
--- what a fault of tapes is told as
-abbrev pub table_fault_of : TapeFault → TableFault
-table_fault_of tape.Short = fault.Short
-table_fault_of tape.Long = fault.Long
-table_fault_of tape.ReadFailed = fault.Read
-table_fault_of tape.Refused = fault.Refused
-
--- why no table is written, want of memory and devices aside; after a fault of the writer a front of the table is out,
+-- why no table is written, out of memory and devices aside; after a fault of the writer a front of the table is out,
 -- and after any other fault nothing is
-abbrev pub IsReadFault : (input : List ℕ) (old new : Option (List ℕ)) → TableFault → Type 0
+abbrev pub IsReadFault : (input : List ℕ) (old new : Option (List ℕ)) → ReadCommandFault → Type 0
 IsReadFault input old new fault.Short = IsShort input × Keeps old new
 IsReadFault input old new fault.Long = IsLong input × Keeps old new
-IsReadFault input old new fault.Read = Keeps old new
+IsReadFault input old new fault.ReadFailed = Keeps old new
 IsReadFault input old new fault.Refused = Keeps old new
-IsReadFault input old new fault.Write = (output : List ℕ) × IsReadOutput input output × AppendsFront old new output
+IsReadFault input old new fault.WriteFailed =
+    (output : List ℕ) × IsReadOutput input output × AppendsFront old new output
 
 -- how far the input was read when no table is written, by the fault: as the reading of tapes says, and nothing after it
-abbrev pub IsReadTo : (old new : Option (List ℕ)) → TableFault → Type 0
-IsReadTo old new fault.Short = StopsAt most_tapes old new tape.Short
-IsReadTo old new fault.Long = StopsAt most_tapes old new tape.Long
-IsReadTo old new fault.Read = StopsAt most_tapes old new tape.ReadFailed
-IsReadTo old new fault.Refused = StopsAt most_tapes old new tape.Refused ⊎ IsAtEnd new
-IsReadTo old new fault.Write = IsAtEnd new
+abbrev pub IsReadTo : (old new : Option (List ℕ)) → ReadCommandFault → Type 0
+IsReadTo old new fault.Short = StopsAt max_tapes old new tape.Short
+IsReadTo old new fault.Long = StopsAt max_tapes old new tape.Long
+IsReadTo old new fault.ReadFailed = StopsAt max_tapes old new tape.ReadFailed
+IsReadTo old new fault.Refused = StopsAt max_tapes old new tape.Refused ⊎ IsAtEnd new
+IsReadTo old new fault.WriteFailed = IsAtEnd new

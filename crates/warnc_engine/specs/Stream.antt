@@ -1,23 +1,19 @@
 -- What the answer of a command says of the two ends between which it runs, whether or not their octets are known. Own.
 use Rattle.std.specs.Prelude.{◌≡◌, ◌≢◌, ◌↔◌, ℕ, List, Option, Result, false, true, IfErr, IsErrOf, IsTrue, OnOk}
-use Rattle.std.specs.Io.KnownBytes.{Appends, Keeps}
+use Rattle.std.specs.Io.KnownBytes.{Keeps}
 use Rattle.device_ends.specs.Sink.{sink_failed}
 use Rattle.device_ends.specs.Source.{source_failed}
 use Rattle.device_ends.specs.declared.reading.Source.{Source}
 use Rattle.device_ends.specs.declared.writing.Sink.{Sink}
 
--- `IsOutput` says what is written for an input, `unread` and `unwritten` are the faults that report a device. `first`
--- and `last` are the source before and after the answer, `old` and `new` the sink, and `before` and `after` what its
--- writer holds
-pub record IsStreamBetween {R W F : Type 0} (IsOutput : List ℕ → List ℕ → Type 0) (unread unwritten : F)
-    (result : Result (Unit {0}) F)
+-- `unread` and `unwritten` are the faults that report a device. `first` and `last` are the source before and after the
+-- answer, `old` and `new` the sink, and `before` and `after` what its writer holds
+pub record IsStreamBetween {R W F : Type 0} (unread unwritten : F) (result : Result (Unit {0}) F)
     (first last : Source R) (old new : Sink W) (before after : Option (List ℕ)) : Type 0 where
-  -- what is done wrote the output of some input
-  pub wrote : OnOk result ((input output : List ℕ) × IsOutput input output × Appends before after output)
-  -- and left a sound sink
-  pub sound : OnOk result (sink_failed new ≡ false)
+  -- what is done left a sink that has not failed
+  pub not_failed : OnOk result (sink_failed new ≡ false)
   -- nothing is written with any fault but that of the writer
-  pub nothing : IfErr result (λ fault. fault ≢ unwritten → Keeps before after)
+  pub nothing_written : IfErr result (λ fault. fault ≢ unwritten → Keeps before after)
   -- nor is the sink touched
   pub untouched : IfErr result (λ fault. fault ≢ unwritten → new ≡ old)
   -- a failed reader is reported exactly if the source has failed

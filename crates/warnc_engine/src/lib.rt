@@ -2,8 +2,7 @@
 //! all of its output is made.
 //!
 //! [`page::page_stream`] makes the blocks of a text's pages, [`read::read_stream`] the table of what tapes show. What
-//! is written for
-//! which input, and which fault comes of which, is said by definitions of octets alone.
+//! is written for which input, and which fault comes of which, is said by definitions of octets alone.
 #![tactic(auto)]
 
 pub mod page;

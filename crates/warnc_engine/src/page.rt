@@ -1,9 +1,8 @@
 //! The command `page`: one text to the blocks of its pages, and what a handset shows of them.
 
-ghost use Rattle.std.specs.Prelude.{◌≡◌, ◌≤◌, ◌+◌, ◌++◌, ℕ, List, length, string_bytes, IfErr, IfOk, IfSome, OnOk};
-ghost use Rattle.std.specs.Io.KnownBytes.{Appends};
+ghost use Rattle.std.specs.Prelude.{◌≡◌, ◌≤◌, ◌+◌, ◌++◌, length, string_bytes, IfErr, IfOk, IfSome, OnOk};
 ghost use Rattle.std.specs.List.{flat_map};
-ghost use Rattle.device_ends.specs.Moves.{ConsumesSome};
+ghost use Rattle.device_ends.specs.Moves.{ConsumesSome, WritesOutput};
 ghost use Rattle.device_ends.specs.Sink.{writer_of};
 ghost use Rattle.device_ends.specs.Source.{reader_of};
 ghost use Rattle.handset.specs.Keeping.{HasRead, message_shown, messages_of};
@@ -21,14 +20,14 @@ use std::str;
 use thiserror::Error;
 
 /// The most octets that are read: 16 MiB.
-pub const MOST_OCTETS: usize = 0x100_0000;
+pub const MAX_INPUT: usize = 0x100_0000;
 
-/// Why `page` writes no page. Where several of the first four apply, the first is told.
+/// Why `page` writes no page. If several of the first four apply, it is the first of them.
 #[derive(Clone, Copy, Debug, PartialEq, Eq, Error)]
 pub enum PageFault {
     /// The reader failed.
     #[error("read failed")]
-    Read,
+    ReadFailed,
     /// There are more than 16,777,216 octets.
     #[error("text is too long")]
     TooLong,
@@ -43,7 +42,7 @@ pub enum PageFault {
     Refused,
     /// The writer failed. Some of the output may be out.
     #[error("write failed")]
-    Write,
+    WriteFailed,
 }
 
 /// Reads one text, and writes the blocks of its pages, a line each, and then what a handset shows of these blocks. One
@@ -56,25 +55,24 @@ pub fn page_stream<R: Read, W: Write>(
     id: u16,
     serial: Serial,
 ) -> Result<(), PageFault>
-    // What was written is what the definitions make of the octets that were read.
-    ensures ok { OnOk result (IfSome (R.remaining (reader_of source.old)) (λ input.
-        (output : List ℕ) × IsPageOutput language.now id serial input output
-        × Appends (W.contents (writer_of sink.old)) (W.contents (writer_of sink.new)) output)) }
+    // What was written is what the definitions make of the octets that were read, at any reader of some octets.
+    ensures ok { OnOk result (WritesOutput (IsPageOutput language.now id serial) (R.remaining (reader_of source.old))
+        (W.contents (writer_of sink.old)) (W.contents (writer_of sink.new))) }
     ensures fault { IfErr result (λ fault. IfSome (R.remaining (reader_of source.old)) (λ input.
         IsStreamFault language.now id serial input (W.contents (writer_of sink.old)) (W.contents (writer_of sink.new))
         fault)) }
 
     // One octet past the bound is read at most.
     ensures reads { ConsumesSome (R.remaining (reader_of source.old)) (R.remaining (reader_of source.new))
-        (MOST_OCTETS + 1) }
+        (MAX_INPUT + 1) }
 
     // At any reader and any writer.
-    ensures ends { IsStreamBetween (IsPageOutput language.now id serial) PageFault.Read PageFault.Write result
-        source.old source.new sink.old sink.new (W.contents (writer_of sink.old)) (W.contents (writer_of sink.new)) }
+    ensures any_device { IsStreamBetween PageFault.ReadFailed PageFault.WriteFailed result source.old source.new
+        sink.old sink.new (W.contents (writer_of sink.old)) (W.contents (writer_of sink.new)) }
 {
-    let input = match read_up_to(source, alloc, MOST_OCTETS) {
+    let input = match read_up_to(source, alloc, MAX_INPUT) {
         Ok(input) => input,
-        Err(ReadFault::Device) => return Err(PageFault::Read),
+        Err(ReadFault::Device) => return Err(PageFault::ReadFailed),
         Err(ReadFault::Refused) => return Err(PageFault::Refused),
     };
     let output = match page_output(alloc, &input, language, id, serial) {
@@ -83,7 +81,7 @@ pub fn page_stream<R: Read, W: Write>(
     };
     match write_all(sink, output.as_bytes()) {
         Ok(()) => Ok(()),
-        Err(Failed) => Err(PageFault::Write),
+        Err(Failed) => Err(PageFault::WriteFailed),
     }
 }
 
@@ -98,7 +96,7 @@ fn page_output(
     ensures output { IfOk result (λ output. IsPageOutput language.now id serial input.now (string_bytes output)) }
     ensures fault { IfErr result (IsPageFault language.now input.now) }
 {
-    if input.len() > MOST_OCTETS {
+    if input.len() > MAX_INPUT {
         return Err(PageFault::TooLong);
     }
     let text = match str::from_utf8(text_octets(input)) {
@@ -122,7 +120,7 @@ fn output_of(alloc: Global, id: u16, serial: Serial, paged: &Paged) -> Result<St
     ensures { IfOk result (λ output. string_bytes output ≡ lines_of (blocks_of_message id serial paged.now)) }
 {
     let blocks = blocks_of(alloc, id, serial, paged)?;
-    let Ok(handset) = read(alloc, &blocks) else {
+    let Ok(handset) = feed_all(alloc, &blocks) else {
         return Err(AllocError);
     };
     let mut output = String::new(alloc);
@@ -132,7 +130,7 @@ fn output_of(alloc: Global, id: u16, serial: Serial, paged: &Paged) -> Result<St
 }
 
 /// A handset that has read these blocks.
-fn read(alloc: Global, blocks: &[[u8; 23]]) -> Result<Handset, Refused>
+fn feed_all(alloc: Global, blocks: &[[u8; 23]]) -> Result<Handset, Refused>
     ensures { IfOk result (λ handset. HasRead handset blocks.now) }
 {
     let mut handset = Handset::new(alloc);

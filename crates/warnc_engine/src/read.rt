@@ -1,10 +1,12 @@
 //! The command `read`: tapes to a table of what a handset shows of them.
 
-ghost use Rattle.std.specs.Prelude.{◌≡◌, ℕ, List, IfErr, IfSome, OnOk};
-ghost use Rattle.std.specs.Io.KnownBytes.{Appends, IsAtEnd};
+ghost use Rattle.std.specs.Prelude.{◌≡◌, IfErr, IfSome, OnOk};
+ghost use Rattle.std.specs.Io.KnownBytes.{IsAtEnd};
+ghost use Rattle.device_ends.specs.Moves.{WritesOutput};
 ghost use Rattle.device_ends.specs.Sink.{writer_of};
 ghost use Rattle.device_ends.specs.Source.{reader_of};
-ghost use Rattle.warnc_engine.specs.ReadOutput.{table_fault_of, IsReadOutput, IsReadFault, IsReadTo};
+ghost use Rattle.warnc_engine.specs.ReadOutput.{IsReadOutput, IsReadFault, IsReadTo};
+ghost use Rattle.warnc_engine.specs.ReadSteps.{fault_of_tapes};
 ghost use Rattle.warnc_engine.specs.Stream.{IsStreamBetween};
 
 use crate::table::Table;
@@ -16,7 +18,7 @@ use thiserror::Error;
 
 /// Why `read` writes no table.
 #[derive(Clone, Copy, Debug, PartialEq, Eq, Error)]
-pub enum TableFault {
+pub enum ReadCommandFault {
     /// The input ends inside a tape.
     #[error("tape is short")]
     Short,
@@ -25,13 +27,13 @@ pub enum TableFault {
     Long,
     /// The reader failed.
     #[error("read failed")]
-    Read,
+    ReadFailed,
     /// There was no memory.
     #[error("out of memory")]
     Refused,
     /// The writer failed. Some of the table may be out.
     #[error("write failed")]
-    Write,
+    WriteFailed,
 }
 
 /// Reads 0 to 64 tapes up to the end of the input, and writes a table of the messages that they show, as CSV: a row of
@@ -41,11 +43,10 @@ pub fn read_stream<R: Read, W: Write>(
     alloc: Global,
     source: &mut Source<R>,
     sink: &mut Sink<W>,
-) -> Result<(), TableFault>
-    // What was written is the table of what the tapes show, by the octets that were read.
-    ensures ok { OnOk result (IfSome (R.remaining (reader_of source.old)) (λ input.
-        (output : List ℕ) × IsReadOutput input output
-        × Appends (W.contents (writer_of sink.old)) (W.contents (writer_of sink.new)) output)) }
+) -> Result<(), ReadCommandFault>
+    // What was written is the table of what the tapes show, at any reader of some tapes.
+    ensures ok { OnOk result (WritesOutput IsReadOutput (R.remaining (reader_of source.old))
+        (W.contents (writer_of sink.old)) (W.contents (writer_of sink.new))) }
     ensures fault { IfErr result (λ fault. IfSome (R.remaining (reader_of source.old)) (λ input.
         IsReadFault input (W.contents (writer_of sink.old)) (W.contents (writer_of sink.new)) fault)) }
 
@@ -54,36 +55,36 @@ pub fn read_stream<R: Read, W: Write>(
     ensures extent { IfErr result (IsReadTo (R.remaining (reader_of source.old)) (R.remaining (reader_of source.new))) }
 
     // At any reader and any writer.
-    ensures ends { IsStreamBetween IsReadOutput TableFault.Read TableFault.Write result
+    ensures any_device { IsStreamBetween ReadCommandFault.ReadFailed ReadCommandFault.WriteFailed result
         source.old source.new sink.old sink.new (W.contents (writer_of sink.old)) (W.contents (writer_of sink.new)) }
 {
     if source.failed() {
-        return Err(TableFault::Read);
+        return Err(ReadCommandFault::ReadFailed);
     }
     let Ok(mut table) = Table::new(alloc) else {
-        return Err(TableFault::Refused);
+        return Err(ReadCommandFault::Refused);
     };
     match read_each(alloc, source, &mut table) {
         Ok(()) => {}
-        Err(fault) => return Err(table_fault(fault)),
+        Err(fault) => return Err(fault_of_tapes(fault)),
     }
     let Ok(octets) = table.into_octets() else {
-        return Err(TableFault::Refused);
+        return Err(ReadCommandFault::Refused);
     };
     match write_all(sink, &octets) {
         Ok(()) => Ok(()),
-        Err(Failed) => Err(TableFault::Write),
+        Err(Failed) => Err(ReadCommandFault::WriteFailed),
     }
 }
 
 /// The fault that a fault of tapes is.
-fn table_fault(fault: TapeFault) -> TableFault
-    ensures { result ≡ table_fault_of fault }
+fn fault_of_tapes(fault: TapeFault) -> ReadCommandFault
+    ensures { result ≡ fault_of_tapes fault }
 {
     match fault {
-        TapeFault::Short => TableFault::Short,
-        TapeFault::Long => TableFault::Long,
-        TapeFault::ReadFailed => TableFault::Read,
-        TapeFault::Refused => TableFault::Refused,
+        TapeFault::Short => ReadCommandFault::Short,
+        TapeFault::Long => ReadCommandFault::Long,
+        TapeFault::ReadFailed => ReadCommandFault::ReadFailed,
+        TapeFault::Refused => ReadCommandFault::Refused,
     }
 }

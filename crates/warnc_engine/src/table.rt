@@ -19,7 +19,7 @@ pub struct Table {
 impl Table {
     ghost use Rattle.std.specs.Prelude.{string_bytes};
     ghost use Rattle.warnc_engine.specs.ReadOutput.{reading_rows, table_of};
-    ghost use Rattle.warnc_engine.specs.Table.{IsTable};
+    ghost use Rattle.warnc_engine.specs.ReadSteps.{IsTable};
 
     /// A table of no messages. The only error is that memory was refused.
     pub fn new(alloc: Global) -> Result<Table, AllocError>
@@ -98,7 +98,7 @@ impl Table {
 
 impl TakesReadings for Table {
     ghost use Rattle.warnc_engine.specs.ReadOutput.{table_of};
-    ghost use Rattle.warnc_engine.specs.Table.{IsTable};
+    ghost use Rattle.warnc_engine.specs.ReadSteps.{IsTable};
 
     ghost HasTaken = { λ table readings. IsTable table (table_of readings) };
 

@@ -28,7 +28,7 @@ returns c =
       complete_is_whole = c.reading_laws.ensures.complete_is_whole;
       whole_is_the_least_count = c.reading_laws.ensures.whole_is_the_least_count;
       text_is_the_messages = c.reading_laws.ensures.text_is_the_messages;
-      made = c.tapes_law.ensures.made;
+      made = c.tape_laws.ensures.made;
     } in
     record {
       completed_is_whole_in_blocks = completed_is_whole_in_blocks laws;

@@ -5,7 +5,7 @@ ghost use Rattle.device_ends.specs.Calls.{after_one_call};
 
 use std::io;
 
-/// Counts one call of those that are left, and answers an error where none is. At `None` calls aren't counted, and none
+/// Counts one call of those that are left, and returns an error if none is. At `None` calls aren't counted, and none
 /// fails.
 pub fn count_call(calls: &mut Option<usize>) -> io::Result<()>
     ensures fails { IsErr result ↔ (calls.old ≡ Some 0) }

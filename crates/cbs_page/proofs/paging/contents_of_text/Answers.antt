@@ -4,7 +4,7 @@ use Rattle.std.proofs.lemmas.Iterator.{YieldsList-from_chars}
 use Rattle.std.proofs.lemmas.Iterator.Consumers.{YieldsList-turn, YieldsList-end}
 use Rattle.std.proofs.lemmas.List.{length_push}
 use Rattle.cbs_page.specs.Text.{capacity, codes_of, IsContentOf}
-use Rattle.cbs_page.specs.Piece.{codes_in}
+use Rattle.cbs_page.specs.PagingSteps.{codes_in}
 use Rattle.cbs_page.proofs.Cutting.{cuts_from}
 use Rattle.cbs_page.proofs.CuttingLaws.{HasCut, HasCut-takes, HasCut-begins, HasCut-end}
 use Rattle.cbs_page.proofs.PaginateLaws.{has_pages}
@@ -19,8 +19,8 @@ loop-character-preserved-then-len-cost c =
     let fits : length (codes_in c.loop-character.piece) + length (codes_of alphabet c.in-Some.character) ≤ capacity
     alphabet =
     omega (arith, c.capacity-capacity.ensures.value, c.cost.ensures.value, c.len.ensures) in
-    let taken : codes_in c.take.new.self ≡ codes_in c.loop-character.piece ++ codes_of alphabet c.in-Some.character =
-    c.take.ensures.taken ∙ ap (λ a. codes_in c.loop-character.piece ++ codes_of a c.in-Some.character)
+    let taken : codes_in c.push.new.self ≡ codes_in c.loop-character.piece ++ codes_of alphabet c.in-Some.character =
+    c.push.ensures.taken ∙ ap (λ a. codes_in c.loop-character.piece ++ codes_of a c.in-Some.character)
     c.loop-character.invariant.same in
     let cut : HasCut alphabet (chars c.args.text.now) (length c.loop-character.yielded + 1)
     (codes_in c.loop-character.piece ++ codes_of alphabet c.in-Some.character) c.loop-character.pages.items =
@@ -28,8 +28,8 @@ loop-character-preserved-then-len-cost c =
     c.loop-character.pages.items c.in-Some.character c.loop-character.invariant.made turn.0 turn.1 fits in
     record {
       finite = (tt, tt);
-      same = c.take.ensures.same ∙ c.loop-character.invariant.same;
-      sound = c.take.ensures.sound;
+      same = c.push.ensures.same ∙ c.loop-character.invariant.same;
+      codes = c.push.ensures.codes;
       within = rw (taken, length-append) fits;
       made = rw (next, taken) cut;
     }
@@ -54,10 +54,10 @@ loop-character-preserved c =
     full here in
     record {
       finite = (tt, tt);
-      same = c.of-piece.ensures.same;
-      sound = c.of-piece.ensures.sound;
-      within = rw c.of-piece.ensures.taken small;
-      made = rw (next, c.of-piece.ensures.taken, c.in_ok-push.ensures.items) cut;
+      same = c.with_first-piece.ensures.same;
+      codes = c.with_first-piece.ensures.codes;
+      within = rw c.with_first-piece.ensures.taken small;
+      made = rw (next, c.with_first-piece.ensures.taken, c.in_ok-push.ensures.items) cut;
     }
 
 pub returns : goal.returns

@@ -10,7 +10,8 @@ use Rattle.std.proofs.lemmas.Str.{encodes-chars, scalars-chars, chars-nil}
 use Rattle.cbs_page.specs.declared.coding.Alphabet.{Alphabet}
 use Rattle.cbs_page.specs.declared.content.Content.{Content}
 use Rattle.cbs_page.specs.Coding.{language_value}
-use Rattle.cbs_page.specs.Text.{capacity, codes_of, cost_of, alphabet_for, coding_for, is_bad, TakesPages, HoldText}
+use Rattle.cbs_page.specs.Text.{capacity, codes_of, cost_of, alphabet_for, coding_for, is_bad}
+use Rattle.cbs_page.specs.PagingSteps.{HoldText, TakesPages}
 use Rattle.std.proofs.lemmas.List.{length-map}
 use Rattle.cbs_page.proofs.CuttingLaws.{AreContentsOf-length}
 use Rattle.cbs_page.proofs.PagingLaws.{one_paging}
@@ -67,7 +68,7 @@ pub returns-then-has_too_many_characters-clause-fault : goal.returns-then-has_to
 returns-then-has_too_many_characters-clause-fault c =
     let text = chars c.args.text.now in
     let has = has_pages (alphabet_for text) text (some_characters c.args.text.now c.utf8.text c.if-is_empty.ensures) in
-    let none : position is_bad text ≡ None = sym c.in-None.ensures in
+    let none : position is_bad text ≡ None = sym c.in_default-bad_place.ensures in
     let good = sendable text (each_scalar text (scalars-chars c.args.text.now c.utf8.text)) none in (
       spoken (language_value c.args.language.now) c.in-Some.value c.in-Some.ensures,
       none,
@@ -84,7 +85,7 @@ returns-then-page_count-gt-MAX_PAGES-clause-fault c =
     let takes = counted (chars c.args.text.now) _ _ c.alphabet_of_text-alphabet.ensures
     (c.page_count.ensures.counted (some_characters c.args.text.now c.utf8.text c.if-is_empty.ensures)) in (
       spoken (language_value c.args.language.now) c.in-Some.value c.in-Some.ensures,
-      sym c.in-None.ensures,
+      sym c.in_default-bad_place.ensures,
       (takes.0, takes.1, omega (arith, takes.2)),
     )
 
@@ -98,7 +99,7 @@ returns-in-Ok-clause-sent c =
     record {
       value = c.in-Some.value;
       spoken = sym c.in-Some.ensures;
-      good = sym c.in-None.ensures;
+      good = sym c.in_default-bad_place.ensures;
       dcs = c.coding.ensures ∙ ap (λ a. coding_for a c.in-Some.value) c.alphabet_of_text-alphabet.ensures;
       pieces = hold.0;
       paging = hold.1;
@@ -112,7 +113,8 @@ returns-in-Ok-clause-shown c =
     let text = chars c.args.text.now in
     let hold = held_in text _ _ c.alphabet_of_text-alphabet.ensures
     (c.in-Ok.ensures.held (some_characters c.args.text.now c.utf8.text c.if-is_empty.ensures)) in
-    let good = sendable text (each_scalar text (scalars-chars c.args.text.now c.utf8.text)) (sym c.in-None.ensures) in
+    let good = sendable text (each_scalar text (scalars-chars c.args.text.now c.utf8.text))
+    (sym c.in_default-bad_place.ensures) in
     pages_show text hold.0 c.in-Ok.pages.items hold.1 good hold.2
 
 pub returns-in-Ok-clause-count : goal.returns-in-Ok-clause-count
@@ -135,7 +137,7 @@ returns-in-Err-clause-fault c =
     let takes = counted text _ _ c.alphabet_of_text-alphabet.ensures
     (c.page_count.ensures.counted (some_characters c.args.text.now c.utf8.text c.if-is_empty.ensures)) in (
       spoken (language_value c.args.language.now) c.in-Some.value c.in-Some.ensures,
-      sym c.in-None.ensures,
+      sym c.in_default-bad_place.ensures,
       (
         takes.0,
         takes.1,

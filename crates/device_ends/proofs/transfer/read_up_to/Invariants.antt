@@ -8,8 +8,8 @@ invariant-loop-source g l = record {
   bound : vec_len l.octets ≤ l.most;
   consumed : Consumes (g.R.Read.remaining (reader_of l.initial.source)) (g.R.Read.remaining (reader_of l.source))
       l.octets.items;
-  sound : 0 < vec_len l.octets → source_failed l.source ≡ false;
-  stays : source_failed l.initial.source ≡ true → l.source ≡ l.initial.source;
+  not_failed : 0 < vec_len l.octets → source_failed l.source ≡ false;
+  failed_stays : source_failed l.initial.source ≡ true → l.source ≡ l.initial.source;
 }
 
 abbrev pub decreases-loop-source : goal.decreases-loop-source

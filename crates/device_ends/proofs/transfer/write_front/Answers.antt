@@ -11,6 +11,6 @@ loop-out-preserved g c = record {
       Appends-more (contents (writer_of c.args.sink.now)) (contents (writer_of c.loop-out.sink))
       (contents (writer_of c.write.new.self)) c.args.octets.now c.loop-out.out c.in-Ok.count
       c.loop-out.invariant.appended c.in-Ok.ensures.octets;
-  sound = search rules;
-  stays = search rules;
+  not_failed = search rules;
+  failed_stays = search rules;
 }

@@ -8,8 +8,8 @@ invariant-loop-out g l = record {
   bound : l.out ≤ length l.octets;
   appended : Appends (g.W.Write.contents (writer_of l.initial.sink)) (g.W.Write.contents (writer_of l.sink))
       (take l.out l.octets);
-  sound : 0 < l.out → sink_failed l.sink ≡ false;
-  stays : sink_failed l.initial.sink ≡ true → l.sink ≡ l.initial.sink;
+  not_failed : 0 < l.out → sink_failed l.sink ≡ false;
+  failed_stays : sink_failed l.initial.sink ≡ true → l.sink ≡ l.initial.sink;
 }
 
 abbrev pub decreases-loop-out : goal.decreases-loop-out

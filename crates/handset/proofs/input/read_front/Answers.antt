@@ -8,5 +8,5 @@ loop-filled-preserved g c = record {
   consumed =
       front-more _ _ _ _ _ _ _ _ c.loop-filled.invariant.bound c.in_ok-count.ensures.bound.0
       c.loop-filled.invariant.consumed c.in_ok-count.ensures.octets.0;
-  sound = search rules;
+  not_failed = search rules;
 }

@@ -8,7 +8,7 @@ invariant-loop-filled g l = record {
   bound : l.filled ≤ length l.buffer;
   consumed : Consumes (g.R.Read.remaining (reader_of l.initial.source)) (g.R.Read.remaining (reader_of l.source))
       (take l.filled l.buffer);
-  sound : source_failed l.source ≡ false;
+  not_failed : source_failed l.source ≡ false;
 }
 
 abbrev pub decreases-loop-filled : goal.decreases-loop-filled

@@ -7,7 +7,7 @@ use Rattle.std.proofs.lemmas.Bool.{and_right}
 use Rattle.std.proofs.lemmas.List.Folds.{list_all_at}
 use Rattle.std.proofs.lemmas.List.FromFn.{length-range_with_len, get_or-range_with_len}
 use Rattle.cbs_page.specs.declared.octets.PageView.{PageView}
-use Rattle.handset.specs.Reading.{Name, name_of}
+use Rattle.handset.specs.Reception.{Name, name_of}
 use Rattle.handset.specs.Keeping.{is_numbered}
 use Rattle.handset.specs.KeepingSteps.{is_whole, total_kept}
 use Rattle.handset.proofs.messages.is_complete.Goals as goal

@@ -1,6 +1,6 @@
 use Rattle.std.proofs.Common.{◌≡◌, ◌+◌, ◌-◌, ◌≤◌, true, [], ◌∷◌, ◌++◌, find, is_some}
 use Rattle.std.specs.List.{list_all, range_with_len}
-use Rattle.handset.specs.Reading.{name_of}
+use Rattle.handset.specs.Reception.{name_of}
 use Rattle.handset.specs.Keeping.{is_numbered}
 use Rattle.handset.proofs.messages.is_complete.Given as goal
 

@@ -8,7 +8,7 @@ use Rattle.std.proofs.lemmas.Str.{encodes-append}
 use Rattle.cbs_page.specs.declared.octets.PageView.{PageView}
 use Rattle.cbs_page.specs.Page.{is_readable}
 use Rattle.cbs_page.specs.Text.{text_of_page}
-use Rattle.handset.specs.Reading.{Name, name_of}
+use Rattle.handset.specs.Reception.{Name, name_of}
 use Rattle.handset.specs.Keeping.{is_numbered}
 use Rattle.handset.proofs.Lists.{range-more, found_holds}
 use Rattle.handset.proofs.messages.text.Goals as goal

@@ -2,7 +2,7 @@ use Rattle.std.proofs.Common.{◌≡◌, [], ◌∷◌, ◌++◌, find, string_b
 use Rattle.std.specs.Option.{option_map_or}
 use Rattle.std.specs.List.{flat_map, range_with_len}
 use Rattle.cbs_page.specs.Text.{text_of_page}
-use Rattle.handset.specs.Reading.{name_of}
+use Rattle.handset.specs.Reception.{name_of}
 use Rattle.handset.specs.Keeping.{is_numbered}
 use Rattle.handset.proofs.messages.text.Given as goal
 

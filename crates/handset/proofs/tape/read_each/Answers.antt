@@ -69,6 +69,6 @@ loop-count-preserved g c =
           taken_more g.T.TakesReadings.HasTaken _ mid new c.args.taker.now c.loop-count.taker c.take.new.self
           c.loop-count.count
           (reading_of c.in-Ok-Some.reading) c.loop-count.invariant.tapes reads c.in_ok-take-in-Ok-Some.ensures;
-      sound = search rules;
+      not_failed = search rules;
       piece = search rules;
     }

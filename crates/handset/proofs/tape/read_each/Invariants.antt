@@ -18,7 +18,7 @@ invariant-loop-count g l = record {
   few : l.count ≤ 64;
   tapes : AreTakenSoFar g.T.TakesReadings.HasTaken (g.R.Read.remaining (reader_of l.initial.source))
       (g.R.Read.remaining (reader_of l.source)) l.initial.taker l.taker l.count;
-  sound : source_failed l.source ≡ false;
+  not_failed : source_failed l.source ≡ false;
   piece : vec_len l.piece ≡ 65504;
 }
 

@@ -12,7 +12,7 @@ loop-left-preserved g c = record {
       Fed-more _ _ _ _ c.min-wanted.result _ _ _ _ c.loop-left.invariant.fed c.in_ok-read_piece.ensures.piece
       (omega arith)
       (length-take-le (92 * c.min-wanted.result) c.loop-left.piece (omega arith));
-  sound = search rules;
+  not_failed = search rules;
 }
 
 pub returns-in_err-read_piece-clause-short : goal.returns-in_err-read_piece-clause-short

@@ -9,7 +9,7 @@ invariant-loop-left g l = record {
   fed :
       Fed (g.R.Read.remaining (reader_of l.initial.source)) (g.R.Read.remaining (reader_of l.source))
       (l.slots - l.left) l.handset;
-  sound : source_failed l.source ≡ false;
+  not_failed : source_failed l.source ≡ false;
 }
 
 abbrev pub decreases-loop-left : goal.decreases-loop-left

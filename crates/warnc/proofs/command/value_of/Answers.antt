@@ -1,4 +1,4 @@
-use Rattle.std.proofs.Common.{◌≡◌, ℕ, ◌+◌, ◌<◌, length, arith, sym, ◌∙◌, refl, true, Some, lit<, ◌++◌, ◌∷◌}
+use Rattle.std.proofs.Common.{◌≡◌, sym, ◌∙◌, Some, lit<, ◌++◌, ◌∷◌}
 use Rattle.std.proofs.lemmas.Bool.{ltb-true}
 use Rattle.std.proofs.lemmas.Slice.Eq.{bytes_eq-Decides}
 use Rattle.std.proofs.lemmas.Str.Pattern.{split_parts}

@@ -3,9 +3,9 @@ use Rattle.warnc.specs.Status.{WritesSome}
 use Rattle.warnc_engine.proofs.OutputLaws.{some_output}
 use Rattle.warnc.proofs.run.run_page.Goals as goal
 
-pub returns-in-Ok-clause-ends : goal.returns-in-Ok-clause-ends
-returns-in-Ok-clause-ends g c =
-    let wrote = c.in-Ok.ensures.ends.wrote in
+pub returns-in-Ok-clause-any_device : goal.returns-in-Ok-clause-any_device
+returns-in-Ok-clause-any_device g c =
+    let wrote = c.in-Ok.ensures.ok.of_some in
     let some : WritesSome _ _ = (
       wrote.1,
       some_output c.args.options.now.language.now c.args.options.now.id c.args.options.now.serial wrote.0 wrote.1

@@ -1,4 +1,4 @@
-use Rattle.std.proofs.Common.{rules, arith, ◌≡◌, ◌∙◌, inl}
+use Rattle.std.proofs.Common.{arith, ◌≡◌, ◌∙◌, inl}
 use Rattle.std.specs.Io.KnownBytes.{Appends}
 use Rattle.device_ends.specs.Moves.{AppendsFront}
 use Rattle.device_ends.specs.Sink.{writer_of}
@@ -18,29 +18,18 @@ returns-in-Ok-write_all-clause-ok g c =
     let taken = c.in-Ok-read_each.ensures.taken in
     let written : c.deref.result.now ≡ table_of taken.readings =
     c.deref.ensures.value ∙ written_of _ _ _ _ taken c.in-Ok.ensures c.in-Ok-into_octets.ensures in
-    output_then
-    (Appends (g.W.Write.contents (writer_of c.args.sink.now)) (g.W.Write.contents (writer_of c.write_all.new.sink)))
-    taken _ written c.in-Ok-write_all.ensures.ok
-
-pub returns-in-Ok-write_all-clause-ends : goal.returns-in-Ok-write_all-clause-ends
-returns-in-Ok-write_all-clause-ends g c =
-    let taken = c.in-Ok-read_each.ensures.taken in
-    let written : c.deref.result.now ≡ table_of taken.readings =
-    c.deref.ensures.value ∙ written_of _ _ _ _ taken c.in-Ok.ensures c.in-Ok-into_octets.ensures in
     record {
-      wrote = (
+      of_input =
+          output_then
+          (Appends (g.W.Write.contents (writer_of c.args.sink.now))
+          (g.W.Write.contents (writer_of c.write_all.new.sink)))
+          taken _ written c.in-Ok-write_all.ensures.ok;
+      of_some = (
         taken.of_some.0,
         c.deref.result.now,
         record { readings = taken.readings; tapes = taken.of_some.1; written = written },
         c.in-Ok-write_all.ensures.ok,
       );
-      sound = search rules;
-      nothing = tt;
-      untouched = tt;
-      read = search rules;
-      write = search rules;
-      source_stays = search rules;
-      sink_stays = search rules;
     }
 
 pub returns-clause-fault : goal.returns-clause-fault

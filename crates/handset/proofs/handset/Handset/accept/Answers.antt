@@ -1,5 +1,5 @@
 use Rattle.std.proofs.Common.{◌≡◌, ◌∙◌, [], ◌∷◌, ◌++◌, ap}
-use Rattle.handset.specs.Reading.{name_of}
+use Rattle.handset.specs.Reception.{name_of}
 use Rattle.handset.specs.Keeping.{messages_of, blocks_of, kept_of}
 use Rattle.handset.specs.KeepingSteps.{under_way_with, page_ended, pages_with_read, message_ended_read}
 use Rattle.handset.proofs.ReadingLaws.{reads_none, reads_page}

@@ -1,5 +1,5 @@
 use Rattle.std.proofs.Common.{◌≡◌, ◌∙◌, [], ◌∷◌, ◌++◌, sym, ap}
-use Rattle.handset.specs.Reading.{shown_in, name_of}
+use Rattle.handset.specs.Reception.{shown_in, name_of}
 use Rattle.handset.specs.Keeping.{blocks_of, kept_of}
 use Rattle.handset.specs.KeepingSteps.{page_ended, message_ended_read}
 use Rattle.handset.proofs.NamedPages.{if_ok}

@@ -2,7 +2,7 @@ use Rattle.std.proofs.Common.{◌∙◌, All, IsTrue, sym, ap, subst}
 use Rattle.std.specs.Map.{lookup}
 use Rattle.cbs_page.specs.declared.octets.PageView.{PageView}
 use Rattle.cbs_page.specs.Page.{is_readable}
-use Rattle.handset.specs.Reading.{name_of}
+use Rattle.handset.specs.Reception.{name_of}
 use Rattle.handset.specs.Keeping.{kept_of}
 use Rattle.handset.proofs.NamedPages.{same_key, found_items, kept_is}
 use Rattle.handset.proofs.pages.Pages.of_message.Goals as goal

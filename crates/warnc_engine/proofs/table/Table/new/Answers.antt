@@ -1,6 +1,6 @@
 use Rattle.std.proofs.Common.{ℕ, List, [], subst, sym, append-nil}
 use Rattle.warnc_engine.specs.ReadOutput.{header_row}
-use Rattle.warnc_engine.specs.Table.{IsTable}
+use Rattle.warnc_engine.specs.ReadSteps.{IsTable}
 use Rattle.warnc_engine.proofs.table.Table.new.Goals as goal
 
 pub returns : goal.returns

@@ -3,7 +3,7 @@ use Rattle.std.specs.List.{flat_map}
 use Rattle.std.proofs.lemmas.List.{take_all}
 use Rattle.handset.specs.Keeping.{message_shown, messages_of}
 use Rattle.warnc_engine.specs.ReadOutput.{message_row, row_of_message}
-use Rattle.warnc_engine.specs.Table.{IsTable}
+use Rattle.warnc_engine.specs.ReadSteps.{IsTable}
 use Rattle.warnc_engine.proofs.TableLaws.{flat_map-next}
 use Rattle.warnc_engine.proofs.table.Table.push_reading.Goals as goal
 

@@ -2,7 +2,7 @@ use Rattle.std.proofs.Common.{ℕ, List, ◌++◌, take}
 use Rattle.std.specs.List.{flat_map}
 use Rattle.handset.specs.Keeping.{messages_of}
 use Rattle.warnc_engine.specs.ReadOutput.{message_row}
-use Rattle.warnc_engine.specs.Table.{IsTable}
+use Rattle.warnc_engine.specs.ReadSteps.{IsTable}
 use Rattle.warnc_engine.proofs.table.Table.push_reading.Given as goal
 
 abbrev pub invariant-loop-message : goal.invariant-loop-message

@@ -1,7 +1,7 @@
 use Rattle.std.proofs.Common.{ℕ, List, subst}
 use Rattle.std.proofs.lemmas.Result.{on_ok_weaker}
 use Rattle.handset.specs.Tape.{reading_of}
-use Rattle.warnc_engine.specs.Table.{IsTable}
+use Rattle.warnc_engine.specs.ReadSteps.{IsTable}
 use Rattle.warnc_engine.proofs.TableLaws.{table_of-next}
 use Rattle.warnc_engine.proofs.table.TableTakesReadings.take.Goals as goal
 

@@ -1,0 +1,49 @@
+-- Steps of a run (own): what an order that was read is, and what a status says of the two ends. The contracts of
+-- private functions alone speak of it.
+use Rattle.std.specs.Prelude.{◌≡◌, ◌≢◌, ℕ, ◌≤◌, false, List, Option}
+use Rattle.std.specs.Io.KnownBytes.{Keeps}
+use Rattle.device_ends.specs.Sink.{sink_failed}
+use Rattle.device_ends.specs.declared.reading.Source.{Source}
+use Rattle.device_ends.specs.declared.writing.Sink.{Sink}
+use Rattle.warnc.specs.CommandLine.{IsPageOrder, IsReadOrder}
+use Rattle.warnc.specs.Status.{OneHasFailed, WritesSome}
+use Rattle.warnc.specs.declared.command.Order.{Order}
+use Rattle.warnc.specs.declared.command.Order.TheVariants.{Page, Read}
+use Rattle.warnc_engine.specs.declared.read.ReadCommandFault.{ReadCommandFault}
+use Rattle.warnc_engine.specs.declared.read.ReadCommandFault.TheVariants as table
+
+-- the words ask for what `order` says
+abbrev pub IsOrdered : (words : List (List ℕ)) → Order → Type 0
+IsOrdered words (Page options) = IsPageOrder words options.language.now options.id options.serial
+IsOrdered words Read = IsReadOrder words
+
+-- the status of a fault of `read`: 1 if the input is refused, 3 if a device failed, 4 if there was no memory
+abbrev pub status_of_read_fault : ReadCommandFault → ℕ
+status_of_read_fault table.Short = 1
+status_of_read_fault table.Long = 1
+status_of_read_fault table.ReadFailed = 3
+status_of_read_fault table.Refused = 4
+status_of_read_fault table.WriteFailed = 3
+
+-- what a status says of a sink: `old` and `new` are the sink before and after, and `before` and `after` what its writer
+-- holds
+pub record IsStatusOfSink {W : Type 0} (status : ℕ) (old new : Sink W) (before after : Option (List ℕ)) : Type 0 where
+  -- there are five statuses
+  pub statuses : status ≤ 4
+  -- with 0 something was written
+  pub wrote : status ≡ 0 → WritesSome before after
+  -- with 1, 2 and 4 nothing was
+  pub nothing_written : status ≢ 0 → status ≢ 3 → Keeps before after
+  -- and the sink is as it was
+  pub untouched : status ≢ 0 → status ≢ 3 → new ≡ old
+
+-- what the status of a command that was understood says of both ends. The source is that after the run
+pub record IsRunBetween {R W : Type 0} (status : ℕ) (source : Source R) (old new : Sink W)
+    (before after : Option (List ℕ)) : Type 0 where
+  pub sink : IsStatusOfSink status old new before after
+  -- it is no mistake of the words
+  pub understood : status ≢ 2
+  -- it is 3 only if one of the ends has failed
+  pub device : status ≡ 3 → OneHasFailed source new
+  -- and always if one has, if the sink had not failed before
+  pub failed : sink_failed old ≡ false → OneHasFailed source new → status ≡ 3
