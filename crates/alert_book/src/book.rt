@@ -21,7 +21,7 @@ use std::io::Read;
 use std::marker::Model;
 
 /// The most octets of a book: 16 MiB.
-pub const MOST_OCTETS: usize = 0x100_0000;
+pub const MAX_INPUT: usize = 0x100_0000;
 
 /// A book: the cells that its rows declare, and the orders that they give, in the order of the rows.
 #[derive(Debug, Drop)]
@@ -231,16 +231,16 @@ pub fn read_book<T: AllocGlobal, R: Read>(rt: &T, source: &mut Source<R>) -> Res
 
     // The device, at any reader.
     ensures device { IsErrOf result unread ↔ IsTrue (source_failed source.new) }
-    ensures sound { OnOk result (source_failed source.new ≡ false) }
-    ensures stays { source_failed source.old ≡ true → source.new ≡ source.old }
+    ensures not_failed { OnOk result (source_failed source.new ≡ false) }
+    ensures failed_stays { source_failed source.old ≡ true → source.new ≡ source.old }
 {
     let alloc = rt.alloc();
-    let octets = match read_up_to(source, alloc, MOST_OCTETS) {
+    let octets = match read_up_to(source, alloc, MAX_INPUT) {
         Ok(octets) => octets,
         Err(ReadFault::Device) => return Err(fault_of_book(BookFaultKind::ReadFailed)),
         Err(ReadFault::Refused) => return Err(fault_of_book(BookFaultKind::Refused)),
     };
-    if octets.len() > MOST_OCTETS {
+    if octets.len() > MAX_INPUT {
         return Err(fault_of_book(BookFaultKind::TooManyRows));
     }
     book_of(alloc, &octets)

@@ -19,7 +19,7 @@ mod row;
 pub mod session;
 mod versions;
 
-pub use book::{Book, MOST_OCTETS, read_book};
+pub use book::{Book, MAX_INPUT, read_book};
 pub use fault::{BookFault, BookFaultKind};
 pub use law::book_law;
 pub use request::Refused;

@@ -2,7 +2,7 @@
 
 ghost use Rattle.std.specs.Prelude.{◌<◌};
 
-use alert_book::{BookFault, BookFaultKind, MOST_OCTETS, read_book};
+use alert_book::{BookFault, BookFaultKind, MAX_INPUT, read_book};
 use device_ends::Source;
 use device_ends::memory::MemoryReader;
 use std::alloc::{AllocError, Global};
@@ -43,7 +43,7 @@ fn empty_lines(alloc: Global, length: usize) -> Result<Vec<u8>, AllocError> {
 
 #[test]
 fn one_octet_past_the_bound_is_read(rt: HostRuntime) -> Result<(), Fail> {
-    let octets = empty_lines(rt.alloc(), MOST_OCTETS + 2)?;
+    let octets = empty_lines(rt.alloc(), MAX_INPUT + 2)?;
     let mut reader = MemoryReader::new(&octets, 0x1_0000, None);
     match read_book(&rt, &mut Source::new(&mut reader)) {
         Ok(_) => assert!(&rt; false, "a long book was read"),
@@ -61,7 +61,7 @@ fn one_octet_past_the_bound_is_read(rt: HostRuntime) -> Result<(), Fail> {
 
 #[test]
 fn the_longest_book_is_read(rt: HostRuntime) -> Result<(), Fail> {
-    let octets = empty_lines(rt.alloc(), MOST_OCTETS)?;
+    let octets = empty_lines(rt.alloc(), MAX_INPUT)?;
     let mut reader = MemoryReader::new(&octets, 0x1_0000, None);
     let read = read_book(&rt, &mut Source::new(&mut reader));
     assert!(&rt; read.is_ok());
