@@ -250,19 +250,15 @@ impl Budget {
     }
 
     /// Adds a reservation, where there is room for what it holds now.
-    fn add(&mut self, reservation: Held) -> Result<(), NoRoom>
-        requires new { All (λ h. h.entry ≢ reservation.entry) self.old }
-        requires handed { HasPlace reservation.load reservation.waits self.old }
-        ensures answer { result ≡ answer_for self.old (held_now reservation) }
-        ensures added { OnOk result (self.new ≡ self.old ++ reservation ∷ []) }
+    fn add(&mut self, held: Held) -> Result<(), NoRoom>
+        requires new { All (λ h. h.entry ≢ held.entry) self.old }
+        requires handed { HasPlace held.load held.waits self.old }
+        ensures answer { result ≡ answer_for self.old (held_now held) }
+        ensures added { OnOk result (self.new ≡ self.old ++ held ∷ []) }
         ensures refused { OnErr result (self.new ≡ self.old) }
     {
-        room(
-            self.table.len(),
-            total(self.table.as_slice()),
-            reservation.now(),
-        )?;
-        self.table.push(reservation);
+        room(self.table.len(), total(self.table.as_slice()), held.now())?;
+        self.table.push(held);
         Ok(())
     }
 }

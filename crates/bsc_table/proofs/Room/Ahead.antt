@@ -6,7 +6,7 @@ use Rattle.std.specs.Prelude.{nat_lt}
 use Rattle.std.specs.List.{All, AllPairs, Contains, find}
 use Rattle.std.proofs.lemmas.Bool.{cases_lt, cases_Bool, cases_eq, and_parts, or_cases, eqb-true, eq-eqb, ne_eqb}
 use Rattle.std.proofs.lemmas.Bool.{ltb-true, lt-ltb, le-ltb}
-use Rattle.std.proofs.lemmas.Option.{none-some}
+use Rattle.std.proofs.lemmas.Option.{none-some, same_Some}
 use Rattle.std.proofs.lemmas.List.{get_or-map, length-map, get_or_default}
 use Rattle.admission.specs.Reservation.{IsBeforeEnd, natural_end, end_of_reservation}
 use Rattle.scheduler.specs.Message.{ScheduledMessage}
@@ -60,26 +60,13 @@ taken_before : (claims : List Claim) (now load : ℕ) (ahead : Option ℕ) (plac
     → place_before now load p end ≡ Some place → Taken claims now load ahead place
 taken_before claims now load ahead place p there entry None ends e = absurd (none-some place e)
 taken_before claims now load ahead place p there entry (Some end) ends e =
+    let found : Place = record { behind = p.message.entry; start = end; excess = load - own_load p.message } in
+    let at : Bool → Option Place = λ b. cond b (Some found) None in
     elim (cases_lt now end) [
-      | inr over ↦
-          let gone = ap (λ (b : Bool). cond b (Some (record {
-            behind = p.message.entry;
-            start = end;
-            excess = load -
-                own_load p.message;
-          })) None) (le-ltb now end over) in
-          absurd (none-some place (sym gone ∙ e))
+      | inr over ↦ absurd (none-some place (sym (ap at (le-ltb now end over)) ∙ e))
       | inl before ↦
-          let kept = ap (λ (b : Bool). cond b (Some (record {
-            behind = p.message.entry;
-            start = end;
-            excess = load -
-                own_load p.message;
-          })) None) (lt-ltb now end before) in
-          let same : Some (record { behind = p.message.entry; start = end; excess = load - own_load p.message }) ≡
-          Some place = sym kept ∙ e in
-          let its : record { behind = p.message.entry; start = end; excess = load - own_load p.message } ≡ place = cc
-          in
+          let same : Some found ≡ Some place = sym (ap at (lt-ltb now end before)) ∙ e in
+          let its : found ≡ place = same_Some found place same in
           let start : end ≡ place.start = ap (λ (x : Place). x.start) its in
           record {
             p = p;
