@@ -3,7 +3,7 @@ pub mod Cells
 pub mod Fields
 pub mod Row
 pub mod Book
-pub mod BookLaw
+pub mod Laws
 pub mod Session
 pub mod Sendable
 pub mod Fine

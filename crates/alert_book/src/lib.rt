@@ -10,7 +10,7 @@ pub mod book;
 mod cells;
 pub mod fault;
 mod fields;
-mod law;
+mod laws;
 mod number;
 pub mod order;
 pub mod outcome;
@@ -21,6 +21,6 @@ mod versions;
 
 pub use book::{Book, MAX_INPUT, read_book};
 pub use fault::{BookFault, BookFaultKind};
-pub use law::book_law;
+pub use laws::book_laws;
 pub use request::Refused;
 pub use session::Session;

@@ -1,5 +1,5 @@
 use Rattle.alert_book.proofs.OneAnswer.{one_meaning, right_or_wrong}
-use Rattle.alert_book.proofs.law.book_law.Goals as goal
+use Rattle.alert_book.proofs.laws.book_laws.Goals as goal
 
 pub returns-clause-one : goal.returns-clause-one
 returns-clause-one c = one_meaning
