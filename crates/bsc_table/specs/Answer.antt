@@ -16,6 +16,10 @@ use Rattle.admission.specs.Load.{load_of}
 use Rattle.scheduler.specs.Message.{ScheduledMessage}
 use Rattle.scheduler.specs.Air.{Air}
 use Rattle.scheduler.specs.Completed.{completed}
+use Rattle.cbsp_wire.specs.declared.cause.TheConstants.{BSC_CAPACITY_EXCEEDED, BSC_MEMORY_EXCEEDED}
+use Rattle.cbsp_wire.specs.declared.cause.TheConstants.{CELL_BROADCAST_NOT_OPERATIONAL, CELL_MEMORY_EXCEEDED}
+use Rattle.cbsp_wire.specs.declared.cause.TheConstants.{MESSAGE_REFERENCE_ALREADY_USED}
+use Rattle.cbsp_wire.specs.declared.cause.TheConstants.{MESSAGE_REFERENCE_NOT_IDENTIFIED}
 use Rattle.bsc_table.specs.declared.command.Category.{Category}
 use Rattle.bsc_table.specs.declared.command.Command.{Command}
 use Rattle.bsc_table.specs.declared.command.Command.TheVariants as commands
@@ -31,14 +35,14 @@ use Rattle.bsc_table.specs.Record.{is_live, state_at}
 -- 6, where the load doesn't fit now: it starts later, at the place that it may take over, where its excess fits now;
 -- from then on no more is reserved at any slot
 abbrev pub answer_at : List Claim → ℕ → (ℕ → Answer) → Option Place → Answer
-answer_at claims slot accepts None = answers.Cause 0x06
+answer_at claims slot accepts None = answers.Cause BSC_CAPACITY_EXCEEDED
 answer_at claims slot accepts (Some place) =
-    if nat_lt SCALE (claimed_at claims slot + place.excess) then answers.Cause 0x06 else accepts place.start
+    if nat_lt SCALE (claimed_at claims slot + place.excess) then answers.Cause BSC_CAPACITY_EXCEEDED else accepts place.start
 
 -- 5 and 6, else the answer that accepts, by the slot at which the message starts: at once where its load fits
 abbrev pub admit_or_refuse : List Claim → ℕ → ℕ → Option Place → (ℕ → Answer) → Answer
 admit_or_refuse claims slot load place accepts =
-    if nat_le 64 (length (filter (is_claimed_at slot) claims)) then answers.Cause 0x07
+    if nat_le 64 (length (filter (is_claimed_at slot) claims)) then answers.Cause CELL_MEMORY_EXCEEDED
     else if nat_lt SCALE (claimed_at claims slot + load) then answer_at claims slot accepts place
     else accepts slot
 
@@ -62,13 +66,13 @@ answer_to_replacement log air slot category load old =
 
 -- 4, where the pair of a write was accepted before
 abbrev pub unless_accepted : Option ScheduledMessage → Answer → Answer
-unless_accepted (Some m) answer = answers.Cause 0x0D
+unless_accepted (Some m) answer = answers.Cause MESSAGE_REFERENCE_ALREADY_USED
 unless_accepted None answer = answer
 
 -- 3: what is said of a live message; cause 02 where it isn't live, or was never accepted
 abbrev pub if_live : ℕ → Option Accepted → (Accepted → Answer) → Answer
-if_live slot None answer = answers.Cause 0x02
-if_live slot (Some a) answer = if is_live slot a.message then answer a else answers.Cause 0x02
+if_live slot None answer = answers.Cause MESSAGE_REFERENCE_NOT_IDENTIFIED
+if_live slot (Some a) answer = if is_live slot a.message then answer a else answers.Cause MESSAGE_REFERENCE_NOT_IDENTIFIED
 
 abbrev pub answer_to_write : List Entry → Air → ℕ → ℕ → ℕ → Option ℕ → Category → ℕ → Answer
 answer_to_write log air slot id serial None category load =
@@ -96,7 +100,7 @@ status_answer air slot m = answer_with_status (status_of air slot m)
 
 -- 2
 abbrev pub before_end : ℕ → ℕ → Answer → Answer
-before_end slots slot answer = if slot == slots then answers.Cause 0x0A else answer
+before_end slots slot answer = if slot == slots then answers.Cause CELL_BROADCAST_NOT_OPERATIONAL else answer
 
 abbrev pub answer_with_room : ℕ → List Entry → Air → ℕ → Command → Answer
 answer_with_room slots log air slot (commands.Status id serial) = status_answer air slot (message_named id serial log)
@@ -108,4 +112,4 @@ answer_with_room slots log air slot (commands.Write id serial replaces category 
 -- the answer to a command at a slot of a run of so many slots, by the entries before it and what is aired
 abbrev pub answer_of : ℕ → List Entry → Air → ℕ → Command → Answer
 answer_of slots log air slot command =
-    if nat_le 4096 (length log) then answers.Cause 0x08 else answer_with_room slots log air slot command
+    if nat_le 4096 (length log) then answers.Cause BSC_MEMORY_EXCEEDED else answer_with_room slots log air slot command

@@ -12,6 +12,7 @@ use Rattle.admission.specs.Waiting.{behind_of}
 use Rattle.admission.specs.Table.{answer_of, answer_for, excess_over}
 use Rattle.scheduler.specs.Message.{ScheduledMessage, stopped_if}
 use Rattle.scheduler.specs.Air.{Air}
+use Rattle.cbsp_wire.specs.declared.cause.TheConstants.{BSC_CAPACITY_EXCEEDED, CELL_MEMORY_EXCEEDED}
 use Rattle.bsc_table.specs.declared.command.Command.{Command}
 use Rattle.bsc_table.specs.declared.command.Command.TheVariants as commands
 use Rattle.bsc_table.specs.declared.decision.Decision.{Decision}
@@ -141,8 +142,8 @@ pub record IsLiveAs (slot id serial : ℕ) (log : List Entry) (a : Accepted) : T
 
 -- the causes of a refusal for want of room
 abbrev pub cause_of : NoRoom → ℕ
-cause_of Table = 0x07
-cause_of Load = 0x06
+cause_of Table = CELL_MEMORY_EXCEEDED
+cause_of Load = BSC_CAPACITY_EXCEEDED
 
 -- the answer to a write, by whether its load has room: the one that accepts it now, that for a full table, or that
 -- where its load has no room now
@@ -178,7 +179,7 @@ left_by r old = stop_claims old.message.entry r.clock (claims_in r.log)
 
 -- the answer at a place, where there is one with room
 abbrev pub by_place : Option FoundPlace → (ℕ → Answer) → Answer
-by_place None accepts = answers.Cause 0x06
+by_place None accepts = answers.Cause BSC_CAPACITY_EXCEEDED
 by_place (Some p) accepts = accepts p.start
 
 -- the place at which a message of that load may take over from a live one, if there is one with room: so is a write

@@ -8,6 +8,8 @@ use Rattle.cbsp_wire.specs.Range.{has_alphabet}
 use Rattle.cbsp_wire.specs.declared.message.Cell.{Cell}
 use Rattle.cbsp_wire.specs.declared.message.Message.{Message}
 use Rattle.cbsp_wire.specs.declared.message.Message.TheVariants as messages
+use Rattle.cbsp_wire.specs.declared.cause.TheConstants.{EXTENDED_CHANNEL_NOT_SUPPORTED, PARAMETER_VALUE_INVALID}
+use Rattle.cbsp_wire.specs.declared.cause.TheConstants.{UNRECOGNISED_MESSAGE}
 use Rattle.bsc_table.specs.declared.command.Category.{Category}
 use Rattle.bsc_table.specs.declared.command.Category.TheVariants.{High, Normal, Background}
 use Rattle.bsc_table.specs.declared.command.Command.{Command}
@@ -53,12 +55,12 @@ is_basic (Some n) = n == 0
 
 -- cells and a command to them, where the message is for the basic channel; else cause 0C
 abbrev pub if_basic_channel : Option ℕ → List Cell → Command → Result (List Cell × Command) ℕ
-if_basic_channel channel cells command = if is_basic channel then Ok (cells, command) else Err 0x0C
+if_basic_channel channel cells command = if is_basic channel then Ok (cells, command) else Err EXTENDED_CHANNEL_NOT_SUPPORTED
 
 -- a write with the category that it has, if any; else cause 01
 abbrev pub if_category_known : Option Category → (Category → Result (List Cell × Command) ℕ)
     → Result (List Cell × Command) ℕ
-if_category_known None order = Err 0x01
+if_category_known None order = Err PARAMETER_VALUE_INVALID
 if_category_known (Some category) order = order category
 
 -- the cells that a message names and the command to them, or the first cause that applies: 04 for a reply, 01 for the
@@ -68,4 +70,4 @@ order_of (messages.Write id new_serial old_serial cells channel category period 
     if_category_known (category_of category) (λ known. if_basic_channel channel cells
     (commands.Write id new_serial old_serial known period broadcasts dcs contents))
 order_of (messages.Kill id old_serial cells channel) = if_basic_channel channel cells (commands.Kill id old_serial)
-order_of reply = Err 0x04
+order_of reply = Err UNRECOGNISED_MESSAGE

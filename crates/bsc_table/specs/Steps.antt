@@ -3,6 +3,7 @@ use Rattle.std.specs.Prelude.{◌≡◌, ℕ, ◌+◌, ◌<◌, ◌≤◌, ◌==
 use Rattle.std.specs.Prelude.{List, [], ◌∷◌, ◌++◌, length, slice_index_or, All}
 use Rattle.cbsp_wire.specs.declared.message.Cell.{Cell}
 use Rattle.scheduler.specs.Air.{Air, IsChosen}
+use Rattle.cbsp_wire.specs.declared.cause.TheConstants.{BSC_MEMORY_EXCEEDED}
 use Rattle.bsc_table.specs.declared.command.Command.{Command}
 use Rattle.bsc_table.specs.declared.entry.Answer.{Answer}
 use Rattle.bsc_table.specs.declared.entry.Answer.TheVariants as answers
@@ -26,7 +27,7 @@ entry_by r command answer = record { command = command; slot = r.clock; answer =
 
 -- an answer has an entry, but for cause 08 and if the cell is out of memory
 abbrev pub has_entry : Answer → Bool
-has_entry (answers.Cause cause) = not (cause == 0x08)
+has_entry (answers.Cause cause) = not (cause == BSC_MEMORY_EXCEEDED)
 has_entry answers.Refused = false
 has_entry other = true
 

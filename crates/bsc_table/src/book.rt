@@ -8,6 +8,7 @@ ghost use Rattle.std.specs.Option.{MatchOption, option_map};
 ghost use Rattle.scheduler.specs.Completed.{completed};
 ghost use Rattle.bsc_table.specs.declared.entry.Answer.TheVariants as answers;
 ghost use Rattle.bsc_table.specs.declared.command.Command.TheVariants as commands;
+ghost use Rattle.cbsp_wire.specs.declared.cause.TheConstants.{BSC_MEMORY_EXCEEDED};
 ghost use Rattle.bsc_table.specs.declared.accepted.TheConstants.{LATEST_START};
 ghost use Rattle.bsc_table.specs.Claim.{stop_claims, is_claimed_at};
 ghost use Rattle.admission.specs.Load.{load_of};
@@ -171,7 +172,7 @@ impl CellBook {
         ensures legal { IsLegal self.new }
 
         // A full log takes no memory to say so.
-        ensures full { 4096 ≤ length self.old.log → result ≡ answers.Cause 0x08 }
+        ensures full { 4096 ≤ length self.old.log → result ≡ answers.Cause BSC_MEMORY_EXCEEDED }
     {
         if self.log.len() >= MAX_ENTRIES {
             return Answer::Cause(cause::BSC_MEMORY_EXCEEDED);

@@ -2,6 +2,7 @@
 
 use crate::orders::*;
 use bsc_table::{Aired, Answer, State};
+use cbsp_wire::cause;
 use std::test::Fail;
 
 /// A slot that airs nothing.
@@ -40,7 +41,7 @@ fn a_load_stays_until_the_period_of_the_stop_is_over(rt: HostRuntime) -> Result<
         Step::Two(standing(2, 4), started(0)),
         Step::Play(3),
         Step::Kill(2, Answer::Stopped { completed: 0 }),
-        Step::Two(standing(3, 4), Answer::Cause(0x06)),
+        Step::Two(standing(3, 4), Answer::Cause(cause::BSC_CAPACITY_EXCEEDED)),
         Step::Play(1),
         Step::Two(standing(3, 4), started(4)),
         Step::Ask(2, told),
@@ -53,7 +54,7 @@ fn a_load_stays_until_the_period_of_the_stop_is_over(rt: HostRuntime) -> Result<
     assert_eq!(rt; book.log().len(), 6);
     assert_eq!(rt;
         (book.log()[3].slot, book.log()[3].answer),
-        (3, Answer::Cause(0x06))
+        (3, Answer::Cause(cause::BSC_CAPACITY_EXCEEDED))
     );
     Ok(())
 }
@@ -63,10 +64,16 @@ fn a_stop_on_the_boundary_frees_the_load_at_once(rt: HostRuntime) -> Result<(), 
     let steps = [
         Step::Two(standing(7, 2), started(0)),
         Step::Kill(7, Answer::Stopped { completed: 0 }),
-        Step::Kill(7, Answer::Cause(0x02)),
-        Step::Two(standing(7, 2), Answer::Cause(0x0D)),
+        Step::Kill(7, Answer::Cause(cause::MESSAGE_REFERENCE_NOT_IDENTIFIED)),
+        Step::Two(
+            standing(7, 2),
+            Answer::Cause(cause::MESSAGE_REFERENCE_ALREADY_USED),
+        ),
         Step::Two(standing(8, 2), started(0)),
-        Step::One(standing(9, 1024), Answer::Cause(0x06)),
+        Step::One(
+            standing(9, 1024),
+            Answer::Cause(cause::BSC_CAPACITY_EXCEEDED),
+        ),
     ];
     run(&rt, rt.alloc(), 4, steps.as_slice())?;
     Ok(())
@@ -88,10 +95,10 @@ fn requested_broadcasts_run_out(rt: HostRuntime) -> Result<(), Fail> {
     let steps = [
         Step::One(twice, started(0)),
         Step::Play(5),
-        Step::One(standing(1, 1), Answer::Cause(0x06)),
+        Step::One(standing(1, 1), Answer::Cause(cause::BSC_CAPACITY_EXCEEDED)),
         Step::Play(1),
         Step::Status(9, Some((2, State::RanOut))),
-        Step::Kill(9, Answer::Cause(0x02)),
+        Step::Kill(9, Answer::Cause(cause::MESSAGE_REFERENCE_NOT_IDENTIFIED)),
         Step::One(standing(1, 1), started(6)),
         Step::Play(4),
     ];
@@ -121,7 +128,10 @@ fn a_load_that_is_not_free_yet_guards_the_others(rt: HostRuntime) -> Result<(), 
         Step::One(standing_high(2, 2), started(0)),
         Step::Play(1),
         Step::Kill(2, Answer::Stopped { completed: 1 }),
-        Step::One(standing_high(3, 2), Answer::Cause(0x06)),
+        Step::One(
+            standing_high(3, 2),
+            Answer::Cause(cause::BSC_CAPACITY_EXCEEDED),
+        ),
         Step::Play(3),
         Step::Status(1, Some((1, State::Standing))),
     ];
@@ -159,13 +169,16 @@ fn a_refused_replacement_leaves_the_old_message(rt: HostRuntime) -> Result<(), F
         Step::One(standing(1, 2), started(0)),
         Step::Two(standing(2, 4), started(0)),
         Step::Play(3),
-        Step::Three(standing_for(2, 3, 4), Answer::Cause(0x06)),
+        Step::Three(
+            standing_for(2, 3, 4),
+            Answer::Cause(cause::BSC_CAPACITY_EXCEEDED),
+        ),
         Step::Status(2, Some((0, State::Standing))),
         Step::Status(3, None),
         Step::Play(1),
         Step::Two(standing_for(2, 3, 4), replaced(4, 1)),
         Step::Status(2, Some((1, State::Stopped { slot: 4 }))),
-        Step::Kill(2, Answer::Cause(0x02)),
+        Step::Kill(2, Answer::Cause(cause::MESSAGE_REFERENCE_NOT_IDENTIFIED)),
     ];
     run(&rt, rt.alloc(), 8, steps.as_slice())?;
     Ok(())

@@ -2,6 +2,7 @@
 
 use crate::orders::*;
 use bsc_table::{Aired, Answer, State};
+use cbsp_wire::cause;
 use std::test::Fail;
 
 /// A slot that airs nothing.
@@ -51,10 +52,19 @@ fn nothing_takes_over_from_background(rt: HostRuntime) -> Result<(), Fail> {
         Step::Two(standing(1, 2), started(0)),
         Step::Two(background(2, 4), started(0)),
         Step::Play(1),
-        Step::Two(standing_for(2, 3, 4), Answer::Cause(0x06)),
+        Step::Two(
+            standing_for(2, 3, 4),
+            Answer::Cause(cause::BSC_CAPACITY_EXCEEDED),
+        ),
         Step::One(background_for(2, 4, 4), replaced(1, 0)),
-        Step::One(background(2, 4), Answer::Cause(0x0D)),
-        Step::One(background_for(2, 5, 4), Answer::Cause(0x02)),
+        Step::One(
+            background(2, 4),
+            Answer::Cause(cause::MESSAGE_REFERENCE_ALREADY_USED),
+        ),
+        Step::One(
+            background_for(2, 5, 4),
+            Answer::Cause(cause::MESSAGE_REFERENCE_NOT_IDENTIFIED),
+        ),
         Step::Play(1),
         Step::One(background_for(1, 6, 4), replaced(2, 1)),
         Step::Two(standing_for(4, 7, 2), replaced(2, 0)),
@@ -74,10 +84,13 @@ fn background_replaces_a_message_that_waits(rt: HostRuntime) -> Result<(), Fail>
         Step::Play(1),
         Step::One(standing_for(1, 3, 2), replaced(4, 0)),
         Step::Play(1),
-        Step::One(standing(4, 4), Answer::Cause(0x06)),
+        Step::One(standing(4, 4), Answer::Cause(cause::BSC_CAPACITY_EXCEEDED)),
         Step::One(background_for(3, 5, 4), replaced(2, 0)),
         Step::One(standing(6, 4), started(2)),
-        Step::One(standing(7, 1024), Answer::Cause(0x06)),
+        Step::One(
+            standing(7, 1024),
+            Answer::Cause(cause::BSC_CAPACITY_EXCEEDED),
+        ),
         Step::Play(4),
     ];
     let book = run(&rt, rt.alloc(), 6, steps.as_slice())?;

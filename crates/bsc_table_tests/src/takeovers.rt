@@ -2,6 +2,7 @@
 
 use crate::orders::*;
 use bsc_table::{Aired, Answer, State};
+use cbsp_wire::cause;
 use std::test::Fail;
 
 /// A slot that airs nothing.
@@ -26,7 +27,10 @@ fn a_replacement_waits_and_may_be_replaced_again(rt: HostRuntime) -> Result<(), 
         Step::One(standing_for(1, 3, 4), replaced(4, 1)),
         Step::Status(3, Some((0, State::Standing))),
         Step::Play(1),
-        Step::One(standing_for(3, 4, 2), Answer::Cause(0x06)),
+        Step::One(
+            standing_for(3, 4, 2),
+            Answer::Cause(cause::BSC_CAPACITY_EXCEEDED),
+        ),
         Step::Play(1),
         Step::One(standing_for(3, 5, 4), replaced(4, 0)),
         Step::Play(5),
@@ -60,7 +64,7 @@ fn what_a_load_has_over_the_old_one_is_reserved_at_once(rt: HostRuntime) -> Resu
         Step::Play(1),
         Step::One(standing_for(1, 3, 2), replaced(4, 0)),
         Step::Play(1),
-        Step::One(standing(4, 4), Answer::Cause(0x06)),
+        Step::One(standing(4, 4), Answer::Cause(cause::BSC_CAPACITY_EXCEEDED)),
         Step::Play(6),
         Step::Status(1, stopped(1, 0)),
         Step::Status(2, Some((4, State::Standing))),
@@ -97,7 +101,10 @@ fn one_of_two_halves_is_handed_over(rt: HostRuntime) -> Result<(), Fail> {
         Step::One(standing(1, 2), started(0)),
         Step::One(standing(2, 2), started(0)),
         Step::Play(1),
-        Step::Two(standing_for(1, 3, 2), Answer::Cause(0x06)),
+        Step::Two(
+            standing_for(1, 3, 2),
+            Answer::Cause(cause::BSC_CAPACITY_EXCEEDED),
+        ),
         Step::Status(1, Some((1, State::Standing))),
         Step::One(standing_for(1, 3, 2), replaced(2, 1)),
         Step::Play(3),
@@ -120,9 +127,12 @@ fn a_message_killed_while_it_waits_was_never_broadcast(rt: HostRuntime) -> Resul
         Step::One(standing_for(1, 3, 4), replaced(4, 1)),
         Step::Play(2),
         Step::Kill(3, Answer::Stopped { completed: 0 }),
-        Step::Kill(3, Answer::Cause(0x02)),
-        Step::One(standing_for(3, 4, 4), Answer::Cause(0x02)),
-        Step::One(standing(4, 4), Answer::Cause(0x06)),
+        Step::Kill(3, Answer::Cause(cause::MESSAGE_REFERENCE_NOT_IDENTIFIED)),
+        Step::One(
+            standing_for(3, 4, 4),
+            Answer::Cause(cause::MESSAGE_REFERENCE_NOT_IDENTIFIED),
+        ),
+        Step::One(standing(4, 4), Answer::Cause(cause::BSC_CAPACITY_EXCEEDED)),
         Step::Play(1),
         Step::One(standing(4, 4), started(4)),
         Step::Play(4),
@@ -161,7 +171,10 @@ fn one_that_waits_is_among_the_64(rt: HostRuntime) -> Result<(), Fail> {
         Step::One(standing(100, 2), started(0)),
         Step::Play(1),
         Step::One(standing_for(100, 101, 2), replaced(2, 1)),
-        Step::One(standing_for(5, 102, 2), Answer::Cause(0x07)),
+        Step::One(
+            standing_for(5, 102, 2),
+            Answer::Cause(cause::CELL_MEMORY_EXCEEDED),
+        ),
         Step::One(standing_for(101, 102, 2), replaced(2, 0)),
     ];
     go_on(&rt, alloc, &mut book, steps.as_slice())

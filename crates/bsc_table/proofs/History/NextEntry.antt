@@ -179,12 +179,12 @@ before_end_cases P slots slot answer refuses accepts =
     cond_both (slot == slots) (answers.Cause 0x0A) answer P (λ _. refuses 0x0A) (λ _. accepts)
 
 -- an answer about a live message has what each refusal has, and what its own answer has
-pub of_live_cases : (P : Answer → Type 0) (slot : ℕ) (found : Option Accepted) (answer : Accepted → Answer)
+pub if_live_cases : (P : Answer → Type 0) (slot : ℕ) (found : Option Accepted) (answer : Accepted → Answer)
     → ((cause : ℕ) → P (answers.Cause cause))
     → ((a : Accepted) → found ≡ Some a → is_live slot a.message ≡ true → P (answer a))
     → P (if_live slot found answer)
-of_live_cases P slot None answer refuses accepts = refuses 0x02
-of_live_cases P slot (Some a) answer refuses accepts =
+if_live_cases P slot None answer refuses accepts = refuses 0x02
+if_live_cases P slot (Some a) answer refuses accepts =
     cond_both (is_live slot a.message) (answer a) (answers.Cause 0x02) P (λ live. accepts a refl live)
     (λ _. refuses 0x02)
 
@@ -282,7 +282,7 @@ kill_outcome : (log : List Entry) (air : Air) (slot id serial : ℕ)
 kill_outcome log air slot id serial once =
     let command = commands.Kill id serial in
     let P : Answer → Type 0 = λ answer. Outcome log (entry_with command slot answer) in
-    of_live_cases P slot (find (is_of_pair id serial) (accepted_in log))
+    if_live_cases P slot (find (is_of_pair id serial) (accepted_in log))
     (λ a. answers.Stopped (completed a.message air slot)) (refused log slot command) (λ a found live. record {
       stopped = Some a;
       started = None;
@@ -376,7 +376,7 @@ replacement_outcome log air slot id serial old category period broadcasts dcs co
     let P : Answer → Type 0 = λ answer. Outcome log (entry_with command slot answer) in
     let all = accepted_in log in
     let load = load_of (length contents) period in
-    of_live_cases P slot (find (is_of_pair id old) all) (λ a. unless_accepted (message_named id serial log)
+    if_live_cases P slot (find (is_of_pair id old) all) (λ a. unless_accepted (message_named id serial log)
     (answer_to_replacement log air slot category load a)) (refused log slot command)
     (λ a found live. unless_accepted_cases P (find (is_of_pair id serial) all)
     (answer_to_replacement log air slot category load a) (refused log slot command) (λ fresh.

@@ -34,7 +34,7 @@ use Rattle.bsc_table.specs.Reported.{completed_in, IsAbout, IsTrulyReported, Leg
 use Rattle.bsc_table.proofs.History.Accepted.{accepted_in-push}
 use Rattle.scheduler.proofs.Lists.{count_below_same}
 use Rattle.bsc_table.proofs.History.Pairs.{find_passes}
-use Rattle.bsc_table.proofs.History.NextEntry.{before_end_cases, of_live_cases, unless_accepted_cases, for_cases}
+use Rattle.bsc_table.proofs.History.NextEntry.{before_end_cases, if_live_cases, unless_accepted_cases, for_cases}
 use Rattle.bsc_table.proofs.History.NextEntry.{Contains-find}
 use Rattle.bsc_table.proofs.History.Promises.{legal_histories_are_bounded}
 use Rattle.bsc_table.proofs.History.LegalIsSound.{HasLoad, IsSound-legal}
@@ -77,7 +77,7 @@ kill_tells : (log : List Entry) (air : Air) (slot id serial : ℕ)
     → TellsTrue log air slot (commands.Kill id serial) (answer_to_kill log air slot id serial)
 kill_tells log air slot id serial =
     let P : Answer → Type 0 = TellsTrue log air slot (commands.Kill id serial) in
-    of_live_cases P slot (find (is_of_pair id serial) (accepted_in log))
+    if_live_cases P slot (find (is_of_pair id serial) (accepted_in log))
     (λ a. answers.Stopped (completed a.message air slot))
     (λ cause. tells_none log air slot (commands.Kill id serial) (answers.Cause cause) refl)
     (λ a found live. λ reported says. record {
@@ -104,7 +104,7 @@ write_tells log air slot load id serial (Some old) category command about =
     let P : Answer → Type 0 = TellsTrue log air slot command in
     let refuses : (cause : ℕ) → P (answers.Cause cause) = λ cause. tells_none log air slot command
     (answers.Cause cause) refl in
-    of_live_cases P slot (find (is_of_pair id old) (accepted_in log))
+    if_live_cases P slot (find (is_of_pair id old) (accepted_in log))
     (λ a. unless_accepted (message_named id serial log) (answer_to_replacement log air slot category load a))
     refuses (λ a found live. unless_accepted_cases P (find (is_of_pair id serial) (accepted_in log))
     (answer_to_replacement log air slot category load a) refuses (λ fresh.
