@@ -37,7 +37,8 @@ use Rattle.bsc_table.specs.Record.{is_live, state_at}
 abbrev pub answer_at : List Claim → ℕ → (ℕ → Answer) → Option Place → Answer
 answer_at claims slot accepts None = answers.Cause BSC_CAPACITY_EXCEEDED
 answer_at claims slot accepts (Some place) =
-    if nat_lt SCALE (claimed_at claims slot + place.excess) then answers.Cause BSC_CAPACITY_EXCEEDED else accepts place.start
+    if nat_lt SCALE (claimed_at claims slot + place.excess) then answers.Cause BSC_CAPACITY_EXCEEDED
+    else accepts place.start
 
 -- 5 and 6, else the answer that accepts, by the slot at which the message starts: at once where its load fits
 abbrev pub admit_or_refuse : List Claim → ℕ → ℕ → Option Place → (ℕ → Answer) → Answer
@@ -72,7 +73,8 @@ unless_accepted None answer = answer
 -- 3: what is said of a live message; cause 02 where it isn't live, or was never accepted
 abbrev pub if_live : ℕ → Option Accepted → (Accepted → Answer) → Answer
 if_live slot None answer = answers.Cause MESSAGE_REFERENCE_NOT_IDENTIFIED
-if_live slot (Some a) answer = if is_live slot a.message then answer a else answers.Cause MESSAGE_REFERENCE_NOT_IDENTIFIED
+if_live slot (Some a) answer =
+    if is_live slot a.message then answer a else answers.Cause MESSAGE_REFERENCE_NOT_IDENTIFIED
 
 abbrev pub answer_to_write : List Entry → Air → ℕ → ℕ → ℕ → Option ℕ → Category → ℕ → Answer
 answer_to_write log air slot id serial None category load =

@@ -55,7 +55,8 @@ is_basic (Some n) = n == 0
 
 -- cells and a command to them, where the message is for the basic channel; else cause 0C
 abbrev pub if_basic_channel : Option ℕ → List Cell → Command → Result (List Cell × Command) ℕ
-if_basic_channel channel cells command = if is_basic channel then Ok (cells, command) else Err EXTENDED_CHANNEL_NOT_SUPPORTED
+if_basic_channel channel cells command =
+    if is_basic channel then Ok (cells, command) else Err EXTENDED_CHANNEL_NOT_SUPPORTED
 
 -- a write with the category that it has, if any; else cause 01
 abbrev pub if_category_known : Option Category → (Category → Result (List Cell × Command) ℕ)

@@ -42,7 +42,7 @@ broadcastable id new old cells channel category period broadcasts dcs contents w
     let all_full : Bool = list_all is_full contents in
     let values = first_of_four (values_are_valid f) has_cells has_failures all_full writable in
     let parts = and_parts (contents_are_valid (Some n) contents && numbers_are_valid f) (all_cells_are_valid f) values
-        in
+    in
     let both = and_parts (contents_are_valid (Some n) contents) (numbers_are_valid f) parts.0 in
     let said = and_parts counted used both.0 in
     let pages = and_parts (is_page_count n) (n == n) said.0 in
