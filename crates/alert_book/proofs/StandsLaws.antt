@@ -14,16 +14,16 @@ use Rattle.alert_book.specs.Session.{sent_first, version_after, version_in, Repl
 use Rattle.alert_book.specs.SessionSteps.{live_with}
 use Rattle.alert_book.specs.Stands.{left_in, Advances, AreBelieved, HavePlaces, SessionState, StandsFor}
 use Rattle.alert_book.specs.VersionSteps.{has_place, kept_version, KeepsVersions}
-use Rattle.alert_book.proofs.VersionLaws.{Kept}
+use Rattle.alert_book.proofs.VersionLaws.{Entries}
 
 -- places stay
-pub places_stay : (old new : Kept) (request : Option Request) →
+pub places_stay : (old new : Entries) (request : Option Request) →
     ((n : ℕ) (c : Cell) → has_place new n c ≡ has_place old n c) → HavePlaces old request → HavePlaces new request
 places_stay old new None same places = tt
 places_stay old new (Some request) same places = λ k d within. same request.number _ ∙ places k d within
 
 -- the versions believed with a reply are those of the replies with that one
-believed_with : (entries : Kept) (replies : List Replied) (sent : Option Request) (outcome : Option Outcome) →
+believed_with : (entries : Entries) (replies : List Replied) (sent : Option Request) (outcome : Option Outcome) →
     AreBelieved entries replies → (n : ℕ) (c : Cell) →
     live_with entries sent outcome n c ≡ version_in (replies_with sent outcome replies) n c
 believed_with entries replies None outcome believed n c = believed n c
@@ -32,7 +32,7 @@ believed_with entries replies (Some request) (Some outcome) believed n c =
     ap (λ before. version_after request outcome (cells_asked request.message) n c before) (believed n c)
 
 -- versions that are kept are believed as before
-live_same : (old new : Kept) (sent : Option Request) (outcome : Option Outcome) →
+live_same : (old new : Entries) (sent : Option Request) (outcome : Option Outcome) →
     ((n : ℕ) (c : Cell) → kept_version new n c ≡ kept_version old n c) → (n : ℕ) (c : Cell) →
     live_with new sent outcome n c ≡ live_with old sent outcome n c
 live_same old new None outcome same n c = same n c
@@ -88,13 +88,13 @@ has_advanced old prepared new reply requests keeps sent row due has standing sta
     })
 
 -- what is due doesn't depend on the versions
-pub due_same : (old : SessionState) (versions : Kept) (found : Option Found) →
+pub due_same : (old : SessionState) (versions : Entries) (found : Option Found) →
     due_with (record old { versions = versions }) found ≡ due_with old found
 due_same old versions None = refl
 due_same old versions (Some found) = refl
 
 -- the request that is taken from those due has places where the first of them has
-pub popped : (versions : Kept) (due rest : List Request) (taken : Option Request) →
+pub popped : (versions : Entries) (due rest : List Request) (taken : Option Request) →
     due ≡ option_to_list taken ++ rest → HavePlaces versions (first_in due) → HavePlaces versions taken
 popped versions due rest None is places = tt
 popped versions due rest (Some request) is places = subst (λ (x : List Request). HavePlaces versions (first_in x)) is

@@ -7,8 +7,8 @@ use Rattle.cbsp_wire.specs.declared.message.Cell.{Cell}
 use Rattle.alert_book.specs.VersionSteps.{Key, is_key, key_of, flattened, kept_version, has_place, KeepsVersions}
 use Rattle.alert_book.specs.VersionSteps.{SetsVersion}
 
-abbrev pub Kept : Type 0
-Kept = List (Key × Option ℕ)
+abbrev pub Entries : Type 0
+Entries = List (Key × Option ℕ)
 
 -- the test of two keys is equality
 same_key : (a b : Key) → is_key a b ≡ true → a ≡ b
@@ -19,7 +19,7 @@ same_key (m, lac, ci) (n, l, d) same =
     ∙ ap (λ x. (n, l, x)) (eqb-true ci d outer.1)
 
 -- equal keys find the same
-pub found_same : (a b : Key) (entries : Kept) → is_key a b ≡ true →
+pub found_same : (a b : Key) (entries : Entries) → is_key a b ≡ true →
     lookup (is_key b) entries ≡ lookup (is_key a) entries
 found_same a b entries same = ap (λ k. lookup (is_key k) entries) (sym (same_key a b same))
 
@@ -34,7 +34,7 @@ no_place None none h = search (rules, h)
 no_place (Some version) none h = search (rules, none)
 
 -- a new place for no version keeps every version
-pub keeps_versions : (old new : Kept) (number : ℕ) (cell : Cell) → has_place old number cell ≡ false →
+pub keeps_versions : (old new : Entries) (number : ℕ) (cell : Cell) → has_place old number cell ≡ false →
     ((q : Key) → lookup (is_key q) new ≡ cond (is_key (key_of number cell) q) (Some None) (lookup (is_key q) old)) →
     KeepsVersions old new
 keeps_versions old new number cell none updated = record {
@@ -58,7 +58,7 @@ keeps_versions old new number cell none updated = record {
     ]
 
 -- a version that is set where there is a place
-pub sets_version : (old new : Kept) (number : ℕ) (cell : Cell) (version : Option ℕ) →
+pub sets_version : (old new : Entries) (number : ℕ) (cell : Cell) (version : Option ℕ) →
     has_place old number cell ≡ true →
     ((q : Key) → lookup (is_key q) new ≡ cond (is_key (key_of number cell) q) (Some version) (lookup (is_key q) old)) →
     SetsVersion old new number cell version
@@ -83,7 +83,7 @@ sets_version old new number cell version placed updated = record {
     ]
 
 -- what is kept twice is kept
-pub keeps_more : (old now new : Kept) → KeepsVersions old now → KeepsVersions now new → KeepsVersions old new
+pub keeps_more : (old now new : Entries) → KeepsVersions old now → KeepsVersions now new → KeepsVersions old new
 keeps_more old now new first then = record {
   same = λ n c. then.same n c ∙ first.same n c;
   places = λ n c placed. then.places n c (first.places n c placed);

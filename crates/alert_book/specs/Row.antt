@@ -19,15 +19,15 @@ use Rattle.alert_book.specs.Fields.{alert_at, are_texts, column, if_right, is_na
 use Rattle.alert_book.specs.Fields.{sending_at}
 
 -- the most rows of a book, and the most of them that declare cells
-abbrev pub most_rows : ℕ
-most_rows = 4096
+abbrev pub max_rows : ℕ
+max_rows = 4096
 
-abbrev pub most_cells : ℕ
-most_cells = 64
+abbrev pub max_cells : ℕ
+max_cells = 64
 
 -- the most updates of a name
-abbrev pub most_updates : ℕ
-most_updates = 15
+abbrev pub max_updates : ℕ
+max_updates = 15
 
 unfoldable pub verb_of : List ℕ → Option Verb
 verb_of word =
@@ -72,7 +72,7 @@ new_cell declared cell = if is_among declared cell then Err fault.TwiceNamed els
 -- `cell`, LAC, CI
 abbrev pub cell_row : List Cell → List (List ℕ) → Result Row BookFaultKind
 cell_row declared fields =
-    if nat_le most_cells (length declared) then Err fault.TooManyRows
+    if nat_le max_cells (length declared) then Err fault.TooManyRows
     else
     if_right (number 0 65535 (column fields 1)) (λ lac.
     if_right (number 0 65535 (column fields 2)) (λ ci.
@@ -90,7 +90,7 @@ write_row row declared orders fields =
 -- an update of a name with this first order, where it isn't one too many
 abbrev pub update_with : (row at : ℕ) → List ℕ → Order → (earlier : ℕ) → Sending → Result Row BookFaultKind
 update_with row at name first earlier sending =
-    if nat_le most_updates earlier then Err fault.TooManyUpdates
+    if nat_le max_updates earlier then Err fault.TooManyUpdates
     else Ok (rows.Give (order_with row at name first.number first.alert (action.Update (earlier + 1) sending)))
 
 -- `update`, AT, NAME, LANG, CATEGORY, PERIOD, BROADCASTS, CELLS, TEXT
@@ -123,6 +123,6 @@ row_after_verb (Some verb) row declared orders fields =
 -- what the row of this number means, where the rows before it declare these cells and give these orders
 abbrev pub row_of : (row : ℕ) → List Cell → List Order → List (List ℕ) → Result Row BookFaultKind
 row_of row declared orders fields =
-    if nat_lt most_rows row then Err fault.TooManyRows
+    if nat_lt max_rows row then Err fault.TooManyRows
     else if not (are_texts fields) then Err fault.Columns
     else row_after_verb (verb_of (column fields 0)) row declared orders fields

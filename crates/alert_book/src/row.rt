@@ -19,13 +19,13 @@ use csv::{ByteRecord, StringRecord};
 use std::alloc::Global;
 
 /// The most rows of a book.
-const MOST_ROWS: u16 = 4096;
+const MAX_ROWS: u16 = 4096;
 
 /// The most rows that declare cells.
-const MOST_CELLS: usize = 64;
+const MAX_CELLS: usize = 64;
 
 /// The most updates of a name.
-const MOST_UPDATES: usize = 15;
+const MAX_UPDATES: usize = 15;
 
 /// What a row does.
 #[derive(Debug, Drop)]
@@ -90,7 +90,7 @@ pub(crate) fn row_of(
         row_of row declared.now orders.now (fields_of fields) ≡ Err kind) }
     ensures unread { IfErr result (λ kind. kind ≢ BookFaultKind.ReadFailed) }
 {
-    if row > MOST_ROWS {
+    if row > MAX_ROWS {
         return Err(BookFaultKind::TooManyRows);
     }
     let fields = texts_of(fields)?;
@@ -135,7 +135,7 @@ fn cell_row(declared: &[Cell], fields: &StringRecord) -> Result<Row, BookFaultKi
     ensures wrong { IfErr result (λ kind. cell_row declared.now (fields_of fields.now) ≡ Err kind) }
     ensures unread { IfErr result (λ kind. kind ≢ BookFaultKind.ReadFailed) }
 {
-    if declared.len() >= MOST_CELLS {
+    if declared.len() >= MAX_CELLS {
         return Err(BookFaultKind::TooManyRows);
     }
     let lac = number(column(fields, 1), 0, u16::MAX)?;
@@ -244,7 +244,7 @@ fn update_with(
         update_with row at name.now first.now earlier sending ≡ Err kind) }
     ensures unread { IfErr result (λ kind. kind ≢ BookFaultKind.ReadFailed) }
 {
-    if earlier >= MOST_UPDATES {
+    if earlier >= MAX_UPDATES {
         return Err(BookFaultKind::TooManyUpdates);
     }
     let update = earlier as u8 + 1;
