@@ -20,7 +20,7 @@ use Rattle.bsc_table.specs.declared.entry.Entry.{Entry}
 use Rattle.bsc_table.specs.Record.{Record, Accepted, accepted_in, messages_in, is_of_pair}
 use Rattle.bsc_table.specs.Legal.{IsLegal}
 use Rattle.composition.proofs.Laws.{OfAnotherPair, BelowIt}
-use Rattle.composition.specs.Sent.{page_aired, pages_of_entry}
+use Rattle.cbch_blocks.specs.RecordBlocks.{page_aired, pages_of_entry}
 use Rattle.composition.specs.Composition.{name_accepted}
 use Rattle.composition.proofs.Blocks.{IsSendable, CanSend}
 use Rattle.composition.proofs.Sent.{IsPageOf, IsSentMessage, sent_by, can_send}

@@ -10,7 +10,7 @@ use Rattle.cbs_page.specs.declared.octets.PageView.{PageView}
 use Rattle.cbs_page.specs.Page.{place_of, view_of, is_readable}
 use Rattle.handset.specs.Reception.{page_octets, pages_read, readable_pages}
 use Rattle.cbch_blocks.specs.Blocks.{blocks_of_page}
-use Rattle.composition.specs.Sent.{octets_of_view, blocks_of_slot}
+use Rattle.cbch_blocks.specs.RecordBlocks.{octets_of_view, blocks_of_slot}
 
 quarter : (page : List ℕ) (n : ℕ) → take 22 (drop n page) ++ drop (n + 22) page ≡ drop n page
 quarter page n = ap (λ xs. take 22 (drop n page) ++ xs) (sym (drop-drop 22 n page)) ∙ take-append-drop 22 (drop n page)

@@ -23,7 +23,7 @@ use Rattle.bsc_table.specs.declared.entry.Entry.{Entry}
 use Rattle.bsc_table.specs.Record.{Record, Accepted, accepted_in, messages_in}
 use Rattle.bsc_table.specs.Legal.{IsLegal}
 use Rattle.composition.proofs.Laws.{Laws, HasLoad}
-use Rattle.composition.specs.Sent.{page_aired, blocks_of_slot}
+use Rattle.cbch_blocks.specs.RecordBlocks.{page_aired, blocks_of_slot}
 use Rattle.composition.specs.Composition.{name_accepted, message_accepted, blocks_before, CompletedIsWholeInBlocks}
 use Rattle.composition.specs.Composition.{ShownAreTheBroadcast}
 use Rattle.composition.proofs.Blocks.{readable_of_slots, first_slots}

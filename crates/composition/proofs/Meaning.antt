@@ -19,7 +19,7 @@ use Rattle.bsc_table.specs.declared.entry.Entry.{Entry}
 use Rattle.bsc_table.specs.Record.{Record, Accepted, accepted_in, messages_in}
 use Rattle.bsc_table.specs.Legal.{IsLegal}
 use Rattle.composition.proofs.Laws.{Laws}
-use Rattle.composition.specs.Sent.{page_with, page_aired, octets_of_view, blocks_of_slot, blocks_of}
+use Rattle.cbch_blocks.specs.RecordBlocks.{page_with, page_aired, octets_of_view, blocks_of_slot, blocks_of}
 use Rattle.composition.specs.Composition.{name_accepted, message_accepted, blocks_before, ShownGrowByOne}
 use Rattle.composition.specs.Meaning.{AcceptedAreMeant, NoneAfterTheStop, PagesReadAreThoseAired}
 use Rattle.composition.specs.Meaning.{ReportedIsWholeInBlocks, RecordsAreTapes, TextsAreThoseOfContents}

@@ -14,7 +14,7 @@ use Rattle.bsc_table.specs.Record.{Record, Accepted, accepted_in, messages_in}
 use Rattle.bsc_table.specs.Refusals.{accepted_entries, accepted_renumbered}
 use Rattle.bsc_table.specs.Legal.{IsLegal}
 use Rattle.composition.proofs.Laws.{Laws, HasLoad}
-use Rattle.composition.specs.Sent.{page_aired, pages_of_entry, blocks_of_slot, blocks_of_uses, blocks_of}
+use Rattle.cbch_blocks.specs.RecordBlocks.{page_aired, pages_of_entry, blocks_of_slot, blocks_of_uses, blocks_of}
 use Rattle.composition.specs.Same.{SameAcceptedSameBlocks}
 use Rattle.composition.proofs.Composed.{messages_rise}
 

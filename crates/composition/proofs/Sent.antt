@@ -18,7 +18,7 @@ use Rattle.bsc_table.specs.Record.{Record, Accepted, start_of, accepted_in}
 use Rattle.bsc_table.specs.Orders.{IsWellFormed}
 use Rattle.bsc_table.specs.Legal.{IsLegal}
 use Rattle.bsc_table.specs.Written.{IsWriteBy}
-use Rattle.composition.specs.Sent.{pages_from, pages_of_command, pages_of_entry}
+use Rattle.cbch_blocks.specs.RecordBlocks.{pages_from, pages_of_command, pages_of_entry}
 use Rattle.composition.specs.Composition.{name_accepted}
 use Rattle.composition.proofs.Laws.{Laws}
 use Rattle.composition.proofs.Blocks.{IsSendable}

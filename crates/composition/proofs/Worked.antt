@@ -7,7 +7,7 @@ use Rattle.bsc_table.specs.declared.entry.Entry.{Entry}
 use Rattle.scheduler.specs.Air.{Air}
 use Rattle.handset.specs.Reception.{Name, shown_in, pages_read}
 use Rattle.handset.specs.Counting.{whole_in}
-use Rattle.composition.specs.Sent.{blocks_of_uses}
+use Rattle.cbch_blocks.specs.RecordBlocks.{blocks_of_uses}
 
 abbrev log : List Entry
 log = record {

@@ -12,7 +12,7 @@ use Rattle.handset.specs.Showing.{name_shown}
 use Rattle.bsc_table.specs.declared.entry.Entry.{Entry}
 use Rattle.bsc_table.specs.Record.{Record, Accepted, accepted_in}
 use Rattle.bsc_table.specs.Legal.{IsLegal}
-use Rattle.composition.specs.Sent.{pages_of_entry, blocks_of}
+use Rattle.cbch_blocks.specs.RecordBlocks.{pages_of_entry, blocks_of}
 
 -- the pair of an accepted message, as a handset names it
 abbrev pub name_accepted : Accepted → Name

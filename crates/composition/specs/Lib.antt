@@ -1,4 +1,3 @@
 pub mod Composition
 pub mod Meaning
 pub mod Same
-pub mod Sent

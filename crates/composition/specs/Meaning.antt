@@ -9,12 +9,12 @@ use Rattle.scheduler.specs.Message.{IsBeforeStop}
 use Rattle.scheduler.specs.Air.{layer, airs}
 use Rattle.handset.specs.Reception.{pages_read, shown_in}
 use Rattle.handset.specs.Counting.{whole_in}
-use Rattle.handset.specs.Tape.{IsTape, tape_octets, max_slots}
+use Rattle.handset.specs.Tape.{IsTape, max_slots}
 use Rattle.bsc_table.specs.Record.{Record, Accepted, accepted_in}
 use Rattle.bsc_table.specs.Bounds.{least_completed, most_completed}
 use Rattle.bsc_table.specs.Reported.{completed_in, IsAbout}
 use Rattle.bsc_table.specs.Legal.{IsLegal}
-use Rattle.composition.specs.Sent.{page_aired, pages_from, blocks_of}
+use Rattle.cbch_blocks.specs.RecordBlocks.{page_aired, pages_from, blocks_of, tape_of_record}
 use Rattle.composition.specs.Composition.{name_accepted, message_accepted, blocks_before}
 
 -- the pages that are read of the blocks are those that the slots air, in order
@@ -59,11 +59,11 @@ NoneAfterTheStop = (r : Record) (slot : ℕ)
     → All (λ a. airs a.message.entry (slice_index_or r.air slot None) ≡ true → IsBeforeStop slot a.message.stop)
     (accepted_in r.log)
 
--- the octets of a record whose run is over are a tape, and its reading is what the blocks show
+-- the tape of a record whose run is over is a tape for a handset, and its reading is what the blocks show
 abbrev pub RecordsAreTapes : Type 0
 RecordsAreTapes = (r : Record)
     → IsLegal r
     → r.clock ≡ r.slots
     → r.slots ≤ max_slots
-    → IsTape (tape_octets r.cell r.slots (blocks_of r)) (record
+    → IsTape (tape_of_record r) (record
     { cell = r.cell; slots = r.slots; shown = shown_in (blocks_of r) })

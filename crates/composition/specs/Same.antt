@@ -3,7 +3,7 @@ use Rattle.std.specs.Prelude.{◌≡◌}
 use Rattle.bsc_table.specs.Record.{Record}
 use Rattle.bsc_table.specs.Refusals.{accepted_entries}
 use Rattle.bsc_table.specs.Legal.{IsLegal}
-use Rattle.composition.specs.Sent.{blocks_of}
+use Rattle.cbch_blocks.specs.RecordBlocks.{blocks_of}
 
 -- whatever else was refused or asked, and in cells of whatever names and runs of whatever lengths
 abbrev pub SameAcceptedSameBlocks : Type 0

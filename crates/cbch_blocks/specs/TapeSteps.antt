@@ -1,0 +1,22 @@
+-- What a slot can air (own). The contracts of private functions alone speak of it.
+use Rattle.std.specs.Prelude.{ℕ, ◌≤◌, ⊤, Option, Some, None, List, length}
+use Rattle.std.specs.List.{slice_get}
+use Rattle.bsc_table.specs.declared.command.Command.{Command}
+use Rattle.bsc_table.specs.declared.command.Command.TheVariants as commands
+use Rattle.bsc_table.specs.declared.entry.Entry.{Entry}
+
+-- a command that can be sent has a page of this number, and 15 pages at most
+abbrev pub CanSendPage : ℕ → Command → Type 0
+CanSendPage page (commands.Write id serial replaces category period broadcasts dcs contents) =
+    (1 ≤ page) × (page ≤ length contents) × (length contents ≤ 15)
+CanSendPage page (commands.Kill id serial) = ⊥
+CanSendPage page (commands.Status id serial) = ⊥
+
+abbrev pub CanSendPageOf : ℕ → Option Entry → Type 0
+CanSendPageOf page None = ⊥
+CanSendPageOf page (Some e) = CanSendPage page e.command
+
+-- a slot is idle, or the entry that it uses can send the page that it uses
+abbrev pub CanAir : List Entry → Option (ℕ × ℕ) → Type 0
+CanAir log None = ⊤
+CanAir log (Some used) = CanSendPageOf used.1 (slice_get log used.0)

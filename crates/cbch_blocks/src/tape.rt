@@ -1,0 +1,123 @@
+//! Tapes: the octets of a record's blocks, behind a header that says its cell and how many slots it has.
+
+ghost use Rattle.std.specs.Prelude.{◌≡◌, ◌<◌, ◌≤◌, true, is_err, length, take, IfErr, IfOk, OnOk};
+ghost use Rattle.std.specs.Io.KnownBytes.{Appends};
+ghost use Rattle.device_ends.specs.Sink.{sink_failed, writer_of};
+ghost use Rattle.cbch_blocks.specs.RecordBlocks.{tape_header, tape_of_record};
+
+use crate::slot::put_slot;
+use bsc_table::CellRecord;
+use cbsp_wire::Cell;
+use device_ends::{Sink, write_front};
+use std::alloc::{AllocError, Global};
+use std::io::Write;
+use std::marker::Model;
+use thiserror::Error;
+
+/// How many octets the header of a tape has.
+const HEADER: usize = 8;
+
+/// How many octets the blocks of a slot have.
+const SLOT: usize = 92;
+
+/// Memory was refused.
+#[derive(Clone, Copy, Debug, PartialEq, Eq, Error)]
+#[error("out of memory")]
+pub struct Refused;
+
+impl From<AllocError> for Refused {
+    fn from(_error: AllocError) -> Refused {
+        Refused
+    }
+}
+
+/// A tape could not be written whole.
+#[derive(Clone, Copy, Debug, PartialEq, Eq, Error)]
+#[error("write failed")]
+pub struct WriteFailed {
+    /// How many octets of the tape went out: its first ones.
+    pub written: u64,
+}
+
+/// The tape of a record: the location area code and the cell identity of its cell in two octets each, the number of its
+/// slots in four, high octets first, and then the four blocks of each slot, of 23 octets each. In clauses it is its
+/// octets.
+#[derive(Debug, Drop)]
+pub struct Tape {
+    octets: Vec<u8>,
+}
+
+impl Model for Tape {
+    ghost use Rattle.std.specs.Prelude.{ℕ, List};
+
+    ghost Value = { List ℕ };
+
+    ghost view = { λ tape. tape.octets.items };
+}
+
+impl Tape {
+    /// The octets, at most 8 + 92 * 65,535 of them.
+    pub fn bytes(&self) -> &[u8]
+        ensures { result.now ≡ self.now }
+    {
+        self.octets.as_slice()
+    }
+
+    /// Writes all octets, and takes no memory.
+    ///
+    /// # Errors
+    ///
+    /// Returns [`WriteFailed`] exactly if the sink has failed, with how many of the first octets went out. A sink that
+    /// had failed before takes none.
+    pub fn write_to<W: Write>(&self, sink: &mut Sink<W>) -> Result<(), WriteFailed>
+        ensures ok { OnOk result (Appends (W.contents (writer_of sink.old))
+            (W.contents (writer_of sink.new)) self.now) }
+        ensures err { IfErr result (λ fault. Appends (W.contents (writer_of sink.old))
+            (W.contents (writer_of sink.new)) (take fault.written self.now)) }
+
+        // At any writer.
+        ensures front { IfErr result (λ fault. 0 < length self.now → fault.written < length self.now) }
+        ensures failed { sink_failed sink.new ≡ is_err result }
+        ensures failed_stays { sink_failed sink.old ≡ true → sink.new ≡ sink.old }
+    {
+        let written = write_front(sink, self.bytes());
+        if sink.failed() {
+            Err(WriteFailed {
+                written: written as u64,
+            })
+        } else {
+            Ok(())
+        }
+    }
+}
+
+/// The header of a tape.
+fn header_of(cell: Cell, slots: u16) -> [u8; HEADER]
+    ensures { result ≡ tape_header cell slots }
+{
+    let [lac_high, lac_low] = cell.lac.to_be_bytes();
+    let [ci_high, ci_low] = cell.ci.to_be_bytes();
+    let [first, second, third, fourth] = u32::from(slots).to_be_bytes();
+    [
+        lac_high, lac_low, ci_high, ci_low, first, second, third, fourth,
+    ]
+}
+
+/// The tape of the record of a run. Takes the memory for all its octets at once, and no other.
+///
+/// # Errors
+///
+/// Returns [`Refused`] if memory was refused.
+pub fn tape_of(alloc: Global, run: &CellRecord) -> Result<Tape, Refused>
+    ensures { IfOk result (λ tape. tape ≡ tape_of_record run.now) }
+{
+    // Each used slot airs a page of an accepted write of the log.
+    bsc_table::legal_histories();
+    let slots = run.slots();
+    let mut octets = Vec::with_capacity(alloc, HEADER + SLOT * usize::from(slots))?;
+    octets.extend_from_slice(&header_of(run.cell(), slots))?;
+    for used in run.air() {
+        put_slot(&mut octets, run.log(), *used)?;
+    }
+    Ok(Tape { octets })
+}

@@ -1,0 +1,77 @@
+//! Writers that fail, and refused memory.
+
+use crate::records::{one_write, silent};
+use cbch_blocks::{Refused, Tape, WriteFailed, tape_of};
+use cbsp_wire::Cell;
+use device_ends::Sink;
+use device_ends::memory::MemoryWriter;
+use std::alloc::Global;
+use std::process::Abort;
+use std::test::Fail;
+
+/// Writes a tape to a writer that takes so many octets a call and fails after so many calls.
+fn expect_front(rt: &impl Abort, alloc: Global, tape: &Tape, per_call: usize, calls: usize) {
+    let mut writer = MemoryWriter::new(alloc, per_call, Some(calls));
+    let mut sink = Sink::new(&mut writer);
+    let octets = tape.bytes();
+    let out = per_call.saturating_mul(calls).min(octets.len());
+    let answer = tape.write_to(&mut sink);
+    if out == octets.len() {
+        assert_eq!(rt; answer, Ok(()), "{per_call} {calls}");
+        assert!(rt; !sink.failed());
+    } else {
+        let fault = WriteFailed {
+            written: out as u64,
+        };
+        assert_eq!(rt; answer, Err(fault), "{per_call} {calls}");
+        assert_eq!(rt; tape.write_to(&mut sink), Err(WriteFailed { written: 0 }));
+        assert!(rt; sink.failed());
+    }
+    assert_eq!(rt; writer.contents(), &octets[..out], "{per_call} {calls}");
+}
+
+#[test]
+fn a_writer_fails_at_each_call(rt: HostRuntime) -> Result<(), Fail> {
+    let tape = tape_of(rt.alloc(), &one_write(&rt, rt.alloc())?)?;
+    assert_eq!(rt; tape.bytes().len(), 192);
+    for (per_call, most) in [(1, 192), (7, 28), (100, 2)] {
+        for calls in 0..=most {
+            expect_front(&rt, rt.alloc(), &tape, per_call, calls);
+        }
+    }
+    Ok(())
+}
+
+/// Takes the memory that the process may have, in blocks of falling size, down to 1 MiB.
+fn take_all(alloc: Global, taken: &mut Vec<Vec<u8>>) {
+    let mut size = 0x4000_0000_0000_usize;
+    for _ in 0..27 {
+        for _ in 0..20_000 {
+            let Ok(block) = Vec::with_capacity(alloc, size) else {
+                break;
+            };
+            let _ = taken.push(block);
+        }
+        size /= 2;
+    }
+}
+
+#[test]
+fn refused_memory_is_reported(rt: HostRuntime) -> Result<(), Fail> {
+    let run = silent(rt.alloc(), Cell { lac: 1, ci: 1 }, 65_535)?;
+    let mut taken = Vec::with_capacity(rt.alloc(), 100_000)?;
+    take_all(rt.alloc(), &mut taken);
+    let answer = tape_of(rt.alloc(), &run);
+    taken.clear();
+    assert!(rt; matches!(answer, Err(Refused)));
+    assert_eq!(rt; tape_of(rt.alloc(), &run)?.bytes().len(), 6_029_228);
+    Ok(())
+}
+
+#[test]
+fn texts_of_faults(rt: HostRuntime) -> Result<(), Fail> {
+    let fault = WriteFailed { written: 7 };
+    assert_eq!(rt; fault.to_string(rt.alloc())?.as_str(), "write failed");
+    assert_eq!(rt; Refused.to_string(rt.alloc())?.as_str(), "out of memory");
+    Ok(())
+}

@@ -1,0 +1,12 @@
+//! Tests of `cbch_blocks` by its public calls, so that it isn't proved twice: worked blocks and tapes, writers that
+//! fail at each call, and refused memory.
+#![tactic(auto)]
+
+#[cfg(test)]
+mod blocks;
+#[cfg(test)]
+mod ends;
+#[cfg(test)]
+mod records;
+#[cfg(test)]
+mod tapes;
