@@ -3,7 +3,9 @@
 #![tactic(auto)]
 
 mod cells;
+mod laws;
 mod reply;
 
 pub use cells::cells_ok;
+pub use laws::reply_laws;
 pub use reply::reply_of;
