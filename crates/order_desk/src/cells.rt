@@ -1,0 +1,37 @@
+//! The cells that an order or a desk may have.
+
+ghost use Rattle.std.specs.Prelude.{◌≡◌};
+ghost use Rattle.std.specs.List.{list_any};
+ghost use Rattle.cbsp_wire.specs.Range.{are_distinct, cells_are_valid, is_cell};
+
+use cbsp_wire::Cell;
+
+/// Whether a cell stands in a list.
+fn stands_in(cell: Cell, cells: &[Cell]) -> bool
+    ensures { result ≡ list_any (is_cell cell) cells.now }
+{
+    cells
+        .iter()
+        .any(|other| cell.lac == other.lac && cell.ci == other.ci)
+}
+
+/// Whether no cell stands twice in a list.
+fn are_distinct(cells: &[Cell]) -> bool
+    ensures { result ≡ are_distinct cells.now }
+{
+    let mut left = cells;
+    while let Some((first, rest)) = left.split_first() {
+        if stands_in(*first, rest) {
+            return false;
+        }
+        left = rest;
+    }
+    true
+}
+
+/// Whether there are at most 64 cells, and none stands twice. It takes no memory.
+pub fn cells_ok(cells: &[Cell]) -> bool
+    ensures { result ≡ cells_are_valid cells.now }
+{
+    cells.len() <= 64 && are_distinct(cells)
+}
