@@ -4,7 +4,6 @@ use bsc_table::{Answer, Category, Command};
 use cbs_page::{Dcs, Serial};
 use cbsp_wire::{Cell, Contents, cause};
 use order_desk::{cells_ok, reply_of};
-use std::alloc::Global;
 use std::process::Abort;
 use std::test::Fail;
 
@@ -177,31 +176,5 @@ fn all_of_64_cells_accept(rt: HostRuntime) -> Result<(), Fail> {
     assert_eq!(&rt; reply.len(), 270);
     assert!(&rt; reply.starts_with(first.as_slice()));
     assert!(&rt; reply.ends_with([0x00, 0x01, 0x00, 0x3F].as_slice()));
-    Ok(())
-}
-
-/// Takes all the memory that the process may have, in blocks of falling size.
-fn take_all(alloc: Global, taken: &mut Vec<Vec<u8>>) {
-    let mut size = 0x4000_0000_0000_usize;
-    for _ in 0..43 {
-        for _ in 0..20_000 {
-            let Ok(block) = Vec::with_capacity(alloc, size) else {
-                break;
-            };
-            let _ = taken.push(block);
-        }
-        size /= 2;
-    }
-}
-
-#[test]
-fn refused_memory_is_reported(rt: HostRuntime) -> Result<(), Fail> {
-    let answers = [(cell(1, 1), Answer::Stopped { completed: 0 })];
-    let mut taken = Vec::with_capacity(rt.alloc(), 100_000)?;
-    take_all(rt.alloc(), &mut taken);
-    let refused = reply_of(rt.alloc(), &kill(), answers.as_slice()).is_err();
-    taken.clear();
-    assert!(&rt; refused);
-    assert!(&rt; reply_of(rt.alloc(), &kill(), answers.as_slice()).is_ok());
     Ok(())
 }
