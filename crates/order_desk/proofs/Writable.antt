@@ -7,7 +7,8 @@ use Rattle.std.proofs.lemmas.Bool.{leb-true, le-leb}
 use Rattle.cbsp_wire.specs.declared.message.Cell.{Cell}
 use Rattle.cbsp_wire.specs.declared.message.Failure.{Failure}
 use Rattle.cbsp_wire.specs.declared.message.Count.{Count}
-use Rattle.cbsp_wire.specs.Range.{are_distinct, cells_are_valid, cells_of_counts, cells_of_failures, is_cell, is_writable}
+use Rattle.cbsp_wire.specs.Range.{are_distinct, cells_are_valid, cells_of_counts, cells_of_failures, is_cell}
+use Rattle.cbsp_wire.specs.Range.{is_writable}
 use Rattle.cbsp_wire.specs.Meaning.{IsMessage}
 use Rattle.cbsp_wire.specs.Written.{octets_of_message}
 use Rattle.cbsp_wire.proofs.Tests.{and_parts, and_both, not_true}

@@ -222,8 +222,8 @@ fn reply_message(
     }
 }
 
-/// The reply to a write or a kill, by the answers of its cells in the order's list: its octets, with the elements in the
-/// table's order (3GPP TS 48.049, 8.1; which lists it has is own).
+/// The reply to a write or a kill, by the answers of its cells in the order's list: its octets, with the elements in
+/// the table's order (3GPP TS 48.049, 8.1; which lists it has is own).
 ///
 /// It asks for 1 to 64 distinct cells (see [`cells_ok`](crate::cells_ok)), and for each an answer that the command can
 /// get: that it was done, or a cause.

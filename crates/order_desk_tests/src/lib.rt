@@ -1,4 +1,4 @@
-//! Tests of `order_desk` by its public calls: replies worked by hand, cells, and refused memory.
+//! Tests of `order_desk` by its public calls: replies worked by hand, and cells.
 #![tactic(auto)]
 
 #[cfg(test)]
