@@ -1,8 +1,8 @@
-use Rattle.std.proofs.Common.{Option, List, [], ◌∷◌, ◌++◌, ℕ, subst, refl, IfSome, arith}
-use Rattle.std.specs.Prelude.{MatchBool, ◌<◌, length}
+use Rattle.std.proofs.Common.{Option, Some, None, List, [], ◌∷◌, ◌++◌, ℕ, ◌≡◌, ap, subst, refl, IfSome, arith}
+use Rattle.std.specs.Prelude.{MatchBool, IfNone, ◌<◌, length}
 use Rattle.std.specs.Io.KnownBytes.{IsAtEnd}
 use Rattle.device_ends.specs.Source.{reader_of}
-use Rattle.handset.specs.Tape.{reading_of}
+use Rattle.handset.specs.Tape.{reading_of, IsShortTape}
 use Rattle.handset.specs.TapeSteps.{ReadsCount, ReadsTape}
 use Rattle.std.proofs.lemmas.Result.{err_from_is_err_and}
 use Rattle.handset.proofs.TapeLaws.{tape_goes_on, ReadsTapes, ReadsTapes-none, ReadsTapes-more}
@@ -62,3 +62,14 @@ returns-clause-extent g c =
     let one : ReadsTapes old mid ([] ++ reading_of c.in-Ok-Some.reading ∷ []) =
     ReadsTapes-more old old mid [] (reading_of c.in-Ok-Some.reading) (ReadsTapes-none old) reads in
     stops-at-last 1 old mid new ([] ++ reading_of c.in-Ok-Some.reading ∷ []) one refl c.in-Err-is_at_end.ensures.stopped
+
+-- an input that is at its end is no whole tape
+short_at_end : (left : Option (List ℕ)) → IsAtEnd left → IfSome left IsShortTape
+short_at_end None end = tt
+short_at_end (Some input) end = λ eight. let empty : length input ≡ 0 = ap length end in absurd (omega arith)
+
+pub returns-in-Ok-None-clause-fault : goal.returns-in-Ok-None-clause-fault
+returns-in-Ok-None-clause-fault g c =
+    let old : Option (List ℕ) = g.R.Read.remaining (reader_of c.args.source.now) in
+    short_at_end old
+    (subst (λ next. IfNone next (IsAtEnd old)) c.in-Ok-None.field-0-is c.in-Ok-None.ensures.end)
