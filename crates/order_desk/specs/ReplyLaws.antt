@@ -8,8 +8,8 @@ use Rattle.bsc_table.specs.declared.entry.Answer.TheVariants as answers
 use Rattle.order_desk.specs.Reply.{cells_answered, counted_in, refused_in}
 
 -- a refusal is told with its cell and its cause, between the refusals before and after it
-abbrev pub RefusalsAreTold : Type 0
-RefusalsAreTold = (cell : Cell) (cause : ℕ) (before after : List (Cell × Answer))
+abbrev pub RefusalsAreListed : Type 0
+RefusalsAreListed = (cell : Cell) (cause : ℕ) (before after : List (Cell × Answer))
     → refused_in (before ++ (cell, answers.Cause cause) ∷ after)
     ≡ refused_in before ++ record { cell = cell; cause = cause } ∷ refused_in after
 

@@ -5,8 +5,8 @@ use Rattle.order_desk.specs.Reply.{count_by, failure_by}
 use Rattle.order_desk.proofs.Writable.{absent, failure_names}
 use Rattle.order_desk.proofs.laws.reply_laws.Goals as goal
 
-pub returns-clause-refusals_are_told : goal.returns-clause-refusals_are_told
-returns-clause-refusals_are_told c = λ cell cause before after.
+pub returns-clause-refusals_are_listed : goal.returns-clause-refusals_are_listed
+returns-clause-refusals_are_listed c = λ cell cause before after.
     filter_map-append (λ a. failure_by a.0 a.1) before ((cell, answers.Cause cause) ∷ after)
 
 pub returns-clause-stops_are_counted : goal.returns-clause-stops_are_counted
