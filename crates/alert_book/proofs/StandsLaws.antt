@@ -5,7 +5,7 @@ use Rattle.cbs_page.specs.declared.paging.Paged.{Paged}
 use Rattle.cbsp_wire.specs.declared.message.Cell.{Cell}
 use Rattle.cbsp_wire.specs.declared.message.Message.{Message}
 use Rattle.alert_book.specs.declared.session.Found.{Found}
-use Rattle.alert_book.specs.Advancing.{due_with, first_in, rest_of, row_after, HasAdvanced}
+use Rattle.alert_book.specs.AdvancingSteps.{due_with, first_in, rest_of, row_after, HasAdvanced}
 use Rattle.alert_book.specs.declared.order.Order.{Order}
 use Rattle.alert_book.specs.declared.outcome.Outcome.{Outcome}
 use Rattle.alert_book.specs.declared.request.Request.{Request}

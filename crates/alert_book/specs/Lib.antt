@@ -5,9 +5,9 @@ pub mod Row
 pub mod Book
 pub mod Laws
 pub mod Session
-pub mod Sendable
-pub mod Fine
+pub mod SendableSteps
+pub mod RowSteps
 pub mod SessionSteps
 pub mod VersionSteps
 pub mod Stands
-pub mod Advancing
+pub mod AdvancingSteps

@@ -6,7 +6,7 @@ ghost use Rattle.device_ends.specs.Source.{reader_of, source_failed};
 ghost use Rattle.std.specs.Str.{chars};
 ghost use Rattle.cbs_page.specs.Text.{IsTextFault};
 ghost use Rattle.alert_book.specs.Book.{fault_at, refused, unread, sending_of, AreRowsOf, ArePagesOf, HavePages};
-ghost use Rattle.alert_book.specs.Sendable.{IsSendable};
+ghost use Rattle.alert_book.specs.SendableSteps.{IsSendable};
 ghost use Rattle.alert_book.specs.Book.{IsBook, IsRowFault, HasWrongText, IsWrong, ReadsBook, RefusesBook};
 
 use crate::fault::{BookFault, BookFaultKind};
@@ -40,7 +40,7 @@ impl Model for Book {
         record { cells = book.cells.items; orders = book.orders.items; pages = book.pages.items } };
 
     ghost use Rattle.std.specs.Prelude.{◌≡◌, All, length};
-    ghost use Rattle.alert_book.specs.Sendable.{IsSendable};
+    ghost use Rattle.alert_book.specs.SendableSteps.{IsSendable};
 
     ghost invariant = { λ book. All IsSendable book.orders.items
         × (length book.pages.items ≡ length book.orders.items) };
@@ -86,7 +86,7 @@ impl Model for Known {
     ghost view = { λ known. record { cells = known.cells.items; orders = known.orders.items } };
 
     ghost use Rattle.std.specs.Prelude.{All};
-    ghost use Rattle.alert_book.specs.Sendable.{IsSendable};
+    ghost use Rattle.alert_book.specs.SendableSteps.{IsSendable};
 
     ghost invariant = { λ known. All IsSendable known.orders.items };
 }

@@ -5,7 +5,7 @@ ghost use Rattle.std.specs.Option.{option_copied};
 ghost use Rattle.csv.specs.Records.{fields_of};
 ghost use Rattle.alert_book.specs.Fields.{alert_at, are_texts, category, column, first_order, is_named, known_name};
 ghost use Rattle.alert_book.specs.Fields.{new_name, number, sending_at};
-ghost use Rattle.alert_book.specs.Sendable.{HasSerials, IsSendable};
+ghost use Rattle.alert_book.specs.SendableSteps.{HasSerials, IsSendable};
 
 use crate::cells::cells_of_field;
 use crate::fault::BookFaultKind;

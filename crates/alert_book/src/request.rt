@@ -5,7 +5,7 @@ ghost use Rattle.alert_book.specs.Session.{cells_with, has_cells, is_version, re
 ghost use Rattle.alert_book.specs.Session.{serial_of};
 ghost use Rattle.alert_book.specs.Session.{request_with, stop_request, update_request, write_of};
 ghost use Rattle.alert_book.specs.SessionSteps.{live_by};
-ghost use Rattle.alert_book.specs.Sendable.{HasSerials, IsSendable};
+ghost use Rattle.alert_book.specs.SendableSteps.{HasSerials, IsSendable};
 
 use crate::believed::Believed;
 use crate::cells::list_of;

@@ -3,8 +3,8 @@
 ghost use Rattle.std.specs.Prelude.{◌≡◌, ◌≢◌, ◌≤◌, Ok, Err, All, IfErr, IfOk, count_by, length};
 ghost use Rattle.csv.specs.Records.{fields_of};
 ghost use Rattle.alert_book.specs.Fields.{column};
-ghost use Rattle.alert_book.specs.Sendable.{HasSerials, IsSendable};
-ghost use Rattle.alert_book.specs.Fine.{IsFine};
+ghost use Rattle.alert_book.specs.SendableSteps.{HasSerials, IsSendable};
+ghost use Rattle.alert_book.specs.RowSteps.{IsFine};
 ghost use Rattle.alert_book.specs.Row.{cell_row, columns_of, is_update_of, is_write, row_after_verb, row_of};
 ghost use Rattle.alert_book.specs.Row.{row_of_verb, stop_row, update_row, update_with, verb_of, write_row};
 

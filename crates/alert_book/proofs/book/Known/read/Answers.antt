@@ -1,7 +1,7 @@
 use Rattle.std.proofs.Common.{All, sym, subst}
 use Rattle.std.proofs.lemmas.List.Elements.{All-push}
-use Rattle.alert_book.specs.Fine.{IsFine}
-use Rattle.alert_book.specs.Sendable.{IsSendable}
+use Rattle.alert_book.specs.RowSteps.{IsFine}
+use Rattle.alert_book.specs.SendableSteps.{IsSendable}
 use Rattle.alert_book.proofs.book.Known.read.Goals as goal
 
 pub invariant_of-self-in-Continue-branch-4 : goal.invariant_of-self-in-Continue-branch-4

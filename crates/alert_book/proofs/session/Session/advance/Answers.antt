@@ -1,6 +1,6 @@
 use Rattle.std.proofs.Common.{rules, Option, sym, subst}
 use Rattle.alert_book.specs.declared.session.Found.{Found}
-use Rattle.alert_book.specs.Advancing.{due_with, first_in}
+use Rattle.alert_book.specs.AdvancingSteps.{due_with, first_in}
 use Rattle.alert_book.specs.Stands.{HavePlaces, SessionState}
 use Rattle.alert_book.proofs.StandsLaws.{places_stay, popped}
 use Rattle.alert_book.proofs.session.Session.advance.Goals as goal

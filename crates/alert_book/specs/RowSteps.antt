@@ -2,7 +2,7 @@
 use Rattle.std.specs.Prelude.{⊤}
 use Rattle.alert_book.specs.declared.row.Row.{Row}
 use Rattle.alert_book.specs.declared.row.Row.TheVariants as rows
-use Rattle.alert_book.specs.Sendable.{IsSendable}
+use Rattle.alert_book.specs.SendableSteps.{IsSendable}
 
 abbrev pub IsFine : Row → Type 0
 IsFine (rows.Declare cell) = ⊤

@@ -1,4 +1,5 @@
--- Orders whose messages have serial numbers (own). Contracts of private functions alone speak of it.
+-- Orders whose messages have serial numbers (own). The type of books keeps this of its orders, and contracts of private
+-- functions alone speak of it.
 use Rattle.std.specs.Prelude.{⊤, ◌<◌}
 use Rattle.alert_book.specs.declared.order.Action.{Action}
 use Rattle.alert_book.specs.declared.order.Action.TheVariants as action
