@@ -139,6 +139,13 @@ const KILL_1: [u8; 18] = [
     0x00, 0x01,
 ];
 
+/// The message of a first row for both cells, but for its content.
+const WRITE_TO_BOTH: [u8; 36] = [
+    0x01, 0x00, 0x00, 0x72, 0x0E, 0x11, 0x12, 0x03, 0x00, 0x10, 0x04, 0x00, 0x09, 0x01, 0x00, 0x01,
+    0x00, 0x01, 0x00, 0x01, 0x00, 0x02, 0x05, 0x02, 0x06, 0x00, 0x02, 0x07, 0x00, 0x00, 0x13, 0x01,
+    0x0C, 0x01, 0x01, 0x01,
+];
+
 /// Refused 06 in cell 1-2, accepted in cell 1-1.
 const WRITE_IN_ONE: [u8; 27] = [
     0x03, 0x00, 0x00, 0x17, 0x0E, 0x11, 0x12, 0x03, 0x00, 0x10, 0x09, 0x00, 0x06, 0x01, 0x00, 0x01,
@@ -161,7 +168,7 @@ fn an_update_is_for_the_cells_that_accepted(rt: HostRuntime) -> Result<(), Fail>
         Turn {
             last: None,
             at: 0,
-            first: &WRITE[..1],
+            first: &WRITE_TO_BOTH,
             row: 3,
         },
         Turn {
@@ -204,18 +211,18 @@ const NOT_LIVE: [u8; 19] = [
 #[test]
 fn a_row_has_a_message_for_each_version(rt: HostRuntime) -> Result<(), Fail> {
     let rows = "cell,1,1\ncell,1,2\nwrite,0,a,4370,0,1,en,2,2,0,*,@\n\
-         update,1,a,en,2,2,0,1-1,@\nstop,2,a,*\nstop,3,a,*\n";
+         update,1,a,en,2,2,3,1-1,@\nstop,2,a,*\nstop,3,a,*\n";
     let turns = [
         Turn {
             last: None,
             at: 0,
-            first: &WRITE[..1],
+            first: &WRITE_TO_BOTH,
             row: 3,
         },
         Turn {
             last: Some(&WRITE_IN_BOTH),
             at: 1,
-            first: &UPDATE[..1],
+            first: &UPDATE,
             row: 4,
         },
         Turn {
