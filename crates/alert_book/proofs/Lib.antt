@@ -8,3 +8,7 @@ pub mod OneAnswer
 mod VersionLaws
 mod SessionLaws
 mod StandsLaws
+pub mod TurnsEnd
+pub mod TurnsAsk
+pub mod TurnsComeOf
+pub mod FewRows

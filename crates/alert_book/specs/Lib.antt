@@ -5,6 +5,8 @@ pub mod Row
 pub mod Book
 pub mod Laws
 pub mod Session
+pub mod Turns
+pub mod TurnLaws
 pub mod SendableSteps
 pub mod RowSteps
 pub mod SessionSteps

@@ -1,10 +1,25 @@
-//! A law of books.
+//! Laws of books and of sessions.
 
-ghost use Rattle.alert_book.specs.Laws.{RowsAreOne, RowsAreRightOrWrong};
+ghost use Rattle.alert_book.specs.Laws.{CellsAreValid, RowsAreFew, RowsAreOne, RowsAreRightOrWrong};
+ghost use Rattle.alert_book.specs.TurnLaws.{AsksOncePerOrder, RequestsComeOfOrders, SessionsEnd};
 
-/// Octets mean one list of cells and orders at most, and if they do, no row of theirs is wrong. It does nothing: its
-/// contract is the law.
+/// Octets mean one list of cells and orders at most, and if they do, no row of theirs is wrong. A book has at most
+/// 4,096 rows, and declares at most 64 cells, none twice. It does nothing: its contract is the law.
 pub fn book_laws()
     ensures one { RowsAreOne }
     ensures right_or_wrong { RowsAreRightOrWrong }
+    ensures few { RowsAreFew }
+    ensures cells { CellsAreValid }
+{}
+
+/// States, as its contract, what holds of the turns of every session, whatever the replies say. It does nothing.
+pub fn session_laws()
+    // Each request leaves fewer that can follow it: a session ends.
+    ensures end { SessionsEnd }
+
+    // No cell is asked more often than the book has orders.
+    ensures once_per_order { AsksOncePerOrder }
+
+    // Each request has the row, the slot, the identifier and the text of an order of the book.
+    ensures come_of_orders { RequestsComeOfOrders }
 {}
