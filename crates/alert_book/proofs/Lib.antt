@@ -12,3 +12,4 @@ pub mod TurnsEnd
 pub mod TurnsAsk
 pub mod TurnsComeOf
 pub mod FewRows
+pub mod Utf8Laws

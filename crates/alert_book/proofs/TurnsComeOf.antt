@@ -1,5 +1,5 @@
 -- Each request of a session comes of an order of the book.
-use Rattle.std.proofs.Common.{◌≡◌, ℕ, Option, Some, None, List, [], ◌∷◌, All, refl, ap, subst}
+use Rattle.std.proofs.Common.{◌≡◌, ℕ, Option, Some, None, List, [], ◌∷◌, All, refl, ap, subst, sym}
 use Rattle.std.specs.List.{Any, Contains}
 use Rattle.std.proofs.lemmas.List.Elements.{All-cons, All-contains_itself, All-filter, All-head, All-map, All-nil}
 use Rattle.std.proofs.lemmas.List.Elements.{All-tail, All-weaker}
@@ -14,9 +14,9 @@ use Rattle.alert_book.specs.Book.{sending_of, ArePagesOf, Contents, HavePages}
 use Rattle.alert_book.specs.Session.{advanced, after_reply, due_requests, first_requests, found_first}
 use Rattle.alert_book.specs.Session.{is_of_part, orders_with, outcome_in, replies_with, requests_by, requests_of}
 use Rattle.alert_book.specs.Session.{session_of, stop_request, targets_of, update_request, version_in, Replied}
-use Rattle.alert_book.specs.Session.{Standing}
+use Rattle.alert_book.specs.Session.{serial_of, Standing}
 use Rattle.alert_book.specs.Turns.{begun, GoesTo, Turn}
-use Rattle.alert_book.specs.TurnLaws.{ComesOf, RequestsComeOfOrders}
+use Rattle.alert_book.specs.TurnLaws.{ComesOf, RequestsComeOfOrders, version_of}
 
 -- a row's requests come of its order
 requests_come : (live : ℕ → Cell → Option ℕ) (order : Order) (sends : Action) (paged : Option Paged) →
@@ -28,6 +28,7 @@ requests_come live order (action.Write sending) (Some paged) is pages =
       row = refl;
       at = refl;
       sent = (sending, paged, ap sending_of is, pages, refl, refl, refl, refl, refl, refl, refl);
+      serial = ap (λ (a : Action). serial_of order.alert (version_of a)) (sym is);
     }) (All-nil (λ request. ComesOf request order))
 requests_come live order (action.Update version sending) None is pages = absurd pages
 requests_come live order (action.Update version sending) (Some paged) is pages =
@@ -36,10 +37,11 @@ requests_come live order (action.Update version sending) (Some paged) is pages =
       row = refl;
       at = refl;
       sent = (sending, paged, ap sending_of is, pages, refl, refl, refl, refl, refl, refl, refl);
+      serial = ap (λ (a : Action). serial_of order.alert (version_of a)) (sym is);
     })
 requests_come live order (action.Stop cells) None is pages =
     All-map (λ request. ComesOf request order) (stop_request order) (targets_of live order.number cells)
-    (λ k d within. record { row = refl; at = refl; sent = (refl, refl) })
+    (λ k d within. record { row = refl; at = refl; sent = (refl, refl); serial = tt })
 requests_come live order (action.Stop cells) (Some paged) is pages = absurd pages
 
 -- a request comes of one of these orders; an order that is left is one of them, with its pages

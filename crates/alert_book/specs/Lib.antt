@@ -4,6 +4,7 @@ pub mod Fields
 pub mod Row
 pub mod Book
 pub mod Laws
+pub mod Texts
 pub mod Session
 pub mod Turns
 pub mod TurnLaws

@@ -1,14 +1,16 @@
 -- What holds of the turns of every session, by its definition alone, whatever the replies say. Own.
-use Rattle.std.specs.Prelude.{◌≡◌, ◌≢◌, ℕ, ◌+◌, ◌*◌, ◌<◌, ◌≤◌, Option, Some, None, List, length, filter, All, Any}
+use Rattle.std.specs.Prelude.{◌≡◌, ◌≢◌, ⊤, ℕ, ◌+◌, ◌*◌, ◌<◌, ◌≤◌, Option, Some, None, List, length, filter, All, Any}
 use Rattle.cbs_page.specs.declared.paging.Paged.{Paged}
 use Rattle.cbsp_wire.specs.declared.message.Cell.{Cell}
 use Rattle.cbsp_wire.specs.declared.message.Message.{Message}
 use Rattle.cbsp_wire.specs.declared.message.Message.TheVariants as messages
+use Rattle.alert_book.specs.declared.order.Action.{Action}
+use Rattle.alert_book.specs.declared.order.Action.TheVariants as action
 use Rattle.alert_book.specs.declared.order.Order.{Order}
 use Rattle.alert_book.specs.declared.order.Sending.{Sending}
 use Rattle.alert_book.specs.declared.request.Request.{Request}
 use Rattle.alert_book.specs.Book.{Contents, HavePages, ArePagesOf, sending_of}
-use Rattle.alert_book.specs.Session.{after_reply, Standing}
+use Rattle.alert_book.specs.Session.{after_reply, serial_of, Standing}
 use Rattle.alert_book.specs.Turns.{begun, GoesTo, is_asked, Turn}
 
 -- how many requests a session can still give at most: a row gives at most 16, one for each version
@@ -38,11 +40,24 @@ IsSentFor order (messages.Write id new old cells channel category period broadca
 IsSentFor order (messages.Kill id old cells channel) = (id ≡ order.alert.id) × (channel ≡ None)
 IsSentFor order reply = ⊥
 
--- a request comes of an order of the book: it has its row and its slot, and sends its text
+-- the version of its alert that a row sends, by its update number: a write's is 0
+abbrev pub version_of : Action → ℕ
+version_of (action.Write sending) = 0
+version_of (action.Update update sending) = update
+version_of (action.Stop cells) = 0
+
+-- a write has the serial number of the version that its row sends
+abbrev pub HasSerial : Order → Message → Type 0
+HasSerial order (messages.Write id new old cells channel category period broadcasts dcs contents) =
+    new ≡ serial_of order.alert (version_of order.action)
+HasSerial order other = ⊤
+
+-- a request comes of an order of the book: it has its row and its slot, and sends its text as the version that it is
 pub record ComesOf (request : Request) (order : Order) : Type 0 where
   pub row : request.row ≡ order.row
   pub at : request.at ≡ order.at
   pub sent : IsSentFor order request.message
+  pub serial : HasSerial order request.message
 
 abbrev pub RequestsComeOfOrders : Type 0
 RequestsComeOfOrders = (book : Contents) (part parts : ℕ) (turns : List Turn) (reached : Standing)

@@ -1,6 +1,7 @@
 //! Laws of books and of sessions.
 
 ghost use Rattle.alert_book.specs.Laws.{CellsAreValid, RowsAreFew, RowsAreOne, RowsAreRightOrWrong};
+ghost use Rattle.alert_book.specs.Texts.{TextsAreUtf8};
 ghost use Rattle.alert_book.specs.TurnLaws.{AsksOncePerOrder, RequestsComeOfOrders, SessionsEnd};
 
 /// Octets mean one list of cells and orders at most, and if they do, no row of theirs is wrong. A book has at most
@@ -20,6 +21,12 @@ pub fn session_laws()
     // No cell is asked more often than the book has orders.
     ensures once_per_order { AsksOncePerOrder }
 
-    // Each request has the row, the slot, the identifier and the text of an order of the book.
+    // Each request has the row, the slot, the identifier and the text of an order of the book, and a write the serial
+    // number of the version that the row sends.
     ensures come_of_orders { RequestsComeOfOrders }
+{}
+
+/// The texts of a book's orders are UTF-8. It does nothing: its contract is the law.
+pub fn text_laws()
+    ensures { TextsAreUtf8 }
 {}

@@ -21,6 +21,6 @@ mod versions;
 
 pub use book::{Book, MAX_INPUT, read_book};
 pub use fault::{BookFault, BookFaultKind};
-pub use laws::{book_laws, session_laws};
+pub use laws::{book_laws, session_laws, text_laws};
 pub use request::Refused;
 pub use session::Session;

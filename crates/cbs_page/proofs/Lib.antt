@@ -7,4 +7,5 @@ pub mod PaginateLaws
 pub mod LongTexts
 pub mod PlainLaws
 pub mod CodingLaws
+pub mod ComesBack
 mod Worked

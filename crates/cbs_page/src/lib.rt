@@ -16,7 +16,7 @@ pub mod text;
 
 pub use coding::{Alphabet, Dcs, language_dcs};
 pub use content::Content;
-pub use laws::paging_laws;
+pub use laws::{paging_laws, text_laws};
 pub use octets::{PageView, page_bytes, read_page};
 pub use paging::{MAX_PAGES, Paged, TextFault, paginate};
 pub use serial::Serial;

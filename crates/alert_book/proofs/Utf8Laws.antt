@@ -1,0 +1,212 @@
+-- The texts of a book's orders are UTF-8, since the fields of its rows are.
+use Rattle.std.proofs.Common.{◌≡◌, ℕ, zero, suc, ◌+◌, Bool, true, false, cond, Option, Some, None, List, [], ◌∷◌}
+use Rattle.std.proofs.Common.{Result, Ok, Err, refl, subst}
+use Rattle.std.specs.Prelude.{⊤, nat_le, nat_lt, not, count_by, ◌==◌, length}
+use Rattle.std.specs.List.{All, list_all}
+use Rattle.std.specs.Str.{IsUtf8, is_utf8}
+use Rattle.std.proofs.lemmas.Bool.{and_parts}
+use Rattle.std.proofs.lemmas.Str.{IsUtf8-from_is_utf8, IsUtf8-nil}
+use Rattle.std.proofs.lemmas.List.Elements.{All-nil, All-push}
+use Rattle.csv.specs.Records.{field_at}
+use Rattle.cbsp_wire.specs.declared.message.Cell.{Cell}
+use Rattle.alert_book.specs.declared.fault.BookFaultKind.{BookFaultKind}
+use Rattle.alert_book.specs.declared.fault.BookFaultKind.TheVariants as fault
+use Rattle.alert_book.specs.declared.order.Action.TheVariants as action
+use Rattle.alert_book.specs.declared.order.Alert.{Alert}
+use Rattle.alert_book.specs.declared.order.Order.{Order}
+use Rattle.alert_book.specs.declared.order.Sending.{Sending}
+use Rattle.alert_book.specs.declared.row.Row.{Row}
+use Rattle.alert_book.specs.declared.row.Row.TheVariants as rows
+use Rattle.alert_book.specs.declared.row.Verb.{Verb}
+use Rattle.alert_book.specs.declared.row.Verb.TheVariants as verbs
+use Rattle.alert_book.specs.Cells.{cell_with, cells_of_field, is_among}
+use Rattle.alert_book.specs.Fields.{alert_at, are_texts, category, column, if_right, known_name, new_name, number}
+use Rattle.alert_book.specs.Fields.{sending_at, sending_with}
+use Rattle.alert_book.specs.Row.{cell_row, columns_of, is_update_of, is_write, max_cells, max_rows, new_cell}
+use Rattle.alert_book.specs.Row.{order_with}
+use Rattle.alert_book.specs.Row.{row_after_verb, row_of, row_of_verb, stop_row, update_row, update_with, verb_of}
+use Rattle.alert_book.specs.Row.{max_updates, write_row}
+use Rattle.alert_book.specs.Book.{after_row, Rows, rows_read, rows_with, with_row}
+use Rattle.alert_book.specs.Texts.{HasUtf8Text, TextsAreUtf8}
+
+-- the columns of a row whose fields are texts
+column_is_text : (fields : List (List ℕ)) (place : ℕ) → are_texts fields ≡ true → IsUtf8 (column fields place)
+unfolding field_at
+column_is_text [] place texts = IsUtf8-nil
+column_is_text (f ∷ fs) zero texts = IsUtf8-from_is_utf8 f (and_parts (is_utf8 f) (list_all is_utf8 fs) texts).0
+column_is_text (f ∷ fs) (suc place) texts =
+    column_is_text fs place (and_parts (is_utf8 f) (list_all is_utf8 fs) texts).1
+
+-- what a field's value leads to
+abbrev IfOk : {A : Type 0} → (A → Type 0) → Result A BookFaultKind → Type 0
+IfOk P (Ok value) = P value
+IfOk P (Err kind) = ⊤
+
+if_right-ok : {A B : Type 0} (P : B → Type 0) (field : Result A BookFaultKind) (next : A → Result B BookFaultKind)
+    → ((value : A) → IfOk P (next value)) → IfOk P (if_right field next)
+if_right-ok P (Ok value) next each = each value
+if_right-ok P (Err kind) next each = tt
+
+-- and what it leads to with what is known of it
+if_right-known : {A B : Type 0} (P : B → Type 0) (Q : A → Type 0) (field : Result A BookFaultKind)
+    (next : A → Result B BookFaultKind) → IfOk Q field → ((value : A) → Q value → IfOk P (next value))
+    → IfOk P (if_right field next)
+if_right-known P Q (Ok value) next known each = each value known
+if_right-known P Q (Err kind) next known each = tt
+
+-- a test that leads to a fault
+fault-ok : {A : Type 0} (P : A → Type 0) (test : Bool) (kind : BookFaultKind) (else : Result A BookFaultKind)
+    → IfOk P else → IfOk P (cond test (Err kind) else)
+fault-ok P true kind else ok = tt
+fault-ok P false kind else ok = ok
+
+-- a row that gives no order, or one with a text that is UTF-8
+abbrev RowHasText : Row → Type 0
+RowHasText (rows.Declare cell) = ⊤
+RowHasText (rows.Give order) = HasUtf8Text order
+
+abbrev SendsText : Sending → Type 0
+SendsText sending = IsUtf8 sending.text
+
+sends_text : (declared : List Cell) (fields : List (List ℕ)) (place : ℕ) → are_texts fields ≡ true
+    → IfOk SendsText (sending_at declared fields place)
+sends_text declared fields place texts =
+    if_right-ok SendsText (category (column fields (place + 1)))
+    (λ category. if_right (number 1 1024 (column fields (place + 2))) (λ period.
+    if_right (number 0 65535 (column fields (place + 3))) (λ broadcasts.
+    if_right (cells_of_field declared (column fields (place + 4))) (λ cells.
+    Ok (sending_with (column fields place) category period broadcasts cells (column fields (place + 5)))))))
+    (λ category. if_right-ok SendsText (number 1 1024 (column fields (place + 2)))
+    (λ period. if_right (number 0 65535 (column fields (place + 3))) (λ broadcasts.
+    if_right (cells_of_field declared (column fields (place + 4))) (λ cells.
+    Ok (sending_with (column fields place) category period broadcasts cells (column fields (place + 5))))))
+    (λ period. if_right-ok SendsText (number 0 65535 (column fields (place + 3)))
+    (λ broadcasts. if_right (cells_of_field declared (column fields (place + 4))) (λ cells.
+    Ok (sending_with (column fields place) category period broadcasts cells (column fields (place + 5)))))
+    (λ broadcasts. if_right-ok SendsText (cells_of_field declared (column fields (place + 4)))
+    (λ cells. Ok (sending_with (column fields place) category period broadcasts cells (column fields (place + 5))))
+    (λ cells. column_is_text fields (place + 5) texts))))
+
+-- an order that sends what has a text
+sends : (sending : Sending) → SendsText sending → (same : Sending) → Some sending ≡ Some same → IsUtf8 same.text
+sends sending text same is = let one : sending ≡ same = cc in subst (λ (s : Sending). IsUtf8 s.text) one text
+
+sends_none : (sending : Sending) → None ≡ Some sending → IsUtf8 sending.text
+sends_none sending none = cc
+
+cell_row_has : (declared : List Cell) (fields : List (List ℕ)) → IfOk RowHasText (cell_row declared fields)
+cell_row_has declared fields =
+    fault-ok RowHasText (nat_le max_cells (length declared)) fault.TooManyRows
+    (if_right (number 0 65535 (column fields 1)) (λ lac. if_right (number 0 65535 (column fields 2)) (λ ci.
+    new_cell declared (cell_with lac ci))))
+    (if_right-ok RowHasText (number 0 65535 (column fields 1))
+    (λ lac. if_right (number 0 65535 (column fields 2)) (λ ci. new_cell declared (cell_with lac ci)))
+    (λ lac. if_right-ok RowHasText (number 0 65535 (column fields 2)) (λ ci. new_cell declared (cell_with lac ci))
+    (λ ci. fault-ok RowHasText (is_among declared (cell_with lac ci)) fault.TwiceNamed
+    (Ok (rows.Declare (cell_with lac ci))) tt)))
+
+write_row_has : (row : ℕ) (declared : List Cell) (orders : List Order) (fields : List (List ℕ))
+    → are_texts fields ≡ true → IfOk RowHasText (write_row row declared orders fields)
+write_row_has row declared orders fields texts =
+    let given : ℕ → List ℕ → Alert → Sending → Result Row BookFaultKind = λ at name alert sending.
+    Ok (rows.Give (order_with row at name (count_by is_write orders) alert (action.Write sending))) in
+    if_right-ok RowHasText (number 0 65535 (column fields 1))
+    (λ at. if_right (new_name orders (column fields 2)) (λ name. if_right (alert_at fields 3) (λ alert.
+    if_right (sending_at declared fields 6) (given at name alert))))
+    (λ at. if_right-ok RowHasText (new_name orders (column fields 2))
+    (λ name. if_right (alert_at fields 3) (λ alert. if_right (sending_at declared fields 6) (given at name alert)))
+    (λ name. if_right-ok RowHasText (alert_at fields 3)
+    (λ alert. if_right (sending_at declared fields 6) (given at name alert))
+    (λ alert. if_right-known RowHasText SendsText (sending_at declared fields 6) (given at name alert)
+    (sends_text declared fields 6 texts) sends)))
+
+update_row_has : (row : ℕ) (declared : List Cell) (orders : List Order) (fields : List (List ℕ))
+    → are_texts fields ≡ true → IfOk RowHasText (update_row row declared orders fields)
+update_row_has row declared orders fields texts =
+    let earlier : ℕ = count_by (is_update_of (column fields 2)) orders in
+    let given : ℕ → Order → Sending → Result Row BookFaultKind = λ at first sending.
+    update_with row at (column fields 2) first earlier sending in
+    if_right-ok RowHasText (number 0 65535 (column fields 1))
+    (λ at. if_right (known_name orders (column fields 2)) (λ first.
+    if_right (sending_at declared fields 3) (given at first)))
+    (λ at. if_right-ok RowHasText (known_name orders (column fields 2))
+    (λ first. if_right (sending_at declared fields 3) (given at first))
+    (λ first. if_right-known RowHasText SendsText (sending_at declared fields 3) (given at first)
+    (sends_text declared fields 3 texts)
+    (λ sending text. fault-ok RowHasText (nat_le max_updates earlier) fault.TooManyUpdates
+    (Ok (rows.Give (order_with row at (column fields 2) first.number first.alert
+    (action.Update (earlier + 1) sending))))
+    (sends sending text))))
+
+stop_row_has : (row : ℕ) (declared : List Cell) (orders : List Order) (fields : List (List ℕ))
+    → IfOk RowHasText (stop_row row declared orders fields)
+stop_row_has row declared orders fields =
+    let given : ℕ → Order → List Cell → Result Row BookFaultKind = λ at first cells.
+    Ok (rows.Give (order_with row at (column fields 2) first.number first.alert (action.Stop cells))) in
+    if_right-ok RowHasText (number 0 65535 (column fields 1))
+    (λ at. if_right (known_name orders (column fields 2)) (λ first.
+    if_right (cells_of_field declared (column fields 3)) (given at first)))
+    (λ at. if_right-ok RowHasText (known_name orders (column fields 2))
+    (λ first. if_right (cells_of_field declared (column fields 3)) (given at first))
+    (λ first. if_right-ok RowHasText (cells_of_field declared (column fields 3)) (given at first)
+    (λ cells. sends_none)))
+
+row_of_verb_has : (verb : Verb) (row : ℕ) (declared : List Cell) (orders : List Order) (fields : List (List ℕ))
+    → are_texts fields ≡ true → IfOk RowHasText (row_of_verb verb row declared orders fields)
+row_of_verb_has verbs.Cell row declared orders fields texts = cell_row_has declared fields
+row_of_verb_has verbs.Write row declared orders fields texts = write_row_has row declared orders fields texts
+row_of_verb_has verbs.Update row declared orders fields texts = update_row_has row declared orders fields texts
+row_of_verb_has verbs.Stop row declared orders fields texts = stop_row_has row declared orders fields
+
+row_after_verb_has : (verb : Option Verb) (row : ℕ) (declared : List Cell) (orders : List Order)
+    (fields : List (List ℕ)) → are_texts fields ≡ true
+    → IfOk RowHasText (row_after_verb verb row declared orders fields)
+row_after_verb_has None row declared orders fields texts = tt
+row_after_verb_has (Some verb) row declared orders fields texts =
+    by_columns (length fields == columns_of verb) (row_of_verb verb row declared orders fields)
+    (row_of_verb_has verb row declared orders fields texts)
+  where
+    by_columns : (test : Bool) (right : Result Row BookFaultKind) → IfOk RowHasText right
+        → IfOk RowHasText (cond test right (Err fault.Columns))
+    by_columns true right ok = ok
+    by_columns false right ok = tt
+
+-- a row that is right
+row_has : (row : ℕ) (declared : List Cell) (orders : List Order) (fields : List (List ℕ))
+    → IfOk RowHasText (row_of row declared orders fields)
+row_has row declared orders fields =
+    fault-ok RowHasText (nat_lt max_rows row) fault.TooManyRows
+    (cond (not (are_texts fields)) (Err fault.Columns)
+    (row_after_verb (verb_of (column fields 0)) row declared orders fields))
+    (by_texts (are_texts fields) refl)
+  where
+    by_texts : (texts : Bool) → are_texts fields ≡ texts → IfOk RowHasText (cond (not texts) (Err fault.Columns)
+        (row_after_verb (verb_of (column fields 0)) row declared orders fields))
+    by_texts true texts = row_after_verb_has (verb_of (column fields 0)) row declared orders fields texts
+    by_texts false texts = tt
+
+-- so the orders of rows have such texts
+with_row_has : (before : Rows) (row : Row) → All HasUtf8Text before.orders → RowHasText row
+    → All HasUtf8Text (with_row before row).orders
+with_row_has before (rows.Declare cell) all here = all
+with_row_has before (rows.Give order) all here = All-push HasUtf8Text before.orders order all here
+
+rows_have : (records : List (List (List ℕ))) (row : ℕ) (before after : Rows) → All HasUtf8Text before.orders
+    → rows_read row before records ≡ Ok after → All HasUtf8Text after.orders
+rows_have [] row before after all read =
+    let same : before ≡ after = cc in subst (λ (r : Rows). All HasUtf8Text r.orders) same all
+rows_have (fields ∷ more) row before after all read =
+    by_row (row_of row before.cells before.orders fields) (row_has row before.cells before.orders fields)
+    (λ next. rows_have more (row + 1) next after) read
+  where
+    by_row : (meant : Result Row BookFaultKind) → IfOk RowHasText meant
+        → ((next : Rows) → All HasUtf8Text next.orders → rows_read (row + 1) next more ≡ Ok after
+        → All HasUtf8Text after.orders)
+        → after_row row before meant (λ next. rows_read (row + 1) next more) ≡ Ok after
+        → All HasUtf8Text after.orders
+    by_row (Ok meant) here later right = later (with_row before meant) (with_row_has before meant all here) right
+    by_row (Err kind) here later right = cc
+
+pub texts_are_utf8 : TextsAreUtf8
+texts_are_utf8 input book is =
+    rows_have is.rows.records 1 (rows_with [] []) (rows_with book.cells book.orders) (All-nil HasUtf8Text) is.rows.meant
