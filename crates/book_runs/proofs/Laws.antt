@@ -1,0 +1,20 @@
+-- What the crates below promise, as clauses of their public laws: all that the proofs here know of them.
+use Rattle.cbs_page.specs.Laws.{PagedTextsComeBack}
+use Rattle.alert_book.specs.Texts.{TextsAreUtf8}
+use Rattle.alert_book.specs.TurnLaws.{RequestsComeOfOrders}
+use Rattle.bsc_table.specs.Written.{AcceptedAreWrites}
+use Rattle.composition.specs.Composition.{ShownAreTheBroadcast}
+use Rattle.composition.specs.Meaning.{AcceptedAreMeant, NoneAfterTheStop, RecordsAreTapes, ReportedIsWholeInBlocks}
+use Rattle.composition.specs.Meaning.{TextsAreThoseOfContents}
+
+pub record Laws : Type 0 where
+  pub texts_come_back : PagedTextsComeBack
+  pub texts_are_utf8 : TextsAreUtf8
+  pub come_of_orders : RequestsComeOfOrders
+  pub accepted_are_writes : AcceptedAreWrites
+  pub shown_are_the_broadcast : ShownAreTheBroadcast
+  pub accepted_are_meant : AcceptedAreMeant
+  pub reported_is_whole : ReportedIsWholeInBlocks
+  pub none_after_the_stop : NoneAfterTheStop
+  pub records_are_tapes : RecordsAreTapes
+  pub texts_are_those_of_contents : TextsAreThoseOfContents

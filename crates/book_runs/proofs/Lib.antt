@@ -1,0 +1,7 @@
+mod Laws
+mod Lists
+mod Entries
+mod Texts
+mod Accepted
+mod Ordered
+mod Meant

@@ -1,0 +1,4 @@
+pub mod Run
+pub mod Meant
+pub mod Ordered
+pub mod RunLaws
