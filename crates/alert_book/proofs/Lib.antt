@@ -13,3 +13,4 @@ pub mod TurnsAsk
 pub mod TurnsComeOf
 pub mod FewRows
 pub mod Utf8Laws
+pub mod OneBook

@@ -1,6 +1,6 @@
 -- The rows of a book are right, or one of them is wrong, and never both.
 use Rattle.std.proofs.Common.{◌≡◌, ◌+◌, ◌∙◌, ap, subst, sym, ℕ, List, [], ◌∷◌, ◌++◌, Option, Some, None, Result, Ok}
-use Rattle.std.proofs.Common.{Err, refl}
+use Rattle.std.proofs.Common.{Err, refl, inl, inr, ◌⊎◌}
 use Rattle.csv.specs.Machine.{Read, next_record}
 use Rattle.csv.specs.Reading.{Reached}
 use Rattle.csv.specs.declared.parser.Config.{Config}
@@ -18,6 +18,23 @@ none_read o p a b = cc
 
 one_first : (q r : List (List ℕ)) (qs rs : List (List (List ℕ))) → q ≡ r → qs ≡ rs → q ∷ qs ≡ r ∷ rs
 one_first q r qs rs head rest = rw (head, rest) refl
+
+-- of two fronts of a text's records one is a front of the other
+pub reached_either : (cfg : Config) (s : State) (xs : List ℕ) (front other : List (List (List ℕ)))
+    (s1 : State) (y1 : List ℕ) (s2 : State) (y2 : List ℕ) → Reached cfg s xs front s1 y1 →
+    Reached cfg s xs other s2 y2 → ((more : List (List (List ℕ))) × (other ≡ front ++ more))
+    ⊎ ((more : List (List (List ℕ))) × (front ≡ other ++ more))
+unfolding Reached
+reached_either cfg s xs [] other s1 y1 s2 y2 h k = inl (other, refl)
+reached_either cfg s xs (r ∷ rs) [] s1 y1 s2 y2 h k = inr (r ∷ rs, refl)
+reached_either cfg s xs (r ∷ rs) (q ∷ qs) s1 y1 s2 y2 h k =
+    let same : k.0 ≡ h.0 = same_read _ k.0 h.0 k.1 h.1 in
+    let rest = subst (λ (x : Read). Reached cfg x.1 x.2 qs s2 y2) same k.3 in
+    let head : q ≡ r = k.2 ∙ ap (λ (x : Read). x.0) same ∙ sym h.2 in
+    elim (reached_either cfg h.0.1 h.0.2 rs qs s1 y1 s2 y2 h.3 rest) [
+      | inl m ↦ inl (m.0, one_first q r qs (rs ++ m.0) head m.1)
+      | inr m ↦ inr (m.0, one_first r q rs (qs ++ m.0) (sym head) m.1)
+    ]
 
 -- the first records of a text are a front of all its records
 pub reached_front : (cfg : Config) (s : State) (xs : List ℕ) (front all : List (List (List ℕ)))

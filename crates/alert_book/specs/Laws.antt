@@ -1,8 +1,10 @@
 -- What holds of books by their definition alone. Own.
-use Rattle.std.specs.Prelude.{◌≡◌, ℕ, ◌+◌, ◌≤◌, true, List, length}
+use Rattle.std.specs.Prelude.{◌≡◌, ⊤, ℕ, ◌+◌, ◌≤◌, true, Option, Some, None, List, length}
+use Rattle.std.specs.List.{AllZip}
+use Rattle.cbs_page.specs.declared.paging.Paged.{Paged}
 use Rattle.cbsp_wire.specs.Range.{cells_are_valid}
 use Rattle.alert_book.specs.declared.fault.BookFault.{BookFault}
-use Rattle.alert_book.specs.Book.{AreRowsOf, Contents, IsBook, IsRowFault, Rows}
+use Rattle.alert_book.specs.Book.{AreRowsOf, Contents, IsBook, IsRowFault, IsWrong, Rows}
 
 -- no octets mean rows and have a row that is wrong
 abbrev pub RowsAreRightOrWrong : Type 0
@@ -21,3 +23,26 @@ RowsAreFew = (input : List ℕ) (book : Contents)
 -- a book declares at most 64 cells, none twice
 abbrev pub CellsAreValid : Type 0
 CellsAreValid = (input : List ℕ) (book : Contents) → IsBook input book → cells_are_valid book.cells ≡ true
+
+-- two orders have the same pages, or both none
+abbrev pub HaveSamePages : Option Paged → Option Paged → Type 0
+HaveSamePages None None = ⊤
+HaveSamePages None (Some paged) = ⊥
+HaveSamePages (Some paged) None = ⊥
+HaveSamePages (Some paged) (Some other) =
+    (paged.dcs.0 ≡ other.dcs.0) × (paged.pages.items ≡ other.pages.items)
+
+-- octets are one book at most: its cells, its orders, and the pages of each
+abbrev pub BooksAreOne : Type 0
+BooksAreOne = (input : List ℕ) (book other : Contents)
+    → IsBook input book
+    → IsBook input other
+    → (book.cells ≡ other.cells) × (book.orders ≡ other.orders) × AllZip HaveSamePages book.pages other.pages
+
+-- a book has no fault, neither of a row nor of a text
+abbrev pub BooksAreRight : Type 0
+BooksAreRight = (input : List ℕ) (book : Contents) (f : BookFault) → IsBook input book → IsWrong input f → ⊥
+
+-- and octets have one fault at most
+abbrev pub FaultsAreOne : Type 0
+FaultsAreOne = (input : List ℕ) (f other : BookFault) → IsWrong input f → IsWrong input other → f ≡ other

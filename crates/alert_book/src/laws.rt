@@ -1,14 +1,19 @@
 //! Laws of books and of sessions.
 
-ghost use Rattle.alert_book.specs.Laws.{CellsAreValid, RowsAreFew, RowsAreOne, RowsAreRightOrWrong};
+ghost use Rattle.alert_book.specs.Laws.{BooksAreOne, BooksAreRight, CellsAreValid, FaultsAreOne, RowsAreFew};
+ghost use Rattle.alert_book.specs.Laws.{RowsAreOne, RowsAreRightOrWrong};
 ghost use Rattle.alert_book.specs.Texts.{TextsAreUtf8};
 ghost use Rattle.alert_book.specs.TurnLaws.{AsksOncePerOrder, RequestsComeOfOrders, SessionsEnd};
 
-/// Octets mean one list of cells and orders at most, and if they do, no row of theirs is wrong. A book has at most
-/// 4,096 rows, and declares at most 64 cells, none twice. It does nothing: its contract is the law.
+/// Octets mean one list of cells and orders at most, and if they do, no row of theirs is wrong. They are one book, with
+/// one list of pages, or have one fault, and never both. A book has at most 4,096 rows, and declares at most 64 cells,
+/// none twice. It does nothing: its contract is the law.
 pub fn book_laws()
     ensures one { RowsAreOne }
     ensures right_or_wrong { RowsAreRightOrWrong }
+    ensures one_book { BooksAreOne }
+    ensures book_or_fault { BooksAreRight }
+    ensures one_fault { FaultsAreOne }
     ensures few { RowsAreFew }
     ensures cells { CellsAreValid }
 {}

@@ -8,4 +8,5 @@ pub mod LongTexts
 pub mod PlainLaws
 pub mod CodingLaws
 pub mod ComesBack
+pub mod OneText
 mod Worked

@@ -130,7 +130,9 @@ pieces_of_paging cost limit c rest ((d ∷ piece) ∷ pieces) paging =
     (through_piece cost limit (d ∷ []) piece (concat pieces) paging.within.0
     ∙ through_pieces cost limit (d ∷ piece) pieces paging.filled.0 paging.nonempty.1 paging.within.1 paging.filled.1)
 
-pieces_of_nothing : (cost : ℕ → ℕ) (limit : ℕ) (pieces : List (List ℕ)) → IsPaging cost limit [] pieces → pieces ≡ []
+-- No text has no pieces.
+pub pieces_of_nothing : (cost : ℕ → ℕ) (limit : ℕ) (pieces : List (List ℕ)) → IsPaging cost limit [] pieces →
+    pieces ≡ []
 pieces_of_nothing cost limit [] paging = refl
 pieces_of_nothing cost limit ([] ∷ pieces) paging = absurd (paging.nonempty.0 refl)
 pieces_of_nothing cost limit ((d ∷ piece) ∷ pieces) paging = let e : d ∷ (piece ++ concat pieces) ≡ [] = paging.whole

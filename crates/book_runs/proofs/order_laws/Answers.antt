@@ -5,7 +5,7 @@ use Rattle.book_runs.proofs.order_laws.Goals as goal
 pub returns : goal.returns
 returns c =
     let laws : Laws = record {
-      texts_come_back = c.text_laws.ensures;
+      texts_come_back = c.text_laws.ensures.comes_back;
       texts_are_utf8 = c.text_laws-2.ensures;
       come_of_orders = c.session_laws.ensures.come_of_orders;
       accepted_are_writes = c.legal_histories.ensures.accepted_are_writes;

@@ -1,3 +1,4 @@
+use Rattle.alert_book.proofs.OneBook.{books_are_one, books_are_right, faults_are_one}
 use Rattle.alert_book.proofs.FewRows.{cells_are_few, rows_are_few}
 use Rattle.alert_book.proofs.OneAnswer.{one_meaning, right_or_wrong}
 use Rattle.alert_book.proofs.laws.book_laws.Goals as goal
@@ -13,3 +14,12 @@ returns-clause-few c = rows_are_few
 
 pub returns-clause-cells : goal.returns-clause-cells
 returns-clause-cells c = cells_are_few
+
+pub returns-clause-one_book : goal.returns-clause-one_book
+returns-clause-one_book c = books_are_one
+
+pub returns-clause-book_or_fault : goal.returns-clause-book_or_fault
+returns-clause-book_or_fault c = books_are_right
+
+pub returns-clause-one_fault : goal.returns-clause-one_fault
+returns-clause-one_fault c = faults_are_one
