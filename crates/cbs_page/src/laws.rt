@@ -9,9 +9,9 @@ pub fn paging_laws()
     ensures { PagingIsUnique }
 {}
 
-/// Laws of texts as they are sent, by the definitions alone: the texts that the pages show in their data coding, joined,
-/// are the text (3GPP TS 23.038, clauses 5 and 6); and a text has one data coding and one list of contents, or one
-/// fault. It does nothing: its contract is the statement.
+/// Laws of texts as they are sent, by the definitions alone: the texts that the pages show in their data coding,
+/// joined, are the text (3GPP TS 23.038, clauses 5 and 6); and a text has one data coding and one list of contents, or
+/// one fault. It does nothing: its contract is the statement.
 pub fn text_laws()
     ensures comes_back { PagedTextsComeBack }
     ensures sent_is_one { SentTextIsOne }
