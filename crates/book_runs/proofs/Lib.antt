@@ -5,3 +5,4 @@ mod Texts
 mod Accepted
 mod Ordered
 mod Meant
+mod Worked
