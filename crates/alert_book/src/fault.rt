@@ -5,6 +5,7 @@ ghost use Rattle.alert_book.specs.declared.fault.BookFaultKind.TheVariants.{Refu
 
 use cbs_page::TextFault;
 use std::alloc::{AllocError, AllocFailed};
+use std::{error, fmt};
 use thiserror::Error;
 
 /// Why a row is refused. Where several apply to a row, docs/formats.md says which is told.
@@ -63,11 +64,22 @@ impl<T: Drop> From<AllocFailed<T>> for BookFaultKind {
 
 /// Why a book is refused, and its row, from 1. The row is 0 if the reader failed, memory was refused, or the book has
 /// too many octets.
-#[derive(Clone, Copy, Debug, PartialEq, Eq, Error)]
-#[error("row {row}: {kind}")]
+#[derive(Clone, Copy, Debug, PartialEq, Eq)]
 pub struct BookFault {
     /// The row, from 1 as CSV gives them.
     pub row: u16,
     /// What is wrong with it.
     pub kind: BookFaultKind,
 }
+
+// By hand: a failed reader and refused memory are of no row.
+impl fmt::Display for BookFault {
+    fn fmt<W: fmt::Write>(&self, f: &mut fmt::Formatter<W>) -> fmt::Result {
+        match self.kind {
+            BookFaultKind::ReadFailed | BookFaultKind::Refused => write!(f, "{}", self.kind),
+            _ => write!(f, "row {}: {}", self.row, self.kind),
+        }
+    }
+}
+
+impl error::Error for BookFault {}

@@ -32,11 +32,3 @@ fn worked_books_are_read(rt: HostRuntime) -> Result<(), Fail> {
     expect_cells(&rt, "cell,65535,0\r\n", &[Cell { lac: 65535, ci: 0 }]);
     Ok(())
 }
-
-#[test]
-fn texts_have_quotes_and_line_ends(rt: HostRuntime) -> Result<(), Fail> {
-    let book =
-        "cell,1,1\nwrite,0,\"a,b\",4370,0,1,en,2,2,0,*,\"He said \"\"go\"\",\nand went\"\nstop,0,\"a,b\",*\n";
-    expect_cells(&rt, book, &[Cell { lac: 1, ci: 1 }]);
-    Ok(())
-}

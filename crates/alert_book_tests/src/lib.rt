@@ -8,4 +8,10 @@ mod ends;
 #[cfg(test)]
 mod faults;
 #[cfg(test)]
+mod lines;
+#[cfg(test)]
+mod memory;
+#[cfg(test)]
 mod sessions;
+#[cfg(test)]
+mod written;

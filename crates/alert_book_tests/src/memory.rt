@@ -1,0 +1,161 @@
+//! Books and sessions with hardly any memory: each allocation is refused once.
+
+ghost use Rattle.std.specs.Prelude.{◌<◌};
+
+use alert_book::{BookFault, BookFaultKind, Session, read_book};
+use device_ends::Source;
+use device_ends::memory::MemoryReader;
+use std::alloc::Global;
+use std::process::Abort;
+use std::test::Fail;
+
+/// A book of each verb, in two languages.
+const BOOK: &str =
+    "cell,1,1\nwrite,0,a,4370,0,1,en,2,2,0,1-1,One\nupdate,1,a,ru,2,2,0,*,Вода\nstop,2,a,1-1\n";
+
+/// How many octets each block of the memory has that is given back.
+const BLOCK: usize = 512;
+
+/// Takes all the memory that the process may have, in blocks of falling size.
+fn take_all(alloc: Global, taken: &mut Vec<Vec<u8>>) {
+    let mut size = 0x4000_0000_0000_usize;
+    for _ in 0..43 {
+        for _ in 0..20_000 {
+            let Ok(block) = Vec::with_capacity(alloc, size) else {
+                break;
+            };
+            let _ = taken.push(block);
+        }
+        size /= 2;
+    }
+}
+
+#[test]
+fn refused_memory_is_reported(rt: HostRuntime) -> Result<(), Fail> {
+    let mut spare: Vec<Vec<u8>> = Vec::with_capacity(rt.alloc(), 400)?;
+    for _ in 0..400 {
+        spare.push(Vec::with_capacity(rt.alloc(), BLOCK)?)?;
+    }
+    let mut taken = Vec::with_capacity(rt.alloc(), 100_000)?;
+    take_all(rt.alloc(), &mut taken);
+    let mut refused = 0_u16;
+    for _ in 0..400 {
+        let mut reader = MemoryReader::new(BOOK.as_bytes(), 100, None);
+        match read_book(&rt, &mut Source::new(&mut reader)) {
+            Ok(book) => {
+                assert_eq!(&rt; book.cells().len(), 1);
+                taken.clear();
+                assert!(&rt; refused > 3);
+                return Ok(());
+            }
+            Err(fault) => assert_eq!(&rt;
+                fault,
+                BookFault {
+                    row: 0,
+                    kind: BookFaultKind::Refused
+                }
+            ),
+        }
+        refused = refused.saturating_add(1);
+        let _ = spare.pop();
+    }
+    taken.clear();
+    assert!(&rt; false, "no book is read with 200 KB");
+    Ok(())
+}
+
+/// The replies to the three requests of the book: each is accepted, with no broadcast completed.
+const REPLIES: [&[u8]; 3] = [
+    &[
+        0x02, 0x00, 0x00, 0x0E, 0x0E, 0x11, 0x12, 0x03, 0x00, 0x10, 0x04, 0x00, 0x05, 0x01, 0x00,
+        0x01, 0x00, 0x01,
+    ],
+    &[
+        0x02, 0x00, 0x00, 0x14, 0x0E, 0x11, 0x12, 0x03, 0x00, 0x11, 0x02, 0x00, 0x10, 0x08, 0x00,
+        0x08, 0x01, 0x00, 0x01, 0x00, 0x01, 0x00, 0x00, 0x00,
+    ],
+    &[
+        0x05, 0x00, 0x00, 0x11, 0x0E, 0x11, 0x12, 0x02, 0x00, 0x11, 0x08, 0x00, 0x08, 0x01, 0x00,
+        0x01, 0x00, 0x01, 0x00, 0x00, 0x00,
+    ],
+];
+
+/// The first octets of the requests: a write, its replacement in UCS-2, and the kill of that.
+const REQUESTS: [&[u8]; 3] = [
+    &[
+        0x01, 0x00, 0x00, 0x6E, 0x0E, 0x11, 0x12, 0x03, 0x00, 0x10, 0x04, 0x00, 0x05, 0x01, 0x00,
+        0x01, 0x00, 0x01, 0x05, 0x02, 0x06, 0x00, 0x02, 0x07, 0x00, 0x00, 0x13, 0x01, 0x0C, 0x01,
+        0x01, 0x03,
+    ],
+    &[
+        0x01, 0x00, 0x00, 0x71, 0x0E, 0x11, 0x12, 0x03, 0x00, 0x11, 0x02, 0x00, 0x10, 0x04, 0x00,
+        0x05, 0x01, 0x00, 0x01, 0x00, 0x01, 0x05, 0x02, 0x06, 0x00, 0x02, 0x07, 0x00, 0x00, 0x13,
+        0x01, 0x0C, 0x48, 0x01, 0x08, 0x04, 0x12, 0x04, 0x3E, 0x04, 0x34, 0x04, 0x30,
+    ],
+    &[
+        0x04, 0x00, 0x00, 0x0E, 0x0E, 0x11, 0x12, 0x02, 0x00, 0x11, 0x04, 0x00, 0x05, 0x01, 0x00,
+        0x01, 0x00, 0x01,
+    ],
+];
+
+/// Asks for the next request again and again, with one block of memory more each time, until it is given; it keeps
+/// memory. A session that is refused memory stands where it stood. Answers how often it was refused.
+fn expect_next<T: AllocGlobal + Abort>(
+    rt: &T,
+    session: &mut Session<'_>,
+    last: Option<&[u8]>,
+    spare: &mut Vec<Vec<u8>>,
+    held: &mut Vec<Option<(u16, Vec<u8>)>>,
+) -> u16 {
+    let row = session.row();
+    let mut refused = 0_u16;
+    for _ in 0..400 {
+        if let Ok(given) = session.next(last) {
+            let _ = held.push(given);
+            return refused;
+        }
+        assert_eq!(rt; session.row(), row);
+        refused = refused.saturating_add(1);
+        let _ = spare.pop();
+    }
+    assert!(rt; false, "no request with 200 KB");
+    refused
+}
+
+#[test]
+fn a_session_without_memory_stands_where_it_stood(rt: HostRuntime) -> Result<(), Fail> {
+    let mut reader = MemoryReader::new(BOOK.as_bytes(), 100, None);
+    let book = match read_book(&rt, &mut Source::new(&mut reader)) {
+        Ok(book) => book,
+        Err(fault) => return Err(Fail::new(fault)),
+    };
+    let mut spare: Vec<Vec<u8>> = Vec::with_capacity(rt.alloc(), 400)?;
+    for _ in 0..400 {
+        spare.push(Vec::with_capacity(rt.alloc(), BLOCK)?)?;
+    }
+    let mut held = Vec::with_capacity(rt.alloc(), 4)?;
+    let mut taken = Vec::with_capacity(rt.alloc(), 100_000)?;
+    take_all(rt.alloc(), &mut taken);
+    let mut session = Session::new(rt.alloc(), &book, 0, 1)?;
+    let mut refused = [0_u16; 4];
+    refused[0] = expect_next(&rt, &mut session, None, &mut spare, &mut held);
+    for (place, reply) in REPLIES.iter().enumerate() {
+        take_all(rt.alloc(), &mut taken);
+        refused[place + 1] = expect_next(&rt, &mut session, Some(*reply), &mut spare, &mut held);
+    }
+    taken.clear();
+    for (place, first) in REQUESTS.iter().enumerate() {
+        match held.get(place) {
+            Some(Some((slot, octets))) => {
+                assert_eq!(&rt; usize::from(*slot), place);
+                assert!(&rt; octets.starts_with(first));
+            }
+            _ => assert!(&rt; false, "no request {}", place),
+        }
+    }
+    assert!(&rt; matches!(held.get(3), Some(None)));
+    for times in refused {
+        assert!(&rt; times > 0);
+    }
+    Ok(())
+}
