@@ -36,8 +36,8 @@ size_more before (rows.Give order) = simp length-append (omega arith)
 same_rows : (r : Result Rows BookFault) (a b : Rows) → r ≡ Ok a → r ≡ Ok b → a ≡ b
 same_rows r a b one other = cc
 
-rows_keep : (P : ℕ → Rows → Type 0) → ((row : ℕ) (before : Rows) (fields : List (List ℕ)) (meant : Row) → P row before →
-    row_of row before.cells before.orders fields ≡ Ok meant → P (row + 1) (with_row before meant)) →
+pub rows_keep : (P : ℕ → Rows → Type 0) → ((row : ℕ) (before : Rows) (fields : List (List ℕ)) (meant : Row) →
+    P row before → row_of row before.cells before.orders fields ≡ Ok meant → P (row + 1) (with_row before meant)) →
     (row : ℕ) (before result : Rows) (records : List (List (List ℕ))) → P row before →
     rows_read row before records ≡ Ok result → (end : ℕ) × P end result
 rows_keep P step row before result [] here so = (row, subst (P row) (same_rows (Ok before) before result refl so) here)
@@ -211,8 +211,10 @@ valid_push cells cell valid new =
 AreValid : ℕ → Rows → Type 0
 AreValid row rows = cells_are_valid rows.cells ≡ true
 
-valid_with : (before : Rows) (meant : Row) (row : ℕ) (fields : List (List ℕ)) → cells_are_valid before.cells ≡ true →
-    row_of row before.cells before.orders fields ≡ Ok meant → cells_are_valid (with_row before meant).cells ≡ true
+-- a row that is right leaves them so
+pub valid_with : (before : Rows) (meant : Row) (row : ℕ) (fields : List (List ℕ)) →
+    cells_are_valid before.cells ≡ true → row_of row before.cells before.orders fields ≡ Ok meant →
+    cells_are_valid (with_row before meant).cells ≡ true
 valid_with before (rows.Declare cell) row fields valid is =
     valid_push before.cells cell valid (row_new row before.cells before.orders fields cell is)
 valid_with before (rows.Give order) row fields valid is = valid

@@ -10,7 +10,10 @@ mod SessionLaws
 mod StandsLaws
 pub mod TurnsEnd
 pub mod TurnsAsk
+pub mod TurnsKeep
 pub mod TurnsComeOf
 pub mod FewRows
 pub mod Utf8Laws
 pub mod OneBook
+pub mod RightOrders
+pub mod Writable

@@ -21,12 +21,12 @@ use Rattle.alert_book.specs.Turns.{begun, is_asked, GoesTo, Turn}
 use Rattle.alert_book.specs.TurnLaws.{AsksOncePerOrder}
 
 -- one more or none, by a test
-abbrev one_if : Bool → ℕ
+abbrev pub one_if : Bool → ℕ
 one_if test = cond test 1 0
 
 -- the length of a filtered list: one element more, fewer than all, by a weaker test, of a list filtered before, and of
 -- a list that was mapped
-filter_more : {X : Type 0} (p : X → Bool) (x : X) (xs : List X) →
+pub filter_more : {X : Type 0} (p : X → Bool) (x : X) (xs : List X) →
     length (filter p (x ∷ xs)) ≡ one_if (p x) + length (filter p xs)
 filter_more {X} p x xs = by_test (p x)
   where
@@ -34,7 +34,7 @@ filter_more {X} p x xs = by_test (p x)
     by_test true = omega arith
     by_test false = omega arith
 
-filter_le : {X : Type 0} (p : X → Bool) (xs : List X) → length (filter p xs) ≤ length xs
+pub filter_le : {X : Type 0} (p : X → Bool) (xs : List X) → length (filter p xs) ≤ length xs
 filter_le {X} p xs =
     let few = count_by-le-length p xs in
     let same = length-filter p xs in
@@ -76,7 +76,7 @@ filter_map {X} {Y} p f (x ∷ xs) =
     ∙ sym (filter_more (λ y. p (f y)) x xs)
 
 -- cells that compare equal are equal
-cell_same : (a b : Cell) → is_cell a b ≡ true → a ≡ b
+pub cell_same : (a b : Cell) → is_cell a b ≡ true → a ≡ b
 cell_same a b same =
     let parts = and_parts (eqb a.lac b.lac) (eqb a.ci b.ci) same in
     let lac = eqb-true a.lac b.lac parts.0 in

@@ -1,5 +1,7 @@
 -- What holds of the turns of every session, by its definition alone, whatever the replies say. Own.
-use Rattle.std.specs.Prelude.{◌≡◌, ◌≢◌, ⊤, ℕ, ◌+◌, ◌*◌, ◌<◌, ◌≤◌, Option, Some, None, List, length, filter, All, Any}
+use Rattle.std.specs.Prelude.{◌≡◌, ◌≢◌, ⊤, ℕ, ◌+◌, ◌*◌, ◌<◌, ◌≤◌, true, Option, Some, None, List, length, filter, All}
+use Rattle.std.specs.Prelude.{Any}
+use Rattle.cbsp_wire.specs.Range.{is_writable}
 use Rattle.cbs_page.specs.declared.paging.Paged.{Paged}
 use Rattle.cbsp_wire.specs.declared.message.Cell.{Cell}
 use Rattle.cbsp_wire.specs.declared.message.Message.{Message}
@@ -9,7 +11,7 @@ use Rattle.alert_book.specs.declared.order.Action.TheVariants as action
 use Rattle.alert_book.specs.declared.order.Order.{Order}
 use Rattle.alert_book.specs.declared.order.Sending.{Sending}
 use Rattle.alert_book.specs.declared.request.Request.{Request}
-use Rattle.alert_book.specs.Book.{Contents, HavePages, ArePagesOf, sending_of}
+use Rattle.alert_book.specs.Book.{Contents, HavePages, IsBook, ArePagesOf, sending_of}
 use Rattle.alert_book.specs.Session.{after_reply, serial_of, Standing}
 use Rattle.alert_book.specs.Turns.{begun, GoesTo, is_asked, Turn}
 
@@ -64,3 +66,10 @@ RequestsComeOfOrders = (book : Contents) (part parts : ℕ) (turns : List Turn) 
     → HavePages book.orders book.pages
     → GoesTo (begun book part parts) turns reached
     → All (λ turn. Any (ComesOf turn.request) book.orders) turns
+
+-- each request of a book's session has a message that can be written
+abbrev pub RequestsAreWritable : Type 0
+RequestsAreWritable = (input : List ℕ) (book : Contents) (part parts : ℕ) (turns : List Turn) (reached : Standing)
+    → IsBook input book
+    → GoesTo (begun book part parts) turns reached
+    → All (λ turn. is_writable turn.request.message ≡ true) turns

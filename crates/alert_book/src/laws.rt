@@ -3,7 +3,7 @@
 ghost use Rattle.alert_book.specs.Laws.{BooksAreOne, BooksAreRight, CellsAreValid, FaultsAreOne, RowsAreFew};
 ghost use Rattle.alert_book.specs.Laws.{RowsAreOne, RowsAreRightOrWrong};
 ghost use Rattle.alert_book.specs.Texts.{TextsAreUtf8};
-ghost use Rattle.alert_book.specs.TurnLaws.{AsksOncePerOrder, RequestsComeOfOrders, SessionsEnd};
+ghost use Rattle.alert_book.specs.TurnLaws.{AsksOncePerOrder, RequestsAreWritable, RequestsComeOfOrders, SessionsEnd};
 
 /// Octets mean one list of cells and orders at most, and if they do, no row of theirs is wrong. They are one book, with
 /// one list of pages, or have one fault, and never both. A book has at most 4,096 rows, and declares at most 64 cells,
@@ -29,6 +29,9 @@ pub fn session_laws()
     // Each request has the row, the slot, the identifier and the text of an order of the book, and a write the serial
     // number of the version that the row sends.
     ensures come_of_orders { RequestsComeOfOrders }
+
+    // The message of each request can be written.
+    ensures writable { RequestsAreWritable }
 {}
 
 /// The texts of a book's orders are UTF-8. It does nothing: its contract is the law.

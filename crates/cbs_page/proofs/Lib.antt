@@ -9,4 +9,5 @@ pub mod PlainLaws
 pub mod CodingLaws
 pub mod ComesBack
 pub mod OneText
+pub mod FullPages
 mod Worked

@@ -1,3 +1,4 @@
+use Rattle.alert_book.proofs.Writable.{requests_are_writable}
 use Rattle.alert_book.proofs.TurnsAsk.{asks_once_per_order}
 use Rattle.alert_book.proofs.TurnsComeOf.{requests_come_of_orders}
 use Rattle.alert_book.proofs.TurnsEnd.{sessions_end}
@@ -11,3 +12,6 @@ returns-clause-once_per_order c = asks_once_per_order
 
 pub returns-clause-come_of_orders : goal.returns-clause-come_of_orders
 returns-clause-come_of_orders c = requests_come_of_orders
+
+pub returns-clause-writable : goal.returns-clause-writable
+returns-clause-writable c = requests_are_writable
