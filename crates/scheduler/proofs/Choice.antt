@@ -15,7 +15,7 @@ use Rattle.scheduler.specs.Message.{broadcast_at}
 use Rattle.scheduler.proofs.Air.{broadcast_at-released, broadcast_at-not_due, broadcast_at-only}
 use Rattle.scheduler.proofs.Message.{has_broadcast-says, has_broadcast-from, is_before_stop-says, is_before_stop-from}
 use Rattle.scheduler.proofs.Rule.{IsAirOf-next, IsServedBy-total}
-use Rattle.scheduler.proofs.Ready.{IsServedBy-same, IsServedBy-trans}
+use Rattle.scheduler.proofs.Served.{IsServedBy-same, IsServedBy-trans}
 
 -- the tests say what the facts say
 IsPending-from_test : (m : ScheduledMessage) (air : Air) (slot : ℕ) → 0 < m.period → is_pending air slot m ≡ true

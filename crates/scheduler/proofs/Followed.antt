@@ -1,11 +1,10 @@
 -- A plan goes on to follow its messages and their air list.
-use Rattle.std.proofs.Common.{Vec, ◌≡◌, ◌==◌, ℕ, ◌+◌, ◌≤◌, ◌<◌, Bool, true, false, cond, List, [], ◌∷◌, ◌++◌, length}
+use Rattle.std.proofs.Common.{◌≡◌, ◌==◌, ℕ, ◌+◌, ◌≤◌, ◌<◌, true, List, [], ◌∷◌, ◌++◌, length}
 use Rattle.std.proofs.Common.{get_or, map, Option, None, refl, sym, ap, subst, ◌∙◌, arith}
 use Rattle.std.specs.List.{All, AllPairs, Any}
-use Rattle.std.proofs.lemmas.List.{length_push, length-map, get_or-map, map_push, with_items_is}
+use Rattle.std.proofs.lemmas.List.{length_push, length-map, get_or-map, map_push}
 use Rattle.std.proofs.lemmas.List.Elements.{All-map, All-push}
 use Rattle.std.proofs.lemmas.Bool.{eqb-true}
-use Rattle.std.specs.Vec.{with_items}
 use Rattle.scheduler.specs.declared.plan.Item.{Item}
 use Rattle.scheduler.specs.declared.scheduled.Scheduled.{Scheduled}
 use Rattle.scheduler.specs.Message.{ScheduledMessage, stopped_if, stopped_at}
@@ -14,7 +13,7 @@ use Rattle.scheduler.specs.Completed.{completed}
 use Rattle.scheduler.specs.Follows.{PlanState, Follows, Counts, messages_of, message_of, message_from}
 use Rattle.scheduler.specs.PlanSteps.{IsSound, IsFit, IsChoice, after_slot, scheduled_stopped, is_ready}
 use Rattle.scheduler.proofs.Chosen.{IsChosen-from_choice, used_is_ready}
-use Rattle.scheduler.proofs.Counts.{Counts-after, Counts-new, Counts-stopped, IsFit-after, is_ready-parts}
+use Rattle.scheduler.proofs.Counts.{Counts-after, Counts-new, Counts-stopped, IsFit-after}
 use Rattle.scheduler.proofs.Lists.{rising-map, rising-push, rising-same}
 
 -- the messages are the same where each kept one is
@@ -36,12 +35,6 @@ unchanged_messages g same (t ∷ scheduled) =
 -- what is kept after a slot
 abbrev pub kept_after : PlanState → Option (ℕ × ℕ) → PlanState
 kept_after plan used = record { slot = plan.slot + 1; scheduled = map (after_slot plan.slot used) plan.scheduled }
-
-pub few_pages : (scheduled : List Scheduled) (slot : ℕ) (used : Option (ℕ × ℕ))
-    → AllPairs (λ a b. a.item.entry < b.item.entry) scheduled → IsChoice scheduled slot used
-    → All (λ t. airs t.item.entry used ≡ true → t.pages_aired < t.item.pages) scheduled
-few_pages scheduled slot used rising choice = λ k d within. λ named.
-    (is_ready-parts (get_or scheduled k d) slot (used_is_ready scheduled slot used rising choice k d within named)).2
 
 pub IsSound-next : (plan : PlanState) (used : Option (ℕ × ℕ)) → plan.slot < 65535 → IsSound plan
     → IsSound (kept_after plan used)
@@ -186,23 +179,3 @@ completed-kept plan entry result messages air found follows =
     → result ≡ completed m air (length air)) ms in
     subst Told follows.same_messages (All-map (λ m. m.entry ≡ entry → result ≡ completed m air (length air)) message_of
     plan.scheduled (λ k d h. λ named. found k d h named ∙ (follows.counted k d h).completed))
-
--- the same where it is known by a test whether there was room
-pub IsSound-add_if : (plan : PlanState) (item : Item) (added : Bool) (scheduled : List Scheduled)
-    → scheduled ≡ cond added (plan.scheduled ++ scheduled_new item ∷ []) plan.scheduled
-    → All (λ m. m.entry < item.entry) (messages_of plan) → plan.slot ≤ item.start → 0 < item.pages → 0 < item.period
-    → IsSound plan → IsSound (record { slot = plan.slot; scheduled = scheduled })
-IsSound-add_if plan item true scheduled is above start pages period sound =
-    let P : List Scheduled → Type 0 = λ ts. IsSound (record { slot = plan.slot; scheduled = ts }) in
-    subst P (sym is) (IsSound-add plan item above start pages period sound)
-IsSound-add_if plan item false scheduled is above start pages period sound =
-    let P : List Scheduled → Type 0 = λ ts. IsSound (record { slot = plan.slot; scheduled = ts }) in
-    subst P (sym is) sound
-
--- what a `Vec` holds once each of its elements was written over
-pub written_over : {Z : Type 0} (v : Vec Scheduled Z) (g : Scheduled → Scheduled) (read written : List Scheduled)
-    → read ≡ v.items → written ≡ map g read → (with_items v written).items ≡ map g v.items
-written_over v g read written same is =
-    let whole = is ∙ ap (map g) same in
-    let long = ap length whole ∙ length-map v.items g in
-    with_items_is v written (omega (arith, long, v.ok.0)) ∙ whole

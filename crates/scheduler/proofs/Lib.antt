@@ -4,13 +4,21 @@ pub mod Choice
 mod Chosen
 pub mod Completed
 mod Counts
+mod FirstTurn
 mod Followed
+mod Found
 pub mod Lists
 pub mod Message
 mod OneAir
 mod PageCounts
 mod PagesOnce
-mod Ready
+mod Passed
+mod Places
+mod Planned
 mod Renumbering
 pub mod Rule
+mod Served
+mod Tree
+mod Turns
+mod Windows
 mod Worked

@@ -1,23 +1,13 @@
 -- Lemmas on lists.
-use Rattle.std.proofs.Common.{◌≡◌, ◌≢◌, ℕ, zero, suc, ◌+◌, ◌-◌, ◌<◌, Bool, true, false, cond, List, [], ◌∷◌, ◌++◌}
-use Rattle.std.proofs.Common.{length, get_or, take, drop, map, count_by, inl, inr, refl, sym, ap, ◌∙◌, arith}
+use Rattle.std.proofs.Common.{◌≡◌, ◌≢◌, ℕ, zero, suc, ◌+◌, ◌<◌, Bool, true, false, cond, List, [], ◌∷◌, ◌++◌}
+use Rattle.std.proofs.Common.{length, get_or, map, count_by, inl, inr, refl, sym, ap, ◌∙◌, arith}
 use Rattle.std.proofs.Math.Nat.{add-zero}
 use Rattle.std.specs.Bool.{MatchBool}
 use Rattle.std.specs.List.{All, AllPairs, range_with_len, Any}
-use Rattle.std.proofs.lemmas.List.{get_or-append_right, get_or-drop, get_or-map, length-map, length-take-le}
+use Rattle.std.proofs.lemmas.List.{get_or-map, length-map}
 use Rattle.std.proofs.lemmas.List.Quantifiers.{all_pairs_push}
 use Rattle.std.proofs.lemmas.List.Sums.{sum_by_push}
 use Rattle.std.proofs.lemmas.Bool.{cases_order, cases_eq}
-
--- a loop that writes over each element reads at its place what stood there
-pub map_over-read : {X : Type 0} (f : X → X) (xs ys : List X) (i : ℕ) (d : X) → i < length xs
-    → ys ≡ map f (take i xs) ++ drop i xs → get_or ys i d ≡ get_or xs i d
-map_over-read f xs ys i d h e =
-    let front : length (map f (take i xs)) ≡ i = length-map (take i xs) f ∙ length-take-le i xs (omega arith) in
-    let read = get_or-append_right (map f (take i xs)) (drop i xs) i i d front (omega arith) in
-    let behind = get_or-drop i xs (i - i) d in
-    let here : i + (i - i) ≡ i = omega arith in
-    ap (λ zs. get_or zs i d) e ∙ (read ∙ (behind ∙ ap (λ k. get_or xs k d) here))
 
 -- in a list whose numbers rise, equal numbers are at one place
 pub rising-same : {X : Type 0} (f : X → ℕ) (xs : List X) → AllPairs (λ a b. f a < f b) xs → (i j : ℕ) (d : X)

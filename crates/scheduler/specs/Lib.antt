@@ -8,4 +8,5 @@ pub mod Follows
 pub mod PlanSteps
 pub mod Message
 pub mod Pages
+pub mod QueueSteps
 pub mod Renumbered

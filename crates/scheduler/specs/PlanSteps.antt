@@ -1,6 +1,6 @@
 -- What a plan keeps of its messages (own): contracts of private functions alone speak of it.
-use Rattle.std.specs.Prelude.{◌≡◌, ℕ, ◌+◌, ◌-◌, ◌%◌, ◌<◌, ◌≤◌, ◌==◌, ◌⊎◌, Bool, true, false, ◌&&◌, nat_le, nat_lt}
-use Rattle.std.specs.Prelude.{if◌then◌else◌, Option, Some, None, List, All, Any, AllPairs, Contains}
+use Rattle.std.specs.Prelude.{◌≡◌, ℕ, ◌+◌, ◌-◌, ◌%◌, ◌<◌, ◌≤◌, ◌==◌, Bool, true, false, ◌&&◌, nat_le, nat_lt}
+use Rattle.std.specs.Prelude.{if◌then◌else◌, Option, Some, None, List, All, Any, AllPairs}
 use Rattle.scheduler.specs.declared.scheduled.Scheduled.{Scheduled}
 use Rattle.scheduler.specs.Message.{has_broadcast, is_before_stop, broadcast_at}
 use Rattle.scheduler.specs.Air.{airs, IsServedBy}
@@ -51,16 +51,6 @@ after_slot slot used t =
       pages_aired = if (slot + 1 - t.item.start) % t.item.period == 0 then 0 else pages;
       completed = t.completed + (if airs t.item.entry used && (pages == t.item.pages) then 1 else 0);
     }
-
--- what is first of some messages: none where none is ready
-abbrev pub IsFirstOf : List Scheduled → ℕ → Option Scheduled → Type 0
-IsFirstOf seen slot None = NoneReady seen slot
-IsFirstOf seen slot (Some t) = Contains seen t × IsFirstReady seen slot t
-
--- the one of two messages that is served first, where the first may be missing
-abbrev pub IsEarlier : ℕ → Option Scheduled → Scheduled → Scheduled → Type 0
-IsEarlier slot None b t = t ≡ b
-IsEarlier slot (Some a) b t = ((t ≡ a) × IsServedFirst slot a b) ⊎ ((t ≡ b) × IsServedFirst slot b a)
 
 -- what a slot airs by what is kept
 abbrev pub IsChoice : List Scheduled → ℕ → Option (ℕ × ℕ) → Type 0

@@ -5,9 +5,12 @@
 //! keeps is its own: its contracts speak of the messages and of the whole air list alone.
 #![tactic(auto)]
 
+mod kept;
 mod laws;
 mod plan;
+mod queue;
 mod scheduled;
+mod turn;
 
 pub use laws::{air_laws, background_laws};
 pub use plan::{Item, Plan, Rank, Refused};

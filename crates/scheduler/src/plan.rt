@@ -7,10 +7,8 @@ ghost use Rattle.scheduler.specs.Message.{ScheduledMessage, stopped_at};
 ghost use Rattle.scheduler.specs.Air.{Air, airs, layer_of, class_of, IsChosen};
 ghost use Rattle.scheduler.specs.Completed.{completed};
 ghost use Rattle.scheduler.specs.Follows.{Follows, next_slot, messages_of, message_of, message_from};
-ghost use Rattle.scheduler.specs.PlanSteps.{IsFit, HasStarted, IsFirstOf, IsEarlier, IsChoice, after_slot};
-ghost use Rattle.scheduler.specs.PlanSteps.{scheduled_stopped};
 
-use crate::scheduled::Scheduled;
+use crate::queue::{Node, are_below, completed_of, has_entry, has_standing, play, push, stop_at};
 use std::alloc::Global;
 use std::fmt;
 use std::marker::Model;
@@ -90,18 +88,18 @@ impl std::error::Error for Refused {}
 #[derive(Drop)]
 pub struct Plan {
     slot: u16,
-    scheduled: Vec<Scheduled>,
+    nodes: Vec<Node>,
 }
 
 impl Model for Plan {
     ghost use Rattle.scheduler.specs.Follows.{PlanState};
-    ghost use Rattle.scheduler.specs.PlanSteps.{IsSound};
+    ghost use Rattle.scheduler.specs.QueueSteps.{IsPlan, seen_in};
 
     ghost Value = { PlanState };
 
-    ghost view = { λ p. record { slot = p.slot; scheduled = p.scheduled.items } };
+    ghost view = { λ p. record { slot = p.slot; scheduled = seen_in p.slot p.nodes.items } };
 
-    ghost invariant = { λ p. IsSound (record { slot = p.slot; scheduled = p.scheduled.items }) };
+    ghost invariant = { λ p. IsPlan p.slot p.nodes.items };
 }
 
 impl Plan {
@@ -113,7 +111,7 @@ impl Plan {
     {
         Plan {
             slot: 0,
-            scheduled: Vec::new(alloc),
+            nodes: Vec::new(alloc),
         }
     }
 
@@ -132,10 +130,7 @@ impl Plan {
         ensures asked { next_slot self.new ≡ next_slot self.old }
         ensures refused { OnErr result (self.new ≡ self.old) }
     {
-        match self.scheduled.push(Scheduled::new(item)) {
-            Ok(()) => Ok(()),
-            Err(_) => Err(Refused),
-        }
+        push(&mut self.nodes, item)
     }
 
     /// What `slot` airs: an entry and its page, counted from 1, or nothing. Each slot is asked once, from 0, in order,
@@ -152,8 +147,7 @@ impl Plan {
         ensures messages { messages_of self.new ≡ messages_of self.old }
         ensures asked { next_slot self.new ≡ slot + 1 }
     {
-        let used = choice(self.scheduled.as_slice(), slot);
-        pass(self.scheduled.as_mut_slice(), slot, used);
+        let used = play(self.nodes.as_mut_slice(), slot);
         self.slot = slot + 1;
         used
     }
@@ -172,8 +166,8 @@ impl Plan {
         ensures messages { messages_of self.new ≡ stopped_at entry slot (messages_of self.old) }
         ensures asked { next_slot self.new ≡ slot }
     {
-        let completed = completed_of(self.scheduled.as_slice(), entry);
-        stop_at(self.scheduled.as_mut_slice(), entry, slot);
+        let completed = completed_of(self.nodes.as_slice(), entry);
+        stop_at(self.nodes.as_mut_slice(), entry, slot);
         completed
     }
 
@@ -184,7 +178,7 @@ impl Plan {
             → Follows self.now messages air
             → All (λ m. m.entry ≡ entry → result ≡ completed m air (length air)) messages }
     {
-        completed_of(self.scheduled.as_slice(), entry)
+        completed_of(self.nodes.as_slice(), entry)
     }
 
     /// The slot that is asked next, from 0 to 65,535.
@@ -200,7 +194,7 @@ impl Plan {
             (All (λ m. m.entry < entry) (messages_of self.now))
             (Any (λ m. entry ≤ m.entry) (messages_of self.now)) }
     {
-        are_below(self.scheduled.as_slice(), entry)
+        are_below(self.nodes.as_slice(), entry)
     }
 
     /// Whether the message of `entry` was added, as `done` asks.
@@ -209,7 +203,7 @@ impl Plan {
             (Any (λ m. m.entry ≡ entry) (messages_of self.now))
             (All (λ m. m.entry ≢ entry) (messages_of self.now)) }
     {
-        has_entry(self.scheduled.as_slice(), entry)
+        has_entry(self.nodes.as_slice(), entry)
     }
 
     /// Whether the message of `entry` was added, and not stopped, as `stop` asks.
@@ -218,108 +212,6 @@ impl Plan {
             (Any (λ m. (m.entry ≡ entry) × (m.stop ≡ None)) (messages_of self.now))
             (All (λ m. m.entry ≡ entry → m.stop ≢ None) (messages_of self.now)) }
     {
-        has_standing(self.scheduled.as_slice(), entry)
+        has_standing(self.nodes.as_slice(), entry)
     }
-}
-
-/// Whether all numbers of what is kept are below `entry`.
-fn are_below(scheduled: &[Scheduled], entry: u16) -> bool
-    ensures { MatchBool result (All (λ t. t.item.entry < entry) scheduled.now)
-        (Any (λ t. entry ≤ t.item.entry) scheduled.now) }
-{
-    scheduled.iter().all(|one| one.item.entry < entry)
-}
-
-/// Whether a message of `entry` is kept.
-fn has_entry(scheduled: &[Scheduled], entry: u16) -> bool
-    ensures { MatchBool result (Any (λ t. t.item.entry ≡ entry) scheduled.now)
-        (All (λ t. t.item.entry ≢ entry) scheduled.now) }
-{
-    scheduled.iter().any(|one| one.item.entry == entry)
-}
-
-/// Whether a message of `entry` is kept that was not stopped.
-fn has_standing(scheduled: &[Scheduled], entry: u16) -> bool
-    ensures { MatchBool result
-        (Any (λ t. (t.item.entry ≡ entry) × (t.stop ≡ None)) scheduled.now)
-        (All (λ t. t.item.entry ≡ entry → t.stop ≢ None) scheduled.now) }
-{
-    scheduled
-        .iter()
-        .any(|one| one.item.entry == entry && one.stop.is_none())
-}
-
-/// What a slot airs by what is kept: the next page of the first message that is ready.
-fn choice(scheduled: &[Scheduled], slot: u16) -> Option<(u16, u8)>
-    requires { All (λ t. IsFit t slot) scheduled.now }
-    ensures { IsChoice scheduled.now slot result }
-{
-    let first = first_ready(scheduled, slot)?;
-    Some((first.item.entry, first.pages_aired + 1))
-}
-
-/// The first message that is ready at `slot`.
-fn first_ready(scheduled: &[Scheduled], slot: u16) -> Option<Scheduled>
-    requires { All (λ t. IsFit t slot) scheduled.now }
-    ensures { IsFirstOf scheduled.now slot result }
-{
-    let mut first: Option<Scheduled> = None;
-    for candidate in scheduled {
-        if candidate.is_ready(slot) {
-            first = Some(earlier(first, *candidate, slot));
-        }
-    }
-    first
-}
-
-/// The one of two that is served first at `slot`.
-fn earlier(first: Option<Scheduled>, candidate: Scheduled, slot: u16) -> Scheduled
-    requires first_started { ForSome first (λ t. HasStarted t slot) }
-    requires candidate_started { HasStarted candidate slot }
-    ensures { IsEarlier slot first candidate result }
-{
-    match first {
-        None => candidate,
-        Some(before) => {
-            if before.is_served_first(&candidate, slot) {
-                before
-            } else {
-                candidate
-            }
-        }
-    }
-}
-
-/// Goes past a slot and its use.
-fn pass(scheduled: &mut [Scheduled], slot: u16, used: Option<(u16, u8)>)
-    requires fit { All (λ t. IsFit t slot) scheduled.old }
-    requires within { slot < 65535 }
-    requires ready { All (λ t. airs t.item.entry used ≡ true → t.pages_aired < t.item.pages) scheduled.old }
-    ensures { scheduled.new ≡ map (after_slot slot used) scheduled.old }
-{
-    for one in scheduled.iter_mut() {
-        *one = one.after_slot(slot, used);
-    }
-}
-
-/// Stops the message of `entry` before `slot`.
-fn stop_at(scheduled: &mut [Scheduled], entry: u16, slot: u16)
-    ensures { scheduled.new ≡ map (λ t. scheduled_stopped (t.item.entry == entry) slot t) scheduled.old }
-{
-    for one in scheduled.iter_mut() {
-        *one = one.stopped_if(entry, slot);
-    }
-}
-
-/// How many broadcasts of the message of `entry` are kept as completed.
-fn completed_of(scheduled: &[Scheduled], entry: u16) -> u16
-    requires { AllPairs (λ a b. a.item.entry < b.item.entry) scheduled.now }
-    ensures { All (λ t. t.item.entry ≡ entry → result ≡ t.completed) scheduled.now }
-{
-    for one in scheduled {
-        if one.item.entry == entry {
-            return one.completed;
-        }
-    }
-    0
 }

@@ -3,8 +3,7 @@
 ghost use Rattle.std.specs.Prelude.{◌≡◌, ◌==◌, ℕ, ◌+◌, ◌<◌, ◌≤◌, true, MatchBool};
 ghost use Rattle.scheduler.specs.Message.{broadcast_at};
 ghost use Rattle.scheduler.specs.Follows.{message_of};
-ghost use Rattle.scheduler.specs.PlanSteps.{IsFit, HasStarted, is_ready, IsServedFirst, after_slot, scheduled_stopped};
-ghost use Rattle.scheduler.specs.Air.{airs};
+ghost use Rattle.scheduler.specs.PlanSteps.{IsFit, HasStarted, is_ready};
 ghost use Rattle.scheduler.specs.Message.{release, due, has_broadcast, is_before_stop};
 
 use crate::plan::Item;
@@ -35,8 +34,16 @@ impl Scheduled {
         }
     }
 
+    /// The page after those that were aired, counted from 1.
+    pub fn next_page(self) -> u8
+        requires { self.pages_aired < self.item.pages }
+        ensures { result ≡ self.pages_aired + 1 }
+    {
+        self.pages_aired + 1
+    }
+
     /// The slot at which the broadcast that is under way at `slot` is due.
-    fn due(&self, slot: u16) -> u32
+    pub fn due(&self, slot: u16) -> u32
         requires { HasStarted self.now slot }
         ensures { result ≡ due (message_of self.now) (broadcast_at (message_of self.now) slot) }
     {
@@ -66,65 +73,5 @@ impl Scheduled {
             Some(stop) => slot < stop,
         };
         is_started && is_requested && is_standing && self.pages_aired < self.item.pages
-    }
-
-    /// Whether the message is served no later than another at `slot`.
-    pub fn is_served_first(&self, other: &Scheduled, slot: u16) -> bool
-        requires this_started { HasStarted self.now slot }
-        requires other_started { HasStarted other.now slot }
-        ensures { MatchBool result (IsServedFirst slot self.now other.now)
-            (IsServedFirst slot other.now self.now) }
-    {
-        let (rank, rank_of_other) = (self.item.rank, other.item.rank);
-        if rank.layer() != rank_of_other.layer() {
-            return rank.layer() < rank_of_other.layer();
-        }
-        let (due, due_of_other) = (self.due(slot), other.due(slot));
-        if due != due_of_other {
-            return due < due_of_other;
-        }
-        if rank.class() != rank_of_other.class() {
-            return rank.class() < rank_of_other.class();
-        }
-        self.item.entry <= other.item.entry
-    }
-
-    /// What is kept of the message after `slot`, which was used for `used`.
-    pub fn after_slot(self, slot: u16, used: Option<(u16, u8)>) -> Scheduled
-        requires fit { IsFit self slot }
-        requires within { slot < 65535 }
-        requires ready { airs self.item.entry used ≡ true → self.pages_aired < self.item.pages }
-        ensures { result ≡ after_slot slot used self }
-    {
-        let is_used = match used {
-            None => false,
-            Some((entry, _)) => entry == self.item.entry,
-        };
-        let pages = self.pages_aired + u8::from(is_used);
-        let is_completed = is_used && pages == self.item.pages;
-        let passed = (u32::from(slot) + 1).saturating_sub(self.item.start);
-        Scheduled {
-            pages_aired: if passed % u32::from(self.item.period) == 0 {
-                0
-            } else {
-                pages
-            },
-            completed: self.completed + u16::from(is_completed),
-            ..self
-        }
-    }
-
-    /// The message, stopped before `slot` where it is of `entry`.
-    pub fn stopped_if(self, entry: u16, slot: u16) -> Scheduled
-        ensures { result ≡ scheduled_stopped (self.item.entry == entry) slot self }
-    {
-        if self.item.entry == entry {
-            Scheduled {
-                stop: Some(slot),
-                ..self
-            }
-        } else {
-            self
-        }
     }
 }

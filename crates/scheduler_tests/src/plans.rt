@@ -26,7 +26,7 @@ fn add(
 }
 
 /// Adds a message. `None` is a message that may not be added now.
-fn add_item(plan: &mut Plan, item: Item) -> Option<Item> {
+pub fn add_item(plan: &mut Plan, item: Item) -> Option<Item> {
     if u32::from(plan.next_slot()) > item.start || item.pages == 0 || item.period == 0 {
         return None;
     }
@@ -40,7 +40,7 @@ fn add_item(plan: &mut Plan, item: Item) -> Option<Item> {
 }
 
 /// What the slot that is asked next airs.
-fn air(plan: &mut Plan) -> Option<(u16, u8)> {
+pub fn air(plan: &mut Plan) -> Option<(u16, u8)> {
     let slot = plan.next_slot();
     if slot == u16::MAX {
         return None;
@@ -49,7 +49,7 @@ fn air(plan: &mut Plan) -> Option<(u16, u8)> {
 }
 
 /// Stops a message at the slot that is asked next. `None` is a message that does not stand.
-fn stop(plan: &mut Plan, entry: u16) -> Option<u16> {
+pub fn stop(plan: &mut Plan, entry: u16) -> Option<u16> {
     if !plan.is_standing(entry) {
         return None;
     }
@@ -58,7 +58,7 @@ fn stop(plan: &mut Plan, entry: u16) -> Option<u16> {
 }
 
 /// The completed number of a message that was added.
-fn done(plan: &Plan, entry: u16) -> Option<u16> {
+pub fn done(plan: &Plan, entry: u16) -> Option<u16> {
     if !plan.is_added(entry) {
         return None;
     }
@@ -381,12 +381,14 @@ fn completed(told: &Told, air: &[Option<(u16, u8)>], slot: u16) -> u16 {
 
 /// A small generator of numbers below `bound`.
 #[derive(Drop)]
-struct Numbers {
-    state: u64,
+pub struct Numbers {
+    /// Where it stands.
+    pub state: u64,
 }
 
 impl Numbers {
-    fn below(&mut self, bound: u16) -> u16 {
+    /// The next number, below `bound`.
+    pub fn below(&mut self, bound: u16) -> u16 {
         self.state = self
             .state
             .wrapping_mul(6_364_136_223_846_793_005)

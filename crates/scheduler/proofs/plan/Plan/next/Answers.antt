@@ -1,66 +1,80 @@
-use Rattle.std.proofs.Common.{◌≡◌, ℕ, ◌+◌, ◌<◌, sym, ap, subst, ◌∙◌, map, refl, List, [], ◌∷◌, ◌++◌, true}
-use Rattle.std.specs.List.{All}
+use Rattle.std.proofs.Common.{ℕ, ◌+◌, ◌<◌, sym, ap, subst, ◌∙◌, map, refl, List, [], ◌∷◌, ◌++◌}
+use Rattle.std.specs.List.{AllPairs}
 use Rattle.scheduler.specs.declared.scheduled.Scheduled.{Scheduled}
-use Rattle.scheduler.specs.Air.{airs}
+use Rattle.scheduler.specs.declared.queue.Node.{Node}
 use Rattle.scheduler.specs.Follows.{PlanState, Follows, messages_of, message_of, next_slot}
 use Rattle.scheduler.specs.PlanSteps.{IsSound, IsChoice, after_slot}
-use Rattle.scheduler.proofs.Followed.{IsSound-next, IsChosen-next, Follows-next, few_pages, written_over}
-use Rattle.scheduler.proofs.Followed.{unchanged_messages}
+use Rattle.scheduler.specs.QueueSteps.{AreKept, seen_in}
+use Rattle.scheduler.proofs.Followed.{IsSound-next, IsChosen-next, Follows-next, unchanged_messages}
+use Rattle.scheduler.proofs.Planned.{written_all, seen_written}
 use Rattle.scheduler.proofs.plan.Plan.next.Goals as goal
 
-pub pass-requires-clause-ready : goal.pass-requires-clause-ready
-pass-requires-clause-ready c =
-    let Choice : List Scheduled → Type 0 = λ ts. IsChoice ts c.args.slot c.choice-used.result in
-    let Few : List Scheduled → Type 0 = λ ts. All (λ t. airs t.item.entry c.choice-used.result ≡ true
-    → t.pages_aired < t.item.pages) ts in
-    subst Few (sym c.as_mut_slice.ensures.value) (few_pages c.self.inside.scheduled.items c.args.slot
-    c.choice-used.result c.self.invariant.rising (subst Choice c.as_slice.ensures.value c.choice-used.ensures))
+pub play-used-requires-clause-kept : goal.play-used-requires-clause-kept
+play-used-requires-clause-kept c =
+    let at = c.requires.at_next ∙ ap next_slot (sym c.self.view_is) in
+    let Slot : ℕ → Type 0 = λ n. AreKept n c.self.inside.nodes.items in
+    subst (AreKept c.args.slot) (sym c.as_mut_slice.ensures.value) (subst Slot (sym at) c.self.invariant.kept)
+
+pub play-used-requires-clause-rising : goal.play-used-requires-clause-rising
+play-used-requires-clause-rising c =
+    let at = c.requires.at_next ∙ ap next_slot (sym c.self.view_is) in
+    let Rising : List Node → Type 0 = λ ns. AllPairs (λ (a b : Scheduled). a.item.entry < b.item.entry)
+    (seen_in c.args.slot ns) in
+    let Slot : ℕ → Type 0 = λ n. AllPairs (λ (a b : Scheduled). a.item.entry < b.item.entry)
+    (seen_in n c.self.inside.nodes.items) in
+    subst Rising (sym c.as_mut_slice.ensures.value) (subst Slot (sym at) c.self.invariant.sound.rising)
 
 pub invariant_of-self : goal.invariant_of-self
 invariant_of-self c =
-    let plan : PlanState = record { slot = c.args.slot; scheduled = c.self.inside.scheduled.items } in
+    let v = c.self.inside.nodes in
+    let plan : PlanState = record { slot = c.args.slot; scheduled = seen_in c.args.slot v.items } in
     let at = c.requires.at_next ∙ ap next_slot (sym c.self.view_is) in
-    let over = written_over c.self.inside.scheduled (after_slot c.args.slot c.choice-used.result) _ _
-    c.as_mut_slice.ensures.value c.pass.ensures in
-    let Slot : ℕ → Type 0 = λ n. IsSound (record { slot = n; scheduled = c.self.inside.scheduled.items }) in
+    let f = after_slot c.args.slot c.play-used.result in
+    let Slot : ℕ → Type 0 = λ n. IsSound (record { slot = n; scheduled = seen_in n v.items }) in
     let P : List Scheduled → Type 0 = λ ts. IsSound (record { slot = c.args.slot + 1; scheduled = ts }) in
-    subst P (sym over) (IsSound-next plan c.choice-used.result c.requires.within (subst Slot (sym at) c.self.invariant))
+    record {
+      sound = subst P (sym (seen_written v _ _ (c.args.slot + 1) c.args.slot f c.as_mut_slice.ensures.value
+          c.play-used.ensures.seen)) (IsSound-next plan c.play-used.result c.requires.within (subst Slot (sym at)
+          c.self.invariant.sound));
+      kept = subst (AreKept (c.args.slot + 1)) (sym (written_all v _ _ (c.args.slot + 1) c.args.slot f
+          c.as_mut_slice.ensures.value c.play-used.ensures.seen)) c.play-used.ensures.kept;
+    }
 
 pub returns-clause-chosen : goal.returns-clause-chosen
 returns-clause-chosen c = λ messages air follows.
-    let plan : PlanState = record { slot = c.args.slot; scheduled = c.self.inside.scheduled.items } in
+    let v = c.self.inside.nodes in
+    let plan : PlanState = record { slot = c.args.slot; scheduled = seen_in c.args.slot v.items } in
     let at = c.requires.at_next ∙ ap next_slot (sym c.self.view_is) in
-    let Slot : ℕ → Type 0 = λ n. IsSound (record { slot = n; scheduled = c.self.inside.scheduled.items }) in
-    let SlotFollows : ℕ → Type 0 = λ n. Follows (record { slot = n; scheduled = c.self.inside.scheduled.items })
-    messages
-    air in
+    let Slot : ℕ → Type 0 = λ n. IsSound (record { slot = n; scheduled = seen_in n v.items }) in
+    let SlotFollows : ℕ → Type 0 = λ n. Follows (record { slot = n; scheduled = seen_in n v.items }) messages air in
     let Same : PlanState → Type 0 = λ p. Follows p messages air in
-    let Choice : List Scheduled → Type 0 = λ ts. IsChoice ts c.args.slot c.choice-used.result in
-    IsChosen-next plan messages air c.choice-used.result (subst Slot (sym at) c.self.invariant)
-    (subst Choice c.as_slice.ensures.value c.choice-used.ensures)
+    let Choice : List Node → Type 0 = λ ns. IsChoice (seen_in c.args.slot ns) c.args.slot c.play-used.result in
+    IsChosen-next plan messages air c.play-used.result (subst Slot (sym at) c.self.invariant.sound)
+    (subst Choice c.as_mut_slice.ensures.value c.play-used.ensures.chosen)
     (subst SlotFollows (sym at) (subst Same (sym c.self.view_is) follows))
 
 pub returns-clause-follows : goal.returns-clause-follows
 returns-clause-follows c = λ messages air follows.
-    let plan : PlanState = record { slot = c.args.slot; scheduled = c.self.inside.scheduled.items } in
+    let v = c.self.inside.nodes in
+    let plan : PlanState = record { slot = c.args.slot; scheduled = seen_in c.args.slot v.items } in
     let at = c.requires.at_next ∙ ap next_slot (sym c.self.view_is) in
-    let over = written_over c.self.inside.scheduled (after_slot c.args.slot c.choice-used.result) _ _
-    c.as_mut_slice.ensures.value c.pass.ensures in
-    let Slot : ℕ → Type 0 = λ n. IsSound (record { slot = n; scheduled = c.self.inside.scheduled.items }) in
-    let SlotFollows : ℕ → Type 0 = λ n. Follows (record { slot = n; scheduled = c.self.inside.scheduled.items })
-    messages
-    air in
+    let f = after_slot c.args.slot c.play-used.result in
+    let Slot : ℕ → Type 0 = λ n. IsSound (record { slot = n; scheduled = seen_in n v.items }) in
+    let SlotFollows : ℕ → Type 0 = λ n. Follows (record { slot = n; scheduled = seen_in n v.items }) messages air in
     let Same : PlanState → Type 0 = λ p. Follows p messages air in
-    let Choice : List Scheduled → Type 0 = λ ts. IsChoice ts c.args.slot c.choice-used.result in
+    let Choice : List Node → Type 0 = λ ns. IsChoice (seen_in c.args.slot ns) c.args.slot c.play-used.result in
     let P : List Scheduled → Type 0 = λ ts. Follows (record { slot = c.args.slot + 1; scheduled = ts }) messages
-    (air ++ c.choice-used.result ∷ []) in
-    subst P (sym over) (Follows-next plan messages air c.choice-used.result (subst Slot (sym at) c.self.invariant)
-    (subst Choice c.as_slice.ensures.value c.choice-used.ensures)
+    (air ++ c.play-used.result ∷ []) in
+    subst P (sym (seen_written v _ _ (c.args.slot + 1) c.args.slot f c.as_mut_slice.ensures.value
+    c.play-used.ensures.seen)) (Follows-next plan messages air c.play-used.result (subst Slot (sym at)
+    c.self.invariant.sound) (subst Choice c.as_mut_slice.ensures.value c.play-used.ensures.chosen)
     (subst SlotFollows (sym at) (subst Same (sym c.self.view_is) follows)))
 
 pub returns-clause-messages : goal.returns-clause-messages
 returns-clause-messages c =
-    let over = written_over c.self.inside.scheduled (after_slot c.args.slot c.choice-used.result) _ _
-    c.as_mut_slice.ensures.value c.pass.ensures in
-    ap (map message_of) over ∙ (unchanged_messages (after_slot c.args.slot c.choice-used.result) (λ t. refl)
-    c.self.inside.scheduled.items ∙ ap messages_of c.self.view_is)
+    let v = c.self.inside.nodes in
+    let at = c.requires.at_next ∙ ap next_slot (sym c.self.view_is) in
+    let f = after_slot c.args.slot c.play-used.result in
+    ap (map message_of) (seen_written v _ _ (c.args.slot + 1) c.args.slot f c.as_mut_slice.ensures.value
+    c.play-used.ensures.seen) ∙ (unchanged_messages f (λ t. refl) (seen_in c.args.slot v.items)
+    ∙ (ap (λ n. map message_of (seen_in n v.items)) at ∙ ap messages_of c.self.view_is))

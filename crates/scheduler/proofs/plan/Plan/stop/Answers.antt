@@ -1,55 +1,93 @@
-use Rattle.std.proofs.Common.{◌≡◌, ◌==◌, ℕ, sym, ap, subst, ◌∙◌, map, List, None}
+use Rattle.std.proofs.Common.{◌≡◌, ◌==◌, ℕ, refl, sym, ap, subst, ◌∙◌, map, List, None}
 use Rattle.std.specs.List.{All, Any}
 use Rattle.scheduler.specs.declared.scheduled.Scheduled.{Scheduled}
+use Rattle.scheduler.specs.declared.queue.Node.{Node}
 use Rattle.scheduler.specs.Message.{stopped_at}
 use Rattle.scheduler.specs.Completed.{completed}
 use Rattle.scheduler.specs.Follows.{PlanState, Follows, messages_of, message_of, next_slot}
 use Rattle.scheduler.specs.PlanSteps.{IsSound, scheduled_stopped}
-use Rattle.scheduler.proofs.Followed.{IsSound-stop, Follows-stop, completed-kept, written_over, messages_of-stopped}
+use Rattle.scheduler.specs.QueueSteps.{AreKept, AreRising, seen_in}
+use Rattle.scheduler.proofs.Followed.{IsSound-stop, Follows-stop, completed-kept, messages_of-stopped}
+use Rattle.scheduler.proofs.Planned.{plan_rising, written_all, seen_written}
 use Rattle.scheduler.proofs.plan.Plan.stop.Goals as goal
+
+pub completed_of-completed-requires : goal.completed_of-completed-requires
+completed_of-completed-requires c =
+    subst AreRising (sym c.as_slice.ensures.value) (plan_rising c.self.inside.slot c.self.inside.nodes.items
+    c.self.invariant)
+
+pub stop_at-requires-clause-kept : goal.stop_at-requires-clause-kept
+stop_at-requires-clause-kept c =
+    let at = c.requires.at_next ∙ ap next_slot (sym c.self.view_is) in
+    let Slot : ℕ → Type 0 = λ n. AreKept n c.self.inside.nodes.items in
+    subst (AreKept c.args.slot) (sym c.as_mut_slice.ensures.value) (subst Slot (sym at) c.self.invariant.kept)
+
+pub stop_at-requires-clause-rising : goal.stop_at-requires-clause-rising
+stop_at-requires-clause-rising c =
+    subst AreRising (sym c.as_mut_slice.ensures.value) (plan_rising c.self.inside.slot c.self.inside.nodes.items
+    c.self.invariant)
 
 pub invariant_of-self : goal.invariant_of-self
 invariant_of-self c =
-    let plan : PlanState = record { slot = c.self.inside.slot; scheduled = c.self.inside.scheduled.items } in
-    let over = written_over c.self.inside.scheduled (λ (t : Scheduled). scheduled_stopped (t.item.entry == c.args.entry)
-    c.args.slot t) _ _ c.as_mut_slice.ensures.value c.stop_at.ensures in
-    let P : List Scheduled → Type 0 = λ ts. IsSound (record { slot = c.self.inside.slot; scheduled = ts }) in
-    subst P (sym over) (IsSound-stop plan c.args.entry c.args.slot c.self.invariant)
+    let v = c.self.inside.nodes in
+    let plan : PlanState = record { slot = c.args.slot; scheduled = seen_in c.args.slot v.items } in
+    let at = c.requires.at_next ∙ ap next_slot (sym c.self.view_is) in
+    let over = seen_written v _ _ c.args.slot c.args.slot (λ (t : Scheduled). scheduled_stopped
+    (t.item.entry == c.args.entry) c.args.slot t) c.as_mut_slice.ensures.value c.stop_at.ensures.seen in
+    let Slot : ℕ → Type 0 = λ n. IsSound (record { slot = n; scheduled = seen_in n v.items }) in
+    let P : List Scheduled → Type 0 = λ ts. IsSound (record { slot = c.args.slot; scheduled = ts }) in
+    rw (← at) record {
+      sound = subst P (sym over) (IsSound-stop plan c.args.entry c.args.slot (subst Slot (sym at)
+          c.self.invariant.sound));
+      kept = subst (AreKept c.args.slot) (sym (written_all v _ _ c.args.slot c.args.slot
+          (λ (t : Scheduled). scheduled_stopped (t.item.entry == c.args.entry) c.args.slot t)
+          c.as_mut_slice.ensures.value c.stop_at.ensures.seen)) c.stop_at.ensures.kept;
+    }
 
 pub returns-clause-completed : goal.returns-clause-completed
 returns-clause-completed c = λ messages air follows.
-    let plan : PlanState = record { slot = c.self.inside.slot; scheduled = c.self.inside.scheduled.items } in
-    let Found : List Scheduled → Type 0 = λ ts. All (λ t. t.item.entry ≡ c.args.entry
-    → c.completed_of-completed.result ≡ t.completed) ts in
+    let slot = c.self.inside.slot in
+    let plan : PlanState = record { slot = slot; scheduled = seen_in slot c.self.inside.nodes.items } in
+    let Found : List Node → Type 0 = λ ns. All (λ (t : Scheduled). t.item.entry ≡ c.args.entry
+    → c.completed_of-completed.result ≡ t.completed) (seen_in slot ns) in
     let Same : PlanState → Type 0 = λ p. Follows p messages air in
     let at = c.requires.at_next ∙ follows.asked in
     let Told : ℕ → Type 0 = λ n. All (λ m. m.entry ≡ c.args.entry
     → c.completed_of-completed.result ≡ completed m air n) messages in
     subst Told (sym at) (completed-kept plan c.args.entry c.completed_of-completed.result messages air
-    (subst Found c.as_slice.ensures.value c.completed_of-completed.ensures)
+    (subst Found c.as_slice.ensures.value (c.completed_of-completed.ensures slot))
     (subst Same (sym c.self.view_is) follows))
 
 pub returns-clause-follows : goal.returns-clause-follows
 returns-clause-follows c = λ messages air follows.
-    let plan : PlanState = record { slot = c.self.inside.slot; scheduled = c.self.inside.scheduled.items } in
-    let over = written_over c.self.inside.scheduled (λ (t : Scheduled). scheduled_stopped (t.item.entry == c.args.entry)
-    c.args.slot t) _ _ c.as_mut_slice.ensures.value c.stop_at.ensures in
+    let v = c.self.inside.nodes in
+    let plan : PlanState = record { slot = c.args.slot; scheduled = seen_in c.args.slot v.items } in
+    let at = c.requires.at_next ∙ ap next_slot (sym c.self.view_is) in
+    let over = seen_written v _ _ c.args.slot c.args.slot (λ (t : Scheduled). scheduled_stopped
+    (t.item.entry == c.args.entry) c.args.slot t) c.as_mut_slice.ensures.value c.stop_at.ensures.seen in
+    let Slot : ℕ → Type 0 = λ n. IsSound (record { slot = n; scheduled = seen_in n v.items }) in
+    let SlotFollows : ℕ → Type 0 = λ n. Follows (record { slot = n; scheduled = seen_in n v.items }) messages air in
+    let SlotStanding : ℕ → Type 0 = λ n. Any (λ m. (m.entry ≡ c.args.entry) × (m.stop ≡ None))
+    (map message_of (seen_in n v.items)) in
     let Same : PlanState → Type 0 = λ p. Follows p messages air in
     let Standing : PlanState → Type 0 = λ p. Any (λ m. (m.entry ≡ c.args.entry) × (m.stop ≡ None)) (messages_of p) in
-    let Next : PlanState → Type 0 = λ p. c.args.slot ≡ next_slot p in
-    let P : List Scheduled → Type 0 = λ ts. Follows (record { slot = c.self.inside.slot; scheduled = ts })
+    let P : List Scheduled → Type 0 = λ ts. Follows (record { slot = c.args.slot; scheduled = ts })
     (stopped_at c.args.entry c.args.slot messages) air in
     let back = sym c.self.view_is in
-    subst P (sym over) (Follows-stop plan c.args.entry c.args.slot messages air (subst Next back c.requires.at_next)
-    (subst Standing back c.requires.standing) c.self.invariant (subst Same back follows))
+    rw (← at) (subst P (sym over) (Follows-stop plan c.args.entry c.args.slot messages air refl
+    (subst SlotStanding (sym at) (subst Standing back c.requires.standing)) (subst Slot (sym at)
+    c.self.invariant.sound) (subst SlotFollows (sym at) (subst Same back follows))))
 
 pub returns-clause-messages : goal.returns-clause-messages
 returns-clause-messages c =
-    let plan : PlanState = record { slot = c.self.inside.slot; scheduled = c.self.inside.scheduled.items } in
-    let over = written_over c.self.inside.scheduled (λ (t : Scheduled). scheduled_stopped (t.item.entry == c.args.entry)
-    c.args.slot t) _ _ c.as_mut_slice.ensures.value c.stop_at.ensures in
-    ap (map message_of) over ∙ (messages_of-stopped plan c.args.entry c.args.slot
-    ∙ ap (λ p. stopped_at c.args.entry c.args.slot (messages_of p)) c.self.view_is)
+    let v = c.self.inside.nodes in
+    let plan : PlanState = record { slot = c.args.slot; scheduled = seen_in c.args.slot v.items } in
+    let at = c.requires.at_next ∙ ap next_slot (sym c.self.view_is) in
+    let over = seen_written v _ _ c.args.slot c.args.slot (λ (t : Scheduled). scheduled_stopped
+    (t.item.entry == c.args.entry) c.args.slot t) c.as_mut_slice.ensures.value c.stop_at.ensures.seen in
+    let back = ap (λ n. stopped_at c.args.entry c.args.slot (map message_of (seen_in n v.items))) at
+    ∙ ap (λ p. stopped_at c.args.entry c.args.slot (messages_of p)) c.self.view_is in
+    rw (← at) (ap (map message_of) over ∙ (messages_of-stopped plan c.args.entry c.args.slot ∙ back))
 
 pub returns-clause-asked : goal.returns-clause-asked
 returns-clause-asked c = ap next_slot c.self.view_is ∙ sym c.requires.at_next

@@ -1,0 +1,82 @@
+-- What a plan holds once its messages were written.
+use Rattle.std.proofs.Common.{Vec, ◌≡◌, ℕ, ◌<◌, ◌≤◌, Result, Ok, Err, List, [], ◌∷◌, ◌++◌, length, map}
+use Rattle.std.proofs.Common.{sym, ap, subst, ◌∙◌, arith}
+use Rattle.std.specs.List.{All}
+use Rattle.std.specs.Result.{OnOk, OnErr}
+use Rattle.std.specs.Vec.{with_items}
+use Rattle.std.proofs.lemmas.List.Elements.{All-push}
+use Rattle.std.proofs.lemmas.List.{length-map, with_items_is, map_push}
+use Rattle.scheduler.specs.declared.scheduled.Scheduled.{Scheduled}
+use Rattle.scheduler.specs.declared.plan.Item.{Item}
+use Rattle.scheduler.specs.declared.queue.Node.{Node}
+use Rattle.scheduler.specs.PlanSteps.{IsSound}
+use Rattle.scheduler.specs.Follows.{messages_of}
+use Rattle.scheduler.specs.QueueSteps.{kept_in, seen_in, seen, kept_new, AreRising, IsRight, IsTree, IsPlan}
+use Rattle.scheduler.proofs.Windows.{seen_new, IsRight-new}
+use Rattle.scheduler.proofs.Followed.{scheduled_new, IsSound-add}
+use Rattle.scheduler.proofs.FirstTurn.{rising_of_seen}
+
+-- the messages are as many as are seen
+seen_length : (slot : ℕ) (nodes : List Node) → length (seen_in slot nodes) ≡ length nodes
+seen_length slot nodes = length-map (kept_in nodes) (seen slot) ∙ length-map nodes (λ (n : Node). n.kept)
+
+-- what a `Vec` holds once its elements were written over
+pub written_all : {Z : Type 0} (v : Vec Node Z) (read written : List Node) (slot old : ℕ) (f : Scheduled → Scheduled)
+    → read ≡ v.items
+    → seen_in slot written ≡ map f (seen_in old read) → (with_items v written).items ≡ written
+written_all v read written slot old f same is =
+    let long = ap length is ∙ (length-map (seen_in old read) f ∙ seen_length old read) in
+    let more = seen_length slot written in
+    let whole = ap length same in
+    with_items_is v written (omega (arith, long, more, whole, v.ok.0))
+
+-- and how they are seen
+pub seen_written : {Z : Type 0} (v : Vec Node Z) (read written : List Node) (slot old : ℕ) (f : Scheduled → Scheduled)
+    → read ≡ v.items → seen_in slot written ≡ map f (seen_in old read)
+    → seen_in slot (with_items v written).items ≡ map f (seen_in old v.items)
+seen_written v read written slot old f same is =
+    ap (seen_in slot) (written_all v read written slot old f same is) ∙ (is ∙ ap (λ ns. map f (seen_in old ns)) same)
+
+-- the numbers of a plan's messages rise
+pub plan_rising : (slot : ℕ) (nodes : List Node) → IsPlan slot nodes → AreRising nodes
+plan_rising slot nodes plan = rising_of_seen slot nodes plan.sound.rising
+
+-- with one more message
+pub seen_pushed : (slot : ℕ) (old new : List Node) (item : Item) → kept_in new ≡ kept_in old ++ kept_new item ∷ []
+    → seen_in slot new ≡ seen_in slot old ++ scheduled_new item ∷ []
+seen_pushed slot old new item is =
+    ap (map (seen slot)) is ∙ (map_push (seen slot) (kept_in old) (kept_new item)
+    ∙ ap (λ t. seen_in slot old ++ t ∷ []) (seen_new item slot))
+
+-- and so a plan with one more message is one
+pub IsPlan-add : (slot : ℕ) (old new : List Node) (item : Item)
+    → All (λ m. m.entry < item.entry) (messages_of (record { slot = slot; scheduled = seen_in slot old }))
+    → slot ≤ item.start → 0 < item.pages → 0 < item.period → IsPlan slot old
+    → kept_in new ≡ kept_in old ++ kept_new item ∷ [] → IsTree new → IsPlan slot new
+IsPlan-add slot old new item above start pages period plan is tree =
+    let P : List Scheduled → Type 0 = λ ts. IsSound (record { slot = slot; scheduled = ts }) in
+    record {
+      sound = subst P (sym (seen_pushed slot old new item is)) (IsSound-add (record {
+        slot = slot;
+        scheduled = seen_in slot old;
+      }) item above start pages period plan.sound);
+      kept = record {
+        right = rw is (All-push (IsRight slot) (kept_in old) (kept_new item) plan.kept.right (IsRight-new item slot
+            pages
+            period));
+        tree = tree;
+      };
+    }
+
+-- what follows from what an answer says
+pub on_ok : {X E : Type 0} (r : Result X E) (P Q : Type 0) → (P → Q) → OnOk r P → OnOk r Q
+on_ok (Ok x) P Q f h = f h
+on_ok (Err e) P Q f h = h
+
+pub on_err : {X E : Type 0} (r : Result X E) (P Q : Type 0) → (P → Q) → OnErr r P → OnErr r Q
+on_err (Ok x) P Q f h = h
+on_err (Err e) P Q f h = f h
+
+pub on_either : {X E : Type 0} (r : Result X E) (P Q R : Type 0) → (P → R) → (Q → R) → OnOk r P → OnErr r Q → R
+on_either (Ok x) P Q R f g h k = f h
+on_either (Err e) P Q R f g h k = g k

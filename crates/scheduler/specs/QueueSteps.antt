@@ -1,0 +1,169 @@
+-- How a plan finds the message that is served first (own): contracts of private functions alone speak of it.
+use Rattle.std.specs.Prelude.{◌≡◌, ◌≢◌, ℕ, ◌+◌, ◌*◌, ◌<◌, ◌≤◌, ◌==◌, ◌⊎◌, ◌&&◌, ◌||◌, nat_lt, nat_le, min, Bool, false}
+use Rattle.std.specs.Prelude.{if◌then◌else◌, Option, Some, None, List, length, map, slice_index_or, All, AllPairs}
+use Rattle.scheduler.specs.declared.plan.Item.{Item}
+use Rattle.scheduler.specs.declared.scheduled.Scheduled.{Scheduled}
+use Rattle.scheduler.specs.declared.turn.Turn.{Turn}
+use Rattle.scheduler.specs.declared.turn.Ahead.{Ahead}
+use Rattle.scheduler.specs.declared.kept.Kept.{Kept}
+use Rattle.scheduler.specs.declared.queue.Node.{Node}
+use Rattle.scheduler.specs.Message.{due, broadcast_at}
+use Rattle.scheduler.specs.Air.{layer_of, class_of}
+use Rattle.scheduler.specs.Follows.{message_of}
+use Rattle.scheduler.specs.PlanSteps.{IsFit, IsSound, is_ready}
+
+-- of two turns, the first comes no later: by layer, then due slot, then class, then number
+abbrev pub is_no_later : Turn → Turn → Bool
+is_no_later a b =
+    nat_lt a.layer b.layer || ((a.layer == b.layer) && (nat_lt a.due b.due || ((a.due == b.due) &&
+    (nat_lt a.class b.class || ((a.class == b.class) && nat_le a.entry b.entry)))))
+
+-- the first of two turns, where there is one
+abbrev pub first_turn : Option Turn → Option Turn → Option Turn
+first_turn None b = b
+first_turn (Some a) None = Some a
+first_turn (Some a) (Some b) = if is_no_later a b then Some a else Some b
+
+-- what is ahead of some messages and of others
+abbrev pub joined : Ahead → Ahead → Ahead
+joined a b = record { turn = first_turn a.turn b.turn; wake = min a.wake b.wake }
+
+-- what is ahead of no message
+abbrev pub nothing_ahead : Ahead
+nothing_ahead = record { turn = None; wake = 4294967295 }
+
+-- the turn of a message that has a pending broadcast
+abbrev pub turn_of : Kept → Turn
+turn_of k = record {
+  layer = layer_of k.scheduled.item.rank;
+  due = k.until;
+  class = class_of k.scheduled.item.rank;
+  entry = k.scheduled.item.entry;
+}
+
+-- what is ahead of a message alone
+abbrev pub own : Kept → Ahead
+own k = record { turn = if k.is_open then Some (turn_of k) else None; wake = k.until }
+
+-- what is kept of a message that was just added
+abbrev pub kept_new : Item → Kept
+kept_new item = record {
+  scheduled = record { item = item; stop = None; pages_aired = 0; completed = 0 };
+  until = 0;
+  is_open = false;
+}
+
+-- what begins at the slot, where nothing is known up to it
+abbrev pub begun : ℕ → Scheduled → Kept
+begun slot t = record {
+  scheduled = t;
+  until = if is_ready t slot then due (message_of t) (broadcast_at (message_of t) slot) else
+      (if nat_lt slot t.item.start then t.item.start else 4294967295);
+  is_open = is_ready t slot;
+}
+
+-- what is kept of a message at the slot
+abbrev pub renewed : ℕ → Kept → Kept
+renewed slot k = if nat_lt slot k.until then k else begun slot (record k.scheduled { pages_aired = 0 })
+
+-- what is kept of a message once its next page was aired
+abbrev pub aired : Kept → Kept
+aired k =
+    let pages = k.scheduled.pages_aired + 1 in
+    record k {
+      scheduled = record k.scheduled {
+        pages_aired = pages;
+        completed = k.scheduled.completed + (if pages == k.scheduled.item.pages then 1 else 0);
+      };
+      is_open = nat_lt pages k.scheduled.item.pages;
+    }
+
+-- what is kept of a message once it was stopped before the slot
+abbrev pub stopped : ℕ → Kept → Kept
+stopped slot k = record k { scheduled = record k.scheduled { stop = Some slot }; is_open = false }
+
+-- a message as it stands at the slot: what was aired before its last release is forgotten
+abbrev pub seen : ℕ → Kept → Scheduled
+seen slot k = record k.scheduled { pages_aired = if nat_lt slot k.until then k.scheduled.pages_aired else 0 }
+
+-- the broadcast that is under way at the slot is due when the message is looked at again, or none of it was aired
+abbrev pub IsTimed : Kept → ℕ → Type 0
+IsTimed k slot =
+    ((k.scheduled.item.start ≤ slot) × (k.until ≡ due (message_of k.scheduled)
+    (broadcast_at (message_of k.scheduled) slot))) ⊎ ((k.scheduled.pages_aired ≡ 0) × (k.is_open ≡ false))
+
+-- what is kept of a message is true from the slot up to the one at which it is looked at again
+pub record IsRight (slot : ℕ) (k : Kept) : Type 0 where
+  pub fit : IsFit k.scheduled slot
+  pub ready : (s : ℕ) → slot ≤ s → s < k.until → is_ready k.scheduled s ≡ k.is_open
+  pub timed : (s : ℕ) → slot ≤ s → s < k.until → IsTimed k s
+  pub stopped : (stop : ℕ) → k.scheduled.stop ≡ Some stop → stop ≤ slot
+
+-- the messages, without what stands beside them
+abbrev pub kept_in : List Node → List Kept
+kept_in nodes = map (λ n. n.kept) nodes
+
+-- and as they stand at the slot
+abbrev pub seen_in : ℕ → List Node → List Scheduled
+seen_in slot nodes = map (seen slot) (kept_in nodes)
+
+-- what is kept as ahead of a place and of those below it: nothing past the end
+abbrev pub ahead_at : List Node → ℕ → Ahead
+ahead_at nodes place = slice_index_or (map (λ n. n.ahead) nodes) place nothing_ahead
+
+-- what is ahead of the message at a place alone
+abbrev pub own_at : List Node → ℕ → Ahead
+own_at nodes place = slice_index_or (map own (kept_in nodes)) place nothing_ahead
+
+-- what is ahead of a place that has this alone: that, and what is ahead of the two places below it
+abbrev pub with_below : List Node → ℕ → Ahead → Ahead
+with_below nodes place mine = joined mine (joined (ahead_at nodes (place * 2 + 1)) (ahead_at nodes (place * 2 + 2)))
+
+-- and so it is kept there
+abbrev pub IsNode : List Node → ℕ → Type 0
+IsNode nodes place = ahead_at nodes place ≡ with_below nodes place (own_at nodes place)
+
+-- so it is kept everywhere
+abbrev pub IsTree : List Node → Type 0
+IsTree nodes = (place : ℕ) → IsNode nodes place
+
+-- or everywhere but perhaps at one place
+abbrev pub IsTreeBut : List Node → ℕ → Type 0
+IsTreeBut nodes but = (place : ℕ) → place ≢ but → IsNode nodes place
+
+-- the place with this message
+abbrev pub node_with : List Node → ℕ → Kept → Node
+node_with nodes place k = record { kept = k; ahead = with_below nodes place (own k) }
+
+-- what was kept right is still so, but perhaps at the place that this one is below
+abbrev pub KeepsNodesBut : List Node → List Node → ℕ → Type 0
+KeepsNodesBut old new below =
+    (place : ℕ) → place * 2 + 1 ≢ below → place * 2 + 2 ≢ below → IsNode old place → IsNode new place
+
+-- the numbers of the messages rise
+abbrev pub AreRising : List Node → Type 0
+AreRising nodes = AllPairs (λ a b. a.kept.scheduled.item.entry < b.kept.scheduled.item.entry) nodes
+
+-- the messages before the place have lesser numbers, and no others
+pub record IsPlaceOf (entry : ℕ) (nodes : List Node) (place : ℕ) : Type 0 where
+  pub within : place ≤ length nodes
+  pub before : (k : ℕ) (d : Node) → k < place → (slice_index_or nodes k d).kept.scheduled.item.entry < entry
+  pub behind : (k : ℕ) (d : Node) → place ≤ k → k < length nodes
+      → entry ≤ (slice_index_or nodes k d).kept.scheduled.item.entry
+
+-- what is true of the messages of a plan at the slot that is asked next
+pub record AreKept (slot : ℕ) (nodes : List Node) : Type 0 where
+  pub right : All (IsRight slot) (kept_in nodes)
+  pub tree : IsTree nodes
+
+-- the message of that number stands at the place, or there is none
+abbrev pub IsFound : ℕ → List Node → Option ℕ → Type 0
+IsFound entry nodes None =
+    (k : ℕ) (d : Node) → k < length nodes → (slice_index_or nodes k d).kept.scheduled.item.entry ≢ entry
+IsFound entry nodes (Some place) =
+    (place < length nodes) × ((d : Node) → (slice_index_or nodes place d).kept.scheduled.item.entry ≡ entry)
+
+-- what is true of a plan at the slot that is asked next
+pub record IsPlan (slot : ℕ) (nodes : List Node) : Type 0 where
+  pub sound : IsSound (record { slot = slot; scheduled = seen_in slot nodes })
+  pub kept : AreKept slot nodes

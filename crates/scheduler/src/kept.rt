@@ -1,0 +1,110 @@
+//! What a plan keeps of one message between the slots at which something begins or ends for it.
+
+ghost use Rattle.std.specs.Prelude.{◌≡◌, ◌<◌, true};
+ghost use Rattle.scheduler.specs.PlanSteps.{IsFit};
+ghost use Rattle.scheduler.specs.QueueSteps.{renewed, aired, stopped, own, kept_new};
+
+use crate::plan::Item;
+use crate::scheduled::Scheduled;
+use crate::turn::{Ahead, Turn};
+
+/// A message, with what is true of it up to a slot.
+#[derive(Clone, Copy)]
+pub struct Kept {
+    /// The message, with what was aired of it: the pages are those of the broadcast that is due at `until`.
+    pub scheduled: Scheduled,
+    /// The slot at which it is to be looked at again: the next release, or none (4,294,967,295).
+    pub until: u32,
+    /// Whether it has a pending broadcast up to then.
+    pub is_open: bool,
+}
+
+impl Kept {
+    /// What is kept of a message that was just added: it is looked at when the next slot is asked.
+    pub fn new(item: Item) -> Self
+        ensures { result ≡ kept_new item }
+    {
+        Kept {
+            scheduled: Scheduled::new(item),
+            until: 0,
+            is_open: false,
+        }
+    }
+
+    /// What is kept of it at `slot`: where it is to be looked at again by then, what begins there.
+    pub fn renewed(self, slot: u16) -> Kept
+        requires { IsFit self.scheduled slot }
+        ensures { result ≡ renewed slot self }
+    {
+        if u32::from(slot) < self.until {
+            return self;
+        }
+        let scheduled = Scheduled {
+            pages_aired: 0,
+            ..self.scheduled
+        };
+        let is_open = scheduled.is_ready(slot);
+        let until = if is_open {
+            scheduled.due(slot)
+        } else if u32::from(slot) < scheduled.item.start {
+            scheduled.item.start
+        } else {
+            u32::MAX
+        };
+        Kept {
+            scheduled,
+            until,
+            is_open,
+        }
+    }
+
+    /// What is kept of it once its next page was aired.
+    pub fn aired(self) -> Kept
+        requires some_left { self.scheduled.pages_aired < self.scheduled.item.pages }
+        requires few { self.scheduled.completed < 65535 }
+        ensures { result ≡ aired self }
+    {
+        let pages_aired = self.scheduled.pages_aired + 1;
+        let is_completed = pages_aired == self.scheduled.item.pages;
+        Kept {
+            scheduled: Scheduled {
+                pages_aired,
+                completed: self.scheduled.completed + u16::from(is_completed),
+                ..self.scheduled
+            },
+            is_open: pages_aired < self.scheduled.item.pages,
+            ..self
+        }
+    }
+
+    /// What is kept of it once it was stopped before `slot`.
+    pub fn stopped(self, slot: u16) -> Kept
+        ensures { result ≡ stopped slot self }
+    {
+        Kept {
+            scheduled: Scheduled {
+                stop: Some(slot),
+                ..self.scheduled
+            },
+            is_open: false,
+            ..self
+        }
+    }
+
+    /// What is ahead of it alone.
+    pub fn own(self) -> Ahead
+        ensures { result ≡ own self }
+    {
+        let item = self.scheduled.item;
+        let turn = Turn {
+            layer: item.rank.layer(),
+            due: self.until,
+            class: item.rank.class(),
+            entry: item.entry,
+        };
+        Ahead {
+            turn: if self.is_open { Some(turn) } else { None },
+            wake: self.until,
+        }
+    }
+}

@@ -1,0 +1,205 @@
+//! Plans beside a walk over all messages at each slot: they answer the same.
+
+use crate::plans::{Numbers, add_item, air, done, stop};
+use scheduler::{Item, Plan, Rank};
+use std::alloc::Global;
+use std::process::Abort;
+use std::test::Fail;
+
+/// A message, with what was aired of it.
+#[derive(Clone, Copy)]
+struct Scanned {
+    item: Item,
+    stop: Option<u16>,
+    pages_aired: u8,
+    completed: u16,
+}
+
+impl Scanned {
+    /// How many slots it has stood at `slot`, where it has started.
+    fn age(&self, slot: u16) -> Option<u32> {
+        u32::from(slot).checked_sub(self.item.start)
+    }
+
+    /// The slot at which its broadcast is due, where it has a page to air at `slot`.
+    fn due(&self, slot: u16) -> Option<u32> {
+        let period = u32::from(self.item.period);
+        let broadcast = self.age(slot)?.checked_div(period)?;
+        let is_requested = self.item.broadcasts == 0 || broadcast < u32::from(self.item.broadcasts);
+        if !is_requested || self.stop.is_some() || self.pages_aired >= self.item.pages {
+            return None;
+        }
+        let periods = broadcast.saturating_add(1).saturating_mul(period);
+        Some(self.item.start.saturating_add(periods))
+    }
+
+    /// Whether it is served before another, where both have a page to air.
+    fn is_before(&self, due: u32, other: &Scanned, due_of_other: u32) -> bool {
+        let (rank, rank_of_other) = (self.item.rank, other.item.rank);
+        let is_background = rank == Rank::Background;
+        if is_background != (rank_of_other == Rank::Background) {
+            return !is_background;
+        }
+        if due != due_of_other {
+            return due < due_of_other;
+        }
+        let is_high = rank == Rank::High;
+        if is_high != (rank_of_other == Rank::High) {
+            return is_high;
+        }
+        self.item.entry < other.item.entry
+    }
+
+    /// What is kept of it after `slot`, which aired a page of it or not.
+    fn after(mut self, slot: u16, is_aired: bool) -> Scanned {
+        if is_aired {
+            self.pages_aired = self.pages_aired.saturating_add(1);
+            if self.pages_aired == self.item.pages {
+                self.completed = self.completed.saturating_add(1);
+            }
+        }
+        let is_over = match self.age(slot.saturating_add(1)) {
+            None => true,
+            Some(age) => age.checked_rem(u32::from(self.item.period)) == Some(0),
+        };
+        if is_over {
+            self.pages_aired = 0;
+        }
+        self
+    }
+}
+
+/// What a slot airs, by a walk over all messages.
+fn scan(scanned: &[Scanned], slot: u16) -> Option<(u16, u8)> {
+    let mut first: Option<(Scanned, u32)> = None;
+    for one in scanned {
+        if let Some(due) = one.due(slot) {
+            let is_first = match first {
+                None => true,
+                Some((before, due_before)) => one.is_before(due, &before, due_before),
+            };
+            if is_first {
+                first = Some((*one, due));
+            }
+        }
+    }
+    let (one, _) = first?;
+    Some((one.item.entry, one.pages_aired.saturating_add(1)))
+}
+
+/// Goes past a slot that aired this.
+fn pass(scanned: &mut [Scanned], slot: u16, used: Option<(u16, u8)>) {
+    for one in scanned.iter_mut() {
+        let is_aired = match used {
+            None => false,
+            Some((entry, _)) => entry == one.item.entry,
+        };
+        *one = one.after(slot, is_aired);
+    }
+}
+
+/// A message of some length, period and rank, that stands from a slot.
+fn some_item(numbers: &mut Numbers, entry: u16, start: u32) -> Item {
+    let rank = match numbers.below(4) {
+        0 => Rank::High,
+        1 => Rank::Normal,
+        _ => Rank::Background,
+    };
+    let pages = match numbers.below(6) {
+        0 => 1,
+        1 => 2,
+        2 => 3,
+        3 => 4,
+        4 => 5,
+        _ => 6,
+    };
+    Item {
+        entry,
+        start,
+        pages,
+        period: numbers.below(40).saturating_add(1),
+        broadcasts: numbers.below(6),
+        rank,
+    }
+}
+
+/// Adds a message to both, that stands from the slot asked next, or from one that is up to `ahead` slots later.
+fn add_both(
+    plan: &mut Plan,
+    scanned: &mut Vec<Scanned>,
+    numbers: &mut Numbers,
+    ahead: u16,
+) -> Result<(), Fail> {
+    let Ok(places) = u16::try_from(scanned.len()) else {
+        return Ok(());
+    };
+    let entry = places.saturating_mul(2);
+    let later = numbers.below(ahead.saturating_add(1));
+    let start = u32::from(plan.next_slot()).saturating_add(u32::from(later));
+    let item = add_item(plan, some_item(numbers, entry, start)).ok_or("not added")?;
+    scanned.push(Scanned {
+        item,
+        stop: None,
+        pages_aired: 0,
+        completed: 0,
+    })?;
+    Ok(())
+}
+
+/// Stops the message at a place of both, if it stands.
+fn stop_both(rt: &impl Abort, plan: &mut Plan, scanned: &mut [Scanned], place: usize) {
+    if place < scanned.len() {
+        let one = scanned[place];
+        if one.stop.is_none() {
+            let slot = plan.next_slot();
+            assert_eq!(rt; stop(plan, one.item.entry), Some(one.completed));
+            scanned[place].stop = Some(slot);
+        }
+    }
+}
+
+/// What happens before a slot: a message is added, stopped, or stopped and replaced by a later one, or nothing.
+fn change_both(
+    rt: &impl Abort,
+    plan: &mut Plan,
+    scanned: &mut Vec<Scanned>,
+    numbers: &mut Numbers,
+) -> Result<(), Fail> {
+    let place = usize::from(numbers.below(64));
+    match numbers.below(6) {
+        0 => add_both(plan, scanned, numbers, 0)?,
+        1 => add_both(plan, scanned, numbers, 30)?,
+        2 => stop_both(rt, plan, scanned.as_mut_slice(), place),
+        3 => {
+            stop_both(rt, plan, scanned.as_mut_slice(), place);
+            add_both(plan, scanned, numbers, 12)?;
+        }
+        _ => {}
+    }
+    Ok(())
+}
+
+/// That a run of 200 slots airs, and completes, what the walk does.
+fn expect_scan(rt: &impl Abort, alloc: Global, seed: u64) -> Result<(), Fail> {
+    let mut numbers = Numbers { state: seed };
+    let mut plan = Plan::new(alloc);
+    let mut scanned: Vec<Scanned> = Vec::new(alloc);
+    for slot in 0..200 {
+        change_both(rt, &mut plan, &mut scanned, &mut numbers)?;
+        let used = scan(scanned.as_slice(), slot);
+        assert_eq!(rt; air(&mut plan), used);
+        pass(scanned.as_mut_slice(), slot, used);
+    }
+    for one in &scanned {
+        assert_eq!(rt; done(&plan, one.item.entry), Some(one.completed));
+    }
+    Ok(())
+}
+
+#[test]
+fn answers_as_a_walk_does(rt: HostRuntime) -> Result<(), Fail> {
+    for seed in 0..40 {
+        expect_scan(&rt, rt.alloc(), seed)?;
+    }
+    Ok(())
+}
