@@ -59,6 +59,7 @@ one_named entry slot nodes place found =
     let t = seen slot (get_or nodes place blank).kept in
     (place, t, seen_there slot nodes place found.0, seen_at slot nodes place blank t found.0, found.1 blank)
 
+-- and where it wasn't stopped, one stands
 pub one_standing : (entry slot : ℕ) (nodes : List Node) (place : ℕ) → IsFound entry nodes (Some place)
     → (get_or nodes place blank).kept.scheduled.stop ≡ None
     → Any (λ t. (t.item.entry ≡ entry) × (t.stop ≡ None)) (seen_in slot nodes)
@@ -97,6 +98,7 @@ all_below entry slot nodes place found at_end = λ k t within.
     let same = ap (λ (x : Scheduled). x.item.entry) at.1 in
     omega (arith, less, same)
 
+-- and where there is a message behind, one isn't
 pub any_behind : (entry slot : ℕ) (nodes : List Node) (place : ℕ) → IsPlaceOf entry nodes place → place ≢ length nodes
     → Any (λ t. entry ≤ t.item.entry) (seen_in slot nodes)
 any_behind entry slot nodes place found not_end =

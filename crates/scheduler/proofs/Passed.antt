@@ -36,6 +36,7 @@ map_but_one f g (x ∷ xs) (suc i) y same here =
     ap (λ z. z ∷ map f (set xs i y)) first ∙ ap (λ ys. g x ∷ ys) (map_but_one f g xs i y
     (λ k d h apart. same (suc k) d (omega arith) (λ e. apart (omega (arith, e)))) (λ d h. here d (omega arith)))
 
+-- one function after another over a list
 pub map_twice : {X Y Z : Type 0} (f : Y → Z) (g : X → Y) (xs : List X) → map (λ x. f (g x)) xs ≡ map f (map g xs)
 map_twice f g [] = refl
 map_twice f g (x ∷ xs) = ap (λ ys. f (g x) ∷ ys) (map_twice f g xs)
@@ -77,6 +78,7 @@ seen_after_none slot nodes kept awake =
     (kept_awake slot nodes k d kept.tree awake h) refl)
     ∙ map_twice (after_slot slot None) (seen slot) (kept_in nodes)
 
+-- what is kept of each message is right at the next slot
 pub right_later : (slot : ℕ) (kepts : List Kept) → All (IsRight slot) kepts → All (IsRight (slot + 1)) kepts
 right_later slot kepts right = λ k d h. IsRight-later (get_or kepts k d) slot (right k d h)
 

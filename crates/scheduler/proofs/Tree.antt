@@ -19,6 +19,7 @@ ahead_at-past nodes k h =
     get_or_past (map (λ (n : Node). n.ahead) nodes) k nothing_ahead
     (omega (arith, length-map nodes (λ (n : Node). n.ahead)))
 
+-- nor of any message there
 pub own_at-past : (nodes : List Node) (k : ℕ) → length nodes ≤ k → own_at nodes k ≡ nothing_ahead
 own_at-past nodes k h =
     get_or_past (map own (kept_in nodes)) k nothing_ahead
@@ -113,9 +114,11 @@ first_is_one nodes tree t (suc n) k h is =
 abbrev pub put_in : List Node → ℕ → Kept → List Node
 put_in nodes place k = set nodes place (node_with nodes place k)
 
+-- the messages are then the old ones but for that one
 pub put_kept : (nodes : List Node) (place : ℕ) (k : Kept) → kept_in (put_in nodes place k) ≡ set (kept_in nodes) place k
 put_kept nodes place k = map-set (λ (n : Node). n.kept) nodes place (node_with nodes place k)
 
+-- and what is ahead of another place is as it was
 pub put_others : (nodes : List Node) (place : ℕ) (k : Kept) (other : ℕ) → other ≢ place
     → ahead_at (put_in nodes place k) other ≡ ahead_at nodes other
 put_others nodes place k other apart =
@@ -130,6 +133,7 @@ put_own nodes place k other apart =
     ∙ (ap (λ xs. get_or xs other nothing_ahead) (map-set own (kept_in nodes) place k)
     ∙ get_or-set_other (map own (kept_in nodes)) place other (own k) nothing_ahead apart)
 
+-- what is ahead of the message at the place alone is then that of the new one
 pub put_own_here : (nodes : List Node) (place : ℕ) (k : Kept) → place < length nodes
     → own_at (put_in nodes place k) place ≡ own k
 put_own_here nodes place k h =

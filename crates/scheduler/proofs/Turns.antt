@@ -114,9 +114,11 @@ is_no_later-not a b h = elim (either a b) [
   | inr second ↦ second
 ]
 
+-- a turn comes no later than itself
 pub IsNoLaterTurn-same : (a : Turn) → IsNoLaterTurn a a
 IsNoLaterTurn-same a = inr (refl, inr (refl, inr (refl, omega arith)))
 
+-- and to come no later is transitive
 pub IsNoLaterTurn-trans : (a b c : Turn) → IsNoLaterTurn a b → IsNoLaterTurn b c → IsNoLaterTurn a c
 IsNoLaterTurn-trans a b c h g =
     elim h [
@@ -151,10 +153,12 @@ IsNoLaterTurn-trans a b c h g =
       ]
     ]
 
+-- the same where there may be none
 pub IsNoLaterThan-same : (a : Option Turn) → IsNoLaterThan a a
 IsNoLaterThan-same None = refl
 IsNoLaterThan-same (Some a) = IsNoLaterTurn-same a
 
+-- also of three
 pub IsNoLaterThan-trans : (a b c : Option Turn) → IsNoLaterThan a b → IsNoLaterThan b c → IsNoLaterThan a c
 IsNoLaterThan-trans a b None h g = refl
 IsNoLaterThan-trans a None (Some c) h g = absurd (false≢true g)
@@ -171,6 +175,7 @@ first_turn-left (Some a) (Some b) =
       | inr not ↦ rw not (is_no_later-not a b not)
     ]
 
+-- nor than the other
 pub first_turn-right : (a b : Option Turn) → IsNoLaterThan (first_turn a b) b
 first_turn-right None b = IsNoLaterThan-same b
 first_turn-right (Some a) None = refl
@@ -192,17 +197,21 @@ pub record IsAhead (a b : Ahead) : Type 0 where
   pub turn : IsNoLaterThan a.turn b.turn
   pub wake : a.wake ≤ b.wake
 
+-- what is ahead of some messages is so of them
 pub IsAhead-same : (a : Ahead) → IsAhead a a
 IsAhead-same a = record { turn = IsNoLaterThan-same a.turn; wake = omega arith }
 
+-- and to be ahead is transitive
 pub IsAhead-trans : (a b c : Ahead) → IsAhead a b → IsAhead b c → IsAhead a c
 IsAhead-trans a b c h g = record {
   turn = IsNoLaterThan-trans a.turn b.turn c.turn h.turn g.turn;
   wake = omega (arith, h.wake, g.wake);
 }
 
+-- what is ahead of some messages and others is ahead of the former
 pub joined-left : (a b : Ahead) → IsAhead (joined a b) a
 joined-left a b = record { turn = first_turn-left a.turn b.turn; wake = omega arith }
 
+-- and of the latter
 pub joined-right : (a b : Ahead) → IsAhead (joined a b) b
 joined-right a b = record { turn = first_turn-right a.turn b.turn; wake = omega arith }

@@ -166,6 +166,7 @@ begun_awake t slot period short =
       ]
     ]
 
+-- the same of any message
 pub renewed_awake : (k : Kept) (slot : ℕ) → 0 < k.scheduled.item.period → slot < 65536
     → slot < (renewed slot k).until
 renewed_awake k slot period short =
@@ -259,6 +260,7 @@ begun_right t slot fit none stopped =
       ]
     ]
 
+-- so is what is kept of any message that is looked at again
 pub IsRight-renewed : (k : Kept) (slot : ℕ) → IsRight slot k → IsRight slot (renewed slot k)
 IsRight-renewed k slot right =
     elim (cases_lt slot k.until) [
@@ -302,5 +304,6 @@ IsRight-new item slot pages period = record {
   stopped = λ stop is. absurd (none-some stop is);
 }
 
+-- which is seen as it is kept
 pub seen_new : (item : Item) (slot : ℕ) → seen slot (kept_new item) ≡ (kept_new item).scheduled
 seen_new item slot = ap (λ n. record (kept_new item).scheduled { pages_aired = n }) (cond_zero (ltb slot 0))

@@ -6,7 +6,7 @@ use Rattle.scheduler.specs.Message.{ScheduledMessage, release, broadcast_at}
 use Rattle.scheduler.specs.Air.{Air, pages_aired}
 use Rattle.scheduler.specs.Completed.{completed}
 
--- what a plan keeps: the slot that is asked next, and of each message what was aired of it
+-- a plan in clauses: the slot that is asked next, and of each message what was aired of it by then
 pub record PlanState : Type 0 where
   pub slot : ℕ
   pub scheduled : List Scheduled

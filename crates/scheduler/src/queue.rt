@@ -25,7 +25,7 @@ pub struct Node {
 }
 
 /// What is kept as ahead of a place and those below it: nothing past the end.
-pub fn ahead_at(nodes: &[Node], place: usize) -> Ahead
+fn ahead_at(nodes: &[Node], place: usize) -> Ahead
     ensures { result ≡ ahead_at nodes.now place }
 {
     if place < nodes.len() {
@@ -49,7 +49,7 @@ fn put(nodes: &mut [Node], place: usize, kept: Kept)
 }
 
 /// Keeps this of the message at a place, and puts right what is ahead of the place and of those above it.
-pub fn change(nodes: &mut [Node], place: usize, kept: Kept)
+fn change(nodes: &mut [Node], place: usize, kept: Kept)
     requires within { place < length nodes.old }
     requires others { IsTreeBut nodes.old place }
     ensures kept { kept_in nodes.new ≡ slice_set (kept_in nodes.old) place kept }
@@ -97,7 +97,7 @@ fn renew_below(nodes: &mut [Node], place: usize, slot: u16)
 }
 
 /// The place of the message of `entry`, where there is one: those before it have lesser numbers.
-pub fn place_of(nodes: &[Node], entry: u16) -> usize
+fn place_of(nodes: &[Node], entry: u16) -> usize
     requires { AreRising nodes.now }
     ensures { IsPlaceOf entry nodes.now result }
 {
