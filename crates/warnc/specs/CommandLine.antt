@@ -1,5 +1,5 @@
 -- What the words of a command line ask for: word 0 is the program's name, and word 1 names the command. Own.
-use Rattle.std.specs.Prelude.{◌≡◌, ℕ, ◌+◌, ◌||◌, ◌⊎◌, Bool, List, ◌∷◌, ◌++◌, Some, codes}
+use Rattle.std.specs.Prelude.{◌≡◌, ℕ, ◌+◌, ◌≤◌, ◌||◌, ◌⊎◌, Bool, List, ◌∷◌, ◌++◌, Some, codes}
 use Rattle.std.specs.Prelude.{slice_get}
 use Rattle.std.specs.List.{list_any}
 use Rattle.std.specs.Str.{bytes_eq}
@@ -36,6 +36,13 @@ pub record IsPageOrder (words : List (List ℕ)) (language : List ℕ) (id seria
 -- the words ask for `read`
 abbrev pub IsReadOrder : (words : List (List ℕ)) → Type 0
 IsReadOrder words = slice_get words 1 ≡ Some (codes "read")
+
+-- the words ask for `compile` with this number of slots
+pub record IsCompileOrder (words : List (List ℕ)) (slots : ℕ) : Type 0 where
+  pub command : slice_get words 1 ≡ Some (codes "compile")
+  pub slots_given : GivesNumber words (codes "--slots") slots
+  pub some : 1 ≤ slots
+  pub most : slots ≤ 65535
 
 -- a word that asks for help or for the version
 abbrev pub is_text_word : List ℕ → Bool

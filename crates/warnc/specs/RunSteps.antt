@@ -5,10 +5,12 @@ use Rattle.std.specs.Io.KnownBytes.{Keeps}
 use Rattle.device_ends.specs.Sink.{sink_failed}
 use Rattle.device_ends.specs.declared.reading.Source.{Source}
 use Rattle.device_ends.specs.declared.writing.Sink.{Sink}
-use Rattle.warnc.specs.CommandLine.{IsPageOrder, IsReadOrder}
-use Rattle.warnc.specs.Status.{OneHasFailed, WritesSome}
+use Rattle.warnc.specs.CommandLine.{IsCompileOrder, IsPageOrder, IsReadOrder}
+use Rattle.warnc.specs.Status.{OneHasFailed, status_of_book_fault}
 use Rattle.warnc.specs.declared.command.Order.{Order}
-use Rattle.warnc.specs.declared.command.Order.TheVariants.{Page, Read}
+use Rattle.warnc.specs.declared.command.Order.TheVariants.{Compile, Page, Read}
+use Rattle.warnc_compile.specs.declared.compile.RunFault.{RunFault}
+use Rattle.warnc_compile.specs.declared.compile.RunFault.TheVariants as run
 use Rattle.warnc_engine.specs.declared.read.ReadCommandFault.{ReadCommandFault}
 use Rattle.warnc_engine.specs.declared.read.ReadCommandFault.TheVariants as table
 
@@ -16,6 +18,7 @@ use Rattle.warnc_engine.specs.declared.read.ReadCommandFault.TheVariants as tabl
 abbrev pub IsOrdered : (words : List (List ℕ)) → Order → Type 0
 IsOrdered words (Page options) = IsPageOrder words options.language.now options.id options.serial
 IsOrdered words Read = IsReadOrder words
+IsOrdered words (Compile slots) = IsCompileOrder words slots
 
 -- the status of a fault of `read`: 1 if the input is refused, 3 if a device failed, 4 if there was no memory
 abbrev pub status_of_read_fault : ReadCommandFault → ℕ
@@ -25,13 +28,17 @@ status_of_read_fault table.ReadFailed = 3
 status_of_read_fault table.Refused = 4
 status_of_read_fault table.WriteFailed = 3
 
+-- the status of a fault of `compile`: that of the book's fault, 3 if the writer failed, 4 if there was no memory
+abbrev pub status_of_run_fault : RunFault → ℕ
+status_of_run_fault (run.Book f) = status_of_book_fault f
+status_of_run_fault (run.Write failed) = 3
+status_of_run_fault run.Refused = 4
+
 -- what a status says of a sink: `old` and `new` are the sink before and after, and `before` and `after` what its writer
 -- holds
 pub record IsStatusOfSink {W : Type 0} (status : ℕ) (old new : Sink W) (before after : Option (List ℕ)) : Type 0 where
   -- there are five statuses
   pub statuses : status ≤ 4
-  -- with 0 something was written
-  pub wrote : status ≡ 0 → WritesSome before after
   -- with 1, 2 and 4 nothing was
   pub nothing_written : status ≢ 0 → status ≢ 3 → Keeps before after
   -- and the sink is as it was

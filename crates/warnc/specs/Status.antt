@@ -1,5 +1,5 @@
 -- The program's statuses. Own.
-use Rattle.std.specs.Prelude.{◌≡◌, ℕ, ◌<◌, ◌⊎◌, true, List, length, Option, IfSome}
+use Rattle.std.specs.Prelude.{◌≡◌, ℕ, ◌<◌, ◌==◌, ◌⊎◌, true, if◌then◌else◌, List, length, Option, IfSome}
 use Rattle.std.specs.Io.KnownBytes.{Appends}
 use Rattle.device_ends.specs.Moves.{WritesOutput}
 use Rattle.device_ends.specs.Sink.{sink_failed}
@@ -7,7 +7,12 @@ use Rattle.device_ends.specs.Source.{source_failed}
 use Rattle.device_ends.specs.declared.reading.Source.{Source}
 use Rattle.device_ends.specs.declared.writing.Sink.{Sink}
 use Rattle.handset.specs.Tape.{IsShort, IsLong}
-use Rattle.warnc.specs.CommandLine.{asks_for_text, IsPageOrder, IsReadOrder}
+use Rattle.alert_book.specs.Book.{IsWrong, max_input}
+use Rattle.alert_book.specs.declared.fault.BookFault.{BookFault}
+use Rattle.alert_book.specs.declared.fault.BookFaultKind.{BookFaultKind}
+use Rattle.alert_book.specs.declared.fault.BookFaultKind.TheVariants as kinds
+use Rattle.warnc.specs.CommandLine.{asks_for_text, IsCompileOrder, IsPageOrder, IsReadOrder}
+use Rattle.warnc_compile.specs.Compiled.{IsCompiled}
 use Rattle.warnc_engine.specs.PageOutput.{IsPageFault, IsPageOutput}
 use Rattle.warnc_engine.specs.ReadOutput.{IsReadOutput}
 use Rattle.cbs_page.specs.declared.paging.TextFault.TheVariants as text
@@ -24,6 +29,16 @@ status_of_page_fault (fault.Text _) = 1
 status_of_page_fault fault.Refused = 4
 status_of_page_fault fault.WriteFailed = 3
 
+-- the same of a fault of a book; the reader's fault names no row
+abbrev pub status_of_book_kind : (row : ℕ) → BookFaultKind → ℕ
+status_of_book_kind row kinds.ReadFailed = if row == 0 then 3 else 1
+status_of_book_kind row kinds.Refused = 4
+status_of_book_kind row (kinds.Text text.Refused) = 4
+status_of_book_kind row other = 1
+
+abbrev pub status_of_book_fault : BookFault → ℕ
+status_of_book_fault f = status_of_book_kind f.row f.kind
+
 -- the input is refused: a text of this language has a fault of status 1
 abbrev pub IsRefused : (language input : List ℕ) → Type 0
 IsRefused language input = (fault : PageFault) × IsPageFault language input fault × (status_of_page_fault fault ≡ 1)
@@ -31,6 +46,11 @@ IsRefused language input = (fault : PageFault) × IsPageFault language input fau
 -- the input is refused: it is no whole tapes
 abbrev pub IsNoTapes : (input : List ℕ) → Type 0
 IsNoTapes input = IsShort input ⊎ IsLong input
+
+-- the input is refused: it has more octets than a book may have, or a row or a text of it has a fault of status 1
+abbrev pub IsNoBook : (input : List ℕ) → Type 0
+IsNoBook input = (max_input < length input)
+    ⊎ ((f : BookFault) × IsWrong input f × (status_of_book_fault f ≡ 1))
 
 -- something was written
 abbrev pub WritesSome : (old new : Option (List ℕ)) → Type 0
@@ -57,9 +77,16 @@ pub record WroteTable (words : List (List ℕ)) (input old new : Option (List �
   pub asked : IsReadOrder words
   pub wrote : WritesOutput IsReadOutput input old new
 
+-- the words ask for `compile`, and what was written is the tapes of the book's cells, in runs of as many slots as the
+-- words say
+pub record WroteTapes (words : List (List ℕ)) (input old new : Option (List ℕ)) : Type 0 where
+  pub slots : ℕ
+  pub asked : IsCompileOrder words slots
+  pub wrote : WritesOutput (IsCompiled slots) input old new
+
 abbrev pub WroteWhatIsAsked : (words : List (List ℕ)) (input old new : Option (List ℕ)) → Type 0
 WroteWhatIsAsked words input old new = WroteText words old new ⊎
-    (WrotePages words input old new ⊎ WroteTable words input old new)
+    (WrotePages words input old new ⊎ (WroteTable words input old new ⊎ WroteTapes words input old new))
 
 -- What status 1 says: the command that the words ask for refuses the input.
 
@@ -76,8 +103,15 @@ pub record RefusesTapes (words : List (List ℕ)) (input : Option (List ℕ)) : 
   pub asked : IsReadOrder words
   pub refused : IfSome input IsNoTapes
 
+-- the words ask for `compile`, and the input is no book
+pub record RefusesAlerts (words : List (List ℕ)) (input : Option (List ℕ)) : Type 0 where
+  pub slots : ℕ
+  pub asked : IsCompileOrder words slots
+  pub refused : IfSome input IsNoBook
+
 abbrev pub RefusesInput : (words : List (List ℕ)) (input : Option (List ℕ)) → Type 0
-RefusesInput words input = RefusesText words input ⊎ RefusesTapes words input
+RefusesInput words input =
+    RefusesText words input ⊎ (RefusesTapes words input ⊎ RefusesAlerts words input)
 
 -- one of the two ends has failed
 abbrev pub OneHasFailed : {R W : Type 0} → Source R → Sink W → Type 0

@@ -1,7 +1,8 @@
 //! The command line: which words are taken, and what they mean.
 
 ghost use Rattle.std.specs.Prelude.{◌≡◌, IfOk, IfSome, codes, map, slice_get};
-ghost use Rattle.warnc.specs.CommandLine.{asks_for_text, is_text_word, GivesNumber, GivesValue, IsPageOrder};
+ghost use Rattle.warnc.specs.CommandLine.{asks_for_text, is_text_word, GivesNumber, GivesValue, IsCompileOrder};
+ghost use Rattle.warnc.specs.CommandLine.{IsPageOrder};
 ghost use Rattle.warnc.specs.RunSteps.{IsOrdered};
 
 use cbs_page::Serial;
@@ -30,6 +31,11 @@ pub enum Order<'a> {
     Page(PageOptions<'a>),
     /// `read`.
     Read,
+    /// `compile`.
+    Compile {
+        /// How many slots each cell's run has, at least 1.
+        slots: u16,
+    },
 }
 
 /// What the words ask for, or the text that clap has for them: help, the version, or what is wrong with them. clap
@@ -56,6 +62,9 @@ fn order_in<'a, S: AsStr>(words: &'a [S]) -> Option<Order<'a>>
             None => None,
         },
         "read" => Some(Order::Read),
+        "compile" => Some(Order::Compile {
+            slots: slots_in(words)?,
+        }),
         _ => None,
     }
 }
@@ -73,6 +82,18 @@ fn page_options<'a, S: AsStr>(words: &'a [S]) -> Option<PageOptions<'a>>
         id: number_of(words, "--id")?,
         serial: Serial::new(scope, number_of(words, "--code")?, update)?,
     })
+}
+
+/// The number of slots that the words give `compile`.
+fn slots_in<S: AsStr>(words: &[S]) -> Option<u16>
+    requires { slice_get (map S.text words.now) 1 ≡ Some (codes "compile") }
+    ensures { IfSome result (IsCompileOrder (map S.text words.now)) }
+{
+    let slots = number_of(words, "--slots")?;
+    if slots == 0 {
+        return None;
+    }
+    Some(slots)
 }
 
 /// The number that the words give the option of this name.
@@ -130,6 +151,7 @@ fn warnc<'a>(alloc: Global) -> Result<Command<'a>, AllocError> {
         .subcommand_required(true)
         .arg_required_else_help(true)
         .subcommand(page(alloc)?)?
+        .subcommand(compile(alloc)?)?
         .subcommand(read(alloc))
 }
 
@@ -138,6 +160,20 @@ fn read<'a>(alloc: Global) -> Command<'a> {
     Command::new(alloc, "read").about(
         "Reads tapes of blocks and writes a table of what a handset shows of them, as CSV",
     )
+}
+
+/// The command line of `compile`.
+fn compile<'a>(alloc: Global) -> Result<Command<'a>, AllocError> {
+    let slots = option(
+        alloc,
+        "slots",
+        "SLOTS",
+        "How many slots each cell's run has, 1 to 65535",
+    )
+    .value_parser(value_parser!(u16).range(1..=65535));
+    Command::new(alloc, "compile")
+        .about("Reads a book of alerts, as CSV, and writes the tapes of its cells' runs")
+        .arg(slots)
 }
 
 /// The command line of `page`.

@@ -47,6 +47,8 @@ fn report(rt: &HostRuntime, fault: &str, status: u8) -> u8
 }
 
 #[cfg(test)]
+mod compile_tests;
+#[cfg(test)]
 mod memory_tests;
 #[cfg(test)]
 mod read_tests;

@@ -1,5 +1,7 @@
 //! Runs of the program with hardly any memory: whatever is refused, the run ends with status 4 and writes nothing.
 
+use crate::compile_tests::BOOK;
+use crate::read_tests::worked_tape;
 use crate::run::run;
 use device_ends::memory::MemoryReader;
 use std::alloc::Global;
@@ -111,4 +113,11 @@ fn a_page_without_memory_is_status_4(rt: HostRuntime) -> Result<(), Fail> {
 fn a_table_without_memory_is_status_4(rt: HostRuntime) -> Result<(), Fail> {
     let output = b"lac,ci,id,serial,text\n";
     expect_out_of_memory(&rt, &["warnc", "read"], &[0, 1, 0, 1, 0, 0, 0, 0], output)
+}
+
+#[test]
+fn a_book_without_memory_is_status_4(rt: HostRuntime) -> Result<(), Fail> {
+    let tape = worked_tape(rt.alloc())?;
+    let words = ["warnc", "compile", "--slots", "2"];
+    expect_out_of_memory(&rt, &words, BOOK, &tape)
 }

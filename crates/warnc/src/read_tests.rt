@@ -21,7 +21,7 @@ const AT: &str = "200010111201118046a3d168341a8d46a3d168341a8d46\
 const IDLE: &str = "2f2b2b2b2b2b2b2b2b2b2b2b2b2b2b2b2b2b2b2b2b2b2b";
 
 /// A tape of cell 1/1 with two slots: the text `@`, and an idle one.
-fn worked_tape(alloc: Global) -> Result<Vec<u8>, Fail> {
+pub fn worked_tape(alloc: Global) -> Result<Vec<u8>, Fail> {
     let mut digits = String::new(alloc);
     digits.push_str("0001000100000002")?;
     digits.push_str(AT)?;
@@ -123,7 +123,7 @@ fn a_reader_that_fails_anywhere_is_status_3(rt: HostRuntime) -> Result<(), Fail>
     }
     let table = "lac,ci,id,serial,text\n1,1,4370,0010,@\n";
     for call in 0..2 {
-        expect_failed_writer(&rt, &READ, &tape, table, 20, call);
+        expect_failed_writer(&rt, &READ, &tape, table.as_bytes(), 20, call);
     }
     Ok(())
 }

@@ -1,24 +1,28 @@
 //! One run of the program: words in, a status out.
 
-ghost use Rattle.std.specs.Prelude.{◌≡◌, ◌≢◌, ◌≤◌, ◌⊎◌, ℕ, List, false, true, map, IfSome};
+ghost use Rattle.std.specs.Prelude.{◌≡◌, ◌≢◌, ◌≤◌, ◌⊎◌, ℕ, List, Some, codes, false, true, map, slice_get, IfSome};
 ghost use Rattle.std.specs.Io.KnownBytes.{Appends, Keeps};
 ghost use Rattle.device_ends.specs.Moves.{WritesOutput};
 ghost use Rattle.device_ends.specs.Sink.{sink_failed, writer_of};
 ghost use Rattle.device_ends.specs.Source.{reader_of, source_failed};
+ghost use Rattle.warnc_compile.specs.Compiled.{IsCompiled};
 ghost use Rattle.warnc_engine.specs.PageOutput.{IsPageOutput};
 ghost use Rattle.warnc_engine.specs.ReadOutput.{IsReadOutput};
-ghost use Rattle.warnc.specs.RunSteps.{status_of_read_fault, IsRunBetween, IsStatusOfSink};
-ghost use Rattle.warnc.specs.Status.{status_of_page_fault, IsNoTapes, IsRefused, OneHasFailed, RefusesInput};
+ghost use Rattle.warnc.specs.RunSteps.{status_of_read_fault, status_of_run_fault, IsRunBetween, IsStatusOfSink};
+ghost use Rattle.warnc.specs.Status.{status_of_book_fault, status_of_page_fault, IsNoBook, IsNoTapes, IsRefused};
+ghost use Rattle.warnc.specs.Status.{OneHasFailed, RefusesInput};
 ghost use Rattle.warnc.specs.Status.{WritesSome, WroteWhatIsAsked};
 
 use crate::command::{Order, PageOptions, asks_for_text, order_of};
+use alert_book::{BookFault, BookFaultKind};
 use cbs_page::TextFault;
 use clap::Error;
 use clap::error::ErrorKind;
 use device_ends::{Sink, Source, write_all};
-use std::alloc::Global;
+use std::alloc::{AllocGlobal, Global};
 use std::convert::AsStr;
 use std::io::{Read, Write};
+use warnc_compile::compile::{RunFault, compile_stream};
 use warnc_engine::page::{PageFault, page_stream};
 use warnc_engine::read::{ReadCommandFault, read_stream};
 
@@ -54,12 +58,13 @@ pub fn run<T: AllocGlobal, S: AsStr, R: Read, W: Write, F: Write>(
 {
     let mut source = Source::new(reader);
     let mut sink = Sink::new(writer);
-    run_between(rt.alloc(), words, &mut source, &mut sink, faults)
+    run_between(rt, words, &mut source, &mut sink, faults)
 }
 
-/// The same, between two ends. With status 0 what the words ask for is written, with 1, 2 and 4 nothing is.
-pub fn run_between<S: AsStr, R: Read, W: Write, F: Write>(
-    alloc: Global,
+/// The same, between two ends. With status 0 what the words ask for is written, with 1, 2 and 4 nothing is. That is one
+/// octet at least, but for `compile`: a book without cells has no tapes.
+pub fn run_between<T: AllocGlobal, S: AsStr, R: Read, W: Write, F: Write>(
+    rt: &T,
     words: &[S],
     source: &mut Source<R>,
     sink: &mut Sink<W>,
@@ -67,7 +72,8 @@ pub fn run_between<S: AsStr, R: Read, W: Write, F: Write>(
 ) -> u8
     ensures done { result ≡ DONE → WroteWhatIsAsked (map S.text words.now) (R.remaining (reader_of source.old))
         (W.contents (writer_of sink.old)) (W.contents (writer_of sink.new)) }
-    ensures wrote { result ≡ DONE → WritesSome (W.contents (writer_of sink.old)) (W.contents (writer_of sink.new)) }
+    ensures wrote { result ≡ DONE → slice_get (map S.text words.now) 1 ≢ Some (codes "compile")
+        → WritesSome (W.contents (writer_of sink.old)) (W.contents (writer_of sink.new)) }
     ensures nothing_written { (result ≢ DONE) → (result ≢ DEVICE)
         → Keeps (W.contents (writer_of sink.old)) (W.contents (writer_of sink.new)) }
     ensures untouched { (result ≢ DONE) → (result ≢ DEVICE) → sink.new ≡ sink.old }
@@ -79,9 +85,11 @@ pub fn run_between<S: AsStr, R: Read, W: Write, F: Write>(
         → OneHasFailed source.new sink.new → result ≡ DEVICE }
     ensures statuses { result ≤ 4 }
 {
+    let alloc = rt.alloc();
     match order_of(alloc, words) {
         Ok(Some(Order::Page(options))) => run_page(alloc, &options, source, sink, faults),
         Ok(Some(Order::Read)) => run_read(alloc, source, sink, faults),
+        Ok(Some(Order::Compile { slots })) => run_compile(rt, slots, source, sink, faults),
         Ok(None) => {
             let _ = writeln!(faults, "warnc: no command");
             USAGE
@@ -103,6 +111,7 @@ fn run_page<R: Read, W: Write, F: Write>(
         (R.remaining (reader_of source.old)) (W.contents (writer_of sink.old)) (W.contents (writer_of sink.new)) }
     ensures any_device { IsRunBetween result source.new sink.old sink.new
         (W.contents (writer_of sink.old)) (W.contents (writer_of sink.new)) }
+    ensures wrote { result ≡ DONE → WritesSome (W.contents (writer_of sink.old)) (W.contents (writer_of sink.new)) }
     ensures refused { result ≡ REFUSED_INPUT → IfSome (R.remaining (reader_of source.old))
         (IsRefused options.now.language.now) }
 {
@@ -145,6 +154,7 @@ fn run_read<R: Read, W: Write, F: Write>(
         (R.remaining (reader_of source.old)) (W.contents (writer_of sink.old)) (W.contents (writer_of sink.new)) }
     ensures any_device { IsRunBetween result source.new sink.old sink.new
         (W.contents (writer_of sink.old)) (W.contents (writer_of sink.new)) }
+    ensures wrote { result ≡ DONE → WritesSome (W.contents (writer_of sink.old)) (W.contents (writer_of sink.new)) }
     ensures refused { result ≡ REFUSED_INPUT → IfSome (R.remaining (reader_of source.old)) IsNoTapes }
 {
     match read_stream(alloc, source, sink) {
@@ -167,6 +177,51 @@ fn status_of_read(fault: ReadCommandFault) -> u8
     }
 }
 
+/// Runs `compile`, and returns the status.
+fn run_compile<T: AllocGlobal, R: Read, W: Write, F: Write>(
+    rt: &T,
+    slots: u16,
+    source: &mut Source<R>,
+    sink: &mut Sink<W>,
+    faults: &mut F,
+) -> u8
+    ensures done { result ≡ DONE → WritesOutput (IsCompiled slots)
+        (R.remaining (reader_of source.old)) (W.contents (writer_of sink.old)) (W.contents (writer_of sink.new)) }
+    ensures any_device { IsRunBetween result source.new sink.old sink.new
+        (W.contents (writer_of sink.old)) (W.contents (writer_of sink.new)) }
+    ensures refused { result ≡ REFUSED_INPUT → IfSome (R.remaining (reader_of source.old)) IsNoBook }
+{
+    match compile_stream(rt, source, sink, slots) {
+        Ok(()) => DONE,
+        Err(fault) => {
+            let _ = writeln!(faults, "warnc: {fault}");
+            status_of_run(fault)
+        }
+    }
+}
+
+/// The status of a fault of `compile`.
+fn status_of_run(fault: RunFault) -> u8
+    ensures { result ≡ status_of_run_fault fault }
+{
+    match fault {
+        RunFault::Book(fault) => status_of_book(fault),
+        RunFault::Write(_) => DEVICE,
+        RunFault::Refused => MEMORY,
+    }
+}
+
+/// The status of a fault of a book.
+fn status_of_book(fault: BookFault) -> u8
+    ensures { result ≡ status_of_book_fault fault }
+{
+    match fault.kind {
+        BookFaultKind::ReadFailed if fault.row == 0 => DEVICE,
+        BookFaultKind::Refused | BookFaultKind::Text(TextFault::Refused) => MEMORY,
+        _ => REFUSED_INPUT,
+    }
+}
+
 /// Reports what clap has to say of the words: help and the version go to the sink if the words ask for them, a mistake
 /// goes to `faults`.
 fn run_text<W: Write, F: Write>(
@@ -178,6 +233,7 @@ fn run_text<W: Write, F: Write>(
 ) -> u8
     ensures sink { IsStatusOfSink result sink.old sink.new
         (W.contents (writer_of sink.old)) (W.contents (writer_of sink.new)) }
+    ensures wrote { result ≡ DONE → WritesSome (W.contents (writer_of sink.old)) (W.contents (writer_of sink.new)) }
     ensures asked { result ≡ DONE → is_asked ≡ true }
     ensures not_refused { result ≢ REFUSED_INPUT }
     ensures device { result ≡ DEVICE → sink_failed sink.new ≡ true }

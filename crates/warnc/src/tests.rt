@@ -50,7 +50,7 @@ fn page_with<'a>(
 }
 
 /// Expects an output, and no fault.
-fn expect_output<T: AllocGlobal + Abort>(
+pub fn expect_output<T: AllocGlobal + Abort>(
     rt: &T,
     words: &[&str],
     input: &str,
@@ -216,10 +216,17 @@ fn help_is_written(rt: HostRuntime) -> Result<(), Fail> {
             "{}",
             run.output
         );
+        assert!(rt; run.output.contains("\n  compile "), "{}", run.output);
     }
-    let run = run_on(&rt, &["warnc", "page", "--help"], b"")?;
-    assert_eq!(rt; run.status, 0);
-    assert!(rt; run.output.contains("--update <UPDATE>"), "{}", run.output);
+    let options = [
+        ("page", "--update <UPDATE>"),
+        ("compile", "--slots <SLOTS>"),
+    ];
+    for (command, option) in options {
+        let run = run_on(&rt, &["warnc", command, "--help"], b"")?;
+        assert_eq!(rt; run.status, 0);
+        assert!(rt; run.output.contains(option), "{}", run.output);
+    }
     Ok(())
 }
 
@@ -246,7 +253,7 @@ pub fn expect_failed_writer<T: AllocGlobal + Abort>(
     rt: &T,
     words: &[&str],
     input: &[u8],
-    output: &str,
+    output: &[u8],
     per_call: usize,
     call: usize,
 ) {
@@ -257,7 +264,7 @@ pub fn expect_failed_writer<T: AllocGlobal + Abort>(
     assert_eq!(rt; status, 3);
     assert_eq!(rt; faults.contents(), b"warnc: write failed\n".as_slice());
     assert_eq!(rt; writer.contents().len(), per_call.saturating_mul(call));
-    assert!(rt; output.as_bytes().starts_with(writer.contents()));
+    assert!(rt; output.starts_with(writer.contents()));
 }
 
 #[test]
@@ -267,7 +274,7 @@ fn a_device_that_fails_is_status_3(rt: HostRuntime) {
         expect_failed_reader(&rt, &words, b"@\n", call);
     }
     for call in 0..3 {
-        expect_failed_writer(&rt, &words, b"@\n", AT, 90, call);
+        expect_failed_writer(&rt, &words, b"@\n", AT.as_bytes(), 90, call);
     }
     let mut reader = MemoryReader::new(b"", 10, None);
     let mut writer = MemoryWriter::new(rt.alloc(), 10, Some(0));
