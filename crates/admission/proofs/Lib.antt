@@ -5,3 +5,4 @@ mod Rising
 mod Scale
 pub mod Tables
 mod Worked
+pub mod Unchanged

@@ -5,7 +5,8 @@ ghost use Rattle.std.specs.Prelude.{OnOk, OnErr, MatchBool};
 ghost use Rattle.std.specs.Option.{option_map};
 ghost use Rattle.admission.specs.Table.{answer_for, answer_of, remaining_without, load_for, excess_over, ends_at};
 ghost use Rattle.admission.specs.Table.{ends_if, passed, IsAdmitted};
-ghost use Rattle.admission.specs.TableSteps.{HasPlace};
+ghost use Rattle.std.specs.List.{list_all};
+ghost use Rattle.admission.specs.TableSteps.{HasPlace, stays_at};
 ghost use Rattle.admission.specs.Waiting.{behind_of, held_now, held_at, waits_at, started_at};
 ghost use Rattle.admission.specs.Reservation.{is_before_end};
 
@@ -197,7 +198,10 @@ impl Budget {
     pub fn pass_slot(&mut self, slot: u16)
         ensures { self.new ≡ passed slot self.old }
     {
-        self.table = remaining_at(self.table.as_slice(), slot);
+        // At most slots nothing ends, and making the table anew costs more than all else that a slot does.
+        if !passes_unchanged(self.table.as_slice(), slot) {
+            self.table = remaining_at(self.table.as_slice(), slot);
+        }
     }
 
     /// The sum of what the reservations hold now, in parts of `SCALE`.
@@ -364,6 +368,15 @@ fn ended(held: Held, entry: u16, slot: u32) -> Held
     } else {
         held
     }
+}
+
+/// Whether no reservation of a table waits or has ended by `slot`.
+fn passes_unchanged(table: &[Held], slot: u16) -> bool
+    ensures { result ≡ list_all (stays_at slot) table.now }
+{
+    table
+        .iter()
+        .all(|held| held.waits.is_none() && is_counted(held.end, slot))
 }
 
 /// The reservations of a table that are still counted at `slot`, as they are there.
