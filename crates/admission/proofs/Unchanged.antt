@@ -14,7 +14,8 @@ no_wait : (slot : ℕ) (waits : Option Waits) → not (is_some waits) ≡ true �
 no_wait slot None h = refl
 no_wait slot (Some w) h = absurd cc
 
-pub passed_unchanged : (slot : ℕ) (table : List Held) → list_all (stays_at slot) table ≡ true → passed slot table ≡ table
+pub passed_unchanged : (slot : ℕ) (table : List Held) → list_all (stays_at slot) table ≡ true
+    → passed slot table ≡ table
 passed_unchanged slot [] h = refl
 passed_unchanged slot (held ∷ table) h =
     let parts = and_parts (stays_at slot held) (list_all (stays_at slot) table) h in

@@ -1,5 +1,5 @@
--- Steps of a table (own): a reservation that is added, and one that a slot leaves as it is. Contracts of private functions
--- alone speak of it.
+-- Steps of a table (own): a reservation that is added, and one that a slot leaves as it is. Contracts of private
+-- functions alone speak of it.
 use Rattle.std.specs.Prelude.{Bool, not, is_some, ◌&&◌, ⊤, ◌≢◌, ℕ, Option, Some, None, List, All, Any}
 use Rattle.admission.specs.declared.budget.Held.{Held}
 use Rattle.admission.specs.declared.budget.Waits.{Waits}

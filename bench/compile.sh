@@ -1,0 +1,35 @@
+#!/bin/sh
+# Times `warnc compile` on generated books of 64 cells and 4,096 slots, beside `wc -l` on the octets that it writes, in one
+# run, and reports its peak memory beside the size of the tapes.
+set -eu
+top=$(cd "$(dirname "$0")/.." && pwd)
+work=$(mktemp -d)
+trap 'rm -rf "$work"' EXIT
+"$top/warnc" --help >/dev/null
+for kind in typical full; do python3 "$top/bench/make_books.py" 1 "$kind" >"$work/$kind"; done
+python3 - "${1:-$top/crates/warnc/out/warnc}" "$work" <<'PY'
+import os, subprocess, sys, time
+program, work = sys.argv[1:]
+
+
+def run(command, source, target):
+    best, peak = None, 0
+    for _ in range(5):
+        with open(source, "rb") as stdin, open(target, "wb") as stdout:
+            begun = time.perf_counter()
+            process = subprocess.Popen(command, stdin=stdin, stdout=stdout)
+            _, status, used = os.wait4(process.pid, 0)
+            took = time.perf_counter() - begun
+        assert status == 0, (command, source, status)
+        best, peak = took if best is None else min(best, took), max(peak, used.ru_maxrss)
+    return best, peak * 1024
+
+
+for kind in ("typical", "full"):
+    book, tapes = os.path.join(work, kind), os.path.join(work, kind + ".tapes")
+    compiled, peak = run([program, "compile", "--slots", "4096"], book, tapes)
+    octets = os.path.getsize(tapes)
+    lines, _ = run(["wc", "-l"], tapes, os.devnull)
+    print(f"{kind:8} {octets / 1e6:5.1f} MB of tapes  wc -l {lines:.3f} s  warnc compile {compiled:.3f} s, "
+          f"{octets / compiled / 1e6:.0f} MB/s, peak {peak / 1e6:.1f} MB, {peak / octets:.2f} times the tapes")
+PY

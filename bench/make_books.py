@@ -1,0 +1,72 @@
+#!/usr/bin/env python3
+"""Writes alert books for bench/compile.sh: 64 cells. make_books.py SEED KIND, where KIND is one of
+
+typical   200 rows: alerts in two languages with updates and stops, each in some of the cells
+full      4,096 rows: every cell is busy in most of its slots, and many orders are refused
+
+It uses nothing of warnc.
+"""
+import random
+import sys
+
+CELLS = 64
+SLOTS = 4096
+TEXTS = {
+    "en": "Flood warning for the lower town: leave the river bank and go to higher ground. ",
+    "ru": "Внимание! Опасность наводнения: уходите от реки на возвышенность. ",
+}
+
+
+def cells_of(chance):
+    if chance.random() < 0.3:
+        return "*"
+    return " ".join(f"1-{ci}" for ci in sorted(chance.sample(range(1, CELLS + 1), chance.randint(1, CELLS))))
+
+
+def text_of(chance, language):
+    text = TEXTS[language] * 3
+    first = chance.randint(0, len(TEXTS[language]) - 1)
+    return text[first:first + chance.randint(10, 160)].strip()
+
+
+def sent(chance, periods):
+    language = chance.choice(sorted(TEXTS))
+    category = chance.choice((0, 1, 2, 2, 2))
+    return [language, category, chance.choice(periods), chance.choice((0, 0, 5, 50)), cells_of(chance),
+            text_of(chance, language)]
+
+
+def rows(chance, count, periods):
+    for ci in range(1, CELLS + 1):
+        yield ["cell", 1, ci]
+    updates = {}
+    orders = count - CELLS
+    for number in range(orders):
+        at = number * (SLOTS - 1) // orders
+        kind = chance.random()
+        live = [name for name, update in updates.items() if update < 15]
+        if kind < 0.5 or not live:
+            name = f"alert{len(updates)}"
+            language, *rest = sent(chance, periods)
+            updates[name] = 0
+            yield ["write", at, name, 4370 + len(updates) % 30, chance.randint(0, 3), len(updates) % 1024, language, *rest]
+        elif kind < 0.8:
+            name = chance.choice(live)
+            updates[name] += 1
+            yield ["update", at, name, *sent(chance, periods)]
+        else:
+            yield ["stop", at, chance.choice(list(updates)), cells_of(chance)]
+
+
+KINDS = {"typical": (200, (30, 60, 120, 240)), "full": (4096, (4, 8, 30, 120, 1024))}
+
+
+def main():
+    chance = random.Random(int(sys.argv[1]))
+    count, periods = KINDS[sys.argv[2]]
+    for row in rows(chance, count, periods):
+        fields = [str(field) for field in row]
+        print(",".join('"' + field.replace('"', '""') + '"' if "," in field else field for field in fields))
+
+
+main()

@@ -1,0 +1,86 @@
+//! Compiling with hardly any memory: each allocation is refused once, and nothing is written then.
+
+use alert_book::{BookFault, BookFaultKind};
+use device_ends::memory::{MemoryReader, MemoryWriter};
+use device_ends::{Sink, Source};
+use std::alloc::Global;
+use std::process::Abort;
+use std::test::Fail;
+use warnc_compile::{RunFault, compile_stream};
+
+/// A book of each verb.
+const BOOK: &str =
+    "cell,1,1\nwrite,0,a,4370,0,1,en,2,2,0,1-1,One\nupdate,1,a,en,2,2,0,*,Two\nstop,2,a,1-1\n";
+
+/// How many octets each block of the memory has that is given back.
+const BLOCK: usize = 512;
+
+/// Takes all the memory that the process may have, in blocks of falling size.
+fn take_all(alloc: Global, taken: &mut Vec<Vec<u8>>) {
+    let mut size = 0x4000_0000_0000_usize;
+    for _ in 0..43 {
+        for _ in 0..20_000 {
+            let Ok(block) = Vec::with_capacity(alloc, size) else {
+                break;
+            };
+            let _ = taken.push(block);
+        }
+        size /= 2;
+    }
+}
+
+/// Whether a fault says that there was no memory.
+fn is_memory(fault: RunFault) -> bool {
+    fault == RunFault::Refused
+        || fault
+            == RunFault::Book(BookFault {
+                row: 0,
+                kind: BookFaultKind::Refused,
+            })
+}
+
+/// How many octets a run of the book writes; a run that is refused memory says so, and writes none.
+fn written<T: AllocGlobal + Abort>(rt: &T, out: &mut [u8; 400]) -> Option<usize> {
+    let mut reader = MemoryReader::new(BOOK.as_bytes(), 100, None);
+    let mut left = out.as_mut_slice();
+    let before = left.len();
+    let result = compile_stream(
+        rt,
+        &mut Source::new(&mut reader),
+        &mut Sink::new(&mut left),
+        3,
+    );
+    match result {
+        Ok(()) => Some(before - left.len()),
+        Err(fault) => {
+            assert!(rt; is_memory(fault));
+            assert_eq!(rt; left.len(), before);
+            None
+        }
+    }
+}
+
+#[test]
+fn refused_memory_is_reported(rt: HostRuntime) -> Result<(), Fail> {
+    let mut spare: Vec<Vec<u8>> = Vec::with_capacity(rt.alloc(), 400)?;
+    for _ in 0..400 {
+        spare.push(Vec::with_capacity(rt.alloc(), BLOCK)?)?;
+    }
+    let mut taken = Vec::with_capacity(rt.alloc(), 100_000)?;
+    take_all(rt.alloc(), &mut taken);
+    let mut out = [0; 400];
+    let mut refused = 0_u16;
+    for _ in 0..400 {
+        if let Some(count) = written(&rt, &mut out) {
+            taken.clear();
+            assert_eq!(&rt; count, 284);
+            assert!(&rt; refused > 6);
+            return Ok(());
+        }
+        refused = refused.saturating_add(1);
+        let _ = spare.pop();
+    }
+    taken.clear();
+    assert!(&rt; false, "no tapes with 200 KB");
+    Ok(())
+}
