@@ -39,11 +39,10 @@ fn is_memory(fault: RunFault) -> bool {
             })
 }
 
-/// How many octets a run of the book writes; a run that is refused memory says so, and writes none.
-fn written<T: AllocGlobal + Abort>(rt: &T, out: &mut [u8; 400]) -> Option<usize> {
+/// How many of 400 octets a run of the book leaves; a run that is refused memory says so, and leaves all.
+fn left_by<T: AllocGlobal + Abort>(rt: &T, out: &mut [u8; 400]) -> Option<usize> {
     let mut reader = MemoryReader::new(BOOK.as_bytes(), 100, None);
     let mut left = out.as_mut_slice();
-    let before = left.len();
     let result = compile_stream(
         rt,
         &mut Source::new(&mut reader),
@@ -51,10 +50,10 @@ fn written<T: AllocGlobal + Abort>(rt: &T, out: &mut [u8; 400]) -> Option<usize>
         3,
     );
     match result {
-        Ok(()) => Some(before - left.len()),
+        Ok(()) => Some(left.len()),
         Err(fault) => {
             assert!(rt; is_memory(fault));
-            assert_eq!(rt; left.len(), before);
+            assert_eq!(rt; left.len(), 400);
             None
         }
     }
@@ -71,9 +70,9 @@ fn refused_memory_is_reported(rt: HostRuntime) -> Result<(), Fail> {
     let mut out = [0; 400];
     let mut refused = 0_u16;
     for _ in 0..400 {
-        if let Some(count) = written(&rt, &mut out) {
+        if let Some(count) = left_by(&rt, &mut out) {
             taken.clear();
-            assert_eq!(&rt; count, 284);
+            assert_eq!(&rt; count, 116);
             assert!(&rt; refused > 6);
             return Ok(());
         }

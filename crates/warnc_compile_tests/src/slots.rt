@@ -6,12 +6,12 @@ use std::test::Fail;
 
 /// What the first block of each slot of a tape has after its type: serial number and identifier; 2B 2B 2B 2B if the
 /// slot is idle.
-fn expect_slots(rt: &impl Abort, tape: &[u8], slots: &[[u8; 4]]) {
-    assert_eq!(rt; tape.len(), 8 + 92 * slots.len());
-    for (slot, wanted) in slots.iter().enumerate() {
+fn expect_slots(rt: &impl Abort, tape: &[u8], slots: &[[u8; 4]; 6]) {
+    assert_eq!(rt; tape.len(), 8 + 92 * 6);
+    for slot in 0..6 {
         let first = 8 + 92 * slot + 1;
         match tape.get(first..first + 4) {
-            Some(octets) => assert_eq!(rt; octets, wanted.as_slice()),
+            Some(octets) => assert_eq!(rt; octets, slots[slot].as_slice()),
             None => assert!(rt; false, "slot {}", slot),
         }
     }
@@ -35,7 +35,11 @@ const SECOND_Q: [u8; 4] = [0x00, 0x21, 0x00, 0x02];
 const NOTHING: [u8; 4] = [0x2B, 0x2B, 0x2B, 0x2B];
 
 /// Expects the slots of the three messages with one more row.
-fn expect_with<T: AllocGlobal + Abort>(rt: &T, row: &str, slots: &[[u8; 4]]) -> Result<(), Fail> {
+fn expect_with<T: AllocGlobal + Abort>(
+    rt: &T,
+    row: &str,
+    slots: &[[u8; 4]; 6],
+) -> Result<(), Fail> {
     let mut rows = String::new(rt.alloc());
     rows.push_str(ROWS)?;
     rows.push_str(row)?;
