@@ -16,9 +16,10 @@ page_fits : (alphabet : Alphabet) (codes : List ℕ) (content : Content) → len
     IsContentOf alphabet codes content → (nat_le content.used 82 ≡ true) × (eqb (length content.octets) 82 ≡ true)
 page_fits Gsm codes content few is =
     (le-leb content.used 82 (omega (arith, is.0, few)), eq-eqb (length content.octets) 82 is.1.size)
-page_fits Ucs2 codes content few is =
-    (le-leb content.used 82 (omega (arith, is.0, few)),
-    eq-eqb (length content.octets) 82 (ap length is.1 ∙ length-octets_of_units codes few))
+page_fits Ucs2 codes content few is = (
+  le-leb content.used 82 (omega (arith, is.0, few)),
+  eq-eqb (length content.octets) 82 (ap length is.1 ∙ length-octets_of_units codes few),
+)
 
 -- and so have those of a text's pages
 pub pages_fit : (alphabet : Alphabet) (pieces : List (List ℕ)) (contents : List Content) →
@@ -31,8 +32,9 @@ pages_fit alphabet [] (c ∷ cs) within have = absurd have
 pages_fit alphabet (p ∷ ps) [] within have = absurd have
 pages_fit alphabet (p ∷ ps) (c ∷ cs) within have =
     let few : length (flat_map (codes_of alphabet) p) ≤ capacity alphabet =
-        subst (λ n. n ≤ capacity alphabet) (sym (length-flat_map (codes_of alphabet) p)) within.0 in
+    subst (λ n. n ≤ capacity alphabet) (sym (length-flat_map (codes_of alphabet) p)) within.0 in
     let here = page_fits alphabet (flat_map (codes_of alphabet) p) c few have.0 in
-    let rest = pages_fit alphabet ps cs within.1 have.1 in
-    (and_from (nat_le c.used 82) (list_all (λ (d : Content). nat_le d.used 82) cs) here.0 rest.0,
-    and_from (eqb (length c.octets) 82) (list_all (λ (d : Content). eqb (length d.octets) 82) cs) here.1 rest.1)
+    let rest = pages_fit alphabet ps cs within.1 have.1 in (
+      and_from (nat_le c.used 82) (list_all (λ (d : Content). nat_le d.used 82) cs) here.0 rest.0,
+      and_from (eqb (length c.octets) 82) (list_all (λ (d : Content). eqb (length d.octets) 82) cs) here.1 rest.1,
+    )

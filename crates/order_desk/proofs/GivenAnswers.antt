@@ -79,7 +79,7 @@ IsGiven command answer = IsAnswerTo command answer × (has_entry answer ≡ true
 
 refused_write : (id serial : ℕ) (replaces : Option ℕ) (category : Category) (period broadcasts : ℕ) (dcs : Dcs)
     (contents : List Content) → HasRefusals (IsGiven (commands.Write id serial replaces category period broadcasts dcs
-        contents))
+    contents))
 refused_write id serial None category period broadcasts dcs contents cause other = (tt, rw (other) refl)
 refused_write id serial (Some old) category period broadcasts dcs contents cause other = (tt, rw (other) refl)
 

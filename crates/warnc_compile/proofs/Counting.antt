@@ -67,7 +67,7 @@ answers_kept c (a ∷ list) = by_test (is_cell c a.0) (answers_kept c list)
   where
     by_test : (b : Bool)
         → length (filter (λ (x : Cell × Answer). is_cell c x.0) list) ≡ length
-            (filter (is_cell c) (cells_answered list))
+        (filter (is_cell c) (cells_answered list))
         → length (cond b (a ∷ filter (λ (x : Cell × Answer). is_cell c x.0) list)
         (filter (λ (x : Cell × Answer). is_cell c x.0) list))
         ≡ length (cond b (a.0 ∷ filter (is_cell c) (cells_answered list)) (filter (is_cell c) (cells_answered list)))

@@ -30,7 +30,7 @@ joined_at : (tapes : List (List ℕ)) (i : ℕ) (d : List ℕ) → i < length ta
     → joined tapes ≡ joined (take i tapes) ++ (get_or tapes i d ++ joined (drop (suc i) tapes))
 joined_at tapes i d within =
     ap joined (sym (take-append-drop i tapes) ∙ ap (λ (rest : List (List ℕ)). take i tapes ++ rest)
-        (drop-cons tapes i d within))
+    (drop-cons tapes i d within))
     ∙ flat_map-append (λ (tape : List ℕ). tape) (take i tapes) (get_or tapes i d ∷ drop (suc i) tapes)
 
 -- after whole tapes a front of one more went out

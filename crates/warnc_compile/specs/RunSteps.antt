@@ -53,9 +53,9 @@ pub record HasAnswered (at : ℕ) (command : Command) (answer : Answer) (before 
 
 -- what a command that one cell was asked makes of a record: it has answered if it is that cell's, else it is as it was
 pub record IsAnsweredBy (at : ℕ) (cell : Cell) (command : Command) (answer : Answer) (before after : Record) : Type 0
-    where
-  pub asked : is_cell cell before.cell ≡ true → HasAnswered at command answer before after
-  pub other : is_cell cell before.cell ≡ false → after ≡ before
+  where
+    pub asked : is_cell cell before.cell ≡ true → HasAnswered at command answer before after
+    pub other : is_cell cell before.cell ≡ false → after ≡ before
 
 -- and what it makes of the records of a run; a cell that isn't of the run is not identified
 pub record IsAnsweredIn (at : ℕ) (cell : Cell) (command : Command) (answer : Answer) (old new : List Record)

@@ -10,7 +10,7 @@ use Rattle.warnc_compile.proofs.compile.tapes_of_book.Goals as goal
 pub serve-requires-clause-cells : goal.serve-requires-clause-cells
 serve-requires-clause-cells c =
     are_new_cells c.deref_mut.result.now c.args.book.now.cells c.args.slots
-        (books_are c.args.slots c.deref_mut.ensures.value
+    (books_are c.args.slots c.deref_mut.ensures.value
     c.in_ok-books.ensures c.cells.ensures)
 
 pub serve-requires-clause-fresh : goal.serve-requires-clause-fresh
