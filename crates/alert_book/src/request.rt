@@ -133,7 +133,7 @@ fn write_of(
         period: sending.period,
         broadcasts: sending.broadcasts,
         dcs: paged.dcs,
-        contents: Contents { list },
+        contents: Contents::new(list)?,
     })
 }
 

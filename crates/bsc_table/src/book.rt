@@ -371,7 +371,7 @@ impl CellBook {
                     behind: None,
                     excess: 0,
                     start: u32::from(self.clock),
-                    pages: contents.list.len() as u8,
+                    pages: contents.as_slice().len() as u8,
                     period: *period,
                     broadcasts: *broadcasts,
                     category: *category,

@@ -120,19 +120,16 @@ impl Command {
                 broadcasts,
                 dcs,
                 contents,
-            } => {
-                let list = Vec::from_slice(alloc, &contents.list)?;
-                Ok(Command::Write {
-                    id: *id,
-                    serial: *serial,
-                    replaces: *replaces,
-                    category: *category,
-                    period: *period,
-                    broadcasts: *broadcasts,
-                    dcs: *dcs,
-                    contents: Contents { list },
-                })
-            }
+            } => Ok(Command::Write {
+                id: *id,
+                serial: *serial,
+                replaces: *replaces,
+                category: *category,
+                period: *period,
+                broadcasts: *broadcasts,
+                dcs: *dcs,
+                contents: contents.copy(alloc)?,
+            }),
             Command::Kill { id, serial } => Ok(Command::Kill {
                 id: *id,
                 serial: *serial,

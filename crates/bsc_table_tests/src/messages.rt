@@ -39,9 +39,7 @@ fn write_pages(
         period: 7,
         broadcasts: 5,
         dcs: Dcs(0x01),
-        contents: Contents {
-            list: Vec::from_slice(alloc, pages)?,
-        },
+        contents: Contents::new(Vec::from_slice(alloc, pages)?)?,
     })
 }
 
@@ -101,7 +99,7 @@ fn expect_write(rt: &impl Abort, command: Command) {
         (Some(Serial::of(0x0010)), Category::Normal)
     );
     assert_eq!(rt; (period, broadcasts, dcs), (7, 5, Dcs(0x01)));
-    assert_eq!(rt; contents.list.as_slice(), [PAGE, PAGE].as_slice());
+    assert_eq!(rt; contents.as_slice(), [PAGE, PAGE].as_slice());
 }
 
 #[test]

@@ -117,7 +117,7 @@ fn write(alloc: Global, wish: Wish, pages: &[Content]) -> Result<Command, Fail>
         period: wish.period,
         broadcasts: wish.broadcasts,
         dcs: Dcs(0x01),
-        contents: Contents { list },
+        contents: Contents::new(list)?,
     })
 }
 

@@ -24,8 +24,9 @@ fn page_blocks(command: &Command, page: u8) -> [[u8; 23]; 4]
             contents,
             ..
         } => {
-            let total = contents.list.len() as u8;
-            let content = &contents.list[page as usize - 1];
+            let contents = contents.as_slice();
+            let total = contents.len() as u8;
+            let content = &contents[page as usize - 1];
             cut(&page_bytes(*id, *serial, *dcs, page, total, &content.octets))
         }
         Command::Kill { .. } => idle(),

@@ -61,7 +61,7 @@ fn write(alloc: Global, serial: u16, period: u16, pages: &[Content]) -> Result<C
         period,
         broadcasts: 0,
         dcs: Dcs(0x01),
-        contents: Contents { list },
+        contents: Contents::new(list)?,
     })
 }
 

@@ -235,7 +235,7 @@ fn pages_of(message: &Message) -> Option<usize>
     ensures { result ≡ (fields_of message.now).pages }
 {
     match message {
-        Message::Write { contents, .. } => Some(contents.list.len()),
+        Message::Write { contents, .. } => Some(contents.as_slice().len()),
         Message::WriteDone { .. }
         | Message::WriteFailed { .. }
         | Message::Kill { .. }
@@ -263,7 +263,7 @@ fn contents_of(message: &Message) -> &[Content]
     ensures { result.now ≡ (fields_of message.now).contents }
 {
     match message {
-        Message::Write { contents, .. } => &contents.list,
+        Message::Write { contents, .. } => contents.as_slice(),
         Message::WriteDone { .. }
         | Message::WriteFailed { .. }
         | Message::Kill { .. }

@@ -1,7 +1,13 @@
 //! What the six messages say.
 
+ghost use Rattle.std.specs.Prelude.{◌≡◌, IfOk};
+ghost use Rattle.std.specs.Cmp.{partial_equiv_from_equiv};
+ghost use Rattle.cbsp_wire.specs.Same.{same_contents, same_contents_equiv};
+
 use cbs_page::{Content, Dcs, Serial};
+use std::alloc::{AllocError, Global};
 use std::marker::Model;
+use std::sync::ArcSlice;
 
 /// A cell, by its location area code and its cell identity: `Cell { lac: 1, ci: 1 }`.
 #[derive(Clone, Copy, Debug, PartialEq, Eq)]
@@ -83,11 +89,11 @@ impl Model for Failures {
     ghost view = { λ failures. failures.list.items };
 }
 
-/// The contents of a message's pages: `Contents { list }` of a `Vec`. In clauses it is the list of them.
+/// The contents of a message's pages, one for each page, in page order. They never change, and those who keep them
+/// share one list of them. In clauses it is the list.
 #[derive(Debug, Drop)]
 pub struct Contents {
-    /// One content for each page, in page order.
-    pub list: Vec<Content>,
+    list: ArcSlice<Content>,
 }
 
 impl Model for Contents {
@@ -96,7 +102,60 @@ impl Model for Contents {
 
     ghost Value = { List Content };
 
-    ghost view = { λ contents. contents.list.items };
+    ghost use Rattle.std.specs.Arc.{arc_slice_items};
+
+    ghost view = { λ contents. arc_slice_items contents.list };
+}
+
+impl Contents {
+    /// The contents of a list, which stays where it is.
+    ///
+    /// # Errors
+    ///
+    /// `AllocError` for want of memory, of which the count of the owners takes some.
+    pub fn new(list: Vec<Content>) -> Result<Contents, AllocError>
+        ensures { IfOk result (λ contents. contents ≡ list.items) }
+    {
+        Ok(Contents {
+            list: ArcSlice::from_vec(list)?,
+        })
+    }
+
+    /// The contents, in page order.
+    pub fn as_slice(&self) -> &[Content]
+        ensures { result.now ≡ self.now }
+    {
+        self.list.as_slice()
+    }
+
+    /// Equal contents: those of the same list, for which no memory is taken, or of a list of their own if that one has
+    /// as many owners as can be counted.
+    ///
+    /// # Errors
+    ///
+    /// `AllocError` for want of memory.
+    pub fn copy(&self, alloc: Global) -> Result<Contents, AllocError>
+        ensures { IfOk result (λ contents. contents ≡ self.now) }
+    {
+        match self.list.clone() {
+            Ok(list) => Ok(Contents { list }),
+            Err(_) => Contents::new(Vec::from_slice(alloc, self.as_slice())?),
+        }
+    }
+}
+
+impl PartialEq for Contents {
+    ghost eq = { same_contents };
+
+    ghost laws = { partial_equiv_from_equiv same_contents_equiv };
+
+    fn eq(&self, other: &Contents) -> bool {
+        self.as_slice() == other.as_slice()
+    }
+}
+
+impl Eq for Contents {
+    ghost laws = { same_contents_equiv };
 }
 
 /// A message (3GPP TS 48.049, 8.1). Where an element is optional, `None` or an empty list says that it is left out.

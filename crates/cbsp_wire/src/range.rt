@@ -65,7 +65,7 @@ fn has_none_twice(message_type: MessageType, octets: &[u8]) -> bool
 }
 
 /// The number of contents.
-fn content_count(message_type: MessageType, octets: &[u8]) -> usize
+pub(crate) fn content_count(message_type: MessageType, octets: &[u8]) -> usize
     ensures { result ≡ length (bodies_of MESSAGE_CONTENT (walk_of message_type octets.now).elements) }
 {
     let mut count = 0;

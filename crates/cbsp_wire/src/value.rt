@@ -13,6 +13,7 @@ use crate::item::{ListItem, read_items};
 use crate::lists::items_of;
 use crate::message::{Cells, Contents, Counts, Failures, Message};
 use crate::message_type::MessageType;
+use crate::range::content_count;
 use cbs_page::{Content, Dcs, Serial};
 use std::alloc::{AllocError, Global};
 
@@ -121,9 +122,7 @@ fn content(body: &[u8]) -> Content
 fn contents(alloc: Global, message_type: MessageType, octets: &[u8]) -> Result<Contents, AllocError>
     ensures { IfOk result (λ contents. contents ≡ contents_of (walk_of message_type octets.now).elements) }
 {
-    Ok(Contents {
-        list: read_contents(alloc, message_type, octets)?,
-    })
+    Contents::new(read_contents(alloc, message_type, octets)?)
 }
 
 #[tactic(auto, unfolding(crate::specs::Table::table, crate::specs::Table::size_of))]
@@ -134,7 +133,7 @@ fn read_contents(
 ) -> Result<Vec<Content>, AllocError>
     ensures { IfOk result (λ contents. contents.items ≡ contents_of (walk_of message_type octets.now).elements) }
 {
-    let mut contents = Vec::new(alloc);
+    let mut contents = Vec::with_capacity(alloc, content_count(message_type, octets))?;
     let mut left = octets;
     'walk: while let Some((body, rest)) = find(message_type, iei::MESSAGE_CONTENT, left) {
         contents.push(content(body))?;

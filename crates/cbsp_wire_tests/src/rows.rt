@@ -228,7 +228,7 @@ fn row_of(alloc: Global, message: &Message) -> Result<String, AllocError> {
     } = message
     {
         let category = octet_text(alloc, *category)?;
-        let contents = contents_text(alloc, &contents.list)?;
+        let contents = contents_text(alloc, contents.as_slice())?;
         let dcs = dcs.0;
         write!(
             row,

@@ -42,7 +42,7 @@ fn order(
         period: 1024,
         broadcasts: 65535,
         dcs: Dcs::UCS2,
-        contents: Contents { list },
+        contents: Contents::new(list)?,
     })
 }
 

@@ -1,6 +1,6 @@
 //! Replies, worked by hand from the layouts of the elements.
 
-ghost use Rattle.std.specs.Prelude.{◌≡◌, ◌≤◌, [], true, All, length};
+ghost use Rattle.std.specs.Prelude.{◌≡◌, ◌≤◌, [], true, All, IfOk, length};
 ghost use Rattle.bsc_table.specs.declared.command.Category.TheVariants.{Normal};
 ghost use Rattle.bsc_table.specs.declared.command.Command.TheVariants as commands;
 ghost use Rattle.cbsp_wire.specs.Range.{cells_are_valid};
@@ -10,15 +10,16 @@ use bsc_table::{Answer, Category, Command};
 use cbs_page::{Dcs, Serial};
 use cbsp_wire::{Cell, Contents, cause};
 use order_desk::{cells_ok, reply_of};
-use std::alloc::Global;
+use std::alloc::{AllocError, Global};
 use std::process::Abort;
 use std::test::Fail;
 
 /// A write of message 4370 with no page: a reply doesn't depend on what is broadcast.
-fn write_of(alloc: Global, serial: Serial, replaces: Option<Serial>) -> Command
-    ensures { result ≡ commands.Write 4370 serial replaces Normal 2 0 (record { 0 = 1 }) [] }
+fn write_of(alloc: Global, serial: Serial, replaces: Option<Serial>) -> Result<Command, AllocError>
+    ensures { IfOk result
+        (λ command. command ≡ commands.Write 4370 serial replaces Normal 2 0 (record { 0 = 1 }) []) }
 {
-    Command::Write {
+    Ok(Command::Write {
         id: 4370,
         serial,
         replaces,
@@ -26,10 +27,8 @@ fn write_of(alloc: Global, serial: Serial, replaces: Option<Serial>) -> Command
         period: 2,
         broadcasts: 0,
         dcs: Dcs(1),
-        contents: Contents {
-            list: Vec::new(alloc),
-        },
-    }
+        contents: Contents::new(Vec::new(alloc))?,
+    })
 }
 
 /// A kill of message 4370.
@@ -64,7 +63,7 @@ fn expect_reply<T: AllocGlobal + Abort>(
 
 #[test]
 fn a_write_is_done(rt: HostRuntime) -> Result<(), Fail> {
-    let command = write_of(rt.alloc(), Serial::of(0x0010), None);
+    let command = write_of(rt.alloc(), Serial::of(0x0010), None)?;
     let answers = [(cell(1, 1), Answer::Started { slot: 0 })];
     let expected = [
         0x02, 0x00, 0x00, 0x0E, 0x0E, 0x11, 0x12, 0x03, 0x00, 0x10, 0x04, 0x00, 0x05, 0x01, 0x00,
@@ -86,7 +85,7 @@ fn a_kill_is_done(rt: HostRuntime) -> Result<(), Fail> {
 
 #[test]
 fn a_replacement_is_done_in_one_of_two_cells(rt: HostRuntime) -> Result<(), Fail> {
-    let command = write_of(rt.alloc(), Serial::of(0x0011), Some(Serial::of(0x0010)));
+    let command = write_of(rt.alloc(), Serial::of(0x0011), Some(Serial::of(0x0010)))?;
     let answers = [
         (
             cell(1, 1),
@@ -107,7 +106,7 @@ fn a_replacement_is_done_in_one_of_two_cells(rt: HostRuntime) -> Result<(), Fail
 
 #[test]
 fn a_replacement_is_refused_everywhere(rt: HostRuntime) -> Result<(), Fail> {
-    let command = write_of(rt.alloc(), Serial::of(0x0011), Some(Serial::of(0x0010)));
+    let command = write_of(rt.alloc(), Serial::of(0x0011), Some(Serial::of(0x0010)))?;
     let answers = [
         (cell(1, 2), Answer::Cause(cause::BSC_CAPACITY_EXCEEDED)),
         (
@@ -125,7 +124,7 @@ fn a_replacement_is_refused_everywhere(rt: HostRuntime) -> Result<(), Fail> {
 
 #[test]
 fn a_write_is_refused_in_a_foreign_cell(rt: HostRuntime) -> Result<(), Fail> {
-    let command = write_of(rt.alloc(), Serial::of(0x0010), None);
+    let command = write_of(rt.alloc(), Serial::of(0x0010), None)?;
     let answers = [(cell(9, 9), Answer::Cause(cause::CELL_IDENTITY_NOT_VALID))];
     let expected = [
         0x03, 0x00, 0x00, 0x0F, 0x0E, 0x11, 0x12, 0x03, 0x00, 0x10, 0x09, 0x00, 0x06, 0x01, 0x00,
