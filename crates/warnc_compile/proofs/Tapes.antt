@@ -18,7 +18,7 @@ use Rattle.cbch_blocks.specs.RecordBlocks.{tape_of_record}
 use Rattle.book_runs.specs.Run.{Exchange, IsRun, IsRunOf, asked_of, entries_for}
 use Rattle.book_runs.specs.RunLaws.{RunsShowTheBook}
 use Rattle.warnc_compile.specs.Compiled.{IsCompiled}
-use Rattle.warnc_compile.specs.EndSteps.{AreTapesOf, IsFinished}
+use Rattle.warnc_compile.specs.EndSteps.{AreTapesOf, IsFinished, IsTapeOf}
 use Rattle.warnc_compile.specs.RunSteps.{AreUnderWay, HasServed, IsUnderWay, cells_of}
 
 -- tapes, one after the other
@@ -144,6 +144,29 @@ is_run book slots old new after cells fresh served all = record {
   exchanged = served.exchanged;
   each = finished_are slots served.exchanges new after all (served.served slots fresh);
 }
+
+-- tapes of books are those of records that finish the books
+pub have_records : (before : List Record) (tapes : List (List ℕ)) → AllZip IsTapeOf before tapes
+    → (records : List Record) × AllZip IsFinished before records × (tapes ≡ map tape_of_record records)
+have_records [] [] all = ([], tt, refl)
+have_records [] (t ∷ tapes) all = absurd all
+have_records (b ∷ before) [] all = absurd all
+have_records (b ∷ before) (t ∷ tapes) all =
+    let first = all.0 in
+    let rest = have_records before tapes all.1 in
+    let made : t ∷ tapes ≡ map tape_of_record (first.after ∷ rest.0) =
+    ap (λ (x : List ℕ). x ∷ tapes) first.made ∙ ap (λ (xs : List (List ℕ)). tape_of_record first.after ∷ xs) rest.2 in
+    (first.after ∷ rest.0, (first.finished, rest.1), made)
+
+-- one more tape, of one more book
+pub one_more_tape : (before : List Record) (tapes : List (List ℕ)) (b : Record) (t : List ℕ)
+    → AllZip IsTapeOf before tapes
+    → IsTapeOf b t
+    → AllZip IsTapeOf (before ++ b ∷ []) (tapes ++ t ∷ [])
+one_more_tape [] [] b t all is = (is, tt)
+one_more_tape [] (x ∷ tapes) b t all is = absurd all
+one_more_tape (x ∷ before) [] b t all is = absurd all
+one_more_tape (x ∷ before) (y ∷ tapes) b t all is = (all.0, one_more_tape before tapes b t all.1 is)
 
 -- tapes of records aren't empty
 pub tapes_have_octets : (tapes : List (List ℕ)) (records : List Record) → tapes ≡ map tape_of_record records

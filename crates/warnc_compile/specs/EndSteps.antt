@@ -14,6 +14,12 @@ pub record IsFinished (before after : Record) : Type 0 where
   pub clock : after.clock ≡ before.slots
   pub legal : IsLegal after
 
+-- the tape of a cell whose run was played to its end
+pub record IsTapeOf (before : Record) (tape : List ℕ) : Type 0 where
+  pub after : Record
+  pub finished : IsFinished before after
+  pub made : tape ≡ tape_of_record after
+
 -- these are the tapes of a run of a book
 pub record AreTapesOf (book : Contents) (slots : ℕ) (tapes : List (List ℕ)) : Type 0 where
   pub exchanges : List Exchange

@@ -8,7 +8,7 @@ ghost use Rattle.warnc_compile.specs.Compiled.{Compiles, IsRunFault, IsWriteFaul
 ghost use Rattle.warnc_compile.specs.EndSteps.{AreTapesOf};
 
 use crate::cells::Refused;
-use crate::finish::{open_books, records_of, tapes_of, write_tapes};
+use crate::finish::{open_books, tapes_of, write_tapes};
 use crate::session::serve;
 use alert_book::{Book, BookFault, read_book};
 use cbch_blocks::{Tape, WriteFailed};
@@ -71,7 +71,7 @@ pub fn compile_stream<T: AllocGlobal, R: Read, W: Write>(
         Ok(book) => book,
         Err(fault) => return Err(RunFault::Book(fault)),
     };
-    let tapes = match tapes_of_book(rt.alloc(), &book, slots) {
+    let tapes = match tapes_of_book(rt.alloc(), book, slots) {
         Ok(tapes) => tapes,
         Err(Refused) => return Err(RunFault::Refused),
     };
@@ -81,16 +81,16 @@ pub fn compile_stream<T: AllocGlobal, R: Read, W: Write>(
     }
 }
 
-/// The tapes of a book's cells.
-fn tapes_of_book(alloc: Global, book: &Book, slots: u16) -> Result<Vec<Tape>, Refused>
-    requires { (input : List ℕ) × IsBook input book.now }
-    ensures { IfOk result (λ tapes. AreTapesOf book.now slots tapes.items) }
+/// The tapes of a book's cells. The book goes before they are made.
+fn tapes_of_book(alloc: Global, book: Book, slots: u16) -> Result<Vec<Tape>, Refused>
+    requires { (input : List ℕ) × IsBook input book }
+    ensures { IfOk result (λ tapes. AreTapesOf book slots tapes.items) }
 {
     // A book has few orders, and no cell twice; a new record is a legal history.
     alert_book::book_laws();
     bsc_table::steps_of_a_cell();
     let mut books = open_books(alloc, book.cells(), slots)?;
-    serve(alloc, book, &mut books)?;
-    let records = records_of(alloc, books)?;
-    tapes_of(alloc, &records)
+    serve(alloc, &book, &mut books)?;
+    drop(book);
+    tapes_of(alloc, books)
 }

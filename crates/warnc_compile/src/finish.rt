@@ -6,8 +6,7 @@ ghost use Rattle.std.specs.List.{AllZip, flat_map};
 ghost use Rattle.device_ends.specs.Moves.{AppendsFront};
 ghost use Rattle.device_ends.specs.Sink.{sink_failed, writer_of};
 ghost use Rattle.bsc_table.specs.Steps.{opened};
-ghost use Rattle.cbch_blocks.specs.RecordBlocks.{tape_of_record};
-ghost use Rattle.warnc_compile.specs.EndSteps.{IsFinished};
+ghost use Rattle.warnc_compile.specs.EndSteps.{IsFinished, IsTapeOf};
 
 use crate::cells::Refused;
 use bsc_table::{CellBook, CellRecord};
@@ -41,24 +40,15 @@ fn finished(mut book: CellBook) -> CellRecord
     book.finish()
 }
 
-/// The records of runs that are played to their ends.
-pub(crate) fn records_of(alloc: Global, books: Vec<CellBook>) -> Result<Vec<CellRecord>, Refused>
-    ensures { IfOk result (λ records. AllZip IsFinished books.items records.items) }
+/// The tapes of runs that are played to their ends. Each book goes once its tape is made, so that the memory of all
+/// books and that of all tapes is never held at once.
+pub(crate) fn tapes_of(alloc: Global, books: Vec<CellBook>) -> Result<Vec<Tape>, Refused>
+    ensures { IfOk result (λ tapes. AllZip IsTapeOf books.items tapes.items) }
 {
-    let mut records = Vec::with_capacity(alloc, books.len())?;
+    let mut tapes = Vec::with_capacity(alloc, books.len())?;
     for book in books {
-        records.push(finished(book))?;
-    }
-    Ok(records)
-}
-
-/// The tapes of records.
-pub(crate) fn tapes_of(alloc: Global, records: &[CellRecord]) -> Result<Vec<Tape>, Refused>
-    ensures { IfOk result (λ tapes. tapes.items ≡ map tape_of_record records.now) }
-{
-    let mut tapes = Vec::with_capacity(alloc, records.len())?;
-    for record in records {
-        tapes.push(tape_of(alloc, record)?)?;
+        let record = finished(book);
+        tapes.push(tape_of(alloc, &record)?)?;
     }
     Ok(tapes)
 }
