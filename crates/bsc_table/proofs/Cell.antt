@@ -6,4 +6,5 @@ pub mod HandedOver
 pub mod Places
 pub mod PlanOfTable
 pub mod RoomForNew
+pub mod TableByPair
 pub mod WithEntry

@@ -7,10 +7,9 @@ use Rattle.std.specs.Option.{option_map}
 use Rattle.scheduler.specs.Air.{Air}
 use Rattle.scheduler.specs.Follows.{Follows}
 use Rattle.bsc_table.specs.declared.entry.Aired.{Aired}
-use Rattle.bsc_table.specs.declared.accepted.AcceptedMessage.{AcceptedMessage}
 use Rattle.bsc_table.specs.declared.book.CellBook.TheInside.{Inside}
 use Rattle.bsc_table.specs.declared.record.CellRecord.TheInside as run
-use Rattle.bsc_table.specs.Record.{Record, Accepted, accepted_in, messages_in, claims_in, rank_of}
+use Rattle.bsc_table.specs.Record.{Record, accepted_in, messages_in, claims_in}
 use Rattle.bsc_table.specs.Claim.{Claim, own_load, end_of, is_claimed_at}
 use Rattle.bsc_table.specs.Legal.{IsLegal}
 
@@ -29,25 +28,6 @@ record_of b = record {
   clock = b.clock;
   log = b.log.items;
   air = air_pairs b.air.items;
-}
-
--- an accepted message as it is kept
-abbrev pub accepted_of : AcceptedMessage → Accepted
-accepted_of k = record {
-  id = k.id;
-  serial = k.serial;
-  accepted = k.accepted;
-  behind = k.behind;
-  excess = k.excess;
-  message = record {
-    entry = k.entry;
-    start = k.start;
-    pages = k.pages;
-    period = k.period;
-    broadcasts = k.broadcasts;
-    stop = k.stop;
-    rank = rank_of k.category;
-  };
 }
 
 -- what a claim's reservation of a budget waits for at a slot: up to its start, the end of the one behind which it waits
@@ -75,7 +55,7 @@ reservations_at slot claims = map (reservation_for slot) (filter (is_claimed_at 
 pub record IsBook (b : Inside) : Type 0 where
   pub legal : IsLegal (record_of b)
   pub short : b.slots ≤ 65535
-  pub kept : map accepted_of b.accepted.items ≡ accepted_in b.log.items
+  pub kept : b.accepted.all ≡ accepted_in b.log.items
   pub follows : Follows b.plan (messages_in b.log.items) (air_pairs b.air.items)
   pub held : b.budget ≡ reservations_at b.clock (claims_in b.log.items)
   pub places : vec_len b.air ≡ b.clock

@@ -15,3 +15,5 @@ pub mod Handover
 pub mod Room
 pub mod Begun
 pub mod Steps
+pub mod Accepted
+pub mod Table

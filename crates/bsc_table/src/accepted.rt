@@ -1,16 +1,14 @@
 //! What a cell's book keeps of the messages that it accepted.
 
-ghost use Rattle.std.specs.Prelude.{◌≡◌, ◌<◌, ◌==◌, ◌&&◌, if◌then◌else◌, Some, None, IfSome, map};
-ghost use Rattle.std.specs.List.{find};
+ghost use Rattle.std.specs.Prelude.{◌≡◌, ◌<◌, ◌==◌, if◌then◌else◌, Some, None, IfSome};
 ghost use Rattle.std.specs.Option.{option_map};
 ghost use Rattle.admission.specs.Load.{load_of};
 ghost use Rattle.admission.specs.Reservation.{natural_end, end_of_stopped};
 ghost use Rattle.scheduler.specs.Follows.{message_from};
-ghost use Rattle.scheduler.specs.Air.{layer};
-ghost use Rattle.bsc_table.specs.Record.{is_of_pair, is_live, state_at, claim_of};
+ghost use Rattle.bsc_table.specs.Record.{is_live, state_at, claim_of};
 ghost use Rattle.bsc_table.specs.Handover.{ahead_of, place_before};
 ghost use Rattle.bsc_table.specs.declared.accepted.TheConstants.{LATEST_START};
-ghost use Rattle.bsc_table.specs.Book.{accepted_of};
+ghost use Rattle.bsc_table.specs.Accepted.{accepted_of};
 ghost use Rattle.bsc_table.specs.BookSteps.{accepted_stopped, place_of, stopped_end};
 
 use crate::command::Category;
@@ -197,39 +195,5 @@ impl AcceptedMessage {
         } else {
             self
         }
-    }
-}
-
-/// The message of a pair, if one was accepted.
-pub fn named(table: &[AcceptedMessage], id: u16, serial: Serial) -> Option<AcceptedMessage>
-    ensures { option_map accepted_of result ≡ find (is_of_pair id serial) (map accepted_of table.now) }
-{
-    for message in table {
-        if message.id == id && message.serial == serial {
-            return Some(*message);
-        }
-    }
-    None
-}
-
-/// The message of a number that reserves, if there is one: that isn't background.
-pub fn reserved(table: &[AcceptedMessage], entry: u16) -> Option<AcceptedMessage>
-    ensures { option_map accepted_of result
-        ≡ find (λ a. (a.message.entry == entry) && (layer a.message == 0)) (map accepted_of table.now) }
-{
-    for message in table {
-        if message.entry == entry && !message.category.is_background() {
-            return Some(*message);
-        }
-    }
-    None
-}
-
-/// Stops the message of this number before `slot`.
-pub fn stop(table: &mut [AcceptedMessage], entry: u16, slot: u16)
-    ensures { table.new ≡ map (accepted_stopped entry slot) table.old }
-{
-    for message in table.iter_mut() {
-        *message = message.stopped_if(entry, slot);
     }
 }

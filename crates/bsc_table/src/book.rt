@@ -20,7 +20,8 @@ ghost use Rattle.bsc_table.specs.Orders.{IsWellFormed};
 ghost use Rattle.bsc_table.specs.Legal.{IsLegal};
 ghost use Rattle.bsc_table.specs.Promised.{IsServed, IsBounded};
 ghost use Rattle.bsc_table.specs.Steps.{opened, entry_by, with_entry, answered_with, IsPlayedUpTo, Ask, Play, IsStep};
-ghost use Rattle.bsc_table.specs.Book.{accepted_of, air_pairs, reservation_for};
+ghost use Rattle.bsc_table.specs.Accepted.{accepted_of};
+ghost use Rattle.bsc_table.specs.Book.{air_pairs, reservation_for};
 ghost use Rattle.bsc_table.specs.BookSteps.{IsGoneTo, IsNotLive, IsLiveAs, IsLiveIn, IsNext, IsStop, IsStart};
 ghost use Rattle.bsc_table.specs.BookSteps.{IsReplacement, IsOffered, IsRoom, IsLater, Decides, DecidesWrites};
 ghost use Rattle.bsc_table.specs.BookSteps.{decided_answer, cause_of, left_by, place_of, HasRoomFor};
@@ -29,11 +30,12 @@ ghost use Rattle.admission.specs.Reservation.{end_of_stopped};
 ghost use Rattle.admission.specs.Waiting.{behind_of};
 ghost use Rattle.admission.specs.Table.{ends_at, passed};
 
-use crate::accepted::{self, AcceptedMessage, Place};
+use crate::accepted::{AcceptedMessage, Place};
 use crate::command::{Command, Refused};
 use crate::decision::Decision;
 use crate::entry::{Aired, Answer, Entry, SlotRange, State};
 use crate::record::CellRecord;
+use crate::table::Table;
 use admission::{Budget, NoRoom};
 use cbs_page::Serial;
 use cbsp_wire::{Cell, cause};
@@ -54,7 +56,7 @@ pub struct CellBook {
     clock: u16,
     log: Vec<Entry>,
     air: Vec<Option<Aired>>,
-    accepted: Vec<AcceptedMessage>,
+    accepted: Table,
     plan: Plan,
     budget: Budget,
 }
@@ -88,7 +90,7 @@ impl CellBook {
             clock: 0,
             log: Vec::new(alloc),
             air,
-            accepted: Vec::new(alloc),
+            accepted: Table::new(alloc),
             plan: Plan::new(alloc),
             budget: Budget::new(),
         })
@@ -264,7 +266,7 @@ impl CellBook {
         ensures refused { OnErr result (self.new ≡ self.old) }
     {
         self.log.reserve(1)?;
-        accepted::stop(self.accepted.as_mut_slice(), old.entry, self.clock);
+        self.accepted.stop(old.entry, self.clock);
         let _ = self.plan.stop(old.entry, self.clock);
         release(&mut self.budget, old, self.clock);
         self.log.push_reserved(entry);
@@ -279,10 +281,10 @@ impl CellBook {
         ensures refused { OnErr result (self.new ≡ self.old) }
     {
         self.log.reserve(1)?;
-        self.accepted.reserve(1)?;
+        self.accepted.reserve()?;
         self.plan.add(new.item())?;
         reserve_for(&mut self.budget, &new, self.clock);
-        self.accepted.push_reserved(new);
+        self.accepted.push(new);
         self.log.push_reserved(entry);
         Ok(())
     }
@@ -301,13 +303,13 @@ impl CellBook {
         ensures refused { OnErr result (self.new ≡ self.old) }
     {
         self.log.reserve(1)?;
-        self.accepted.reserve(1)?;
+        self.accepted.reserve()?;
         self.plan.add(new.item())?;
-        accepted::stop(self.accepted.as_mut_slice(), old.entry, self.clock);
+        self.accepted.stop(old.entry, self.clock);
         let _ = self.plan.stop(old.entry, self.clock);
         release(&mut self.budget, old, self.clock);
         reserve_for(&mut self.budget, &new, self.clock);
-        self.accepted.push_reserved(new);
+        self.accepted.push(new);
         self.log.push_reserved(entry);
         Ok(())
     }
@@ -316,7 +318,7 @@ impl CellBook {
     fn named(&self, id: u16, serial: Serial) -> Option<AcceptedMessage>
         ensures { option_map accepted_of result ≡ find (is_of_pair id serial) (accepted_in self.now.log) }
     {
-        accepted::named(self.accepted.as_slice(), id, serial)
+        self.accepted.named(id, serial)
     }
 
     /// How many broadcasts of a message were completed before the clock's slot.
@@ -530,7 +532,7 @@ impl CellBook {
             return None;
         }
         let entry = old.ahead_at(self.clock)?;
-        let ahead = accepted::reserved(self.accepted.as_slice(), entry)?;
+        let ahead = self.accepted.reserved(entry)?;
         let stopped = ahead.stopped_if(old.entry, self.clock);
         stopped.place_behind(self.clock, load)
     }

@@ -12,6 +12,7 @@ pub mod entry;
 mod laws;
 mod orders;
 pub mod record;
+mod table;
 
 pub use book::CellBook;
 pub use command::{Category, Command, Refused};

@@ -17,7 +17,7 @@ use Rattle.bsc_table.specs.Record.{Record, Accepted, accepted_in, is_of_pair, ra
 use Rattle.bsc_table.specs.Record.{is_background, place_after, behind_of, excess_over, write_message}
 use Rattle.bsc_table.specs.Legal.{IsLegal}
 use Rattle.bsc_table.specs.Begun.{StartsNow, Starts, IsBegun}
-use Rattle.bsc_table.specs.Book.{accepted_of}
+use Rattle.bsc_table.specs.Accepted.{accepted_of}
 use Rattle.bsc_table.specs.BookSteps.{stop_numbered, IsLiveIn, IsLiveAs, IsOffered, HasRoom, Decides, DecidesWrites}
 use Rattle.bsc_table.specs.BookSteps.{place_of, left_by}
 use Rattle.bsc_table.proofs.History.Pairs.{live_is_standing}

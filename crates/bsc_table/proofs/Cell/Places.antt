@@ -14,7 +14,7 @@ use Rattle.bsc_table.specs.Record.{Record, Accepted, accepted_in, claim_of, clai
 use Rattle.bsc_table.specs.Claim.{Claim, end_of, stop_claim, stop_claims}
 use Rattle.bsc_table.specs.Handover.{Place, ahead_of, numbered, place_before, place_behind, handover}
 use Rattle.bsc_table.specs.Legal.{IsLegal}
-use Rattle.bsc_table.specs.Book.{accepted_of}
+use Rattle.bsc_table.specs.Accepted.{accepted_of}
 use Rattle.bsc_table.specs.BookSteps.{accepted_stopped, stopped_end, IsLiveIn, left_by}
 use Rattle.bsc_table.proofs.Room.Ahead.{taken, by_number}
 use Rattle.bsc_table.proofs.History.Pairs.{find_passes}

@@ -1,11 +1,12 @@
 -- A book with one more entry: its record, its messages, and what its plan and budget hold of them.
-use Rattle.std.proofs.Common.{◌≡◌, ◌≢◌, ℕ, ◌≤◌, ◌<◌, ◌==◌, Bool, true, false, not, cond, Option, Some, None, List, []}
+use Rattle.std.proofs.Common.{◌≡◌, ◌≢◌, ℕ, zero, suc, arith, ◌≤◌, ◌<◌, ◌==◌, Bool, true, false, not, cond, Option, Some, None, List, []}
 use Rattle.std.proofs.Common.{◌∷◌, ◌++◌, length, map, filter, get_or, refl, ap, sym, subst, ◌∙◌}
-use Rattle.std.specs.List.{All, Any, Contains}
+use Rattle.std.specs.List.{All, AllPairs, Any, Contains}
 use Rattle.std.specs.Global.{Vec}
-use Rattle.std.specs.Vec.{vec_len, with_items}
 use Rattle.std.proofs.lemmas.Bool.{lt-leb, eq-eqb, ne_eqb, cond-false, false≢true}
-use Rattle.std.proofs.lemmas.List.{append-nil, map-append, length-map, with_items_is}
+use Rattle.std.proofs.lemmas.List.{append-nil, map-append, length_push}
+use Rattle.std.proofs.Math.ListN.{get_or-append}
+use Rattle.std.proofs.Math.Seq.{get_or-append_seam}
 use Rattle.std.proofs.lemmas.List.Elements.{Contains-append_left, All-map, All-filter, All-contains}
 use Rattle.admission.specs.declared.budget.Held.{Held}
 use Rattle.admission.specs.Reservation.{end_of_stopped}
@@ -14,23 +15,24 @@ use Rattle.admission.specs.Table.{ends_at, passed}
 use Rattle.scheduler.specs.Message.{ScheduledMessage, stopped_if, stopped_at}
 use Rattle.scheduler.specs.Air.{Air, layer}
 use Rattle.scheduler.specs.Follows.{PlanState, messages_of, Follows}
-use Rattle.bsc_table.specs.declared.accepted.AcceptedMessage.{AcceptedMessage}
 use Rattle.bsc_table.specs.declared.book.CellBook.TheInside.{Inside}
 use Rattle.bsc_table.specs.declared.entry.Answer.{Answer}
 use Rattle.bsc_table.specs.declared.entry.Entry.{Entry}
-use Rattle.bsc_table.specs.Record.{Record, Accepted, accepted_in, messages_in, is_live, claim_of, claims_of, claims_in}
+use Rattle.bsc_table.specs.Record.{Record, Accepted, accepted_in, messages_in, is_of_pair, is_live, claim_of, claims_of}
+use Rattle.bsc_table.specs.Record.{claims_in}
 use Rattle.bsc_table.specs.Claim.{Claim, reserves, is_claimed_at, stop_claim, stop_claims}
 use Rattle.bsc_table.specs.Answer.{answer_with_room, answer_of}
 use Rattle.bsc_table.specs.Legal.{IsLegal}
 use Rattle.bsc_table.specs.Room.{AreInOrder}
 use Rattle.bsc_table.specs.Begun.{IsBegun}
-use Rattle.bsc_table.specs.Book.{accepted_of, air_pairs, record_of}
-use Rattle.bsc_table.specs.BookSteps.{accepted_stopped, stop_numbered, IsLiveIn, IsNext}
+use Rattle.bsc_table.specs.Accepted.{TableState}
+use Rattle.bsc_table.specs.Book.{air_pairs, record_of}
+use Rattle.bsc_table.specs.BookSteps.{stop_numbered, IsLiveIn, IsNext}
 use Rattle.bsc_table.specs.Steps.{with_entry}
 use Rattle.bsc_table.specs.Book.{IsBook, reservation_for, reservations_at}
 use Rattle.bsc_table.specs.BookSteps.{left_by}
-use Rattle.bsc_table.proofs.History.Pairs.{live_is_standing}
-use Rattle.bsc_table.proofs.History.EntryNumbers.{numbers_below}
+use Rattle.bsc_table.proofs.History.Pairs.{OfAnotherPair, BelowIt, live_is_standing}
+use Rattle.bsc_table.proofs.History.EntryNumbers.{numbers_rise, numbers_below}
 use Rattle.bsc_table.proofs.History.NextEntry.{entry_with, messages_stopped, claims_stopped}
 use Rattle.bsc_table.proofs.History.LegalWithEntry.{IsLegal-entry, Contains-message}
 use Rattle.bsc_table.proofs.History.Ranks.{all_claims, its_claim, same_claim, same_claims, claims_more}
@@ -70,20 +72,6 @@ pub messages_without : (log : List Entry) (e : Entry) (entry slot : ℕ)
     → messages_in (log ++ e ∷ []) ≡ stopped_at entry slot (messages_in log)
 messages_without log e entry slot after =
     ap (map (λ (x : Accepted). x.message)) after ∙ messages_stopped entry slot (accepted_in log)
-
--- what is kept, stopped as the accepted messages are
-pub kept_stop : (entry slot : ℕ) (kept : List AcceptedMessage)
-    → map accepted_of (map (accepted_stopped entry slot) kept) ≡ map (stop_numbered entry slot) (map accepted_of kept)
-kept_stop entry slot [] = refl
-kept_stop entry slot (k ∷ kept) =
-    ap (λ (l : List Accepted). accepted_of (accepted_stopped entry slot k) ∷ l) (kept_stop entry slot kept)
-
--- and with one more
-pub kept_more : (kept : List AcceptedMessage) (new : AcceptedMessage) (all : List Accepted)
-    → map accepted_of kept ≡ all
-    → map accepted_of (kept ++ new ∷ []) ≡ all ++ accepted_of new ∷ []
-kept_more kept new all same =
-    map-append accepted_of kept (new ∷ []) ∙ ap (λ (l : List Accepted). l ++ accepted_of new ∷ []) same
 
 -- a plan's numbers are below the length of the log
 pub planned_below : (plan : PlanState) (log : List Entry) (air : Air)
@@ -200,18 +188,6 @@ pub item_message : (m : ScheduledMessage) (told : ScheduledMessage) → told ≡
 item_message m told same standing =
     same ∙ ap (λ (stop : Option ℕ). record m { stop = stop }) (sym standing)
 
--- a table in whose items a message was stopped in place
-pub table_stopped : (table : Vec AcceptedMessage) (seen after : List AcceptedMessage) (entry slot : ℕ)
-    → seen ≡ table.items
-    → length seen ≡ vec_len table
-    → after ≡ map (accepted_stopped entry slot) seen
-    → map accepted_of (with_items table after).items ≡ map (stop_numbered entry slot) (map accepted_of table.items)
-table_stopped table seen after entry slot same long stopped =
-    let length_is : length after ≡ vec_len table = ap length stopped ∙ length-map seen (accepted_stopped entry slot)
-    ∙ long in
-    let items = with_items_is table after length_is ∙ stopped ∙ ap (map (accepted_stopped entry slot)) same in
-    ap (map accepted_of) items ∙ kept_stop entry slot table.items
-
 -- the claims are in order where a live message is stopped
 pub left_in_order : (r : Record) (a : Accepted) → IsLegal r → IsLiveIn r a → AreInOrder (left_by r a) r.clock
 left_in_order r a legal live =
@@ -310,20 +286,51 @@ begun_reservations entry slot replaced before claims a begun held after same fal
         reservations_at-new slot claims (claim_of a) (new_is_claimed slot (claim_of a) begun.accepted
         (starts_forward slot replaced before a begun.starts) begun.some_period begun.standing)
 
+-- numbers that rise have room below the length of the log
+few_numbers : (n : ℕ) (all : List Accepted) → AllPairs BelowIt all → All (λ a. a.message.entry < n) all
+    → length all ≤ n
+few_numbers n [] rising below = omega arith
+few_numbers n (a ∷ all) rising below =
+    let last = at_least (length all) (omega arith) in
+    omega (arith, last, below (length all) a (omega arith))
+  where
+    at_least : (k : ℕ) → k < length (a ∷ all) → k ≤ (get_or (a ∷ all) k a).message.entry
+    at_least zero h = omega arith
+    at_least (suc k) h =
+        let lower = at_least k (omega (arith, h)) in
+        omega (arith, lower, rising k (suc k) a (omega arith) h)
+
+-- so a log has no more accepted messages than entries
+pub few_accepted : (log : List Entry) → length (accepted_in log) ≤ length log
+few_accepted log = few_numbers (length log) (accepted_in log) (numbers_rise log) (numbers_below log)
+
+-- none of those before it has the pair of a message that the next entry adds
+pub apart_from_new : (r : Record) (e : Entry) (all : List Accepted) (new : Accepted)
+    → IsLegal r
+    → IsNext r e
+    → accepted_in (r.log ++ e ∷ []) ≡ all ++ new ∷ []
+    → All (λ a. is_of_pair a.id a.serial new ≡ false) all
+apart_from_new r e all new legal next after = λ k d h.
+    let once = subst (AllPairs OfAnotherPair) after (IsSound-legal (with_entry e r) (IsLegal-with r e legal next)).once in
+    let apart = once k (length all) d h (omega (arith, length_push all new)) in
+    let First : Accepted → Type 0 = λ a. OfAnotherPair a new in
+    let Second : Accepted → Type 0 = λ b. OfAnotherPair (get_or (all ++ new ∷ []) k d) b in
+    subst First (get_or-append all (new ∷ []) d k h) (subst Second (get_or-append_seam all new [] d) apart)
+
 -- a book whose log has the entry that was to come next, and whose table, plan and budget are those of the messages with
 -- it
-pub book_with : (b : Inside) (e : Entry) (log : Vec Entry) (accepted : Vec AcceptedMessage) (plan : PlanState)
+pub book_with : (b : Inside) (e : Entry) (log : Vec Entry) (accepted : TableState) (plan : PlanState)
     (budget : List Held)
     → IsBook b
     → IsNext (record_of b) e
     → log.items ≡ b.log.items ++ e ∷ []
-    → map accepted_of accepted.items ≡ accepted_in (b.log.items ++ e ∷ [])
+    → accepted.all ≡ accepted_in (b.log.items ++ e ∷ [])
     → Follows plan (messages_in (b.log.items ++ e ∷ [])) (air_pairs b.air.items)
     → budget ≡ reservations_at b.clock (claims_in (b.log.items ++ e ∷ []))
     → IsBook (record b { log = log; accepted = accepted; plan = plan; budget = budget })
 book_with b e log accepted plan budget book next grown kept follows held =
     let Legal : List Entry → Type 0 = λ l. IsLegal (record (record_of b) { log = l }) in
-    let KeptBy : List Entry → Type 0 = λ l. map accepted_of accepted.items ≡ accepted_in l in
+    let KeptBy : List Entry → Type 0 = λ l. accepted.all ≡ accepted_in l in
     let FollowsLog : List Entry → Type 0 = λ l. Follows plan (messages_in l) (air_pairs b.air.items) in
     let HeldBy : List Entry → Type 0 = λ l. budget ≡ reservations_at b.clock (claims_in l) in
     record {

@@ -2,7 +2,8 @@ use Rattle.std.proofs.Common.{◌≡◌, subst, sym}
 use Rattle.std.specs.List.{Contains}
 use Rattle.scheduler.specs.Completed.{completed}
 use Rattle.bsc_table.specs.Record.{Record, Accepted, accepted_in, messages_in}
-use Rattle.bsc_table.specs.Book.{accepted_of, record_of}
+use Rattle.bsc_table.specs.Accepted.{accepted_of}
+use Rattle.bsc_table.specs.Book.{record_of}
 use Rattle.bsc_table.proofs.Cell.PlanOfTable.{known_to_plan, completed_of_it}
 use Rattle.bsc_table.proofs.book.CellBook.completed.Goals as goal
 

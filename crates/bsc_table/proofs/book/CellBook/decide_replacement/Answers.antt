@@ -6,7 +6,7 @@ use Rattle.bsc_table.specs.declared.accepted.AcceptedMessage.{AcceptedMessage}
 use Rattle.bsc_table.specs.declared.accepted.Place.{Place}
 use Rattle.bsc_table.specs.Record.{place_after}
 use Rattle.bsc_table.specs.declared.accepted.TheConstants.{LATEST_START}
-use Rattle.bsc_table.specs.Book.{accepted_of}
+use Rattle.bsc_table.specs.Accepted.{accepted_of}
 use Rattle.bsc_table.specs.BookSteps.{HasRoom, DecidesWrites, IsLater, place_of, left_by}
 use Rattle.bsc_table.proofs.Cell.PlanOfTable.{few_places}
 use Rattle.bsc_table.proofs.Cell.Decisions.{live_in, replaces, takes_over}

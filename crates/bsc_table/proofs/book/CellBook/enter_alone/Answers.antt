@@ -3,7 +3,7 @@ use Rattle.scheduler.specs.Follows.{Follows}
 use Rattle.bsc_table.specs.declared.entry.Entry.{Entry}
 use Rattle.bsc_table.specs.Record.{Record, Accepted, accepted_in, claims_of}
 use Rattle.bsc_table.specs.Legal.{IsLegal}
-use Rattle.bsc_table.specs.Book.{accepted_of, record_of, reservations_at}
+use Rattle.bsc_table.specs.Book.{record_of, reservations_at}
 use Rattle.bsc_table.specs.BookSteps.{IsNext}
 use Rattle.bsc_table.proofs.History.Refusals.{refusals_change_nothing}
 use Rattle.bsc_table.proofs.Cell.WithEntry.{IsLegal-with}
@@ -20,7 +20,7 @@ invariant_of-self-2 c =
     let same = refusals_change_nothing r.log e c.requires.noted in
     let grown = sym (c.push_reserved.ensures.items ∙ ap (λ (l : List Entry). l ++ e ∷ []) c.reserve.ensures.items) in
     let Legal : List Entry → Type 0 = λ log. IsLegal (record r { log = log }) in
-    let Kept : List Accepted → Type 0 = λ all. map accepted_of c.self.inside.accepted.items ≡ all in
+    let Kept : List Accepted → Type 0 = λ all. c.self.inside.accepted.all ≡ all in
     let FollowsThem : List Accepted → Type 0 = λ all. Follows c.self.inside.plan
     (map (λ (a : Accepted). a.message) all) r.air in
     let Holds : List Accepted → Type 0 = λ all. c.self.inside.budget ≡ reservations_at r.clock (claims_of all) in

@@ -1,18 +1,21 @@
-use Rattle.std.proofs.Common.{◌≡◌, ◌<◌, None, List, [], ◌∷◌, ◌++◌, length, map, subst, sym, ap, ◌∙◌, arith}
+use Rattle.std.proofs.Common.{◌≡◌, ◌<◌, false, None, List, [], ◌∷◌, ◌++◌, length, subst, sym, ap, ◌∙◌, arith}
 use Rattle.std.specs.List.{All}
 use Rattle.admission.specs.declared.budget.Held.{Held}
 use Rattle.scheduler.specs.Message.{ScheduledMessage}
 use Rattle.scheduler.specs.Follows.{Follows, message_from}
 use Rattle.bsc_table.specs.declared.entry.Entry.{Entry}
-use Rattle.bsc_table.specs.declared.accepted.AcceptedMessage.{AcceptedMessage}
 use Rattle.bsc_table.specs.Record.{Record, Accepted, accepted_in, messages_in, claim_of, claims_in, is_background}
+use Rattle.bsc_table.specs.Record.{is_of_pair}
 use Rattle.bsc_table.specs.Claim.{Claim}
-use Rattle.bsc_table.specs.Book.{accepted_of, record_of, reservations_at}
+use Rattle.bsc_table.specs.Accepted.{accepted_of}
+use Rattle.bsc_table.specs.Book.{record_of, reservations_at}
 use Rattle.bsc_table.specs.BookSteps.{HasRoomFor, IsNext, IsStart}
 use Rattle.bsc_table.proofs.Cell.RoomForNew.{room_for_new}
 use Rattle.bsc_table.proofs.History.LegalIsSound.{IsSound-legal}
 use Rattle.bsc_table.proofs.History.Ranks.{in_front, layer_tells}
-use Rattle.bsc_table.proofs.Cell.WithEntry.{book_with, messages_with, kept_more, planned_below, held_below}
+use Rattle.bsc_table.proofs.Cell.WithEntry.{book_with, messages_with, planned_below, held_below, few_accepted}
+use Rattle.bsc_table.proofs.Cell.WithEntry.{apart_from_new}
+use Rattle.bsc_table.proofs.History.EntryNumbers.{numbers_below}
 use Rattle.bsc_table.proofs.Cell.WithEntry.{item_message, begun_reservations, claims_with}
 use Rattle.bsc_table.proofs.book.CellBook.enter_new.Goals as goal
 
@@ -52,6 +55,35 @@ reserve_for-requires-clause-room c =
     λ is. subst Room (sym c.self.invariant.held) (room_for_new (length r.log) r.clock (accepted_in r.log) new
     (IsSound-legal r c.self.invariant.legal).order start.begun (in_front c.args.new.category is))
 
+pub push-requires-clause-few : goal.push-requires-clause-few
+push-requires-clause-few c =
+    let r : Record = record_of c.self.inside in
+    let Next : Record → Type 0 = λ x. IsNext x c.args.entry in
+    let next = subst Next (sym c.self.view_is) c.requires.next in
+    let same = ap length (c.reserve-2.ensures.same ∙ c.self.invariant.kept) in
+    omega (arith, same, few_accepted r.log, next.room)
+
+pub push-requires-clause-rising : goal.push-requires-clause-rising
+push-requires-clause-rising c =
+    let r : Record = record_of c.self.inside in
+    let Starts : Record → Type 0 = λ x. IsStart x c.args.entry (accepted_of c.args.new) in
+    let start = subst Starts (sym c.self.view_is) c.requires.start in
+    let Below : List Accepted → Type 0 = λ l. All (λ (a : Accepted). a.message.entry < length r.log) l in
+    let below = subst Below (sym (c.reserve-2.ensures.same ∙ c.self.invariant.kept)) (numbers_below r.log) in
+    λ k d h. omega (arith, below k d h, start.begun.numbered)
+
+pub push-requires-clause-apart : goal.push-requires-clause-apart
+push-requires-clause-apart c =
+    let r : Record = record_of c.self.inside in
+    let new : Accepted = accepted_of c.args.new in
+    let Next : Record → Type 0 = λ x. IsNext x c.args.entry in
+    let Starts : Record → Type 0 = λ x. IsStart x c.args.entry new in
+    let next = subst Next (sym c.self.view_is) c.requires.next in
+    let start = subst Starts (sym c.self.view_is) c.requires.start in
+    let Apart : List Accepted → Type 0 = λ l. All (λ (a : Accepted). is_of_pair a.id a.serial new ≡ false) l in
+    subst Apart (sym (c.reserve-2.ensures.same ∙ c.self.invariant.kept)) (apart_from_new r c.args.entry
+    (accepted_in r.log) new c.self.invariant.legal next start.after)
+
 pub invariant_of-self-2 : goal.invariant_of-self-2
 invariant_of-self-2 c =
     let book = c.self.invariant in
@@ -68,11 +100,9 @@ invariant_of-self-2 c =
     let adds = start.after in
     let sound = IsSound-legal r book.legal in
     -- the log and what is kept
-    let grown = c.push_reserved-2.ensures.items ∙ ap (λ (l : List Entry). l ++ e ∷ []) c.reserve.ensures.items in
-    let kept = c.push_reserved.ensures.items ∙ ap (λ (l : List AcceptedMessage). l ++ c.args.new ∷ [])
-    c.reserve-2.ensures.items in
-    let more = ap (map accepted_of) kept ∙ kept_more c.self.inside.accepted.items c.args.new (accepted_in r.log)
-    book.kept ∙ sym adds in
+    let grown = c.push_reserved.ensures.items ∙ ap (λ (l : List Entry). l ++ e ∷ []) c.reserve.ensures.items in
+    let kept = c.push.ensures ∙ ap (λ (l : List Accepted). l ++ new ∷ []) (c.reserve-2.ensures.same ∙ book.kept)
+    ∙ sym adds in
     -- the plan
     let same_item = item_message new.message (message_from c.item.result) c.item.ensures may.standing in
     let messages = messages_with r.log e (accepted_in r.log) new adds in
@@ -85,6 +115,6 @@ invariant_of-self-2 c =
     (layer_tells c.args.new.category) c.reserve_for.ensures in
     let FollowsAll : List ScheduledMessage → Type 0 = λ all. Follows c.add.new.self all r.air in
     let HeldFor : List Claim → Type 0 = λ all. c.reserve_for.new.budget ≡ reservations_at r.clock all in
-    book_with c.self.inside e c.push_reserved-2.new.self c.push_reserved.new.self c.add.new.self
+    book_with c.self.inside e c.push_reserved.new.self c.push.new.self c.add.new.self
     c.reserve_for.new.budget
-    book next grown more (subst FollowsAll (sym messages) follows) (subst HeldFor (sym claims) reservations)
+    book next grown kept (subst FollowsAll (sym messages) follows) (subst HeldFor (sym claims) reservations)

@@ -1,26 +1,28 @@
 use Rattle.std.proofs.Common.{◌≡◌, ◌≢◌, ◌<◌, ℕ, Some, List, [], ◌∷◌, ◌++◌, length, map, filter, subst, sym, ap, ◌∙◌}
-use Rattle.std.proofs.Common.{arith}
-use Rattle.std.specs.Vec.{with_items}
+use Rattle.std.proofs.Common.{arith, false}
 use Rattle.std.specs.List.{All, Any}
-use Rattle.std.proofs.lemmas.List.Elements.{All-contains}
+use Rattle.std.proofs.lemmas.List.{length-map}
+use Rattle.std.proofs.lemmas.List.Elements.{All-contains, All-map}
 use Rattle.admission.specs.declared.budget.Held.{Held}
 use Rattle.admission.specs.Waiting.{behind_of}
 use Rattle.scheduler.specs.Message.{ScheduledMessage, stopped_at}
 use Rattle.scheduler.specs.Follows.{Follows, messages_of, message_from}
 use Rattle.bsc_table.specs.declared.entry.Entry.{Entry}
-use Rattle.bsc_table.specs.declared.accepted.AcceptedMessage.{AcceptedMessage}
 use Rattle.bsc_table.specs.Record.{Record, Accepted, accepted_in, messages_in, claim_of, claims_in, is_background}
+use Rattle.bsc_table.specs.Record.{is_of_pair}
 use Rattle.bsc_table.specs.Claim.{Claim, reserves, stop_claims}
-use Rattle.bsc_table.specs.Book.{accepted_of, record_of, reservations_at}
+use Rattle.bsc_table.specs.Accepted.{accepted_of}
+use Rattle.bsc_table.specs.Book.{record_of, reservations_at}
 use Rattle.bsc_table.specs.BookSteps.{stop_numbered, HasRoomFor, IsNext, IsReplacement}
 use Rattle.bsc_table.proofs.History.NextEntry.{messages_stopped, claims_stopped}
 use Rattle.bsc_table.proofs.Cell.RoomForNew.{room_for_replacement}
 use Rattle.bsc_table.proofs.History.LegalIsSound.{HasLoad, IsSound-legal}
 use Rattle.bsc_table.proofs.History.Ranks.{in_front, layer_tells}
-use Rattle.bsc_table.proofs.Cell.WithEntry.{free_of, book_with, table_stopped, released_reservations, messages_with}
-use Rattle.bsc_table.proofs.Cell.WithEntry.{kept_more, planned_below, held_below_without, number_below, standing_in}
+use Rattle.bsc_table.proofs.Cell.WithEntry.{free_of, book_with, released_reservations, messages_with}
+use Rattle.bsc_table.proofs.Cell.WithEntry.{planned_below, held_below_without, number_below, standing_in}
 use Rattle.bsc_table.proofs.Cell.WithEntry.{standing_beside, held_in, item_message, begun_reservations, claims_with}
-use Rattle.bsc_table.proofs.Cell.WithEntry.{stopped_beside}
+use Rattle.bsc_table.proofs.Cell.WithEntry.{stopped_beside, few_accepted, apart_from_new}
+use Rattle.bsc_table.proofs.History.EntryNumbers.{numbers_below}
 use Rattle.bsc_table.proofs.book.CellBook.enter_replacement.Goals as goal
 
 pub add-requires-clause-rising : goal.add-requires-clause-rising
@@ -107,6 +109,45 @@ release-requires-clause-free c =
     λ is. subst Free (sym c.self.invariant.held) (free_of r old c.self.invariant.legal change.stops
     (in_front c.args.old.now.category is))
 
+pub push-requires-clause-few : goal.push-requires-clause-few
+push-requires-clause-few c =
+    let r : Record = record_of c.self.inside in
+    let entry : ℕ = c.args.old.now.entry in
+    let Next : Record → Type 0 = λ x. IsNext x c.args.entry in
+    let next = subst Next (sym c.self.view_is) c.requires.next in
+    let stopped = ap length (c.stop.ensures.all ∙ ap (map (stop_numbered entry r.clock)) (c.reserve-2.ensures.same
+    ∙ c.self.invariant.kept)) in
+    omega (arith, stopped, length-map (accepted_in r.log) (stop_numbered entry r.clock), few_accepted r.log, next.room)
+
+pub push-requires-clause-rising : goal.push-requires-clause-rising
+push-requires-clause-rising c =
+    let r : Record = record_of c.self.inside in
+    let entry : ℕ = c.args.old.now.entry in
+    let Replaces : Record → Type 0 = λ x. IsReplacement x c.args.entry (accepted_of c.args.old.now)
+    (accepted_of c.args.new) in
+    let change = subst Replaces (sym c.self.view_is) c.requires.replacement in
+    let stopped = c.stop.ensures.all ∙ ap (map (stop_numbered entry r.clock)) (c.reserve-2.ensures.same
+    ∙ c.self.invariant.kept) in
+    let Below : List Accepted → Type 0 = λ l. All (λ (a : Accepted). a.message.entry < length r.log) l in
+    let below = subst Below (sym stopped) (All-map (λ (a : Accepted). a.message.entry < length r.log)
+    (stop_numbered entry r.clock) (accepted_in r.log) (numbers_below r.log)) in
+    λ k d h. omega (arith, below k d h, change.begun.numbered)
+
+pub push-requires-clause-apart : goal.push-requires-clause-apart
+push-requires-clause-apart c =
+    let r : Record = record_of c.self.inside in
+    let entry : ℕ = c.args.old.now.entry in
+    let new : Accepted = accepted_of c.args.new in
+    let Next : Record → Type 0 = λ x. IsNext x c.args.entry in
+    let Replaces : Record → Type 0 = λ x. IsReplacement x c.args.entry (accepted_of c.args.old.now) new in
+    let next = subst Next (sym c.self.view_is) c.requires.next in
+    let change = subst Replaces (sym c.self.view_is) c.requires.replacement in
+    let stopped = c.stop.ensures.all ∙ ap (map (stop_numbered entry r.clock)) (c.reserve-2.ensures.same
+    ∙ c.self.invariant.kept) in
+    let Apart : List Accepted → Type 0 = λ l. All (λ (a : Accepted). is_of_pair a.id a.serial new ≡ false) l in
+    subst Apart (sym stopped) (apart_from_new r c.args.entry (map (stop_numbered entry r.clock) (accepted_in r.log)) new
+    c.self.invariant.legal next change.after)
+
 pub invariant_of-self-2 : goal.invariant_of-self-2
 invariant_of-self-2 c =
     let book = c.self.invariant in
@@ -127,14 +168,9 @@ invariant_of-self-2 c =
     let sound = IsSound-legal r book.legal in
     let same = messages_stopped entry r.clock (accepted_in r.log) in
     -- the log and what is kept
-    let grown = c.push_reserved-2.ensures.items ∙ ap (λ (l : List Entry). l ++ e ∷ []) c.reserve.ensures.items in
-    let room = c.reserve-2.new.self in
-    let stopped = table_stopped room c.as_mut_slice.result.now c.stop.new.table entry r.clock
-    c.as_mut_slice.ensures.value c.as_mut_slice.ensures.len c.stop.ensures
-    ∙ ap (λ (l : List AcceptedMessage). map (stop_numbered entry r.clock) (map accepted_of l)) c.reserve-2.ensures.items
-    ∙ ap (map (stop_numbered entry r.clock)) book.kept in
-    let kept = ap (map accepted_of) c.push_reserved.ensures.items
-    ∙ kept_more (with_items room c.stop.new.table).items c.args.new rest stopped ∙ sym change.after in
+    let grown = c.push_reserved.ensures.items ∙ ap (λ (l : List Entry). l ++ e ∷ []) c.reserve.ensures.items in
+    let stopped = c.stop.ensures.all ∙ ap (map (stop_numbered entry r.clock)) (c.reserve-2.ensures.same ∙ book.kept) in
+    let kept = c.push.ensures ∙ ap (λ (l : List Accepted). l ++ new ∷ []) stopped ∙ sym change.after in
     -- the plan
     let same_item = item_message new.message (message_from c.item.result) c.item.ensures may.standing in
     let messages = messages_with r.log e rest new change.after
@@ -157,6 +193,6 @@ invariant_of-self-2 c =
     c.reserve_for.new.budget released (is_background c.args.new.category) (layer_tells c.args.new.category)
     c.reserve_for.ensures in
     let HeldFor : List Claim → Type 0 = λ all. c.reserve_for.new.budget ≡ reservations_at r.clock all in
-    book_with c.self.inside e c.push_reserved-2.new.self c.push_reserved.new.self c.stop-2.new.self
+    book_with c.self.inside e c.push_reserved.new.self c.push.new.self c.stop-2.new.self
     c.reserve_for.new.budget book next grown kept (subst FollowsThese (sym messages) follows)
     (subst HeldFor (sym claims) reservations)

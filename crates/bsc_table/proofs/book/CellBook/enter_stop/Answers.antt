@@ -1,5 +1,4 @@
 use Rattle.std.proofs.Common.{◌≡◌, ◌≢◌, ℕ, Some, List, [], ◌∷◌, ◌++◌, map, subst, sym, ap, ◌∙◌}
-use Rattle.std.specs.Vec.{with_items}
 use Rattle.std.specs.List.{All, Any}
 use Rattle.std.proofs.lemmas.List.Elements.{All-contains}
 use Rattle.admission.specs.declared.budget.Held.{Held}
@@ -9,11 +8,12 @@ use Rattle.scheduler.specs.Follows.{Follows}
 use Rattle.bsc_table.specs.declared.entry.Entry.{Entry}
 use Rattle.bsc_table.specs.Record.{Record, Accepted, accepted_in, messages_in, is_background}
 use Rattle.bsc_table.specs.Claim.{Claim}
-use Rattle.bsc_table.specs.Book.{accepted_of, record_of, reservations_at}
+use Rattle.bsc_table.specs.Accepted.{accepted_of}
+use Rattle.bsc_table.specs.Book.{record_of, reservations_at}
 use Rattle.bsc_table.specs.BookSteps.{stop_numbered, IsNext, IsStop}
 use Rattle.bsc_table.proofs.History.LegalIsSound.{HasLoad, IsSound-legal}
 use Rattle.bsc_table.proofs.History.Ranks.{in_front, layer_tells}
-use Rattle.bsc_table.proofs.Cell.WithEntry.{messages_without, claims_without, free_of, table_stopped}
+use Rattle.bsc_table.proofs.Cell.WithEntry.{messages_without, claims_without, free_of}
 use Rattle.bsc_table.proofs.Cell.WithEntry.{released_reservations, book_with, standing_in, held_in}
 use Rattle.bsc_table.proofs.book.CellBook.enter_stop.Goals as goal
 
@@ -67,9 +67,7 @@ invariant_of-self-2 c =
     let stop = subst Stops (sym c.self.view_is) c.requires.stop in
     -- the log and what is kept
     let grown = c.push_reserved.ensures.items ∙ ap (λ (l : List Entry). l ++ e ∷ []) c.reserve.ensures.items in
-    let fewer = table_stopped c.self.inside.accepted c.as_mut_slice.result.now c.stop.new.table entry r.clock
-    c.as_mut_slice.ensures.value c.as_mut_slice.ensures.len c.stop.ensures
-    ∙ ap (map (stop_numbered entry r.clock)) book.kept ∙ sym stop.after in
+    let fewer = c.stop.ensures.all ∙ ap (map (stop_numbered entry r.clock)) book.kept ∙ sym stop.after in
     -- the plan and the budget
     let messages = messages_without r.log e entry r.clock stop.after in
     let follows = c.stop-2.ensures.follows (messages_in r.log) r.air book.follows in
@@ -79,6 +77,6 @@ invariant_of-self-2 c =
     let FollowsAll : List ScheduledMessage → Type 0 = λ all. Follows c.stop-2.new.self all r.air in
     let claims = claims_without r.log e entry r.clock stop.after in
     let HeldFor : List Claim → Type 0 = λ all. c.release.new.budget ≡ reservations_at r.clock all in
-    book_with c.self.inside e c.push_reserved.new.self (with_items c.self.inside.accepted c.stop.new.table)
+    book_with c.self.inside e c.push_reserved.new.self c.stop.new.self
     c.stop-2.new.self c.release.new.budget book next grown fewer (subst FollowsAll (sym messages) follows)
     (subst HeldFor (sym claims) reservations)

@@ -1,10 +1,11 @@
-use Rattle.std.proofs.Common.{◌≡◌, ◌<◌, ℕ, Bool, Some, None, List, map, subst, sym, ap, ◌∙◌}
+use Rattle.std.proofs.Common.{◌≡◌, ◌<◌, ℕ, Bool, Some, None, subst, sym, ap, ◌∙◌}
 use Rattle.std.specs.List.{find}
 use Rattle.std.specs.Option.{option_map}
 use Rattle.bsc_table.specs.declared.accepted.AcceptedMessage.{AcceptedMessage}
 use Rattle.bsc_table.specs.Record.{Record, Accepted, accepted_in, claim_of, place_after}
 use Rattle.bsc_table.specs.Handover.{ahead_of, place_before}
-use Rattle.bsc_table.specs.Book.{accepted_of, record_of}
+use Rattle.bsc_table.specs.Accepted.{accepted_of}
+use Rattle.bsc_table.specs.Book.{record_of}
 use Rattle.bsc_table.specs.BookSteps.{stopped_end, place_of, left_by, IsLiveIn}
 use Rattle.bsc_table.proofs.Cell.Places.{is_reserved_as, none_ahead, found_lasts, place_ahead, place_in_front}
 use Rattle.bsc_table.proofs.History.Ranks.{in_front}
@@ -17,8 +18,7 @@ returns-in_err-ahead-clause-place c =
     let entry : ℕ = c.in_ok-entry.entry in
     let p : Accepted → Bool = is_reserved_as entry in
     let ahead : ahead_of r.clock (claim_of old) ≡ Some entry = sym c.ahead_at.ensures ∙ c.in_ok-entry.was in
-    let table = ap (λ (l : List AcceptedMessage). find p (map accepted_of l)) c.as_slice.ensures.value
-    ∙ ap (find p) c.self.invariant.kept in
+    let table = ap (find p) c.self.invariant.kept in
     let found : find p (accepted_in r.log) ≡ None = sym table ∙ sym c.reserved.ensures
     ∙ ap (option_map accepted_of) c.in_err-ahead.was in
     let Over : Record → Type 0 = λ x. None ≡ place_after (left_by x old) x.clock old c.args.load in
@@ -32,8 +32,7 @@ place_behind-requires c =
     let r : Record = record_of c.self.inside in
     let entry : ℕ = c.in_ok-entry.entry in
     let p : Accepted → Bool = is_reserved_as entry in
-    let table = ap (λ (l : List AcceptedMessage). find p (map accepted_of l)) c.as_slice.ensures.value
-    ∙ ap (find p) c.self.invariant.kept in
+    let table = ap (find p) c.self.invariant.kept in
     let found : find p (accepted_in r.log) ≡ Some (accepted_of c.in_ok-ahead.ahead) = sym table
     ∙ sym c.reserved.ensures ∙ ap (option_map accepted_of) c.in_ok-ahead.was in
     let lasts = found_lasts r entry (accepted_of c.in_ok-ahead.ahead) c.self.invariant.legal found in
@@ -47,8 +46,7 @@ returns-clause-place c =
     let entry : ℕ = c.in_ok-entry.entry in
     let p : Accepted → Bool = is_reserved_as entry in
     let ahead : ahead_of r.clock (claim_of old) ≡ Some entry = sym c.ahead_at.ensures ∙ c.in_ok-entry.was in
-    let table = ap (λ (l : List AcceptedMessage). find p (map accepted_of l)) c.as_slice.ensures.value
-    ∙ ap (find p) c.self.invariant.kept in
+    let table = ap (find p) c.self.invariant.kept in
     let found : find p (accepted_in r.log) ≡ Some (accepted_of k) = sym table ∙ sym c.reserved.ensures
     ∙ ap (option_map accepted_of) c.in_ok-ahead.was in
     let live = subst (λ x. IsLiveIn x old) (sym c.self.view_is) c.requires in

@@ -6,7 +6,8 @@ use Rattle.admission.specs.Reservation.{end_of_stopped}
 use Rattle.admission.specs.Table.{answer_for, remaining_without, excess_over}
 use Rattle.bsc_table.specs.Record.{Record, Accepted, accepted_in, claim_of, claims_in, place_after}
 use Rattle.bsc_table.specs.Handover.{Place}
-use Rattle.bsc_table.specs.Book.{accepted_of, record_of, reservations_at}
+use Rattle.bsc_table.specs.Accepted.{accepted_of}
+use Rattle.bsc_table.specs.Book.{record_of, reservations_at}
 use Rattle.bsc_table.specs.BookSteps.{IsLiveIn, IsRoom, left_by, place_of}
 use Rattle.bsc_table.proofs.History.NextEntry.{taken_after}
 use Rattle.bsc_table.proofs.History.Ranks.{its_claim}

@@ -5,7 +5,8 @@ use Rattle.admission.specs.Reservation.{end_of_stopped}
 use Rattle.admission.specs.Table.{answer_for, remaining_without}
 use Rattle.bsc_table.specs.Claim.{stop_claims}
 use Rattle.bsc_table.specs.Record.{Record, Accepted, accepted_in, claims_in}
-use Rattle.bsc_table.specs.Book.{accepted_of, record_of}
+use Rattle.bsc_table.specs.Accepted.{accepted_of}
+use Rattle.bsc_table.specs.Book.{record_of}
 use Rattle.bsc_table.specs.BookSteps.{IsLiveIn, IsRoom}
 use Rattle.bsc_table.proofs.History.LegalIsSound.{HasLoad, IsSound-legal}
 use Rattle.bsc_table.proofs.Cell.PlanOfTable.{room_after_stop}

@@ -1,4 +1,4 @@
-use Rattle.bsc_table.specs.Book.{accepted_of}
+use Rattle.bsc_table.specs.Accepted.{accepted_of}
 use Rattle.bsc_table.proofs.Cell.PlanOfTable.{option_is_there}
 use Rattle.bsc_table.proofs.book.CellBook.status.Goals as goal
 

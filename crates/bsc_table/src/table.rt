@@ -1,0 +1,144 @@
+//! The table of the messages that a cell accepted. A message is found by its number, and by its pair of an identifier
+//! and a serial number, in as many steps as the number of messages has binary digits.
+
+ghost use Rattle.std.specs.Prelude.{◌≡◌, ℕ, ◌<◌, ◌==◌, ◌&&◌, ◌++◌, ◌∷◌, [], false, Some, None, All, OnOk, length, map};
+ghost use Rattle.std.specs.List.{find};
+ghost use Rattle.std.specs.Option.{option_map};
+ghost use Rattle.scheduler.specs.Air.{layer};
+ghost use Rattle.bsc_table.specs.Record.{is_of_pair};
+ghost use Rattle.bsc_table.specs.Accepted.{accepted_of};
+ghost use Rattle.bsc_table.specs.BookSteps.{stop_numbered};
+ghost use Rattle.bsc_table.specs.Table.{AreRisingMessages, AreRisingPairs, IsGapFor, IsPairFound, IsPlaceFound};
+
+use crate::accepted::AcceptedMessage;
+use crate::command::Refused;
+use cbs_page::Serial;
+use std::alloc::Global;
+use std::marker::Model;
+
+/// The pair of a message, with the place of the message in the table.
+#[derive(Clone, Copy)]
+pub struct Pair {
+    id: u16,
+    serial: u16,
+    place: u16,
+}
+
+/// The accepted messages in the order of their numbers, and their pairs in order beside them.
+///
+/// In clauses it is the messages, and for how many more there is room.
+#[derive(Drop)]
+pub struct Table {
+    messages: Vec<AcceptedMessage>,
+    by_pair: Vec<Pair>,
+}
+
+impl Model for Table {
+    ghost use Rattle.bsc_table.specs.Accepted.{TableState};
+
+    ghost Value = { TableState };
+
+    ghost use Rattle.bsc_table.specs.Table.{state_of, IsTable};
+
+    ghost view = { state_of };
+
+    ghost invariant = { IsTable };
+}
+
+impl Table {
+    /// A table of no message. It takes no memory.
+    pub fn new(alloc: Global) -> Table
+        ensures { result.all ≡ [] }
+    {
+        Table {
+            messages: Vec::new(alloc),
+            by_pair: Vec::new(alloc),
+        }
+    }
+
+    /// Takes room for one more message.
+    ///
+    /// # Errors
+    ///
+    /// `Refused` for want of memory.
+    pub fn reserve(&mut self) -> Result<(), Refused>
+        ensures same { self.new.all ≡ self.old.all }
+        ensures room { OnOk result (0 < self.new.room) }
+    {
+        self.messages.reserve(1)?;
+        self.by_pair.reserve(1)?;
+        Ok(())
+    }
+
+    /// Adds a message, for which there is room. Its number is above the others, and none of them has its pair.
+    pub fn push(&mut self, new: AcceptedMessage)
+        requires room { 0 < self.old.room }
+        requires few { length self.old.all < 65536 }
+        requires rising { All (λ a. a.message.entry < new.entry) self.old.all }
+        requires apart { All (λ a. is_of_pair a.id a.serial (accepted_of new) ≡ false) self.old.all }
+        ensures { self.new.all ≡ self.old.all ++ accepted_of new ∷ [] }
+    {
+        let pair = Pair {
+            id: new.id,
+            serial: new.serial.number(),
+            place: self.messages.len() as u16,
+        };
+        if let Err(at) = search(self.by_pair.as_slice(), new.id, new.serial) {
+            let _ = self.by_pair.insert(at, pair);
+            self.messages.push_reserved(new);
+        }
+    }
+
+    /// The message of a pair, if there is one.
+    pub fn named(&self, id: u16, serial: Serial) -> Option<AcceptedMessage>
+        ensures { option_map accepted_of result ≡ find (is_of_pair id serial) self.now.all }
+    {
+        match search(self.by_pair.as_slice(), id, serial) {
+            Ok(at) => Some(self.messages[usize::from(self.by_pair[at].place)]),
+            Err(_) => None,
+        }
+    }
+
+    /// The message of a number that reserves, if there is one: that isn't background.
+    pub fn reserved(&self, entry: u16) -> Option<AcceptedMessage>
+        ensures { option_map accepted_of result
+            ≡ find (λ a. (a.message.entry == entry) && (layer a.message == 0)) self.now.all }
+    {
+        let at = place_of(self.messages.as_slice(), entry)?;
+        let message = self.messages[at];
+        if message.category.is_background() {
+            None
+        } else {
+            Some(message)
+        }
+    }
+
+    /// Stops the message of this number before `slot`, if there is one.
+    pub fn stop(&mut self, entry: u16, slot: u16)
+        ensures all { self.new.all ≡ map (stop_numbered entry slot) self.old.all }
+        ensures room { self.new.room ≡ self.old.room }
+    {
+        if let Some(at) = place_of(self.messages.as_slice(), entry) {
+            self.messages[at] = self.messages[at].stopped_if(entry, slot);
+        }
+    }
+}
+
+/// Where a pair stands among others in order, or where it would go.
+fn search(pairs: &[Pair], id: u16, serial: Serial) -> Result<usize, usize>
+    requires { AreRisingPairs pairs.now }
+    ensures { IsPairFound (id, serial) pairs.now result }
+{
+    pairs.binary_search_by_key(&(id, serial.number()), |pair| (pair.id, pair.serial))
+}
+
+/// The place of the message of a number, if there is one.
+fn place_of(messages: &[AcceptedMessage], entry: u16) -> Option<usize>
+    requires { AreRisingMessages messages.now }
+    ensures { IsPlaceFound entry messages.now result }
+{
+    match messages.binary_search_by_key(&entry, |message| message.entry) {
+        Ok(at) => Some(at),
+        Err(_) => None,
+    }
+}
