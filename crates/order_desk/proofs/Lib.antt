@@ -1,2 +1,4 @@
 pub mod Writable
 pub mod GivenAnswers
+pub mod Places
+pub mod Holding

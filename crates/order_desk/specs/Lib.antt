@@ -1,2 +1,5 @@
+pub mod Desk
+pub mod DeskSteps
+pub mod Notes
 pub mod Reply
 pub mod ReplyLaws

@@ -1,7 +1,7 @@
 //! The cells that an order or a desk may have.
 
 ghost use Rattle.std.specs.Prelude.{◌≡◌};
-ghost use Rattle.std.specs.List.{list_any};
+ghost use Rattle.std.specs.List.{list_any, position};
 ghost use Rattle.cbsp_wire.specs.Range.{are_distinct, cells_are_valid, is_cell};
 
 use cbsp_wire::Cell;
@@ -34,4 +34,13 @@ pub fn cells_ok(cells: &[Cell]) -> bool
     ensures { result ≡ cells_are_valid cells.now }
 {
     cells.len() <= 64 && are_distinct(cells)
+}
+
+/// The place of a cell in a list, if it is there.
+pub(crate) fn place_of(cells: &[Cell], cell: Cell) -> Option<usize>
+    ensures { result ≡ position (is_cell cell) cells.now }
+{
+    cells
+        .iter()
+        .position(|other| cell.lac == other.lac && cell.ci == other.ci)
 }
