@@ -1,8 +1,17 @@
 -- What a lock held stays a run of its cell.
-use Rattle.std.proofs.Common.{ℕ, ◌∙◌}
+use Rattle.std.proofs.Common.{◌≡◌, ℕ, ◌∙◌, true, eqb, List, Some, inr, refl, rules, slice_get, sym, subst}
+use Rattle.std.proofs.lemmas.List.Folds.{list_any_at}
+use Rattle.std.proofs.lemmas.Option.{get_or_from_slice_get, slice_get_within}
 use Rattle.cbsp_wire.specs.declared.message.Cell.{Cell}
 use Rattle.bsc_table.specs.Record.{Record}
-use Rattle.order_desk.specs.Notes.{IsRunOf}
+use Rattle.cbsp_wire.specs.Range.{is_cell}
+use Rattle.bsc_table.specs.declared.command.Command.{Command}
+use Rattle.order_desk.specs.declared.errand.Errand.{Errand}
+use Rattle.order_desk.specs.declared.errand.Errand.TheVariants as errands
+use Rattle.order_desk.specs.declared.note.Note.{Note}
+use Rattle.order_desk.specs.Desk.{IsAtMostPlayed, IsHeld, Line, has_cell}
+use Rattle.order_desk.specs.DeskSteps.{CanBeDone, cell_of}
+use Rattle.order_desk.specs.Notes.{IsPlayedFor, IsRunOf}
 
 -- a run that goes on from another is of the same cell
 pub run_on : (cell : Cell) (slots : ℕ) (before after : Record)
@@ -14,3 +23,31 @@ run_on cell slots before after held left = record {
   run = left.run ∙ held.run;
   legal = left.legal;
 }
+
+eqb-same : (n : ℕ) → eqb n n ≡ true
+eqb-same n = search (rules)
+
+-- a cell is itself
+pub is_itself : (c : Cell) → is_cell c c ≡ true
+is_itself c = rw (eqb-same c.lac, eqb-same c.ci) refl
+
+-- a cell that has a place at the desk is of the desk
+pub has_placed : (desk : Line) (cell : Cell) (place : ℕ) → slice_get desk.cells place ≡ Some cell
+    → has_cell desk cell ≡ true
+has_placed desk cell place at =
+    list_any_at (is_cell cell) desk.cells place cell (slice_get_within desk.cells place cell at)
+    (rw (get_or_from_slice_get desk.cells place cell cell at) (is_itself cell))
+
+-- an errand that was given up after a play
+pub given_up : (desk : Line) (at : ℕ) (errand : Errand) (cell : Cell) (place : ℕ) (command : Command)
+    (before after : Record) (notes : List Note)
+    → errand ≡ errands.Own cell place command
+    → CanBeDone desk errand
+    → IsHeld desk cell before
+    → IsRunOf before.cell before.slots after
+    → IsPlayedFor at before after notes
+    → IsAtMostPlayed desk at (cell_of errand) notes
+given_up desk at errand cell place command before after notes is can held left played =
+    let own = subst (CanBeDone desk) is can in
+    subst (λ e. IsAtMostPlayed desk at (cell_of e) notes) (sym is)
+    (inr (before, after, has_placed desk cell place own.0, held, run_on cell desk.slots before after held left, played))

@@ -3,3 +3,4 @@ pub mod DeskSteps
 pub mod Notes
 pub mod Reply
 pub mod ReplyLaws
+pub mod ReplySteps

@@ -1,21 +1,26 @@
 //! The desk: the books of cells, each under a lock, and the calls of its users.
 
-ghost use Rattle.std.specs.Prelude.{◌≡◌, ◌<◌, ◌∷◌, [], ◌++◌, List, length, map, false, true, vec_len};
-ghost use Rattle.std.specs.Prelude.{IfErr, IfNone, IfOk, IfSome, OnErr, OnOk};
+ghost use Rattle.std.specs.Prelude.{◌≡◌, ◌+◌, ◌*◌, ◌<◌, ◌≤◌, ◌∷◌, [], ◌++◌, List, length, map, false, true, vec_len};
+ghost use Rattle.std.specs.Prelude.{vec_capacity, All, IfErr, IfNone, IfOk, IfSome, OnErr, OnOk};
 ghost use Rattle.cbsp_wire.specs.Range.{cells_are_valid};
 ghost use Rattle.bsc_table.specs.Steps.{opened};
 ghost use Rattle.order_desk.specs.declared.note.Note.{Note};
-ghost use Rattle.order_desk.specs.Desk.{IsPlayed, IsRefusedPlay, IsRefusedStatus, IsTold, has_cell};
+ghost use Rattle.order_desk.specs.Desk.{IsCarriedOut, IsPlayed, IsRefusedOrder, IsRefusedPlay, IsRefusedStatus};
+ghost use Rattle.order_desk.specs.Desk.{IsTold, has_cell};
+ghost use Rattle.order_desk.specs.DeskSteps.{AreDone, AreHalted, CanBeDone, IsDone, IsHalted};
 
 use crate::cells::place_of;
 use crate::closed::Closed;
+use crate::errand::Errand;
 use crate::fault::DeskFault;
 use crate::gate::Gate;
 use crate::held::{self, is_of};
-use crate::note::Pass;
-use bsc_table::{CellBook, Refused, SlotRange, State};
+use crate::note::{Note, Pass};
+use crate::order::{Halt, Order, prepared};
+use crate::reply::reply_in;
+use bsc_table::{Answer, CellBook, Refused, SlotRange, State};
 use cbs_page::Serial;
-use cbsp_wire::Cell;
+use cbsp_wire::{Cell, cause};
 use std::alloc::Global;
 use std::marker::Model;
 use std::sync::{Mutex, Wait};
@@ -156,6 +161,125 @@ impl Desk {
         ensures foreign { IfNone result (has_cell self.now cell ≡ false) }
     {
         place_of(&self.cells, cell)
+    }
+
+    /// Does an errand of an order in its cell.
+    fn serve<R: Wait, G: Gate>(
+        &self,
+        rt: &R,
+        notes: &mut Vec<Note>,
+        at: u16,
+        errand: Errand,
+        gate: &G,
+    ) -> Result<Answer, Halt>
+        requires errand { CanBeDone self.now errand }
+        requires room { vec_len notes.old + 2 ≤ vec_capacity notes.old }
+        ensures done { OnOk result (IfOk result (λ answer. (added : List Note)
+            × IsDone self.now at errand answer added
+            × (notes.new.items ≡ notes.old.items ++ added))) }
+        ensures halted { OnErr result (IfErr result (λ halt. (added : List Note)
+            × IsHalted self.now at errand halt added
+            × (notes.new.items ≡ notes.old.items ++ added))) }
+        ensures few { vec_len notes.new ≤ vec_len notes.old + 2 }
+        ensures room_stays { vec_capacity notes.new ≡ vec_capacity notes.old }
+    {
+        let (cell, place, command) = match errand {
+            Errand::Own {
+                cell,
+                place,
+                command,
+            } => (cell, place, command),
+            Errand::Foreign { .. } => return Ok(Answer::Cause(cause::CELL_IDENTITY_NOT_VALID)),
+        };
+        let mut guard = self.books[place].lock(rt);
+        gate.inside(place as u16);
+        let book = &mut *guard;
+        if !is_of(book, cell, self.slots()) {
+            return Err(Halt::WrongBook);
+        }
+        match held::serve(book, notes, at, command) {
+            Ok(answer) => Ok(answer),
+            Err(Refused) => Err(Halt::Refused),
+        }
+    }
+
+    /// Does the errands of an order, one after the other.
+    fn serve_all<R: Wait, G: Gate>(
+        &self,
+        rt: &R,
+        notes: &mut Vec<Note>,
+        at: u16,
+        errands: Vec<Errand>,
+        mut answers: Vec<(Cell, Answer)>,
+        gate: &G,
+    ) -> Result<Vec<(Cell, Answer)>, DeskFault>
+        requires each { All (CanBeDone self.now) errands.items }
+        requires few { vec_len errands ≤ 64 }
+        requires no_answers { answers.items ≡ [] }
+        requires room_for_answers { vec_len errands ≤ vec_capacity answers }
+        requires room_for_notes { vec_len notes.old + 2 * vec_len errands ≤ vec_capacity notes.old }
+        ensures done { OnOk result (IfOk result (λ answers. (added : List Note)
+            × AreDone self.now at errands.items answers.items added
+            × (notes.new.items ≡ notes.old.items ++ added))) }
+        ensures halted { OnErr result (IfErr result (λ fault. (added : List Note)
+            × AreHalted self.now at errands.items fault added
+            × (notes.new.items ≡ notes.old.items ++ added))) }
+    {
+        for errand in errands {
+            let cell = errand.cell();
+            match self.serve(rt, notes, at, errand, gate) {
+                Ok(answer) => answers.push_reserved((cell, answer)),
+                Err(Halt::WrongBook) => return Err(DeskFault::Unknown),
+                Err(Halt::Refused) => {
+                    return Err(DeskFault::Memory {
+                        done: answers.len() as u16,
+                    });
+                }
+            }
+        }
+        Ok(answers)
+    }
+
+    /// Carries out an order, a message of the warning centre in `bytes`, from slot `at` on, and returns the octets of
+    /// the reply (3GPP TS 48.049, 8.1). The cells are served one after the other, in the order of the message's list:
+    /// each is played up to `at`, or to its run's end if that is less, and then answers the command. What was played is
+    /// noted, and the command with its answer, or that the log is full. A clock past `at` stays where it is.
+    ///
+    /// # Errors
+    ///
+    /// - `Wire` if the octets are no message, `Cause` if the message is no order (see `orders_of`): nothing is done.
+    /// - `Memory { done }` if memory runs out, with the number of cells of the list that had answered: the next one was
+    ///   at most played, and the others are as they were. All that the call itself takes is taken before the first
+    ///   cell.
+    pub fn order<R: Wait, G: Gate>(
+        &self,
+        rt: &R,
+        alloc: Global,
+        pass: &mut Pass,
+        at: u16,
+        bytes: &[u8],
+        gate: &G,
+    ) -> Result<Vec<u8>, DeskFault>
+        ensures carried_out { OnOk result (IfOk result (λ reply. (added : List Note)
+            × IsCarriedOut self.now at bytes.now reply.items added
+            × (pass.new ≡ pass.old ++ added))) }
+        ensures refused { OnErr result (IfErr result (λ fault. (added : List Note)
+            × IsRefusedOrder self.now at bytes.now fault added
+            × (pass.new ≡ pass.old ++ added))) }
+    {
+        let Order {
+            command,
+            errands,
+            answers,
+            room,
+        } = prepared(alloc, self.cells(), bytes)?;
+        if pass.notes.reserve(2 * errands.len()).is_err() {
+            return Err(DeskFault::Memory { done: 0 });
+        }
+        match self.serve_all(rt, &mut pass.notes, at, errands, answers, gate) {
+            Ok(answers) => Ok(reply_in(room, &command, &answers)),
+            Err(fault) => Err(fault),
+        }
     }
 
     /// Plays `k` slots of a cell, or those up to its run's end, and returns which they were. They are noted, also if

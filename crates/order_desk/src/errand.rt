@@ -28,6 +28,17 @@ pub(crate) enum Errand {
     },
 }
 
+impl Errand {
+    /// Its cell.
+    pub(crate) fn cell(&self) -> Cell
+        ensures { result ≡ cell_of self.now }
+    {
+        match self {
+            Errand::Own { cell, .. } | Errand::Foreign { cell } => *cell,
+        }
+    }
+}
+
 /// What a command has to do in a cell.
 #[tactic(auto, using(crate::proofs::Places::at_place, crate::proofs::Places::absent))]
 fn errand_to(alloc: Global, own: &[Cell], cell: Cell, command: &Command) -> Result<Errand, Refused>

@@ -11,6 +11,7 @@ mod gate;
 mod held;
 mod laws;
 pub mod note;
+mod order;
 mod reply;
 
 pub use cells::cells_ok;

@@ -1,16 +1,20 @@
 //! The reply to an order: what its cells answered, as one message (3GPP TS 48.049, 8.1).
 
-ghost use Rattle.std.specs.Prelude.{◌≡◌, ◌≤◌, [], length, true, All, IfOk};
+ghost use Rattle.std.specs.Prelude.{◌≡◌, ◌≤◌, [], length, true, All, IfOk, vec_capacity};
 ghost use Rattle.cbsp_wire.specs.Meaning.{IsMessage};
 ghost use Rattle.cbsp_wire.specs.Range.{cells_are_valid};
 ghost use Rattle.cbsp_wire.specs.Written.{octets_of_message};
+ghost use Rattle.order_desk.specs.ReplySteps.{HasRoomFor};
 ghost use Rattle.order_desk.specs.Reply.{IsAnswerTo, accepted_in, cell_by, cells_answered, count_by, counted_in};
 ghost use Rattle.order_desk.specs.Reply.{failure_by, kill_reply, refused_in, reply_message, write_reply};
 
 use bsc_table::{Answer, Command, Refused};
 use cbs_page::Serial;
 use cbsp_wire::{Cell, Cells, Count, Counts, Failure, Failures, Message, write_in};
-use std::alloc::Global;
+use std::alloc::{AllocError, Global};
+
+/// How many octets the longest message has.
+const LONGEST_MESSAGE: usize = 1547;
 
 /// What a reply says of a cell that refused.
 fn failure_by(cell: Cell, answer: Answer) -> Option<Failure>
@@ -48,54 +52,51 @@ fn count_by(cell: Cell, answer: Answer) -> Option<Count>
 }
 
 /// The failures of the cells that refused.
-fn refused_in(alloc: Global, answers: &[(Cell, Answer)]) -> Result<Failures, Refused>
-    ensures { IfOk result (λ failures. failures ≡ refused_in answers.now) }
+fn refused_in(mut list: Vec<Failure>, answers: &[(Cell, Answer)]) -> Failures
+    requires empty { list.items ≡ [] }
+    requires room { length answers.now ≤ vec_capacity list }
+    ensures { result ≡ refused_in answers.now }
 {
-    let mut list = Vec::new(alloc);
     let mut left = answers;
     'answers: while let [(cell, answer), rest @ ..] = left {
         if let Some(failure) = failure_by(*cell, *answer) {
-            if list.push(failure).is_err() {
-                return Err(Refused);
-            }
+            list.push_reserved(failure);
         }
         left = rest;
     }
-    Ok(Failures { list })
+    Failures { list }
 }
 
 /// The cells that accepted.
-fn accepted_in(alloc: Global, answers: &[(Cell, Answer)]) -> Result<Cells, Refused>
-    ensures { IfOk result (λ cells. cells ≡ accepted_in answers.now) }
+fn accepted_in(mut list: Vec<Cell>, answers: &[(Cell, Answer)]) -> Cells
+    requires empty { list.items ≡ [] }
+    requires room { length answers.now ≤ vec_capacity list }
+    ensures { result ≡ accepted_in answers.now }
 {
-    let mut list = Vec::new(alloc);
     let mut left = answers;
     'answers: while let [(cell, answer), rest @ ..] = left {
         if let Some(cell) = cell_by(*cell, *answer) {
-            if list.push(cell).is_err() {
-                return Err(Refused);
-            }
+            list.push_reserved(cell);
         }
         left = rest;
     }
-    Ok(Cells { list })
+    Cells { list }
 }
 
 /// The completed broadcasts of the cells that replaced or stopped a message.
-fn counted_in(alloc: Global, answers: &[(Cell, Answer)]) -> Result<Counts, Refused>
-    ensures { IfOk result (λ counts. counts ≡ counted_in answers.now) }
+fn counted_in(mut list: Vec<Count>, answers: &[(Cell, Answer)]) -> Counts
+    requires empty { list.items ≡ [] }
+    requires room { length answers.now ≤ vec_capacity list }
+    ensures { result ≡ counted_in answers.now }
 {
-    let mut list = Vec::new(alloc);
     let mut left = answers;
     'answers: while let [(cell, answer), rest @ ..] = left {
         if let Some(count) = count_by(*cell, *answer) {
-            if list.push(count).is_err() {
-                return Err(Refused);
-            }
+            list.push_reserved(count);
         }
         left = rest;
     }
-    Ok(Counts { list })
+    Counts { list }
 }
 
 /// The reply to a write: complete if no cell refused.
@@ -160,40 +161,42 @@ fn kill_reply(
     }
 }
 
-/// No cells.
-fn no_cells(alloc: Global) -> Cells
-    ensures { result ≡ [] }
-{
-    Cells {
-        list: Vec::new(alloc),
-    }
+/// Room for the reply to an order: for its lists, and for its octets.
+#[derive(Drop)]
+pub(crate) struct ReplyRoom {
+    failures: Vec<Failure>,
+    counts: Vec<Count>,
+    cells: Vec<Cell>,
+    octets: Vec<u8>,
 }
 
-/// No completed broadcasts.
-fn no_counts(alloc: Global) -> Counts
-    ensures { result ≡ [] }
+/// Room for the reply of `count` cells.
+pub(crate) fn room_for(alloc: Global, count: usize) -> Result<ReplyRoom, AllocError>
+    ensures { IfOk result (HasRoomFor count) }
 {
-    Counts {
-        list: Vec::new(alloc),
-    }
-}
-
-/// No failures.
-fn no_failures(alloc: Global) -> Failures
-    ensures { result ≡ [] }
-{
-    Failures {
-        list: Vec::new(alloc),
-    }
+    Ok(ReplyRoom {
+        failures: Vec::with_capacity(alloc, count)?,
+        counts: Vec::with_capacity(alloc, count)?,
+        cells: Vec::with_capacity(alloc, count)?,
+        octets: Vec::with_capacity(alloc, LONGEST_MESSAGE)?,
+    })
 }
 
 /// The reply to a command, by the answers of its cells.
 fn reply_message(
-    alloc: Global,
+    failures: Vec<Failure>,
+    counts: Vec<Count>,
+    cells: Vec<Cell>,
     command: &Command,
     answers: &[(Cell, Answer)],
-) -> Result<Message, Refused>
-    ensures { IfOk result (λ reply. reply ≡ reply_message command.now answers.now) }
+) -> Message
+    requires no_failures { failures.items ≡ [] }
+    requires no_counts { counts.items ≡ [] }
+    requires no_cells { cells.items ≡ [] }
+    requires room_for_failures { length answers.now ≤ vec_capacity failures }
+    requires room_for_counts { length answers.now ≤ vec_capacity counts }
+    requires room_for_cells { length answers.now ≤ vec_capacity cells }
+    ensures { result ≡ reply_message command.now answers.now }
 {
     match command {
         Command::Write {
@@ -202,24 +205,44 @@ fn reply_message(
             replaces,
             ..
         } => {
-            let failures = refused_in(alloc, answers)?;
+            let failures = refused_in(failures, answers);
             let (completed, cells) = match replaces {
-                None => (no_counts(alloc), accepted_in(alloc, answers)?),
-                Some(_) => (counted_in(alloc, answers)?, no_cells(alloc)),
+                None => (Counts { list: counts }, accepted_in(cells, answers)),
+                Some(_) => (counted_in(counts, answers), Cells { list: cells }),
             };
-            Ok(write_reply(*id, *serial, *replaces, failures, completed, cells))
+            write_reply(*id, *serial, *replaces, failures, completed, cells)
         }
         Command::Kill { id, serial } => {
-            let failures = refused_in(alloc, answers)?;
-            let completed = counted_in(alloc, answers)?;
-            Ok(kill_reply(*id, *serial, failures, completed, no_cells(alloc)))
+            let failures = refused_in(failures, answers);
+            let completed = counted_in(counts, answers);
+            kill_reply(*id, *serial, failures, completed, Cells { list: cells })
         }
         Command::Status { id, serial } => {
-            let failures = no_failures(alloc);
-            let completed = no_counts(alloc);
-            Ok(kill_reply(*id, *serial, failures, completed, no_cells(alloc)))
+            let failures = Failures { list: failures };
+            let completed = Counts { list: counts };
+            kill_reply(*id, *serial, failures, completed, Cells { list: cells })
         }
     }
+}
+
+/// The octets of the reply to a command, by the answers of its cells. It takes no memory.
+#[tactic(auto, using(crate::proofs::Writable::reply_is_writable, crate::proofs::Writable::reply_is_meant))]
+pub(crate) fn reply_in(room: ReplyRoom, command: &Command, answers: &[(Cell, Answer)]) -> Vec<u8>
+    requires room { HasRoomFor (length answers.now) room }
+    requires valid { cells_are_valid (cells_answered answers.now) ≡ true }
+    ensures written { result.items ≡ octets_of_message (reply_message command.now answers.now) }
+    ensures meant { IsMessage result.items (reply_message command.now answers.now) }
+{
+    let ReplyRoom {
+        failures,
+        counts,
+        cells,
+        octets,
+    } = room;
+    let reply = reply_message(failures, counts, cells, command, answers);
+    let mut out = octets;
+    write_in(&reply, &mut out);
+    out
 }
 
 /// The reply to a write or a kill, by the answers of its cells in the order's list: its octets, with the elements in
@@ -231,7 +254,6 @@ fn reply_message(
 /// # Errors
 ///
 /// `Refused` if memory runs out.
-#[tactic(auto, using(crate::proofs::Writable::reply_is_writable, crate::proofs::Writable::reply_is_meant))]
 pub fn reply_of(
     alloc: Global,
     command: &Command,
@@ -244,12 +266,6 @@ pub fn reply_of(
         ≡ octets_of_message (reply_message command.now answers.now)) }
     ensures meant { IfOk result (λ octets. IsMessage octets.items (reply_message command.now answers.now)) }
 {
-    let reply = reply_message(alloc, command, answers)?;
-    match Vec::with_capacity(alloc, 1547) {
-        Ok(mut out) => {
-            write_in(&reply, &mut out);
-            Ok(out)
-        }
-        Err(_) => Err(Refused),
-    }
+    let room = room_for(alloc, answers.len())?;
+    Ok(reply_in(room, command, answers))
 }
