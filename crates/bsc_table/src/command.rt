@@ -63,7 +63,7 @@ impl Category {
 }
 
 /// What a cell is asked to do.
-#[derive(Debug, Drop)]
+#[derive(Debug, PartialEq, Eq, Drop)]
 pub enum Command {
     /// Broadcast this message, in place of an older one if one is named (3GPP TS 48.049, 8.1, WRITE-REPLACE).
     Write {

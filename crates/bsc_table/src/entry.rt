@@ -52,7 +52,7 @@ pub enum Answer {
 }
 
 /// A command that was answered.
-#[derive(Debug, Drop)]
+#[derive(Debug, PartialEq, Eq, Drop)]
 pub struct Entry {
     /// The command.
     pub command: Command,

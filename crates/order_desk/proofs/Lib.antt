@@ -4,3 +4,9 @@ pub mod Places
 pub mod Holding
 pub mod Orders
 pub mod Errands
+pub mod Counted
+pub mod FirstNot
+pub mod Walked
+pub mod Tallied
+pub mod Judged
+pub mod SameEntry

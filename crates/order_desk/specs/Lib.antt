@@ -4,3 +4,6 @@ pub mod Notes
 pub mod Reply
 pub mod ReplyLaws
 pub mod ReplySteps
+pub mod Agreement
+pub mod Settled
+pub mod SettleSteps

@@ -6,13 +6,18 @@ ghost use Rattle.cbsp_wire.specs.Range.{are_distinct, cells_are_valid, is_cell};
 
 use cbsp_wire::Cell;
 
+/// Whether two cells are one.
+pub(crate) fn is_cell(one: Cell, other: Cell) -> bool
+    ensures { result ≡ is_cell one other }
+{
+    one.lac == other.lac && one.ci == other.ci
+}
+
 /// Whether a cell stands in a list.
-fn stands_in(cell: Cell, cells: &[Cell]) -> bool
+pub(crate) fn stands_in(cell: Cell, cells: &[Cell]) -> bool
     ensures { result ≡ list_any (is_cell cell) cells.now }
 {
-    cells
-        .iter()
-        .any(|other| cell.lac == other.lac && cell.ci == other.ci)
+    cells.iter().any(|other| is_cell(cell, *other))
 }
 
 /// Whether no cell stands twice in a list.

@@ -135,9 +135,10 @@ impl Desk {
     ///
     /// `Refused` if memory runs out; the books are gone then.
     pub fn close(self) -> Result<Closed, Refused>
-        ensures cells { IfOk result (λ closed. closed.cells.items ≡ self.cells) }
+        ensures cells { IfOk result (λ closed. closed.cells ≡ self.cells) }
         ensures slots { IfOk result (λ closed. closed.slots ≡ self.slots) }
-        ensures books { IfOk result (λ closed. vec_len closed.books ≡ length self.cells) }
+        ensures books { IfOk result (λ closed. length closed.books ≡ length closed.cells) }
+        ensures valid { IfOk result (λ closed. cells_are_valid closed.cells ≡ true) }
     {
         let Desk {
             cells,

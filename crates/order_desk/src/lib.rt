@@ -12,7 +12,10 @@ mod held;
 mod laws;
 pub mod note;
 mod order;
+mod placed;
 mod reply;
+pub mod settle;
+mod times;
 
 pub use cells::cells_ok;
 pub use closed::Closed;
@@ -22,3 +25,4 @@ pub use gate::{Gate, Open};
 pub use laws::reply_laws;
 pub use note::{Note, Pass};
 pub use reply::reply_of;
+pub use settle::SettleFault;

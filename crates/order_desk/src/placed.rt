@@ -1,0 +1,141 @@
+//! Whether noted entries are in their places: each in the log, at its number, and after what its pass noted before it.
+
+ghost use Rattle.std.specs.Prelude.{◌≡◌, ◌⊎◌, ◌↔◌, ℕ, ◌+◌, Some, None, List, [], ◌∷◌, ◌++◌, All, IsTrue, max, true};
+ghost use Rattle.std.specs.List.{slice_get};
+ghost use Rattle.cbsp_wire.specs.declared.message.Cell.{Cell};
+ghost use Rattle.cbsp_wire.specs.Range.{is_cell};
+ghost use Rattle.bsc_table.specs.declared.entry.Entry.{Entry};
+ghost use Rattle.order_desk.specs.declared.note.Note.{Note};
+ghost use Rattle.order_desk.specs.Agreement.{AreInPlaceAt};
+ghost use Rattle.order_desk.specs.SettleSteps.{HasWalked, IsFirstNot, IsNext, lesser};
+
+use crate::cells::is_cell;
+use crate::note::{Note, Pass};
+use bsc_table::Entry;
+use cbsp_wire::Cell;
+
+/// How far a walk over the notes of a pass has come, in what is noted of one cell.
+#[derive(Clone, Copy)]
+pub(crate) struct Walk {
+    /// The least bound above each number that was noted so far.
+    pub floor: u32,
+    /// The latest end of a range of played slots.
+    pub reached: u16,
+    /// The least number of which a noted entry isn't in its place.
+    pub least: Option<u16>,
+}
+
+/// The lesser of two numbers, as far as there are any.
+pub(crate) fn lesser(one: Option<u16>, other: Option<u16>) -> Option<u16>
+    ensures { result ≡ lesser one other }
+{
+    match (one, other) {
+        (Some(one), Some(other)) => Some(one.min(other)),
+        (Some(number), None) | (None, Some(number)) => Some(number),
+        (None, None) => None,
+    }
+}
+
+/// Whether two entries are equal.
+fn are_same(one: &Entry, other: &Entry) -> bool
+    ensures { IsTrue result ↔ (one.now ≡ other.now) }
+{
+    one == other
+}
+
+/// Whether a log has an entry at a number.
+fn stands_at(log: &[Entry], number: u16, entry: &Entry) -> bool
+    ensures { IsTrue result ↔ (slice_get log.now number ≡ Some entry.now) }
+{
+    match log.get(usize::from(number)) {
+        Some(logged) => are_same(logged, entry),
+        None => false,
+    }
+}
+
+impl Walk {
+    /// The walk after an entry of the cell that was noted at a number.
+    fn past_entry(self, log: &[Entry], number: u16, entry: &Entry) -> Walk
+        ensures floor { result.floor ≡ max self.floor (number + 1) }
+        ensures reached { result.reached ≡ self.reached }
+        ensures least { (IsNext self log.now number entry.now × (result.least ≡ self.least))
+            ⊎ ((IsNext self log.now number entry.now → ⊥) × (result.least ≡ lesser self.least (Some number))) }
+    {
+        let placed = self.floor <= u32::from(number)
+            && self.reached <= entry.slot
+            && stands_at(log, number, entry);
+        Walk {
+            floor: self.floor.max(u32::from(number) + 1),
+            reached: self.reached,
+            least: if placed {
+                self.least
+            } else {
+                lesser(self.least, Some(number))
+            },
+        }
+    }
+
+    /// The walk after a range of the cell's played slots that ends at a slot.
+    fn past_range(self, to: u16) -> Walk
+        ensures { result ≡ record self { reached = max self.reached to } }
+    {
+        Walk {
+            reached: self.reached.max(to),
+            ..self
+        }
+    }
+
+    /// The walk after one more note.
+    fn past(self, cell: Cell, log: &[Entry], note: &Note) -> Walk
+        ensures { (before : List Note) → HasWalked cell log.now before self
+            → HasWalked cell log.now (before ++ note.now ∷ []) result }
+    {
+        match note {
+            Note::Event {
+                cell: of,
+                number,
+                entry,
+            } => {
+                if is_cell(cell, *of) {
+                    self.past_entry(log, *number, entry)
+                } else {
+                    self
+                }
+            }
+            Note::Played { cell: of, to, .. } => {
+                if is_cell(cell, *of) {
+                    self.past_range(*to)
+                } else {
+                    self
+                }
+            }
+            Note::Full { .. } => self,
+        }
+    }
+}
+
+/// The least number of which an entry of the cell, that the pass noted at it, isn't in its place.
+fn least_misplaced_in(cell: Cell, log: &[Entry], notes: &[Note]) -> Option<u16>
+    ensures { IsFirstNot (λ k. AreInPlaceAt cell log.now k [] notes.now) result }
+{
+    let mut walk = Walk {
+        floor: 0,
+        reached: 0,
+        least: None,
+    };
+    for note in notes {
+        walk = walk.past(cell, log, note);
+    }
+    walk.least
+}
+
+/// The least number of which an entry of the cell, that a pass noted at it, isn't in its place.
+pub(crate) fn least_misplaced(cell: Cell, log: &[Entry], passes: &[Pass]) -> Option<u16>
+    ensures { IsFirstNot (λ k. All (AreInPlaceAt cell log.now k []) passes.now) result }
+{
+    let mut least = None;
+    for pass in passes {
+        least = lesser(least, least_misplaced_in(cell, log, pass.notes()));
+    }
+    least
+}
