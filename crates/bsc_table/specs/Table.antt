@@ -1,5 +1,5 @@
--- The table of the messages that a cell accepted (own): in the order of their numbers, and beside them their pairs of an
--- identifier and a serial number, in order, each with the place of its message. Contracts of private functions alone
+-- The table of the messages that a cell accepted (own): in the order of their numbers, and beside them their pairs of
+-- an identifier and a serial number, in order, each with the place of its message. Contracts of private functions alone
 -- speak of it.
 use Rattle.std.specs.Prelude.{◌≡◌, ◌≢◌, ℕ, ◌-◌, ◌<◌, ◌≤◌, min, Option, Some, None, Result, Ok, Err, List, length, map}
 use Rattle.std.specs.Prelude.{slice_index_or, All, Any, AllPairs, vec_len, vec_capacity}

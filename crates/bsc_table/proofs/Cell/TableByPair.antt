@@ -1,5 +1,6 @@
 -- The table of accepted messages: what a search finds in it, and what is kept where one is added or stopped.
-use Rattle.std.proofs.Common.{◌≡◌, ◌≢◌, ℕ, zero, suc, ◌+◌, ◌-◌, ◌<◌, ◌≤◌, ◌==◌, ◌&&◌, Bool, true, false, not, Some, None}
+use Rattle.std.proofs.Common.{◌≡◌, ◌≢◌, ℕ, zero, suc, ◌+◌, ◌-◌, ◌<◌, ◌≤◌, ◌==◌, ◌&&◌, Bool, true, false, not, Some}
+use Rattle.std.proofs.Common.{None}
 use Rattle.std.proofs.Common.{Result, Ok, Err, List, [], ◌∷◌, ◌++◌, length, map, set, get_or, refl, ap, sym, subst, ◌∙◌}
 use Rattle.std.proofs.Common.{inl, inr, arith, if◌then◌else◌}
 use Rattle.std.specs.List.{All, Any, AllPairs, insert, find, slice_get}
@@ -214,7 +215,8 @@ found_by_pair messages pairs id serial at d m by_pair found =
           let its = its_message messages pairs at d m by_pair found.0 in
           let also = its_pair messages pairs j m by_pair (omega (arith, its.0, less)) in
           let here = get_or_default pairs also.0 also.1 d also.2 in
-          let kept = ap pair_kept (sym here) ∙ (also.4 ∙ (has_pair id serial (get_or messages j m) says ∙ sym (found.1 d))) in
+          let kept = ap pair_kept (sym here) ∙ (also.4 ∙ (has_pair id serial (get_or messages j m) says
+          ∙ sym (found.1 d))) in
           let same = one_pair pairs also.0 at d by_pair.rising also.2 found.0 kept in
           let place = ap (λ (p : Pair). p.place) here ∙ ap (λ i. (get_or pairs i d).place) same in
           absurd (omega (arith, place, also.3, less))
@@ -363,7 +365,8 @@ stopped_none entry slot [] others = refl
 stopped_none entry slot (m ∷ messages) others =
     let first = stopped_other entry slot m (others 0 m (omega arith)) in
     ap (λ (x : AcceptedMessage). x ∷ map (accepted_stopped entry slot) messages) first
-    ∙ ap (λ (l : List AcceptedMessage). m ∷ l) (stopped_none entry slot messages (λ k d h. others (suc k) d (omega arith)))
+    ∙ ap (λ (l : List AcceptedMessage). m ∷ l) (stopped_none entry slot messages
+    (λ k d h. others (suc k) d (omega arith)))
   where
     stopped_other : (entry slot : ℕ) (m : AcceptedMessage) → m.entry ≢ entry → accepted_stopped entry slot m ≡ m
     stopped_other entry slot m other =

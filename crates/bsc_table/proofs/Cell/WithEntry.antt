@@ -1,5 +1,6 @@
 -- A book with one more entry: its record, its messages, and what its plan and budget hold of them.
-use Rattle.std.proofs.Common.{◌≡◌, ◌≢◌, ℕ, zero, suc, arith, ◌≤◌, ◌<◌, ◌==◌, Bool, true, false, not, cond, Option, Some, None, List, []}
+use Rattle.std.proofs.Common.{◌≡◌, ◌≢◌, ℕ, zero, suc, arith, ◌≤◌, ◌<◌, ◌==◌, Bool, true, false, not, cond, Option}
+use Rattle.std.proofs.Common.{Some, None, List, []}
 use Rattle.std.proofs.Common.{◌∷◌, ◌++◌, length, map, filter, get_or, refl, ap, sym, subst, ◌∙◌}
 use Rattle.std.specs.List.{All, AllPairs, Any, Contains}
 use Rattle.std.specs.Global.{Vec}
@@ -311,7 +312,8 @@ pub apart_from_new : (r : Record) (e : Entry) (all : List Accepted) (new : Accep
     → accepted_in (r.log ++ e ∷ []) ≡ all ++ new ∷ []
     → All (λ a. is_of_pair a.id a.serial new ≡ false) all
 apart_from_new r e all new legal next after = λ k d h.
-    let once = subst (AllPairs OfAnotherPair) after (IsSound-legal (with_entry e r) (IsLegal-with r e legal next)).once in
+    let sound = IsSound-legal (with_entry e r) (IsLegal-with r e legal next) in
+    let once = subst (AllPairs OfAnotherPair) after sound.once in
     let apart = once k (length all) d h (omega (arith, length_push all new)) in
     let First : Accepted → Type 0 = λ a. OfAnotherPair a new in
     let Second : Accepted → Type 0 = λ b. OfAnotherPair (get_or (all ++ new ∷ []) k d) b in

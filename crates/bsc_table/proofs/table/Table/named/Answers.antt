@@ -18,11 +18,13 @@ returns-in-Ok c =
     ap (λ (x : AcceptedMessage). Some (accepted_of x)) read
     ∙ sym (found_by_pair t.messages.items t.by_pair.items c.args.id c.args.serial c.in-Ok.at p m
     c.self.invariant.by_pair found)
-    ∙ ap (λ (x : TableState). find (is_of_pair c.args.id c.args.serial) x.all) c.self.view_is
+    ∙ ap (λ (x : TableState). find (is_of_pair c.args.id c.args.serial) x.all)
+    c.self.view_is
 
 pub returns-in-Err : goal.returns-in-Err
 returns-in-Err c =
     let t = c.self.inside in
     let gap = rw c.as_slice.ensures.value at c.in-Err.ensures in
     sym (none_by_pair t.messages.items t.by_pair.items c.args.id c.args.serial c.in-Err.field-0
-    c.self.invariant.by_pair gap) ∙ ap (λ (x : TableState). find (is_of_pair c.args.id c.args.serial) x.all) c.self.view_is
+    c.self.invariant.by_pair gap) ∙ ap (λ (x : TableState). find (is_of_pair c.args.id c.args.serial) x.all)
+    c.self.view_is

@@ -28,7 +28,8 @@ invariant_of-self c =
     record {
       rising = subst AreRisingMessages (sym c.push_reserved.ensures.items) rising;
       by_pair = rw (c.push_reserved.ensures.items, pairs) (with_pair messages t.by_pair.items c.args.new _ c.in-Err.at
-          c.self.invariant.by_pair gap (ap (λ x. (c.args.new.id, x)) c.number.ensures) (omega (arith, c.len.ensures, t.messages.ok.0)));
+          c.self.invariant.by_pair gap (ap (λ x. (c.args.new.id, x)) c.number.ensures)
+          (omega (arith, c.len.ensures, t.messages.ok.0)));
     }
 
 pub returns-in_default : goal.returns-in_default

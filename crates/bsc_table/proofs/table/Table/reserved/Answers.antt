@@ -13,7 +13,8 @@ returns-in_err-at c =
     let none = rw (c.as_slice.ensures.value, c.in_err-at.was) at c.place_of.ensures in
     ap (option_map accepted_of) c.from_residual.ensures
     ∙ sym (none_reserved c.args.entry c.self.inside.messages.items none)
-    ∙ ap (λ (x : TableState). find (λ (a : Accepted). (a.message.entry == c.args.entry) && (layer a.message == 0)) x.all)
+    ∙ ap (λ (x : TableState). find (λ (a : Accepted). (a.message.entry == c.args.entry)
+    && (layer a.message == 0)) x.all)
     c.self.view_is
 
 pub returns-then-is_background : goal.returns-then-is_background
@@ -23,7 +24,8 @@ returns-then-is_background c =
     is_background m.category) c.index-message.ensures in
     sym (one_reserved c.args.entry c.self.inside.messages.items c.in_ok-at.at c.index-message.result.now
     c.self.invariant.rising found.0 (found.1 c.index-message.result.now) _ back)
-    ∙ ap (λ (x : TableState). find (λ (a : Accepted). (a.message.entry == c.args.entry) && (layer a.message == 0)) x.all)
+    ∙ ap (λ (x : TableState). find (λ (a : Accepted). (a.message.entry == c.args.entry)
+    && (layer a.message == 0)) x.all)
     c.self.view_is
 
 pub returns-else-is_background : goal.returns-else-is_background
@@ -34,5 +36,6 @@ returns-else-is_background c =
     ap (λ (m : AcceptedMessage). Some (accepted_of m)) c.index-message.ensures
     ∙ sym (one_reserved c.args.entry c.self.inside.messages.items c.in_ok-at.at c.index-message.result.now
     c.self.invariant.rising found.0 (found.1 c.index-message.result.now) _ front)
-    ∙ ap (λ (x : TableState). find (λ (a : Accepted). (a.message.entry == c.args.entry) && (layer a.message == 0)) x.all)
+    ∙ ap (λ (x : TableState). find (λ (a : Accepted). (a.message.entry == c.args.entry)
+    && (layer a.message == 0)) x.all)
     c.self.view_is
