@@ -12,9 +12,10 @@ use Rattle.scheduler.specs.declared.turn.Ahead.{Ahead}
 use Rattle.scheduler.specs.declared.scheduled.Scheduled.{Scheduled}
 use Rattle.scheduler.specs.PlanSteps.{scheduled_stopped}
 use Rattle.scheduler.specs.QueueSteps.{kept_in, seen_in, IsRight, IsTree, IsTreeBut, AreRising, IsPlaceOf, IsFound}
-use Rattle.scheduler.specs.QueueSteps.{seen, stopped, nothing_ahead, ahead_at, own_at, own}
+use Rattle.scheduler.specs.QueueSteps.{seen, aired, stopped, nothing_ahead, ahead_at, own_at, own, HasTurn}
 use Rattle.scheduler.proofs.Places.{kept_at, right_at, place_is, same_place}
-use Rattle.scheduler.proofs.FirstTurn.{seen_at, blank}
+use Rattle.scheduler.proofs.FirstTurn.{seen_at, turn_at, blank}
+use Rattle.scheduler.proofs.Tree.{node_is, below_same}
 use Rattle.scheduler.proofs.Passed.{map_but_one, map_same, map_twice}
 use Rattle.scheduler.proofs.Windows.{IsRight-stopped}
 
@@ -155,11 +156,25 @@ right_stopped slot nodes place within right =
     All-set (IsRight slot) (kept_in nodes) place _ (IsRight-stopped _ slot (right_at slot nodes place blank within
     right)) right
 
+-- and has a turn, as one that was aired does
+pub turns_stopped : (slot : ℕ) (nodes : List Node) (place : ℕ) → place < length nodes → All HasTurn (kept_in nodes)
+    → All HasTurn (set (kept_in nodes) place (stopped slot (get_or nodes place blank).kept))
+turns_stopped slot nodes place within turns =
+    let has = turn_at nodes place blank within turns in
+    All-set HasTurn (kept_in nodes) place _ (record { slot = has.slot; number = has.number }) turns
+
+pub turns_aired : (nodes : List Node) (place : ℕ) → place < length nodes → All HasTurn (kept_in nodes)
+    → All HasTurn (set (kept_in nodes) place (aired (get_or nodes place blank).kept))
+turns_aired nodes place within turns =
+    let has = turn_at nodes place blank within turns in
+    All-set HasTurn (kept_in nodes) place _ (record { slot = has.slot; number = has.number }) turns
+
 -- a place more, with nothing ahead, leaves the others right
 pub push_others : (nodes : List Node) (k : Kept) → IsTree nodes
     → IsTreeBut (nodes ++ record { kept = k; ahead = nothing_ahead } ∷ []) (length nodes)
 push_others nodes k tree = λ place apart.
-    rw (ahead_same place, own_same place apart, ahead_same (place * 2 + 1), ahead_same (place * 2 + 2)) (tree place)
+    node_is nodes (nodes ++ new ∷ []) place (ahead_same place) (own_same place apart)
+    (below_same nodes (nodes ++ new ∷ []) place (λ i h. ahead_same (place * 8 + 1 + i))) (tree place)
   where
     new : Node
     new = record { kept = k; ahead = nothing_ahead }

@@ -11,7 +11,7 @@ use Rattle.scheduler.specs.declared.plan.Item.{Item}
 use Rattle.scheduler.specs.declared.queue.Node.{Node}
 use Rattle.scheduler.specs.PlanSteps.{IsSound}
 use Rattle.scheduler.specs.Follows.{messages_of}
-use Rattle.scheduler.specs.QueueSteps.{kept_in, seen_in, seen, kept_new, AreRising, IsRight, IsTree, IsPlan}
+use Rattle.scheduler.specs.QueueSteps.{HasTurn, kept_in, seen_in, seen, kept_new, AreRising, IsRight, IsTree, IsPlan}
 use Rattle.scheduler.proofs.Windows.{seen_new, IsRight-new}
 use Rattle.scheduler.proofs.Followed.{scheduled_new, IsSound-add}
 use Rattle.scheduler.proofs.FirstTurn.{rising_of_seen}
@@ -51,9 +51,9 @@ seen_pushed slot old new item is =
 -- and so a plan with one more message is one
 pub IsPlan-add : (slot : ℕ) (old new : List Node) (item : Item)
     → All (λ m. m.entry < item.entry) (messages_of (record { slot = slot; scheduled = seen_in slot old }))
-    → slot ≤ item.start → 0 < item.pages → 0 < item.period → IsPlan slot old
+    → slot ≤ item.start → 0 < item.pages → 0 < item.period → HasTurn (kept_new item) → IsPlan slot old
     → kept_in new ≡ kept_in old ++ kept_new item ∷ [] → IsTree new → IsPlan slot new
-IsPlan-add slot old new item above start pages period plan is tree =
+IsPlan-add slot old new item above start pages period turn plan is tree =
     let P : List Scheduled → Type 0 = λ ts. IsSound (record { slot = slot; scheduled = ts }) in
     record {
       sound = subst P (sym (seen_pushed slot old new item is)) (IsSound-add (record {
@@ -64,6 +64,7 @@ IsPlan-add slot old new item above start pages period plan is tree =
         right = rw is (All-push (IsRight slot) (kept_in old) (kept_new item) plan.kept.right (IsRight-new item slot
             pages
             period));
+        turns = rw is (All-push HasTurn (kept_in old) (kept_new item) plan.kept.turns turn);
         tree = tree;
       };
     }

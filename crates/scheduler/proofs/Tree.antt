@@ -1,17 +1,17 @@
 -- Lemmas on what is ahead of the places of a plan.
-use Rattle.std.proofs.Common.{◌≡◌, ◌≢◌, ℕ, zero, suc, ◌+◌, ◌-◌, ◌*◌, ◌/◌, ◌≤◌, ◌<◌, ◌⊎◌, List, length, get_or}
-use Rattle.std.proofs.Common.{map, set, Some, inl, inr, refl, sym, ap, subst, ◌∙◌, arith}
+use Rattle.std.proofs.Common.{◌≡◌, ◌≢◌, ℕ, zero, suc, ◌+◌, ◌-◌, ◌*◌, ◌/◌, ◌%◌, ◌≤◌, ◌<◌, List, length, get_or}
+use Rattle.std.proofs.Common.{map, set, inl, inr, refl, sym, ap, subst, ◌∙◌, arith}
+use Rattle.std.specs.List.{All}
 use Rattle.std.proofs.lemmas.List.{length-map, get_or-map, map-set, get_or-set_same, get_or-set_other}
 use Rattle.std.proofs.lemmas.List.{get_or_past, set-get_or}
 use Rattle.std.proofs.lemmas.Bool.{cases_lt, cases_eq}
-use Rattle.std.proofs.lemmas.Option.{none-some}
-use Rattle.scheduler.specs.declared.turn.Turn.{Turn}
 use Rattle.scheduler.specs.declared.turn.Ahead.{Ahead}
 use Rattle.scheduler.specs.declared.kept.Kept.{Kept}
 use Rattle.scheduler.specs.declared.queue.Node.{Node}
-use Rattle.scheduler.specs.QueueSteps.{joined, nothing_ahead, own, kept_in, ahead_at, own_at, node_with}
+use Rattle.scheduler.specs.QueueSteps.{joined, nothing_ahead, no_turn, own, kept_in, ahead_at, own_at, node_with}
+use Rattle.scheduler.specs.QueueSteps.{ahead_among, ahead_below, seen_in, IsRight, HasTurn}
 use Rattle.scheduler.specs.QueueSteps.{IsNode, IsTree, IsTreeBut, KeepsNodesBut}
-use Rattle.scheduler.proofs.Turns.{IsAhead, IsAhead-same, IsAhead-trans, joined-left, joined-right, first_turn-one}
+use Rattle.scheduler.proofs.Turns.{IsAhead, IsAhead-same, IsAhead-trans, joined-left, joined-right, joined-one}
 
 -- past the end nothing is ahead
 pub ahead_at-past : (nodes : List Node) (k : ℕ) → length nodes ≤ k → ahead_at nodes k ≡ nothing_ahead
@@ -25,15 +25,32 @@ own_at-past nodes k h =
     get_or_past (map own (kept_in nodes)) k nothing_ahead
     (omega (arith, length-map (kept_in nodes) own, length-map nodes (λ (n : Node). n.kept)))
 
+-- nor of places that are all past the end
+pub among-past : (nodes : List Node) (from n : ℕ) → length nodes ≤ from → ahead_among nodes from n ≡ nothing_ahead
+among-past nodes from zero h = refl
+among-past nodes from (suc n) h =
+    rw (among-past nodes from n h, ahead_at-past nodes (from + n) (omega (arith, h))) refl
+
+-- what is ahead of the places below one
+pub below_is : (nodes : List Node) (place : ℕ) → ahead_below nodes place ≡ ahead_among nodes (place * 8 + 1) 8
+unfolding ahead_below
+below_is nodes place = refl
+
+-- what is kept of a place is right where it is so of the same
+pub node_is : (old new : List Node) (place : ℕ) → ahead_at new place ≡ ahead_at old place
+    → own_at new place ≡ own_at old place → ahead_below new place ≡ ahead_below old place
+    → IsNode old place → IsNode new place
+node_is old new place first second third node =
+    first ∙ node ∙ ap (λ a. joined a (ahead_below old place)) (sym second)
+    ∙ ap (λ a. joined (own_at new place) a) (sym third)
+
 -- so what is kept of it there is right
 pub IsNode-past : (nodes : List Node) (k : ℕ) → length nodes ≤ k → IsNode nodes k
 IsNode-past nodes k h =
-    rw (
-      ahead_at-past nodes k h,
-      own_at-past nodes k h,
-      ahead_at-past nodes (k * 2 + 1) (omega arith),
-      ahead_at-past nodes (k * 2 + 2) (omega arith),
-    ) refl
+    let below : ahead_below nodes k ≡ nothing_ahead = below_is nodes k
+    ∙ among-past nodes (k * 8 + 1) 8 (omega (arith, h)) in
+    ahead_at-past nodes k h ∙ ap (λ a. joined a nothing_ahead) (sym (own_at-past nodes k h))
+    ∙ ap (λ a. joined (own_at nodes k) a) (sym below)
 
 -- what is ahead of a message alone, by its place
 pub own_at-is : (nodes : List Node) (k : ℕ) (d : Node) → k < length nodes → own_at nodes k ≡ own (get_or nodes k d).kept
@@ -41,26 +58,74 @@ own_at-is nodes k d h =
     get_or-map own (kept_in nodes) k d.kept nothing_ahead (omega (arith, length-map nodes (λ (n : Node). n.kept)))
     ∙ ap own (get_or-map (λ (n : Node). n.kept) nodes k d d.kept h)
 
+-- what is ahead of some places is ahead of each of them
+among_ahead : (nodes : List Node) (from n i : ℕ) → i < n
+    → IsAhead (ahead_among nodes from n) (ahead_at nodes (from + i))
+among_ahead nodes from zero i h = absurd (omega (arith, h))
+among_ahead nodes from (suc n) i h = elim (cases_lt i n) [
+  | inl before ↦ IsAhead-trans (ahead_among nodes from (suc n)) (ahead_among nodes from n) (ahead_at nodes (from + i))
+      (joined-left (ahead_among nodes from n) (ahead_at nodes (from + n))) (among_ahead nodes from n i before)
+  | inr not ↦
+      let Goal : ℕ → Type 0 = λ k. IsAhead (ahead_among nodes from (suc n)) (ahead_at nodes (from + k)) in
+      let here : n ≡ i = omega (arith, h, not) in
+      subst Goal here (joined-right (ahead_among nodes from n) (ahead_at nodes (from + n)))
+]
+
+-- and its first turn is that of one of them
+among_one : (nodes : List Node) (from n t : ℕ) → (ahead_among nodes from n).first ≡ t → t < no_turn
+    → (i : ℕ) × ((i < n) × ((ahead_at nodes (from + i)).first ≡ t))
+among_one nodes from zero t is less = absurd (omega (arith, is, less))
+among_one nodes from (suc n) t is less =
+    elim (joined-one (ahead_among nodes from n) (ahead_at nodes (from + n))) [
+      | inl before ↦
+          let one = among_one nodes from n t (sym before ∙ is) less in
+          (one.0, (omega (arith, one.1.0), one.1.1))
+      | inr here ↦ (n, (omega arith, sym here ∙ is))
+    ]
+
+-- it hangs on these places alone
+pub among_same : (old new : List Node) (from n : ℕ)
+    → ((i : ℕ) → i < n → ahead_at new (from + i) ≡ ahead_at old (from + i))
+    → ahead_among new from n ≡ ahead_among old from n
+among_same old new from zero same = refl
+among_same old new from (suc n) same =
+    rw (among_same old new from n (λ i h. same i (omega (arith, h))), same n (omega arith)) refl
+
+-- and is looked at no sooner than each of them
+pub among_awake : (nodes : List Node) (from n slot : ℕ) → slot < 4294967295
+    → ((i : ℕ) → i < n → slot < (ahead_at nodes (from + i)).wake) → slot < (ahead_among nodes from n).wake
+among_awake nodes from zero slot few awake = few
+among_awake nodes from (suc n) slot few awake =
+    let before = among_awake nodes from n slot few (λ i h. awake i (omega (arith, h))) in
+    omega (arith, before, awake n (omega arith))
+
+-- the same of the places below one
+pub below_same : (old new : List Node) (place : ℕ)
+    → ((i : ℕ) → i < 8 → ahead_at new (place * 8 + 1 + i) ≡ ahead_at old (place * 8 + 1 + i))
+    → ahead_below new place ≡ ahead_below old place
+below_same old new place same =
+    below_is new place ∙ among_same old new (place * 8 + 1) 8 same ∙ sym (below_is old place)
+
+pub below_awake : (nodes : List Node) (place slot : ℕ) → slot < 4294967295
+    → ((i : ℕ) → i < 8 → slot < (ahead_at nodes (place * 8 + 1 + i)).wake) → slot < (ahead_below nodes place).wake
+below_awake nodes place slot few awake =
+    let is = ap (λ (a : Ahead). a.wake) (below_is nodes place) in
+    omega (arith, is, among_awake nodes (place * 8 + 1) 8 slot few awake)
+
 -- the place above
 abbrev above : ℕ → ℕ
-above k = (k - 1) / 2
+above k = (k - 1) / 8
 
--- what is ahead of a place is ahead of both places below it
-below_left : (nodes : List Node) (k : ℕ) → IsNode nodes k → IsAhead (ahead_at nodes k) (ahead_at nodes (k * 2 + 1))
-below_left nodes k node =
+-- what is ahead of a place is ahead of each place below it
+below_one : (nodes : List Node) (k i : ℕ) → i < 8 → IsNode nodes k
+    → IsAhead (ahead_at nodes k) (ahead_at nodes (k * 8 + 1 + i))
+below_one nodes k i h node =
     let mine = own_at nodes k in
-    let left = ahead_at nodes (k * 2 + 1) in
-    let right = ahead_at nodes (k * 2 + 2) in
-    rw node (IsAhead-trans (joined mine (joined left right)) (joined left right) left
-    (joined-right mine (joined left right)) (joined-left left right))
-
-below_right : (nodes : List Node) (k : ℕ) → IsNode nodes k → IsAhead (ahead_at nodes k) (ahead_at nodes (k * 2 + 2))
-below_right nodes k node =
-    let mine = own_at nodes k in
-    let left = ahead_at nodes (k * 2 + 1) in
-    let right = ahead_at nodes (k * 2 + 2) in
-    rw node (IsAhead-trans (joined mine (joined left right)) (joined left right) right
-    (joined-right mine (joined left right)) (joined-right left right))
+    let below = ahead_below nodes k in
+    let Goal : Ahead → Type 0 = λ a. IsAhead a (ahead_at nodes (k * 8 + 1 + i)) in
+    let Below : Ahead → Type 0 = λ a. IsAhead a (ahead_at nodes (k * 8 + 1 + i)) in
+    subst Goal (sym node) (IsAhead-trans (joined mine below) below (ahead_at nodes (k * 8 + 1 + i))
+    (joined-right mine below) (subst Below (sym (below_is nodes k)) (among_ahead nodes (k * 8 + 1) 8 i h)))
 
 -- what is ahead of place 0 is ahead of each
 first_is_ahead : (nodes : List Node) → IsTree nodes → (n k : ℕ) → k ≤ n → IsAhead (ahead_at nodes 0) (ahead_at nodes k)
@@ -70,16 +135,8 @@ first_is_ahead nodes tree (suc n) (suc k) h =
     let up = above (suc k) in
     let before = first_is_ahead nodes tree n up (omega arith) in
     let Goal : ℕ → Type 0 = λ i. IsAhead (ahead_at nodes 0) (ahead_at nodes i) in
-    elim (sides k) [
-      | inl is ↦ subst Goal is (IsAhead-trans _ _ _ before (below_left nodes up (tree up)))
-      | inr is ↦ subst Goal is (IsAhead-trans _ _ _ before (below_right nodes up (tree up)))
-    ]
-  where
-    sides : (k : ℕ) → (above (suc k) * 2 + 1 ≡ suc k) ⊎ (above (suc k) * 2 + 2 ≡ suc k)
-    sides k = elim (cases_eq (above (suc k) * 2 + 1) (suc k)) [
-      | inl is ↦ inl is
-      | inr not ↦ inr (omega (arith, not))
-    ]
+    let is : up * 8 + 1 + k % 8 ≡ suc k = omega arith in
+    subst Goal is (IsAhead-trans _ _ _ before (below_one nodes up (k % 8) (omega arith) (tree up)))
 
 -- and so of each message
 pub ahead_of_all : (nodes : List Node) → IsTree nodes → (k : ℕ) → IsAhead (ahead_at nodes 0) (own_at nodes k)
@@ -88,25 +145,21 @@ ahead_of_all nodes tree k =
     IsAhead-trans _ _ _ down (joined-left (own_at nodes k) _)
 
 -- the first turn is that of one of the messages
-pub first_is_one : (nodes : List Node) → IsTree nodes → (t : Turn) (n k : ℕ) → length nodes ≤ k + n
-    → (ahead_at nodes k).turn ≡ Some t → (i : ℕ) × ((i < length nodes) × ((own_at nodes i).turn ≡ Some t))
-first_is_one nodes tree t zero k h is =
-    absurd (none-some t (sym (ap (λ (a : Ahead). a.turn) (ahead_at-past nodes k (omega arith))) ∙ is))
-first_is_one nodes tree t (suc n) k h is =
-    let mine = (own_at nodes k).turn in
-    let left = (ahead_at nodes (k * 2 + 1)).turn in
-    let right = (ahead_at nodes (k * 2 + 2)).turn in
-    let node = ap (λ (a : Ahead). a.turn) (tree k) in
+pub first_is_one : (nodes : List Node) → IsTree nodes → (t n k : ℕ) → length nodes ≤ k + n
+    → (ahead_at nodes k).first ≡ t → t < no_turn → (i : ℕ) × ((i < length nodes) × ((own_at nodes i).first ≡ t))
+first_is_one nodes tree t zero k h is less =
+    absurd (omega (arith, ap (λ (a : Ahead). a.first) (ahead_at-past nodes k (omega (arith, h))), is, less))
+first_is_one nodes tree t (suc n) k h is less =
+    let node = ap (λ (a : Ahead). a.first) (tree k) in
     elim (cases_lt k (length nodes)) [
-      | inr past ↦ absurd (none-some t (sym (ap (λ (a : Ahead). a.turn) (ahead_at-past nodes k past)) ∙ is))
-      | inl within ↦ elim (first_turn-one mine _) [
+      | inr past ↦
+          absurd (omega (arith, ap (λ (a : Ahead). a.first) (ahead_at-past nodes k past), is, less))
+      | inl within ↦ elim (joined-one (own_at nodes k) (ahead_below nodes k)) [
         | inl here ↦ (k, (within, sym here ∙ (sym node ∙ is)))
-        | inr below ↦ elim (first_turn-one left right) [
-          | inl at_left ↦ first_is_one nodes tree t n (k * 2 + 1) (omega arith)
-              (sym at_left ∙ (sym below ∙ (sym node ∙ is)))
-          | inr at_right ↦ first_is_one nodes tree t n (k * 2 + 2) (omega arith)
-              (sym at_right ∙ (sym below ∙ (sym node ∙ is)))
-        ]
+        | inr below ↦
+            let first = ap (λ (a : Ahead). a.first) (below_is nodes k) in
+            let one = among_one nodes (k * 8 + 1) 8 t (sym first ∙ (sym below ∙ (sym node ∙ is))) less in
+            first_is_one nodes tree t n (k * 8 + 1 + one.0) (omega (arith, h)) one.1.1 less
       ]
     ]
 
@@ -148,43 +201,29 @@ put_node nodes place k h =
     let here = ap (λ xs. get_or xs place nothing_ahead) (map-set (λ (n : Node). n.ahead) nodes place
     (node_with nodes place k)) ∙ get_or-set_same (map (λ (n : Node). n.ahead) nodes) place
     (node_with nodes place k).ahead nothing_ahead (omega (arith, length-map nodes (λ (n : Node). n.ahead))) in
-    rw (
-      here,
-      put_own_here nodes place k h,
-      put_others nodes place k (place * 2 + 1) (λ e. omega (arith, e)),
-      put_others nodes place k (place * 2 + 2) (λ e. omega (arith, e)),
-    ) refl
+    let below = below_same nodes (put_in nodes place k) place (λ i g. put_others nodes place k (place * 8 + 1 + i)
+    (λ e. omega (arith, e))) in
+    here ∙ ap (λ a. joined a (ahead_below nodes place)) (sym (put_own_here nodes place k h))
+    ∙ ap (λ a. joined (own_at (put_in nodes place k) place) a) (sym below)
 
 -- and the others stay right, but perhaps the one above it
 pub put_nodes : (nodes : List Node) (place : ℕ) (k : Kept) → place < length nodes
     → KeepsNodesBut nodes (put_in nodes place k) place
-put_nodes nodes place k h = λ other left right node.
+put_nodes nodes place k h = λ other below node.
     elim (cases_eq other place) [
       | inl same ↦ rw same (put_node nodes place k h)
-      | inr apart ↦ rw (
-        put_others nodes place k other apart,
-        put_own nodes place k other apart,
-        put_others nodes place k (other * 2 + 1) left,
-        put_others nodes place k (other * 2 + 2) right,
-      ) node
-    ]
-
--- after a write at place 0 all is right
-pub put_first : (nodes : List Node) (k : Kept) → 0 < length nodes → IsTreeBut nodes 0 → IsTree (put_in nodes 0 k)
-put_first nodes k h others = λ place.
-    elim (cases_eq place 0) [
-      | inl first ↦ rw first (put_node nodes 0 k h)
-      | inr apart ↦ put_nodes nodes 0 k h place (λ e. omega (arith, e)) (λ e. omega (arith, e)) (others place apart)
+      | inr apart ↦ node_is nodes (put_in nodes place k) other (put_others nodes place k other apart)
+          (put_own nodes place k other apart) (below_same nodes (put_in nodes place k) other
+          (λ i g. put_others nodes place k (other * 8 + 1 + i) (below i g))) node
     ]
 
 -- and elsewhere all is right but perhaps the place above
 pub put_above : (nodes : List Node) (place : ℕ) (k : Kept) → place < length nodes → 0 < place → IsTreeBut nodes place
-    → IsTreeBut (put_in nodes place k) ((place - 1) / 2)
+    → IsTreeBut (put_in nodes place k) ((place - 1) / 8)
 put_above nodes place k h below others = λ other not_above.
     elim (cases_eq other place) [
       | inl same ↦ rw same (put_node nodes place k h)
-      | inr apart ↦ put_nodes nodes place k h other (λ e. not_above (omega (arith, e)))
-          (λ e. not_above (omega (arith, e))) (others other apart)
+      | inr apart ↦ put_nodes nodes place k h other (λ i g e. not_above (omega (arith, g, e))) (others other apart)
     ]
 
 -- a message written over by itself changes nothing
@@ -196,8 +235,113 @@ kept_same nodes place d h =
 
 -- a place is looked at again no sooner than its message and the places below it
 pub node_awake : (nodes : List Node) (place slot : ℕ) → IsNode nodes place → slot < (own_at nodes place).wake
-    → slot < (ahead_at nodes (place * 2 + 1)).wake → slot < (ahead_at nodes (place * 2 + 2)).wake
-    → slot < (ahead_at nodes place).wake
-node_awake nodes place slot node mine left right =
+    → slot < (ahead_below nodes place).wake → slot < (ahead_at nodes place).wake
+node_awake nodes place slot node mine below =
     let is = ap (λ (a : Ahead). a.wake) node in
-    omega (arith, is, mine, left, right)
+    omega (arith, is, mine, below)
+
+-- a message alone written over leaves what is ahead of the places as it was
+abbrev pub kept_as : List Node → ℕ → Node → Kept → List Node
+kept_as nodes place d k = set nodes place (record (get_or nodes place d) { kept = k })
+
+pub kept_as-kept : (nodes : List Node) (place : ℕ) (d : Node) (k : Kept)
+    → kept_in (kept_as nodes place d k) ≡ set (kept_in nodes) place k
+kept_as-kept nodes place d k = map-set (λ (n : Node). n.kept) nodes place (record (get_or nodes place d) { kept = k })
+
+kept_as-ahead : (nodes : List Node) (place : ℕ) (d : Node) (k : Kept) (other : ℕ) → place < length nodes
+    → ahead_at (kept_as nodes place d k) other ≡ ahead_at nodes other
+kept_as-ahead nodes place d k other h =
+    ap (λ xs. get_or xs other nothing_ahead) (map-set (λ (n : Node). n.ahead) nodes place
+    (record (get_or nodes place d) { kept = k }) ∙ (ap (λ a. set (map (λ (n : Node). n.ahead) nodes) place a)
+    (sym (get_or-map (λ (n : Node). n.ahead) nodes place d d.ahead h)) ∙ set-get_or (map (λ (n : Node). n.ahead) nodes)
+    place d.ahead))
+
+kept_as-own : (nodes : List Node) (place : ℕ) (d : Node) (k : Kept) (other : ℕ) → other ≢ place
+    → own_at (kept_as nodes place d k) other ≡ own_at nodes other
+kept_as-own nodes place d k other apart =
+    ap (λ ks. get_or (map own ks) other nothing_ahead) (kept_as-kept nodes place d k)
+    ∙ (ap (λ xs. get_or xs other nothing_ahead) (map-set own (kept_in nodes) place k)
+    ∙ get_or-set_other (map own (kept_in nodes)) place other (own k) nothing_ahead apart)
+
+-- so the others stay right
+pub kept_as-others : (nodes : List Node) (place : ℕ) (d : Node) (k : Kept) → place < length nodes
+    → IsTreeBut nodes place → IsTreeBut (kept_as nodes place d k) place
+kept_as-others nodes place d k h others = λ other apart.
+    node_is nodes (kept_as nodes place d k) other (kept_as-ahead nodes place d k other h)
+    (kept_as-own nodes place d k other apart) (below_same nodes (kept_as nodes place d k) other
+    (λ i g. kept_as-ahead nodes place d k (other * 8 + 1 + i) h)) (others other apart)
+
+-- where what is ahead of the place is right, all is
+pub all_right : (nodes : List Node) (place : ℕ) → IsNode nodes place → IsTreeBut nodes place → IsTree nodes
+all_right nodes place node others = λ other. elim (cases_eq other place) [
+  | inl same ↦ rw same node
+  | inr apart ↦ others other apart
+]
+
+-- what is kept as ahead of a place, by its place
+pub ahead_at-is : (nodes : List Node) (k : ℕ) (d : Node) → k < length nodes
+    → ahead_at nodes k ≡ (get_or nodes k d).ahead
+ahead_at-is nodes k d h = get_or-map (λ (n : Node). n.ahead) nodes k d nothing_ahead h
+
+-- a write at a place that none is above leaves all right
+pub put_top : (nodes : List Node) (place : ℕ) (k : Kept) → place < length nodes → place ≡ 0 → IsTreeBut nodes place
+    → IsTree (put_in nodes place k)
+put_top nodes place k h top others = λ other.
+    elim (cases_eq other place) [
+      | inl same ↦ rw same (put_node nodes place k h)
+      | inr apart ↦ put_nodes nodes place k h other (λ i g e. omega (arith, top, e)) (others other apart)
+    ]
+
+-- the first turn is one, or none
+among_most : (nodes : List Node) (from n : ℕ) → (ahead_among nodes from n).first ≤ no_turn
+among_most nodes from zero = omega arith
+among_most nodes from (suc n) = omega (arith, among_most nodes from n)
+
+pub first_most : (nodes : List Node) (place : ℕ) → IsNode nodes place → (ahead_at nodes place).first ≤ no_turn
+first_most nodes place node =
+    let is = ap (λ (a : Ahead). a.first) node in
+    let below = ap (λ (a : Ahead). a.first) (below_is nodes place) in
+    omega (arith, is, below, among_most nodes (place * 8 + 1) 8)
+
+-- the places below one after so many of them were looked at again: what is seen is as before, what is kept is right,
+-- what is ahead of the places before them is as it was, these are awake, and no place but the one is less right than
+-- before
+pub record AreRenewedTo (slot place n : ℕ) (old new : List Node) : Type 0 where
+  pub long : length new ≡ length old
+  pub seen : seen_in slot new ≡ seen_in slot old
+  pub right : All (IsRight slot) (kept_in new)
+  pub turns : All HasTurn (kept_in new)
+  pub before : (k : ℕ) → k < place * 8 + 1 → ahead_at new k ≡ ahead_at old k
+  pub awake : (i : ℕ) → i < n → slot < (ahead_at new (place * 8 + 1 + i)).wake
+  pub nodes : (k : ℕ) → k ≢ place → IsNode old k → IsNode new k
+
+-- one more of them was looked at again, with those below it
+pub renewed_child : (slot place n : ℕ) (old mid new : List Node) → AreRenewedTo slot place n old mid
+    → length new ≡ length mid → seen_in slot new ≡ seen_in slot mid → All (IsRight slot) (kept_in new)
+    → All HasTurn (kept_in new) → ((k : ℕ) → k < place * 8 + 1 + n → ahead_at new k ≡ ahead_at mid k)
+    → slot < (ahead_at new (place * 8 + 1 + n)).wake → KeepsNodesBut mid new (place * 8 + 1 + n) → n < 8
+    → AreRenewedTo slot place (n + 1) old new
+renewed_child slot place n old mid new was long seen right turns before awake nodes few = record {
+  long = long ∙ was.long;
+  seen = seen ∙ was.seen;
+  right = right;
+  turns = turns;
+  before = λ k h. before k (omega (arith, h)) ∙ was.before k h;
+  awake = λ i h. elim (cases_lt i n) [
+    | inl less ↦
+        let same = ap (λ (a : Ahead). a.wake) (before (place * 8 + 1 + i) (omega (arith, less))) in
+        omega (arith, same, was.awake i less)
+    | inr not ↦
+        let Awake : ℕ → Type 0 = λ j. slot < (ahead_at new (place * 8 + 1 + j)).wake in
+        let here : n ≡ i = omega (arith, h, not) in
+        subst Awake here awake
+  ];
+  nodes = λ k apart node. nodes k (λ i h e. apart (omega (arith, h, e, few))) (was.nodes k apart node);
+}
+
+-- what is ahead of some places and of the next one
+pub among_more : (nodes : List Node) (from n : ℕ)
+    → ahead_among nodes from (n + 1) ≡ joined (ahead_among nodes from n) (ahead_at nodes (from + n))
+among_more nodes from n =
+    let next : n + 1 ≡ suc n = omega arith in
+    ap (ahead_among nodes from) next

@@ -1,9 +1,8 @@
 -- How a plan finds the message that is served first (own): contracts of private functions alone speak of it.
-use Rattle.std.specs.Prelude.{◌≡◌, ◌≢◌, ℕ, ◌+◌, ◌*◌, ◌<◌, ◌≤◌, ◌==◌, ◌⊎◌, ◌&&◌, ◌||◌, nat_lt, nat_le, min, Bool, false}
+use Rattle.std.specs.Prelude.{◌≡◌, ◌≢◌, ℕ, ◌+◌, ◌*◌, ◌<◌, ◌≤◌, ◌==◌, ◌⊎◌, nat_lt, min, zero, suc, false}
 use Rattle.std.specs.Prelude.{if◌then◌else◌, Option, Some, None, List, length, map, slice_index_or, All, AllPairs}
 use Rattle.scheduler.specs.declared.plan.Item.{Item}
 use Rattle.scheduler.specs.declared.scheduled.Scheduled.{Scheduled}
-use Rattle.scheduler.specs.declared.turn.Turn.{Turn}
 use Rattle.scheduler.specs.declared.turn.Ahead.{Ahead}
 use Rattle.scheduler.specs.declared.kept.Kept.{Kept}
 use Rattle.scheduler.specs.declared.queue.Node.{Node}
@@ -12,38 +11,36 @@ use Rattle.scheduler.specs.Air.{layer_of, class_of}
 use Rattle.scheduler.specs.Follows.{message_of}
 use Rattle.scheduler.specs.PlanSteps.{IsFit, IsSound, is_ready}
 
--- of two turns, the first comes no later: by layer, then due slot, then class, then number
-abbrev pub is_no_later : Turn → Turn → Bool
-is_no_later a b =
-    nat_lt a.layer b.layer || ((a.layer == b.layer) && (nat_lt a.due b.due || ((a.due == b.due) &&
-    (nat_lt a.class b.class || ((a.class == b.class) && nat_le a.entry b.entry)))))
+-- a turn as one number, of which the lesser comes first: by layer, then due slot, then class, then the number of the
+-- message
+abbrev pub turn_number : ℕ → ℕ → ℕ → ℕ → ℕ
+turn_number layer due class entry = (layer * 8589934592 + (due * 2 + class)) * 65536 + entry
 
--- the first of two turns, where there is one
-abbrev pub first_turn : Option Turn → Option Turn → Option Turn
-first_turn None b = b
-first_turn (Some a) None = Some a
-first_turn (Some a) (Some b) = if is_no_later a b then Some a else Some b
+-- no turn, which comes last
+abbrev pub no_turn : ℕ
+no_turn = 18446744073709551615
 
 -- what is ahead of some messages and of others
 abbrev pub joined : Ahead → Ahead → Ahead
-joined a b = record { turn = first_turn a.turn b.turn; wake = min a.wake b.wake }
+joined a b = record { first = min a.first b.first; wake = min a.wake b.wake }
 
 -- what is ahead of no message
 abbrev pub nothing_ahead : Ahead
-nothing_ahead = record { turn = None; wake = 4294967295 }
+nothing_ahead = record { first = no_turn; wake = 4294967295 }
 
 -- the turn of a message that has a pending broadcast
-abbrev pub turn_of : Kept → Turn
-turn_of k = record {
-  layer = layer_of k.scheduled.item.rank;
-  due = k.until;
-  class = class_of k.scheduled.item.rank;
-  entry = k.scheduled.item.entry;
-}
+abbrev pub turn_of : Kept → ℕ
+turn_of k =
+    turn_number (layer_of k.scheduled.item.rank) k.until (class_of k.scheduled.item.rank) k.scheduled.item.entry
 
 -- what is ahead of a message alone
 abbrev pub own : Kept → Ahead
-own k = record { turn = if k.is_open then Some (turn_of k) else None; wake = k.until }
+own k = record { first = if k.is_open then turn_of k else no_turn; wake = k.until }
+
+-- its slot and its number have room in a turn
+pub record HasTurn (k : Kept) : Type 0 where
+  pub slot : k.until < 4294967296
+  pub number : k.scheduled.item.entry < 65536
 
 -- what is kept of a message that was just added
 abbrev pub kept_new : Item → Kept
@@ -115,9 +112,18 @@ ahead_at nodes place = slice_index_or (map (λ n. n.ahead) nodes) place nothing_
 abbrev pub own_at : List Node → ℕ → Ahead
 own_at nodes place = slice_index_or (map own (kept_in nodes)) place nothing_ahead
 
--- what is ahead of a place that has this alone: that, and what is ahead of the two places below it
+-- what is ahead of so many places from one on
+abbrev pub ahead_among : List Node → ℕ → ℕ → Ahead
+ahead_among nodes from zero = nothing_ahead
+ahead_among nodes from (suc n) = joined (ahead_among nodes from n) (ahead_at nodes (from + n))
+
+-- what is ahead of the eight places below one
+unfoldable pub ahead_below : List Node → ℕ → Ahead
+ahead_below nodes place = ahead_among nodes (place * 8 + 1) 8
+
+-- what is ahead of a place that has this alone: that, and what is ahead of the places below it
 abbrev pub with_below : List Node → ℕ → Ahead → Ahead
-with_below nodes place mine = joined mine (joined (ahead_at nodes (place * 2 + 1)) (ahead_at nodes (place * 2 + 2)))
+with_below nodes place mine = joined mine (ahead_below nodes place)
 
 -- and so it is kept there
 abbrev pub IsNode : List Node → ℕ → Type 0
@@ -138,7 +144,7 @@ node_with nodes place k = record { kept = k; ahead = with_below nodes place (own
 -- what was kept right is still so, but perhaps at the place that this one is below
 abbrev pub KeepsNodesBut : List Node → List Node → ℕ → Type 0
 KeepsNodesBut old new below =
-    (place : ℕ) → place * 2 + 1 ≢ below → place * 2 + 2 ≢ below → IsNode old place → IsNode new place
+    (place : ℕ) → ((n : ℕ) → n < 8 → place * 8 + 1 + n ≢ below) → IsNode old place → IsNode new place
 
 -- the numbers of the messages rise
 abbrev pub AreRising : List Node → Type 0
@@ -154,6 +160,7 @@ pub record IsPlaceOf (entry : ℕ) (nodes : List Node) (place : ℕ) : Type 0 wh
 -- what is true of the messages of a plan at the slot that is asked next
 pub record AreKept (slot : ℕ) (nodes : List Node) : Type 0 where
   pub right : All (IsRight slot) (kept_in nodes)
+  pub turns : All HasTurn (kept_in nodes)
   pub tree : IsTree nodes
 
 -- the message of that number stands at the place, or there is none

@@ -2,11 +2,11 @@
 
 ghost use Rattle.std.specs.Prelude.{◌≡◌, ◌<◌, true};
 ghost use Rattle.scheduler.specs.PlanSteps.{IsFit};
-ghost use Rattle.scheduler.specs.QueueSteps.{renewed, aired, stopped, own, kept_new};
+ghost use Rattle.scheduler.specs.QueueSteps.{HasTurn, renewed, aired, stopped, own, kept_new};
 
 use crate::plan::Item;
 use crate::scheduled::Scheduled;
-use crate::turn::{Ahead, Turn};
+use crate::turn::{Ahead, turn_number};
 
 /// A message, with what is true of it up to a slot.
 #[derive(Clone, Copy)]
@@ -34,7 +34,8 @@ impl Kept {
     /// What is kept of it at `slot`: where it is to be looked at again by then, what begins there.
     pub fn renewed(self, slot: u16) -> Kept
         requires { IsFit self.scheduled slot }
-        ensures { result ≡ renewed slot self }
+        ensures value { result ≡ renewed slot self }
+        ensures turn { HasTurn result }
     {
         if u32::from(slot) < self.until {
             return self;
@@ -95,15 +96,15 @@ impl Kept {
     pub fn own(self) -> Ahead
         ensures { result ≡ own self }
     {
+        if !self.is_open {
+            return Ahead {
+                wake: self.until,
+                ..Ahead::nothing()
+            };
+        }
         let item = self.scheduled.item;
-        let turn = Turn {
-            layer: item.rank.layer(),
-            due: self.until,
-            class: item.rank.class(),
-            entry: item.entry,
-        };
         Ahead {
-            turn: if self.is_open { Some(turn) } else { None },
+            first: turn_number(item.rank.layer(), self.until, item.rank.class(), item.entry),
             wake: self.until,
         }
     }

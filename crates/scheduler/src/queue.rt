@@ -1,5 +1,5 @@
 //! The messages of a plan in the order of their numbers, each with what is ahead of it and of the places below it: of
-//! place p these are the places 2p + 1 and 2p + 2. So the first turn of all stands at place 0, and a change at one
+//! place p these are the places 8p + 1 to 8p + 8. So the first turn of all stands at place 0, and a change at one
 //! place is carried to those above it alone.
 
 ghost use Rattle.std.specs.Prelude.{◌≡◌, ◌≢◌, ◌<◌, ◌≤◌, ℕ, ◌+◌, ◌*◌, length, All, AllPairs, Any, map, slice_set};
@@ -7,13 +7,16 @@ ghost use Rattle.std.specs.Prelude.{◌==◌, ◌++◌, ◌∷◌, [], MatchBool
 ghost use Rattle.std.specs.Prelude.{Option, Some, None};
 ghost use Rattle.scheduler.specs.PlanSteps.{IsChoice, after_slot, scheduled_stopped};
 ghost use Rattle.scheduler.specs.declared.queue.Node.{Node};
-ghost use Rattle.scheduler.specs.QueueSteps.{ahead_at, with_below, node_with, kept_in, seen_in, IsNode, IsTree};
+ghost use Rattle.scheduler.specs.QueueSteps.{ahead_at, ahead_below, kept_in, seen_in, IsNode, IsTree, HasTurn};
 ghost use Rattle.scheduler.specs.QueueSteps.{IsTreeBut, KeepsNodesBut, own_at, IsRight, IsPlaceOf, IsFound, AreRising};
 ghost use Rattle.scheduler.specs.QueueSteps.{AreKept, kept_new};
 
 use crate::kept::Kept;
 use crate::plan::{Item, Refused};
 use crate::turn::Ahead;
+
+/// How many places are below one.
+const BELOW: usize = 8;
 
 /// A message, with what is ahead of it and of the places below it.
 #[derive(Clone, Copy)]
@@ -31,21 +34,40 @@ fn ahead_at(nodes: &[Node], place: usize) -> Ahead
     if place < nodes.len() {
         nodes[place].ahead
     } else {
-        Ahead {
-            turn: None,
-            wake: u32::MAX,
-        }
+        Ahead::nothing()
     }
 }
 
-/// Keeps this of the message at a place, with what is now ahead of the place.
-fn put(nodes: &mut [Node], place: usize, kept: Kept)
-    requires { place < length nodes.old }
-    ensures { nodes.new ≡ slice_set nodes.old place (node_with nodes.old place kept) }
+/// What is ahead of the places below one.
+fn ahead_below(nodes: &[Node], place: usize) -> Ahead
+    ensures { result ≡ ahead_below nodes.now place }
 {
-    let below = ahead_at(nodes, place * 2 + 1).joined(ahead_at(nodes, place * 2 + 2));
-    let ahead = kept.own().joined(below);
-    nodes[place] = Node { kept, ahead };
+    let mut ahead = Ahead::nothing();
+    if place > nodes.len() / BELOW {
+        return ahead;
+    }
+    for below in 0..BELOW {
+        ahead = ahead.joined(ahead_at(nodes, place * BELOW + 1 + below));
+    }
+    ahead
+}
+
+/// Puts right what is ahead of a place, and of those above it up to one of which it stays the same.
+fn lift(nodes: &mut [Node], place: usize)
+    requires within { place < length nodes.old }
+    requires others { IsTreeBut nodes.old place }
+    ensures kept { kept_in nodes.new ≡ kept_in nodes.old }
+    ensures tree { IsTree nodes.new }
+{
+    let old = nodes[place];
+    let ahead = old.kept.own().joined(ahead_below(nodes, place));
+    if ahead.is(old.ahead) {
+        return;
+    }
+    nodes[place].ahead = ahead;
+    if place > 0 {
+        lift(nodes, (place - 1) / BELOW);
+    }
 }
 
 /// Keeps this of the message at a place, and puts right what is ahead of the place and of those above it.
@@ -55,45 +77,66 @@ fn change(nodes: &mut [Node], place: usize, kept: Kept)
     ensures kept { kept_in nodes.new ≡ slice_set (kept_in nodes.old) place kept }
     ensures tree { IsTree nodes.new }
 {
-    put(nodes, place, kept);
-    if place > 0 {
-        let above = (place - 1) / 2;
-        let same = nodes[above].kept;
-        change(nodes, above, same);
-    }
+    nodes[place].kept = kept;
+    lift(nodes, place);
 }
 
-/// Looks again at the message of a place, if `slot` is a slot to do so.
-fn renew(nodes: &mut [Node], place: usize, slot: u16)
+/// Looks again at the message of a place, if `slot` is a slot to do so, and puts right what is ahead of the place, by
+/// what is ahead of those below it.
+fn renew(nodes: &mut [Node], place: usize, slot: u16, below: Ahead)
     requires within { place < length nodes.old }
+    requires below { below ≡ ahead_below nodes.old place }
     requires right { All (IsRight slot) (kept_in nodes.old) }
+    requires turns { All HasTurn (kept_in nodes.old) }
     ensures seen { seen_in slot nodes.new ≡ seen_in slot nodes.old }
     ensures right { All (IsRight slot) (kept_in nodes.new) }
+    ensures turns { All HasTurn (kept_in nodes.new) }
     ensures others { (k : ℕ) → k ≢ place → ahead_at nodes.new k ≡ ahead_at nodes.old k }
     ensures awake { slot < (own_at nodes.new place).wake }
     ensures node { IsNode nodes.new place }
     ensures nodes { KeepsNodesBut nodes.old nodes.new place }
 {
     let kept = nodes[place].kept.renewed(slot);
-    put(nodes, place, kept);
+    let ahead = kept.own().joined(below);
+    nodes[place] = Node { kept, ahead };
 }
 
 /// Looks again, at the places from this one down, at each message for which `slot` is a slot to do so: its broadcast
 /// that is due is dropped, and the next one begins.
 fn renew_below(nodes: &mut [Node], place: usize, slot: u16)
+    requires within { place < length nodes.old }
     requires right { All (IsRight slot) (kept_in nodes.old) }
+    requires turns { All HasTurn (kept_in nodes.old) }
     ensures seen { seen_in slot nodes.new ≡ seen_in slot nodes.old }
     ensures right { All (IsRight slot) (kept_in nodes.new) }
+    ensures turns { All HasTurn (kept_in nodes.new) }
     ensures before { (k : ℕ) → k < place → ahead_at nodes.new k ≡ ahead_at nodes.old k }
     ensures awake { slot < (ahead_at nodes.new place).wake }
     ensures nodes { KeepsNodesBut nodes.old nodes.new place }
 {
-    if u32::from(slot) < ahead_at(nodes, place).wake {
-        return;
+    let mut ahead = Ahead::nothing();
+    if place <= nodes.len() / BELOW {
+        for below in 0..BELOW {
+            let child = place * BELOW + 1 + below;
+            if ahead_at(nodes, child).wake <= u32::from(slot) {
+                renew_below(nodes, child, slot);
+            }
+            ahead = ahead.joined(ahead_at(nodes, child));
+        }
     }
-    renew_below(nodes, place * 2 + 1, slot);
-    renew_below(nodes, place * 2 + 2, slot);
-    renew(nodes, place, slot);
+    renew(nodes, place, slot, ahead);
+}
+
+/// Looks again at each message for which `slot` is a slot to do so.
+fn renew_all(nodes: &mut [Node], slot: u16)
+    requires { AreKept slot nodes.old }
+    ensures seen { seen_in slot nodes.new ≡ seen_in slot nodes.old }
+    ensures kept { AreKept slot nodes.new }
+    ensures awake { slot < (ahead_at nodes.new 0).wake }
+{
+    if ahead_at(nodes, 0).wake <= u32::from(slot) {
+        renew_below(nodes, 0, slot);
+    }
 }
 
 /// The place of the message of `entry`, where there is one: those before it have lesser numbers.
@@ -121,14 +164,10 @@ fn choice(nodes: &[Node], slot: u16) -> Option<(u16, u8)>
     requires awake { slot < (ahead_at nodes.now 0).wake }
     ensures { IsChoice (seen_in slot nodes.now) slot result }
 {
-    match ahead_at(nodes, 0).turn {
-        None => None,
-        Some(turn) => {
-            let place = place_of(nodes, turn.entry);
-            let first = nodes[place].kept.scheduled;
-            Some((turn.entry, first.next_page()))
-        }
-    }
+    let entry = ahead_at(nodes, 0).first_entry()?;
+    let place = place_of(nodes, entry);
+    let first = nodes[place].kept.scheduled;
+    Some((entry, first.next_page()))
 }
 
 /// Goes past a slot and its use.
@@ -160,7 +199,7 @@ pub fn play(nodes: &mut [Node], slot: u16) -> Option<(u16, u8)>
     ensures seen { seen_in (slot + 1) nodes.new ≡ map (after_slot slot result) (seen_in slot nodes.old) }
     ensures kept { AreKept (slot + 1) nodes.new }
 {
-    renew_below(nodes, 0, slot);
+    renew_all(nodes, slot);
     let used = choice(nodes, slot);
     pass(nodes, slot, used);
     used
@@ -172,16 +211,14 @@ pub fn push(nodes: &mut Vec<Node>, item: Item) -> Result<(), Refused>
     ensures kept { OnOk result (kept_in nodes.new.items ≡ kept_in nodes.old.items ++ kept_new item ∷ []) }
     ensures tree { IsTree nodes.new.items }
     ensures refused { OnErr result (nodes.new.items ≡ nodes.old.items) }
+    ensures turn { HasTurn (kept_new item) }
 {
     let place = nodes.len();
     let kept = Kept::new(item);
-    let ahead = Ahead {
-        turn: None,
-        wake: u32::MAX,
-    };
+    let ahead = Ahead::nothing();
     match nodes.push(Node { kept, ahead }) {
         Ok(()) => {
-            change(nodes.as_mut_slice(), place, kept);
+            lift(nodes.as_mut_slice(), place);
             Ok(())
         }
         Err(_) => Err(Refused),

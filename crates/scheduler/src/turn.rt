@@ -1,66 +1,67 @@
 //! Which of two messages is served first, and when they are to be looked at again.
 
-ghost use Rattle.std.specs.Prelude.{◌≡◌};
-ghost use Rattle.scheduler.specs.QueueSteps.{is_no_later, first_turn, joined};
+ghost use Rattle.std.specs.Prelude.{◌≡◌, ◌≢◌, ◌==◌, ◌%◌, if◌then◌else◌, MatchBool, Some, None};
+ghost use Rattle.scheduler.specs.QueueSteps.{joined, no_turn, nothing_ahead, turn_number};
 
-/// When a message with a pending broadcast is served: the lesser of its numbers, in their order, comes first.
-#[derive(Clone, Copy)]
-pub struct Turn {
-    /// 1 for background, which comes after all others, and 0 for those.
-    pub layer: u8,
-    /// The slot before which the pending broadcast is to be completed.
-    pub due: u32,
-    /// 0 for high, and 1 for the others.
-    pub class: u8,
-    /// The message's number in the log.
-    pub entry: u16,
-}
+/// No turn, which comes last. A turn has 50 bits.
+const NO_TURN: u64 = u64::MAX;
 
-impl Turn {
-    /// Whether the one is served no later than the other.
-    pub fn is_no_later(self, other: Turn) -> bool
-        ensures { result ≡ is_no_later self other }
-    {
-        self.layer < other.layer
-            || (self.layer == other.layer
-                && (self.due < other.due
-                    || (self.due == other.due
-                        && (self.class < other.class
-                            || (self.class == other.class && self.entry <= other.entry)))))
-    }
+/// The turn of a message with a pending broadcast as one number, of which the lesser comes first: by layer (0, or 1
+/// for background), then by the slot before which the broadcast is to be completed, then by class (0 for high, else 1),
+/// then by the message's number.
+pub fn turn_number(layer: u8, due: u32, class: u8, entry: u16) -> u64
+    ensures { result ≡ turn_number layer due class entry }
+{
+    let in_layer = u64::from(due) * 2 + u64::from(class);
+    (u64::from(layer) * 0x2_0000_0000 + in_layer) * 0x1_0000 + u64::from(entry)
 }
 
 /// What is ahead of some messages: the first turn among those with a pending broadcast, and the first slot at which
 /// one of them is to be looked at again.
 #[derive(Clone, Copy)]
 pub struct Ahead {
-    /// The first turn; `None` where no message has a pending broadcast.
-    pub turn: Option<Turn>,
+    /// The first turn, as one number; 2^64 - 1 where no message has a pending broadcast.
+    pub first: u64,
     /// The first slot at which a pending broadcast is due, or a further one is released.
     pub wake: u32,
 }
 
 impl Ahead {
+    /// What is ahead of no message.
+    pub fn nothing() -> Ahead
+        ensures { result ≡ nothing_ahead }
+    {
+        Ahead {
+            first: NO_TURN,
+            wake: u32::MAX,
+        }
+    }
+
     /// What is ahead of these and of others.
     pub fn joined(self, other: Ahead) -> Ahead
         ensures { result ≡ joined self other }
     {
         Ahead {
-            turn: first_turn(self.turn, other.turn),
+            first: self.first.min(other.first),
             wake: self.wake.min(other.wake),
         }
     }
-}
 
-/// The first of two turns, where there is one.
-fn first_turn(turn: Option<Turn>, other: Option<Turn>) -> Option<Turn>
-    ensures { result ≡ first_turn turn other }
-{
-    match turn {
-        None => other,
-        Some(mine) => match other {
-            None => turn,
-            Some(yours) => { if mine.is_no_later(yours) { turn } else { other } }
-        },
+    /// Whether the same is ahead of others.
+    pub fn is(self, other: Ahead) -> bool
+        ensures { MatchBool result (self ≡ other) (self ≢ other) }
+    {
+        self.first == other.first && self.wake == other.wake
+    }
+
+    /// The number of the message whose turn is the first, where there is a turn.
+    pub fn first_entry(self) -> Option<u16>
+        ensures { result ≡ (if self.first == no_turn then None else Some (self.first % 65536)) }
+    {
+        if self.first == NO_TURN {
+            None
+        } else {
+            Some((self.first % 0x1_0000) as u16)
+        }
     }
 }

@@ -2,6 +2,7 @@ use Rattle.std.proofs.Common.{ℕ, ◌≡◌, ◌∙◌, ◌+◌, ap, sym, subst
 use Rattle.scheduler.specs.PlanSteps.{IsChoice, after_slot}
 use Rattle.scheduler.specs.QueueSteps.{seen, seen_in}
 use Rattle.scheduler.proofs.FirstTurn.{blank}
+use Rattle.scheduler.proofs.Found.{turns_aired}
 use Rattle.scheduler.proofs.Counts.{is_ready-parts}
 use Rattle.scheduler.proofs.Places.{right_at}
 use Rattle.scheduler.proofs.Passed.{used_at, seen_after_none, seen_after_used, right_later, right_after_used}
@@ -43,6 +44,7 @@ returns-in-None-clause-seen c =
 pub returns-in-None-clause-kept : goal.returns-in-None-clause-kept
 returns-in-None-clause-kept c = record {
   right = right_later c.args.slot _ c.requires.kept.right;
+  turns = c.requires.kept.turns;
   tree = c.requires.kept.tree;
 }
 
@@ -67,5 +69,7 @@ returns-in-Some-clause-kept c =
     record {
       right = rw (c.change.ensures.kept, c.aired-kept.ensures) (right_after_used c.args.slot c.args.nodes.now
           (c.in-Some.entry, c.in-Some.field-0-1) c.place_of-place.result blank c.requires.kept c.requires.awake used);
+      turns = rw (c.change.ensures.kept, c.aired-kept.ensures) (turns_aired c.args.nodes.now c.place_of-place.result
+          used.within c.requires.kept.turns);
       tree = c.change.ensures.tree;
     }

@@ -7,11 +7,11 @@ use Rattle.scheduler.proofs.queue.play.Goals as goal
 pub choice-used-requires-clause-rising : goal.choice-used-requires-clause-rising
 choice-used-requires-clause-rising c =
     let Rising : List Scheduled → Type 0 = λ ts. AllPairs (λ a b. a.item.entry < b.item.entry) ts in
-    rising_of_seen c.args.slot c.renew_below.new.nodes (subst Rising (sym c.renew_below.ensures.seen)
+    rising_of_seen c.args.slot c.renew_all.new.nodes (subst Rising (sym c.renew_all.ensures.seen)
     c.requires.rising)
 
 pub pass-requires-clause-rising : goal.pass-requires-clause-rising
 pass-requires-clause-rising c =
     let Rising : List Scheduled → Type 0 = λ ts. AllPairs (λ a b. a.item.entry < b.item.entry) ts in
-    rising_of_seen c.args.slot c.renew_below.new.nodes (subst Rising (sym c.renew_below.ensures.seen)
+    rising_of_seen c.args.slot c.renew_all.new.nodes (subst Rising (sym c.renew_all.ensures.seen)
     c.requires.rising)

@@ -21,7 +21,8 @@ invariant_of-self c =
     let From : PlanState → Type 0 = λ p. next_slot p ≤ c.args.item.start in
     on_either c.push.result (kept_in new ≡ kept_in old ++ kept_new c.args.item ∷ []) (new ≡ old) (IsPlan slot new)
     (λ is. IsPlan-add slot old new c.args.item (subst Above back c.requires.rising) (subst From back
-    c.requires.from_next) c.requires.some_pages c.requires.some_period c.self.invariant is c.push.ensures.tree)
+    c.requires.from_next) c.requires.some_pages c.requires.some_period c.push.ensures.turn c.self.invariant is
+    c.push.ensures.tree)
     (λ same. subst (IsPlan slot) (sym same) c.self.invariant) c.push.ensures.kept c.push.ensures.refused
 
 pub returns-clause-follows : goal.returns-clause-follows
