@@ -1,5 +1,14 @@
-//! Tests of `order_desk` by its public calls: replies worked by hand, and cells.
+//! Tests of `order_desk` by its public calls: replies worked by hand, cells, worked runs at a desk, two orders at once,
+//! and refused memory.
 #![tactic(auto)]
 
+#[cfg(test)]
+mod desks;
+#[cfg(test)]
+mod meeting;
+#[cfg(test)]
+mod memory;
+#[cfg(test)]
+mod orders;
 #[cfg(test)]
 mod replies;
