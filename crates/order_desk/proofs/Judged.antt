@@ -64,8 +64,8 @@ pub ended_since : (cell : Cell) (clock slot : ℕ) (passes : List (List Note))
     → list_all (list_all (is_ended cell slot)) passes ≡ true
 ended_since cell clock slot passes le is =
     list_all_also (list_all (is_ended cell clock)) (list_all (is_ended cell slot))
-    (λ pass of_pass. list_all_also (is_ended cell clock) (is_ended cell slot) (ended_later cell clock slot le) pass of_pass)
-    passes is
+    (λ pass of_pass. list_all_also (is_ended cell clock) (is_ended cell slot) (ended_later cell clock slot le) pass
+    of_pass) passes is
 
 -- what the first number at which something isn't right says of it, if there is one
 pub first_some : (right : ℕ → Type 0) (found : Option ℕ) (k : ℕ)

@@ -1,5 +1,6 @@
 -- How often places were noted, after one more note.
-use Rattle.std.proofs.Common.{◌≡◌, ◌⊎◌, ◌∙◌, ℕ, ◌+◌, ◌<◌, ◌≤◌, ◌&&◌, min, Bool, true, false, List, [], ◌∷◌, ◌++◌, length, filter}
+use Rattle.std.proofs.Common.{◌≡◌, ◌⊎◌, ◌∙◌, ℕ, ◌+◌, ◌<◌, ◌≤◌, ◌&&◌, min}
+use Rattle.std.proofs.Common.{Bool, true, false, List, [], ◌∷◌, ◌++◌, length, filter}
 use Rattle.std.proofs.Common.{slice_index_or, inl, inr, sym, subst, ap, arith, leb, ltb, cond}
 use Rattle.std.proofs.lemmas.Bool.{cases_Bool, cases_lt, false≢true, leb-true, ltb-true, le-leb, lt-ltb, and_from}
 use Rattle.std.proofs.lemmas.List.{length-append}

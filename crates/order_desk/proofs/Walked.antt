@@ -1,5 +1,6 @@
 -- A walk over the notes of a pass, note by note.
-use Rattle.std.proofs.Common.{◌≡◌, ◌⊎◌, ℕ, ◌+◌, ◌<◌, ◌≤◌, max, Some, List, [], ◌∷◌, ◌++◌, All, inl, inr, true, false, Bool}
+use Rattle.std.proofs.Common.{◌≡◌, ◌⊎◌, ℕ, ◌+◌, ◌<◌, ◌≤◌, max, Some, List}
+use Rattle.std.proofs.Common.{[], ◌∷◌, ◌++◌, All, inl, inr, true, false, Bool}
 use Rattle.std.proofs.Common.{sym, subst, refl, ap, arith, ◌∙◌, slice_index_or, cond, ltb, leb, None, ◌==◌}
 use Rattle.std.proofs.lemmas.Bool.{false≢true, eqb-true, eq-eqb, lt-ltb, ltb-true, le-leb, leb-true, and_from}
 use Rattle.cbsp_wire.proofs.Tests.{and_parts}
@@ -133,7 +134,8 @@ walked_range cell c log before from to old new same floor reached least has = re
       (ended_later cell old.reached new.reached further) before has.ended)
       (ap (λ b. cond b (leb to new.reached) true) same ∙ le-leb to new.reached there);
   nearest = λ slot is. let parts = all_last (λ n. is_ended cell slot n ≡ true) before note is in
-      both slot (has.nearest slot parts.0) (leb-true to slot (sym (ap (λ b. cond b (leb to slot) true) same) ∙ parts.1));
+      both slot (has.nearest slot parts.0)
+      (leb-true to slot (sym (ap (λ b. cond b (leb to slot) true) same) ∙ parts.1));
   first = subst (IsFirstNot (λ k. AreInPlaceAt cell log k [] (before ++ note ∷ []))) (sym least)
       (first_same (λ k. AreInPlaceAt cell log k [] before) (λ k. AreInPlaceAt cell log k [] (before ++ note ∷ []))
       old.least (λ k are. in_place_after cell log k [] before note are tt)

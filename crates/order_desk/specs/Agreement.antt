@@ -1,5 +1,5 @@
--- When the notes of passes agree with a cell (own). Everything that was noted is there, and everything that is there was
--- noted: each entry of the log once, at its number, and each played slot once.
+-- When the notes of passes agree with a cell (own). Everything that was noted is there, and everything that is there
+-- was noted: each entry of the log once, at its number, and each played slot once.
 use Rattle.std.specs.Prelude.{◌≡◌, ⊤, ℕ, ◌<◌, ◌≤◌, ◌==◌, ◌&&◌, Bool, true, false, nat_le, nat_lt}
 use Rattle.std.specs.Prelude.{if◌then◌else◌}
 use Rattle.std.specs.Prelude.{Some, List, [], ◌∷◌, ◌++◌, length, filter, All}
@@ -72,9 +72,9 @@ AreInPlaceAt cell log k before [] = ⊤
 AreInPlaceAt cell log k before (note ∷ later) =
     IsInPlaceAt cell log k before note × AreInPlaceAt cell log k (before ++ note ∷ []) later
 
--- what was noted of a number of a cell's log is right: each entry noted at it is in its place; if the log has an entry of
--- that number, then it was noted once; and who noted the log as full found 4,096 entries, which is judged at the number
--- 4,096
+-- what was noted of a number of a cell's log is right: each entry noted at it is in its place; if the log has an entry
+-- of that number, then it was noted once; and who noted the log as full found 4,096 entries, which is judged at the
+-- number 4,096
 pub record IsRightNumber (cell : Cell) (log : List Entry) (passes : List (List Note)) (k : ℕ) : Type 0 where
   pub placed : All (AreInPlaceAt cell log k []) passes
   pub once : k < length log → times_noted cell k (all_notes passes) ≡ 1

@@ -1,5 +1,5 @@
--- The settlement of a closed desk with the passes of those who worked at it (own): the records of its cells, or the first
--- thing that was noted and isn't so, or is so and wasn't noted.
+-- The settlement of a closed desk with the passes of those who worked at it (own): the records of its cells, or the
+-- first thing that was noted and isn't so, or is so and wasn't noted.
 use Rattle.std.specs.Prelude.{◌≡◌, ⊤, ◌⊎◌, ℕ, ◌<◌, Bool, true, false}
 use Rattle.std.specs.Prelude.{List, ◌∷◌, ◌++◌, length, slice_index_or, All}
 use Rattle.std.specs.List.{AllZip, list_any}

@@ -45,7 +45,5 @@ pub fn cells_ok(cells: &[Cell]) -> bool
 pub(crate) fn place_of(cells: &[Cell], cell: Cell) -> Option<usize>
     ensures { result ≡ position (is_cell cell) cells.now }
 {
-    cells
-        .iter()
-        .position(|other| cell.lac == other.lac && cell.ci == other.ci)
+    cells.iter().position(|other| is_cell(cell, *other))
 }

@@ -1,6 +1,7 @@
 //! Settling: what the passes noted, beside what the cells hold.
 
-ghost use Rattle.std.specs.Prelude.{◌≡◌, ◌≢◌, ◌⊎◌, ⊤, ℕ, ◌<◌, ◌≤◌, true, Some, None, List, [], ◌∷◌, ◌++◌, length, All, Any};
+ghost use Rattle.std.specs.Prelude.{◌≡◌, ◌≢◌, ◌⊎◌, ⊤, ℕ, ◌<◌, ◌≤◌, true};
+ghost use Rattle.std.specs.Prelude.{Some, None, List, [], ◌∷◌, ◌++◌, length, All, Any};
 ghost use Rattle.std.specs.Prelude.{IfOk, IfErr, IfSome, IsOk, IsTrue, ◌↔◌};
 ghost use Rattle.std.specs.List.{AllZip, list_all, list_any};
 ghost use Rattle.std.specs.Option.{MatchOption};

@@ -1,5 +1,5 @@
 //! Tests of `order_desk` by its public calls: replies worked by hand, cells, worked runs at a desk, two orders at once,
-//! and refused memory.
+//! settlements, and refused memory.
 #![tactic(auto)]
 
 #[cfg(test)]
@@ -12,3 +12,5 @@ mod memory;
 mod orders;
 #[cfg(test)]
 mod replies;
+#[cfg(test)]
+mod settlements;

@@ -73,9 +73,7 @@ pub fn write_to(alloc: Global, wish: Wish, cells: &[Cell]) -> Result<Vec<u8>, Fa
         period: wish.period,
         broadcasts: 0,
         dcs: Dcs(0x01),
-        contents: Contents {
-            list: Vec::from_slice(alloc, [PAGE].as_slice())?,
-        },
+        contents: Contents::new(Vec::from_slice(alloc, [PAGE].as_slice())?)?,
     };
     octets_of(alloc, &message)
 }

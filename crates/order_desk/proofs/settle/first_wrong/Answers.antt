@@ -1,4 +1,5 @@
-use Rattle.std.proofs.Common.{◌≡◌, ◌∙◌, inl, inr, ℕ, ◌+◌, ◌<◌, List, [], ◌∷◌, sym, subst, arith, eqb, length, slice_index_or}
+use Rattle.std.proofs.Common.{◌≡◌, ◌∙◌, inl, inr, ℕ, ◌+◌, ◌<◌, List}
+use Rattle.std.proofs.Common.{[], ◌∷◌, sym, subst, arith, eqb, length, slice_index_or}
 use Rattle.std.proofs.Common.{refl, false, rules, IsTrue, suc}
 use Rattle.std.proofs.lemmas.Bool.{cases_Bool, eqb-true, eqb-false, false≢true}
 use Rattle.std.proofs.lemmas.List.{get_or_default}
@@ -18,7 +19,8 @@ zip_by_place slots [] [] long each = tt
 zip_by_place slots [] (r ∷ books) long each = search (rules, long)
 zip_by_place slots (c ∷ cells) [] long each = search (rules, long)
 zip_by_place slots (c ∷ cells) (r ∷ books) long each =
-    (each 0 c r (omega arith), zip_by_place slots cells books (omega (arith, long)) (λ k d e lt. each (suc k) d e (next k lt)))
+    (each 0 c r (omega arith), zip_by_place slots cells books (omega (arith, long))
+    (λ k d e lt. each (suc k) d e (next k lt)))
   where
     next : (k : ℕ) → k < length books → suc k < length (r ∷ books)
     next k lt = omega arith
@@ -57,7 +59,8 @@ loop-place-preserved c = λ k d e lt. elim (cases_Bool (eqb k c.loop-place.place
   where
     here : (d : Cell) (e : Record) → IsBookOf c.args.slots (slice_index_or c.args.cells.now c.loop-place.place d)
         (slice_index_or c.args.books.now c.loop-place.place e)
-    here d e = subst (λ (cell : Cell). IsBookOf c.args.slots cell (slice_index_or c.args.books.now c.loop-place.place e))
+    here d e =
+        subst (λ (cell : Cell). IsBookOf c.args.slots cell (slice_index_or c.args.books.now c.loop-place.place e))
         (get_or_default c.args.cells.now c.loop-place.place (record { lac = 0; ci = 0 }) d
         (subst (λ n. c.loop-place.place < n) (sym c.requires) c.loop-place-test.true))
         (subst (IsBookOf c.args.slots (slice_index_or c.args.cells.now c.loop-place.place (record { lac = 0; ci = 0 })))

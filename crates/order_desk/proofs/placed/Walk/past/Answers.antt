@@ -2,7 +2,8 @@ use Rattle.std.proofs.Common.{sym, subst, [], ◌∷◌, ◌++◌, ap, ◌∙◌
 use Rattle.order_desk.specs.declared.placed.Walk.{Walk}
 use Rattle.order_desk.specs.declared.note.Note.{Note}
 use Rattle.order_desk.specs.SettleSteps.{HasWalked}
-use Rattle.order_desk.proofs.Walked.{walked_entry, walked_range, walked_foreign_entry, walked_foreign_range, walked_full}
+use Rattle.order_desk.proofs.Walked.{walked_entry, walked_range}
+use Rattle.order_desk.proofs.Walked.{walked_foreign_entry, walked_foreign_range, walked_full}
 use Rattle.order_desk.proofs.placed.Walk.past.Goals as goal
 
 -- src/placed.rt:82:5
