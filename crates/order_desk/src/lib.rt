@@ -1,5 +1,8 @@
-//! The desk that takes the orders of the warning centre to the cells: the reply to an order, by the answers of its
-//! cells.
+//! The desk that takes the orders of the warning centre to the cells, for any number of threads at once.
+//!
+//! A desk has the book of each cell under a lock of its own. Each user has a pass, in which a call notes what it did in
+//! the cells. The reply to an order is that of its cells' answers. A closed desk is settled with the passes: what was
+//! noted is compared with what the cells hold.
 #![tactic(auto)]
 
 mod cells;
