@@ -18,9 +18,11 @@ zip_by_place : (slots : ℕ) (cells : List Cell) (books : List Record)
 zip_by_place slots [] [] long each = tt
 zip_by_place slots [] (r ∷ books) long each = search (rules, long)
 zip_by_place slots (c ∷ cells) [] long each = search (rules, long)
-zip_by_place slots (c ∷ cells) (r ∷ books) long each =
-    (each 0 c r (omega arith), zip_by_place slots cells books (omega (arith, long))
-    (λ k d e lt. each (suc k) d e (next k lt)))
+zip_by_place slots (c ∷ cells) (r ∷ books) long each = (
+  each 0 c r (omega arith),
+  zip_by_place slots cells books (omega (arith, long))
+      (λ k d e lt. each (suc k) d e (next k lt)),
+)
   where
     next : (k : ℕ) → k < length books → suc k < length (r ∷ books)
     next k lt = omega arith

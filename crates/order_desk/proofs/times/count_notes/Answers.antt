@@ -18,7 +18,7 @@ loop-note-preserved c = λ given are.
     subst (λ (n : Note). take (c.loop-note.note-index + 1) c.args.notes.now ≡ before ++ n ∷ []) (sym c.note-item.is)
     (take_more c.args.notes.now c.loop-note.note-index c.note-item.result c.loop-note-test.true) in
     let all : given ++ take (c.loop-note.note-index + 1) c.args.notes.now
-        ≡ (given ++ before) ++ c.note-item.result ∷ [] =
+    ≡ (given ++ before) ++ c.note-item.result ∷ [] =
     ap (λ (xs : List Note). given ++ xs) more ∙ sym (append_assoc given before (c.note-item.result ∷ [])) in
     subst (λ (all : List Note). AreTimes c.args.kind c.args.cell all c.count.new.times) (sym all)
     (tallied_note c.args.kind c.args.cell (given ++ before) c.note-item.result c.span_of.result.from c.span_of.result.to
