@@ -4,7 +4,7 @@ use crate::orders::*;
 use bsc_table::{Answer, CellRecord, SlotRange};
 use cbs_page::Serial;
 use cbsp_wire::Cell;
-use order_desk::{Closed, Desk, DeskFault, Open, Pass, SettleFault};
+use order_desk::{Closed, Desk, DeskFault, Open, Pass, SettleFault, cells_ok};
 use std::alloc::Global;
 use std::process::Abort;
 use std::sync::Wait;
@@ -45,6 +45,9 @@ fn settled<T: AllocGlobal + Abort>(
     passes: &[Pass],
 ) -> Result<Result<Vec<CellRecord>, SettleFault>, Fail> {
     let closed = closed(desk)?;
+    if closed.cells.len() != closed.books.len() || !cells_ok(&closed.cells) {
+        return Err(Fail::new("the desk has other cells or books"));
+    }
     Ok(closed.settle(rt.alloc(), passes))
 }
 
@@ -244,14 +247,10 @@ fn a_foreign_entry_is_told_by_its_number(rt: HostRuntime) -> Result<(), Fail> {
 fn a_book_of_another_cell_is_strange(rt: HostRuntime) -> Result<(), Fail> {
     let alloc = rt.alloc();
     let desk = opened(alloc, [FIRST, SECOND].as_slice(), 4)?;
-    let Closed {
-        mut cells,
-        slots,
-        books,
-    } = closed(desk)?;
-    cells.swap(0, 1);
-    if cells.len() != books.len() || !order_desk::cells_ok(&cells) {
-        return Err(Fail::new("the desk has other books"));
+    let Closed { slots, books, .. } = closed(desk)?;
+    let cells = Vec::from_slice(alloc, [SECOND, FIRST].as_slice())?;
+    if cells.len() != books.len() || !cells_ok(&cells) {
+        return Err(Fail::new("the desk has other cells or books"));
     }
     let swapped = Closed {
         cells,
