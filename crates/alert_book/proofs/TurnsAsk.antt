@@ -1,6 +1,6 @@
 -- A row asks a cell once at most, so a session asks it at most as often as the book has orders.
-use Rattle.std.proofs.Common.{◌≡◌, ℕ, ◌+◌, ◌<◌, ◌≤◌, ◌∙◌, Bool, true, false, cond, eqb, eqb-true, Option, Some, None}
-use Rattle.std.proofs.Common.{List, [], ◌∷◌, length, map, filter, refl, sym, ap, arith, inl, inr, suc, zero}
+use Rattle.std.proofs.Common.{◌≡◌, ℕ, ◌+◌, ◌%◌, ◌<◌, ◌≤◌, ◌∙◌, Bool, true, false, cond, eqb, eqb-true, Option}
+use Rattle.std.proofs.Common.{Some, None, List, [], ◌∷◌, length, map, filter, refl, sym, ap, arith, inl, inr, suc, zero}
 use Rattle.alert_book.specs.Cells.{cell_with}
 use Rattle.std.specs.List.{list_any, range_with_len}
 use Rattle.std.proofs.lemmas.Bool.{and_parts, both_ways, cases_Bool, ne_eqb, or_cases}
@@ -216,18 +216,23 @@ turns_ask cell (turn ∷ later) from to goes =
     let more = filter_more (is_asked cell) turn later in
     omega (arith, rest, next, here, more)
 
--- the orders of a part are at most all
-orders_few : (orders : List Order) (pages : List (Option Paged)) → length (orders_with orders pages) ≤ length orders
-orders_few [] [] = omega arith
-orders_few [] (paged ∷ pages) = omega arith
-orders_few (order ∷ orders) [] = omega arith
-orders_few (order ∷ orders) (paged ∷ pages) = let few = orders_few orders pages in omega (arith, few)
+-- the orders of a part, with their pages, are at most those of the part
+orders_few : (part parts : ℕ) (orders : List Order) (pages : List (Option Paged)) →
+    length (filter (is_of_part part parts) (orders_with orders pages))
+    ≤ length (filter (λ order. eqb (order.number % parts) part) orders)
+orders_few part parts [] [] = omega arith
+orders_few part parts [] (paged ∷ pages) = omega arith
+orders_few part parts (order ∷ orders) [] = omega arith
+orders_few part parts (order ∷ orders) (paged ∷ pages) =
+    let few = orders_few part parts orders pages in
+    let here = filter_more (is_of_part part parts) (order, paged) (orders_with orders pages) in
+    let there = filter_more (λ (o : Order). eqb (o.number % parts) part) order orders in
+    omega (arith, few, here, there)
 
--- so a session asks a cell at most as often as the book has orders
+-- so a session asks a cell at most as often as its part of the book has orders
 pub asks_once_per_order : AsksOncePerOrder
 asks_once_per_order book part parts turns reached cell goes =
     let asked = turns_ask cell turns (begun book part parts) reached goes in
     let first = next_asks (version_in []) [] 0 [] (orders_from book part parts 0) cell in
-    let some = filter_le (is_of_part part parts) (orders_with book.orders book.pages) in
-    let few = orders_few book.orders book.pages in
-    omega (arith, asked, first, some, few)
+    let few = orders_few part parts book.orders book.pages in
+    omega (arith, asked, first, few)

@@ -1,6 +1,6 @@
 -- What holds of the turns of every session, by its definition alone, whatever the replies say. Own.
-use Rattle.std.specs.Prelude.{◌≡◌, ◌≢◌, ⊤, ℕ, ◌+◌, ◌*◌, ◌<◌, ◌≤◌, true, Option, Some, None, List, length, filter, All}
-use Rattle.std.specs.Prelude.{Any}
+use Rattle.std.specs.Prelude.{◌≡◌, ◌≢◌, ⊤, ℕ, ◌+◌, ◌*◌, ◌%◌, ◌<◌, ◌≤◌, ◌==◌, true, Option, Some, None, List}
+use Rattle.std.specs.Prelude.{length, filter, All, Any}
 use Rattle.cbsp_wire.specs.Range.{is_writable}
 use Rattle.cbs_page.specs.declared.paging.Paged.{Paged}
 use Rattle.cbsp_wire.specs.declared.message.Cell.{Cell}
@@ -25,11 +25,15 @@ SessionsEnd = (reply : Option Message) (s : Standing)
     → (after_reply reply s).sent ≢ None
     → most_requests (after_reply reply s) < most_requests s
 
--- a row asks a cell once at most, so no session asks one more often than the book has orders
+-- the orders of a part of a book
+abbrev pub orders_in : Contents → (part parts : ℕ) → List Order
+orders_in book part parts = filter (λ order. order.number % parts == part) book.orders
+
+-- a row asks a cell once at most, so no session asks one more often than its part of the book has orders
 abbrev pub AsksOncePerOrder : Type 0
 AsksOncePerOrder = (book : Contents) (part parts : ℕ) (turns : List Turn) (reached : Standing) (cell : Cell)
     → GoesTo (begun book part parts) turns reached
-    → length (filter (is_asked cell) turns) ≤ length book.orders
+    → length (filter (is_asked cell) turns) ≤ length (orders_in book part parts)
 
 -- the message of a request: a write has the identifier of the order's alert and the pages of the order's text, and asks
 -- for what the order asks; a kill has the alert's identifier. Neither names a channel

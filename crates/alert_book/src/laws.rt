@@ -23,7 +23,7 @@ pub fn session_laws()
     // Each request leaves fewer that can follow it: a session ends.
     ensures end { SessionsEnd }
 
-    // No cell is asked more often than the book has orders.
+    // No cell is asked more often than the session's part of the book has orders.
     ensures once_per_order { AsksOncePerOrder }
 
     // Each request has the row, the slot, the identifier and the text of an order of the book, and a write the serial

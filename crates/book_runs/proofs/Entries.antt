@@ -1,8 +1,8 @@
 -- Each entry of a run's log is a command of an exchange, with the cell's answer in it.
 use Rattle.std.proofs.Common.{◌≡◌, ℕ, zero, suc, Bool, true, List, [], ◌∷◌, ap, arith, filter, refl, subst, sym}
 use Rattle.std.specs.List.{All, Any, Contains}
-use Rattle.std.proofs.lemmas.List.Elements.{All-cons, All-contains_itself, All-head, All-map, All-nil, All-same}
-use Rattle.std.proofs.lemmas.List.Elements.{All-tail}
+use Rattle.std.proofs.lemmas.List.Elements.{All-cons, All-contains, All-contains_itself, All-head, All-map, All-nil}
+use Rattle.std.proofs.lemmas.List.Elements.{All-same, All-tail}
 use Rattle.std.proofs.lemmas.List.Elements.{All-weaker}
 use Rattle.cbsp_wire.specs.declared.message.Cell.{Cell}
 use Rattle.cbsp_wire.specs.Range.{is_cell}
@@ -10,9 +10,10 @@ use Rattle.bsc_table.specs.declared.command.Command.{Command}
 use Rattle.bsc_table.specs.declared.entry.Answer.{Answer}
 use Rattle.bsc_table.specs.declared.entry.Entry.{Entry}
 use Rattle.bsc_table.specs.Record.{Record}
-use Rattle.book_runs.specs.Run.{Asked, Exchange, IsRunOf, asked_in, asked_of, asked_with, entries_for, slot_of}
+use Rattle.book_runs.specs.Run.{Asked, Exchange, asked_in, asked_of, asked_with, entries_for, slot_of}
 use Rattle.book_runs.proofs.Lists.{all_joined, any_here, any_joined, any_kept, any_later, any_mapped, any_weaker}
-use Rattle.book_runs.proofs.Lists.{kept_of}
+use Rattle.book_runs.proofs.Lists.{any_with, kept_of}
+use Rattle.book_runs.proofs.Logged.{HasLogOf}
 
 entries_have : (P : Command → Answer → Type 0) (slots clock : ℕ) (asked : List Asked)
     → All (λ a. P a.command a.answer) asked → All (λ e. P e.command e.answer) (entries_for slots clock asked)
@@ -57,13 +58,16 @@ asked_has cell exchanges =
     (λ a is. (there.0, x, there.1, there.2, is)) (asked_in cell x) (asked_in_has cell x))
     exchanges (All-contains_itself exchanges))
 
-pub log_has : (slots : ℕ) (exchanges : List Exchange) (r : Record) → IsRunOf slots exchanges r
+pub log_has : (slots : ℕ) (exchanges : List Exchange) (r : Record) → HasLogOf slots exchanges r
     → All (λ e. Any (IsOfExchange r.cell e.command e.answer) exchanges) r.log
-log_has slots exchanges r run =
+log_has slots exchanges r has =
+    let Comes : Asked → Type 0 = λ a. Any (IsOfExchange r.cell a.command a.answer) exchanges in
     All-same (λ (e : Entry). Any (IsOfExchange r.cell e.command e.answer) exchanges) r.log
-    (entries_for slots 0 (asked_of r.cell exchanges)) run.entries
-    (entries_have (λ command answer. Any (IsOfExchange r.cell command answer) exchanges) slots 0
-    (asked_of r.cell exchanges) (asked_has r.cell exchanges))
+    (entries_for slots 0 has.asked) has.entries
+    (entries_have (λ command answer. Any (IsOfExchange r.cell command answer) exchanges) slots 0 has.asked
+    (All-weaker (Contains (asked_of r.cell exchanges)) Comes
+    (λ a there. All-contains Comes (asked_of r.cell exchanges) a (asked_has r.cell exchanges) there) has.asked
+    has.each))
 
 -- and each answer of the cell in an exchange is an entry of the log
 entered : (P : Command → Answer → Type 0) (slots clock : ℕ) (asked : List Asked)
@@ -80,19 +84,20 @@ entered P slots clock (a ∷ later) (suc k, b, within, is, here) =
     (entries_for slots (slot_of slots clock a.at) later)
     (entered P slots (slot_of slots clock a.at) later (k, b, omega (arith, within), is, here))
 
-pub log_entered : (slots : ℕ) (exchanges : List Exchange) (r : Record) → IsRunOf slots exchanges r
+pub log_entered : (slots : ℕ) (exchanges : List Exchange) (r : Record) → HasLogOf slots exchanges r
     → (P : Command → Answer → Type 0)
     → Any (λ x. Any (λ (given : Cell × Answer). (is_cell r.cell given.0 ≡ true) × P x.command given.1) x.answers)
     exchanges
     → Any (λ e. P e.command e.answer) r.log
-log_entered slots exchanges r run P some =
+log_entered slots exchanges r has P some =
     let Asks : Asked → Type 0 = λ a. P a.command a.answer in
-    subst (λ (log : List Entry). Any (λ (e : Entry). P e.command e.answer) log) (sym run.entries)
-    (entered P slots 0 (asked_of r.cell exchanges)
-    (any_joined Asks (asked_in r.cell) exchanges
+    let asked = any_joined Asks (asked_in r.cell) exchanges
     (any_weaker
     (λ x. Any (λ (given : Cell × Answer). (is_cell r.cell given.0 ≡ true) × P x.command given.1) x.answers)
     (λ x. Any Asks (asked_in r.cell x)) exchanges
     (λ x given. any_mapped Asks (asked_with x) (filter (λ (a : Cell × Answer). is_cell r.cell a.0) x.answers)
     (any_kept (λ (a : Cell × Answer). P x.command a.1) (λ (a : Cell × Answer). is_cell r.cell a.0) x.answers given))
-    some)))
+    some) in
+    let there = any_with (Contains has.asked) Asks (asked_of r.cell exchanges) has.every asked in
+    subst (λ (log : List Entry). Any (λ (e : Entry). P e.command e.answer) log) (sym has.entries)
+    (entered P slots 0 has.asked (there.4.0.0, there.1, there.4.0.1, there.4.0.2, there.4.1))

@@ -1,7 +1,8 @@
 -- What the crates below promise, as clauses of their public laws: all that the proofs here know of them.
 use Rattle.cbs_page.specs.Laws.{PagedTextsComeBack}
+use Rattle.alert_book.specs.Laws.{CellsAreValid, RowsAreFew}
 use Rattle.alert_book.specs.Texts.{TextsAreUtf8}
-use Rattle.alert_book.specs.TurnLaws.{RequestsComeOfOrders}
+use Rattle.alert_book.specs.TurnLaws.{AsksOncePerOrder, RequestsAreWritable, RequestsComeOfOrders}
 use Rattle.bsc_table.specs.Written.{AcceptedAreWrites}
 use Rattle.composition.specs.Composition.{ShownAreTheBroadcast}
 use Rattle.composition.specs.Meaning.{AcceptedAreMeant, NoneAfterTheStop, RecordsAreTapes, ReportedIsWholeInBlocks}
@@ -18,3 +19,10 @@ pub record Laws : Type 0 where
   pub none_after_the_stop : NoneAfterTheStop
   pub records_are_tapes : RecordsAreTapes
   pub texts_are_those_of_contents : TextsAreThoseOfContents
+
+-- those that say how often the sessions of a book can ask its cells
+pub record BookLaws : Type 0 where
+  pub rows_are_few : RowsAreFew
+  pub cells_are_valid : CellsAreValid
+  pub writable : RequestsAreWritable
+  pub once_per_order : AsksOncePerOrder

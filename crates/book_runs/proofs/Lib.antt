@@ -6,3 +6,17 @@ mod Accepted
 mod Ordered
 mod Meant
 mod Worked
+mod Cells
+mod Numbered
+mod Shares
+mod Ordering
+mod Events
+mod Noted
+mod Logged
+mod OneSession
+mod Asking
+mod AsksOfCell
+mod Parts
+mod Room
+mod InOrder
+mod Settled

@@ -17,13 +17,16 @@ use Rattle.bsc_table.specs.declared.entry.Entry.{Entry}
 use Rattle.bsc_table.specs.Record.{Accepted, Record, accepted_in}
 use Rattle.cbch_blocks.specs.RecordBlocks.{blocks_of, blocks_of_slot, blocks_of_uses, page_aired}
 use Rattle.composition.specs.Composition.{AreTheBroadcast, blocks_before, message_accepted}
+use Rattle.book_runs.specs.Live.{IsRunBy}
+use Rattle.book_runs.specs.LiveLaws.{LiveRunsShowTheBook}
 use Rattle.book_runs.specs.Meant.{IsMeantIn, IsOfOrder}
 use Rattle.book_runs.specs.Ordered.{ComesOfExchange}
 use Rattle.book_runs.specs.Run.{Exchange, IsRunOf}
 use Rattle.book_runs.specs.RunLaws.{RunsShowTheBook}
 use Rattle.book_runs.proofs.Laws.{Laws}
 use Rattle.book_runs.proofs.Lists.{any_weaker, any_with}
-use Rattle.book_runs.proofs.Ordered.{IsOrdered, comes, ordered}
+use Rattle.book_runs.proofs.Logged.{HasLogOf, joined, log_of_run, log_of_sessions}
+use Rattle.book_runs.proofs.Ordered.{IsOrdered, all_ordered, comes, ordered}
 
 -- a slot has four blocks
 four : (page : Option PageView) → length (blocks_of_slot page) ≡ 4
@@ -66,7 +69,7 @@ none_else book r slot shown texts are k d within =
     subst (λ (m : ShownMessage). Any (IsOfOrder m) book.orders) (sym both.4.1.1) both.4.0
 
 is_meant_in : (laws : Laws) (book : Contents) (slots : ℕ) (exchanges : List Exchange) (r : Record)
-    → All HasUtf8Text book.orders → All (IsOrdered book) exchanges → slots ≤ max_slots → IsRunOf slots exchanges r
+    → All HasUtf8Text book.orders → All (IsOrdered book) exchanges → slots ≤ max_slots → HasLogOf slots exchanges r
     → IsMeantIn book r
 is_meant_in laws book slots exchanges r utf8 asked few run =
     let legal = run.legal in
@@ -91,6 +94,15 @@ is_meant_in laws book slots exchanges r utf8 asked few run =
 pub runs_show_the_book : Laws → RunsShowTheBook
 runs_show_the_book laws input book slots exchanges records is few run =
     let utf8 = laws.texts_are_utf8 input book is in
-    let asked = ordered laws input book slots exchanges records is run in
+    let asked = ordered laws input book 0 1 exchanges is run.session run.exchanged in
     All-weaker (IsRunOf slots exchanges) (IsMeantIn book)
-    (λ r here. is_meant_in laws book slots exchanges r utf8 asked few here) records run.each
+    (λ r here. is_meant_in laws book slots exchanges r utf8 asked few (log_of_run slots exchanges r here)) records
+    run.each
+
+pub live_runs_show_the_book : Laws → LiveRunsShowTheBook
+live_runs_show_the_book laws input book slots sessions records is few live =
+    let utf8 = laws.texts_are_utf8 input book is in
+    let asked = all_ordered laws input book slots sessions records is live in
+    All-weaker (IsRunBy slots sessions) (IsMeantIn book)
+    (λ r here. is_meant_in laws book slots (joined sessions) r utf8 asked few (log_of_sessions slots sessions r here))
+    records live.each

@@ -3,7 +3,7 @@
 use Rattle.std.proofs.Common.{◌≡◌, ℕ, ◌<◌, true, Option, Some, List, [], map, refl}
 use Rattle.std.proofs.Common.{get_or, length, encode_utf8_all, ap, subst, sym, ◌∙◌}
 use Rattle.std.specs.List.{All, Any, flat_map, slice_get}
-use Rattle.std.proofs.lemmas.List.{get_or-map, length-map}
+use Rattle.std.proofs.lemmas.List.{get_or-map, get_or_default, length-map}
 use Rattle.std.proofs.lemmas.List.Elements.{All-weaker}
 use Rattle.std.proofs.lemmas.Option.{slice_get-get_or}
 use Rattle.cbs_page.specs.Text.{text_of_page}
@@ -13,7 +13,7 @@ use Rattle.alert_book.specs.declared.order.Order.{Order}
 use Rattle.alert_book.specs.Book.{Contents, IsBook}
 use Rattle.alert_book.specs.Texts.{HasUtf8Text}
 use Rattle.alert_book.specs.TurnLaws.{ComesOf}
-use Rattle.alert_book.specs.Turns.{Turn}
+use Rattle.alert_book.specs.Turns.{AreTurnsOf, Turn}
 use Rattle.bsc_table.specs.declared.command.Command.{Command}
 use Rattle.bsc_table.specs.declared.command.Command.TheVariants as commands
 use Rattle.bsc_table.specs.declared.entry.Answer.{Answer}
@@ -24,31 +24,48 @@ use Rattle.bsc_table.specs.Written.{IsWriteBy}
 use Rattle.cbch_blocks.specs.RecordBlocks.{pages_of_entry}
 use Rattle.composition.specs.Composition.{message_accepted}
 use Rattle.order_desk.specs.Reply.{cells_answered}
+use Rattle.book_runs.specs.Live.{IsLiveRun, IsRunBy}
+use Rattle.book_runs.specs.LiveLaws.{LiveRunsAcceptWhatWasOrdered}
 use Rattle.book_runs.specs.Meant.{IsOfOrder}
 use Rattle.book_runs.specs.Ordered.{AreThoseStarted, ComesOfExchange, HasAccepted, RunsAcceptWhatWasOrdered}
 use Rattle.book_runs.specs.Ordered.{StartsMessage}
-use Rattle.book_runs.specs.Run.{Exchange, IsExchange, IsRun, IsRunOf}
+use Rattle.book_runs.specs.Run.{Exchange, IsExchange, IsRunOf}
 use Rattle.book_runs.proofs.Accepted.{accepted_of}
 use Rattle.book_runs.proofs.Entries.{IsOfExchange, log_entered, log_has}
 use Rattle.book_runs.proofs.Laws.{Laws}
-use Rattle.book_runs.proofs.Lists.{any_at, any_weaker, any_with}
+use Rattle.book_runs.proofs.Lists.{all_joined, any_at, any_weaker, any_with}
+use Rattle.book_runs.proofs.Logged.{HasLogOf, joined, log_of_run, log_of_sessions}
 use Rattle.book_runs.proofs.Texts.{sent_as}
 
 -- an exchange of the run, whose request comes of an order of the book
 abbrev pub IsOrdered : Contents → Exchange → Type 0
 IsOrdered book x = IsExchange book.cells x × Any (ComesOf x.turn.request) book.orders
 
-pub ordered : (laws : Laws) (input : List ℕ) (book : Contents) (slots : ℕ) (exchanges : List Exchange)
-    (records : List Record) → IsBook input book → IsRun book slots exchanges records
-    → All (IsOrdered book) exchanges
-ordered laws input book slots exchanges records is run k d within =
+pub ordered : (laws : Laws) (input : List ℕ) (book : Contents) (part parts : ℕ) (exchanges : List Exchange)
+    → IsBook input book → AreTurnsOf book part parts (map (λ x. x.turn) exchanges)
+    → All (IsExchange book.cells) exchanges → All (IsOrdered book) exchanges
+ordered laws input book part parts exchanges is session exchanged k d within =
     let turn : Exchange → Turn = λ x. x.turn in
     let there : k < length (map turn exchanges) = subst (λ n. k < n) (sym (length-map exchanges turn)) within in
-    let comes = laws.come_of_orders book 0 1 (map turn exchanges) run.session.reached is.paged run.session.gone k d.turn
+    let comes = laws.come_of_orders book part parts (map turn exchanges) session.reached is.paged session.gone k d.turn
     there in (
-      run.exchanged k d within,
+      exchanged k d within,
       subst (λ (t : Turn). Any (ComesOf t.request) book.orders) (get_or-map turn exchanges k d d.turn within) comes,
     )
+
+-- and so are all exchanges of several sessions
+pub all_ordered : (laws : Laws) (input : List ℕ) (book : Contents) (slots : ℕ) (sessions : List (List Exchange))
+    (records : List Record) → IsBook input book → IsLiveRun book slots sessions records
+    → All (IsOrdered book) (joined sessions)
+all_ordered laws input book slots sessions records is live =
+    all_joined (IsOrdered book) (λ (exchanges : List Exchange). exchanges) sessions each
+  where
+    each : All (λ (exchanges : List Exchange). All (IsOrdered book) exchanges) sessions
+    each k d within =
+        let session : AreTurnsOf book k (length sessions) (map (λ x. x.turn) (get_or sessions k d)) =
+        subst (λ (exchanges : List Exchange). AreTurnsOf book k (length sessions) (map (λ x. x.turn) exchanges))
+        (get_or_default sessions k [] d within) (live.turns k within) in
+        ordered laws input book k (length sessions) (get_or sessions k d) is session (live.exchanged k d within)
 
 -- an exchange of an entry of the log, and its command as the text of an order
 comes_of : (laws : Laws) (book : Contents) (r : Record) (a : Accepted) (e : Entry) (x : Exchange)
@@ -88,7 +105,7 @@ no_entry = record { command = commands.Status 0 0; slot = 0; answer = answers.Un
 
 -- so each accepted message comes of an exchange
 pub comes : (laws : Laws) (book : Contents) (slots : ℕ) (exchanges : List Exchange) (r : Record)
-    → All HasUtf8Text book.orders → All (IsOrdered book) exchanges → IsRunOf slots exchanges r
+    → All HasUtf8Text book.orders → All (IsOrdered book) exchanges → HasLogOf slots exchanges r
     → All (λ a. Any (ComesOfExchange book r a) exchanges) (accepted_in r.log)
 comes laws book slots exchanges r utf8 asked run k d within =
     let write = laws.accepted_are_writes r.log no_entry k d within in
@@ -102,7 +119,7 @@ comes laws book slots exchanges r utf8 asked run k d within =
     (any_with (IsOrdered book) (IsOfExchange r.cell e.command e.answer) exchanges asked of)
 
 -- and each answer that starts a write's message has it accepted
-has_accepted : (slots : ℕ) (exchanges : List Exchange) (r : Record) → IsRunOf slots exchanges r
+has_accepted : (slots : ℕ) (exchanges : List Exchange) (r : Record) → HasLogOf slots exchanges r
     → All (λ x. All (HasAccepted r x) x.answers) exchanges
 has_accepted slots exchanges r run k d within j g there cell write start is =
     let x : Exchange = get_or exchanges k d in
@@ -116,12 +133,27 @@ has_accepted slots exchanges r run k d within j g there cell write start is =
     × Is (get_or exchanges k d).command given.1) (get_or exchanges k d).answers j g there
     (cell, (refl, is)))))
 
+-- so the accepted messages of such records are those that were started
+are_those_started : (laws : Laws) (book : Contents) (slots : ℕ) (exchanges : List Exchange) (r : Record)
+    → All HasUtf8Text book.orders → All (IsOrdered book) exchanges → HasLogOf slots exchanges r
+    → AreThoseStarted book exchanges r
+are_those_started laws book slots exchanges r utf8 asked has = record {
+  each = comes laws book slots exchanges r utf8 asked has;
+  every = has_accepted slots exchanges r has;
+}
+
 pub runs_accept_what_was_ordered : Laws → RunsAcceptWhatWasOrdered
 runs_accept_what_was_ordered laws input book slots exchanges records is run =
     let utf8 = laws.texts_are_utf8 input book is in
-    let asked = ordered laws input book slots exchanges records is run in
+    let asked = ordered laws input book 0 1 exchanges is run.session run.exchanged in
     All-weaker (IsRunOf slots exchanges) (AreThoseStarted book exchanges)
-    (λ r here. record {
-      each = comes laws book slots exchanges r utf8 asked here;
-      every = has_accepted slots exchanges r here;
-    }) records run.each
+    (λ r here. are_those_started laws book slots exchanges r utf8 asked (log_of_run slots exchanges r here)) records
+    run.each
+
+pub live_runs_accept_what_was_ordered : Laws → LiveRunsAcceptWhatWasOrdered
+live_runs_accept_what_was_ordered laws input book slots sessions records is live =
+    let utf8 = laws.texts_are_utf8 input book is in
+    let asked = all_ordered laws input book slots sessions records is live in
+    All-weaker (IsRunBy slots sessions) (AreThoseStarted book (joined sessions))
+    (λ r here. are_those_started laws book slots (joined sessions) r utf8 asked (log_of_sessions slots sessions r here))
+    records live.each

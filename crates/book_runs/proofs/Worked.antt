@@ -1,7 +1,9 @@
--- A run worked by hand: two alerts in two cells; one is updated in one cell, and the other stopped in the other. The
--- octets are those of docs/from-book-to-phone.md.
-use Rattle.std.proofs.Common.{◌≡◌, ℕ, Option, Some, None, List, [], ◌∷◌, ◌++◌, Ok, codes, map, refl, replicate, take}
-use Rattle.std.specs.List.{flat_map}
+-- A run worked by hand: two alerts in two cells; one is updated in one cell, and the other stopped in the other. It is
+-- of one session, and then of two. The octets are those of docs/from-book-to-phone.md.
+use Rattle.std.proofs.Common.{◌≡◌, ℕ, Option, Some, None, List, [], ◌∷◌, ◌++◌, Ok, codes, filter, map, refl, replicate}
+use Rattle.std.proofs.Common.{arith, false, suc, take, zero}
+use Rattle.std.specs.List.{All, AllZip, flat_map}
+use Rattle.std.proofs.lemmas.List.Elements.{All-from_recursion}
 use Rattle.cbs_page.specs.declared.content.Content.{Content}
 use Rattle.cbs_page.specs.declared.Dcs.{Dcs}
 use Rattle.cbs_page.specs.declared.paging.Paged.{Paged}
@@ -24,13 +26,20 @@ use Rattle.bsc_table.specs.declared.entry.Answer.{Answer}
 use Rattle.bsc_table.specs.declared.entry.Answer.TheVariants as answers
 use Rattle.bsc_table.specs.declared.entry.Entry.{Entry}
 use Rattle.bsc_table.specs.Orders.{order_of}
+use Rattle.bsc_table.specs.Record.{Record}
+use Rattle.order_desk.specs.declared.note.Note.{Note}
+use Rattle.order_desk.specs.declared.note.Note.TheVariants as notes
+use Rattle.order_desk.specs.Agreement.{all_notes, times_noted}
 use Rattle.order_desk.specs.Reply.{cells_answered, reply_message}
 use Rattle.scheduler.specs.Air.{Air}
 use Rattle.handset.specs.Reception.{shown_in}
 use Rattle.handset.specs.Counting.{whole_in}
 use Rattle.handset.specs.Showing.{name_shown}
 use Rattle.cbch_blocks.specs.RecordBlocks.{blocks_of_uses}
-use Rattle.book_runs.specs.Run.{Exchange, asked_of, entries_for}
+use Rattle.book_runs.specs.Live.{asked_by}
+use Rattle.book_runs.specs.Live.{Order as CellOrder}
+use Rattle.book_runs.specs.Run.{Exchange, IsExchange, asked_of, asked_with, entries_for, is_among}
+use Rattle.book_runs.specs.Sessions.{AreSessions, IsNoteOf, asks_of, is_of_command}
 
 abbrev one : Cell
 one = cell_with 1 1
@@ -94,17 +103,24 @@ exchange asked command given = record {
 abbrev both_started : List (Cell × Answer)
 both_started = (one, answers.Started 0) ∷ (other, answers.Started 0) ∷ []
 
-abbrev exchanges : (p q r : Paged) → List Exchange
-exchanges p q r =
-    exchange (request 3 0 0 (Some 0) (write 4370 16 None (one ∷ other ∷ []) p.dcs p.pages.items))
+abbrev row_3 : (p : Paged) → Exchange
+row_3 p = exchange (request 3 0 0 (Some 0) (write 4370 16 None (one ∷ other ∷ []) p.dcs p.pages.items))
     (asks 4370 16 None p.dcs p.pages.items) both_started
-    ∷ exchange (request 4 0 1 (Some 0) (write 4383 32 None (one ∷ other ∷ []) q.dcs q.pages.items))
+
+abbrev row_4 : (q : Paged) → Exchange
+row_4 q = exchange (request 4 0 1 (Some 0) (write 4383 32 None (one ∷ other ∷ []) q.dcs q.pages.items))
     (asks 4383 32 None q.dcs q.pages.items) both_started
-    ∷ exchange (request 5 4 0 (Some 1) (write 4370 17 (Some 16) (one ∷ []) r.dcs r.pages.items))
+
+abbrev row_5 : (r : Paged) → Exchange
+row_5 r = exchange (request 5 4 0 (Some 1) (write 4370 17 (Some 16) (one ∷ []) r.dcs r.pages.items))
     (asks 4370 17 (Some 16) r.dcs r.pages.items) ((one, answers.Replaced 4 1) ∷ [])
-    ∷ exchange (request 6 6 1 None (messages.Kill 4383 32 (other ∷ []) None)) (commands.Kill 4383 32)
+
+abbrev row_6 : Exchange
+row_6 = exchange (request 6 6 1 None (messages.Kill 4383 32 (other ∷ []) None)) (commands.Kill 4383 32)
     ((other, answers.Stopped 2) ∷ [])
-    ∷ []
+
+abbrev exchanges : (p q r : Paged) → List Exchange
+exchanges p q r = row_3 p ∷ row_4 q ∷ row_5 r ∷ row_6 ∷ []
 
 abbrev turns : (p q r : Paged) → List Turn
 turns p q r = map (λ (x : Exchange). x.turn) (exchanges p q r)
@@ -132,6 +148,161 @@ entries_in_one p q r = refl
 slots_in_other : (p q r : Paged)
     → map (λ (e : Entry). e.slot) (entries_for 8 0 (asked_of other (exchanges p q r))) ≡ 0 ∷ 0 ∷ 6 ∷ []
 slots_in_other p q r = refl
+
+-- the book in two parts, a session for each of its alerts: cell 1-1 was asked for row 4 before row 3, cell 1-2 after it
+abbrev of_fire_en : (p r : Paged) → List Exchange
+of_fire_en p r = row_3 p ∷ row_5 r ∷ []
+
+abbrev of_fire_de : (q : Paged) → List Exchange
+of_fire_de q = row_4 q ∷ row_6 ∷ []
+
+first_session : (p q r : Paged) → AreTurnsOf (book p q r) 0 2 (map (λ (x : Exchange). x.turn) (of_fire_en p r))
+first_session p q r = record { reached = _; gone = (refl, (refl, refl)); over = refl }
+
+second_session : (p q r : Paged) → AreTurnsOf (book p q r) 1 2 (map (λ (x : Exchange). x.turn) (of_fire_de q))
+second_session p q r = record { reached = _; gone = (refl, (refl, refl)); over = refl }
+
+abbrev order_in_one : (p q r : Paged) → CellOrder
+order_in_one p q r =
+    (1, asked_with (row_4 q) (one, answers.Started 0)) ∷ (0, asked_with (row_3 p) (one, answers.Started 0))
+    ∷ (0, asked_with (row_5 r) (one, answers.Replaced 4 1)) ∷ []
+
+order_of_first : (p q r : Paged) → asked_by 0 (order_in_one p q r) ≡ asked_of one (of_fire_en p r)
+order_of_first p q r = refl
+
+order_of_second : (p q r : Paged) → asked_by 1 (order_in_one p q r) ≡ asked_of one (of_fire_de q)
+order_of_second p q r = refl
+
+abbrev log_of_one : (p q r : Paged) → List Entry
+log_of_one p q r =
+    record { command = asks 4383 32 None q.dcs q.pages.items; slot = 0; answer = answers.Started 0 }
+    ∷ record { command = asks 4370 16 None p.dcs p.pages.items; slot = 0; answer = answers.Started 0 }
+    ∷ record { command = asks 4370 17 (Some 16) r.dcs r.pages.items; slot = 4; answer = answers.Replaced 4 1 }
+    ∷ []
+
+log_by_order : (p q r : Paged) → entries_for 8 0 (map (λ a. a.1) (order_in_one p q r)) ≡ log_of_one p q r
+log_by_order p q r = refl
+
+abbrev log_of_other : (p q : Paged) → List Entry
+log_of_other p q =
+    record { command = asks 4370 16 None p.dcs p.pages.items; slot = 0; answer = answers.Started 0 }
+    ∷ record { command = asks 4383 32 None q.dcs q.pages.items; slot = 0; answer = answers.Started 0 }
+    ∷ record { command = commands.Kill 4383 32; slot = 6; answer = answers.Stopped 2 }
+    ∷ []
+
+-- what the passes noted, each in the order of its session
+abbrev first_pass : (p r : Paged) → List Note
+first_pass p r =
+    notes.Event one 1 (record { command = asks 4370 16 None p.dcs p.pages.items; slot = 0; answer = answers.Started 0 })
+    ∷ notes.Event other 0
+    (record { command = asks 4370 16 None p.dcs p.pages.items; slot = 0; answer = answers.Started 0 })
+    ∷ notes.Played one 0 4
+    ∷ notes.Event one 2
+    (record { command = asks 4370 17 (Some 16) r.dcs r.pages.items; slot = 4; answer = answers.Replaced 4 1 })
+    ∷ []
+
+abbrev second_pass : (q : Paged) → List Note
+second_pass q =
+    notes.Event one 0 (record { command = asks 4383 32 None q.dcs q.pages.items; slot = 0; answer = answers.Started 0 })
+    ∷ notes.Event other 1
+    (record { command = asks 4383 32 None q.dcs q.pages.items; slot = 0; answer = answers.Started 0 })
+    ∷ notes.Played other 0 6
+    ∷ notes.Event other 2 (record { command = commands.Kill 4383 32; slot = 6; answer = answers.Stopped 2 })
+    ∷ []
+
+abbrev finished : Cell → List Entry → Record
+finished cell log = record { cell = cell; slots = 8; clock = 8; log = log; air = [] }
+
+abbrev records : (p q r : Paged) → List Record
+records p q r = finished one (log_of_one p q r) ∷ finished other (log_of_other p q) ∷ []
+
+first_noted : (p q r : Paged)
+    → AllZip (IsNoteOf (records p q r)) (asks_of (one ∷ other ∷ []) (of_fire_en p r))
+    (filter is_of_command (first_pass p r))
+first_noted p q r = ((refl, refl), ((refl, refl), ((refl, refl), tt)))
+
+second_noted : (p q r : Paged)
+    → AllZip (IsNoteOf (records p q r)) (asks_of (one ∷ other ∷ []) (of_fire_de q))
+    (filter is_of_command (second_pass q))
+second_noted p q r = ((refl, refl), ((refl, refl), ((refl, refl), tt)))
+
+-- so each pass is that of its part's session, and there are no others
+abbrev cells : List Cell
+cells = one ∷ other ∷ []
+
+of_both : All (λ a. is_among cells a.0 ≡ false → a.1 ≡ answers.Cause 3) both_started
+of_both = All-from_recursion
+    (λ (a : Cell × Answer). is_among cells a.0 ≡ false → a.1 ≡ answers.Cause 3) both_started
+    ((λ foreign. absurd (cc)), ((λ foreign. absurd (cc)), tt))
+
+first_exchanged : (p r : Paged) → All (IsExchange cells) (of_fire_en p r)
+first_exchanged p r = All-from_recursion (IsExchange cells) (of_fire_en p r) (
+  record { asked = refl; replied = refl; foreign = of_both },
+  (
+    record {
+      asked = refl;
+      replied = refl;
+      foreign = All-from_recursion
+          (λ (a : Cell × Answer). is_among cells a.0 ≡ false → a.1 ≡ answers.Cause 3) (row_5 r).answers
+          ((λ foreign. absurd (cc)), tt);
+    },
+    tt,
+  ),
+)
+
+second_exchanged : (q : Paged) → All (IsExchange cells) (of_fire_de q)
+second_exchanged q = All-from_recursion (IsExchange cells) (of_fire_de q) (
+  record { asked = refl; replied = refl; foreign = of_both },
+  (
+    record {
+      asked = refl;
+      replied = refl;
+      foreign = All-from_recursion
+          (λ (a : Cell × Answer). is_among cells a.0 ≡ false → a.1 ≡ answers.Cause 3) row_6.answers
+          ((λ foreign. absurd (cc)), tt);
+    },
+    tt,
+  ),
+)
+
+are_sessions : (p q r : Paged) → AreSessions (book p q r) 2 (records p q r) (first_pass p r ∷ second_pass q ∷ [])
+are_sessions p q r zero = record {
+  own = λ within. (
+    of_fire_en p r,
+    record {
+      turns = first_session p q r;
+      exchanged = first_exchanged p r;
+      noted = first_noted p q r;
+    },
+  );
+  later = λ past. absurd (omega (arith, past));
+}
+are_sessions p q r (suc zero) = record {
+  own = λ within. (
+    of_fire_de q,
+    record {
+      turns = second_session p q r;
+      exchanged = second_exchanged q;
+      noted = second_noted p q r;
+    },
+  );
+  later = λ past. absurd (omega (arith, past));
+}
+are_sessions p q r (suc (suc place)) =
+    record { own = λ within. absurd (omega (arith, within)); later = λ past. refl }
+
+-- each entry was noted once, with the notes of both
+times_in_one : (p q r : Paged)
+    → map (λ (k : ℕ). times_noted one k (all_notes (first_pass p r ∷ second_pass q ∷ []))) (0 ∷ 1 ∷ 2 ∷ 3 ∷ [])
+    ≡ 1 ∷ 1 ∷ 1 ∷ 0 ∷ []
+times_in_one p q r = refl
+
+-- a session that notes less than it asked isn't the pass's
+left_out : (p q r : Paged)
+    → AllZip (IsNoteOf (records p q r)) (asks_of (one ∷ other ∷ []) (of_fire_de q))
+    (filter is_of_command (take 3 (second_pass q)))
+    → ⊥
+left_out p q r zip = zip.1.1
 
 -- messages and replies, in octets
 message_of_row_3 : octets_of_message (write 4370 16 None (one ∷ other ∷ []) (record { 0 = 1 }) (stay ∷ []))

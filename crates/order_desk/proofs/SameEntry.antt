@@ -13,7 +13,7 @@ use Rattle.bsc_table.specs.declared.entry.Answer.{Answer}
 use Rattle.bsc_table.specs.contracts.entry.AnswerPartialEq as answer
 use Rattle.bsc_table.specs.contracts.entry.EntryPartialEq as entry
 
-same_command : (a b : Command) → Decides (command.TheImpl.eq-value.it a b) (a ≡ b)
+pub same_command : (a b : Command) → Decides (command.TheImpl.eq-value.it a b) (a ≡ b)
 same_command (commands.Write i s r c p n d x) (commands.Write i' s' r' c' p' n' d' x') =
     let list = same_contents_decides x x' in search (rules, list)
 same_command (commands.Write i s r c p n d x) (commands.Kill i' s') = search rules

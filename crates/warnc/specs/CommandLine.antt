@@ -1,7 +1,7 @@
 -- What the words of a command line ask for: word 0 is the program's name, and word 1 names the command. Own.
-use Rattle.std.specs.Prelude.{◌≡◌, ℕ, ◌+◌, ◌≤◌, ◌||◌, ◌⊎◌, Bool, List, ◌∷◌, ◌++◌, Some, codes}
+use Rattle.std.specs.Prelude.{◌≡◌, ℕ, ◌+◌, ◌≤◌, ◌||◌, ◌⊎◌, Bool, false, nat_eq, List, ◌∷◌, ◌++◌, Some, codes}
 use Rattle.std.specs.Prelude.{slice_get}
-use Rattle.std.specs.List.{list_any}
+use Rattle.std.specs.List.{list_any, starts_with}
 use Rattle.std.specs.Str.{bytes_eq}
 use Rattle.std.specs.Str.Parse.{IsNumeral, digits_value, without_leading_plus}
 use Rattle.cbs_page.specs.Serial.{serial_number, AreSerialFields}
@@ -11,6 +11,13 @@ abbrev pub GivesValue : (words : List (List ℕ)) (name value : List ℕ) → Ty
 GivesValue words name value = (place : ℕ)
     × (((slice_get words place ≡ Some name) × (slice_get words (place + 1) ≡ Some value))
     ⊎ (slice_get words place ≡ Some (name ++ 61 ∷ value)))
+
+-- whether a word begins with a name, and whether one of the words does
+abbrev pub begins_with : (name word : List ℕ) → Bool
+begins_with name word = starts_with nat_eq word name
+
+abbrev pub is_given : (words : List (List ℕ)) (name : List ℕ) → Bool
+is_given words name = list_any (begins_with name) words
 
 -- the words give the option of this name this number, in decimal digits; a plus may stand before them
 pub record GivesNumber (words : List (List ℕ)) (name : List ℕ) (number : ℕ) : Type 0 where
@@ -37,12 +44,29 @@ pub record IsPageOrder (words : List (List ℕ)) (language : List ℕ) (id seria
 abbrev pub IsReadOrder : (words : List (List ℕ)) → Type 0
 IsReadOrder words = slice_get words 1 ≡ Some (codes "read")
 
+-- the words give a number of slots, 1 to 65,535
+pub record GivesSlots (words : List (List ℕ)) (slots : ℕ) : Type 0 where
+  pub given : GivesNumber words (codes "--slots") slots
+  pub some : 1 ≤ slots
+  pub most : slots ≤ 65535
+
+-- the words give a number of sessions, 1 to 64; it is 1 where no word begins with the option's name
+pub record GivesSessions (words : List (List ℕ)) (sessions : ℕ) : Type 0 where
+  pub given : GivesNumber words (codes "--sessions") sessions
+      ⊎ ((is_given words (codes "--sessions") ≡ false) × (sessions ≡ 1))
+  pub some : 1 ≤ sessions
+  pub most : sessions ≤ 64
+
 -- the words ask for `compile` with this number of slots
 pub record IsCompileOrder (words : List (List ℕ)) (slots : ℕ) : Type 0 where
   pub command : slice_get words 1 ≡ Some (codes "compile")
-  pub slots_given : GivesNumber words (codes "--slots") slots
-  pub some : 1 ≤ slots
-  pub most : slots ≤ 65535
+  pub slots_given : GivesSlots words slots
+
+-- the words ask for `live` with this number of slots and of sessions
+pub record IsLiveOrder (words : List (List ℕ)) (slots sessions : ℕ) : Type 0 where
+  pub command : slice_get words 1 ≡ Some (codes "live")
+  pub slots_given : GivesSlots words slots
+  pub sessions_given : GivesSessions words sessions
 
 -- a word that asks for help or for the version
 abbrev pub is_text_word : List ℕ → Bool

@@ -5,12 +5,16 @@ use Rattle.std.specs.Io.KnownBytes.{Keeps}
 use Rattle.device_ends.specs.Sink.{sink_failed}
 use Rattle.device_ends.specs.declared.reading.Source.{Source}
 use Rattle.device_ends.specs.declared.writing.Sink.{Sink}
-use Rattle.warnc.specs.CommandLine.{IsCompileOrder, IsPageOrder, IsReadOrder}
+use Rattle.warnc.specs.CommandLine.{IsCompileOrder, IsLiveOrder, IsPageOrder, IsReadOrder}
 use Rattle.warnc.specs.Status.{OneHasFailed, status_of_book_fault}
 use Rattle.warnc.specs.declared.command.Order.{Order}
-use Rattle.warnc.specs.declared.command.Order.TheVariants.{Compile, Page, Read}
-use Rattle.warnc_compile.specs.declared.compile.RunFault.{RunFault}
-use Rattle.warnc_compile.specs.declared.compile.RunFault.TheVariants as run
+use Rattle.warnc.specs.declared.command.Order.TheVariants.{Compile, Live, Page, Read}
+use Rattle.order_desk.specs.declared.fault.DeskFault.{DeskFault}
+use Rattle.order_desk.specs.declared.fault.DeskFault.TheVariants as desk
+use Rattle.order_desk.specs.declared.settle.SettleFault.{SettleFault}
+use Rattle.order_desk.specs.declared.settle.SettleFault.TheVariants as settle
+use Rattle.warnc_compile.specs.declared.fault.RunFault.{RunFault}
+use Rattle.warnc_compile.specs.declared.fault.RunFault.TheVariants as run
 use Rattle.warnc_engine.specs.declared.read.ReadCommandFault.{ReadCommandFault}
 use Rattle.warnc_engine.specs.declared.read.ReadCommandFault.TheVariants as table
 
@@ -19,6 +23,7 @@ abbrev pub IsOrdered : (words : List (List ℕ)) → Order → Type 0
 IsOrdered words (Page options) = IsPageOrder words options.language.now options.id options.serial
 IsOrdered words Read = IsReadOrder words
 IsOrdered words (Compile slots) = IsCompileOrder words slots
+IsOrdered words (Live slots sessions) = IsLiveOrder words slots sessions
 
 -- the status of a fault of `read`: 1 if the input is refused, 3 if a device failed, 4 if there was no memory
 abbrev pub status_of_read_fault : ReadCommandFault → ℕ
@@ -28,9 +33,21 @@ status_of_read_fault table.ReadFailed = 3
 status_of_read_fault table.Refused = 4
 status_of_read_fault table.WriteFailed = 3
 
--- the status of a fault of `compile`: that of the book's fault, 3 if the writer failed, 4 if there was no memory
+-- the status of a fault of the desk and of its settlement: 4 if there was no memory, else 1
+abbrev pub status_of_desk_fault : DeskFault → ℕ
+status_of_desk_fault (desk.Memory done) = 4
+status_of_desk_fault other = 1
+
+abbrev pub status_of_settle_fault : SettleFault → ℕ
+status_of_settle_fault settle.Refused = 4
+status_of_settle_fault other = 1
+
+-- the status of a fault of `compile` or of `live`: that of the book's fault, of the desk's or of the settlement's, 3 if
+-- the writer failed, 4 if there was no memory
 abbrev pub status_of_run_fault : RunFault → ℕ
 status_of_run_fault (run.Book f) = status_of_book_fault f
+status_of_run_fault (run.Desk f) = status_of_desk_fault f
+status_of_run_fault (run.Settle f) = status_of_settle_fault f
 status_of_run_fault (run.Write failed) = 3
 status_of_run_fault run.Refused = 4
 

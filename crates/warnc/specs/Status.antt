@@ -7,12 +7,13 @@ use Rattle.device_ends.specs.Source.{source_failed}
 use Rattle.device_ends.specs.declared.reading.Source.{Source}
 use Rattle.device_ends.specs.declared.writing.Sink.{Sink}
 use Rattle.handset.specs.Tape.{IsShort, IsLong}
-use Rattle.alert_book.specs.Book.{IsWrong, max_input}
+use Rattle.alert_book.specs.Book.{Contents, IsBook, IsWrong, max_input}
 use Rattle.alert_book.specs.declared.fault.BookFault.{BookFault}
 use Rattle.alert_book.specs.declared.fault.BookFaultKind.{BookFaultKind}
 use Rattle.alert_book.specs.declared.fault.BookFaultKind.TheVariants as kinds
-use Rattle.warnc.specs.CommandLine.{asks_for_text, IsCompileOrder, IsPageOrder, IsReadOrder}
+use Rattle.warnc.specs.CommandLine.{asks_for_text, IsCompileOrder, IsLiveOrder, IsPageOrder, IsReadOrder}
 use Rattle.warnc_compile.specs.Compiled.{IsCompiled}
+use Rattle.warnc_compile.specs.Live.{IsLive}
 use Rattle.warnc_engine.specs.PageOutput.{IsPageFault, IsPageOutput}
 use Rattle.warnc_engine.specs.ReadOutput.{IsReadOutput}
 use Rattle.cbs_page.specs.declared.paging.TextFault.TheVariants as text
@@ -52,6 +53,11 @@ abbrev pub IsNoBook : (input : List ℕ) → Type 0
 IsNoBook input = (max_input < length input)
     ⊎ ((f : BookFault) × IsWrong input f × (status_of_book_fault f ≡ 1))
 
+-- or the input is a book, whose run is refused or not settled by the desk. What a lock of the desk holds is known by
+-- its type alone, so no contract excludes it
+abbrev pub IsNoRun : (input : List ℕ) → Type 0
+IsNoRun input = IsNoBook input ⊎ ((book : Contents) × IsBook input book)
+
 -- something was written
 abbrev pub WritesSome : (old new : Option (List ℕ)) → Type 0
 WritesSome old new = (output : List ℕ) × (0 < length output) × Appends old new output
@@ -84,9 +90,18 @@ pub record WroteTapes (words : List (List ℕ)) (input old new : Option (List �
   pub asked : IsCompileOrder words slots
   pub wrote : WritesOutput (IsCompiled slots) input old new
 
+-- the words ask for `live`, and what was written is the tapes of the book's cells, in runs of as many slots and with as
+-- many sessions as the words say
+pub record WroteLiveTapes (words : List (List ℕ)) (input old new : Option (List ℕ)) : Type 0 where
+  pub slots : ℕ
+  pub sessions : ℕ
+  pub asked : IsLiveOrder words slots sessions
+  pub wrote : WritesOutput (IsLive slots sessions) input old new
+
 abbrev pub WroteWhatIsAsked : (words : List (List ℕ)) (input old new : Option (List ℕ)) → Type 0
 WroteWhatIsAsked words input old new = WroteText words old new ⊎
-    (WrotePages words input old new ⊎ (WroteTable words input old new ⊎ WroteTapes words input old new))
+    (WrotePages words input old new ⊎ (WroteTable words input old new
+    ⊎ (WroteTapes words input old new ⊎ WroteLiveTapes words input old new)))
 
 -- What status 1 says: the command that the words ask for refuses the input.
 
@@ -103,15 +118,22 @@ pub record RefusesTapes (words : List (List ℕ)) (input : Option (List ℕ)) : 
   pub asked : IsReadOrder words
   pub refused : IfSome input IsNoTapes
 
--- the words ask for `compile`, and the input is no book
+-- the words ask for `compile`, and the input is no book or has no run
 pub record RefusesAlerts (words : List (List ℕ)) (input : Option (List ℕ)) : Type 0 where
   pub slots : ℕ
   pub asked : IsCompileOrder words slots
-  pub refused : IfSome input IsNoBook
+  pub refused : IfSome input IsNoRun
+
+-- the words ask for `live`, and the input is no book or has no run
+pub record RefusesLiveAlerts (words : List (List ℕ)) (input : Option (List ℕ)) : Type 0 where
+  pub slots : ℕ
+  pub sessions : ℕ
+  pub asked : IsLiveOrder words slots sessions
+  pub refused : IfSome input IsNoRun
 
 abbrev pub RefusesInput : (words : List (List ℕ)) (input : Option (List ℕ)) → Type 0
 RefusesInput words input =
-    RefusesText words input ⊎ (RefusesTapes words input ⊎ RefusesAlerts words input)
+    RefusesText words input ⊎ (RefusesTapes words input ⊎ (RefusesAlerts words input ⊎ RefusesLiveAlerts words input))
 
 -- one of the two ends has failed
 abbrev pub OneHasFailed : {R W : Type 0} → Source R → Sink W → Type 0

@@ -1,8 +1,8 @@
 //! The command line: which words are taken, and what they mean.
 
 ghost use Rattle.std.specs.Prelude.{◌≡◌, IfOk, IfSome, codes, map, slice_get};
-ghost use Rattle.warnc.specs.CommandLine.{asks_for_text, is_text_word, GivesNumber, GivesValue, IsCompileOrder};
-ghost use Rattle.warnc.specs.CommandLine.{IsPageOrder};
+ghost use Rattle.warnc.specs.CommandLine.{asks_for_text, begins_with, is_given, is_text_word, GivesNumber};
+ghost use Rattle.warnc.specs.CommandLine.{GivesSessions, GivesSlots, GivesValue, IsPageOrder};
 ghost use Rattle.warnc.specs.RunSteps.{IsOrdered};
 
 use cbs_page::Serial;
@@ -36,6 +36,13 @@ pub enum Order<'a> {
         /// How many slots each cell's run has, at least 1.
         slots: u16,
     },
+    /// `live`.
+    Live {
+        /// How many slots each cell's run has, at least 1.
+        slots: u16,
+        /// How many sessions there are, 1 to 64.
+        sessions: u16,
+    },
 }
 
 /// What the words ask for, or the text that clap has for them: help, the version, or what is wrong with them. clap
@@ -65,6 +72,10 @@ fn order_in<'a, S: AsStr>(words: &'a [S]) -> Option<Order<'a>>
         "compile" => Some(Order::Compile {
             slots: slots_in(words)?,
         }),
+        "live" => Some(Order::Live {
+            slots: slots_in(words)?,
+            sessions: sessions_in(words)?,
+        }),
         _ => None,
     }
 }
@@ -84,16 +95,48 @@ fn page_options<'a, S: AsStr>(words: &'a [S]) -> Option<PageOptions<'a>>
     })
 }
 
-/// The number of slots that the words give `compile`.
+/// The number of slots that the words give.
 fn slots_in<S: AsStr>(words: &[S]) -> Option<u16>
-    requires { slice_get (map S.text words.now) 1 ≡ Some (codes "compile") }
-    ensures { IfSome result (IsCompileOrder (map S.text words.now)) }
+    ensures { IfSome result (GivesSlots (map S.text words.now)) }
 {
     let slots = number_of(words, "--slots")?;
     if slots == 0 {
         return None;
     }
     Some(slots)
+}
+
+/// The number of sessions that the words give; 1 if they give none.
+fn sessions_in<S: AsStr>(words: &[S]) -> Option<u16>
+    ensures { IfSome result (GivesSessions (map S.text words.now)) }
+{
+    if !is_given(words, "--sessions") {
+        return Some(1);
+    }
+    let sessions = number_of(words, "--sessions")?;
+    if sessions == 0 || sessions > 64 {
+        return None;
+    }
+    Some(sessions)
+}
+
+/// Whether a word begins with the name of an option.
+fn is_given<S: AsStr>(words: &[S], name: &str) -> bool
+    ensures { result ≡ is_given (map S.text words.now) name.now }
+{
+    for word in words {
+        if begins_with(word.as_str(), name) {
+            return true;
+        }
+    }
+    false
+}
+
+/// Whether a word begins with a name.
+fn begins_with(word: &str, name: &str) -> bool
+    ensures { result ≡ begins_with name.now word.now }
+{
+    word.starts_with(name)
 }
 
 /// The number that the words give the option of this name.
@@ -152,6 +195,7 @@ fn warnc<'a>(alloc: Global) -> Result<Command<'a>, AllocError> {
         .arg_required_else_help(true)
         .subcommand(page(alloc)?)?
         .subcommand(compile(alloc)?)?
+        .subcommand(live(alloc)?)?
         .subcommand(read(alloc))
 }
 
@@ -164,16 +208,35 @@ fn read<'a>(alloc: Global) -> Command<'a> {
 
 /// The command line of `compile`.
 fn compile<'a>(alloc: Global) -> Result<Command<'a>, AllocError> {
-    let slots = option(
+    Command::new(alloc, "compile")
+        .about("Reads a book of alerts, as CSV, and writes the tapes of its cells' runs")
+        .arg(slots(alloc))
+}
+
+/// The command line of `live`.
+fn live<'a>(alloc: Global) -> Result<Command<'a>, AllocError> {
+    let sessions = Arg::new(alloc, "sessions")
+        .long("sessions")
+        .value_name("SESSIONS")
+        .help("How many sessions order side by side, 1 to 64; 1 if it isn't given")
+        .value_parser(value_parser!(u16).range(1..=64));
+    Command::new(alloc, "live")
+        .about(
+            "Does what compile does, with the book's alerts shared by sessions that order side by side",
+        )
+        .arg(slots(alloc))?
+        .arg(sessions)
+}
+
+/// The option of the number of slots.
+fn slots<'a>(alloc: Global) -> Arg<'a> {
+    option(
         alloc,
         "slots",
         "SLOTS",
         "How many slots each cell's run has, 1 to 65535",
     )
-    .value_parser(value_parser!(u16).range(1..=65535));
-    Command::new(alloc, "compile")
-        .about("Reads a book of alerts, as CSV, and writes the tapes of its cells' runs")
-        .arg(slots)
+    .value_parser(value_parser!(u16).range(1..=65535))
 }
 
 /// The command line of `page`.

@@ -7,7 +7,9 @@ use crate::tests::{
 };
 use device_ends::memory::{MemoryReader, MemoryWriter};
 use std::process::Abort;
+use std::sync::Wait;
 use std::test::Fail;
+use std::thread::Threads;
 
 /// The words of `compile` with two slots.
 const COMPILE: [&str; 4] = ["warnc", "compile", "--slots", "2"];
@@ -35,7 +37,10 @@ fn a_refused_book_is_named(rt: HostRuntime) -> Result<(), Fail> {
 }
 
 /// Expects that a number of slots is no command line.
-fn expect_usage<T: AllocGlobal + Abort>(rt: &T, slots: &str) -> Result<(), Fail> {
+fn expect_usage<T: AllocGlobal + Abort + Threads + Wait + Sync>(
+    rt: &T,
+    slots: &str,
+) -> Result<(), Fail> {
     let run = run_on(rt, &["warnc", "compile", "--slots", slots], BOOK)?;
     assert_eq!(rt; run.status, 2);
     assert_eq!(rt; run.output.as_str(), "");

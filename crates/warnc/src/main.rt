@@ -1,7 +1,7 @@
 //! `warnc`: cell broadcast warnings to the blocks that cells send, and back.
 #![tactic(auto)]
 
-ghost use Rattle.std.specs.Prelude.{◌≡◌, ◌≤◌};
+ghost use Rattle.std.specs.Prelude.{◌≡◌, ◌⊎◌, IfErr};
 
 mod command;
 pub mod run;
@@ -12,30 +12,33 @@ use std::process::ExitCode;
 use std::{env, io};
 
 fn main(rt: HostRuntime) -> ExitCode {
-    ExitCode::from(run_process(&rt))
+    let status = match words_of(&rt) {
+        Ok(words) => run(
+            &rt,
+            words.as_slice(),
+            &mut rt.stdin(),
+            &mut rt.stdout(),
+            &mut rt.stderr(),
+        ),
+        Err(status) => status,
+    };
+    ExitCode::from(status)
 }
 
-/// The status of the run that the process's words ask for.
-fn run_process(rt: &HostRuntime) -> u8
-    ensures { result ≤ 4 }
+/// The words of the process, or the status if they can't be had.
+fn words_of(rt: &HostRuntime) -> Result<Vec<String>, u8>
+    ensures { IfErr result (λ status. (status ≡ MEMORY) ⊎ (status ≡ USAGE)) }
 {
-    let words: Vec<String> = match env::args(rt) {
+    match env::args(rt) {
         Ok(words) => match words.collect(rt.alloc()) {
-            Ok(words) => words,
-            Err(_) => return report(rt, "out of memory", MEMORY),
+            Ok(words) => Ok(words),
+            Err(_) => Err(report(rt, "out of memory", MEMORY)),
         },
         Err(error) if error.kind() == io::ErrorKind::OutOfMemory => {
-            return report(rt, "out of memory", MEMORY);
+            Err(report(rt, "out of memory", MEMORY))
         }
-        Err(_) => return report(rt, "words are not UTF-8", USAGE),
-    };
-    run(
-        rt,
-        words.as_slice(),
-        &mut rt.stdin(),
-        &mut rt.stdout(),
-        &mut rt.stderr(),
-    )
+        Err(_) => Err(report(rt, "words are not UTF-8", USAGE)),
+    }
 }
 
 /// Reports what is wrong with the words, and returns the status.
@@ -48,6 +51,8 @@ fn report(rt: &HostRuntime, fault: &str, status: u8) -> u8
 
 #[cfg(test)]
 mod compile_tests;
+#[cfg(test)]
+mod live_tests;
 #[cfg(test)]
 mod memory_tests;
 #[cfg(test)]

@@ -8,7 +8,9 @@ use std::alloc::Global;
 use std::io;
 use std::io::Write;
 use std::process::Abort;
+use std::sync::Wait;
 use std::test::Fail;
+use std::thread::Threads;
 
 /// How many octets each block of the memory has that is given back.
 const BLOCK: usize = 512;
@@ -60,7 +62,7 @@ fn take_all(alloc: Global, taken: &mut Vec<Vec<u8>>) {
 
 /// Runs these words on this input again and again, with one block of memory more each time, until the run is done. Each
 /// run before that is out of memory, and writes nothing.
-fn expect_out_of_memory<T: AllocGlobal + Abort>(
+fn expect_out_of_memory<T: AllocGlobal + Abort + Threads + Wait + Sync>(
     rt: &T,
     words: &[&str],
     input: &[u8],
@@ -119,5 +121,12 @@ fn a_table_without_memory_is_status_4(rt: HostRuntime) -> Result<(), Fail> {
 fn a_book_without_memory_is_status_4(rt: HostRuntime) -> Result<(), Fail> {
     let tape = worked_tape(rt.alloc())?;
     let words = ["warnc", "compile", "--slots", "2"];
+    expect_out_of_memory(&rt, &words, BOOK, &tape)
+}
+
+#[test]
+fn a_book_of_two_sessions_without_memory_is_status_4(rt: HostRuntime) -> Result<(), Fail> {
+    let tape = worked_tape(rt.alloc())?;
+    let words = ["warnc", "live", "--slots", "2", "--sessions", "2"];
     expect_out_of_memory(&rt, &words, BOOK, &tape)
 }

@@ -3,7 +3,9 @@
 use crate::tests::{Outcome, expect_failed_reader, expect_failed_writer, expect_fault, run_on};
 use std::alloc::{AllocError, Global};
 use std::process::Abort;
+use std::sync::Wait;
 use std::test::Fail;
+use std::thread::Threads;
 
 /// The words of `read`.
 const READ: [&str; 2] = ["warnc", "read"];
@@ -53,7 +55,11 @@ fn tape_of(alloc: Global, cell: [u8; 4], text: &str) -> Result<Vec<u8>, AllocErr
 }
 
 /// Expects a table with these rows behind the columns' names, and no fault.
-fn expect_table<T: AllocGlobal + Abort>(rt: &T, tapes: &[u8], rows: &str) -> Result<(), Fail> {
+fn expect_table<T: AllocGlobal + Abort + Threads + Wait + Sync>(
+    rt: &T,
+    tapes: &[u8],
+    rows: &str,
+) -> Result<(), Fail> {
     let run: Outcome = run_on(rt, &READ, tapes)?;
     assert_eq!(rt; run.faults.as_str(), "");
     assert!(rt; run.output.starts_with(COLUMNS), "{}", run.output);

@@ -1,15 +1,16 @@
 //! One run of the program: words in, a status out.
 
-ghost use Rattle.std.specs.Prelude.{◌≡◌, ◌≢◌, ◌≤◌, ◌⊎◌, ℕ, List, Some, codes, false, true, map, slice_get, IfSome};
+ghost use Rattle.std.specs.Prelude.{◌≡◌, ◌≢◌, ◌<◌, ◌≤◌, ◌⊎◌, ℕ, List, Some, codes, false, true, map, slice_get, IfSome};
 ghost use Rattle.std.specs.Io.KnownBytes.{Appends, Keeps};
 ghost use Rattle.device_ends.specs.Moves.{WritesOutput};
 ghost use Rattle.device_ends.specs.Sink.{sink_failed, writer_of};
 ghost use Rattle.device_ends.specs.Source.{reader_of, source_failed};
 ghost use Rattle.warnc_compile.specs.Compiled.{IsCompiled};
+ghost use Rattle.warnc_compile.specs.Live.{IsLive};
 ghost use Rattle.warnc_engine.specs.PageOutput.{IsPageOutput};
 ghost use Rattle.warnc_engine.specs.ReadOutput.{IsReadOutput};
 ghost use Rattle.warnc.specs.RunSteps.{status_of_read_fault, status_of_run_fault, IsRunBetween, IsStatusOfSink};
-ghost use Rattle.warnc.specs.Status.{status_of_book_fault, status_of_page_fault, IsNoBook, IsNoTapes, IsRefused};
+ghost use Rattle.warnc.specs.Status.{status_of_book_fault, status_of_page_fault, IsNoRun, IsNoTapes, IsRefused};
 ghost use Rattle.warnc.specs.Status.{OneHasFailed, RefusesInput};
 ghost use Rattle.warnc.specs.Status.{WritesSome, WroteWhatIsAsked};
 
@@ -19,10 +20,13 @@ use cbs_page::TextFault;
 use clap::Error;
 use clap::error::ErrorKind;
 use device_ends::{Sink, Source, write_all};
+use order_desk::{DeskFault, Open, SettleFault};
 use std::alloc::{AllocGlobal, Global};
 use std::convert::AsStr;
 use std::io::{Read, Write};
-use warnc_compile::compile::{RunFault, compile_stream};
+use std::sync::Wait;
+use std::thread::Threads;
+use warnc_compile::{RunFault, compile_stream, live_stream};
 use warnc_engine::page::{PageFault, page_stream};
 use warnc_engine::read::{ReadCommandFault, read_stream};
 
@@ -46,7 +50,7 @@ pub const MEMORY: u8 = 4;
 /// and the text, or the text that clap has; what `faults` doesn't take changes no status. Help goes to the writer.
 ///
 /// This wraps both ends, and is `run_between` on them: whose contract says what is written.
-pub fn run<T: AllocGlobal, S: AsStr, R: Read, W: Write, F: Write>(
+pub fn run<T: AllocGlobal + Threads + Wait + Sync, S: AsStr, R: Read, W: Write, F: Write>(
     rt: &T,
     words: &[S],
     reader: &mut R,
@@ -62,8 +66,8 @@ pub fn run<T: AllocGlobal, S: AsStr, R: Read, W: Write, F: Write>(
 }
 
 /// The same, between two ends. With status 0 what the words ask for is written, with 1, 2 and 4 nothing is. That is one
-/// octet at least, but for `compile`: a book without cells has no tapes.
-pub fn run_between<T: AllocGlobal, S: AsStr, R: Read, W: Write, F: Write>(
+/// octet at least, but for `compile` and `live`: a book without cells has no tapes.
+pub fn run_between<T: AllocGlobal + Threads + Wait + Sync, S: AsStr, R: Read, W: Write, F: Write>(
     rt: &T,
     words: &[S],
     source: &mut Source<R>,
@@ -73,6 +77,7 @@ pub fn run_between<T: AllocGlobal, S: AsStr, R: Read, W: Write, F: Write>(
     ensures done { result ≡ DONE → WroteWhatIsAsked (map S.text words.now) (R.remaining (reader_of source.old))
         (W.contents (writer_of sink.old)) (W.contents (writer_of sink.new)) }
     ensures wrote { result ≡ DONE → slice_get (map S.text words.now) 1 ≢ Some (codes "compile")
+        → slice_get (map S.text words.now) 1 ≢ Some (codes "live")
         → WritesSome (W.contents (writer_of sink.old)) (W.contents (writer_of sink.new)) }
     ensures nothing_written { (result ≢ DONE) → (result ≢ DEVICE)
         → Keeps (W.contents (writer_of sink.old)) (W.contents (writer_of sink.new)) }
@@ -90,6 +95,9 @@ pub fn run_between<T: AllocGlobal, S: AsStr, R: Read, W: Write, F: Write>(
         Ok(Some(Order::Page(options))) => run_page(alloc, &options, source, sink, faults),
         Ok(Some(Order::Read)) => run_read(alloc, source, sink, faults),
         Ok(Some(Order::Compile { slots })) => run_compile(rt, slots, source, sink, faults),
+        Ok(Some(Order::Live { slots, sessions })) => {
+            run_live(rt, slots, sessions, source, sink, faults)
+        }
         Ok(None) => {
             let _ = writeln!(faults, "warnc: no command");
             USAGE
@@ -178,7 +186,7 @@ fn status_of_read(fault: ReadCommandFault) -> u8
 }
 
 /// Runs `compile`, and returns the status.
-fn run_compile<T: AllocGlobal, R: Read, W: Write, F: Write>(
+fn run_compile<T: AllocGlobal + Wait, R: Read, W: Write, F: Write>(
     rt: &T,
     slots: u16,
     source: &mut Source<R>,
@@ -189,7 +197,7 @@ fn run_compile<T: AllocGlobal, R: Read, W: Write, F: Write>(
         (R.remaining (reader_of source.old)) (W.contents (writer_of sink.old)) (W.contents (writer_of sink.new)) }
     ensures any_device { IsRunBetween result source.new sink.old sink.new
         (W.contents (writer_of sink.old)) (W.contents (writer_of sink.new)) }
-    ensures refused { result ≡ REFUSED_INPUT → IfSome (R.remaining (reader_of source.old)) IsNoBook }
+    ensures refused { result ≡ REFUSED_INPUT → IfSome (R.remaining (reader_of source.old)) IsNoRun }
 {
     match compile_stream(rt, source, sink, slots) {
         Ok(()) => DONE,
@@ -200,14 +208,42 @@ fn run_compile<T: AllocGlobal, R: Read, W: Write, F: Write>(
     }
 }
 
-/// The status of a fault of `compile`.
+/// Runs `live`, and returns the status.
+fn run_live<T: AllocGlobal + Threads + Wait + Sync, R: Read, W: Write, F: Write>(
+    rt: &T,
+    slots: u16,
+    sessions: u16,
+    source: &mut Source<R>,
+    sink: &mut Sink<W>,
+    faults: &mut F,
+) -> u8
+    requires some { 0 < sessions }
+    requires few { sessions ≤ 64 }
+    ensures done { result ≡ DONE → WritesOutput (IsLive slots sessions)
+        (R.remaining (reader_of source.old)) (W.contents (writer_of sink.old)) (W.contents (writer_of sink.new)) }
+    ensures any_device { IsRunBetween result source.new sink.old sink.new
+        (W.contents (writer_of sink.old)) (W.contents (writer_of sink.new)) }
+    ensures refused { result ≡ REFUSED_INPUT → IfSome (R.remaining (reader_of source.old)) IsNoRun }
+{
+    match live_stream(rt, source, sink, slots, sessions, &Open) {
+        Ok(()) => DONE,
+        Err(fault) => {
+            let _ = writeln!(faults, "warnc: {fault}");
+            status_of_run(fault)
+        }
+    }
+}
+
+/// The status of a fault of `compile` or of `live`.
 fn status_of_run(fault: RunFault) -> u8
     ensures { result ≡ status_of_run_fault fault }
 {
     match fault {
         RunFault::Book(fault) => status_of_book(fault),
         RunFault::Write(_) => DEVICE,
-        RunFault::Refused => MEMORY,
+        RunFault::Desk(DeskFault::Memory { .. }) => MEMORY,
+        RunFault::Settle(SettleFault::Refused) | RunFault::Refused => MEMORY,
+        RunFault::Desk(_) | RunFault::Settle(_) => REFUSED_INPUT,
     }
 }
 

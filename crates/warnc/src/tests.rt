@@ -7,7 +7,9 @@ use std::alloc::Global;
 use std::io;
 use std::io::Read;
 use std::process::Abort;
+use std::sync::Wait;
 use std::test::Fail;
+use std::thread::Threads;
 use warnc_engine::page::MAX_INPUT;
 
 /// What a run gives.
@@ -19,7 +21,11 @@ pub struct Outcome {
 }
 
 /// A run on these words and this input, which comes in pieces of 7 octets and goes out in pieces of 11.
-pub fn run_on<T: AllocGlobal>(rt: &T, words: &[&str], input: &[u8]) -> Result<Outcome, Fail> {
+pub fn run_on<T: AllocGlobal + Threads + Wait + Sync>(
+    rt: &T,
+    words: &[&str],
+    input: &[u8],
+) -> Result<Outcome, Fail> {
     let mut reader = MemoryReader::new(input, 7, None);
     let mut writer = MemoryWriter::new(rt.alloc(), 11, None);
     let mut faults = MemoryWriter::new(rt.alloc(), 64, None);
@@ -50,7 +56,7 @@ fn page_with<'a>(
 }
 
 /// Expects an output, and no fault.
-pub fn expect_output<T: AllocGlobal + Abort>(
+pub fn expect_output<T: AllocGlobal + Abort + Threads + Wait + Sync>(
     rt: &T,
     words: &[&str],
     input: &str,
@@ -64,7 +70,7 @@ pub fn expect_output<T: AllocGlobal + Abort>(
 }
 
 /// Expects a status, a fault line and no output.
-pub fn expect_fault<T: AllocGlobal + Abort>(
+pub fn expect_fault<T: AllocGlobal + Abort + Threads + Wait + Sync>(
     rt: &T,
     words: &[&str],
     input: &[u8],
@@ -232,7 +238,7 @@ fn help_is_written(rt: HostRuntime) -> Result<(), Fail> {
 
 /// Expects that a reader which fails at this call, counted from 0, is status 3, and that nothing is written. It gives
 /// an octet a call.
-pub fn expect_failed_reader<T: AllocGlobal + Abort>(
+pub fn expect_failed_reader<T: AllocGlobal + Abort + Threads + Wait + Sync>(
     rt: &T,
     words: &[&str],
     input: &[u8],
@@ -249,7 +255,7 @@ pub fn expect_failed_reader<T: AllocGlobal + Abort>(
 
 /// Expects that a writer which fails at this call, counted from 0, is status 3, and that what it took before is a front
 /// of the output. It takes `per_call` octets a call.
-pub fn expect_failed_writer<T: AllocGlobal + Abort>(
+pub fn expect_failed_writer<T: AllocGlobal + Abort + Threads + Wait + Sync>(
     rt: &T,
     words: &[&str],
     input: &[u8],

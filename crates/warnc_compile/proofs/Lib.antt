@@ -1,6 +1,2 @@
-pub mod Entries
-pub mod Asking
-pub mod Orders
-pub mod Counting
 pub mod Serving
 pub mod Tapes

@@ -6,8 +6,8 @@ use Rattle.device_ends.specs.Moves.{AppendsFront}
 use Rattle.alert_book.specs.Book.{Contents, IsBook, RefusesBook}
 use Rattle.bsc_table.specs.Record.{Record}
 use Rattle.cbch_blocks.specs.RecordBlocks.{tape_of_record}
-use Rattle.warnc_compile.specs.declared.compile.RunFault.{RunFault}
-use Rattle.warnc_compile.specs.declared.compile.RunFault.TheVariants as fault
+use Rattle.warnc_compile.specs.declared.fault.RunFault.{RunFault}
+use Rattle.warnc_compile.specs.declared.fault.RunFault.TheVariants as fault
 use Rattle.book_runs.specs.Meant.{IsMeantIn}
 use Rattle.book_runs.specs.Run.{Exchange, IsRun}
 
@@ -22,33 +22,45 @@ pub record IsCompiled (slots : ℕ) (input output : List ℕ) : Type 0 where
   pub meant : All (IsMeantIn book) records
   pub written : output ≡ flat_map tape_of_record records
 
--- a book was compiled: `first` and `last` are what the reader has left before and after, `old` and `new` what the
--- writer holds
-pub record Compiles (slots : ℕ) (first last old new : Option (List ℕ)) : Type 0 where
+-- all of the octets were read, and the tapes that they mean were written: `first` and `last` are what the reader has
+-- left before and after, `old` and `new` what the writer holds
+pub record Makes (Means : (input output : List ℕ) → Type 0) (first last old new : Option (List ℕ)) : Type 0 where
   pub input : List ℕ
   pub output : List ℕ
   pub read : Consumes first last input
   pub ended : IsAtEnd last
-  pub compiled : IsCompiled slots input output
+  pub meant : Means input output
   pub appended : Appends old new output
 
 -- the same, but the writer took no more than a front of the tapes
-pub record CompilesFront (slots : ℕ) (first last old new : Option (List ℕ)) : Type 0 where
+pub record MakesFront (Means : (input output : List ℕ) → Type 0) (first last old new : Option (List ℕ)) : Type 0
+  where
+    pub input : List ℕ
+    pub output : List ℕ
+    pub read : Consumes first last input
+    pub ended : IsAtEnd last
+    pub meant : Means input output
+    pub front : AppendsFront old new output
+
+-- all of the octets were read, and are a book
+pub record ReadsBook (first last : Option (List ℕ)) : Type 0 where
   pub input : List ℕ
-  pub output : List ℕ
+  pub book : Contents
   pub read : Consumes first last input
   pub ended : IsAtEnd last
-  pub compiled : IsCompiled slots input output
-  pub front : AppendsFront old new output
+  pub is_book : IsBook input book
 
 -- a fault of the writer
 abbrev pub IsWriteFault : RunFault → Type 0
 IsWriteFault (fault.Write failed) = ⊤
 IsWriteFault other = ⊥
 
--- why no book was compiled: the fault is the book's, or memory ran out, and nothing is written; or the writer failed
--- with a front of the tapes
-abbrev pub IsRunFault : (slots : ℕ) (first last old new : Option (List ℕ)) → RunFault → Type 0
-IsRunFault slots first last old new (fault.Book f) = RefusesBook first last f × Keeps old new
-IsRunFault slots first last old new fault.Refused = Keeps old new
-IsRunFault slots first last old new (fault.Write failed) = CompilesFront slots first last old new
+-- why no tapes were made: the fault is the book's; or the octets are a book, and the desk refused an order, or wasn't
+-- settled; or memory ran out; and nothing is written. Or the writer failed with a front of the tapes
+abbrev pub IsRunFault : (Means : (input output : List ℕ) → Type 0) (first last old new : Option (List ℕ)) → RunFault
+    → Type 0
+IsRunFault Means first last old new (fault.Book f) = RefusesBook first last f × Keeps old new
+IsRunFault Means first last old new (fault.Desk f) = ReadsBook first last × Keeps old new
+IsRunFault Means first last old new (fault.Settle f) = ReadsBook first last × Keeps old new
+IsRunFault Means first last old new fault.Refused = Keeps old new
+IsRunFault Means first last old new (fault.Write failed) = MakesFront Means first last old new

@@ -1,3 +1,3 @@
 pub mod Compiled
+pub mod Live
 pub mod RunSteps
-pub mod EndSteps

@@ -4,35 +4,24 @@ ghost use Rattle.std.specs.Prelude.{◌≡◌, ◌↔◌, ◌≢◌, ℕ, List, 
 ghost use Rattle.device_ends.specs.Sink.{sink_failed, writer_of};
 ghost use Rattle.device_ends.specs.Source.{reader_of, source_failed};
 ghost use Rattle.alert_book.specs.Book.{IsBook, unread};
-ghost use Rattle.warnc_compile.specs.Compiled.{Compiles, IsRunFault, IsWriteFault};
-ghost use Rattle.warnc_compile.specs.EndSteps.{AreTapesOf};
+ghost use Rattle.warnc_compile.specs.Compiled.{IsCompiled, IsRunFault, IsWriteFault, Makes};
+ghost use Rattle.warnc_compile.specs.declared.fault.RunFault.TheVariants as faults;
+ghost use Rattle.warnc_compile.specs.RunSteps.{AreTapesOf, HaveRunLive, IsOfRun};
 
-use crate::cells::Refused;
-use crate::finish::{open_books, tapes_of, write_tapes};
+use crate::fault::RunFault;
+use crate::finish::{tapes_of, write_tapes};
 use crate::session::serve;
-use alert_book::{Book, BookFault, read_book};
-use cbch_blocks::{Tape, WriteFailed};
+use crate::settled::records_of;
+use alert_book::{Book, read_book};
+use bsc_table::CellRecord;
+use cbch_blocks::Tape;
 use device_ends::{Sink, Source};
-use std::alloc::Global;
+use order_desk::{Desk, Open};
 use std::io::{Read, Write};
-use thiserror::Error;
+use std::sync::Wait;
 
-/// Why `compile` doesn't write the tapes of a book.
-#[derive(Clone, Copy, Debug, PartialEq, Eq, Error)]
-pub enum RunFault {
-    /// The book can't be read, or is refused.
-    #[error("{0}")]
-    Book(BookFault),
-    /// The writer failed. Some of the tapes may be out: the fault has how many octets of the one under way.
-    #[error("{0}")]
-    Write(WriteFailed),
-    /// There was no memory.
-    #[error("out of memory")]
-    Refused,
-}
-
-/// Reads a book, has its cells carry out what its one session orders, in runs of `slots` slots, and writes the tapes of
-/// the cells, in the order of the book. Nothing is written before all tapes are made.
+/// Reads a book, has the cells of a desk carry out what its one session orders, in runs of `slots` slots, settles the
+/// desk, and writes the tapes of the cells, in the order of the book. Nothing is written before all tapes are made.
 ///
 /// What was written is what the book means (`IsCompiled`): there is one session, whose messages are those of the book's
 /// rows by the replies that it gets; each cell's log has what the messages order of it, in order, once each and nothing
@@ -43,22 +32,23 @@ pub enum RunFault {
 ///
 /// # Errors
 ///
-/// Returns the book's fault or [`RunFault::Refused`] with nothing written, and [`RunFault::Write`] with a front of the
-/// tapes written.
-pub fn compile_stream<T: AllocGlobal, R: Read, W: Write>(
+/// Returns the book's fault, the desk's, the settlement's or [`RunFault::Refused`] with nothing written, and
+/// [`RunFault::Write`] with a front of the tapes written. What a lock of the desk holds is known by its type alone, so
+/// no contract excludes the faults [`RunFault::Desk`] and [`RunFault::Settle`].
+pub fn compile_stream<T: AllocGlobal + Wait, R: Read, W: Write>(
     rt: &T,
     source: &mut Source<R>,
     sink: &mut Sink<W>,
     slots: u16,
 ) -> Result<(), RunFault>
-    ensures ok { OnOk result (Compiles slots (R.remaining (reader_of source.old)) (R.remaining (reader_of source.new))
-        (W.contents (writer_of sink.old)) (W.contents (writer_of sink.new))) }
-    ensures fault { IfErr result (IsRunFault slots (R.remaining (reader_of source.old))
+    ensures ok { OnOk result (Makes (IsCompiled slots) (R.remaining (reader_of source.old))
+        (R.remaining (reader_of source.new)) (W.contents (writer_of sink.old)) (W.contents (writer_of sink.new))) }
+    ensures fault { IfErr result (IsRunFault (IsCompiled slots) (R.remaining (reader_of source.old))
         (R.remaining (reader_of source.new)) (W.contents (writer_of sink.old)) (W.contents (writer_of sink.new))) }
 
     // At any reader and any writer: a failed reader is reported exactly if the source has failed, and a failed writer
     // only if the sink has. Nothing is written with any other fault, and an end that had failed before is as it was.
-    ensures read { IsErrOf result (RunFault.Book unread) ↔ IsTrue (source_failed source.new) }
+    ensures read { IsErrOf result (faults.Book unread) ↔ IsTrue (source_failed source.new) }
     ensures write { IfErr result (λ fault. IsWriteFault fault → sink_failed sink.new ≡ true) }
     ensures untouched { IfErr result (λ fault. (IsWriteFault fault → ⊥) → sink.new ≡ sink.old) }
     ensures not_failed { OnOk result (sink_failed sink.new ≡ false) }
@@ -67,30 +57,48 @@ pub fn compile_stream<T: AllocGlobal, R: Read, W: Write>(
 {
     // A handset is shown what the book means, whatever the cells answered.
     book_runs::run_laws();
+    book_runs::session_laws();
     let book = match read_book(rt, source) {
         Ok(book) => book,
         Err(fault) => return Err(RunFault::Book(fault)),
     };
-    let tapes = match tapes_of_book(rt.alloc(), book, slots) {
-        Ok(tapes) => tapes,
-        Err(Refused) => return Err(RunFault::Refused),
-    };
+    let tapes = tapes_of_book(rt, book, slots)?;
     match write_tapes(&tapes, sink) {
         Ok(()) => Ok(()),
         Err(fault) => Err(RunFault::Write(fault)),
     }
 }
 
-/// The tapes of a book's cells. The book goes before they are made.
-fn tapes_of_book(alloc: Global, book: Book, slots: u16) -> Result<Vec<Tape>, Refused>
-    requires { (input : List ℕ) × IsBook input book }
-    ensures { IfOk result (λ tapes. AreTapesOf book slots tapes.items) }
+/// The records of a book's cells after its one session.
+fn records_of_book<T: AllocGlobal + Wait>(
+    rt: &T,
+    book: &Book,
+    slots: u16,
+) -> Result<Vec<CellRecord>, RunFault>
+    requires { (input : List ℕ) × IsBook input book.now }
+    ensures ok { IfOk result (λ records. HaveRunLive book.now slots 1 records.items) }
+    ensures err { IfErr result IsOfRun }
 {
-    // A book has few orders, and no cell twice; a new record is a legal history.
+    // No book has a cell twice.
     alert_book::book_laws();
-    bsc_table::steps_of_a_cell();
-    let mut books = open_books(alloc, book.cells(), slots)?;
-    serve(alloc, &book, &mut books)?;
+    let alloc = rt.alloc();
+    let desk = Desk::open(alloc, book.cells(), slots)?;
+    let mut pass = desk.pass();
+    serve(rt, alloc, book, 0, 1, &desk, &mut pass, &Open)?;
+    records_of(alloc, book, desk, 1, &[pass])
+}
+
+/// The tapes of a book's cells. The book goes before they are made.
+fn tapes_of_book<T: AllocGlobal + Wait>(
+    rt: &T,
+    book: Book,
+    slots: u16,
+) -> Result<Vec<Tape>, RunFault>
+    requires { (input : List ℕ) × IsBook input book }
+    ensures ok { IfOk result (λ tapes. AreTapesOf book slots 1 tapes.items) }
+    ensures err { IfErr result IsOfRun }
+{
+    let records = records_of_book(rt, &book, slots)?;
     drop(book);
-    tapes_of(alloc, books)
+    tapes_of(rt.alloc(), records)
 }

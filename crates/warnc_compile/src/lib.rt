@@ -1,13 +1,19 @@
-//! The engine of the command `compile`, from a reader to a writer: a book of alerts to the tapes of its cells.
+//! The engines of the commands `compile` and `live`, from a reader to a writer: a book of alerts to the tapes of its
+//! cells.
 //!
-//! [`compile_stream`] reads all of the book, has its cells carry out what its one session orders, plays their runs to
-//! the end, and writes the tapes. What was written is said by definitions of the book's octets alone (`IsCompiled`):
-//! which orders each cell answered, at which slot, and what a handset shows that reads its tape.
+//! [`compile_stream`] reads all of the book, has the cells of a desk carry out what its one session orders, settles the
+//! desk, and writes the tapes of the records. [`live_stream`] does the same with several sessions, each in a thread of
+//! its own. What was written is said by definitions of the book's octets alone (`IsCompiled`, `IsLive`): which orders
+//! each cell answered, at which slot, and what a handset shows that reads its tape.
 #![tactic(auto)]
 
-mod cells;
 pub mod compile;
+pub mod fault;
 mod finish;
+pub mod live;
 mod session;
+mod settled;
 
-pub use compile::{RunFault, compile_stream};
+pub use compile::compile_stream;
+pub use fault::RunFault;
+pub use live::live_stream;

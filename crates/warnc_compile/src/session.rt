@@ -1,71 +1,39 @@
-//! The session of a book: its orders, and the replies to them.
+//! A session of a book at a desk: its orders, and the replies to them.
 
-ghost use Rattle.std.specs.Prelude.{◌≡◌, ◌≤◌, ℕ, List, [], true, length, IfOk, OnOk};
-ghost use Rattle.cbsp_wire.specs.declared.message.Cell.{Cell};
-ghost use Rattle.cbsp_wire.specs.Range.{are_distinct, cells_are_valid};
-ghost use Rattle.bsc_table.specs.declared.command.Command.{Command};
-ghost use Rattle.bsc_table.specs.Orders.{IsWellFormed};
-ghost use Rattle.order_desk.specs.ReplyLaws.{IsOrdered};
-ghost use Rattle.warnc_compile.specs.RunSteps.{AreUnderWay, HasServed, HaveRoomFor, IsOrderOf, IsReplied, cells_of};
+ghost use Rattle.std.specs.Prelude.{◌<◌, IfErr};
+ghost use Rattle.warnc_compile.specs.RunSteps.{IsOfRun};
 
-use crate::cells::{Refused, answers_of};
+use crate::fault::RunFault;
 use alert_book::{Book, Session};
-use bsc_table::{CellBook, Command, orders_of};
-use cbsp_wire::{Cell, read};
-use order_desk::reply_of;
+use order_desk::{Desk, Gate, Pass};
 use std::alloc::Global;
+use std::sync::Wait;
 
-/// The cells that a message names, and the command to them.
-fn order_in(alloc: Global, octets: &[u8]) -> Result<(Vec<Cell>, Command), Refused>
-    ensures order { IfOk result (λ order. IsOrderOf octets.now order.0.items order.1) }
-    ensures formed { IfOk result (λ order. IsWellFormed order.1) }
-{
-    let Ok(message) = read(alloc, octets) else {
-        return Err(Refused);
-    };
-    match orders_of(message) {
-        Ok(order) => Ok(order),
-        Err(_) => Err(Refused),
-    }
-}
-
-/// Has the cells that a message names carry out what it orders, and returns the reply.
-fn reply_to(
+/// Serves the session of a part of a book to its end: each of its messages is an order to the desk, whose reply is
+/// handed to the session. The pass has the notes of what was done.
+///
+/// # Errors
+///
+/// Returns the desk's fault, or `Refused` if memory runs out. What was done by then stays done, and is noted.
+pub(crate) fn serve<R: Wait, G: Gate>(
+    rt: &R,
     alloc: Global,
-    books: &mut [CellBook],
-    at: u16,
-    octets: &[u8],
-) -> Result<Vec<u8>, Refused>
-    requires distinct { are_distinct (cells_of books.old) ≡ true }
-    requires room { (cells : List Cell) (command : Command) → IsOrderOf octets.now cells command
-        → HaveRoomFor cells books.old }
-    ensures { OnOk result (IfOk result (λ reply. IsReplied octets.now at reply.items books.old books.new)) }
+    book: &Book,
+    part: u16,
+    parts: u16,
+    desk: &Desk,
+    pass: &mut Pass,
+    gate: &G,
+) -> Result<(), RunFault>
+    requires { part < parts }
+    ensures { IfErr result IsOfRun }
 {
-    // A message that octets mean names some cells, none twice.
-    cbsp_wire::meaning_law();
-    let (cells, command) = order_in(alloc, octets)?;
-    let answers = answers_of(alloc, books, at, &cells, &command)?;
-    match reply_of(alloc, &command, &answers) {
-        Ok(reply) => Ok(reply),
-        Err(_) => Err(Refused),
-    }
-}
-
-/// Serves the session of a book to its end: each message is carried out, and its reply is handed to the session.
-pub(crate) fn serve(alloc: Global, book: &Book, books: &mut [CellBook]) -> Result<(), Refused>
-    requires cells { cells_of books.old ≡ book.now.cells }
-    requires distinct { are_distinct book.now.cells ≡ true }
-    requires few { length book.now.orders ≤ 4096 }
-    requires fresh { (slots : ℕ) × AreUnderWay slots (λ cell. []) books.old }
-    ensures { OnOk result (HasServed book.now books.old books.new) }
-{
-    // What octets mean is one message; a session ends, and asks no cell more often than the book has orders.
-    cbsp_wire::meaning_law();
+    // Each request leaves fewer that can follow it: a session ends.
     alert_book::session_laws();
-    let mut session = Session::new(alloc, book, 0, 1)?;
+    let mut session = Session::new(alloc, book, part, parts)?;
     let mut next = session.next(None)?;
     while let Some((at, octets)) = next {
-        let reply = reply_to(alloc, books, at, &octets)?;
+        let reply = desk.order(rt, alloc, pass, at, &octets, gate)?;
         next = session.next(Some(&reply))?;
     }
     Ok(())

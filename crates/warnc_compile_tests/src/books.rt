@@ -5,11 +5,12 @@ use device_ends::{Sink, Source};
 use handset::{Reading, read_tapes};
 use std::alloc::Global;
 use std::process::Abort;
+use std::sync::Wait;
 use std::test::Fail;
 use warnc_compile::compile_stream;
 
 /// A row that has a page `@` sent in every second slot.
-const WRITE: &str = "cell,1,1\nwrite,0,a,4370,0,1,en,2,2,0,1-1,@\n";
+pub const WRITE: &str = "cell,1,1\nwrite,0,a,4370,0,1,en,2,2,0,1-1,@\n";
 
 /// The blocks of that page, of identifier 4370 and serial number 0010.
 pub const BLOCKS: [[u8; 23]; 4] = [
@@ -38,7 +39,11 @@ pub const IDLE: [u8; 23] = [
 ];
 
 /// The tapes of a book.
-pub fn tapes_of<T: AllocGlobal + Abort>(rt: &T, rows: &str, slots: u16) -> Result<Vec<u8>, Fail> {
+pub fn tapes_of<T: AllocGlobal + Abort + Wait>(
+    rt: &T,
+    rows: &str,
+    slots: u16,
+) -> Result<Vec<u8>, Fail> {
     let mut reader = MemoryReader::new(rows.as_bytes(), 1000, None);
     let mut writer = MemoryWriter::new(rt.alloc(), 1000, None);
     let done = compile_stream(
@@ -54,7 +59,7 @@ pub fn tapes_of<T: AllocGlobal + Abort>(rt: &T, rows: &str, slots: u16) -> Resul
 }
 
 /// The readings of tapes.
-fn readings_of(alloc: Global, tapes: &[u8]) -> Result<Vec<Reading>, Fail> {
+pub fn readings_of(alloc: Global, tapes: &[u8]) -> Result<Vec<Reading>, Fail> {
     let mut reader = MemoryReader::new(tapes, 1000, None);
     match read_tapes(alloc, &mut Source::new(&mut reader)) {
         Ok(readings) => Ok(readings),
@@ -63,7 +68,7 @@ fn readings_of(alloc: Global, tapes: &[u8]) -> Result<Vec<Reading>, Fail> {
 }
 
 /// The tape of cell 1-1 with two slots: the page, and an idle slot.
-fn worked_tape(alloc: Global) -> Result<Vec<u8>, Fail> {
+pub fn worked_tape(alloc: Global) -> Result<Vec<u8>, Fail> {
     let mut tape = Vec::from_slice(alloc, &[0, 1, 0, 1, 0, 0, 0, 2])?;
     for block in &BLOCKS {
         tape.extend_from_slice(block)?;
@@ -75,7 +80,7 @@ fn worked_tape(alloc: Global) -> Result<Vec<u8>, Fail> {
 }
 
 /// Expects what a cell's reading shows: identifiers, serial numbers and texts.
-fn expect_shown(rt: &impl Abort, reading: &Reading, ci: u16, shown: &[(u16, u16, &str)]) {
+pub fn expect_shown(rt: &impl Abort, reading: &Reading, ci: u16, shown: &[(u16, u16, &str)]) {
     assert_eq!(rt; reading.cell.ci, ci);
     assert_eq!(rt; reading.shown.len(), shown.len());
     for (message, wanted) in reading.shown.iter().zip(shown) {
@@ -86,7 +91,7 @@ fn expect_shown(rt: &impl Abort, reading: &Reading, ci: u16, shown: &[(u16, u16,
 }
 
 /// Expects what the two cells of a book show.
-fn expect_two<T: AllocGlobal + Abort>(
+fn expect_two<T: AllocGlobal + Abort + Wait>(
     rt: &T,
     rows: &str,
     slots: u16,

@@ -6,6 +6,7 @@ use cbch_blocks::WriteFailed;
 use device_ends::memory::{MemoryReader, MemoryWriter};
 use device_ends::{Sink, Source};
 use std::process::Abort;
+use std::sync::Wait;
 use std::test::Fail;
 use warnc_compile::{RunFault, compile_stream};
 
@@ -13,7 +14,12 @@ use warnc_compile::{RunFault, compile_stream};
 const BOOK: &str = "cell,1,1\nwrite,0,a,4370,0,1,en,2,2,0,1-1,@";
 
 /// Expects that a book is refused with this fault, and that nothing is written.
-fn expect_refused<T: AllocGlobal + Abort>(rt: &T, rows: &str, row: u16, kind: BookFaultKind) {
+fn expect_refused<T: AllocGlobal + Abort + Wait>(
+    rt: &T,
+    rows: &str,
+    row: u16,
+    kind: BookFaultKind,
+) {
     let mut reader = MemoryReader::new(rows.as_bytes(), 1000, None);
     let mut writer = MemoryWriter::new(rt.alloc(), 1000, None);
     let result = compile_stream(

@@ -3,10 +3,13 @@
 use alert_book::{BookFault, BookFaultKind};
 use device_ends::memory::{MemoryReader, MemoryWriter};
 use device_ends::{Sink, Source};
+use order_desk::{DeskFault, Open, SettleFault};
 use std::alloc::Global;
 use std::process::Abort;
+use std::sync::Wait;
 use std::test::Fail;
-use warnc_compile::{RunFault, compile_stream};
+use std::thread::Threads;
+use warnc_compile::{RunFault, compile_stream, live_stream};
 
 /// A book of each verb.
 const BOOK: &str =
@@ -31,16 +34,35 @@ fn take_all(alloc: Global, taken: &mut Vec<Vec<u8>>) {
 
 /// Whether a fault says that there was no memory.
 fn is_memory(fault: RunFault) -> bool {
-    fault == RunFault::Refused
-        || fault
-            == RunFault::Book(BookFault {
-                row: 0,
-                kind: BookFaultKind::Refused,
-            })
+    match fault {
+        RunFault::Book(fault) => {
+            fault
+                == BookFault {
+                    row: 0,
+                    kind: BookFaultKind::Refused,
+                }
+        }
+        RunFault::Desk(DeskFault::Memory { .. }) => true,
+        RunFault::Settle(SettleFault::Refused) | RunFault::Refused => true,
+        _ => false,
+    }
 }
 
-/// How many of 400 octets a run of the book leaves; a run that is refused memory says so, and leaves all.
-fn left_by<T: AllocGlobal + Abort>(rt: &T, out: &mut [u8; 400]) -> Option<usize> {
+/// How many of 400 octets a run leaves; one that is refused memory says so, and leaves all.
+fn left_by(rt: &impl Abort, done: Result<(), RunFault>, left: usize) -> Option<usize> {
+    match done {
+        Ok(()) => Some(left),
+        Err(fault) => {
+            assert!(rt; is_memory(fault));
+            assert_eq!(rt; left, 400);
+            None
+        }
+    }
+}
+
+/// How many of 400 octets `compile` leaves.
+fn left_by_compile<T: AllocGlobal + Abort + Wait>(rt: &T) -> Option<usize> {
+    let mut out = [0; 400];
     let mut reader = MemoryReader::new(BOOK.as_bytes(), 100, None);
     let mut left = out.as_mut_slice();
     let result = compile_stream(
@@ -49,37 +71,59 @@ fn left_by<T: AllocGlobal + Abort>(rt: &T, out: &mut [u8; 400]) -> Option<usize>
         &mut Sink::new(&mut left),
         3,
     );
-    match result {
-        Ok(()) => Some(left.len()),
-        Err(fault) => {
-            assert!(rt; is_memory(fault));
-            assert_eq!(rt; left.len(), 400);
-            None
-        }
-    }
+    left_by(rt, result, left.len())
 }
 
-#[test]
-fn refused_memory_is_reported(rt: HostRuntime) -> Result<(), Fail> {
+/// How many of 400 octets `live` leaves with two sessions.
+fn left_by_live<T: AllocGlobal + Abort + Threads + Wait + Sync>(rt: &T) -> Option<usize> {
+    let mut out = [0; 400];
+    let mut reader = MemoryReader::new(BOOK.as_bytes(), 100, None);
+    let mut left = out.as_mut_slice();
+    let result = live_stream(
+        rt,
+        &mut Source::new(&mut reader),
+        &mut Sink::new(&mut left),
+        3,
+        2,
+        &Open,
+    );
+    left_by(rt, result, left.len())
+}
+
+/// Runs again and again, with one block of memory more each time, until a run has written its tape. Before that more
+/// than six runs are refused memory.
+fn expect_refusals<T: AllocGlobal + Abort>(
+    rt: &T,
+    run: impl Fn(&T) -> Option<usize>,
+) -> Result<(), Fail> {
     let mut spare: Vec<Vec<u8>> = Vec::with_capacity(rt.alloc(), 400)?;
     for _ in 0..400 {
         spare.push(Vec::with_capacity(rt.alloc(), BLOCK)?)?;
     }
     let mut taken = Vec::with_capacity(rt.alloc(), 100_000)?;
     take_all(rt.alloc(), &mut taken);
-    let mut out = [0; 400];
     let mut refused = 0_u16;
     for _ in 0..400 {
-        if let Some(count) = left_by(&rt, &mut out) {
+        if let Some(count) = run(rt) {
             taken.clear();
-            assert_eq!(&rt; count, 116);
-            assert!(&rt; refused > 6);
+            assert_eq!(rt; count, 116);
+            assert!(rt; refused > 6);
             return Ok(());
         }
         refused = refused.saturating_add(1);
         let _ = spare.pop();
     }
     taken.clear();
-    assert!(&rt; false, "no tapes with 200 KB");
+    assert!(rt; false, "no tapes with 200 KB");
     Ok(())
+}
+
+#[test]
+fn refused_memory_is_reported(rt: HostRuntime) -> Result<(), Fail> {
+    expect_refusals(&rt, |rt| left_by_compile(rt))
+}
+
+#[test]
+fn refused_memory_is_reported_by_live(rt: HostRuntime) -> Result<(), Fail> {
+    expect_refusals(&rt, |rt| left_by_live(rt))
 }

@@ -1,14 +1,14 @@
 use Rattle.std.proofs.Common.{◌<◌, ◌≤◌, ℕ, List, length, All, sym, subst}
 use native.Mathlib.Omega.{arith}
-use Rattle.warnc_compile.specs.EndSteps.{AreTapesOf}
+use Rattle.warnc_compile.specs.RunSteps.{AreTapesOf}
 use Rattle.warnc_compile.proofs.Tapes.{compiled, joined, tapes_have_octets}
 use Rattle.warnc_compile.proofs.compile.compile_stream.Goals as goal
 
 pub write_tapes-requires : goal.write_tapes-requires
 write_tapes-requires g c =
-    let are = c.in-Ok-tapes_of_book.ensures in
+    let are = c.in_ok-tapes.ensures.ok in
     subst (λ (tapes : List (List ℕ)). All (λ tape. 0 < length tape) tapes) (sym c.deref.ensures.value)
-    (tapes_have_octets c.in-Ok-tapes_of_book.tapes.items are.records are.made)
+    (tapes_have_octets c.in_ok-tapes.tapes.items are.records are.made)
 
 pub returns-in-Ok-write_tapes-clause-ok : goal.returns-in-Ok-write_tapes-clause-ok
 returns-in-Ok-write_tapes-clause-ok g c =
@@ -19,8 +19,10 @@ returns-in-Ok-write_tapes-clause-ok g c =
       output = joined tapes;
       read = read.consumed;
       ended = read.ended;
-      compiled = compiled c.run_laws.ensures read.input c.in-Ok.book c.args.slots tapes few read.meant
-          (subst (AreTapesOf c.in-Ok.book c.args.slots) (sym c.deref.ensures.value) c.in-Ok-tapes_of_book.ensures);
+      meant = compiled c.session_laws.ensures.one c.run_laws.ensures read.input c.in-Ok.book
+          c.args.slots tapes few read.meant
+          (subst (AreTapesOf c.in-Ok.book c.args.slots 1) (sym c.deref.ensures.value)
+          c.in_ok-tapes.ensures.ok);
       appended = c.in-Ok-write_tapes.ensures.ok;
     }
 
@@ -33,7 +35,9 @@ returns-clause-fault g c =
       output = joined tapes;
       read = read.consumed;
       ended = read.ended;
-      compiled = compiled c.run_laws.ensures read.input c.in-Ok.book c.args.slots tapes few read.meant
-          (subst (AreTapesOf c.in-Ok.book c.args.slots) (sym c.deref.ensures.value) c.in-Ok-tapes_of_book.ensures);
+      meant = compiled c.session_laws.ensures.one c.run_laws.ensures read.input c.in-Ok.book
+          c.args.slots tapes few read.meant
+          (subst (AreTapesOf c.in-Ok.book c.args.slots 1) (sym c.deref.ensures.value)
+          c.in_ok-tapes.ensures.ok);
       front = c.in-Err-write_tapes.ensures.err;
     }

@@ -1,6 +1,6 @@
-use Rattle.std.specs.List.{AllZip}
-use Rattle.warnc_compile.specs.EndSteps.{IsTapeOf}
+use Rattle.std.proofs.Common.{◌≡◌, map}
+use Rattle.cbch_blocks.specs.RecordBlocks.{tape_of_record}
 use Rattle.warnc_compile.proofs.finish.tapes_of.Given as goal
 
-abbrev pub invariant-loop-book : goal.invariant-loop-book
-invariant-loop-book l = AllZip IsTapeOf l.yielded l.tapes.items
+abbrev pub invariant-loop-record : goal.invariant-loop-record
+invariant-loop-record l = l.tapes.items ≡ map tape_of_record l.yielded

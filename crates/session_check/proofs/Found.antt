@@ -1,0 +1,114 @@
+-- The record of a cell among the records of a run, and what a note of the cell says by it.
+use Rattle.std.proofs.Common.{◌≡◌, ℕ, Bool, true, false, cond, ◌||◌, List, [], ◌∷◌, ◌++◌, All, refl, sym, subst, ap}
+use Rattle.std.proofs.Common.{◌∙◌, eqb, rules}
+use Rattle.std.specs.List.{AllByRecursion}
+use Rattle.std.proofs.lemmas.List.Elements.{recursion_from_All}
+use Rattle.cbsp_wire.specs.declared.message.Cell.{Cell}
+use Rattle.cbsp_wire.specs.Range.{is_cell}
+use Rattle.bsc_table.specs.declared.command.Command.{Command}
+use Rattle.bsc_table.specs.declared.entry.Answer.{Answer}
+use Rattle.bsc_table.specs.declared.entry.Entry.{Entry}
+use Rattle.bsc_table.specs.Record.{Record}
+use Rattle.order_desk.specs.declared.note.Note.{Note}
+use Rattle.order_desk.specs.declared.note.Note.TheVariants as notes
+use Rattle.book_runs.specs.Run.{is_among, slot_of}
+use Rattle.book_runs.specs.Sessions.{IsNoteOf, slot_before, slot_in}
+use Rattle.session_check.specs.NotedSteps.{IsRecordOf, NotesAnswer, asked_at, cells_of}
+
+eqb-same : (n : ℕ) → eqb n n ≡ true
+eqb-same n = search (rules)
+
+-- a cell is itself
+pub is_itself : (c : Cell) → is_cell c c ≡ true
+is_itself c = rw (eqb-same c.lac, eqb-same c.ci) refl
+
+-- what holds of each record holds of one of them
+at_split : (P : Record → Type 0) (before after : List Record) (r : Record) → AllByRecursion P (before ++ r ∷ after)
+    → P r
+at_split P [] after r all = all.0
+at_split P (b ∷ before) after r all = at_split P before after r all.1
+
+pub of_found : (P : Record → Type 0) (records : List Record) (cell : Cell) (r : Record) → IsRecordOf records cell r
+    → All P records
+    → P r
+of_found P records cell r found all =
+    at_split P found.before found.after r
+    (recursion_from_All P (found.before ++ r ∷ found.after) (subst (All P) found.split all))
+
+-- a cell with a record is among the cells
+or_true : (a : Bool) → (a || true) ≡ true
+or_true true = refl
+or_true false = refl
+
+among_split : (before after : List Record) (r : Record) (cell : Cell) → is_cell cell r.cell ≡ true
+    → is_among (cells_of (before ++ r ∷ after)) cell ≡ true
+among_split [] after r cell own = ap (λ b. b || is_among (cells_of after) cell) own
+among_split (b ∷ before) after r cell own =
+    ap (λ t. is_cell cell b.cell || t) (among_split before after r cell own) ∙ or_true (is_cell cell b.cell)
+
+pub among_found : (records : List Record) (cell : Cell) (r : Record) → IsRecordOf records cell r
+    → is_among (cells_of records) cell ≡ true
+among_found records cell r found =
+    ap (λ (rs : List Record). is_among (cells_of rs) cell) found.split
+    ∙ among_split found.before found.after r cell found.own
+
+-- and one without isn't
+none_by : (records : List Record) (cell : Cell) → AllByRecursion (λ r. is_cell cell r.cell ≡ false) records
+    → is_among (cells_of records) cell ≡ false
+none_by [] cell others = refl
+none_by (r ∷ records) cell others =
+    ap (λ b. b || is_among (cells_of records) cell) others.0 ∙ none_by records cell others.1
+
+pub among_none : (records : List Record) (cell : Cell) → All (λ r. is_cell cell r.cell ≡ false) records
+    → is_among (cells_of records) cell ≡ false
+among_none records cell others =
+    none_by records cell (recursion_from_All (λ r. is_cell cell r.cell ≡ false) records others)
+
+-- the slot of a command in the cell's log
+slot_split : (before after : List Record) (r : Record) (cell : Cell) (number at : ℕ)
+    → AllByRecursion (λ other. is_cell cell other.cell ≡ false) before
+    → is_cell cell r.cell ≡ true
+    → slot_in (before ++ r ∷ after) cell number at ≡ slot_of r.slots (slot_before r.log number) at
+slot_split [] after r cell number at others own =
+    ap (λ b. cond b (slot_of r.slots (slot_before r.log number) at) (slot_in after cell number at)) own
+slot_split (b ∷ before) after r cell number at others own =
+    ap (λ t. cond t (slot_of b.slots (slot_before b.log number) at)
+    (slot_in (before ++ r ∷ after) cell number at)) others.0
+    ∙ slot_split before after r cell number at others.1 own
+
+slot_found : (records : List Record) (cell : Cell) (r : Record) (number at : ℕ) → IsRecordOf records cell r
+    → slot_in records cell number at ≡ slot_of r.slots (slot_before r.log number) at
+slot_found records cell r number at found =
+    ap (λ (rs : List Record). slot_in rs cell number at) found.split
+    ∙ slot_split found.before found.after r cell number at
+    (recursion_from_All (λ other. is_cell cell other.cell ≡ false) found.before found.others) found.own
+
+-- what a note says by the record of its cell is what it says by all records
+pub note_by_all : (records : List Record) (cell : Cell) (r : Record) (at : ℕ) (command : Command) (note : Note)
+    (answer : Answer)
+    → IsRecordOf records cell r
+    → NotesAnswer r at cell command note answer
+    → IsNoteOf records (cell, asked_at at command answer) note
+note_by_all records cell r at command (notes.Event of number entry) answer found noted =
+    let slot : entry.slot ≡ slot_in records of number at =
+    noted.1.placed ∙ sym (slot_found records cell r number at found)
+    ∙ ap (λ (c : Cell). slot_in records c number at) (sym noted.0) in
+    (noted.0, λ i. record { command = noted.1.ordered i; slot = slot i; answer = noted.2 i })
+note_by_all records cell r at command (notes.Played of from to) answer found noted = noted
+note_by_all records cell r at command (notes.Full of) answer found noted = noted
+
+pub note_by_one : (records : List Record) (cell : Cell) (r : Record) (at : ℕ) (command : Command) (note : Note)
+    (answer : Answer)
+    → IsRecordOf records cell r
+    → IsNoteOf records (cell, asked_at at command answer) note
+    → NotesAnswer r at cell command note answer
+note_by_one records cell r at command (notes.Event of number entry) answer found noted =
+    let slot : entry.slot ≡ slot_of r.slots (slot_before r.log number) at =
+    ap (λ (e : Entry). e.slot) noted.1 ∙ ap (λ (c : Cell). slot_in records c number at) noted.0
+    ∙ slot_found records cell r number at found in (
+      noted.0,
+      record { ordered = ap (λ (e : Entry). e.command) noted.1; placed = slot },
+      ap (λ (e : Entry). e.answer) noted.1,
+    )
+note_by_one records cell r at command (notes.Played of from to) answer found noted = noted
+note_by_one records cell r at command (notes.Full of) answer found noted = noted

@@ -1,0 +1,5 @@
+pub mod Found
+pub mod Noted
+pub mod Standing
+pub mod Settled
+pub mod Replayed

@@ -1,0 +1,3 @@
+pub mod Checked
+pub mod NotedSteps
+pub mod ReplaySteps

@@ -1,0 +1,207 @@
+//! What cells answered to a command, by the notes of a pass.
+
+ghost use Rattle.std.specs.Prelude.{◌≡◌, ◌↔◌, List, false, true, Some, IfNone, IfOk, IfSome, IsTrue, All};
+ghost use Rattle.std.specs.List.{slice_get};
+ghost use Rattle.cbsp_wire.specs.declared.message.Cell.{Cell};
+ghost use Rattle.cbsp_wire.specs.Range.{is_cell};
+ghost use Rattle.bsc_table.specs.declared.entry.Answer.{Answer};
+ghost use Rattle.order_desk.specs.declared.note.Note.{Note};
+ghost use Rattle.order_desk.specs.Reply.{IsAnswerTo, cells_answered};
+ghost use Rattle.order_desk.specs.ReplyLaws.{IsOrdered};
+ghost use Rattle.book_runs.specs.Run.{is_among, slot_of};
+ghost use Rattle.book_runs.specs.Sessions.{slot_before};
+ghost use Rattle.session_check.specs.NotedSteps.{AreAnswersNoted, AreStanding, IsAnswerNoted, IsEntryOf, IsRecordOf};
+ghost use Rattle.session_check.specs.NotedSteps.{NotesAnswer, StandsIn, cells_of, commands_in};
+
+use crate::notes::first_of_command;
+use bsc_table::{Answer, CellRecord, Command, Entry};
+use cbsp_wire::{Cell, cause};
+use order_desk::Note;
+use std::alloc::{AllocError, AllocFailed, Global};
+
+/// There was no memory.
+#[derive(Clone, Copy)]
+pub(crate) struct Refused;
+
+impl From<AllocError> for Refused {
+    fn from(_error: AllocError) -> Refused {
+        Refused
+    }
+}
+
+impl<T: Drop> From<AllocFailed<T>> for Refused {
+    fn from(_error: AllocFailed<T>) -> Refused {
+        Refused
+    }
+}
+
+impl From<alert_book::Refused> for Refused {
+    fn from(_error: alert_book::Refused) -> Refused {
+        Refused
+    }
+}
+
+impl From<bsc_table::Refused> for Refused {
+    fn from(_error: bsc_table::Refused) -> Refused {
+        Refused
+    }
+}
+
+/// Whether two cells are one.
+fn is_cell(one: Cell, other: Cell) -> bool
+    ensures { result ≡ is_cell one other }
+{
+    one.lac == other.lac && one.ci == other.ci
+}
+
+/// The record of a cell, if it is of the run.
+fn record_of(records: &[CellRecord], cell: Cell) -> Option<&CellRecord>
+    ensures none { IfNone result (is_among (cells_of records.now) cell ≡ false) }
+    ensures some { IfSome result (λ found. IsRecordOf records.now cell found.now) }
+{
+    for record in records {
+        if is_cell(cell, record.cell()) {
+            return Some(record);
+        }
+    }
+    None
+}
+
+/// The slot of the entry before that of a number; 0 if there is none.
+fn slot_before(log: &[Entry], number: u16) -> u16
+    ensures { result ≡ slot_before log.now number }
+{
+    if number == 0 {
+        return 0;
+    }
+    match log.get(usize::from(number) - 1) {
+        Some(entry) => entry.slot,
+        None => 0,
+    }
+}
+
+/// The slot of the entry of a number, of a command that the history's cell was asked from slot `at` on.
+fn slot_in(history: &CellRecord, number: u16, at: u16) -> u16
+    ensures { result ≡ slot_of history.now.slots (slot_before history.now.log number) at }
+{
+    history
+        .slots()
+        .min(at.max(slot_before(history.log(), number)))
+}
+
+/// Whether two commands are equal.
+fn are_same(one: &Command, other: &Command) -> bool
+    ensures { IsTrue result ↔ (one.now ≡ other.now) }
+{
+    one == other
+}
+
+/// Whether an entry of a number is that of a command that the history's cell was asked from slot `at` on.
+fn is_entry_of(history: &CellRecord, at: u16, command: &Command, number: u16, entry: &Entry) -> bool
+    ensures { IsTrue result ↔ IsEntryOf history.now at command.now number entry.now }
+{
+    are_same(&entry.command, command) && entry.slot == slot_in(history, number, at)
+}
+
+/// The answer that a note says the history's cell gave to a command that it was asked from slot `at` on.
+fn answer_noted(
+    history: &CellRecord,
+    at: u16,
+    cell: Cell,
+    command: &Command,
+    note: &Note,
+) -> Option<Answer>
+    requires ordered { IsOrdered command.now }
+    requires own { is_cell cell history.now.cell ≡ true }
+    requires stands { StandsIn note.now history.now }
+    ensures noted { (answer : Answer) → (result ≡ Some answer)
+        ↔ NotesAnswer history.now at cell command.now note.now answer }
+    ensures fit { IfSome result (IsAnswerTo command.now) }
+{
+    // The answers of a history's log are those that its cell gave, each one that its command can get.
+    order_desk::reply_laws();
+    let _legal = history.slots();
+    match note {
+        Note::Event {
+            cell: of,
+            number,
+            entry,
+        } => {
+            if is_cell(cell, *of) && is_entry_of(history, at, command, *number, entry) {
+                Some(entry.answer)
+            } else {
+                None
+            }
+        }
+        Note::Played { .. } => None,
+        Note::Full { cell: of } => {
+            if is_cell(cell, *of) {
+                Some(Answer::Cause(cause::BSC_MEMORY_EXCEEDED))
+            } else {
+                None
+            }
+        }
+    }
+}
+
+/// The answer of a cell to a command that it was asked from slot `at` on, by the first of some notes, and the notes
+/// after it. Of a cell that isn't of the run nothing is noted: it is not identified.
+fn answer_in<'a>(
+    records: &[CellRecord],
+    at: u16,
+    cell: Cell,
+    command: &Command,
+    notes: &'a [Note],
+) -> Option<(Answer, &'a [Note])>
+    requires ordered { IsOrdered command.now }
+    requires standing { AreStanding records.now (commands_in notes.now) }
+    ensures noted { IfSome result (λ given. IsAnswerNoted records.now at command.now (cell, given.0)
+        (commands_in notes.now) (commands_in given.1.now)) }
+    ensures fit { IfSome result (λ given. IsAnswerTo command.now given.0) }
+    ensures none { IfNone result ((answer : Answer) (left : List Note)
+        → IsAnswerNoted records.now at command.now (cell, answer) (commands_in notes.now) left → ⊥) }
+{
+    let Some(record) = record_of(records, cell) else {
+        return Some((Answer::Cause(cause::CELL_IDENTITY_NOT_VALID), notes));
+    };
+    let Some((note, rest)) = first_of_command(notes) else {
+        return None;
+    };
+    match answer_noted(record, at, cell, command, note) {
+        Some(answer) => Some((answer, rest)),
+        None => None,
+    }
+}
+
+/// The answers of cells to a command that they were asked from slot `at` on, by the first of some notes, and the notes
+/// after them. None if these notes are of something else.
+pub(crate) fn answers_in<'a>(
+    alloc: Global,
+    records: &[CellRecord],
+    at: u16,
+    cells: &[Cell],
+    command: &Command,
+    notes: &'a [Note],
+) -> Result<Option<(Vec<(Cell, Answer)>, &'a [Note])>, Refused>
+    requires ordered { IsOrdered command.now }
+    requires standing { AreStanding records.now (commands_in notes.now) }
+    ensures answered { IfOk result (λ found. IfSome found (λ given. cells_answered given.0.items ≡ cells.now)) }
+    ensures fit { IfOk result (λ found. IfSome found (λ given.
+        All (λ a. IsAnswerTo command.now a.1) given.0.items)) }
+    ensures noted { IfOk result (λ found. IfSome found (λ given. AreAnswersNoted records.now at command.now
+        given.0.items (commands_in notes.now) (commands_in given.1.now))) }
+    ensures none { IfOk result (λ found. IfNone found ((given : List (Cell × Answer)) (left : List Note)
+        → cells_answered given ≡ cells.now
+        → AreAnswersNoted records.now at command.now given (commands_in notes.now) left → ⊥)) }
+{
+    let mut answers = Vec::with_capacity(alloc, cells.len())?;
+    let mut left = notes;
+    for cell in cells {
+        let Some((answer, rest)) = answer_in(records, at, *cell, command, left) else {
+            return Ok(None);
+        };
+        answers.push((*cell, answer))?;
+        left = rest;
+    }
+    Ok(Some((answers, left)))
+}

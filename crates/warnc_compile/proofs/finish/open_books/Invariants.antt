@@ -1,6 +1,0 @@
-use Rattle.std.proofs.Common.{◌≡◌, map, take}
-use Rattle.bsc_table.specs.Steps.{opened}
-use Rattle.warnc_compile.proofs.finish.open_books.Given as goal
-
-abbrev pub invariant-loop-cell : goal.invariant-loop-cell
-invariant-loop-cell l = l.books.items ≡ map (λ cell. opened cell l.slots) (take l.cell-index l.cells)

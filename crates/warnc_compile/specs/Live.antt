@@ -1,0 +1,23 @@
+-- What `warnc live` makes of the octets that it reads: the tapes of the book's cells, whose orders came of several
+-- sessions side by side. Own.
+use Rattle.std.specs.Prelude.{◌≡◌, ℕ, List, length, All}
+use Rattle.std.specs.List.{flat_map}
+use Rattle.alert_book.specs.Book.{Contents, IsBook}
+use Rattle.bsc_table.specs.Record.{Record}
+use Rattle.cbch_blocks.specs.RecordBlocks.{tape_of_record}
+use Rattle.book_runs.specs.Live.{IsLiveRun}
+use Rattle.book_runs.specs.Meant.{IsMeantIn}
+use Rattle.book_runs.specs.Run.{Exchange}
+
+-- what is written for the octets that were read: they are a book; a run of as many sessions as there are parts gives
+-- each cell a record, which shows what the book means; and these are the tapes of the records, in the order of the
+-- book's cells, and nothing else
+pub record IsLive (slots parts : ℕ) (input output : List ℕ) : Type 0 where
+  pub book : Contents
+  pub is_book : IsBook input book
+  pub sessions : List (List Exchange)
+  pub parted : length sessions ≡ parts
+  pub records : List Record
+  pub run : IsLiveRun book slots sessions records
+  pub meant : All (IsMeantIn book) records
+  pub written : output ≡ flat_map tape_of_record records

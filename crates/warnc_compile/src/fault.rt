@@ -1,0 +1,86 @@
+//! Why a run makes no tapes.
+
+ghost use Rattle.std.specs.Prelude.{◌≡◌};
+ghost use Rattle.warnc_compile.specs.declared.fault.RunFault.TheVariants as faults;
+
+use alert_book::BookFault;
+use cbch_blocks::WriteFailed;
+use order_desk::{DeskFault, SettleFault};
+use std::alloc::{AllocError, AllocFailed};
+use thiserror::Error;
+
+/// Why the tapes of a book aren't written.
+#[derive(Clone, Copy, Debug, PartialEq, Eq, Error)]
+pub enum RunFault {
+    /// The book can't be read, or is refused.
+    #[error("{0}")]
+    Book(BookFault),
+    /// The desk refused an order of a session.
+    #[error("{0}")]
+    Desk(DeskFault),
+    /// What the sessions were told isn't what the cells hold.
+    #[error("{0}")]
+    Settle(SettleFault),
+    /// The writer failed. Some of the tapes may be out: the fault has how many octets of the one under way.
+    #[error("{0}")]
+    Write(WriteFailed),
+    /// There was no memory.
+    #[error("out of memory")]
+    Refused,
+}
+
+impl From<AllocError> for RunFault {
+    ghost from_gives = { λ _ fault. fault ≡ faults.Refused };
+
+    fn from(_error: AllocError) -> RunFault {
+        RunFault::Refused
+    }
+}
+
+impl<T: Drop> From<AllocFailed<T>> for RunFault {
+    ghost from_gives = { λ _ fault. fault ≡ faults.Refused };
+
+    fn from(_error: AllocFailed<T>) -> RunFault {
+        RunFault::Refused
+    }
+}
+
+impl From<alert_book::Refused> for RunFault {
+    ghost from_gives = { λ _ fault. fault ≡ faults.Refused };
+
+    fn from(_error: alert_book::Refused) -> RunFault {
+        RunFault::Refused
+    }
+}
+
+impl From<bsc_table::Refused> for RunFault {
+    ghost from_gives = { λ _ fault. fault ≡ faults.Refused };
+
+    fn from(_error: bsc_table::Refused) -> RunFault {
+        RunFault::Refused
+    }
+}
+
+impl From<cbch_blocks::Refused> for RunFault {
+    ghost from_gives = { λ _ fault. fault ≡ faults.Refused };
+
+    fn from(_error: cbch_blocks::Refused) -> RunFault {
+        RunFault::Refused
+    }
+}
+
+impl From<DeskFault> for RunFault {
+    ghost from_gives = { λ desk fault. fault ≡ faults.Desk desk };
+
+    fn from(fault: DeskFault) -> RunFault {
+        RunFault::Desk(fault)
+    }
+}
+
+impl From<SettleFault> for RunFault {
+    ghost from_gives = { λ settle fault. fault ≡ faults.Settle settle };
+
+    fn from(fault: SettleFault) -> RunFault {
+        RunFault::Settle(fault)
+    }
+}
