@@ -7,6 +7,7 @@ mod Counts
 mod FirstTurn
 mod Followed
 mod Found
+mod Listed
 pub mod Lists
 pub mod Message
 mod OneAir

@@ -1,11 +1,12 @@
 -- What a plan holds once its messages were written.
 use Rattle.std.proofs.Common.{Vec, ◌≡◌, ℕ, ◌<◌, ◌≤◌, Result, Ok, Err, List, [], ◌∷◌, ◌++◌, length, map}
-use Rattle.std.proofs.Common.{sym, ap, subst, ◌∙◌, arith}
+use Rattle.std.proofs.Common.{Bool, true, false, cond, ◌+◌, sym, ap, subst, ◌∙◌, arith}
 use Rattle.std.specs.List.{All}
-use Rattle.std.specs.Result.{OnOk, OnErr}
+use Rattle.std.specs.Result.{OnOk, OnErr, is_ok, is_err}
 use Rattle.std.specs.Vec.{with_items}
 use Rattle.std.proofs.lemmas.List.Elements.{All-push}
-use Rattle.std.proofs.lemmas.List.{length-map, with_items_is, map_push}
+use Rattle.std.proofs.lemmas.Bool.{false≢true}
+use Rattle.std.proofs.lemmas.List.{length-map, length_push, with_items_is, map_push}
 use Rattle.scheduler.specs.declared.scheduled.Scheduled.{Scheduled}
 use Rattle.scheduler.specs.declared.plan.Item.{Item}
 use Rattle.scheduler.specs.declared.queue.Node.{Node}
@@ -68,6 +69,21 @@ IsPlan-add slot old new item above start pages period turn plan is tree =
         tree = tree;
       };
     }
+
+-- a written `Vec` is as long as it was
+pub as_long : {X Z : Type 0} (v : Vec X Z) (written : List X) → length (with_items v written).items ≡ length v.items
+as_long v written = omega (arith, v.ok.0, (with_items v written).ok.0)
+
+-- with one more element, or as before, a list is no shorter
+pub no_shorter : (old new : List ℕ) (b : Bool) → new ≡ cond b (old ++ 0 ∷ []) old → length old ≤ length new
+no_shorter old new true is = omega (arith, ap length is, length_push old 0)
+no_shorter old new false is = omega (arith, ap length is)
+
+-- and longer by one where there was room
+pub longer : {X E : Type 0} (r : Result X E) (old new : List ℕ) → is_err r ≡ false
+    → new ≡ cond (is_ok r) (old ++ 0 ∷ []) old → length new ≡ length old + 1
+longer (Ok x) old new took is = omega (arith, ap length is, length_push old 0)
+longer (Err e) old new took is = absurd (false≢true (sym took))
 
 -- what follows from what an answer says
 pub on_ok : {X E : Type 0} (r : Result X E) (P Q : Type 0) → (P → Q) → OnOk r P → OnOk r Q

@@ -117,7 +117,7 @@ abbrev above : ℕ → ℕ
 above k = (k - 1) / 8
 
 -- what is ahead of a place is ahead of each place below it
-below_one : (nodes : List Node) (k i : ℕ) → i < 8 → IsNode nodes k
+pub below_one : (nodes : List Node) (k i : ℕ) → i < 8 → IsNode nodes k
     → IsAhead (ahead_at nodes k) (ahead_at nodes (k * 8 + 1 + i))
 below_one nodes k i h node =
     let mine = own_at nodes k in
@@ -128,7 +128,8 @@ below_one nodes k i h node =
     (joined-right mine below) (subst Below (sym (below_is nodes k)) (among_ahead nodes (k * 8 + 1) 8 i h)))
 
 -- what is ahead of place 0 is ahead of each
-first_is_ahead : (nodes : List Node) → IsTree nodes → (n k : ℕ) → k ≤ n → IsAhead (ahead_at nodes 0) (ahead_at nodes k)
+pub first_is_ahead : (nodes : List Node) → IsTree nodes → (n k : ℕ) → k ≤ n
+    → IsAhead (ahead_at nodes 0) (ahead_at nodes k)
 first_is_ahead nodes tree n zero h = IsAhead-same (ahead_at nodes 0)
 first_is_ahead nodes tree zero (suc k) h = absurd (omega arith)
 first_is_ahead nodes tree (suc n) (suc k) h =

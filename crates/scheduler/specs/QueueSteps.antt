@@ -96,6 +96,12 @@ pub record IsRight (slot : ℕ) (k : Kept) : Type 0 where
   pub timed : (s : ℕ) → slot ≤ s → s < k.until → IsTimed k s
   pub stopped : (stop : ℕ) → k.scheduled.stop ≡ Some stop → stop ≤ slot
 
+-- what stands at a place once it was looked at, with this below it
+abbrev pub renewed_node : ℕ → Ahead → Node → Node
+renewed_node slot below n =
+    let kept = renewed slot n.kept in
+    record { kept = kept; ahead = joined (own kept) below }
+
 -- the messages, without what stands beside them
 abbrev pub kept_in : List Node → List Kept
 kept_in nodes = map (λ n. n.kept) nodes
@@ -163,6 +169,26 @@ pub record AreKept (slot : ℕ) (nodes : List Node) : Type 0 where
   pub turns : All HasTurn (kept_in nodes)
   pub tree : IsTree nodes
 
+-- at the place or below it a message is to be looked at again by the slot
+abbrev pub IsDue : ℕ → List Node → ℕ → Type 0
+IsDue slot nodes place = (ahead_at nodes place).wake ≤ slot
+
+-- so many listed places are those before the bound that are due, in rising order
+pub record AreListed (slot : ℕ) (nodes : List Node) (listed : List ℕ) (count bound : ℕ) : Type 0 where
+  pub few : count ≤ bound
+  pub room : count ≤ length nodes
+  pub due : (i : ℕ) → i < count → IsDue slot nodes (slice_index_or listed i 0)
+  pub before : (i : ℕ) → i < count → slice_index_or listed i 0 < bound
+  pub rising : (i j : ℕ) → i < j → j < count → slice_index_or listed i 0 < slice_index_or listed j 0
+  pub all : (k : ℕ) → k < bound → IsDue slot nodes k → (i : ℕ) × ((i < count) × (slice_index_or listed i 0 ≡ k))
+
+-- so many listed places are all that are due, in rising order
+pub record AreDue (slot : ℕ) (nodes : List Node) (listed : List ℕ) (count : ℕ) : Type 0 where
+  pub room : count ≤ length nodes
+  pub due : (i : ℕ) → i < count → IsDue slot nodes (slice_index_or listed i 0)
+  pub rising : (i j : ℕ) → i < j → j < count → slice_index_or listed i 0 < slice_index_or listed j 0
+  pub all : (k : ℕ) → IsDue slot nodes k → (i : ℕ) × ((i < count) × (slice_index_or listed i 0 ≡ k))
+
 -- the message of that number stands at the place, or there is none
 abbrev pub IsFound : ℕ → List Node → Option ℕ → Type 0
 IsFound entry nodes None =
@@ -174,3 +200,8 @@ IsFound entry nodes (Some place) =
 pub record IsPlan (slot : ℕ) (nodes : List Node) : Type 0 where
   pub sound : IsSound (record { slot = slot; scheduled = seen_in slot nodes })
   pub kept : AreKept slot nodes
+
+-- and of a plan with room for a list of its places
+pub record HasRoom (slot : ℕ) (nodes : List Node) (listed : List ℕ) : Type 0 where
+  pub plan : IsPlan slot nodes
+  pub room : length nodes ≤ length listed

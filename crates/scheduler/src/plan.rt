@@ -89,17 +89,19 @@ impl std::error::Error for Refused {}
 pub struct Plan {
     slot: u16,
     nodes: Vec<Node>,
+    /// Room for a list of places, which `next` makes anew.
+    listed: Vec<usize>,
 }
 
 impl Model for Plan {
     ghost use Rattle.scheduler.specs.Follows.{PlanState};
-    ghost use Rattle.scheduler.specs.QueueSteps.{IsPlan, seen_in};
+    ghost use Rattle.scheduler.specs.QueueSteps.{HasRoom, seen_in};
 
     ghost Value = { PlanState };
 
     ghost view = { λ p. record { slot = p.slot; scheduled = seen_in p.slot p.nodes.items } };
 
-    ghost invariant = { λ p. IsPlan p.slot p.nodes.items };
+    ghost invariant = { λ p. HasRoom p.slot p.nodes.items p.listed.items };
 }
 
 impl Plan {
@@ -112,6 +114,7 @@ impl Plan {
         Plan {
             slot: 0,
             nodes: Vec::new(alloc),
+            listed: Vec::new(alloc),
         }
     }
 
@@ -130,6 +133,9 @@ impl Plan {
         ensures asked { next_slot self.new ≡ next_slot self.old }
         ensures refused { OnErr result (self.new ≡ self.old) }
     {
+        if self.listed.push(0).is_err() {
+            return Err(Refused);
+        }
         push(&mut self.nodes, item)
     }
 
@@ -147,7 +153,7 @@ impl Plan {
         ensures messages { messages_of self.new ≡ messages_of self.old }
         ensures asked { next_slot self.new ≡ slot + 1 }
     {
-        let used = play(self.nodes.as_mut_slice(), slot);
+        let used = play(self.nodes.as_mut_slice(), self.listed.as_mut_slice(), slot);
         self.slot = slot + 1;
         used
     }

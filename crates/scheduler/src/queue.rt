@@ -1,15 +1,16 @@
 //! The messages of a plan in the order of their numbers, each with what is ahead of it and of the places below it: of
 //! place p these are the places 8p + 1 to 8p + 8. So the first turn of all stands at place 0, and a change at one
-//! place is carried to those above it alone.
+//! place is carried to those above it alone. What begins or ends at a slot is done in two passes: the places at or
+//! below which that is so are listed, from place 0 down, and then looked at again, from the last of the list up.
 
 ghost use Rattle.std.specs.Prelude.{◌≡◌, ◌≢◌, ◌<◌, ◌≤◌, ℕ, ◌+◌, ◌*◌, length, All, AllPairs, Any, map, slice_set};
 ghost use Rattle.std.specs.Prelude.{◌==◌, ◌++◌, ◌∷◌, [], MatchBool, OnOk, OnErr};
-ghost use Rattle.std.specs.Prelude.{Option, Some, None};
-ghost use Rattle.scheduler.specs.PlanSteps.{IsChoice, after_slot, scheduled_stopped};
+ghost use Rattle.std.specs.Prelude.{Option, Some, None, slice_index_or};
+ghost use Rattle.scheduler.specs.PlanSteps.{IsFit, IsChoice, after_slot, scheduled_stopped};
 ghost use Rattle.scheduler.specs.declared.queue.Node.{Node};
 ghost use Rattle.scheduler.specs.QueueSteps.{ahead_at, ahead_below, kept_in, seen_in, IsNode, IsTree, HasTurn};
 ghost use Rattle.scheduler.specs.QueueSteps.{IsTreeBut, KeepsNodesBut, own_at, IsRight, IsPlaceOf, IsFound, AreRising};
-ghost use Rattle.scheduler.specs.QueueSteps.{AreKept, kept_new};
+ghost use Rattle.scheduler.specs.QueueSteps.{AreKept, AreListed, AreDue, kept_new, renewed_node};
 
 use crate::kept::Kept;
 use crate::plan::{Item, Refused};
@@ -27,6 +28,23 @@ pub struct Node {
     pub ahead: Ahead,
 }
 
+impl Node {
+    /// Looks again at its message, if `slot` is a slot to do so, and puts right what is ahead of it and of the places
+    /// below it, by what is ahead of those.
+    fn renew(&mut self, slot: u16, below: Ahead)
+        requires fit { IsFit self.old.kept.scheduled slot }
+        requires turn { HasTurn self.old.kept }
+        ensures value { self.new ≡ renewed_node slot below self.old }
+        ensures turn { HasTurn self.new.kept }
+    {
+        // most places are looked at for those below them alone
+        if self.kept.until <= u32::from(slot) {
+            self.kept = self.kept.renewed(slot);
+        }
+        self.ahead = self.kept.own().joined(below);
+    }
+}
+
 /// What is kept as ahead of a place and those below it: nothing past the end.
 fn ahead_at(nodes: &[Node], place: usize) -> Ahead
     ensures { result ≡ ahead_at nodes.now place }
@@ -38,6 +56,18 @@ fn ahead_at(nodes: &[Node], place: usize) -> Ahead
     }
 }
 
+/// What is ahead of the places below one, where none of them is past the end.
+fn ahead_of_eight(nodes: &[Node], place: usize) -> Ahead
+    requires { place * 8 + 8 < length nodes.now }
+    ensures { result ≡ ahead_below nodes.now place }
+{
+    let mut ahead = Ahead::nothing();
+    for below in 0..BELOW {
+        ahead = ahead.joined(nodes[place * BELOW + 1 + below].ahead);
+    }
+    ahead
+}
+
 /// What is ahead of the places below one.
 fn ahead_below(nodes: &[Node], place: usize) -> Ahead
     ensures { result ≡ ahead_below nodes.now place }
@@ -45,6 +75,9 @@ fn ahead_below(nodes: &[Node], place: usize) -> Ahead
     let mut ahead = Ahead::nothing();
     if place > nodes.len() / BELOW {
         return ahead;
+    }
+    if place * BELOW + BELOW < nodes.len() {
+        return ahead_of_eight(nodes, place);
     }
     for below in 0..BELOW {
         ahead = ahead.joined(ahead_at(nodes, place * BELOW + 1 + below));
@@ -96,47 +129,120 @@ fn renew(nodes: &mut [Node], place: usize, slot: u16, below: Ahead)
     ensures node { IsNode nodes.new place }
     ensures nodes { KeepsNodesBut nodes.old nodes.new place }
 {
-    let kept = nodes[place].kept.renewed(slot);
-    let ahead = kept.own().joined(below);
-    nodes[place] = Node { kept, ahead };
+    nodes[place].renew(slot, below);
 }
 
-/// Looks again, at the places from this one down, at each message for which `slot` is a slot to do so: its broadcast
-/// that is due is dropped, and the next one begins.
-fn renew_below(nodes: &mut [Node], place: usize, slot: u16)
-    requires within { place < length nodes.old }
-    requires right { All (IsRight slot) (kept_in nodes.old) }
-    requires turns { All HasTurn (kept_in nodes.old) }
-    ensures seen { seen_in slot nodes.new ≡ seen_in slot nodes.old }
-    ensures right { All (IsRight slot) (kept_in nodes.new) }
-    ensures turns { All HasTurn (kept_in nodes.new) }
-    ensures before { (k : ℕ) → k < place → ahead_at nodes.new k ≡ ahead_at nodes.old k }
-    ensures awake { slot < (ahead_at nodes.new place).wake }
-    ensures nodes { KeepsNodesBut nodes.old nodes.new place }
+/// Lists, behind the places that are listed, the next one, if at or below it a message is to be looked at again by
+/// `slot`.
+fn list_place(nodes: &[Node], listed: &mut [usize], count: usize, place: usize, slot: u16) -> usize
+    requires room { length nodes.now ≤ length listed.old }
+    requires within { place < length nodes.now }
+    requires before { AreListed slot nodes.now listed.old count place }
+    ensures stays { (i : ℕ) → i < count → slice_index_or listed.new i 0 ≡ slice_index_or listed.old i 0 }
+    ensures more { count ≤ result }
+    ensures listed { AreListed slot nodes.now listed.new result (place + 1) }
 {
-    let mut ahead = Ahead::nothing();
-    if place <= nodes.len() / BELOW {
-        for below in 0..BELOW {
-            let child = place * BELOW + 1 + below;
-            if ahead_at(nodes, child).wake <= u32::from(slot) {
-                renew_below(nodes, child, slot);
-            }
-            ahead = ahead.joined(ahead_at(nodes, child));
+    // written in either case, which spares a branch that can't be foreseen
+    listed[count] = place;
+    if nodes[place].ahead.wake <= u32::from(slot) {
+        count + 1
+    } else {
+        count
+    }
+}
+
+/// Lists, behind the places that are listed, each place below this one at or below which a message is to be looked at
+/// again by `slot`, where none of the places below this one is past the end.
+fn list_eight(nodes: &[Node], listed: &mut [usize], count: usize, place: usize, slot: u16) -> usize
+    requires room { length nodes.now ≤ length listed.old }
+    requires within { place * 8 + 8 < length nodes.now }
+    requires before { AreListed slot nodes.now listed.old count (place * 8 + 1) }
+    ensures stays { (i : ℕ) → i < count → slice_index_or listed.new i 0 ≡ slice_index_or listed.old i 0 }
+    ensures more { count ≤ result }
+    ensures listed { AreListed slot nodes.now listed.new result (place * 8 + 9) }
+{
+    let mut found = count;
+    for below in 0..BELOW {
+        found = list_place(nodes, listed, found, place * BELOW + 1 + below, slot);
+    }
+    found
+}
+
+/// Lists, behind the places that are listed, each place below this one at or below which a message is to be looked at
+/// again by `slot`.
+fn list_below(nodes: &[Node], listed: &mut [usize], count: usize, place: usize, slot: u16) -> usize
+    requires room { length nodes.now ≤ length listed.old }
+    requires before { AreListed slot nodes.now listed.old count (place * 8 + 1) }
+    ensures stays { (i : ℕ) → i < count → slice_index_or listed.new i 0 ≡ slice_index_or listed.old i 0 }
+    ensures more { count ≤ result }
+    ensures listed { AreListed slot nodes.now listed.new result (place * 8 + 9) }
+{
+    let mut found = count;
+    if place > nodes.len() / BELOW {
+        return found;
+    }
+    if place * BELOW + BELOW < nodes.len() {
+        return list_eight(nodes, listed, count, place, slot);
+    }
+    for below in 0..BELOW {
+        let child = place * BELOW + 1 + below;
+        if child < nodes.len() {
+            found = list_place(nodes, listed, found, child, slot);
         }
     }
-    renew(nodes, place, slot, ahead);
+    found
 }
 
-/// Looks again at each message for which `slot` is a slot to do so.
-fn renew_all(nodes: &mut [Node], slot: u16)
-    requires { AreKept slot nodes.old }
+/// Lists, in rising order, the places at or below which a message is to be looked at again by `slot`, and says how many
+/// these are.
+fn list_due(nodes: &[Node], listed: &mut [usize], slot: u16) -> usize
+    requires room { length nodes.now ≤ length listed.old }
+    requires tree { IsTree nodes.now }
+    ensures { AreDue slot nodes.now listed.new result }
+{
+    if ahead_at(nodes, 0).wake > u32::from(slot) {
+        return 0;
+    }
+    listed[0] = 0;
+    let mut count = 1;
+    let mut looked = 0;
+    while looked < count {
+        let place = listed[looked];
+        count = list_below(nodes, listed, count, place, slot);
+        looked += 1;
+    }
+    count
+}
+
+/// Looks again at the messages of the places that are listed, each behind those below it: a broadcast that is due is
+/// dropped, and the next one begins.
+fn renew_listed(nodes: &mut [Node], listed: &[usize], count: usize, slot: u16)
+    requires due { AreDue slot nodes.old listed.now count }
+    requires room { count ≤ length listed.now }
+    requires kept { AreKept slot nodes.old }
     ensures seen { seen_in slot nodes.new ≡ seen_in slot nodes.old }
     ensures kept { AreKept slot nodes.new }
     ensures awake { slot < (ahead_at nodes.new 0).wake }
 {
-    if ahead_at(nodes, 0).wake <= u32::from(slot) {
-        renew_below(nodes, 0, slot);
+    let mut left = count;
+    while left > 0 {
+        left -= 1;
+        let place = listed[left];
+        let below = ahead_below(nodes, place);
+        renew(nodes, place, slot, below);
     }
+}
+
+/// Looks again at each message for which `slot` is a slot to do so.
+fn renew_all(nodes: &mut [Node], listed: &mut [usize], slot: u16)
+    requires room { length nodes.old ≤ length listed.old }
+    requires kept { AreKept slot nodes.old }
+    ensures seen { seen_in slot nodes.new ≡ seen_in slot nodes.old }
+    ensures kept { AreKept slot nodes.new }
+    ensures awake { slot < (ahead_at nodes.new 0).wake }
+{
+    let count = list_due(nodes, listed, slot);
+    renew_listed(nodes, listed, count, slot);
 }
 
 /// The place of the message of `entry`, where there is one: those before it have lesser numbers.
@@ -190,16 +296,17 @@ fn pass(nodes: &mut [Node], slot: u16, used: Option<(u16, u8)>)
     }
 }
 
-/// What `slot` airs, and what is kept after it.
-pub fn play(nodes: &mut [Node], slot: u16) -> Option<(u16, u8)>
+/// What `slot` airs, and what is kept after it. `listed` has room for a list of all places.
+pub fn play(nodes: &mut [Node], listed: &mut [usize], slot: u16) -> Option<(u16, u8)>
     requires within { slot < 65535 }
+    requires room { length nodes.old ≤ length listed.old }
     requires kept { AreKept slot nodes.old }
     requires rising { AllPairs (λ a b. a.item.entry < b.item.entry) (seen_in slot nodes.old) }
     ensures chosen { IsChoice (seen_in slot nodes.old) slot result }
     ensures seen { seen_in (slot + 1) nodes.new ≡ map (after_slot slot result) (seen_in slot nodes.old) }
     ensures kept { AreKept (slot + 1) nodes.new }
 {
-    renew_all(nodes, slot);
+    renew_all(nodes, listed, slot);
     let used = choice(nodes, slot);
     pass(nodes, slot, used);
     used

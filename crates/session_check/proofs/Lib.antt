@@ -2,4 +2,5 @@ pub mod Found
 pub mod Noted
 pub mod Standing
 pub mod Settled
+pub mod Exchanged
 pub mod Replayed

@@ -20,7 +20,7 @@ use Rattle.session_check.specs.NotedSteps.{AreAnswersNoted, IsAnswerNoted, asked
 pub clash : (b : Bool) → b ≡ true → b ≡ false → ⊥
 clash b is not = false≢true (sym not ∙ is)
 
-some_none : {X : Type 0} (x : X) → Some x ≡ None → ⊥
+pub some_none : {X : Type 0} (x : X) → Some x ≡ None → ⊥
 some_none x h = search (rules, h)
 
 no_cons : {X : Type 0} (x : X) (xs : List X) → [] ≡ x ∷ xs → ⊥

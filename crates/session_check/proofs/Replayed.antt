@@ -1,291 +1,30 @@
--- How a session that is served again goes on: by one more turn, exactly where its notes are of that turn.
-use Rattle.std.proofs.Common.{◌≡◌, ◌≢◌, ◌↔◌, ℕ, ◌+◌, ◌*◌, ◌<◌, List, [], ◌∷◌, ◌++◌, length, map}
-use Rattle.std.proofs.Common.{All, Option, Some, None, Ok, Err, Result, refl, sym, subst, ap, ◌∙◌, suc, Vec, rules}
+-- How a session is served again: what is kept from turn to turn, and that it ends.
+use Rattle.std.proofs.Common.{◌≡◌, ◌≢◌, ℕ, ◌+◌, ◌*◌, ◌<◌, List, length}
+use Rattle.std.proofs.Common.{Option, Some, None, refl, sym, subst, ap, ◌∙◌, suc, Vec}
 use native.Mathlib.Omega.{arith}
 use Rattle.std.specs.Global.{Global}
-use Rattle.std.specs.List.{AllZip}
-use Rattle.std.proofs.lemmas.List.Elements.{All-cons, All-from_recursion, All-head, All-nil, All-tail}
-use Rattle.std.proofs.lemmas.List.Elements.{recursion_from_All}
-use Rattle.std.proofs.lemmas.Option.{same_Some}
-use Rattle.cbsp_wire.specs.declared.message.Cell.{Cell}
 use Rattle.cbsp_wire.specs.declared.message.Message.{Message}
 use Rattle.cbsp_wire.specs.Laws.{MeantIsFaultless, OneMeaning}
 use Rattle.cbsp_wire.specs.Meaning.{IsMessage}
 use Rattle.alert_book.specs.declared.request.Request.{Request}
 use Rattle.alert_book.specs.Book.{Contents}
-use Rattle.alert_book.specs.Session.{after_reply, session_of, GivesRequest, IsGiven, IsReply, Standing}
+use Rattle.alert_book.specs.Session.{after_reply, session_of, IsGiven, IsReply, Standing}
 use Rattle.alert_book.specs.Stands.{left_in, Advances, SessionState, StandsFor}
 use Rattle.alert_book.specs.TurnLaws.{SessionsEnd}
-use Rattle.alert_book.specs.Turns.{begun, GoesTo}
-use Rattle.bsc_table.specs.declared.command.Command.{Command}
-use Rattle.bsc_table.specs.Orders.{order_of}
+use Rattle.alert_book.specs.Turns.{begun}
 use Rattle.bsc_table.specs.Record.{Record}
 use Rattle.order_desk.specs.declared.note.Note.{Note}
-use Rattle.order_desk.specs.Desk.{IsOrderOf}
-use Rattle.order_desk.specs.Reply.{cells_answered, reply_message}
-use Rattle.book_runs.specs.Run.{Exchange, IsExchange}
-use Rattle.book_runs.specs.Sessions.{IsNoteOf, IsSessionOf, asks_in, asks_of}
-use Rattle.session_check.specs.NotedSteps.{AreAnswersNoted, AreStanding, cells_of, commands_in}
-use Rattle.session_check.specs.ReplaySteps.{GoesOnBy, IsNoTurn, IsTurnNoted}
-use Rattle.session_check.proofs.Noted.{IsForeignUnknown, all_noted_one, asks_of_noted, foreign_of_noted, noted_of_asks}
+use Rattle.order_desk.specs.Reply.{reply_message}
+use Rattle.session_check.specs.NotedSteps.{AreStanding, commands_in}
+use Rattle.session_check.specs.ReplaySteps.{GoesOnBy, IsTurnNoted}
+use Rattle.session_check.proofs.Exchanged.{goes_after, goes_before, sent_is}
+use Rattle.session_check.proofs.Noted.{some_none}
 use Rattle.session_check.proofs.Standing.{all_left_stand}
 
 -- how much is left: nothing where there is no request
 abbrev pub left_to_serve : {X : Type 0} → Option X → ℕ → ℕ
 left_to_serve None n = 0
 left_to_serve (Some x) n = suc n
-
-none_some : {X : Type 0} (x : X) → Some x ≡ None → ⊥
-none_some x h = search (rules, h)
-
--- a fact of two lists, place by place, in two parts
-zip_append : {X Y : Type 0} (R : X → Y → Type 0) (xs more : List X) (ys others : List Y)
-    → AllZip R xs ys
-    → AllZip R more others
-    → AllZip R (xs ++ more) (ys ++ others)
-zip_append R [] more [] others first then = then
-zip_append R [] more (y ∷ ys) others first then = absurd first
-zip_append R (x ∷ xs) more [] others first then = absurd first
-zip_append R (x ∷ xs) more (y ∷ ys) others first then = (first.0, zip_append R xs more ys others first.1 then)
-
-zip_parts : {X Y : Type 0} (R : X → Y → Type 0) (xs more : List X) (all : List Y)
-    → AllZip R (xs ++ more) all
-    → (ys : List Y) × (others : List Y) × (all ≡ ys ++ others) × AllZip R xs ys × AllZip R more others
-zip_parts R [] more all zip = ([], all, refl, tt, zip)
-zip_parts R (x ∷ xs) more [] zip = absurd zip
-zip_parts R (x ∷ xs) more (y ∷ all) zip =
-    let rest = zip_parts R xs more all zip.1 in
-    (y ∷ rest.0, rest.1, ap (λ (ys : List _). y ∷ ys) rest.2, (zip.0, rest.3), rest.4)
-
--- the request to which a given message belongs
-pub sent_is : (sent : Option Request) (given : ℕ × Vec ℕ Global) → IsGiven sent (Some given)
-    → (request : Request) × (sent ≡ Some request) × GivesRequest request given.0 given.1.items
-sent_is None given is = absurd is
-sent_is (Some request) given is = (request, refl, is)
-
--- two orders of one message are one
-order_or : (List Cell × Command) → Result (List Cell × Command) ℕ → List Cell × Command
-order_or other (Ok order) = order
-order_or other (Err cause) = other
-
-one_order : (r : Result (List Cell × Command) ℕ) (cells named : List Cell) (command asked : Command)
-    → r ≡ Ok (named, asked)
-    → r ≡ Ok (cells, command)
-    → (named ≡ cells) × (asked ≡ command)
-unfolding order_or
-one_order r cells named command asked first then =
-    let h = sym first ∙ then in (
-      ap (λ (x : Result (List Cell × Command) ℕ). (order_or (named, asked) x).0) h,
-      ap (λ (x : Result (List Cell × Command) ℕ). (order_or (named, asked) x).1) h,
-    )
-
-pub orders_are_one : OneMeaning → (octets : List ℕ) (cells named : List Cell) (command asked : Command)
-    → IsOrderOf octets cells command
-    → IsOrderOf octets named asked
-    → (cells ≡ named) × (command ≡ asked)
-orders_are_one meaning octets cells named command asked one other =
-    one_order (order_of one.message) named cells asked command one.ordered
-    (ap order_of (meaning octets one.message other.message one.meant other.meant) ∙ other.ordered)
-
--- a session that has a request goes on to its end by the exchange of that request, and then from the standing after it
-pub record GoesOnByOne (records : List Record) (from : Standing) (request : Request) (given : List Note) : Type 0 where
-  pub x : Exchange
-  pub left : List Note
-  pub same : request ≡ x.turn.request
-  pub is_exchange : IsExchange (cells_of records) x
-  pub noted : AreAnswersNoted records x.turn.request.at x.command x.answers given left
-  pub goes_on : GoesOnBy records (after_reply (Some x.turn.reply) from) left
-
-first_turn : (records : List Record) (from reached : Standing) (request : Request) (given : List Note)
-    (exchanges : List Exchange)
-    → from.sent ≡ Some request
-    → GoesTo from (map (λ x. x.turn) exchanges) reached
-    → reached.sent ≡ None
-    → All (IsExchange (cells_of records)) exchanges
-    → AllZip (IsNoteOf records) (asks_of (cells_of records) exchanges) given
-    → GoesOnByOne records from request given
-first_turn records from reached request given [] sent gone over exchanged noted =
-    absurd (none_some request (sym sent ∙ ap (λ (s : Standing). s.sent) (sym gone) ∙ over))
-first_turn records from reached request given (x ∷ later) sent gone over exchanged noted =
-    let cells = cells_of records in
-    let is = All-head (IsExchange cells) x later exchanged in
-    let parts = zip_parts (IsNoteOf records) (asks_in cells x) (asks_of cells later) given noted in
-    let unknown = recursion_from_All (IsForeignUnknown cells) x.answers is.foreign in
-    let own = noted_of_asks records x.turn.request.at x.command x.answers parts.0 parts.1 unknown parts.3 in record {
-      x = x;
-      left = parts.1;
-      same = same_Some request x.turn.request (sym sent ∙ gone.0);
-      is_exchange = is;
-      noted = subst (λ (n : List Note). AreAnswersNoted records x.turn.request.at x.command x.answers n parts.1)
-          (sym parts.2) own;
-      goes_on = record {
-        exchanges = later;
-        reached = reached;
-        gone = gone.1;
-        over = over;
-        exchanged = All-tail (IsExchange cells) x later exchanged;
-        noted = parts.4;
-      };
-    }
-
-goes_on_by_one : (records : List Record) (from : Standing) (request : Request) (given : List Note)
-    → from.sent ≡ Some request
-    → GoesOnBy records from given
-    → GoesOnByOne records from request given
-goes_on_by_one records from request given sent by =
-    first_turn records from by.reached request given by.exchanges sent by.gone by.over by.exchanged by.noted
-
--- what was noted of a turn that a session takes next: its order, with its answers
-one_is_order : (records : List Record) (from : Standing) (request : Request) (at : ℕ) (octets : List ℕ)
-    (given : List Note)
-    → GivesRequest request at octets
-    → (one : GoesOnByOne records from request given)
-    → IsOrderOf octets (cells_answered one.x.answers) one.x.command
-one_is_order records from request at octets given gives one = record {
-  message = request.message;
-  meant = gives.meant;
-  ordered = ap (λ (r : Request). order_of r.message) one.same ∙ one.is_exchange.asked;
-}
-
-one_at : (records : List Record) (from : Standing) (request : Request) (at : ℕ) (octets : List ℕ)
-    (given : List Note)
-    → GivesRequest request at octets
-    → (one : GoesOnByOne records from request given)
-    → AreAnswersNoted records at one.x.command one.x.answers given one.left
-one_at records from request at octets given gives one =
-    subst (λ n. AreAnswersNoted records n one.x.command one.x.answers given one.left)
-    (sym (gives.slot ∙ ap (λ (r : Request). r.at) one.same)) one.noted
-
--- where the notes are of no such turn, the session doesn't go on by them
-pub goes_no_further : (records : List Record) (from : Standing) (given : ℕ × Vec ℕ Global) (before : List Note)
-    → IsGiven from.sent (Some given)
-    → IsNoTurn records given.0 given.1.items before
-    → GoesOnBy records from before
-    → ⊥
-goes_no_further records from given before is nothing by =
-    let sent = sent_is from.sent given is in
-    let one = goes_on_by_one records from sent.0 before sent.1 by in
-    nothing one.x.command one.x.answers one.left
-    (one_is_order records from sent.0 given.0 given.1.items before sent.2 one)
-    (one_at records from sent.0 given.0 given.1.items before sent.2 one)
-
--- where they are of the turn, it goes on after it by what is left
-pub goes_after : OneMeaning → (records : List Record) (from : Standing) (given : ℕ × Vec ℕ Global)
-    (octets : List ℕ) (before left : List Note)
-    → IsGiven from.sent (Some given)
-    → (turn : IsTurnNoted records given.0 given.1.items octets before left)
-    → GoesOnBy records from before
-    → GoesOnBy records (after_reply (Some (reply_message turn.command turn.answers)) from) left
-goes_after meaning records from given octets before left is turn by =
-    let sent = sent_is from.sent given is in
-    let one = goes_on_by_one records from sent.0 before sent.1 by in
-    let x = one.x in
-    let order = one_is_order records from sent.0 given.0 given.1.items before sent.2 one in
-    let same = orders_are_one meaning given.1.items (cells_answered turn.answers) (cells_answered x.answers)
-    turn.command x.command turn.order order in
-    let answered = all_noted_one records given.0 x.command turn.answers x.answers before left one.left
-    (subst (λ (c : Command). AreAnswersNoted records given.0 c turn.answers before left) same.1 turn.noted)
-    (one_at records from sent.0 given.0 given.1.items before sent.2 one) same.0 in
-    let reply : x.turn.reply ≡ reply_message turn.command turn.answers =
-    one.is_exchange.replied ∙ ap (λ (c : Command). reply_message c x.answers) (sym same.1)
-    ∙ ap (reply_message turn.command) (sym answered.0) in
-    subst (λ (n : List Note). GoesOnBy records (after_reply (Some (reply_message turn.command turn.answers)) from) n)
-    (sym answered.1)
-    (subst (λ (m : Message). GoesOnBy records (after_reply (Some m) from) one.left) reply one.goes_on)
-
--- and the other way round
-pub goes_before : OneMeaning → (records : List Record) (from : Standing) (given : ℕ × Vec ℕ Global)
-    (octets : List ℕ) (before left : List Note)
-    → IsGiven from.sent (Some given)
-    → (turn : IsTurnNoted records given.0 given.1.items octets before left)
-    → GoesOnBy records (after_reply (Some (reply_message turn.command turn.answers)) from) left
-    → GoesOnBy records from before
-goes_before meaning records from given octets before left is turn by =
-    let cells = cells_of records in
-    let sent = sent_is from.sent given is in
-    let request = sent.0 in
-    let said = reply_message turn.command turn.answers in
-    let x : Exchange = record {
-      turn = record { request = request; reply = said };
-      command = turn.command;
-      answers = turn.answers;
-    } in
-    let message = meaning given.1.items request.message turn.order.message sent.2.meant turn.order.meant in
-    let asks = asks_of_noted records given.0 turn.command turn.answers before left turn.noted in
-    let own : AllZip (IsNoteOf records) (asks_in cells x) asks.0 =
-    subst (λ n. AllZip (IsNoteOf records) (asks_in cells (record x {
-      turn = record { request = record request { at = n }; reply = said };
-    })) asks.0) sent.2.slot asks.2 in
-    let is_exchange : IsExchange cells x = record {
-      asked = ap order_of message ∙ turn.order.ordered;
-      replied = refl;
-      foreign = All-from_recursion (IsForeignUnknown cells) turn.answers
-          (foreign_of_noted records given.0 turn.command turn.answers before left turn.noted);
-    } in record {
-      exchanges = x ∷ by.exchanges;
-      reached = by.reached;
-      gone = (sent.1, by.gone);
-      over = by.over;
-      exchanged = All-cons (IsExchange cells) x by.exchanges is_exchange by.exchanged;
-      noted = subst (AllZip (IsNoteOf records) (asks_in cells x ++ asks_of cells by.exchanges)) (sym asks.1)
-          (zip_append (IsNoteOf records) (asks_in cells x) (asks_of cells by.exchanges) asks.0 left own by.noted);
-    }
-
--- where a session has no request, it goes on by no notes alone
-no_asks : (records : List Record) (from reached : Standing) (given : List Note) (exchanges : List Exchange)
-    → from.sent ≡ None
-    → GoesTo from (map (λ x. x.turn) exchanges) reached
-    → AllZip (IsNoteOf records) (asks_of (cells_of records) exchanges) given
-    → given ≡ []
-no_asks records from reached [] [] over gone noted = refl
-no_asks records from reached (note ∷ given) [] over gone noted = absurd noted
-no_asks records from reached given (x ∷ later) over gone noted =
-    absurd (none_some x.turn.request (sym gone.0 ∙ over))
-
-no_request : (sent : Option Request) → IsGiven sent None → sent ≡ None
-no_request None is = refl
-no_request (Some request) is = absurd is
-
-pub ends_by : (records : List Record) (from : Standing) (given : List Note)
-    → IsGiven from.sent None
-    → (given ≡ []) ↔ GoesOnBy records from given
-ends_by records from given is = (
-  λ none. subst (GoesOnBy records from) (sym none) (record {
-    exchanges = [];
-    reached = from;
-    gone = refl;
-    over = no_request from.sent is;
-    exchanged = All-nil (IsExchange (cells_of records));
-    noted = tt;
-  }),
-  λ by. no_asks records from by.reached given by.exchanges (no_request from.sent is) by.gone by.noted,
-)
-
--- a pass is a session's exactly where the session goes on by its notes of commands from its beginning
-pub is_session : (book : Contents) (part parts : ℕ) (records : List Record) (pass : List Note)
-    → cells_of records ≡ book.cells
-    → GoesOnBy records (begun book part parts) (commands_in pass)
-    ↔ ((exchanges : List Exchange) × IsSessionOf book part parts records pass exchanges)
-is_session book part parts records pass cells = (
-  λ by. (
-    by.exchanges,
-    record {
-      turns = record { reached = by.reached; gone = by.gone; over = by.over };
-      exchanged = subst (λ (c : List Cell). All (IsExchange c) by.exchanges) cells by.exchanged;
-      noted = subst (λ (c : List Cell). AllZip (IsNoteOf records) (asks_of c by.exchanges) (commands_in pass)) cells
-          by.noted;
-    },
-  ),
-  λ is. record {
-    exchanges = is.0;
-    reached = is.1.turns.reached;
-    gone = is.1.turns.gone;
-    over = is.1.turns.over;
-    exchanged = subst (λ (c : List Cell). All (IsExchange c) is.0) (sym cells) is.1.exchanged;
-    noted = subst (λ (c : List Cell). AllZip (IsNoteOf records) (asks_of c is.0) (commands_in pass)) (sym cells)
-        is.1.noted;
-  },
-)
 
 -- a session is being served again: it goes on by the notes that are left exactly where it goes from its beginning by
 -- those of its pass
@@ -374,7 +113,7 @@ turn_lessens end before session reached reply given (Some next) stands advances 
     let there = advances reached stands in
     let sent = sent_is session.sent next is in
     let some : (after_reply reply reached).sent ≢ None =
-    λ none. none_some sent.0 (sym sent.1 ∙ there.sent ∙ none) in
+    λ none. some_none sent.0 (sym sent.1 ∙ there.sent ∙ none) in
     less (length session.due) (length (left_in session)) (length before.due) (length (left_in before))
     (length (after_reply reply reached).due) (length (after_reply reply reached).left) (length reached.due)
     (length reached.left) (ap length there.due) (ap length there.left) (ap length stands.due) (ap length stands.left)

@@ -92,10 +92,12 @@ fn left_by_live<T: AllocGlobal + Abort + Threads + Wait + Sync>(rt: &T) -> Optio
 
 /// Runs again and again, with one block of memory more each time, until a run has written its tape. Before that more
 /// than six runs are refused memory.
-fn expect_refusals<T: AllocGlobal + Abort>(
+fn expect_refusals<T: AllocGlobal + Abort, Run: Fn(&T) -> Option<usize>>(
     rt: &T,
-    run: impl Fn(&T) -> Option<usize>,
-) -> Result<(), Fail> {
+    run: Run,
+) -> Result<(), Fail>
+    requires { Run.IsAlwaysCallable run }
+{
     let mut spare: Vec<Vec<u8>> = Vec::with_capacity(rt.alloc(), 400)?;
     for _ in 0..400 {
         spare.push(Vec::with_capacity(rt.alloc(), BLOCK)?)?;

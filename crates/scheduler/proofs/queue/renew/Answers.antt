@@ -4,77 +4,76 @@ use Rattle.std.proofs.lemmas.List.Elements.{All-set}
 use Rattle.scheduler.specs.declared.turn.Ahead.{Ahead}
 use Rattle.scheduler.specs.declared.kept.Kept.{Kept}
 use Rattle.scheduler.specs.declared.queue.Node.{Node}
-use Rattle.scheduler.specs.QueueSteps.{seen_in, kept_in, seen, joined, own, with_below, ahead_at, own_at, IsNode}
+use Rattle.scheduler.specs.QueueSteps.{seen_in, kept_in, seen, renewed, node_with, joined, own, ahead_at}
+use Rattle.scheduler.specs.QueueSteps.{own_at, IsNode}
 use Rattle.scheduler.specs.QueueSteps.{IsRight}
 use Rattle.scheduler.specs.QueueSteps.{HasTurn, KeepsNodesBut}
-use Rattle.scheduler.proofs.FirstTurn.{blank}
+use Rattle.scheduler.proofs.FirstTurn.{blank, turn_at}
 use Rattle.scheduler.proofs.Tree.{put_kept, put_others, put_node, put_nodes, put_own_here}
 use Rattle.scheduler.proofs.Windows.{renewed_awake, IsRight-renewed}
 use Rattle.scheduler.proofs.Places.{right_at, seen_put_renewed, right_put}
 use Rattle.scheduler.proofs.queue.renew.Goals as goal
 
-pub renewed-kept-requires : goal.renewed-kept-requires
-renewed-kept-requires c =
+pub renew-requires-clause-turn : goal.renew-requires-clause-turn
+renew-requires-clause-turn c =
+    turn_at c.args.nodes.now c.args.place blank c.requires.within c.requires.turns
+
+pub renew-requires-clause-fit : goal.renew-requires-clause-fit
+renew-requires-clause-fit c =
     (right_at c.args.slot c.args.nodes.now c.args.place blank c.requires.within c.requires.right).fit
 
 pub returns-clause-seen : goal.returns-clause-seen
 returns-clause-seen c =
     let nodes = c.args.nodes.now in
-    let k = c.renewed-kept.result in
-    let is : c.joined-ahead.result ≡ with_below nodes c.args.place (own k) = c.joined-ahead.ensures
-    ∙ ap (λ (a : Ahead). joined a c.args.below) c.own.ensures ∙ ap (λ (a : Ahead). joined (own k) a)
-    c.requires.below in
-    let put = ap (λ (a : Ahead). set nodes c.args.place (record { kept = k; ahead = a })) is in
+    let k = renewed c.args.slot (get_or nodes c.args.place blank).kept in
+    let is : c.renew.new.self ≡ node_with nodes c.args.place k = c.renew.ensures.value
+    ∙ ap (λ (a : Ahead). record { kept = k; ahead = joined (own k) a }) c.requires.below in
+    let put = ap (λ (n : Node). set nodes c.args.place n) is in
     ap (seen_in c.args.slot) put ∙ (ap (map (seen c.args.slot)) (put_kept nodes c.args.place k)
-    ∙ rw c.renewed-kept.ensures.value (seen_put_renewed c.args.slot nodes c.args.place blank c.requires.within))
+    ∙ seen_put_renewed c.args.slot nodes c.args.place blank c.requires.within)
 
 pub returns-clause-right : goal.returns-clause-right
 returns-clause-right c =
     let nodes = c.args.nodes.now in
-    let k = c.renewed-kept.result in
-    let is : c.joined-ahead.result ≡ with_below nodes c.args.place (own k) = c.joined-ahead.ensures
-    ∙ ap (λ (a : Ahead). joined a c.args.below) c.own.ensures ∙ ap (λ (a : Ahead). joined (own k) a)
-    c.requires.below in
-    let put = ap (λ (a : Ahead). set nodes c.args.place (record { kept = k; ahead = a })) is in
+    let k = renewed c.args.slot (get_or nodes c.args.place blank).kept in
+    let is : c.renew.new.self ≡ node_with nodes c.args.place k = c.renew.ensures.value
+    ∙ ap (λ (a : Ahead). record { kept = k; ahead = joined (own k) a }) c.requires.below in
+    let put = ap (λ (n : Node). set nodes c.args.place n) is in
     let here = right_at c.args.slot nodes c.args.place blank c.requires.within c.requires.right in
     let Right : List Node → Type 0 = λ ns. All (IsRight c.args.slot) (kept_in ns) in
-    let IsSo : Kept → Type 0 = λ x. IsRight c.args.slot x in
-    subst Right (sym put) (right_put c.args.slot nodes c.args.place k (subst IsSo (sym c.renewed-kept.ensures.value)
-    (IsRight-renewed (get_or nodes c.args.place blank).kept c.args.slot here)) c.requires.right)
+    subst Right (sym put) (right_put c.args.slot nodes c.args.place k
+    (IsRight-renewed (get_or nodes c.args.place blank).kept c.args.slot here) c.requires.right)
 
 pub returns-clause-turns : goal.returns-clause-turns
 returns-clause-turns c =
     let nodes = c.args.nodes.now in
-    let k = c.renewed-kept.result in
-    let is : c.joined-ahead.result ≡ with_below nodes c.args.place (own k) = c.joined-ahead.ensures
-    ∙ ap (λ (a : Ahead). joined a c.args.below) c.own.ensures ∙ ap (λ (a : Ahead). joined (own k) a)
-    c.requires.below in
-    let put = ap (λ (a : Ahead). set nodes c.args.place (record { kept = k; ahead = a })) is in
+    let k = renewed c.args.slot (get_or nodes c.args.place blank).kept in
+    let is : c.renew.new.self ≡ node_with nodes c.args.place k = c.renew.ensures.value
+    ∙ ap (λ (a : Ahead). record { kept = k; ahead = joined (own k) a }) c.requires.below in
+    let put = ap (λ (n : Node). set nodes c.args.place n) is in
     let Turns : List Kept → Type 0 = λ ks. All HasTurn ks in
     subst Turns (sym (ap kept_in put ∙ put_kept nodes c.args.place k)) (All-set HasTurn (kept_in nodes) c.args.place k
-    c.renewed-kept.ensures.turn c.requires.turns)
+    (subst HasTurn (ap (λ (n : Node). n.kept) is) c.renew.ensures.turn) c.requires.turns)
 
 pub returns-clause-others : goal.returns-clause-others
 returns-clause-others c =
     let nodes = c.args.nodes.now in
-    let k = c.renewed-kept.result in
-    let is : c.joined-ahead.result ≡ with_below nodes c.args.place (own k) = c.joined-ahead.ensures
-    ∙ ap (λ (a : Ahead). joined a c.args.below) c.own.ensures ∙ ap (λ (a : Ahead). joined (own k) a)
-    c.requires.below in
-    let put = ap (λ (a : Ahead). set nodes c.args.place (record { kept = k; ahead = a })) is in
+    let k = renewed c.args.slot (get_or nodes c.args.place blank).kept in
+    let is : c.renew.new.self ≡ node_with nodes c.args.place k = c.renew.ensures.value
+    ∙ ap (λ (a : Ahead). record { kept = k; ahead = joined (own k) a }) c.requires.below in
+    let put = ap (λ (n : Node). set nodes c.args.place n) is in
     λ n apart. ap (λ ns. ahead_at ns n) put ∙ put_others nodes c.args.place k n apart
 
 pub returns-clause-awake : goal.returns-clause-awake
 returns-clause-awake c =
     let nodes = c.args.nodes.now in
-    let k = c.renewed-kept.result in
-    let is : c.joined-ahead.result ≡ with_below nodes c.args.place (own k) = c.joined-ahead.ensures
-    ∙ ap (λ (a : Ahead). joined a c.args.below) c.own.ensures ∙ ap (λ (a : Ahead). joined (own k) a)
-    c.requires.below in
-    let put = ap (λ (a : Ahead). set nodes c.args.place (record { kept = k; ahead = a })) is in
+    let k = renewed c.args.slot (get_or nodes c.args.place blank).kept in
+    let is : c.renew.new.self ≡ node_with nodes c.args.place k = c.renew.ensures.value
+    ∙ ap (λ (a : Ahead). record { kept = k; ahead = joined (own k) a }) c.requires.below in
+    let put = ap (λ (n : Node). set nodes c.args.place n) is in
     let here = right_at c.args.slot nodes c.args.place blank c.requires.within c.requires.right in
     let its = ap (λ ns. own_at ns c.args.place) put ∙ put_own_here nodes c.args.place k c.requires.within
-    ∙ ap own c.renewed-kept.ensures.value in
+    in
     let Awake : Ahead → Type 0 = λ a. c.args.slot < a.wake in
     subst Awake (sym its) (renewed_awake (get_or nodes c.args.place blank).kept c.args.slot here.fit.some_period
     (omega arith))
@@ -82,21 +81,19 @@ returns-clause-awake c =
 pub returns-clause-node : goal.returns-clause-node
 returns-clause-node c =
     let nodes = c.args.nodes.now in
-    let k = c.renewed-kept.result in
-    let is : c.joined-ahead.result ≡ with_below nodes c.args.place (own k) = c.joined-ahead.ensures
-    ∙ ap (λ (a : Ahead). joined a c.args.below) c.own.ensures ∙ ap (λ (a : Ahead). joined (own k) a)
-    c.requires.below in
-    let put = ap (λ (a : Ahead). set nodes c.args.place (record { kept = k; ahead = a })) is in
+    let k = renewed c.args.slot (get_or nodes c.args.place blank).kept in
+    let is : c.renew.new.self ≡ node_with nodes c.args.place k = c.renew.ensures.value
+    ∙ ap (λ (a : Ahead). record { kept = k; ahead = joined (own k) a }) c.requires.below in
+    let put = ap (λ (n : Node). set nodes c.args.place n) is in
     let Node_at : List Node → Type 0 = λ ns. IsNode ns c.args.place in
     subst Node_at (sym put) (put_node nodes c.args.place k c.requires.within)
 
 pub returns-clause-nodes : goal.returns-clause-nodes
 returns-clause-nodes c =
     let nodes = c.args.nodes.now in
-    let k = c.renewed-kept.result in
-    let is : c.joined-ahead.result ≡ with_below nodes c.args.place (own k) = c.joined-ahead.ensures
-    ∙ ap (λ (a : Ahead). joined a c.args.below) c.own.ensures ∙ ap (λ (a : Ahead). joined (own k) a)
-    c.requires.below in
-    let put = ap (λ (a : Ahead). set nodes c.args.place (record { kept = k; ahead = a })) is in
+    let k = renewed c.args.slot (get_or nodes c.args.place blank).kept in
+    let is : c.renew.new.self ≡ node_with nodes c.args.place k = c.renew.ensures.value
+    ∙ ap (λ (a : Ahead). record { kept = k; ahead = joined (own k) a }) c.requires.below in
+    let put = ap (λ (n : Node). set nodes c.args.place n) is in
     let Keeps : List Node → Type 0 = λ ns. KeepsNodesBut nodes ns c.args.place in
     subst Keeps (sym put) (put_nodes nodes c.args.place k c.requires.within)

@@ -6,8 +6,8 @@ use Rattle.alert_book.specs.Stands.{left_in}
 use Rattle.session_check.specs.NotedSteps.{commands_in}
 use Rattle.session_check.specs.ReplaySteps.{IsNoTurn, IsTurnNoted}
 use Rattle.session_check.proofs.Noted.{none_of, some_of}
-use Rattle.session_check.proofs.Replayed.{IsReplaying, ends_by, goes_no_further, is_session, left_to_serve}
-use Rattle.session_check.proofs.Replayed.{replaying_begun, replaying_more, turn_lessens}
+use Rattle.session_check.proofs.Exchanged.{ends_by, goes_no_further, is_session}
+use Rattle.session_check.proofs.Replayed.{IsReplaying, left_to_serve, replaying_begun, replaying_more, turn_lessens}
 use Rattle.session_check.proofs.session.is_session.Goals as goal
 
 pub loop-next-init : goal.loop-next-init

@@ -9,7 +9,7 @@ use Rattle.order_desk.specs.Reply.{cells_answered}
 use Rattle.order_desk.proofs.Orders.{has_order}
 use Rattle.session_check.specs.NotedSteps.{AreAnswersNoted, commands_in}
 use Rattle.session_check.proofs.Noted.{none_of, some_of}
-use Rattle.session_check.proofs.Replayed.{orders_are_one}
+use Rattle.session_check.proofs.Exchanged.{orders_are_one}
 use Rattle.session_check.proofs.session.reply_in.Goals as goal
 
 pub returns-in_default-clause-none : goal.returns-in_default-clause-none

@@ -1,4 +1,4 @@
-use Rattle.std.proofs.Common.{ℕ, ◌+◌, ◌<◌, sym, ap, subst, ◌∙◌, map, refl, List, [], ◌∷◌, ◌++◌}
+use Rattle.std.proofs.Common.{arith, ℕ, ◌+◌, ◌<◌, sym, ap, subst, ◌∙◌, map, refl, List, [], ◌∷◌, ◌++◌}
 use Rattle.std.specs.List.{AllPairs}
 use Rattle.scheduler.specs.declared.scheduled.Scheduled.{Scheduled}
 use Rattle.scheduler.specs.declared.queue.Node.{Node}
@@ -6,14 +6,14 @@ use Rattle.scheduler.specs.Follows.{PlanState, Follows, messages_of, message_of,
 use Rattle.scheduler.specs.PlanSteps.{IsSound, IsChoice, after_slot}
 use Rattle.scheduler.specs.QueueSteps.{AreKept, seen_in}
 use Rattle.scheduler.proofs.Followed.{IsSound-next, IsChosen-next, Follows-next, unchanged_messages}
-use Rattle.scheduler.proofs.Planned.{written_all, seen_written}
+use Rattle.scheduler.proofs.Planned.{as_long, written_all, seen_written}
 use Rattle.scheduler.proofs.plan.Plan.next.Goals as goal
 
 pub play-used-requires-clause-kept : goal.play-used-requires-clause-kept
 play-used-requires-clause-kept c =
     let at = c.requires.at_next ∙ ap next_slot (sym c.self.view_is) in
     let Slot : ℕ → Type 0 = λ n. AreKept n c.self.inside.nodes.items in
-    subst (AreKept c.args.slot) (sym c.as_mut_slice.ensures.value) (subst Slot (sym at) c.self.invariant.kept)
+    subst (AreKept c.args.slot) (sym c.as_mut_slice.ensures.value) (subst Slot (sym at) c.self.invariant.plan.kept)
 
 pub play-used-requires-clause-rising : goal.play-used-requires-clause-rising
 play-used-requires-clause-rising c =
@@ -22,7 +22,7 @@ play-used-requires-clause-rising c =
     (seen_in c.args.slot ns) in
     let Slot : ℕ → Type 0 = λ n. AllPairs (λ (a b : Scheduled). a.item.entry < b.item.entry)
     (seen_in n c.self.inside.nodes.items) in
-    subst Rising (sym c.as_mut_slice.ensures.value) (subst Slot (sym at) c.self.invariant.sound.rising)
+    subst Rising (sym c.as_mut_slice.ensures.value) (subst Slot (sym at) c.self.invariant.plan.sound.rising)
 
 pub invariant_of-self : goal.invariant_of-self
 invariant_of-self c =
@@ -33,11 +33,19 @@ invariant_of-self c =
     let Slot : ℕ → Type 0 = λ n. IsSound (record { slot = n; scheduled = seen_in n v.items }) in
     let P : List Scheduled → Type 0 = λ ts. IsSound (record { slot = c.args.slot + 1; scheduled = ts }) in
     record {
-      sound = subst P (sym (seen_written v _ _ (c.args.slot + 1) c.args.slot f c.as_mut_slice.ensures.value
-          c.play-used.ensures.seen)) (IsSound-next plan c.play-used.result c.requires.within (subst Slot (sym at)
-          c.self.invariant.sound));
-      kept = subst (AreKept (c.args.slot + 1)) (sym (written_all v _ _ (c.args.slot + 1) c.args.slot f
-          c.as_mut_slice.ensures.value c.play-used.ensures.seen)) c.play-used.ensures.kept;
+      plan = record {
+        sound = subst P (sym (seen_written v _ _ (c.args.slot + 1) c.args.slot f c.as_mut_slice.ensures.value
+            c.play-used.ensures.seen)) (IsSound-next plan c.play-used.result c.requires.within (subst Slot (sym at)
+            c.self.invariant.plan.sound));
+        kept = subst (AreKept (c.args.slot + 1)) (sym (written_all v _ _ (c.args.slot + 1) c.args.slot f
+            c.as_mut_slice.ensures.value c.play-used.ensures.seen)) c.play-used.ensures.kept;
+      };
+      room = omega (
+        arith,
+        c.self.invariant.room,
+        as_long v c.play-used.new.nodes,
+        as_long c.self.inside.listed c.play-used.new.listed,
+      );
     }
 
 pub returns-clause-chosen : goal.returns-clause-chosen
@@ -49,7 +57,7 @@ returns-clause-chosen c = λ messages air follows.
     let SlotFollows : ℕ → Type 0 = λ n. Follows (record { slot = n; scheduled = seen_in n v.items }) messages air in
     let Same : PlanState → Type 0 = λ p. Follows p messages air in
     let Choice : List Node → Type 0 = λ ns. IsChoice (seen_in c.args.slot ns) c.args.slot c.play-used.result in
-    IsChosen-next plan messages air c.play-used.result (subst Slot (sym at) c.self.invariant.sound)
+    IsChosen-next plan messages air c.play-used.result (subst Slot (sym at) c.self.invariant.plan.sound)
     (subst Choice c.as_mut_slice.ensures.value c.play-used.ensures.chosen)
     (subst SlotFollows (sym at) (subst Same (sym c.self.view_is) follows))
 
@@ -67,7 +75,7 @@ returns-clause-follows c = λ messages air follows.
     (air ++ c.play-used.result ∷ []) in
     subst P (sym (seen_written v _ _ (c.args.slot + 1) c.args.slot f c.as_mut_slice.ensures.value
     c.play-used.ensures.seen)) (Follows-next plan messages air c.play-used.result (subst Slot (sym at)
-    c.self.invariant.sound) (subst Choice c.as_mut_slice.ensures.value c.play-used.ensures.chosen)
+    c.self.invariant.plan.sound) (subst Choice c.as_mut_slice.ensures.value c.play-used.ensures.chosen)
     (subst SlotFollows (sym at) (subst Same (sym c.self.view_is) follows)))
 
 pub returns-clause-messages : goal.returns-clause-messages

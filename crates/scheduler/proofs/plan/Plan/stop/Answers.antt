@@ -1,4 +1,4 @@
-use Rattle.std.proofs.Common.{◌≡◌, ◌==◌, ℕ, refl, sym, ap, subst, ◌∙◌, map, List, None}
+use Rattle.std.proofs.Common.{arith, ◌≡◌, ◌==◌, ℕ, refl, sym, ap, subst, ◌∙◌, map, List, None}
 use Rattle.std.specs.List.{All, Any}
 use Rattle.scheduler.specs.declared.scheduled.Scheduled.{Scheduled}
 use Rattle.scheduler.specs.declared.queue.Node.{Node}
@@ -8,24 +8,24 @@ use Rattle.scheduler.specs.Follows.{PlanState, Follows, messages_of, message_of,
 use Rattle.scheduler.specs.PlanSteps.{IsSound, scheduled_stopped}
 use Rattle.scheduler.specs.QueueSteps.{AreKept, AreRising, seen_in}
 use Rattle.scheduler.proofs.Followed.{IsSound-stop, Follows-stop, completed-kept, messages_of-stopped}
-use Rattle.scheduler.proofs.Planned.{plan_rising, written_all, seen_written}
+use Rattle.scheduler.proofs.Planned.{as_long, plan_rising, written_all, seen_written}
 use Rattle.scheduler.proofs.plan.Plan.stop.Goals as goal
 
 pub completed_of-completed-requires : goal.completed_of-completed-requires
 completed_of-completed-requires c =
     subst AreRising (sym c.as_slice.ensures.value) (plan_rising c.self.inside.slot c.self.inside.nodes.items
-    c.self.invariant)
+    c.self.invariant.plan)
 
 pub stop_at-requires-clause-kept : goal.stop_at-requires-clause-kept
 stop_at-requires-clause-kept c =
     let at = c.requires.at_next ∙ ap next_slot (sym c.self.view_is) in
     let Slot : ℕ → Type 0 = λ n. AreKept n c.self.inside.nodes.items in
-    subst (AreKept c.args.slot) (sym c.as_mut_slice.ensures.value) (subst Slot (sym at) c.self.invariant.kept)
+    subst (AreKept c.args.slot) (sym c.as_mut_slice.ensures.value) (subst Slot (sym at) c.self.invariant.plan.kept)
 
 pub stop_at-requires-clause-rising : goal.stop_at-requires-clause-rising
 stop_at-requires-clause-rising c =
     subst AreRising (sym c.as_mut_slice.ensures.value) (plan_rising c.self.inside.slot c.self.inside.nodes.items
-    c.self.invariant)
+    c.self.invariant.plan)
 
 pub invariant_of-self : goal.invariant_of-self
 invariant_of-self c =
@@ -37,11 +37,14 @@ invariant_of-self c =
     let Slot : ℕ → Type 0 = λ n. IsSound (record { slot = n; scheduled = seen_in n v.items }) in
     let P : List Scheduled → Type 0 = λ ts. IsSound (record { slot = c.args.slot; scheduled = ts }) in
     rw (← at) record {
-      sound = subst P (sym over) (IsSound-stop plan c.args.entry c.args.slot (subst Slot (sym at)
-          c.self.invariant.sound));
-      kept = subst (AreKept c.args.slot) (sym (written_all v _ _ c.args.slot c.args.slot
-          (λ (t : Scheduled). scheduled_stopped (t.item.entry == c.args.entry) c.args.slot t)
-          c.as_mut_slice.ensures.value c.stop_at.ensures.seen)) c.stop_at.ensures.kept;
+      plan = record {
+        sound = subst P (sym over) (IsSound-stop plan c.args.entry c.args.slot (subst Slot (sym at)
+            c.self.invariant.plan.sound));
+        kept = subst (AreKept c.args.slot) (sym (written_all v _ _ c.args.slot c.args.slot
+            (λ (t : Scheduled). scheduled_stopped (t.item.entry == c.args.entry) c.args.slot t)
+            c.as_mut_slice.ensures.value c.stop_at.ensures.seen)) c.stop_at.ensures.kept;
+      };
+      room = omega (arith, c.self.invariant.room, as_long v c.stop_at.new.nodes);
     }
 
 pub returns-clause-completed : goal.returns-clause-completed
@@ -76,7 +79,7 @@ returns-clause-follows c = λ messages air follows.
     let back = sym c.self.view_is in
     rw (← at) (subst P (sym over) (Follows-stop plan c.args.entry c.args.slot messages air refl
     (subst SlotStanding (sym at) (subst Standing back c.requires.standing)) (subst Slot (sym at)
-    c.self.invariant.sound) (subst SlotFollows (sym at) (subst Same back follows))))
+    c.self.invariant.plan.sound) (subst SlotFollows (sym at) (subst Same back follows))))
 
 pub returns-clause-messages : goal.returns-clause-messages
 returns-clause-messages c =

@@ -1,0 +1,125 @@
+//! Books, the sessions of their parts at a desk, and what a check says of them.
+
+ghost use Rattle.std.specs.Prelude.{◌≡◌, ◌<◌, ◌≤◌, length, All, IfOk, OnOk};
+ghost use Rattle.session_check.specs.Checked.{HasRightNumbers};
+ghost use Rattle.session_check.specs.NotedSteps.{cells_of};
+
+use alert_book::{Book, Session, read_book};
+use bsc_table::CellRecord;
+use device_ends::Source;
+use device_ends::memory::MemoryReader;
+use order_desk::{Desk, Open, Pass, SettleFault, cells_ok};
+use session_check::check_sessions;
+use std::alloc::Global;
+use std::sync::Wait;
+use std::test::Fail;
+
+/// The book of these rows.
+pub fn book_of<T: AllocGlobal>(rt: &T, rows: &str) -> Result<Book, Fail> {
+    let mut reader = MemoryReader::new(rows.as_bytes(), 64, None);
+    let mut source = Source::new(&mut reader);
+    match read_book(rt, &mut source) {
+        Ok(book) => Ok(book),
+        Err(fault) => Err(Fail::new(fault)),
+    }
+}
+
+/// A desk of a book's cells.
+pub fn opened(alloc: Global, book: &Book, slots: u16) -> Result<Desk, Fail>
+    ensures { IfOk result (λ desk. desk.cells ≡ book.now.cells) }
+{
+    let cells = book.cells();
+    if !cells_ok(cells) {
+        return Err(Fail::new("these cells are of no desk"));
+    }
+    match Desk::open(alloc, cells, slots) {
+        Ok(desk) => Ok(desk),
+        Err(fault) => Err(Fail::new(fault)),
+    }
+}
+
+/// Has a desk carry out an order.
+pub fn reply_to<T: AllocGlobal + Wait>(
+    rt: &T,
+    desk: &Desk,
+    pass: &mut Pass,
+    at: u16,
+    octets: &[u8],
+) -> Result<Vec<u8>, Fail> {
+    match desk.order(rt, rt.alloc(), pass, at, octets, &Open) {
+        Ok(reply) => Ok(reply),
+        Err(fault) => Err(Fail::new(fault)),
+    }
+}
+
+/// Serves the session of a part at a desk, each message `late` slots after its own, and returns its pass and how many
+/// messages there were.
+pub fn served<T: AllocGlobal + Wait>(
+    rt: &T,
+    book: &Book,
+    part: u16,
+    parts: u16,
+    desk: &Desk,
+    late: u16,
+) -> Result<(Pass, u16), Fail>
+    requires { part < parts }
+{
+    let mut pass = desk.pass();
+    let mut session = Session::new(rt.alloc(), book, part, parts)?;
+    let mut next = session.next(None)?;
+    for messages in 0..100_u16 {
+        let Some((at, octets)) = next else {
+            return Ok((pass, messages));
+        };
+        let reply = reply_to(rt, desk, &mut pass, at.saturating_add(late), &octets)?;
+        next = session.next(Some(&reply))?;
+    }
+    Err(Fail::new("the session has too many messages"))
+}
+
+/// A list of two passes.
+pub fn two(alloc: Global, first: Pass, second: Pass) -> Result<Vec<Pass>, Fail> {
+    let mut passes = Vec::with_capacity(alloc, 3)?;
+    passes.push(first)?;
+    passes.push(second)?;
+    Ok(passes)
+}
+
+/// A list of three passes.
+pub fn three(alloc: Global, first: Pass, second: Pass, third: Pass) -> Result<Vec<Pass>, Fail> {
+    let mut passes = two(alloc, first, second)?;
+    passes.push(third)?;
+    Ok(passes)
+}
+
+/// The records of a desk that is settled with passes.
+pub fn settled(alloc: Global, desk: Desk, passes: &[Pass]) -> Result<Vec<CellRecord>, Fail>
+    ensures cells { IfOk result (λ records. cells_of records.items ≡ desk.cells) }
+    ensures agree { IfOk result (λ records. All (HasRightNumbers passes.now) records.items) }
+{
+    let closed = match desk.close() {
+        Ok(closed) => closed,
+        Err(fault) => return Err(Fail::new(fault)),
+    };
+    match closed.settle(alloc, passes) {
+        Ok(records) => Ok(records),
+        Err(fault) => Err(Fail::new(fault)),
+    }
+}
+
+/// What the check says of the sessions of a book's parts, once their desk is settled with the passes.
+pub fn checked(
+    alloc: Global,
+    book: &Book,
+    parts: u16,
+    desk: Desk,
+    passes: &[Pass],
+) -> Result<Result<(), SettleFault>, Fail>
+    requires { desk.cells ≡ book.now.cells }
+{
+    if passes.len() < usize::from(parts) {
+        return Err(Fail::new("there are too few passes"));
+    }
+    let records = settled(alloc, desk, passes)?;
+    Ok(check_sessions(alloc, book, parts, &records, passes))
+}
