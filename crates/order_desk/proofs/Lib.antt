@@ -10,3 +10,5 @@ pub mod Walked
 pub mod Tallied
 pub mod Judged
 pub mod SameEntry
+pub mod OwnNotes
+pub mod SortedNotes

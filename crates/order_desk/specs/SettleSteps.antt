@@ -1,8 +1,9 @@
 -- Steps of a settlement (own). The contracts of private functions alone speak of them.
 use Rattle.std.specs.Prelude.{◌≡◌, ⊤, ℕ, ◌<◌, ◌≤◌, Bool, true, false, min, Option, Some, None}
-use Rattle.std.specs.Prelude.{List, [], ◌∷◌, ◌++◌, length, filter, slice_index_or, All}
+use Rattle.std.specs.Prelude.{List, [], ◌∷◌, ◌++◌, length, filter, map, slice_index_or, All}
 use Rattle.std.specs.List.{slice_get}
 use Rattle.cbsp_wire.specs.declared.message.Cell.{Cell}
+use Rattle.cbsp_wire.specs.Range.{is_cell}
 use Rattle.bsc_table.specs.declared.entry.Entry.{Entry}
 use Rattle.bsc_table.specs.Record.{Record}
 use Rattle.order_desk.specs.declared.note.Note.{Note}
@@ -49,6 +50,24 @@ pub record IsNext (walk : Walk) (log : List Entry) (k : ℕ) (entry : Entry) : T
   pub rises : walk.floor ≤ k
   pub follows : walk.reached ≤ entry.slot
   pub stands : slice_get log k ≡ Some entry
+
+-- whether a note is of this cell
+abbrev pub is_note_of : Cell → Note → Bool
+is_note_of cell note = is_cell cell (cell_of note)
+
+-- of each pass its notes of a cell, in its order
+abbrev pub own_notes : Cell → List (List Note) → List (List Note)
+own_notes cell passes = map (filter (is_note_of cell)) passes
+
+-- each of some cells has its own notes, in its place
+pub record AreSorted (cells : List Cell) (passes : List (List Note)) (sorted : List (List (List Note))) : Type 0 where
+  pub places : length sorted ≡ length cells
+  pub own : (place : ℕ) (default : Cell) → place < length cells
+      → slice_index_or sorted place [] ≡ own_notes (slice_index_or cells place default) passes
+
+-- a book is this cell's
+abbrev pub IsOfCell : Cell → Record → Type 0
+IsOfCell cell r = r.cell ≡ cell
 
 -- the first note of a pass that is of no cell of the desk, as its cell and number
 abbrev pub IsForeignIn : List Cell → List Note → Option (Cell × ℕ) → Type 0

@@ -15,9 +15,11 @@ mod held;
 mod laws;
 pub mod note;
 mod order;
+mod own;
 mod placed;
 mod reply;
 pub mod settle;
+mod sorted;
 mod times;
 
 pub use cells::cells_ok;

@@ -10,7 +10,8 @@ ghost use Rattle.order_desk.specs.Agreement.{AreInPlaceAt};
 ghost use Rattle.order_desk.specs.SettleSteps.{HasWalked, IsFirstNot, IsNext, lesser};
 
 use crate::cells::is_cell;
-use crate::note::{Note, Pass};
+use crate::note::Note;
+use crate::own::Own;
 use bsc_table::Entry;
 use cbsp_wire::Cell;
 
@@ -115,27 +116,27 @@ impl Walk {
 }
 
 /// The least number of which an entry of the cell, that the pass noted at it, isn't in its place.
-fn least_misplaced_in(cell: Cell, log: &[Entry], notes: &[Note]) -> Option<u16>
-    ensures { IsFirstNot (λ k. AreInPlaceAt cell log.now k [] notes.now) result }
+fn least_misplaced_in(cell: Cell, log: &[Entry], own: &Own) -> Option<u16>
+    ensures { IsFirstNot (λ k. AreInPlaceAt cell log.now k [] own.now) result }
 {
     let mut walk = Walk {
         floor: 0,
         reached: 0,
         least: None,
     };
-    for note in notes {
-        walk = walk.past(cell, log, note);
+    for place in 0..own.len() {
+        walk = walk.past(cell, log, own.note(place));
     }
     walk.least
 }
 
 /// The least number of which an entry of the cell, that a pass noted at it, isn't in its place.
-pub(crate) fn least_misplaced(cell: Cell, log: &[Entry], passes: &[Pass]) -> Option<u16>
+pub(crate) fn least_misplaced(cell: Cell, log: &[Entry], passes: &[Own]) -> Option<u16>
     ensures { IsFirstNot (λ k. All (AreInPlaceAt cell log.now k []) passes.now) result }
 {
     let mut least = None;
-    for pass in passes {
-        least = lesser(least, least_misplaced_in(cell, log, pass.notes()));
+    for own in passes {
+        least = lesser(least, least_misplaced_in(cell, log, own));
     }
     least
 }

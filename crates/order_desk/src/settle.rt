@@ -6,17 +6,19 @@ ghost use Rattle.std.specs.Prelude.{IfOk, IfErr, IfSome, IsOk, IsTrue, ◌↔◌
 ghost use Rattle.std.specs.List.{AllZip, list_all, list_any};
 ghost use Rattle.std.specs.Option.{MatchOption};
 ghost use Rattle.cbsp_wire.specs.declared.message.Cell.{Cell};
-ghost use Rattle.cbsp_wire.specs.Range.{cells_are_valid};
+ghost use Rattle.cbsp_wire.specs.Range.{are_distinct, cells_are_valid};
 ghost use Rattle.order_desk.specs.declared.settle.SettleFault.TheVariants as faults;
 ghost use Rattle.order_desk.specs.Agreement.{Agrees, IsRightNumber, IsRightSlot, is_ended, is_full_of};
 ghost use Rattle.order_desk.specs.Settled.{AreOwn, IsBookOf, IsFault, IsFirstForeign, IsFirstWrong, IsPlayedOut};
 ghost use Rattle.order_desk.specs.Settled.{IsSettled, ClosedDesk, cell_of, is_of, number_of};
-ghost use Rattle.order_desk.specs.SettleSteps.{IsFirstJudged, IsFirstNot, IsForeignIn, IsStrangeBy};
+ghost use Rattle.order_desk.specs.SettleSteps.{IsFirstJudged, IsFirstNot, IsForeignIn, IsOfCell, IsStrangeBy};
 
 use crate::cells::{is_cell, stands_in};
 use crate::closed::Closed;
 use crate::note::{Note, Pass};
+use crate::own::Own;
 use crate::placed::{least_misplaced, lesser};
+use crate::sorted::{cell_of, sorted_notes};
 use crate::times::{Kind, least_not_once};
 use bsc_table::{CellBook, CellRecord, Entry};
 use cbsp_wire::Cell;
@@ -70,15 +72,6 @@ impl<T: Drop> From<AllocFailed<T>> for SettleFault {
 
     fn from(_error: AllocFailed<T>) -> SettleFault {
         SettleFault::Refused
-    }
-}
-
-/// The cell of a note.
-fn cell_of(note: &Note) -> Cell
-    ensures { result ≡ cell_of note.now }
-{
-    match note {
-        Note::Event { cell, .. } | Note::Played { cell, .. } | Note::Full { cell } => *cell,
     }
 }
 
@@ -139,37 +132,45 @@ fn is_ended(cell: Cell, slot: u16, note: &Note) -> bool
 }
 
 /// Whether one of these notes says that the cell's log was full.
-fn note_full(cell: Cell, notes: &[Note]) -> bool
-    ensures { result ≡ list_any (is_full_of cell) notes.now }
+fn note_full(cell: Cell, own: &Own) -> bool
+    ensures { result ≡ list_any (is_full_of cell) own.now }
 {
-    notes.iter().any(|note| is_full(cell, note))
+    for place in 0..own.len() {
+        if is_full(cell, own.note(place)) {
+            return true;
+        }
+    }
+    false
 }
 
 /// Whether a pass notes that the cell's log was full.
-fn was_full(cell: Cell, passes: &[Pass]) -> bool
+fn was_full(cell: Cell, passes: &[Own]) -> bool
     ensures { result ≡ list_any (list_any (is_full_of cell)) passes.now }
 {
-    passes.iter().any(|pass| note_full(cell, pass.notes()))
+    passes.iter().any(|own| note_full(cell, own))
 }
 
 /// Whether none of these notes is of a range of the cell's played slots that ends after a slot.
-fn are_ended(cell: Cell, slot: u16, notes: &[Note]) -> bool
-    ensures { result ≡ list_all (is_ended cell slot) notes.now }
+fn are_ended(cell: Cell, slot: u16, own: &Own) -> bool
+    ensures { result ≡ list_all (is_ended cell slot) own.now }
 {
-    notes.iter().all(|note| is_ended(cell, slot, note))
+    for place in 0..own.len() {
+        if !is_ended(cell, slot, own.note(place)) {
+            return false;
+        }
+    }
+    true
 }
 
 /// Whether no noted range of the cell's played slots ends after a slot.
-fn all_ended(cell: Cell, slot: u16, passes: &[Pass]) -> bool
+fn all_ended(cell: Cell, slot: u16, passes: &[Own]) -> bool
     ensures { result ≡ list_all (list_all (is_ended cell slot)) passes.now }
 {
-    passes
-        .iter()
-        .all(|pass| are_ended(cell, slot, pass.notes()))
+    passes.iter().all(|own| are_ended(cell, slot, own))
 }
 
 /// The number 4,096 if a pass notes that the cell's log was full, and it has fewer entries.
-fn first_not_full(cell: Cell, entries: u16, passes: &[Pass]) -> Option<u16>
+fn first_not_full(cell: Cell, entries: u16, passes: &[Own]) -> Option<u16>
     ensures { IsFirstNot (λ k. k ≡ 4096 → list_any (list_any (is_full_of cell)) passes.now ≡ true → 4096 ≤ entries)
         result }
 {
@@ -185,7 +186,7 @@ fn first_strange(
     alloc: Global,
     cell: Cell,
     log: &[Entry],
-    passes: &[Pass],
+    passes: &[Own],
 ) -> Result<Option<u16>, AllocError>
     requires { length log.now ≤ 4096 }
     ensures { IfOk result (IsFirstNot (IsRightNumber cell log.now passes.now)) }
@@ -198,7 +199,7 @@ fn first_strange(
 }
 
 /// The clock if a noted range of the cell's played slots ends after it.
-fn first_late(cell: Cell, clock: u16, passes: &[Pass]) -> Option<u16>
+fn first_late(cell: Cell, clock: u16, passes: &[Own]) -> Option<u16>
     ensures { IsFirstNot (λ slot. clock ≤ slot → list_all (list_all (is_ended cell slot)) passes.now ≡ true) result }
 {
     if all_ended(cell, clock, passes) {
@@ -213,7 +214,7 @@ fn first_overlap(
     alloc: Global,
     cell: Cell,
     clock: u16,
-    passes: &[Pass],
+    passes: &[Own],
 ) -> Result<Option<u16>, AllocError>
     ensures { IfOk result (IsFirstNot (IsRightSlot cell clock passes.now)) }
 {
@@ -223,7 +224,7 @@ fn first_overlap(
 }
 
 /// Compares what was noted of a cell with its book.
-fn judge(alloc: Global, book: &CellBook, passes: &[Pass]) -> Result<(), SettleFault>
+fn judge(alloc: Global, book: &CellBook, passes: &[Own]) -> Result<(), SettleFault>
     ensures ok { IsOk result → Agrees passes.now book.now }
     ensures err { IfErr result (λ fault. fault ≢ faults.Refused → IsStrangeBy passes.now book.now fault) }
 {
@@ -280,14 +281,24 @@ fn records_of(alloc: Global, books: Vec<CellBook>) -> Result<Vec<CellRecord>, Se
     Ok(records)
 }
 
-/// Compares what was noted with each book, in order.
-fn judge_all(alloc: Global, books: &[CellBook], passes: &[Pass]) -> Result<(), SettleFault>
+/// Compares what was noted with each book, in order. It sorts the notes by cell before, so that it walks over all of
+/// them once, and over those of a cell for this cell alone.
+fn judge_all(
+    alloc: Global,
+    cells: &[Cell],
+    books: &[CellBook],
+    passes: &[Pass],
+) -> Result<(), SettleFault>
+    requires distinct { are_distinct cells.now ≡ true }
+    requires right { AllZip IsOfCell cells.now books.now }
     ensures ok { IsOk result → All (Agrees passes.now) books.now }
     ensures err { IfErr result (λ fault. fault ≢ faults.Refused
         → IsFirstJudged passes.now books.now fault) }
 {
-    for book in books {
-        if let Err(fault) = judge(alloc, book, passes) {
+    let sorted = sorted_notes(alloc, cells, passes)?;
+    let owns = sorted.as_slice();
+    for place in 0..books.len() {
+        if let Err(fault) = judge(alloc, &books[place], owns[place].passes()) {
             return Err(fault);
         }
     }
@@ -323,7 +334,7 @@ impl Closed {
             let number = MAX_ENTRIES;
             return Err(SettleFault::Strange { cell, number });
         }
-        judge_all(alloc, &books, passes)?;
+        judge_all(alloc, &cells, &books, passes)?;
         records_of(alloc, books)
     }
 }

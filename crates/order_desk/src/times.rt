@@ -7,7 +7,8 @@ ghost use Rattle.order_desk.specs.Agreement.{all_notes};
 ghost use Rattle.order_desk.specs.SettleSteps.{AreTimes, IsFirstNot, stands_for};
 
 use crate::cells::is_cell;
-use crate::note::{Note, Pass};
+use crate::note::Note;
+use crate::own::Own;
 use cbsp_wire::Cell;
 use std::alloc::{AllocError, Global};
 
@@ -69,24 +70,24 @@ fn count(times: &mut [u8], span: Span)
 }
 
 /// Counts what the notes of a pass stand for.
-fn count_notes(times: &mut [u8], kind: Kind, cell: Cell, notes: &[Note])
+fn count_notes(times: &mut [u8], kind: Kind, cell: Cell, own: &Own)
     ensures places { length times.new ≡ length times.old }
     ensures each { (given : List Note) → AreTimes kind cell given times.old
-        → AreTimes kind cell (given ++ notes.now) times.new }
+        → AreTimes kind cell (given ++ own.now) times.new }
 {
-    for note in notes {
-        count(times, span_of(kind, cell, note));
+    for place in 0..own.len() {
+        count(times, span_of(kind, cell, own.note(place)));
     }
 }
 
 /// Counts what the notes of passes stand for.
-fn count_passes(times: &mut [u8], kind: Kind, cell: Cell, passes: &[Pass])
+fn count_passes(times: &mut [u8], kind: Kind, cell: Cell, passes: &[Own])
     requires { AreTimes kind cell [] times.old }
     ensures places { length times.new ≡ length times.old }
     ensures each { AreTimes kind cell (all_notes passes.now) times.new }
 {
-    for pass in passes {
-        count_notes(times, kind, cell, pass.notes());
+    for own in passes {
+        count_notes(times, kind, cell, own);
     }
 }
 
@@ -103,7 +104,7 @@ fn times_of(
     kind: Kind,
     cell: Cell,
     places: usize,
-    passes: &[Pass],
+    passes: &[Own],
 ) -> Result<Vec<u8>, AllocError>
     ensures { IfOk result (λ times. (length times.items ≡ places)
         × AreTimes kind cell (all_notes passes.now) times.items) }
@@ -119,7 +120,7 @@ pub(crate) fn least_not_once(
     kind: Kind,
     cell: Cell,
     places: u16,
-    passes: &[Pass],
+    passes: &[Own],
 ) -> Result<Option<u16>, AllocError>
     ensures { IfOk result (IsFirstNot (λ place. place < places
         → length (filter (stands_for kind cell place) (all_notes passes.now)) ≡ 1)) }

@@ -9,38 +9,35 @@ use Rattle.order_desk.proofs.Walked.{all_with, all_last}
 use Rattle.order_desk.proofs.placed.least_misplaced.Goals as goal
 
 -- src/placed.rt:130:5
-pub loop-pass-init : goal.loop-pass-init
-loop-pass-init c = λ k. All-nil (AreInPlaceAt c.args.cell c.args.log.now k [])
+pub loop-own-init : goal.loop-own-init
+loop-own-init c = λ k. All-nil (AreInPlaceAt c.args.cell c.args.log.now k [])
 
 -- src/placed.rt:130:5
-pub loop-pass-preserved : goal.loop-pass-preserved
-loop-pass-preserved c =
-    let before : List (List Note) = take c.loop-pass.pass-index c.args.passes.now in
-    let pass : List Note = c.pass-item.result in
-    let more : take (c.loop-pass.pass-index + 1) c.args.passes.now ≡ before ++ pass ∷ [] =
-    subst (λ (n : List Note). take (c.loop-pass.pass-index + 1) c.args.passes.now ≡ before ++ n ∷ [])
-    (sym c.pass-item.is) (take_more c.args.passes.now c.loop-pass.pass-index pass c.loop-pass-test.true) in
-    let of_pass : IsFirstNot (λ k. AreInPlaceAt c.args.cell c.args.log.now k [] pass) c.least_misplaced_in.result =
-    subst (λ (notes : List Note). IsFirstNot (λ k. AreInPlaceAt c.args.cell c.args.log.now k [] notes)
-    c.least_misplaced_in.result) c.notes.ensures c.least_misplaced_in.ensures in
+pub loop-own-preserved : goal.loop-own-preserved
+loop-own-preserved c =
+    let before : List (List Note) = take c.loop-own.own-index c.args.passes.now in
+    let pass : List Note = c.own-item.result in
+    let more : take (c.loop-own.own-index + 1) c.args.passes.now ≡ before ++ pass ∷ [] =
+    subst (λ (n : List Note). take (c.loop-own.own-index + 1) c.args.passes.now ≡ before ++ n ∷ [])
+    (sym c.own-item.is) (take_more c.args.passes.now c.loop-own.own-index pass c.loop-own-test.true) in
     let both : IsFirstNot (λ k. All (AreInPlaceAt c.args.cell c.args.log.now k []) (before ++ pass ∷ []))
-    (lesser c.loop-pass.least c.least_misplaced_in.result) =
+    (lesser c.loop-own.least c.least_misplaced_in.result) =
     first_same
     (λ k. All (AreInPlaceAt c.args.cell c.args.log.now k []) before × AreInPlaceAt c.args.cell c.args.log.now k [] pass)
     (λ k. All (AreInPlaceAt c.args.cell c.args.log.now k []) (before ++ pass ∷ []))
-    (lesser c.loop-pass.least c.least_misplaced_in.result)
+    (lesser c.loop-own.least c.least_misplaced_in.result)
     (λ k are. all_with (AreInPlaceAt c.args.cell c.args.log.now k []) before pass are.0 are.1)
     (λ k all. all_last (AreInPlaceAt c.args.cell c.args.log.now k []) before pass all)
     (first_of_both (λ k. All (AreInPlaceAt c.args.cell c.args.log.now k []) before)
-    (λ k. AreInPlaceAt c.args.cell c.args.log.now k [] pass) c.loop-pass.least c.least_misplaced_in.result
-    c.loop-pass.invariant of_pass) in
+    (λ k. AreInPlaceAt c.args.cell c.args.log.now k [] pass) c.loop-own.least c.least_misplaced_in.result
+    c.loop-own.invariant c.least_misplaced_in.ensures) in
     subst (λ (least : Option ℕ). IsFirstNot (λ k. All (AreInPlaceAt c.args.cell c.args.log.now k [])
-    (take (c.loop-pass.pass-index + 1) c.args.passes.now)) least) (sym c.lesser-least.ensures)
+    (take (c.loop-own.own-index + 1) c.args.passes.now)) least) (sym c.lesser-least.ensures)
     (subst (λ (passes : List (List Note)). IsFirstNot (λ k. All (AreInPlaceAt c.args.cell c.args.log.now k []) passes)
-    (lesser c.loop-pass.least c.least_misplaced_in.result)) (sym more) both)
+    (lesser c.loop-own.least c.least_misplaced_in.result)) (sym more) both)
 
 -- src/placed.rt:126:1
 pub returns : goal.returns
 returns c =
     subst (λ (passes : List (List Note)). IsFirstNot (λ k. All (AreInPlaceAt c.args.cell c.args.log.now k []) passes)
-    c.loop-pass.least) (take_all c.loop-pass.pass-index c.args.passes.now c.loop-pass-test.false) c.loop-pass.invariant
+    c.loop-own.least) (take_all c.loop-own.own-index c.args.passes.now c.loop-own-test.false) c.loop-own.invariant
