@@ -130,8 +130,8 @@ pub sorted_note : (cells : List Cell) (before : List (List Note)) (given : List 
 sorted_note cells before given note sorted place own distinct found added are = record {
   places = length-set sorted place own ∙ are.places;
   own = λ at default within. elim (cases_Bool (eqb at place)) [
-    | inl is ↦ subst (λ n. slice_index_or (slice_set sorted place own) n [] ≡ own_of n default) (sym (eqb-true at place is))
-        (here default)
+    | inl is ↦ subst (λ n. slice_index_or (slice_set sorted place own) n [] ≡ own_of n default)
+        (sym (eqb-true at place is)) (here default)
     | inr not ↦ get_or-set_other sorted place at own [] (eqb-false at place not) ∙ (are.own at default within
         ∙ sym (own_without (slice_index_or cells at default) before given note
         (elsewhere at default within (eqb-false at place not))))

@@ -1,9 +1,10 @@
-//! Orders with hardly any memory: how far one came is what its fault, its pass and the books say.
+//! Orders and settlements with hardly any memory: how far an order came is what its fault, its pass and the books say;
+//! a settlement is refused, or made.
 
 use crate::orders::*;
 use bsc_table::Answer;
 use cbsp_wire::Cell;
-use order_desk::{Closed, Desk, DeskFault, Open, Pass};
+use order_desk::{Closed, Desk, DeskFault, Open, Pass, SettleFault, cells_ok};
 use std::alloc::Global;
 use std::process::Abort;
 use std::sync::Wait;
@@ -123,5 +124,81 @@ fn an_order_stops_where_memory_ends(rt: HostRuntime) -> Result<(), Fail> {
         None => assert!(&rt; false, "no order was cut short"),
         Some(done) => expect_books(&rt, &closed(desk)?, done),
     }
+    Ok(())
+}
+
+/// How many desks are settled at most.
+const DESKS: usize = 40;
+
+/// A closed desk whose cells have answered an order, and the pass that says so.
+fn answered<T: AllocGlobal + Wait + Abort>(rt: &T, octets: &[u8]) -> Result<(Closed, Pass), Fail> {
+    let desk = opened(rt.alloc(), CELLS.as_slice(), 4)?;
+    let mut pass = desk.pass();
+    let _ = reply_to(rt, &desk, &mut pass, AT, octets)?;
+    Ok((closed(desk)?, pass))
+}
+
+/// How many records a settlement gives; None if it was refused memory.
+fn records_of<T: AllocGlobal + Abort>(rt: &T, closed: Closed, passes: &[Pass]) -> Option<usize> {
+    if closed.cells.len() != closed.books.len() || !cells_ok(&closed.cells) {
+        assert!(rt; false, "the desk has other cells or books");
+        return None;
+    }
+    match closed.settle(rt.alloc(), passes) {
+        Ok(records) => Some(records.len()),
+        Err(fault) => {
+            assert_eq!(rt; fault, SettleFault::Refused);
+            None
+        }
+    }
+}
+
+/// Settles desks, each with one more block than the one before, until one has records. It returns how many were
+/// refused, and how many records there are.
+fn settlements<T: AllocGlobal + Abort>(
+    rt: &T,
+    desks: &mut Vec<Closed>,
+    passes: &[Pass],
+    taken: &mut Vec<Vec<u8>>,
+    spare: &mut Vec<Vec<u8>>,
+) -> (usize, Option<usize>) {
+    for refused in 0..DESKS {
+        let Some(desk) = desks.pop() else {
+            return (refused, None);
+        };
+        for _ in 0..refused {
+            let _ = spare.pop();
+        }
+        let records = records_of(rt, desk, passes);
+        if records.is_some() {
+            return (refused, records);
+        }
+        take_all(rt.alloc(), taken);
+    }
+    (DESKS, None)
+}
+
+#[test]
+fn a_settlement_is_refused_where_memory_ends(rt: HostRuntime) -> Result<(), Fail> {
+    let alloc = rt.alloc();
+    let octets = write_to(alloc, standing(4370, 0x0010, 2), CELLS.as_slice())?;
+    let (first, pass) = answered(&rt, &octets)?;
+    let mut passes = Vec::new(alloc);
+    passes.push(pass)?;
+    let mut desks = Vec::new(alloc);
+    desks.push(first)?;
+    for _ in 1..DESKS {
+        desks.push(answered(&rt, &octets)?.0)?;
+    }
+    let mut spare: Vec<Vec<u8>> = Vec::with_capacity(alloc, 800)?;
+    for _ in 0..800 {
+        spare.push(Vec::with_capacity(alloc, BLOCK)?)?;
+    }
+    let mut taken = Vec::with_capacity(alloc, 200_000)?;
+    take_all(alloc, &mut taken);
+    let (refused, records) = settlements(&rt, &mut desks, &passes, &mut taken, &mut spare);
+    taken.clear();
+    assert!(&rt; refused > 4);
+    assert_eq!(&rt; records, Some(CELLS.len()));
     Ok(())
 }

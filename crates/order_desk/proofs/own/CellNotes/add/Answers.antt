@@ -12,8 +12,8 @@ returns c = λ _ before last is.
     c.in_ok-push.ensures refl ∙ ap (λ (own : List Note). own ++ c.args.note.now ∷ [])
     (c.index_mut.ensures.value ∙ get_last c.self.inside.passes.items before (c.len-passes.result - 1) last _ items
     (at before last items)) in
-    set_last c.self.inside.passes.items before (c.len-passes.result - 1) last c.push.new.self items (at before last items)
-    ∙ ap (λ (own : List Note). before ++ own ∷ []) pushed
+    set_last c.self.inside.passes.items before (c.len-passes.result - 1) last c.push.new.self items
+    (at before last items) ∙ ap (λ (own : List Note). before ++ own ∷ []) pushed
   where
     at : (before : List (List Note)) (last : List Note) → c.self.inside.passes.items ≡ before ++ last ∷ []
         → c.len-passes.result - 1 ≡ length before
