@@ -1,0 +1,4 @@
+pub mod Numbers
+pub mod Drawn
+pub mod Putting
+pub mod Gathering

@@ -1,0 +1,17 @@
+use Rattle.std.proofs.Common.{◌≡◌, ◌-◌, All}
+use Rattle.tickets.specs.Draws.{IsSeatOf}
+use Rattle.parallel_compile.specs.Gathered.{numbers_of}
+use Rattle.parallel_compile.specs.Workers.{IsPieceOf}
+use Rattle.parallel_compile.proofs.Drawn.{above}
+use Rattle.parallel_compile.proofs.work.draw_all.Given as goal
+
+abbrev pub invariant-loop-index : goal.invariant-loop-index
+invariant-loop-index g l = record {
+  of : IsSeatOf l.counter l.seat;
+  parts : l.seat.parts ≡ 1;
+  drawn : numbers_of l.pieces.items ≡ l.seat.drawn;
+  made : All (IsPieceOf l.records) l.pieces.items;
+}
+
+abbrev pub decreases-loop-index : goal.decreases-loop-index
+decreases-loop-index g l = l.counter.limit - above l.seat.drawn

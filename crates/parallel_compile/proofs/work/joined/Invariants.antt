@@ -1,0 +1,14 @@
+use Rattle.std.proofs.Common.{◌≡◌, ◌+◌, ◌<◌, All, length, true}
+use Rattle.tickets.specs.Draws.{IsSeatOf}
+use Rattle.parallel_compile.specs.Gathered.{numbers_of}
+use Rattle.parallel_compile.specs.Workers.{IsPieceOf}
+use Rattle.parallel_compile.proofs.work.joined.Given as goal
+
+abbrev pub invariant-loop-work : goal.invariant-loop-work
+invariant-loop-work l = record {
+  of : IsSeatOf l.counter l.seat;
+  parts : l.seat.parts + length l.fn.works.items ≡ 65 + length l.yielded;
+  over : 0 < length l.yielded → l.seat.over ≡ true;
+  drawn : numbers_of l.pieces.items ≡ l.seat.drawn;
+  made : All (IsPieceOf l.records) l.pieces.items;
+}

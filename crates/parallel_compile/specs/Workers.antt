@@ -1,0 +1,33 @@
+-- What workers do, and which fault so many of them meet.
+use Rattle.std.specs.Prelude.{◌≡◌, ◌<◌, ◌≤◌, ◌+◌, ◌⊎◌, ℕ, Bool, List, [], All, map}
+use Rattle.cbch_blocks.specs.RecordBlocks.{tape_of_record}
+use Rattle.bsc_table.specs.Record.{Record}
+use Rattle.tickets.specs.Draws.{CounterState, SeatState, IsSeatOf}
+use Rattle.parallel_compile.specs.Gathered.{numbers_of, StandsIn}
+use Rattle.parallel_compile.specs.declared.fault.CompileFault.{CompileFault}
+use Rattle.parallel_compile.specs.declared.fault.CompileFault.TheVariants as fault
+
+-- a fault of a call with so many workers
+abbrev pub IsOfWorkers : ℕ → CompileFault → Type 0
+IsOfWorkers workers fault.Workers = (workers ≡ 0) ⊎ (64 < workers)
+IsOfWorkers workers fault.Refused = (0 < workers) × (workers ≤ 64)
+IsOfWorkers workers (fault.Piece index) = ⊥
+
+-- the piece's tape is that of the record with its number
+abbrev pub IsPieceOf : List Record → (ℕ × List ℕ) → Type 0
+IsPieceOf records piece = StandsIn (map tape_of_record records) piece
+
+-- a counter's first seat after so many splits
+abbrev pub IsSplit : CounterState → ℕ → SeatState → Type 0
+IsSplit counter splits seat =
+    IsSeatOf counter seat × (seat.parts + splits ≡ 65) × (seat.spare + splits ≡ 64) × (seat.drawn ≡ [])
+
+-- A seat with so many of the counter's parts, and the pieces that were made by it: of each number that it drew, in
+-- order.
+pub record IsDone (counter : CounterState) (records : List Record) (parts : ℕ) (over : Bool) (seat : SeatState)
+    (pieces : List (ℕ × List ℕ)) : Type 0 where
+  pub of : IsSeatOf counter seat
+  pub parts_are : seat.parts ≡ parts
+  pub over_is : seat.over ≡ over
+  pub drawn : numbers_of pieces ≡ seat.drawn
+  pub made : All (IsPieceOf records) pieces

@@ -1,0 +1,56 @@
+//! Why there are no tapes.
+
+ghost use Rattle.std.specs.Prelude.{◌≡◌};
+ghost use Rattle.parallel_compile.specs.declared.fault.CompileFault.TheVariants as faults;
+
+use std::alloc::{AllocError, AllocFailed};
+use thiserror::Error;
+
+/// Why there are no tapes.
+#[derive(Clone, Copy, Debug, PartialEq, Eq, Error)]
+pub enum CompileFault {
+    /// The number of workers isn't 1 to 64.
+    #[error("piece failed")]
+    Workers,
+    /// There was no memory.
+    #[error("out of memory")]
+    Refused,
+    /// The pieces aren't one for each place.
+    #[error("piece failed")]
+    Piece {
+        /// The least number that is missing, that two pieces have, or that is no place's.
+        index: u64,
+    },
+}
+
+impl From<AllocError> for CompileFault {
+    ghost from_gives = { λ _ fault. fault ≡ faults.Refused };
+
+    fn from(_error: AllocError) -> CompileFault {
+        CompileFault::Refused
+    }
+}
+
+impl<T: Drop> From<AllocFailed<T>> for CompileFault {
+    ghost from_gives = { λ _ fault. fault ≡ faults.Refused };
+
+    fn from(_error: AllocFailed<T>) -> CompileFault {
+        CompileFault::Refused
+    }
+}
+
+impl From<cbch_blocks::Refused> for CompileFault {
+    ghost from_gives = { λ _ fault. fault ≡ faults.Refused };
+
+    fn from(_error: cbch_blocks::Refused) -> CompileFault {
+        CompileFault::Refused
+    }
+}
+
+impl From<tickets::Refused> for CompileFault {
+    ghost from_gives = { λ _ fault. fault ≡ faults.Refused };
+
+    fn from(_error: tickets::Refused) -> CompileFault {
+        CompileFault::Refused
+    }
+}

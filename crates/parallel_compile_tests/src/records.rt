@@ -1,0 +1,56 @@
+//! Records of short runs, and their tapes.
+
+ghost use Rattle.std.specs.Prelude.{◌≤◌, IfOk, length};
+
+use bsc_table::{Answer, Category, CellBook, CellRecord, Command};
+use cbch_blocks::{Tape, tape_of};
+use cbs_page::{Content, Dcs, Serial};
+use cbsp_wire::{Cell, Contents};
+use std::alloc::Global;
+use std::process::Abort;
+use std::test::Fail;
+
+/// The record of a run, once all its slots are played.
+fn played_out(mut book: CellBook) -> CellRecord {
+    book.play(u16::MAX);
+    book.finish()
+}
+
+/// The record of a run of a cell of location area 1 in which nothing is asked.
+pub fn idle(alloc: Global, ci: u16, slots: u16) -> Result<CellRecord, Fail> {
+    Ok(played_out(CellBook::open(alloc, Cell { lac: 1, ci }, slots)?))
+}
+
+/// The record of five slots of cell 1-3, which airs one page in every second slot.
+pub fn airing(rt: &impl Abort, alloc: Global) -> Result<CellRecord, Fail> {
+    let page = Content {
+        used: 82,
+        octets: [0xA1; 82],
+    };
+    let write = Command::Write {
+        id: 4370,
+        serial: Serial::of(0x0010),
+        replaces: None,
+        category: Category::Normal,
+        period: 2,
+        broadcasts: 0,
+        dcs: Dcs(0x01),
+        contents: Contents::new(Vec::from_slice(alloc, [page].as_slice())?)?,
+    };
+    let mut book = CellBook::open(alloc, Cell { lac: 1, ci: 3 }, 5)?;
+    assert_eq!(rt; book.apply(&write), Answer::Started { slot: 0 });
+    Ok(played_out(book))
+}
+
+/// The tape of an idle cell of two slots.
+pub fn tape_with(alloc: Global, ci: u16) -> Result<Tape, Fail> {
+    Ok(tape_of(alloc, &idle(alloc, ci, 2)?)?)
+}
+
+/// Expects tapes of these octets, and no more.
+pub fn expect_same<T: Abort>(rt: &T, tapes: &[Tape], wanted: &[Tape]) {
+    assert_eq!(rt; tapes.len(), wanted.len());
+    for (tape, other) in tapes.iter().zip(wanted) {
+        assert_eq!(rt; tape.bytes(), other.bytes());
+    }
+}
