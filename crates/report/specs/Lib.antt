@@ -1,0 +1,4 @@
+pub mod Rows
+pub mod ReportText
+pub mod RowSteps
+pub mod TextSteps

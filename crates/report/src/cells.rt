@@ -1,0 +1,76 @@
+//! The rows of all cells.
+
+ghost use Rattle.std.specs.Prelude.{◌≡◌, ◌↔◌, ◌≢◌, ◌++◌, map, IfErr, IfOk, IsErrOf, IsTrue, OnOk, length};
+ghost use Rattle.handset.specs.Tape.{readings_of};
+ghost use Rattle.report.specs.Rows.{AreOfOneCells, rows_of};
+
+use crate::cell::push_cell;
+use crate::fault::ReportFault;
+use crate::row::Row;
+use bsc_table::CellRecord;
+use handset::Reading;
+use std::alloc::{AllocError, Global};
+
+/// Whether the readings are of the same cells as the records, in the same order.
+fn are_of_one_cells(records: &[CellRecord], readings: &[Reading]) -> bool
+    ensures { IsTrue result ↔ AreOfOneCells records.now (readings_of readings.now) }
+{
+    if records.len() != readings.len() {
+        return false;
+    }
+    for (place, record) in records.iter().enumerate() {
+        if record.cell() != readings[place].cell {
+            return false;
+        }
+    }
+    true
+}
+
+/// The rows of cells, of which there are as many records as readings. The only error is that memory was refused.
+fn all_rows(
+    alloc: Global,
+    records: &[CellRecord],
+    readings: &[Reading],
+) -> Result<Vec<Row>, AllocError>
+    requires { length records.now ≡ length readings.now }
+    ensures { IfOk result (λ rows. rows.items ≡ rows_of records.now (readings_of readings.now)) }
+{
+    let mut rows = Vec::new(alloc);
+    for (place, record) in records.iter().enumerate() {
+        push_cell(alloc, &mut rows, record, &readings[place])?;
+    }
+    Ok(rows)
+}
+
+/// The rows of a report: of each cell, by its record and what a handset read of its blocks, the accepted messages and
+/// the writes and kills that were refused, in the order of the cell's log.
+///
+/// Takes time in proportion to the entries, the slots and the messages that are shown.
+///
+/// # Errors
+///
+/// Returns [`ReportFault::Cells`] exactly if the readings aren't of the same cells as the records in the same order,
+/// and [`ReportFault::Refused`] if memory was refused.
+pub fn rows(
+    alloc: Global,
+    records: &[CellRecord],
+    readings: &[Reading],
+) -> Result<Vec<Row>, ReportFault>
+    // What the records and the readings say, and nothing else.
+    ensures rows { IfOk result (λ rows. rows.items ≡ rows_of records.now (readings_of readings.now)) }
+
+    // The cells are compared before anything else.
+    ensures cells { IsErrOf result ReportFault.Cells ↔ ¬ AreOfOneCells records.now (readings_of readings.now) }
+    ensures same_cells { OnOk result (AreOfOneCells records.now (readings_of readings.now)) }
+
+    // Nothing is written here.
+    ensures faults { IfErr result (λ fault. fault ≢ ReportFault.WriteFailed) }
+{
+    if !are_of_one_cells(records, readings) {
+        return Err(ReportFault::Cells);
+    }
+    match all_rows(alloc, records, readings) {
+        Ok(rows) => Ok(rows),
+        Err(AllocError) => Err(ReportFault::Refused),
+    }
+}

@@ -1,0 +1,20 @@
+//! The report of a run: what became of each warning in each cell, as rows and as CSV.
+//!
+//! [`rows`] makes the rows of the cells' records and of what handsets read of their blocks, [`write_report`] writes
+//! them. `specs/Rows.antt` says which rows these are, `specs/ReportText.antt` which octets.
+#![tactic(auto)]
+
+mod cell;
+mod cells;
+mod fault;
+mod last_pages;
+mod names;
+mod output;
+mod row;
+mod stops;
+mod table;
+
+pub use cells::rows;
+pub use fault::ReportFault;
+pub use output::write_report;
+pub use row::{Row, Showing};

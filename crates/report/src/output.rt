@@ -1,0 +1,61 @@
+//! A report, written.
+
+ghost use Rattle.std.specs.Prelude.{◌≡◌, ◌≢◌, ◌↔◌, true, IfErr, IfOk, IsErrOf, IsTrue, OnOk};
+ghost use Rattle.std.specs.Io.KnownBytes.{Appends, Keeps};
+ghost use Rattle.device_ends.specs.Moves.{AppendsFront};
+ghost use Rattle.device_ends.specs.Sink.{sink_failed, writer_of};
+ghost use Rattle.report.specs.ReportText.{report_text};
+
+use crate::fault::ReportFault;
+use crate::row::Row;
+use crate::table::Table;
+use device_ends::{Failed, Sink, write_all};
+use std::alloc::{AllocError, Global};
+use std::io::Write;
+
+/// The text of a report of these rows. The only error is that memory was refused.
+fn text_of(alloc: Global, rows: &[Row]) -> Result<Vec<u8>, AllocError>
+    ensures { IfOk result (λ octets. octets.items ≡ report_text rows.now) }
+{
+    let mut table = Table::new(alloc)?;
+    for row in rows {
+        table.push(row)?;
+    }
+    table.into_octets()
+}
+
+/// Writes a report of these rows as CSV: a line of the columns' names, and a line for each row, in order. Nothing is
+/// written before all of it is made.
+///
+/// # Errors
+///
+/// Returns [`ReportFault::WriteFailed`] exactly if the sink has failed, now or earlier, after which a front of the
+/// text may be out, and [`ReportFault::Refused`] if memory was refused, after which nothing is.
+pub fn write_report<W: Write>(
+    alloc: Global,
+    rows: &[Row],
+    sink: &mut Sink<W>,
+) -> Result<(), ReportFault>
+    ensures ok { OnOk result (Appends (W.contents (writer_of sink.old)) (W.contents (writer_of sink.new))
+        (report_text rows.now)) }
+    ensures front { IsErrOf result ReportFault.WriteFailed
+        → AppendsFront (W.contents (writer_of sink.old)) (W.contents (writer_of sink.new)) (report_text rows.now) }
+    ensures refused { IsErrOf result ReportFault.Refused → sink.new ≡ sink.old }
+    ensures faults { IfErr result (λ fault. fault ≢ ReportFault.Cells) }
+    ensures failed { IsErrOf result ReportFault.WriteFailed ↔ IsTrue (sink_failed sink.new) }
+
+    // A sink that had failed before is as it was.
+    ensures failed_stays { sink_failed sink.old ≡ true → sink.new ≡ sink.old }
+{
+    if sink.failed() {
+        return Err(ReportFault::WriteFailed);
+    }
+    let octets = match text_of(alloc, rows) {
+        Ok(octets) => octets,
+        Err(AllocError) => return Err(ReportFault::Refused),
+    };
+    match write_all(sink, &octets) {
+        Ok(()) => Ok(()),
+        Err(Failed) => Err(ReportFault::WriteFailed),
+    }
+}

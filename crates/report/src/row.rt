@@ -1,0 +1,37 @@
+//! A row of a report.
+
+use cbs_page::Serial;
+
+/// Whether a message is shown, or why there is none to show.
+#[derive(Clone, Copy, Debug, PartialEq, Eq)]
+pub enum Showing {
+    /// The blocks of the cell show it.
+    Yes,
+    /// They don't.
+    No,
+    /// The write or the kill was refused with this cause (3GPP TS 48.049, 8.2, Cause).
+    Refused(u8),
+}
+
+/// A row of a report: an accepted message of a cell, or a write or a kill that the cell refused.
+#[derive(Clone, Copy, Debug, PartialEq, Eq)]
+pub struct Row {
+    /// The location area code of the cell.
+    pub lac: u16,
+    /// The cell identity.
+    pub ci: u16,
+    /// The message identifier.
+    pub id: u16,
+    /// The serial number.
+    pub serial: Serial,
+    /// The slot from which the message stands, which may come after the end; of what was refused the slot of the
+    /// answer.
+    pub start: u32,
+    /// The slot from which it no longer stands: where it was stopped, where the periods of its requested broadcasts
+    /// are over, or the end of the run; of what was refused the slot of the answer.
+    pub end: u16,
+    /// How many of its broadcasts were completed in the run; 0 of what was refused.
+    pub completed: u16,
+    /// Whether the cell's blocks show it.
+    pub shown: Showing,
+}
