@@ -1,0 +1,5 @@
+pub mod StopLaws
+pub mod ListLaws
+pub mod StepLaws
+pub mod EntryRows
+pub mod CellRows

@@ -1,6 +1,6 @@
 -- Steps on the way to the rows of a cell (own). The contracts of private functions alone speak of them.
-use Rattle.std.specs.Prelude.{◌≡◌, ℕ, ◌+◌, ◌*◌, ◌==◌, ◌&&◌, Bool, true, false, if◌then◌else◌, min, Option, Some, None}
-use Rattle.std.specs.Prelude.{List, [], ◌∷◌, length, find, slice_index, slice_index_or, drop}
+use Rattle.std.specs.Prelude.{◌≡◌, ℕ, ◌+◌, ◌*◌, ◌==◌, ◌&&◌, Bool, if◌then◌else◌, min, Option, Some, None}
+use Rattle.std.specs.Prelude.{List, [], length, find, slice_index, slice_index_or, drop}
 use Rattle.std.specs.List.{flat_map, list_any, range_with_len, slice_get}
 use Rattle.std.specs.Option.{option_map, option_map_or, unwrap_or, option_to_list}
 use Rattle.std.specs.Map.{lookup}
@@ -12,11 +12,9 @@ use Rattle.bsc_table.specs.declared.command.Command.TheVariants as commands
 use Rattle.bsc_table.specs.declared.entry.Answer.{Answer}
 use Rattle.bsc_table.specs.declared.entry.Answer.TheVariants as answers
 use Rattle.bsc_table.specs.declared.entry.Entry.{Entry}
-use Rattle.bsc_table.specs.Record.{is_stop_of, start_of}
+use Rattle.bsc_table.specs.Record.{is_stop_of}
 use Rattle.handset.specs.Reception.{ShownMessage}
 use Rattle.report.specs.declared.row.Row.{Row}
-use Rattle.report.specs.declared.row.Showing.{Showing}
-use Rattle.report.specs.declared.row.Showing.TheVariants as showing
 use Rattle.report.specs.Rows.{refusal_row, showing_of, is_shown}
 
 -- how many pages a command's message has: none, unless it is a write
@@ -108,15 +106,23 @@ row_by cell slots shown stop completed slot command (answers.Replaced start othe
 row_by cell slots shown stop completed slot command (answers.Cause cause) = refused_row cell slot cause command
 row_by cell slots shown stop completed slot command answer = None
 
--- the rows of a log's entries, by the stops and the completed broadcasts at their places
+-- the row of the entry at a place, by the stops and the completed broadcasts at the places
+abbrev pub row_at : Cell → (slots : ℕ) → List ShownMessage → (stops : List (Option ℕ)) → (completed : List ℕ)
+    → (place : ℕ) → Option Entry → List Row
+row_at cell slots shown stops completed place None = []
+row_at cell slots shown stops completed place (Some e) =
+    option_to_list
+    (row_by cell slots shown (slice_index_or stops place None) (slice_index completed place) e.slot e.command e.answer)
+
+-- the rows of the entries of a log before a place, and of all
+abbrev pub rows_before : Cell → (slots : ℕ) → List ShownMessage → (stops : List (Option ℕ)) → (completed : List ℕ)
+    → (log : List Entry) → (place : ℕ) → List Row
+rows_before cell slots shown stops completed log place =
+    flat_map (λ at. row_at cell slots shown stops completed at (slice_get log at)) (range_with_len 0 place)
+
 abbrev pub rows_by : Cell → (slots : ℕ) → List ShownMessage → (stops : List (Option ℕ)) → (completed : List ℕ)
     → (log : List Entry) → List Row
-rows_by cell slots shown stops completed log = flat_map (λ place. row_at place (slice_get log place)) (range_with_len 0 (length log))
-  where
-    row_at : ℕ → Option Entry → List Row
-    row_at place None = []
-    row_at place (Some e) = option_to_list
-        (row_by cell slots shown (slice_index_or stops place None) (slice_index completed place) e.slot e.command e.answer)
+rows_by cell slots shown stops completed log = rows_before cell slots shown stops completed log (length log)
 
 -- a set of pairs has a pair
 abbrev pub has_name : List Pair → (id serial : ℕ) → Bool

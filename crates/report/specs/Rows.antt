@@ -3,7 +3,7 @@
 -- The cells come in the order of their records, and in each cell its log's writes and kills in the order of the log. A
 -- write that was accepted has a row of its message; a write or a kill that was refused has a row with the cause. Kills
 -- that were accepted and statuses have none: what a kill did shows in the end of the message that it stopped.
-use Rattle.std.specs.Prelude.{◌≡◌, ℕ, ◌+◌, ◌*◌, ◌==◌, ◌&&◌, Bool, true, false, if◌then◌else◌, min, Option, List, []}
+use Rattle.std.specs.Prelude.{◌≡◌, ℕ, ◌+◌, ◌*◌, ◌==◌, ◌&&◌, Bool, true, false, if◌then◌else◌, min, List, []}
 use Rattle.std.specs.Prelude.{◌∷◌, ◌++◌, map, filter}
 use Rattle.std.specs.List.{list_any}
 use Rattle.std.specs.Option.{unwrap_or}

@@ -18,7 +18,7 @@ use std::alloc::{AllocError, Global};
 
 /// What the rows of a cell have in common.
 #[derive(Clone, Copy)]
-struct Run<'a> {
+struct InCell<'a> {
     cell: Cell,
     slots: u16,
     shown: &'a Names,
@@ -38,7 +38,7 @@ fn end_by(slots: u16, start: u32, period: u16, broadcasts: u16, stop: Option<u16
     over.min(u64::from(slots)) as u16
 }
 
-impl<'a> Run<'a> {
+impl<'a> InCell<'a> {
     /// Whether a message is shown.
     fn showing(&self, id: u16, serial: Serial) -> Showing
         ensures { (shown : List ShownMessage) → HasNames self.now.shown.now shown
@@ -154,23 +154,23 @@ impl<'a> Run<'a> {
 pub fn push_cell(
     alloc: Global,
     rows: &mut Vec<Row>,
-    record: &CellRecord,
+    run: &CellRecord,
     reading: &Reading,
 ) -> Result<(), AllocError>
     ensures { OnOk result (rows.new.items
-        ≡ rows.old.items ++ cell_rows record.now (messages_of reading.now.shown.items)) }
+        ≡ rows.old.items ++ cell_rows run.now (messages_of reading.now.shown.items)) }
 {
     // The last page of an accepted message is aired as often as a broadcast of it is completed.
     bsc_table::legal_histories();
     scheduler::air_laws();
-    let slots = record.slots();
-    let stops = stops_of(alloc, record.log())?;
-    let completed = count_last_pages(alloc, record.log(), record.air())?;
+    let slots = run.slots();
+    let stops = stops_of(alloc, run.log())?;
+    let completed = count_last_pages(alloc, run.log(), run.air())?;
     let shown = Names::of(alloc, &reading.shown)?;
-    let run = Run {
-        cell: record.cell(),
+    let in_cell = InCell {
+        cell: run.cell(),
         slots,
         shown: &shown,
     };
-    run.push_rows(rows, record.log(), stops.as_slice(), completed.as_slice())
+    in_cell.push_rows(rows, run.log(), stops.as_slice(), completed.as_slice())
 }
