@@ -1,0 +1,16 @@
+//! Tests of `report` by its public calls, so that it isn't proved twice: the rows of runs of real books of cells, whose
+//! tapes were read back, reports octet for octet, writers that fail, and refused memory.
+#![tactic(auto)]
+
+#[cfg(test)]
+mod cells;
+#[cfg(test)]
+mod ends;
+#[cfg(test)]
+mod memory;
+#[cfg(test)]
+mod runs;
+#[cfg(test)]
+mod shown;
+#[cfg(test)]
+mod worked;
