@@ -17,8 +17,8 @@ use Rattle.bsc_table.specs.declared.entry.Answer.{Answer}
 use Rattle.bsc_table.specs.declared.entry.Answer.TheVariants as answers
 use Rattle.bsc_table.specs.declared.entry.Entry.{Entry}
 use Rattle.bsc_table.specs.Legal.{IsLegal}
-use Rattle.bsc_table.specs.Record.{Record, Accepted, added_by, accepted_in, behind_of, messages_in, rank_of, replaced_in}
-use Rattle.bsc_table.specs.Record.{start_of, written_behind}
+use Rattle.bsc_table.specs.Record.{Record, Accepted, added_by, accepted_in, behind_of, messages_in, rank_of}
+use Rattle.bsc_table.specs.Record.{replaced_in, start_of, written_behind}
 use Rattle.bsc_table.specs.Written.{AcceptedAreWrites, AcceptedHaveLoads, AcceptedRise}
 use Rattle.handset.specs.Reception.{ShownMessage}
 use Rattle.report.specs.declared.row.Row.{Row}

@@ -151,7 +151,8 @@ first-stop : (later : List Entry) (id serial : ℕ) → stop_later later id seri
 first-stop [] id serial = refl
 first-stop (e ∷ later) id serial = by_test (is_stop_of id serial e) (first-stop later id serial)
   where
-    by_test : (here : Bool) → stop_later later id serial None ≡ stop_in later (id, serial) → stop_later later id serial (stop_after None here e.slot)
+    by_test : (here : Bool) → stop_later later id serial None ≡ stop_in later (id, serial) →
+        stop_later later id serial (stop_after None here e.slot)
         ≡ option_map (λ (x : Entry). x.slot) (cond here (Some e) (find (is_stop_of id serial) later))
     by_test true rest = stays later id serial e.slot
     by_test false rest = rest

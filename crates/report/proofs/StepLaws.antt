@@ -114,7 +114,8 @@ rows_of-more (x ∷ records) (y ∷ readings) r reading same =
     ∙ sym (append_assoc (cell_rows x y.shown) (rows_of records readings) (cell_rows r reading.shown))
 
 pub cells-more : (records : List Record) (readings : List Reading) (i : ℕ) (r : Record) (reading : Reading) →
-    length records ≡ length readings → i < length records → r ≡ get_or records i r → reading ≡ get_or readings i reading →
+    length records ≡ length readings → i < length records → r ≡ get_or records i r →
+    reading ≡ get_or readings i reading →
     rows_of (take i records) (readings_of (take i readings)) ++ cell_rows r (messages_of reading.shown.items)
     ≡ rows_of (take (i + 1) records) (readings_of (take (i + 1) readings))
 cells-more records readings i r reading same within is reads =

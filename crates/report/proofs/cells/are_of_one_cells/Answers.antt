@@ -5,6 +5,7 @@ use Rattle.cbsp_wire.specs.declared.message.Cell.{Cell}
 use Rattle.bsc_table.specs.Record.{Record}
 use Rattle.handset.specs.declared.tape.Reading.{Reading}
 use Rattle.handset.specs.Tape.{TapeReading, readings_of, reading_of}
+use Rattle.report.specs.Rows.{AreOfOneCells}
 use Rattle.report.proofs.StepLaws.{cells-agree, cells-differ, equal_cells}
 use Rattle.report.proofs.cells.are_of_one_cells.Goals as goal
 
@@ -16,10 +17,12 @@ returns-then-ne c =
     c.if-ne.ensures ∙ ap (λ (x : Reading). not (eqb c.cell.result.lac x.cell.lac && eqb c.cell.result.ci x.cell.ci))
     (sym c.index-readings-place.is)
     ∙ ap (λ (x : Cell). not (eqb x.lac c.index-readings-place.result.cell.lac
-    && eqb x.ci c.index-readings-place.result.cell.ci)) c.cell.ensures in (
+    && eqb x.ci c.index-readings-place.result.cell.ci)) c.cell.ensures in
+    let different : AreOfOneCells c.args.records.now (readings_of c.args.readings.now) → ⊥ =
+    cells-differ c.args.records.now c.args.readings.now c.loop-place.place c.index-records-place.result
+    c.index-readings-place.result (omega arith) within c.index-records-place.is c.index-readings-place.is ne in (
       λ no. search (rules, no),
-      λ same. absurd (cells-differ c.args.records.now c.args.readings.now c.loop-place.place c.index-records-place.result
-          c.index-readings-place.result (omega arith) within c.index-records-place.is c.index-readings-place.is ne same),
+      λ same. absurd (different same),
     )
 
 pub loop-place-preserved : goal.loop-place-preserved
