@@ -149,7 +149,7 @@ impl<'a> InCell<'a> {
     }
 }
 
-/// Appends the rows of a cell, in one walk over its log and one over its slots. The only error is that memory was
+/// Appends the rows of a cell, in two walks over its log and one over its slots. The only error is that memory was
 /// refused.
 pub fn push_cell(
     alloc: Global,

@@ -69,8 +69,5 @@ pub fn rows(
     if !are_of_one_cells(records, readings) {
         return Err(ReportFault::Cells);
     }
-    match all_rows(alloc, records, readings) {
-        Ok(rows) => Ok(rows),
-        Err(AllocError) => Err(ReportFault::Refused),
-    }
+    Ok(all_rows(alloc, records, readings)?)
 }

@@ -3,7 +3,7 @@
 ghost use Rattle.std.specs.Prelude.{◌≡◌};
 ghost use Rattle.report.specs.declared.fault.ReportFault.TheVariants.{Refused};
 
-use std::alloc::{AllocError, AllocFailed};
+use std::alloc::AllocError;
 use thiserror::Error;
 
 /// Why there is no report, or not the whole of it.
@@ -20,19 +20,11 @@ pub enum ReportFault {
     Refused,
 }
 
-// By hand, as the one below: a derived conversion has no contract, and `?` is to give a fault that clauses name.
+// By hand: a derived conversion has no contract, and `?` is to give a fault that clauses name.
 impl From<AllocError> for ReportFault {
     ghost from_gives = { λ _ fault. fault ≡ Refused };
 
     fn from(_error: AllocError) -> ReportFault {
-        ReportFault::Refused
-    }
-}
-
-impl<T: Drop> From<AllocFailed<T>> for ReportFault {
-    ghost from_gives = { λ _ fault. fault ≡ Refused };
-
-    fn from(_failed: AllocFailed<T>) -> ReportFault {
         ReportFault::Refused
     }
 }

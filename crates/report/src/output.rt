@@ -50,10 +50,7 @@ pub fn write_report<W: Write>(
     if sink.failed() {
         return Err(ReportFault::WriteFailed);
     }
-    let octets = match text_of(alloc, rows) {
-        Ok(octets) => octets,
-        Err(AllocError) => return Err(ReportFault::Refused),
-    };
+    let octets = text_of(alloc, rows)?;
     match write_all(sink, &octets) {
         Ok(()) => Ok(()),
         Err(Failed) => Err(ReportFault::WriteFailed),
