@@ -1,25 +1,21 @@
 -- The pages of orders, one after the other.
-use Rattle.std.proofs.Common.{◌≡◌, ◌≢◌, ◌⊎◌, ◌<◌, ◌+◌, ◌∙◌, sym, ap, ℕ, List, [], ◌∷◌, ◌++◌, Option, Some, length}
-use Rattle.std.proofs.Common.{get_or, take, drop, inl, inr, append_assoc, suc, refl}
-use Rattle.std.specs.Str.{chars}
-use Rattle.std.proofs.lemmas.List.{take-append-drop, take_more}
-use Rattle.cbs_page.specs.Text.{IsTextFault}
-use Rattle.cbs_page.specs.declared.paging.TextFault.{TextFault}
-use Rattle.cbs_page.specs.declared.paging.TextFault.TheVariants as text
+use Rattle.std.proofs.Common.{◌≡◌, ◌≢◌, ◌⊎◌, ◌<◌, ◌+◌, ◌∙◌, ap, sym, ℕ, List, [], ◌∷◌, ◌++◌, Option, Result, Ok, Err}
+use Rattle.std.proofs.Common.{length, map, get_or, take, drop, inl, inr, suc, refl, append_assoc}
+use Rattle.std.proofs.lemmas.List.{take-append-drop, take_more, map-id}
+use Rattle.std.specs.List.{AllZip}
 use Rattle.cbs_page.specs.declared.paging.Paged.{Paged}
 use Rattle.alert_book.specs.declared.order.Order.{Order}
-use Rattle.alert_book.specs.declared.order.Sending.{Sending}
 use Rattle.alert_book.specs.declared.fault.BookFault.{BookFault}
-use Rattle.alert_book.specs.declared.fault.BookFaultKind.TheVariants as fault
-use Rattle.alert_book.specs.Book.{ArePagesOf, HavePages, HasWrongText, fault_at, refused, sending_of}
+use Rattle.alert_book.specs.Book.{HavePages, HasWrongText, refused, unread}
+use Rattle.alert_book.specs.PackingSteps.{HasBadText, IsFirstFault, IsPacked}
 
-pub have_more : (orders : List Order) (pages : List (Option Paged)) (order : Order) (paged : Option Paged) →
-    HavePages orders pages → ArePagesOf (sending_of order.action) paged →
-    HavePages (orders ++ order ∷ []) (pages ++ paged ∷ [])
-have_more [] [] order paged h p = (p, tt)
-have_more [] (q ∷ qs) order paged h p = absurd h
-have_more (o ∷ os) [] order paged h p = absurd h
-have_more (o ∷ os) (q ∷ qs) order paged h p = (h.0, have_more os qs order paged h.1 p)
+-- where each order has pages, these are the pages of the orders
+pub pages_have : (orders : List Order) (pages : List (Option Paged)) → AllZip IsPacked orders (map Ok pages) →
+    HavePages orders pages
+pages_have [] [] all = tt
+pages_have [] (paged ∷ pages) all = absurd all
+pages_have (order ∷ orders) [] all = absurd all
+pages_have (order ∷ orders) (paged ∷ pages) all = (all.0, pages_have orders pages all.1)
 
 -- a list about one of its elements
 split_at : {X : Type 0} (xs : List X) (i : ℕ) (x : X) → i < length xs → x ≡ get_or xs i x →
@@ -30,35 +26,81 @@ split_at xs i x h is =
     ∙ append_assoc (take i xs) (get_or xs i x ∷ []) (drop (i + 1) xs)
     ∙ ap (λ (y : _). take i xs ++ y ∷ drop (i + 1) xs) (sym is)
 
--- one order more, and one whose text can't be sent
-pub have_next : (orders : List Order) (pages : List (Option Paged)) (i : ℕ) (order : Order) (paged : Option Paged) →
-    i < length orders → order ≡ get_or orders i order → HavePages (take i orders) pages →
-    ArePagesOf (sending_of order.action) paged → HavePages (take (i + 1) orders) (pages ++ paged ∷ [])
-have_next orders pages i order paged h is had p =
-    rw (take_more orders i order h, ← is) (have_more (take i orders) pages order paged had p)
-
-pub wrong_next : (orders : List Order) (pages : List (Option Paged)) (i : ℕ) (order : Order) (why : TextFault)
-    (f : BookFault) →
-    i < length orders → order ≡ get_or orders i order → HavePages (take i orders) pages →
-    ((sending : Sending) × (sending_of order.action ≡ Some sending)
-    × IsTextFault sending.language (chars sending.text) why) →
-    ((f ≡ refused) ⊎ ((why ≢ text.Refused) × (f ≡ fault_at order.row (fault.Text why)))) →
-    (f ≡ refused) ⊎ HasWrongText orders f
-wrong_next orders pages i order why f h is had wrong (inl none) = inl none
-wrong_next orders pages i order why f h is had wrong (inr told) = inr record {
-  before = take i orders;
-  order = order;
-  after = drop (i + 1) orders;
-  split = split_at orders i order h is;
-  pages = pages;
-  paged = had;
-  sending = wrong.0;
-  sent = wrong.1;
-  why = why;
-  wrong = wrong.2;
-  told = told.0;
-  named = told.1;
+-- the first fault of what came of orders is after the pages of those before
+pub first_fault : (packed front : List (Result (Option Paged) BookFault)) (pages : List (Option Paged))
+    (item : Result (Option Paged) BookFault) (f : BookFault) →
+    item ≡ Err f → length front < length packed → item ≡ get_or packed (length front) item →
+    map (λ (x : Result (Option Paged) BookFault). x) front ≡ take (length front) packed → front ≡ map Ok pages →
+    IsFirstFault packed f
+first_fault packed front pages item f is at stands so_far were = record {
+  before = pages;
+  after = drop (length front + 1) packed;
+  split = split_at packed (length front) item at stands
+      ∙ rw (is, ← so_far, map-id front, were) refl;
 }
+
+-- the first order has a text that can't be sent, or has pages and one of the others is such
+wrong_here : (order : Order) (orders : List Order) (f : BookFault) → HasBadText order f →
+    HasWrongText (order ∷ orders) f
+wrong_here order orders f bad = record {
+  before = [];
+  order = order;
+  after = orders;
+  split = refl;
+  pages = [];
+  paged = tt;
+  sending = bad.sending;
+  sent = bad.sent;
+  why = bad.why;
+  wrong = bad.wrong;
+  told = bad.told;
+  named = bad.named;
+}
+
+wrong_later : (order : Order) (orders : List Order) (paged : Option Paged) (f : BookFault) →
+    IsPacked order (Ok paged) → HasWrongText orders f → HasWrongText (order ∷ orders) f
+wrong_later order orders paged f here later = record {
+  before = order ∷ later.before;
+  order = later.order;
+  after = later.after;
+  split = ap (λ (os : List Order). order ∷ os) later.split;
+  pages = paged ∷ later.pages;
+  paged = (here, later.paged);
+  sending = later.sending;
+  sent = later.sent;
+  why = later.why;
+  wrong = later.wrong;
+  told = later.told;
+  named = later.named;
+}
+
+-- so the first fault of orders is that of the first whose text can't be sent
+wrong_after : (orders : List Order) (before : List (Option Paged)) (after : List (Result (Option Paged) BookFault))
+    (f : BookFault) →
+    AllZip IsPacked orders (map Ok before ++ Err f ∷ after) → (f ≡ refused) ⊎ HasWrongText orders f
+wrong_after [] [] after f all = absurd all
+wrong_after [] (paged ∷ before) after f all = absurd all
+wrong_after (order ∷ orders) [] after f all = elim all.0 [
+  | inl none ↦ inl none
+  | inr bad ↦ inr (wrong_here order orders f bad)
+]
+wrong_after (order ∷ orders) (paged ∷ before) after f all = elim (wrong_after orders before after f all.1) [
+  | inl none ↦ inl none
+  | inr wrong ↦ inr (wrong_later order orders paged f all.0 wrong)
+]
+
+pub wrong_first : (orders : List Order) (packed : List (Result (Option Paged) BookFault)) (f : BookFault) →
+    AllZip IsPacked orders packed → (f ≡ refused) ⊎ IsFirstFault packed f → (f ≡ refused) ⊎ HasWrongText orders f
+wrong_first orders packed f all (inl none) = inl none
+wrong_first orders packed f all (inr first) =
+    wrong_after orders first.before first.after f (rw first.split at all)
+
+-- which is never that the reader failed
+pub wrong_is_read : (orders : List Order) (f : BookFault) → (f ≡ refused) ⊎ HasWrongText orders f → f ≢ unread
+wrong_is_read orders f (inl none) failed =
+    let e = ap (λ (b : BookFault). b.kind) (sym none ∙ failed) in cc
+wrong_is_read orders f (inr wrong) failed =
+    let e = ap (λ (b : BookFault). b.kind) (sym wrong.named ∙ failed) in cc
 
 -- there are as many pages as orders
 pub pages_length : (orders : List Order) (pages : List (Option Paged)) → HavePages orders pages →

@@ -10,6 +10,7 @@ pub mod Turns
 pub mod TurnLaws
 pub mod SendableSteps
 pub mod RowSteps
+pub mod PackingSteps
 pub mod SessionSteps
 pub mod VersionSteps
 pub mod Stands

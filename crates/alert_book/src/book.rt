@@ -3,22 +3,22 @@
 ghost use Rattle.std.specs.Prelude.{◌≡◌, ◌≢◌, ◌⊎◌, ◌↔◌, ◌+◌, ◌≤◌, Some, None, false, true, length, IfErr, IfOk};
 ghost use Rattle.std.specs.Prelude.{All, IsErrOf, IsTrue, OnErr, OnOk};
 ghost use Rattle.device_ends.specs.Source.{reader_of, source_failed};
-ghost use Rattle.std.specs.Str.{chars};
-ghost use Rattle.cbs_page.specs.Text.{IsTextFault};
-ghost use Rattle.alert_book.specs.Book.{fault_at, refused, unread, sending_of, AreRowsOf, ArePagesOf, HavePages};
+ghost use Rattle.alert_book.specs.Book.{fault_at, refused, unread, AreRowsOf, IsBook, IsRowFault, IsWrong};
+ghost use Rattle.alert_book.specs.Book.{ReadsBook, RefusesBook};
 ghost use Rattle.alert_book.specs.SendableSteps.{IsSendable};
-ghost use Rattle.alert_book.specs.Book.{IsBook, IsRowFault, HasWrongText, IsWrong, ReadsBook, RefusesBook};
 
-use crate::fault::{BookFault, BookFaultKind};
-use crate::order::{Action, Order, Sending};
+use crate::fault::{BookFault, BookFaultKind, fault_of_book};
+use crate::order::Order;
+use crate::packing::all_pages;
 use crate::row::{Row, row_of};
-use cbs_page::{Paged, TextFault, paginate};
+use cbs_page::Paged;
 use cbsp_wire::Cell;
 use csv::{ByteRecord, ReaderBuilder};
 use device_ends::{ReadFault, Source, read_up_to};
 use std::alloc::{AllocGlobal, Global};
 use std::io::Read;
 use std::marker::Model;
+use std::thread::Threads;
 
 /// The most octets of a book: 16 MiB.
 pub const MAX_INPUT: usize = 0x100_0000;
@@ -154,63 +154,15 @@ fn known_of(alloc: Global, octets: &[u8]) -> Result<Known, BookFault>
     Ok(known)
 }
 
-/// The pages of an order's text, if it has one.
-fn pages_of(alloc: Global, order: &Order) -> Result<Option<Paged>, TextFault>
-    ensures right { IfOk result (λ paged. ArePagesOf (sending_of order.now.action) paged) }
-    ensures wrong { IfErr result (λ why. (sending : Sending) × (sending_of order.now.action ≡ Some sending)
-        × IsTextFault sending.language (chars sending.text) why) }
-{
-    match &order.action {
-        Action::Write(sending) | Action::Update { sending, .. } => {
-            let paged = paginate(alloc, &sending.text.text, &sending.language.text)?;
-            Ok(Some(paged))
-        }
-        Action::Stop(_) => Ok(None),
-    }
-}
-
-/// The fault of a book in whose row of this number a text can't be sent.
-fn text_fault(row: u16, why: TextFault) -> BookFault
-    ensures { (result ≡ refused) ⊎ ((why ≢ TextFault.Refused) × (result ≡ fault_at row (BookFaultKind.Text why))) }
-{
-    match why {
-        TextFault::Refused => fault_of_book(BookFaultKind::Refused),
-        _ => BookFault {
-            row,
-            kind: BookFaultKind::Text(why),
-        },
-    }
-}
-
-/// The pages of all orders.
-fn all_pages(alloc: Global, orders: &[Order]) -> Result<Vec<Option<Paged>>, BookFault>
-    ensures right { IfOk result (λ pages. HavePages orders.now pages.items) }
-    ensures wrong { IfErr result (λ fault. (fault ≡ refused) ⊎ HasWrongText orders.now fault) }
-    ensures unread { IfErr result (λ fault. fault ≢ unread) }
-{
-    let mut pages = Vec::new(alloc);
-    for order in orders {
-        match pages_of(alloc, order) {
-            Ok(paged) => {
-                if pages.push(paged).is_err() {
-                    return Err(fault_of_book(BookFaultKind::Refused));
-                }
-            }
-            Err(why) => return Err(text_fault(order.row, why)),
-        }
-    }
-    Ok(pages)
-}
-
 /// The book that octets are, if they are one.
-fn book_of(alloc: Global, octets: &[u8]) -> Result<Book, BookFault>
+fn book_of<T: AllocGlobal + Threads + Sync>(rt: &T, octets: &[u8]) -> Result<Book, BookFault>
     requires { length octets.now ≤ 16777216 }
     ensures right { IfOk result (λ book. IsBook octets.now book) }
     ensures wrong { IfErr result (λ fault. (fault ≡ refused) ⊎ IsWrong octets.now fault) }
     ensures unread { IfErr result (λ fault. fault ≢ unread) }
 {
-    let known = known_of(alloc, octets)?;
-    let pages = all_pages(alloc, &known.orders)?;
+    let known = known_of(rt.alloc(), octets)?;
+    let pages = all_pages(rt, &known.orders)?;
     Ok(Book {
         cells: known.cells,
         orders: known.orders,
@@ -219,11 +171,14 @@ fn book_of(alloc: Global, octets: &[u8]) -> Result<Book, BookFault>
 }
 
 /// Reads a book to its end, or answers its first fault. Faults of rows come before those of texts, and want of memory
-/// may come at any point.
+/// may come at any point. The texts are packed side by side, in as many threads as there are processors.
 ///
 /// `cell,1,1` and then `write,0,a,4370,0,1,en,2,2,0,*,One` is a book of one cell and one order; `cell,1` alone answers
 /// `BookFault { row: 1, kind: BookFaultKind::Columns }`. docs/formats.md has all verbs and columns.
-pub fn read_book<T: AllocGlobal, R: Read>(rt: &T, source: &mut Source<R>) -> Result<Book, BookFault>
+pub fn read_book<T: AllocGlobal + Threads + Sync, R: Read>(
+    rt: &T,
+    source: &mut Source<R>,
+) -> Result<Book, BookFault>
     ensures right { IfOk result (λ book.
         ReadsBook (R.remaining (reader_of source.old)) (R.remaining (reader_of source.new)) book) }
     ensures wrong { IfErr result (λ fault.
@@ -243,12 +198,5 @@ pub fn read_book<T: AllocGlobal, R: Read>(rt: &T, source: &mut Source<R>) -> Res
     if octets.len() > MAX_INPUT {
         return Err(fault_of_book(BookFaultKind::TooManyRows));
     }
-    book_of(alloc, &octets)
-}
-
-/// A fault of no one row.
-fn fault_of_book(kind: BookFaultKind) -> BookFault
-    ensures { result ≡ fault_at 0 kind }
-{
-    BookFault { row: 0, kind }
+    book_of(rt, &octets)
 }

@@ -1,6 +1,7 @@
 //! Why a book is refused.
 
 ghost use Rattle.std.specs.Prelude.{◌≡◌};
+ghost use Rattle.alert_book.specs.Book.{fault_at};
 ghost use Rattle.alert_book.specs.declared.fault.BookFaultKind.TheVariants.{Refused};
 
 use cbs_page::TextFault;
@@ -83,3 +84,10 @@ impl fmt::Display for BookFault {
 }
 
 impl error::Error for BookFault {}
+
+/// A fault of no one row.
+pub(crate) fn fault_of_book(kind: BookFaultKind) -> BookFault
+    ensures { result ≡ fault_at 0 kind }
+{
+    BookFault { row: 0, kind }
+}

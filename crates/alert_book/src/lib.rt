@@ -14,6 +14,7 @@ mod laws;
 mod number;
 pub mod order;
 pub mod outcome;
+mod packing;
 pub mod request;
 mod row;
 pub mod session;

@@ -8,6 +8,7 @@ use device_ends::Source;
 use device_ends::memory::MemoryReader;
 use std::process::Abort;
 use std::test::Fail;
+use std::thread::Threads;
 
 /// A book with two alerts, one of which is updated and stopped.
 const WORKED: &str =
@@ -15,7 +16,7 @@ const WORKED: &str =
      update,1,a,en,2,2,0,1-2 1-1,Three\nstop,2,b,1-2\n";
 
 /// Expects that a book declares these cells.
-fn expect_cells<T: AllocGlobal + Abort>(rt: &T, book: &str, cells: &[Cell]) {
+fn expect_cells<T: AllocGlobal + Abort + Threads + Sync>(rt: &T, book: &str, cells: &[Cell]) {
     let mut reader = MemoryReader::new(book.as_bytes(), 5, None);
     match read_book(rt, &mut Source::new(&mut reader)) {
         Ok(book) => assert_eq!(rt; book.cells(), cells),

@@ -8,12 +8,18 @@ use device_ends::Source;
 use device_ends::memory::MemoryReader;
 use std::process::Abort;
 use std::test::Fail;
+use std::thread::Threads;
 
 /// A row that writes the alert `a`.
 const WRITE: &str = "write,0,a,4370,0,1,en,2,2,0,*,One\n";
 
 /// Expects a fault of this book.
-fn expect_fault<T: AllocGlobal + Abort>(rt: &T, book: &str, row: u16, kind: BookFaultKind) {
+pub fn expect_fault<T: AllocGlobal + Abort + Threads + Sync>(
+    rt: &T,
+    book: &str,
+    row: u16,
+    kind: BookFaultKind,
+) {
     let mut reader = MemoryReader::new(book.as_bytes(), 7, None);
     let mut source = Source::new(&mut reader);
     match read_book(rt, &mut source) {

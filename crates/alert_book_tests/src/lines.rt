@@ -7,9 +7,14 @@ use device_ends::Source;
 use device_ends::memory::MemoryReader;
 use std::process::Abort;
 use std::test::Fail;
+use std::thread::Threads;
 
 /// Expects that the fault of this book has this line.
-fn expect_line<T: AllocGlobal + Abort>(rt: &T, book: &[u8], line: &str) -> Result<(), Fail> {
+fn expect_line<T: AllocGlobal + Abort + Threads + Sync>(
+    rt: &T,
+    book: &[u8],
+    line: &str,
+) -> Result<(), Fail> {
     let mut reader = MemoryReader::new(book, 4096, None);
     let mut source = Source::new(&mut reader);
     match read_book(rt, &mut source) {
@@ -23,7 +28,7 @@ fn expect_line<T: AllocGlobal + Abort>(rt: &T, book: &[u8], line: &str) -> Resul
 }
 
 /// Expects that this book has no fault.
-fn expect_book<T: AllocGlobal + Abort>(rt: &T, book: &str) {
+fn expect_book<T: AllocGlobal + Abort + Threads + Sync>(rt: &T, book: &str) {
     let mut reader = MemoryReader::new(book.as_bytes(), 4096, None);
     let mut source = Source::new(&mut reader);
     if let Err(fault) = read_book(rt, &mut source) {

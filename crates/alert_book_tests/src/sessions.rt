@@ -7,9 +7,10 @@ use device_ends::Source;
 use device_ends::memory::MemoryReader;
 use std::process::Abort;
 use std::test::Fail;
+use std::thread::Threads;
 
 /// The book of these rows.
-fn book_of<T: AllocGlobal + Abort>(rt: &T, rows: &str) -> Result<Book, Fail> {
+pub fn book_of<T: AllocGlobal + Threads + Sync>(rt: &T, rows: &str) -> Result<Book, Fail> {
     let mut reader = MemoryReader::new(rows.as_bytes(), 64, None);
     let mut source = Source::new(&mut reader);
     match read_book(rt, &mut source) {

@@ -8,6 +8,7 @@ use device_ends::Source;
 use device_ends::memory::MemoryReader;
 use std::process::Abort;
 use std::test::Fail;
+use std::thread::Threads;
 
 /// The write of `@` to cell 1-1, English, identifier 4370, period 2, but for the filling of its content.
 const AT: [u8; 39] = [
@@ -57,7 +58,7 @@ const UNITS: [u8; 75] = [
 
 /// Expects that a book has cell 1-1, and that its session gives a message of row 2 at slot 0 and nothing else: these
 /// octets, and this filling.
-fn expect_message<T: AllocGlobal + Abort>(
+fn expect_message<T: AllocGlobal + Abort + Threads + Sync>(
     rt: &T,
     book: &str,
     first: &[u8],

@@ -13,9 +13,10 @@ use session_check::check_sessions;
 use std::alloc::Global;
 use std::sync::Wait;
 use std::test::Fail;
+use std::thread::Threads;
 
 /// The book of these rows.
-pub fn book_of<T: AllocGlobal>(rt: &T, rows: &str) -> Result<Book, Fail> {
+pub fn book_of<T: AllocGlobal + Threads + Sync>(rt: &T, rows: &str) -> Result<Book, Fail> {
     let mut reader = MemoryReader::new(rows.as_bytes(), 64, None);
     let mut source = Source::new(&mut reader);
     match read_book(rt, &mut source) {

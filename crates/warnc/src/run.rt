@@ -186,7 +186,7 @@ fn status_of_read(fault: ReadCommandFault) -> u8
 }
 
 /// Runs `compile`, and returns the status.
-fn run_compile<T: AllocGlobal + Wait, R: Read, W: Write, F: Write>(
+fn run_compile<T: AllocGlobal + Threads + Wait + Sync, R: Read, W: Write, F: Write>(
     rt: &T,
     slots: u16,
     source: &mut Source<R>,

@@ -19,6 +19,7 @@ use device_ends::{Sink, Source};
 use order_desk::{Desk, Open};
 use std::io::{Read, Write};
 use std::sync::Wait;
+use std::thread::Threads;
 
 /// Reads a book, has the cells of a desk carry out what its one session orders, in runs of `slots` slots, settles the
 /// desk, and writes the tapes of the cells, in the order of the book. Nothing is written before all tapes are made.
@@ -35,7 +36,7 @@ use std::sync::Wait;
 /// Returns the book's fault, the desk's, the settlement's or [`RunFault::Refused`] with nothing written, and
 /// [`RunFault::Write`] with a front of the tapes written. What a lock of the desk holds is known by its type alone, so
 /// no contract excludes the faults [`RunFault::Desk`] and [`RunFault::Settle`].
-pub fn compile_stream<T: AllocGlobal + Wait, R: Read, W: Write>(
+pub fn compile_stream<T: AllocGlobal + Threads + Wait + Sync, R: Read, W: Write>(
     rt: &T,
     source: &mut Source<R>,
     sink: &mut Sink<W>,

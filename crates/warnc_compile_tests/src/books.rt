@@ -7,6 +7,7 @@ use std::alloc::Global;
 use std::process::Abort;
 use std::sync::Wait;
 use std::test::Fail;
+use std::thread::Threads;
 use warnc_compile::compile_stream;
 
 /// A row that has a page `@` sent in every second slot.
@@ -39,7 +40,7 @@ pub const IDLE: [u8; 23] = [
 ];
 
 /// The tapes of a book.
-pub fn tapes_of<T: AllocGlobal + Abort + Wait>(
+pub fn tapes_of<T: AllocGlobal + Abort + Threads + Wait + Sync>(
     rt: &T,
     rows: &str,
     slots: u16,
@@ -91,7 +92,7 @@ pub fn expect_shown(rt: &impl Abort, reading: &Reading, ci: u16, shown: &[(u16, 
 }
 
 /// Expects what the two cells of a book show.
-fn expect_two<T: AllocGlobal + Abort + Wait>(
+fn expect_two<T: AllocGlobal + Abort + Threads + Wait + Sync>(
     rt: &T,
     rows: &str,
     slots: u16,

@@ -8,13 +8,14 @@ use device_ends::{Sink, Source};
 use std::process::Abort;
 use std::sync::Wait;
 use std::test::Fail;
+use std::thread::Threads;
 use warnc_compile::{RunFault, compile_stream};
 
 /// The book of one page.
 const BOOK: &str = "cell,1,1\nwrite,0,a,4370,0,1,en,2,2,0,1-1,@";
 
 /// Expects that a book is refused with this fault, and that nothing is written.
-fn expect_refused<T: AllocGlobal + Abort + Wait>(
+fn expect_refused<T: AllocGlobal + Abort + Threads + Wait + Sync>(
     rt: &T,
     rows: &str,
     row: u16,

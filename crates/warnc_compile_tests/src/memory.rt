@@ -61,7 +61,7 @@ fn left_by(rt: &impl Abort, done: Result<(), RunFault>, left: usize) -> Option<u
 }
 
 /// How many of 400 octets `compile` leaves.
-fn left_by_compile<T: AllocGlobal + Abort + Wait>(rt: &T) -> Option<usize> {
+fn left_by_compile<T: AllocGlobal + Abort + Threads + Wait + Sync>(rt: &T) -> Option<usize> {
     let mut out = [0; 400];
     let mut reader = MemoryReader::new(BOOK.as_bytes(), 100, None);
     let mut left = out.as_mut_slice();

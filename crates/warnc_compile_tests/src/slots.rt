@@ -4,6 +4,7 @@ use crate::books::tapes_of;
 use std::process::Abort;
 use std::sync::Wait;
 use std::test::Fail;
+use std::thread::Threads;
 
 /// What the first block of each slot of a tape has after its type: serial number and identifier; 2B 2B 2B 2B if the
 /// slot is idle.
@@ -36,7 +37,7 @@ const SECOND_Q: [u8; 4] = [0x00, 0x21, 0x00, 0x02];
 const NOTHING: [u8; 4] = [0x2B, 0x2B, 0x2B, 0x2B];
 
 /// Expects the slots of the three messages with one more row.
-fn expect_with<T: AllocGlobal + Abort + Wait>(
+fn expect_with<T: AllocGlobal + Abort + Threads + Wait + Sync>(
     rt: &T,
     row: &str,
     slots: &[[u8; 4]; 6],
