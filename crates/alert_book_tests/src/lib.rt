@@ -1,4 +1,5 @@
-//! Tests of `alert_book` by its public calls: worked books, each fault, readers that fail, and refused memory.
+//! Tests of `alert_book` by its public calls: worked books, each fault, many texts, readers that fail,
+//! and refused memory.
 #![tactic(auto)]
 
 #[cfg(test)]
@@ -11,6 +12,8 @@ mod faults;
 mod lines;
 #[cfg(test)]
 mod memory;
+#[cfg(test)]
+mod packing;
 #[cfg(test)]
 mod sessions;
 #[cfg(test)]

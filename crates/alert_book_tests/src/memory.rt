@@ -5,13 +5,17 @@ ghost use Rattle.std.specs.Prelude.{◌<◌};
 use alert_book::{BookFault, BookFaultKind, Session, read_book};
 use device_ends::Source;
 use device_ends::memory::MemoryReader;
-use std::alloc::Global;
+use std::alloc::{AllocError, Global};
 use std::process::Abort;
 use std::test::Fail;
+use std::thread::Threads;
 
 /// A book of each verb, in two languages.
 const BOOK: &str =
     "cell,1,1\nwrite,0,a,4370,0,1,en,2,2,0,1-1,One\nupdate,1,a,ru,2,2,0,*,Вода\nstop,2,a,1-1\n";
+
+/// So many texts that more than one thread packs them.
+const MANY: u16 = 100;
 
 /// How many octets each block of the memory has that is given back.
 const BLOCK: usize = 512;
@@ -30,25 +34,36 @@ fn take_all(alloc: Global, taken: &mut Vec<Vec<u8>>) {
     }
 }
 
-#[test]
-fn refused_memory_is_reported(rt: HostRuntime) -> Result<(), Fail> {
-    let mut spare: Vec<Vec<u8>> = Vec::with_capacity(rt.alloc(), 400)?;
+/// Blocks of memory that can be given back one by one.
+fn spare_blocks(alloc: Global) -> Result<Vec<Vec<u8>>, AllocError> {
+    let mut spare: Vec<Vec<u8>> = Vec::with_capacity(alloc, 400)?;
     for _ in 0..400 {
-        spare.push(Vec::with_capacity(rt.alloc(), BLOCK)?)?;
+        spare.push(Vec::with_capacity(alloc, BLOCK)?)?;
     }
+    Ok(spare)
+}
+
+/// Reads a book of one cell without memory, and again and again with one block more, until it is read. Expects more
+/// refusals than this number.
+fn expect_refusals<T: AllocGlobal + Abort + Threads + Sync>(
+    rt: &T,
+    book: &str,
+    least: u16,
+) -> Result<(), Fail> {
+    let mut spare = spare_blocks(rt.alloc())?;
     let mut taken = Vec::with_capacity(rt.alloc(), 100_000)?;
     take_all(rt.alloc(), &mut taken);
     let mut refused = 0_u16;
     for _ in 0..400 {
-        let mut reader = MemoryReader::new(BOOK.as_bytes(), 100, None);
-        match read_book(&rt, &mut Source::new(&mut reader)) {
+        let mut reader = MemoryReader::new(book.as_bytes(), 100, None);
+        match read_book(rt, &mut Source::new(&mut reader)) {
             Ok(book) => {
-                assert_eq!(&rt; book.cells().len(), 1);
+                assert_eq!(rt; book.cells().len(), 1);
                 taken.clear();
-                assert!(&rt; refused > 3);
+                assert!(rt; refused > least);
                 return Ok(());
             }
-            Err(fault) => assert_eq!(&rt;
+            Err(fault) => assert_eq!(rt;
                 fault,
                 BookFault {
                     row: 0,
@@ -60,8 +75,24 @@ fn refused_memory_is_reported(rt: HostRuntime) -> Result<(), Fail> {
         let _ = spare.pop();
     }
     taken.clear();
-    assert!(&rt; false, "no book is read with 200 KB");
+    assert!(rt; false, "no book is read with 200 KB");
     Ok(())
+}
+
+#[test]
+fn refused_memory_is_reported(rt: HostRuntime) -> Result<(), Fail> {
+    expect_refusals(&rt, BOOK, 3)
+}
+
+/// With so many texts threads would pack them, but there is no memory for threads.
+#[test]
+fn refused_memory_for_many_texts_is_reported(rt: HostRuntime) -> Result<(), Fail> {
+    let mut book = String::from_str(rt.alloc(), "cell,1,1\n")?;
+    for number in 0..MANY {
+        let row = format!(in rt.alloc(); "write,0,{number},4370,0,{number},en,2,2,0,*,One\n")?;
+        book.push_str(&row)?;
+    }
+    expect_refusals(&rt, &book, 30)
 }
 
 /// The replies to the three requests of the book: each is accepted, with no broadcast completed.
@@ -129,10 +160,7 @@ fn a_session_without_memory_stands_where_it_stood(rt: HostRuntime) -> Result<(),
         Ok(book) => book,
         Err(fault) => return Err(Fail::new(fault)),
     };
-    let mut spare: Vec<Vec<u8>> = Vec::with_capacity(rt.alloc(), 400)?;
-    for _ in 0..400 {
-        spare.push(Vec::with_capacity(rt.alloc(), BLOCK)?)?;
-    }
+    let mut spare = spare_blocks(rt.alloc())?;
     let mut held = Vec::with_capacity(rt.alloc(), 4)?;
     let mut taken = Vec::with_capacity(rt.alloc(), 100_000)?;
     take_all(rt.alloc(), &mut taken);
