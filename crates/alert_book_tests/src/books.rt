@@ -2,10 +2,8 @@
 
 ghost use Rattle.std.specs.Prelude.{◌<◌};
 
-use alert_book::read_book;
+use crate::reading::read_by;
 use cbsp_wire::Cell;
-use device_ends::Source;
-use device_ends::memory::MemoryReader;
 use std::process::Abort;
 use std::test::Fail;
 use std::thread::Threads;
@@ -17,8 +15,7 @@ const WORKED: &str =
 
 /// Expects that a book declares these cells.
 fn expect_cells<T: AllocGlobal + Abort + Threads + Sync>(rt: &T, book: &str, cells: &[Cell]) {
-    let mut reader = MemoryReader::new(book.as_bytes(), 5, None);
-    match read_book(rt, &mut Source::new(&mut reader)) {
+    match read_by(rt, book.as_bytes(), 5) {
         Ok(book) => assert_eq!(rt; book.cells(), cells),
         Err(fault) => assert!(rt; false, "{}", fault),
     }

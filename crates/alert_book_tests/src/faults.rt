@@ -2,10 +2,9 @@
 
 ghost use Rattle.std.specs.Prelude.{◌<◌};
 
-use alert_book::{BookFault, BookFaultKind, read_book};
+use crate::reading::read_by;
+use alert_book::{BookFault, BookFaultKind};
 use cbs_page::TextFault;
-use device_ends::Source;
-use device_ends::memory::MemoryReader;
 use std::process::Abort;
 use std::test::Fail;
 use std::thread::Threads;
@@ -20,9 +19,7 @@ pub fn expect_fault<T: AllocGlobal + Abort + Threads + Sync>(
     row: u16,
     kind: BookFaultKind,
 ) {
-    let mut reader = MemoryReader::new(book.as_bytes(), 7, None);
-    let mut source = Source::new(&mut reader);
-    match read_book(rt, &mut source) {
+    match read_by(rt, book.as_bytes(), 7) {
         Ok(_) => assert!(rt; false, "{} is read", book),
         Err(fault) => assert_eq!(rt; fault, BookFault { row, kind }),
     }

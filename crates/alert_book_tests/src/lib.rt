@@ -15,6 +15,8 @@ mod memory;
 #[cfg(test)]
 mod packing;
 #[cfg(test)]
+mod reading;
+#[cfg(test)]
 mod sessions;
 #[cfg(test)]
 mod written;

@@ -2,38 +2,46 @@
 
 ghost use Rattle.std.specs.Prelude.{◌<◌};
 
+use crate::reading::read_by;
 use alert_book::{MAX_INPUT, read_book};
 use device_ends::Source;
 use device_ends::memory::MemoryReader;
+use std::alloc::{AllocError, Global};
 use std::process::Abort;
 use std::test::Fail;
 use std::thread::Threads;
 
 /// Expects that the fault of this book has this line.
-fn expect_line<T: AllocGlobal + Abort + Threads + Sync>(
-    rt: &T,
-    book: &[u8],
-    line: &str,
-) -> Result<(), Fail> {
-    let mut reader = MemoryReader::new(book, 4096, None);
-    let mut source = Source::new(&mut reader);
-    match read_book(rt, &mut source) {
+fn expect_line<T: AllocGlobal + Abort + Threads + Sync>(rt: &T, book: &[u8], line: &str) {
+    match read_by(rt, book, 4096) {
         Ok(_) => assert!(rt; false, "no fault, but {}", line),
-        Err(fault) => {
-            let told = format!(in rt.alloc(); "{fault}")?;
-            assert_eq!(rt; told.as_str(), line);
-        }
+        Err(fault) => match format!(in rt.alloc(); "{fault}") {
+            Ok(told) => assert_eq!(rt; told.as_str(), line),
+            Err(refused) => assert!(rt; false, "{}", refused),
+        },
     }
-    Ok(())
 }
 
 /// Expects that this book has no fault.
 fn expect_book<T: AllocGlobal + Abort + Threads + Sync>(rt: &T, book: &str) {
-    let mut reader = MemoryReader::new(book.as_bytes(), 4096, None);
-    let mut source = Source::new(&mut reader);
-    if let Err(fault) = read_book(rt, &mut source) {
+    if let Err(fault) = read_by(rt, book.as_bytes(), 4096) {
         assert!(rt; false, "{} of {}", fault, book);
     }
+}
+
+/// Expects that a book of what comes before and this end has this line, and none with the mended end.
+fn expect_mended<T: AllocGlobal + Abort + Threads + Sync>(
+    rt: &T,
+    before: &str,
+    end: &str,
+    line: &str,
+    mended: &str,
+) -> Result<(), Fail> {
+    let book = format!(in rt.alloc(); "{before}{end}\n")?;
+    expect_line(rt, book.as_bytes(), line);
+    let book = format!(in rt.alloc(); "{before}{mended}\n")?;
+    expect_book(rt, &book);
+    Ok(())
 }
 
 /// A cell and a write, where a test has a row of its own after it.
@@ -59,7 +67,7 @@ fn a_row_has_its_line(rt: HostRuntime) -> Result<(), Fail> {
         ("stop,0,a,*", "row 1: unknown name", ""),
     ];
     for (row, line, mended) in rows {
-        expect_line(&rt, row.as_bytes(), line)?;
+        expect_line(&rt, row.as_bytes(), line);
         expect_book(&rt, mended);
     }
     Ok(())
@@ -96,15 +104,14 @@ fn a_later_row_has_its_line(rt: HostRuntime) -> Result<(), Fail> {
         ),
     ];
     for (row, line, mended) in rows {
-        let book = format!(in rt.alloc(); "{WRITTEN}{row}\n")?;
-        expect_line(&rt, book.as_bytes(), line)?;
-        let book = format!(in rt.alloc(); "{WRITTEN}{mended}\n")?;
-        expect_book(&rt, &book);
+        expect_mended(&rt, WRITTEN, row, line, mended)?;
     }
     Ok(())
 }
 
-/// The columns of a write from ID on, after one cell.
+/// One cell, and a write up to its columns from ID on.
+const COLUMNS: &str = "cell,1,1\nwrite,0,a,";
+
 #[test]
 fn a_write_has_its_line(rt: HostRuntime) -> Result<(), Fail> {
     let rows = [
@@ -185,47 +192,65 @@ fn a_write_has_its_line(rt: HostRuntime) -> Result<(), Fail> {
         ),
     ];
     for (row, line, mended) in rows {
-        let book = format!(in rt.alloc(); "cell,1,1\nwrite,0,a,{row}\n")?;
-        expect_line(&rt, book.as_bytes(), line)?;
-        let book = format!(in rt.alloc(); "cell,1,1\nwrite,0,a,{mended}\n")?;
-        expect_book(&rt, &book);
+        expect_mended(&rt, COLUMNS, row, line, mended)?;
     }
     Ok(())
 }
 
-/// What is too long: 1,396 letters, 16 updates, 65 cells, 4,097 rows, and an octet past the bound.
+/// 1,395 letters fill 15 pages.
 #[test]
-fn what_is_too_long_has_its_line(rt: HostRuntime) -> Result<(), Fail> {
-    let mut book = String::from_str(rt.alloc(), "cell,1,1\nwrite,0,a,4370,0,1,en,2,2,0,*,")?;
+fn a_text_of_sixteen_pages_has_its_line(rt: HostRuntime) -> Result<(), Fail> {
+    let mut letters = String::new(rt.alloc());
     for _ in 0..1395 {
-        book.push('a')?;
+        letters.push('a')?;
     }
-    expect_book(&rt, &book);
-    book.push('a')?;
-    expect_line(&rt, book.as_bytes(), "row 2: too many pages")?;
-    let mut book = String::from_str(rt.alloc(), WRITTEN)?;
-    for _ in 0..15 {
-        book.push_str("update,1,a,en,2,2,0,*,Two\n")?;
+    let before = format!(in rt.alloc(); "cell,1,1\nwrite,0,a,4370,0,1,en,2,2,0,*,{letters}")?;
+    expect_mended(&rt, &before, "a", "row 2: too many pages", "")
+}
+
+/// A row that may stand fifteen times.
+const UPDATE: &str = "update,1,a,en,2,2,0,*,Two\n";
+
+/// Rows, and then one row this many times.
+fn with_rows(alloc: Global, rows: &str, row: &str, times: u16) -> Result<String, AllocError> {
+    let mut book = String::from_str(alloc, rows)?;
+    for _ in 0..times {
+        book.push_str(row)?;
     }
-    expect_book(&rt, &book);
-    book.push_str("update,1,a,en,2,2,0,*,Two\n")?;
-    expect_line(&rt, book.as_bytes(), "row 18: too many updates")?;
-    let mut book = String::new(rt.alloc());
+    Ok(book)
+}
+
+#[test]
+fn a_sixteenth_update_has_its_line(rt: HostRuntime) -> Result<(), Fail> {
+    expect_book(&rt, &with_rows(rt.alloc(), WRITTEN, UPDATE, 15)?);
+    let book = with_rows(rt.alloc(), WRITTEN, UPDATE, 16)?;
+    expect_line(&rt, book.as_bytes(), "row 18: too many updates");
+    Ok(())
+}
+
+/// Rows that declare 64 cells.
+fn cells(alloc: Global) -> Result<String, AllocError> {
+    let mut rows = String::new(alloc);
     for ci in 0..64_u16 {
-        book.push_str(&format!(in rt.alloc(); "cell,1,{ci}\n")?)?;
+        rows.push_str(&format!(in alloc; "cell,1,{ci}\n")?)?;
     }
-    expect_book(&rt, &book);
-    let more = format!(in rt.alloc(); "{book}cell,1,64\n")?;
-    expect_line(&rt, more.as_bytes(), "row 65: too many rows")?;
-    book.push_str("write,0,a,4370,0,1,en,2,2,0,*,One\n")?;
-    for _ in 65..4096_u16 {
-        book.push_str("stop,1,a,*\n")?;
-    }
-    expect_book(&rt, &book);
-    book.push_str("stop,1,a,*\n")?;
-    expect_line(&rt, book.as_bytes(), "row 4097: too many rows")?;
+    Ok(rows)
+}
+
+#[test]
+fn a_row_too_many_has_its_line(rt: HostRuntime) -> Result<(), Fail> {
+    let cells = cells(rt.alloc())?;
+    expect_mended(&rt, &cells, "cell,1,64", "row 65: too many rows", "")?;
+    let rows = format!(in rt.alloc(); "{cells}write,0,a,4370,0,1,en,2,2,0,*,One\n")?;
+    let book = with_rows(rt.alloc(), &rows, "stop,1,a,*\n", 4096 - 65)?;
+    expect_mended(&rt, &book, "stop,1,a,*", "row 4097: too many rows", "")
+}
+
+#[test]
+fn an_octet_too_many_has_its_line(rt: HostRuntime) -> Result<(), Fail> {
     let octets: Vec<u8> = vec![in rt.alloc(); b'\n'; MAX_INPUT + 1]?;
-    expect_line(&rt, &octets, "row 0: too many rows")
+    expect_line(&rt, &octets, "row 0: too many rows");
+    Ok(())
 }
 
 #[test]
@@ -277,7 +302,7 @@ fn the_first_fault_is_told(rt: HostRuntime) -> Result<(), Fail> {
         ),
     ];
     for (book, line) in books {
-        expect_line(&rt, book, line)?;
+        expect_line(&rt, book, line);
     }
     Ok(())
 }
@@ -285,20 +310,17 @@ fn the_first_fault_is_told(rt: HostRuntime) -> Result<(), Fail> {
 /// A sixteenth update of no cell, and a 65th `cell` row that is wrong.
 #[test]
 fn the_bounds_come_in_their_order(rt: HostRuntime) -> Result<(), Fail> {
-    let mut book = String::from_str(rt.alloc(), WRITTEN)?;
-    for _ in 0..15 {
-        book.push_str("update,1,a,en,2,2,0,*,Two\n")?;
-    }
-    book.push_str("update,1,a,en,2,2,0,1-2,Two\n")?;
-    expect_line(&rt, book.as_bytes(), "row 18: unknown cell")?;
-    let mut cells = String::new(rt.alloc());
-    for ci in 0..64_u16 {
-        cells.push_str(&format!(in rt.alloc(); "cell,1,{ci}\n")?)?;
-    }
-    let short = format!(in rt.alloc(); "{cells}cell,1\n")?;
-    expect_line(&rt, short.as_bytes(), "row 65: columns")?;
-    let wrong = format!(in rt.alloc(); "{cells}cell,x,1\n")?;
-    expect_line(&rt, wrong.as_bytes(), "row 65: too many rows")
+    let book = with_rows(rt.alloc(), WRITTEN, UPDATE, 15)?;
+    expect_mended(
+        &rt,
+        &book,
+        "update,1,a,en,2,2,0,1-2,Two",
+        "row 18: unknown cell",
+        "",
+    )?;
+    let cells = cells(rt.alloc())?;
+    expect_mended(&rt, &cells, "cell,1", "row 65: columns", "")?;
+    expect_mended(&rt, &cells, "cell,x,1", "row 65: too many rows", "")
 }
 
 /// What people and spreadsheets write that isn't a book.
@@ -327,7 +349,7 @@ fn what_is_no_book_has_its_line(rt: HostRuntime) -> Result<(), Fail> {
         ),
     ];
     for (book, line) in books {
-        expect_line(&rt, book, line)?;
+        expect_line(&rt, book, line);
     }
     Ok(())
 }

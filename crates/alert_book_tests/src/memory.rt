@@ -2,9 +2,8 @@
 
 ghost use Rattle.std.specs.Prelude.{◌<◌};
 
-use alert_book::{BookFault, BookFaultKind, Session, read_book};
-use device_ends::Source;
-use device_ends::memory::MemoryReader;
+use crate::reading::{book_of, read_by};
+use alert_book::{BookFault, BookFaultKind, Session};
 use std::alloc::{AllocError, Global};
 use std::process::Abort;
 use std::test::Fail;
@@ -55,8 +54,7 @@ fn expect_refusals<T: AllocGlobal + Abort + Threads + Sync>(
     take_all(rt.alloc(), &mut taken);
     let mut refused = 0_u16;
     for _ in 0..400 {
-        let mut reader = MemoryReader::new(book.as_bytes(), 100, None);
-        match read_book(rt, &mut Source::new(&mut reader)) {
+        match read_by(rt, book.as_bytes(), 100) {
             Ok(book) => {
                 assert_eq!(rt; book.cells().len(), 1);
                 taken.clear();
@@ -153,13 +151,23 @@ fn expect_next<T: AllocGlobal + Abort>(
     refused
 }
 
+/// Expects that a session gave the three requests, and then none.
+fn expect_requests<T: Abort>(rt: &T, held: &[Option<(u16, Vec<u8>)>]) {
+    for (place, first) in REQUESTS.iter().enumerate() {
+        match held.get(place) {
+            Some(Some((slot, octets))) => {
+                assert_eq!(rt; usize::from(*slot), place);
+                assert!(rt; octets.starts_with(first));
+            }
+            _ => assert!(rt; false, "no request {}", place),
+        }
+    }
+    assert!(rt; matches!(held.get(3), Some(None)));
+}
+
 #[test]
 fn a_session_without_memory_stands_where_it_stood(rt: HostRuntime) -> Result<(), Fail> {
-    let mut reader = MemoryReader::new(BOOK.as_bytes(), 100, None);
-    let book = match read_book(&rt, &mut Source::new(&mut reader)) {
-        Ok(book) => book,
-        Err(fault) => return Err(Fail::new(fault)),
-    };
+    let book = book_of(&rt, BOOK)?;
     let mut spare = spare_blocks(rt.alloc())?;
     let mut held = Vec::with_capacity(rt.alloc(), 4)?;
     let mut taken = Vec::with_capacity(rt.alloc(), 100_000)?;
@@ -172,16 +180,7 @@ fn a_session_without_memory_stands_where_it_stood(rt: HostRuntime) -> Result<(),
         refused[place + 1] = expect_next(&rt, &mut session, Some(*reply), &mut spare, &mut held);
     }
     taken.clear();
-    for (place, first) in REQUESTS.iter().enumerate() {
-        match held.get(place) {
-            Some(Some((slot, octets))) => {
-                assert_eq!(&rt; usize::from(*slot), place);
-                assert!(&rt; octets.starts_with(first));
-            }
-            _ => assert!(&rt; false, "no request {}", place),
-        }
-    }
-    assert!(&rt; matches!(held.get(3), Some(None)));
+    expect_requests(&rt, &held);
     for times in refused {
         assert!(&rt; times > 0);
     }

@@ -3,7 +3,8 @@
 ghost use Rattle.std.specs.Prelude.{◌<◌, ◌≤◌};
 
 use crate::faults::expect_fault;
-use crate::sessions::book_of;
+use crate::reading::book_of;
+use crate::sessions::expect_end;
 use alert_book::{BookFaultKind, Session};
 use cbs_page::TextFault;
 use std::alloc::{AllocError, Global};
@@ -62,17 +63,44 @@ fn rows_with(alloc: Global, others: &[(u16, &str)]) -> Result<String, AllocError
     Ok(rows)
 }
 
-/// Expects that a session's next message is that of a book of this row alone.
-fn expect_message_of<T: AllocGlobal + Abort + Threads + Sync>(
+/// The message of a book of one cell and this row.
+fn message_of<T: AllocGlobal + Threads + Sync>(
+    rt: &T,
+    row: &str,
+) -> Result<Option<(u16, Vec<u8>)>, Fail> {
+    let book = book_of(rt, &format!(in rt.alloc(); "cell,1,1\n{row}")?)?;
+    let mut session = Session::new(rt.alloc(), &book, 0, 1)?;
+    match session.next(None) {
+        Ok(message) => Ok(message),
+        Err(fault) => Err(Fail::new(fault)),
+    }
+}
+
+/// Expects that a session's next message is this one, of this row.
+fn expect_message<T: Abort>(
     rt: &T,
     session: &mut Session<'_>,
-    row: &str,
-) -> Result<(), Fail> {
-    let book = book_of(rt, &format!(in rt.alloc(); "cell,1,1\n{row}")?)?;
-    let mut alone = Session::new(rt.alloc(), &book, 0, 1)?;
-    let message = alone.next(None)?;
+    row: u16,
+    message: Option<(u16, Vec<u8>)>,
+) {
     assert!(rt; message.is_some());
-    assert_eq!(rt; session.next(None)?, message);
+    match session.next(None) {
+        Ok(given) => assert_eq!(rt; given, message),
+        Err(fault) => assert!(rt; false, "{}", fault),
+    }
+    assert_eq!(rt; session.row(), row);
+}
+
+/// Expects that the session of the long book gives the message that each row has alone, and nothing else.
+fn expect_messages<T: AllocGlobal + Abort + Threads + Sync>(
+    rt: &T,
+    session: &mut Session<'_>,
+) -> Result<(), Fail> {
+    for row in 2..END {
+        let message = message_of(rt, &row_of(rt.alloc(), row)?)?;
+        expect_message(rt, session, row, message);
+    }
+    expect_end(rt, session, None);
     Ok(())
 }
 
@@ -80,12 +108,7 @@ fn expect_message_of<T: AllocGlobal + Abort + Threads + Sync>(
 fn many_texts_are_packed_as_each_alone(rt: HostRuntime) -> Result<(), Fail> {
     let book = book_of(&rt, &rows_with(rt.alloc(), &[])?)?;
     let mut session = Session::new(rt.alloc(), &book, 0, 1)?;
-    for row in 2..END {
-        expect_message_of(&rt, &mut session, &row_of(rt.alloc(), row)?)?;
-        assert_eq!(&rt; session.row(), row);
-    }
-    assert!(&rt; session.next(None)?.is_none());
-    Ok(())
+    expect_messages(&rt, &mut session)
 }
 
 /// Expects a fault of the long book with these rows.

@@ -2,22 +2,10 @@
 
 ghost use Rattle.std.specs.Prelude.{◌<◌};
 
-use alert_book::{Book, Session, read_book};
-use device_ends::Source;
-use device_ends::memory::MemoryReader;
+use crate::reading::book_of;
+use alert_book::{Book, Session};
 use std::process::Abort;
 use std::test::Fail;
-use std::thread::Threads;
-
-/// The book of these rows.
-pub fn book_of<T: AllocGlobal + Threads + Sync>(rt: &T, rows: &str) -> Result<Book, Fail> {
-    let mut reader = MemoryReader::new(rows.as_bytes(), 64, None);
-    let mut source = Source::new(&mut reader);
-    match read_book(rt, &mut source) {
-        Ok(book) => Ok(book),
-        Err(fault) => Err(Fail::new(fault)),
-    }
-}
 
 /// The message of the first row, but for the 82 octets of its content.
 const WRITE: [u8; 32] = [
@@ -47,23 +35,41 @@ struct Turn<'a> {
 }
 
 /// Expects that a session gives a request.
-fn expect_turn<T: AllocGlobal + Abort>(
-    rt: &T,
-    session: &mut Session<'_>,
-    turn: &Turn<'_>,
-) -> Result<(), Fail> {
-    match session.next(turn.last)? {
-        Some((slot, octets)) => {
+fn expect_turn<T: Abort>(rt: &T, session: &mut Session<'_>, turn: &Turn<'_>) {
+    match session.next(turn.last) {
+        Ok(Some((slot, octets))) => {
             assert_eq!(rt; slot, turn.at);
             assert!(rt; octets.starts_with(turn.first));
         }
-        None => assert!(rt; false, "no message of row {}", turn.row),
+        _ => assert!(rt; false, "no message of row {}", turn.row),
     }
     assert_eq!(rt; session.row(), turn.row);
-    Ok(())
 }
 
-/// Expects that the session of a part gives these requests, and none after this reply.
+/// Expects that a session has no request after this reply.
+pub fn expect_end<T: Abort>(rt: &T, session: &mut Session<'_>, last: Option<&[u8]>) {
+    match session.next(last) {
+        Ok(None) => {}
+        _ => assert!(rt; false, "a message after the last"),
+    }
+}
+
+/// Expects that a session gives these requests, and none after this reply.
+fn expect_requests<T: Abort>(
+    rt: &T,
+    session: &mut Session<'_>,
+    turns: &[Turn<'_>],
+    last: Option<&[u8]>,
+) {
+    assert_eq!(rt; session.row(), 0);
+    for turn in turns {
+        expect_turn(rt, session, turn);
+    }
+    expect_end(rt, session, last);
+    expect_end(rt, session, None);
+}
+
+/// Expects the same of the session of a part.
 fn expect_turns<T: AllocGlobal + Abort>(
     rt: &T,
     book: &Book,
@@ -75,12 +81,7 @@ fn expect_turns<T: AllocGlobal + Abort>(
     requires { part < parts }
 {
     let mut session = Session::new(rt.alloc(), book, part, parts)?;
-    assert_eq!(rt; session.row(), 0);
-    for turn in turns {
-        expect_turn(rt, &mut session, turn)?;
-    }
-    assert!(rt; session.next(last)?.is_none());
-    assert!(rt; session.next(None)?.is_none());
+    expect_requests(rt, &mut session, turns, last);
     Ok(())
 }
 

@@ -2,10 +2,10 @@
 
 ghost use Rattle.std.specs.Prelude.{◌<◌};
 
-use alert_book::{Session, read_book};
+use crate::reading::read_by;
+use crate::sessions::expect_end;
+use alert_book::{Book, Session};
 use cbsp_wire::Cell;
-use device_ends::Source;
-use device_ends::memory::MemoryReader;
 use std::process::Abort;
 use std::test::Fail;
 use std::thread::Threads;
@@ -56,34 +56,41 @@ const UNITS: [u8; 75] = [
     0x0D, 0x00, 0x0D, 0x00, 0x0D, 0x00, 0x0D, 0x00, 0x0D, 0x00, 0x0D,
 ];
 
-/// Expects that a book has cell 1-1, and that its session gives a message of row 2 at slot 0 and nothing else: these
-/// octets, and this filling.
-fn expect_message<T: AllocGlobal + Abort + Threads + Sync>(
-    rt: &T,
-    book: &str,
-    first: &[u8],
-    filling: &[u8],
-) -> Result<(), Fail> {
-    let mut reader = MemoryReader::new(book.as_bytes(), 5, None);
-    let mut source = Source::new(&mut reader);
-    let book = match read_book(rt, &mut source) {
-        Ok(book) => book,
-        Err(fault) => return Err(Fail::new(fault)),
-    };
-    assert_eq!(rt; book.cells(), [Cell { lac: 1, ci: 1 }].as_slice());
-    let mut session = Session::new(rt.alloc(), &book, 0, 1)?;
-    match session.next(None)? {
-        Some((slot, octets)) => {
+/// Expects that a session gives a message of row 2 at slot 0 and nothing else: these octets, and this filling.
+fn expect_only<T: Abort>(rt: &T, session: &mut Session<'_>, first: &[u8], filling: &[u8]) {
+    match session.next(None) {
+        Ok(Some((slot, octets))) => {
             assert_eq!(rt; slot, 0);
             assert_eq!(rt; octets.len(), 114);
             assert!(rt; octets.starts_with(first));
             assert!(rt; octets.ends_with(filling));
         }
-        None => assert!(rt; false, "no message"),
+        _ => assert!(rt; false, "no message"),
     }
     assert_eq!(rt; session.row(), 2);
-    assert!(rt; session.next(None)?.is_none());
-    Ok(())
+    expect_end(rt, session, None);
+}
+
+/// Expects that a book has cell 1-1, and that its session gives this message alone.
+fn expect_message_of<T: AllocGlobal + Abort>(rt: &T, book: &Book, first: &[u8], filling: &[u8]) {
+    assert_eq!(rt; book.cells(), [Cell { lac: 1, ci: 1 }].as_slice());
+    match Session::new(rt.alloc(), book, 0, 1) {
+        Ok(mut session) => expect_only(rt, &mut session, first, filling),
+        Err(fault) => assert!(rt; false, "{}", fault),
+    }
+}
+
+/// Expects the same of the book of these rows.
+fn expect_message<T: AllocGlobal + Abort + Threads + Sync>(
+    rt: &T,
+    rows: &str,
+    first: &[u8],
+    filling: &[u8],
+) {
+    match read_by(rt, rows.as_bytes(), 5) {
+        Ok(book) => expect_message_of(rt, &book, first, filling),
+        Err(fault) => assert!(rt; false, "{}", fault),
+    }
 }
 
 #[test]
@@ -96,7 +103,7 @@ fn rows_end_as_they_may(rt: HostRuntime) -> Result<(), Fail> {
         "\n\ncell,1,1\r\n\r\nwrite,0,a,4370,0,1,en,2,2,0,*,@\n\n\n",
     ];
     for book in books {
-        expect_message(&rt, book, &AT, &RETURNS)?;
+        expect_message(&rt, book, &AT, &RETURNS);
     }
     Ok(())
 }
@@ -112,7 +119,7 @@ fn the_export_of_a_spreadsheet_is_read(rt: HostRuntime) -> Result<(), Fail> {
         "\u{FEFF}cell,1,1\nwrite,0,a,4370,0,1,en,2,2,0,*,@\n",
     ];
     for book in books {
-        expect_message(&rt, book, &AT, &RETURNS)?;
+        expect_message(&rt, book, &AT, &RETURNS);
     }
     Ok(())
 }
@@ -120,13 +127,14 @@ fn the_export_of_a_spreadsheet_is_read(rt: HostRuntime) -> Result<(), Fail> {
 #[test]
 fn texts_have_quotes_and_line_feeds(rt: HostRuntime) -> Result<(), Fail> {
     let quoted = "cell,1,1\nwrite,0,a,4370,0,1,en,2,2,0,*,\"say \"\"go\"\"\"\n";
-    expect_message(&rt, quoted, &SAY, &RETURNS)?;
+    expect_message(&rt, quoted, &SAY, &RETURNS);
     let plain = "cell,1,1\nwrite,0,a,4370,0,1,en,2,2,0,*,say \"go\"\n";
-    expect_message(&rt, plain, &SAY, &RETURNS)?;
+    expect_message(&rt, plain, &SAY, &RETURNS);
     let unclosed = "cell,1,1\nwrite,0,a,4370,0,1,en,2,2,0,*,\"say \"\"go\"\"";
-    expect_message(&rt, unclosed, &SAY, &RETURNS)?;
+    expect_message(&rt, unclosed, &SAY, &RETURNS);
     let lines = "cell,1,1\r\nwrite,0,\"a,\nb\",4370,0,1,en,2,2,0,*,\"go\nnow\"\r\n";
-    expect_message(&rt, lines, &LINES, &RETURNS)?;
+    expect_message(&rt, lines, &LINES, &RETURNS);
     let water = "cell,1,1\r\nwrite,0,тревога,4370,0,1,ru,2,2,0,1-1,Вода\r\n";
-    expect_message(&rt, water, &WATER, &UNITS)
+    expect_message(&rt, water, &WATER, &UNITS);
+    Ok(())
 }
