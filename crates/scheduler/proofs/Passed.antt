@@ -79,8 +79,10 @@ seen_after_none slot nodes kept awake =
     ∙ map_twice (after_slot slot None) (seen slot) (kept_in nodes)
 
 -- what is kept of each message is right at the next slot
-pub right_later : (slot : ℕ) (kepts : List Kept) → All (IsRight slot) kepts → All (IsRight (slot + 1)) kepts
-right_later slot kepts right = λ k d h. IsRight-later (get_or kepts k d) slot (right k d h)
+pub right_later : (slot : ℕ) (nodes : List Node) → AreKept slot nodes → slot < (ahead_at nodes 0).wake
+    → All (IsRight (slot + 1)) (kept_in nodes)
+right_later slot nodes kept awake = λ k d h.
+    IsRight-later (get_or (kept_in nodes) k d) slot (kept.right k d h) (kept_awake slot nodes k d kept.tree awake h)
 
 -- after a slot that airs the message at a place
 pub seen_after_used : (slot : ℕ) (nodes : List Node) (used : ℕ × ℕ) (place : ℕ) (d : Node) → AreKept slot nodes
@@ -115,4 +117,4 @@ pub right_after_used : (slot : ℕ) (nodes : List Node) (used : ℕ × ℕ) (pla
 right_after_used slot nodes used place d kept awake here =
     All-set (IsRight (slot + 1)) (kept_in nodes) place (aired (get_or nodes place d).kept)
     (IsRight-aired (get_or nodes place d).kept slot (right_at slot nodes place d here.within kept.right)
-    (all_awake slot nodes place d kept.tree awake here.within) here.ready) (right_later slot (kept_in nodes) kept.right)
+    (all_awake slot nodes place d kept.tree awake here.within) here.ready) (right_later slot nodes kept awake)

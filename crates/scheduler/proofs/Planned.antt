@@ -63,7 +63,7 @@ IsPlan-add slot old new item above start pages period turn plan is tree =
       }) item above start pages period plan.sound);
       kept = record {
         right = rw is (All-push (IsRight slot) (kept_in old) (kept_new item) plan.kept.right (IsRight-new item slot
-            pages
+            start pages
             period));
         turns = rw is (All-push HasTurn (kept_in old) (kept_new item) plan.kept.turns turn);
         tree = tree;

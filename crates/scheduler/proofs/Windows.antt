@@ -38,16 +38,18 @@ same_both false n = refl
 cond_zero : (b : Bool) → cond b 0 0 ≡ zero
 cond_zero b = same_both b 0
 
--- what is kept of a message at a slot is true of it at the next one
-pub IsRight-later : (k : Kept) (slot : ℕ) → IsRight slot k → IsRight (slot + 1) k
-IsRight-later k slot right = record {
+-- what is kept of a message at a slot is true of it at the next one, where it is looked at later
+pub IsRight-later : (k : Kept) (slot : ℕ) → IsRight slot k → slot < k.until → IsRight (slot + 1) k
+IsRight-later k slot right before = record {
   fit = record {
     some_pages = right.fit.some_pages;
     some_period = right.fit.some_period;
     few = omega (arith, right.fit.few);
   };
-  ready = λ s from before. right.ready s (omega arith) before;
-  timed = λ s from before. right.timed s (omega arith) before;
+  ahead = omega (arith, before);
+  release = right.release;
+  ready = λ s from till. right.ready s (omega arith) till;
+  timed = λ s from till. right.timed s (omega arith) till;
   stopped = λ stop is. let old = right.stopped stop is in omega arith;
 }
 
@@ -131,6 +133,8 @@ IsRight-aired k slot right before ready = record {
     some_period = right.fit.some_period;
     few = omega (arith, right.fit.few, one_if-le (eqb (k.scheduled.pages_aired + 1) k.scheduled.item.pages));
   };
+  ahead = omega (arith, before);
+  release = right.release;
   ready = λ s from till.
       let was = right.ready s (omega arith) till ∙ is_open in
       let parts = is_ready-parts k.scheduled s was in
@@ -188,12 +192,14 @@ not_stopped t slot s from stopped says = by_stop t.stop stopped says
 
 -- what begins at a slot is right from there
 begun_right : (t : Scheduled) (slot : ℕ) → IsFit t slot → t.pages_aired ≡ 0
-    → ((stop : ℕ) → t.stop ≡ Some stop → stop ≤ slot)
+    → ((stop : ℕ) → t.stop ≡ Some stop → stop ≤ slot) → slot < 65536
     → IsRight slot (begun slot t)
-begun_right t slot fit none stopped =
+begun_right t slot fit none stopped short =
     elim (cases_Bool (is_ready t slot)) [
       | inl ready ↦ record {
         fit = fit;
+        ahead = omega (arith, begun_awake t slot fit.some_period short);
+        release = rw ready (inl (broadcast_at m slot + 1, refl));
         ready = λ s from till. ready_on ready s from (rw ready at till) ∙ sym ready;
         timed = λ s from till.
             let on = same_on ready s from (rw ready at till) in
@@ -202,6 +208,11 @@ begun_right t slot fit none stopped =
       }
       | inr not ↦ record {
         fit = fit;
+        ahead = omega (arith, begun_awake t slot fit.some_period short);
+        release = elim (cases_lt slot t.item.start) [
+          | inl early ↦ rw (not, lt-ltb slot t.item.start early) (inl (0, omega arith))
+          | inr started ↦ rw (not, le-ltb slot t.item.start started) (inr refl)
+        ];
         ready = λ s from till. not_on not s from till ∙ sym not;
         timed = λ s from till. inr (none, not);
         stopped = stopped;
@@ -261,8 +272,8 @@ begun_right t slot fit none stopped =
     ]
 
 -- so is what is kept of any message that is looked at again
-pub IsRight-renewed : (k : Kept) (slot : ℕ) → IsRight slot k → IsRight slot (renewed slot k)
-IsRight-renewed k slot right =
+pub IsRight-renewed : (k : Kept) (slot : ℕ) → IsRight slot k → slot < 65536 → IsRight slot (renewed slot k)
+IsRight-renewed k slot right short =
     elim (cases_lt slot k.until) [
       | inl before ↦ rw (lt-ltb slot k.until before) right
       | inr now ↦ rw (le-ltb slot k.until now) (begun_right (record k.scheduled { pages_aired = 0 }) slot
@@ -270,7 +281,7 @@ IsRight-renewed k slot right =
             some_pages = right.fit.some_pages;
             some_period = right.fit.some_period;
             few = right.fit.few;
-          }) refl right.stopped)
+          }) refl right.stopped short)
     ]
 
 -- what is kept of a message that is stopped is right
@@ -281,6 +292,8 @@ IsRight-stopped k slot right = record {
     some_period = right.fit.some_period;
     few = right.fit.few;
   };
+  ahead = right.ahead;
+  release = right.release;
   ready = λ s from till. rw (le-ltb s slot from) (never (leb k.scheduled.item.start s)
       (has_broadcast (message_of (stopped slot k).scheduled) (broadcast_at (message_of (stopped slot k).scheduled) s)));
   timed = λ s from till. elim (right.timed s from till) [
@@ -296,14 +309,21 @@ IsRight-stopped k slot right = record {
     never false b = refl
 
 -- and of one that was just added
-pub IsRight-new : (item : Item) (slot : ℕ) → 0 < item.pages → 0 < item.period → IsRight slot (kept_new item)
-IsRight-new item slot pages period = record {
+pub IsRight-new : (item : Item) (slot : ℕ) → slot ≤ item.start → 0 < item.pages → 0 < item.period
+    → IsRight slot (kept_new item)
+IsRight-new item slot start pages period = record {
   fit = record { some_pages = pages; some_period = period; few = omega arith };
-  ready = λ s from till. absurd (omega arith);
-  timed = λ s from till. absurd (omega arith);
+  ahead = start;
+  release = inl (0, omega arith);
+  ready = λ s from till. elim (cases_Bool (is_ready (kept_new item).scheduled s)) [
+    | inl ready ↦ absurd (omega (arith, is_ready-started (kept_new item).scheduled s ready, till))
+    | inr not ↦ not
+  ];
+  timed = λ s from till. inr (refl, refl);
   stopped = λ stop is. absurd (none-some stop is);
 }
 
 -- which is seen as it is kept
 pub seen_new : (item : Item) (slot : ℕ) → seen slot (kept_new item) ≡ (kept_new item).scheduled
-seen_new item slot = ap (λ n. record (kept_new item).scheduled { pages_aired = n }) (cond_zero (ltb slot 0))
+seen_new item slot =
+    ap (λ n. record (kept_new item).scheduled { pages_aired = n }) (cond_zero (ltb slot item.start))

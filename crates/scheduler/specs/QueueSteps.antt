@@ -6,7 +6,7 @@ use Rattle.scheduler.specs.declared.scheduled.Scheduled.{Scheduled}
 use Rattle.scheduler.specs.declared.turn.Ahead.{Ahead}
 use Rattle.scheduler.specs.declared.kept.Kept.{Kept}
 use Rattle.scheduler.specs.declared.queue.Node.{Node}
-use Rattle.scheduler.specs.Message.{due, broadcast_at}
+use Rattle.scheduler.specs.Message.{release, due, broadcast_at}
 use Rattle.scheduler.specs.Air.{layer_of, class_of}
 use Rattle.scheduler.specs.Follows.{message_of}
 use Rattle.scheduler.specs.PlanSteps.{IsFit, IsSound, is_ready}
@@ -46,7 +46,7 @@ pub record HasTurn (k : Kept) : Type 0 where
 abbrev pub kept_new : Item → Kept
 kept_new item = record {
   scheduled = record { item = item; stop = None; pages_aired = 0; completed = 0 };
-  until = 0;
+  until = item.start;
   is_open = false;
 }
 
@@ -89,9 +89,15 @@ IsTimed k slot =
     ((k.scheduled.item.start ≤ slot) × (k.until ≡ due (message_of k.scheduled)
     (broadcast_at (message_of k.scheduled) slot))) ⊎ ((k.scheduled.pages_aired ≡ 0) × (k.is_open ≡ false))
 
+-- the slot at which a message is looked at again is the release of one of its broadcasts, or none
+abbrev pub IsReleaseOrNone : Kept → Type 0
+IsReleaseOrNone k = ((j : ℕ) × (k.until ≡ release (message_of k.scheduled) j)) ⊎ (k.until ≡ 4294967295)
+
 -- what is kept of a message is true from the slot up to the one at which it is looked at again
 pub record IsRight (slot : ℕ) (k : Kept) : Type 0 where
   pub fit : IsFit k.scheduled slot
+  pub ahead : slot ≤ k.until
+  pub release : IsReleaseOrNone k
   pub ready : (s : ℕ) → slot ≤ s → s < k.until → is_ready k.scheduled s ≡ k.is_open
   pub timed : (s : ℕ) → slot ≤ s → s < k.until → IsTimed k s
   pub stopped : (stop : ℕ) → k.scheduled.stop ≡ Some stop → stop ≤ slot

@@ -1,8 +1,7 @@
 //! What a plan keeps of one message between the slots at which something begins or ends for it.
 
 ghost use Rattle.std.specs.Prelude.{◌≡◌, ◌<◌, true};
-ghost use Rattle.scheduler.specs.PlanSteps.{IsFit};
-ghost use Rattle.scheduler.specs.QueueSteps.{HasTurn, renewed, aired, stopped, own, kept_new};
+ghost use Rattle.scheduler.specs.QueueSteps.{HasTurn, IsRight, renewed, aired, stopped, own, kept_new};
 
 use crate::plan::Item;
 use crate::scheduled::Scheduled;
@@ -20,40 +19,37 @@ pub struct Kept {
 }
 
 impl Kept {
-    /// What is kept of a message that was just added: it is looked at when the next slot is asked.
+    /// What is kept of a message that was just added: it is looked at when its first broadcast is released.
     pub fn new(item: Item) -> Self
         ensures { result ≡ kept_new item }
     {
         Kept {
             scheduled: Scheduled::new(item),
-            until: 0,
+            until: item.start,
             is_open: false,
         }
     }
 
     /// What is kept of it at `slot`: where it is to be looked at again by then, what begins there.
     pub fn renewed(self, slot: u16) -> Kept
-        requires { IsFit self.scheduled slot }
+        requires { IsRight slot self }
         ensures value { result ≡ renewed slot self }
         ensures turn { HasTurn result }
     {
         if u32::from(slot) < self.until {
             return self;
         }
-        let scheduled = Scheduled {
-            pages_aired: 0,
-            ..self.scheduled
-        };
-        let is_open = scheduled.is_ready(slot);
+        let is_open = self.scheduled.begins_at(slot);
         let until = if is_open {
-            scheduled.due(slot)
-        } else if u32::from(slot) < scheduled.item.start {
-            scheduled.item.start
+            self.until + u32::from(self.scheduled.item.period)
         } else {
             u32::MAX
         };
         Kept {
-            scheduled,
+            scheduled: Scheduled {
+                pages_aired: 0,
+                ..self.scheduled
+            },
             until,
             is_open,
         }

@@ -6,7 +6,7 @@
 ghost use Rattle.std.specs.Prelude.{◌≡◌, ◌≢◌, ◌<◌, ◌≤◌, ℕ, ◌+◌, ◌*◌, length, All, AllPairs, Any, map, slice_set};
 ghost use Rattle.std.specs.Prelude.{◌==◌, ◌++◌, ◌∷◌, [], MatchBool, OnOk, OnErr};
 ghost use Rattle.std.specs.Prelude.{Option, Some, None, slice_index_or};
-ghost use Rattle.scheduler.specs.PlanSteps.{IsFit, IsChoice, after_slot, scheduled_stopped};
+ghost use Rattle.scheduler.specs.PlanSteps.{IsChoice, after_slot, scheduled_stopped};
 ghost use Rattle.scheduler.specs.declared.queue.Node.{Node};
 ghost use Rattle.scheduler.specs.QueueSteps.{ahead_at, ahead_below, kept_in, seen_in, IsNode, IsTree, HasTurn};
 ghost use Rattle.scheduler.specs.QueueSteps.{IsTreeBut, KeepsNodesBut, own_at, IsRight, IsPlaceOf, IsFound, AreRising};
@@ -32,7 +32,7 @@ impl Node {
     /// Looks again at its message, if `slot` is a slot to do so, and puts right what is ahead of it and of the places
     /// below it, by what is ahead of those.
     fn renew(&mut self, slot: u16, below: Ahead)
-        requires fit { IsFit self.old.kept.scheduled slot }
+        requires right { IsRight slot self.old.kept }
         requires turn { HasTurn self.old.kept }
         ensures value { self.new ≡ renewed_node slot below self.old }
         ensures turn { HasTurn self.new.kept }

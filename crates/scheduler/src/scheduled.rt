@@ -1,10 +1,9 @@
 //! What a plan keeps of one message.
 
-ghost use Rattle.std.specs.Prelude.{◌≡◌, ◌==◌, ℕ, ◌+◌, ◌<◌, ◌≤◌, true, MatchBool};
-ghost use Rattle.scheduler.specs.Message.{broadcast_at};
+ghost use Rattle.std.specs.Prelude.{◌≡◌, ℕ, ◌+◌, ◌<◌, ◌≤◌, Some, None};
+ghost use Rattle.scheduler.specs.Message.{release};
 ghost use Rattle.scheduler.specs.Follows.{message_of};
-ghost use Rattle.scheduler.specs.PlanSteps.{IsFit, HasStarted, is_ready};
-ghost use Rattle.scheduler.specs.Message.{release, due, has_broadcast, is_before_stop};
+ghost use Rattle.scheduler.specs.PlanSteps.{IsFit, is_ready};
 
 use crate::plan::Item;
 
@@ -42,36 +41,21 @@ impl Scheduled {
         self.pages_aired + 1
     }
 
-    /// The slot at which the broadcast that is under way at `slot` is due.
-    pub fn due(&self, slot: u16) -> u32
-        requires { HasStarted self.now slot }
-        ensures { result ≡ due (message_of self.now) (broadcast_at (message_of self.now) slot) }
+    /// Whether it has a broadcast that is released at `slot`: one that is requested, where it was not stopped by then.
+    pub fn begins_at(self, slot: u16) -> bool
+        requires fit { IsFit self slot }
+        requires release { (j : ℕ) × (slot ≡ release (message_of self) j) }
+        requires stopped { (stop : ℕ) → self.stop ≡ Some stop → stop ≤ slot }
+        ensures { result ≡ is_ready (record self { pages_aired = 0 }) slot }
     {
-        let Item { start, period, .. } = self.item;
-        start + (self.broadcast(slot) + 1) * u32::from(period)
-    }
-
-    /// The broadcast that is under way at `slot`; the first one before the start.
-    fn broadcast(&self, slot: u16) -> u32
-        requires { IsFit self.now slot }
-        ensures value { result ≡ broadcast_at (message_of self.now) slot }
-        ensures released { self.now.item.start ≤ slot → release (message_of self.now) result ≤ slot }
-    {
-        u32::from(slot).saturating_sub(self.item.start) / u32::from(self.item.period)
-    }
-
-    /// Whether the message has a page to air at `slot`.
-    pub fn is_ready(&self, slot: u16) -> bool
-        requires { IsFit self.now slot }
-        ensures { result ≡ is_ready self.now slot }
-    {
-        let is_started = self.item.start <= u32::from(slot);
-        let is_requested = self.item.broadcasts == 0
-            || self.broadcast(slot) < u32::from(self.item.broadcasts);
-        let is_standing = match self.stop {
-            None => true,
-            Some(stop) => slot < stop,
-        };
-        is_started && is_requested && is_standing && self.pages_aired < self.item.pages
+        let Item {
+            start,
+            period,
+            broadcasts,
+            ..
+        } = self.item;
+        let is_requested = broadcasts == 0
+            || u32::from(slot) < start + u32::from(broadcasts) * u32::from(period);
+        self.stop.is_none() && is_requested
     }
 }

@@ -43,7 +43,7 @@ returns-in-None-clause-seen c =
 
 pub returns-in-None-clause-kept : goal.returns-in-None-clause-kept
 returns-in-None-clause-kept c = record {
-  right = right_later c.args.slot _ c.requires.kept.right;
+  right = right_later c.args.slot c.args.nodes.now c.requires.kept c.requires.awake;
   turns = c.requires.kept.turns;
   tree = c.requires.kept.tree;
 }

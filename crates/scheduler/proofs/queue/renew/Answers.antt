@@ -18,9 +18,9 @@ pub renew-requires-clause-turn : goal.renew-requires-clause-turn
 renew-requires-clause-turn c =
     turn_at c.args.nodes.now c.args.place blank c.requires.within c.requires.turns
 
-pub renew-requires-clause-fit : goal.renew-requires-clause-fit
-renew-requires-clause-fit c =
-    (right_at c.args.slot c.args.nodes.now c.args.place blank c.requires.within c.requires.right).fit
+pub renew-requires-clause-right : goal.renew-requires-clause-right
+renew-requires-clause-right c =
+    right_at c.args.slot c.args.nodes.now c.args.place blank c.requires.within c.requires.right
 
 pub returns-clause-seen : goal.returns-clause-seen
 returns-clause-seen c =
@@ -42,7 +42,7 @@ returns-clause-right c =
     let here = right_at c.args.slot nodes c.args.place blank c.requires.within c.requires.right in
     let Right : List Node → Type 0 = λ ns. All (IsRight c.args.slot) (kept_in ns) in
     subst Right (sym put) (right_put c.args.slot nodes c.args.place k
-    (IsRight-renewed (get_or nodes c.args.place blank).kept c.args.slot here) c.requires.right)
+    (IsRight-renewed (get_or nodes c.args.place blank).kept c.args.slot here (omega arith)) c.requires.right)
 
 pub returns-clause-turns : goal.returns-clause-turns
 returns-clause-turns c =
