@@ -4,11 +4,12 @@ use Rattle.std.proofs.Common.{eqb, Option, Some, None, inl, inr, refl, sym, ap, 
 use Rattle.std.proofs.lemmas.Bool.{cases_lt, cases_eq, cases_Bool, le-leb, lt-ltb, le-ltb, eq-eqb, ne_eqb}
 use Rattle.std.proofs.lemmas.Bool.{ltb-true, false≢true}
 use Rattle.std.proofs.lemmas.Option.{none-some}
-use Rattle.std.proofs.Math.Nat.{lt_of_mul-lt-mul_right}
+use Rattle.std.proofs.Math.Nat.{lt_of_mul-lt-mul_right, mul-lt-mul_of_pos_right, mul-le-mul_right}
+use Rattle.std.specs.Option.{is_some}
 use Rattle.scheduler.specs.declared.plan.Item.{Item}
 use Rattle.scheduler.specs.declared.scheduled.Scheduled.{Scheduled}
 use Rattle.scheduler.specs.declared.kept.Kept.{Kept}
-use Rattle.scheduler.specs.Message.{release, due, broadcast_at, HasBroadcast, has_broadcast, is_before_stop}
+use Rattle.scheduler.specs.Message.{ScheduledMessage, release, due, broadcast_at, HasBroadcast, has_broadcast, is_before_stop}
 use Rattle.scheduler.specs.Air.{airs}
 use Rattle.scheduler.specs.Follows.{message_of}
 use Rattle.scheduler.specs.PlanSteps.{IsFit, is_ready, after_slot}
@@ -77,7 +78,7 @@ pages_next k slot pages period before timed =
       ]
     ]
   where
-    ended : (m : Rattle.scheduler.specs.Message.ScheduledMessage) (slot : ℕ) → 0 < m.period → m.start ≤ slot
+    ended : (m : ScheduledMessage) (slot : ℕ) → 0 < m.period → m.start ≤ slot
         → release m (broadcast_at m (slot + 1)) ≡ slot + 1 → k.until ≡ due m (broadcast_at m slot)
         → k.until ≤ slot + 1
     ended m slot period started at_end is = elim (cases_lt (slot + 1) k.until) [
@@ -219,7 +220,7 @@ begun_right t slot fit none stopped short =
       }
     ]
   where
-    m : Rattle.scheduler.specs.Message.ScheduledMessage
+    m : ScheduledMessage
     m = message_of t
 
     same_on : is_ready t slot ≡ true → (s : ℕ) → slot ≤ s → s < due m (broadcast_at m slot)
@@ -270,6 +271,41 @@ begun_right t slot fit none stopped short =
         | inr started ↦ absurd (false≢true (sym not ∙ ready_before started s from ready))
       ]
     ]
+
+-- of the broadcast that is released at a slot, the place among those that are requested shows in the slot
+pub requested_at : (m : ScheduledMessage) (slot : ℕ) → 0 < m.period → (at : (j : ℕ) × (slot ≡ release m j))
+    → ltb slot (m.start + m.broadcasts * m.period) ≡ ltb (broadcast_at m slot) m.broadcasts
+requested_at m slot period at =
+    let now = broadcast_at-only m slot at.0 period (omega (arith, at.1)) (omega (arith, at.1))
+    (omega (arith, at.1, period)) in
+    elim (cases_lt at.0 m.broadcasts) [
+      | inl few ↦
+          let before = mul-lt-mul_of_pos_right few period in
+          lt-ltb slot (m.start + m.broadcasts * m.period) (omega (arith, at.1, before))
+          ∙ (sym (lt-ltb at.0 m.broadcasts few) ∙ ap (λ j. ltb j m.broadcasts) now)
+      | inr over ↦
+          let after = mul-le-mul_right m.period over in
+          le-ltb slot (m.start + m.broadcasts * m.period) (omega (arith, at.1, after))
+          ∙ (sym (le-ltb at.0 m.broadcasts over) ∙ ap (λ j. ltb j m.broadcasts) now)
+    ]
+
+-- nothing is what isn't something
+pub none_if : (stop : Option ℕ) → is_some stop ≡ false → stop ≡ None
+none_if None h = refl
+none_if (Some x) h = absurd (false≢true (sym h))
+
+-- a message that was not stopped is ready where a requested broadcast is released
+pub begins_if : (t : Scheduled) (slot : ℕ) (requested : Bool) → IsFit t slot
+    → ((j : ℕ) × (slot ≡ release (message_of t) j)) → t.stop ≡ None
+    → requested ≡ has_broadcast (message_of t) (broadcast_at (message_of t) slot)
+    → requested ≡ is_ready (record t { pages_aired = 0 }) slot
+begins_if t slot requested fit at none is =
+    is ∙ rw (le-leb t.item.start slot (omega (arith, at.1)), none, lt-ltb 0 t.item.pages fit.some_pages)
+    (sym (and_true (has_broadcast (message_of t) (broadcast_at (message_of t) slot))))
+  where
+    and_true : (b : Bool) → (b && true) ≡ b
+    and_true true = refl
+    and_true false = refl
 
 -- so is what is kept of any message that is looked at again
 pub IsRight-renewed : (k : Kept) (slot : ℕ) → IsRight slot k → slot < 65536 → IsRight slot (renewed slot k)

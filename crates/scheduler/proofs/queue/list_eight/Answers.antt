@@ -1,4 +1,4 @@
-use Rattle.std.proofs.Common.{◌≡◌, ℕ, ◌+◌, ◌*◌, ◌<◌, ◌≤◌, arith, subst, ◌∙◌}
+use Rattle.std.proofs.Common.{◌≡◌, ℕ, ◌+◌, ◌*◌, arith, subst, ◌∙◌}
 use Rattle.scheduler.specs.QueueSteps.{AreListed}
 use Rattle.scheduler.proofs.queue.list_eight.Goals as goal
 
