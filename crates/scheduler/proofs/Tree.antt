@@ -1,6 +1,6 @@
 -- Lemmas on what is ahead of the places of a plan.
 use Rattle.std.proofs.Common.{◌≡◌, ◌≢◌, ℕ, zero, suc, ◌+◌, ◌-◌, ◌*◌, ◌/◌, ◌%◌, ◌≤◌, ◌<◌, List, length, get_or}
-use Rattle.std.proofs.Common.{map, set, inl, inr, refl, sym, ap, subst, ◌∙◌, arith}
+use Rattle.std.proofs.Common.{map, min, set, inl, inr, refl, sym, ap, subst, ◌∙◌, arith}
 use Rattle.std.specs.List.{All}
 use Rattle.std.proofs.lemmas.List.{length-map, get_or-map, map-set, get_or-set_same, get_or-set_other}
 use Rattle.std.proofs.lemmas.List.{get_or_past, set-get_or}
@@ -346,3 +346,36 @@ pub among_more : (nodes : List Node) (from n : ℕ)
 among_more nodes from n =
     let next : n + 1 ≡ suc n = omega arith in
     ap (ahead_among nodes from) next
+
+-- what is ahead of some messages and of others and of further ones
+joined-assoc : (a b c : Ahead) → joined a (joined b c) ≡ joined (joined a b) c
+joined-assoc a b c =
+    let first : min a.first (min b.first c.first) ≡ min (min a.first b.first) c.first = omega arith in
+    let wake : min a.wake (min b.wake c.wake) ≡ min (min a.wake b.wake) c.wake = omega arith in
+    rw (first, wake) refl
+
+joined-none : (a : Ahead) → IsAhead a nothing_ahead → joined a nothing_ahead ≡ a
+joined-none a most =
+    let first : min a.first no_turn ≡ a.first = omega (arith, most.first) in
+    let wake : min a.wake 4294967295 ≡ a.wake = omega (arith, most.wake) in
+    rw (first, wake) refl
+
+among-some : (nodes : List Node) (from n : ℕ) → IsAhead (ahead_among nodes from n) nothing_ahead
+among-some nodes from zero = IsAhead-same nothing_ahead
+among-some nodes from (suc n) =
+    IsAhead-trans (ahead_among nodes from (suc n)) (ahead_among nodes from n) nothing_ahead
+    (joined-left (ahead_among nodes from n) (ahead_at nodes (from + n))) (among-some nodes from n)
+
+-- what is ahead of some places and of those after them is ahead of all of these
+pub among_both : (nodes : List Node) (from n more : ℕ)
+    → joined (ahead_among nodes from n) (ahead_among nodes (from + n) more) ≡ ahead_among nodes from (n + more)
+among_both nodes from n zero =
+    let same : n ≡ n + 0 = omega arith in
+    joined-none (ahead_among nodes from n) (among-some nodes from n) ∙ ap (ahead_among nodes from) same
+among_both nodes from n (suc more) =
+    let one : n + more + 1 ≡ n + suc more = omega arith in
+    let at : from + n + more ≡ from + (n + more) = omega arith in
+    joined-assoc (ahead_among nodes from n) (ahead_among nodes (from + n) more) (ahead_at nodes (from + n + more))
+    ∙ (ap (λ a. joined a (ahead_at nodes (from + n + more))) (among_both nodes from n more)
+    ∙ (ap (λ k. joined (ahead_among nodes from (n + more)) (ahead_at nodes k)) at
+    ∙ (sym (among_more nodes from (n + more)) ∙ ap (ahead_among nodes from) one)))

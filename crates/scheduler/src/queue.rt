@@ -8,7 +8,7 @@ ghost use Rattle.std.specs.Prelude.{◌==◌, ◌++◌, ◌∷◌, [], MatchBool
 ghost use Rattle.std.specs.Prelude.{Option, Some, None, slice_index_or};
 ghost use Rattle.scheduler.specs.PlanSteps.{IsChoice, after_slot, scheduled_stopped};
 ghost use Rattle.scheduler.specs.declared.queue.Node.{Node};
-ghost use Rattle.scheduler.specs.QueueSteps.{ahead_at, ahead_below, kept_in, seen_in, IsNode, IsTree, HasTurn};
+ghost use Rattle.scheduler.specs.QueueSteps.{ahead_among, ahead_at, ahead_below, kept_in, seen_in, IsNode, IsTree, HasTurn};
 ghost use Rattle.scheduler.specs.QueueSteps.{IsTreeBut, KeepsNodesBut, own_at, IsRight, IsPlaceOf, IsFound, AreRising};
 ghost use Rattle.scheduler.specs.QueueSteps.{AreKept, AreListed, AreDue, kept_new, renewed_node};
 
@@ -56,16 +56,32 @@ fn ahead_at(nodes: &[Node], place: usize) -> Ahead
     }
 }
 
-/// What is ahead of the places below one, where none of them is past the end.
+/// What is ahead of a place and the next one.
+fn ahead_of_two(nodes: &[Node], place: usize) -> Ahead
+    requires { place + 1 < length nodes.now }
+    ensures { result ≡ ahead_among nodes.now place 2 }
+{
+    Ahead::nothing()
+        .joined(nodes[place].ahead)
+        .joined(nodes[place + 1].ahead)
+}
+
+/// What is ahead of a place and the next three.
+fn ahead_of_four(nodes: &[Node], place: usize) -> Ahead
+    requires { place + 3 < length nodes.now }
+    ensures { result ≡ ahead_among nodes.now place 4 }
+{
+    ahead_of_two(nodes, place).joined(ahead_of_two(nodes, place + 2))
+}
+
+/// What is ahead of the places below one, where none of them is past the end. In halves, so that a processor need not
+/// look at them one by one.
 fn ahead_of_eight(nodes: &[Node], place: usize) -> Ahead
     requires { place * 8 + 8 < length nodes.now }
     ensures { result ≡ ahead_below nodes.now place }
 {
-    let mut ahead = Ahead::nothing();
-    for below in 0..BELOW {
-        ahead = ahead.joined(nodes[place * BELOW + 1 + below].ahead);
-    }
-    ahead
+    let first = place * BELOW + 1;
+    ahead_of_four(nodes, first).joined(ahead_of_four(nodes, first + 4))
 }
 
 /// What is ahead of the places below one.
@@ -114,11 +130,9 @@ fn change(nodes: &mut [Node], place: usize, kept: Kept)
     lift(nodes, place);
 }
 
-/// Looks again at the message of a place, if `slot` is a slot to do so, and puts right what is ahead of the place, by
-/// what is ahead of those below it.
-fn renew(nodes: &mut [Node], place: usize, slot: u16, below: Ahead)
+/// Looks again at the message of a place, if `slot` is a slot to do so, and puts right what is ahead of the place.
+fn renew(nodes: &mut [Node], place: usize, slot: u16)
     requires within { place < length nodes.old }
-    requires below { below ≡ ahead_below nodes.old place }
     requires right { All (IsRight slot) (kept_in nodes.old) }
     requires turns { All HasTurn (kept_in nodes.old) }
     ensures seen { seen_in slot nodes.new ≡ seen_in slot nodes.old }
@@ -129,6 +143,7 @@ fn renew(nodes: &mut [Node], place: usize, slot: u16, below: Ahead)
     ensures node { IsNode nodes.new place }
     ensures nodes { KeepsNodesBut nodes.old nodes.new place }
 {
+    let below = ahead_below(nodes, place);
     nodes[place].renew(slot, below);
 }
 
@@ -227,9 +242,7 @@ fn renew_listed(nodes: &mut [Node], listed: &[usize], count: usize, slot: u16)
     let mut left = count;
     while left > 0 {
         left -= 1;
-        let place = listed[left];
-        let below = ahead_below(nodes, place);
-        renew(nodes, place, slot, below);
+        renew(nodes, listed[left], slot);
     }
 }
 

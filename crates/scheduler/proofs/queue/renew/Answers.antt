@@ -27,7 +27,7 @@ returns-clause-seen c =
     let nodes = c.args.nodes.now in
     let k = renewed c.args.slot (get_or nodes c.args.place blank).kept in
     let is : c.renew.new.self ≡ node_with nodes c.args.place k = c.renew.ensures.value
-    ∙ ap (λ (a : Ahead). record { kept = k; ahead = joined (own k) a }) c.requires.below in
+    ∙ ap (λ (a : Ahead). record { kept = k; ahead = joined (own k) a }) c.ahead_below-below.ensures in
     let put = ap (λ (n : Node). set nodes c.args.place n) is in
     ap (seen_in c.args.slot) put ∙ (ap (map (seen c.args.slot)) (put_kept nodes c.args.place k)
     ∙ seen_put_renewed c.args.slot nodes c.args.place blank c.requires.within)
@@ -37,7 +37,7 @@ returns-clause-right c =
     let nodes = c.args.nodes.now in
     let k = renewed c.args.slot (get_or nodes c.args.place blank).kept in
     let is : c.renew.new.self ≡ node_with nodes c.args.place k = c.renew.ensures.value
-    ∙ ap (λ (a : Ahead). record { kept = k; ahead = joined (own k) a }) c.requires.below in
+    ∙ ap (λ (a : Ahead). record { kept = k; ahead = joined (own k) a }) c.ahead_below-below.ensures in
     let put = ap (λ (n : Node). set nodes c.args.place n) is in
     let here = right_at c.args.slot nodes c.args.place blank c.requires.within c.requires.right in
     let Right : List Node → Type 0 = λ ns. All (IsRight c.args.slot) (kept_in ns) in
@@ -49,7 +49,7 @@ returns-clause-turns c =
     let nodes = c.args.nodes.now in
     let k = renewed c.args.slot (get_or nodes c.args.place blank).kept in
     let is : c.renew.new.self ≡ node_with nodes c.args.place k = c.renew.ensures.value
-    ∙ ap (λ (a : Ahead). record { kept = k; ahead = joined (own k) a }) c.requires.below in
+    ∙ ap (λ (a : Ahead). record { kept = k; ahead = joined (own k) a }) c.ahead_below-below.ensures in
     let put = ap (λ (n : Node). set nodes c.args.place n) is in
     let Turns : List Kept → Type 0 = λ ks. All HasTurn ks in
     subst Turns (sym (ap kept_in put ∙ put_kept nodes c.args.place k)) (All-set HasTurn (kept_in nodes) c.args.place k
@@ -60,7 +60,7 @@ returns-clause-others c =
     let nodes = c.args.nodes.now in
     let k = renewed c.args.slot (get_or nodes c.args.place blank).kept in
     let is : c.renew.new.self ≡ node_with nodes c.args.place k = c.renew.ensures.value
-    ∙ ap (λ (a : Ahead). record { kept = k; ahead = joined (own k) a }) c.requires.below in
+    ∙ ap (λ (a : Ahead). record { kept = k; ahead = joined (own k) a }) c.ahead_below-below.ensures in
     let put = ap (λ (n : Node). set nodes c.args.place n) is in
     λ n apart. ap (λ ns. ahead_at ns n) put ∙ put_others nodes c.args.place k n apart
 
@@ -69,7 +69,7 @@ returns-clause-awake c =
     let nodes = c.args.nodes.now in
     let k = renewed c.args.slot (get_or nodes c.args.place blank).kept in
     let is : c.renew.new.self ≡ node_with nodes c.args.place k = c.renew.ensures.value
-    ∙ ap (λ (a : Ahead). record { kept = k; ahead = joined (own k) a }) c.requires.below in
+    ∙ ap (λ (a : Ahead). record { kept = k; ahead = joined (own k) a }) c.ahead_below-below.ensures in
     let put = ap (λ (n : Node). set nodes c.args.place n) is in
     let here = right_at c.args.slot nodes c.args.place blank c.requires.within c.requires.right in
     let its = ap (λ ns. own_at ns c.args.place) put ∙ put_own_here nodes c.args.place k c.requires.within
@@ -83,7 +83,7 @@ returns-clause-node c =
     let nodes = c.args.nodes.now in
     let k = renewed c.args.slot (get_or nodes c.args.place blank).kept in
     let is : c.renew.new.self ≡ node_with nodes c.args.place k = c.renew.ensures.value
-    ∙ ap (λ (a : Ahead). record { kept = k; ahead = joined (own k) a }) c.requires.below in
+    ∙ ap (λ (a : Ahead). record { kept = k; ahead = joined (own k) a }) c.ahead_below-below.ensures in
     let put = ap (λ (n : Node). set nodes c.args.place n) is in
     let Node_at : List Node → Type 0 = λ ns. IsNode ns c.args.place in
     subst Node_at (sym put) (put_node nodes c.args.place k c.requires.within)
@@ -93,7 +93,7 @@ returns-clause-nodes c =
     let nodes = c.args.nodes.now in
     let k = renewed c.args.slot (get_or nodes c.args.place blank).kept in
     let is : c.renew.new.self ≡ node_with nodes c.args.place k = c.renew.ensures.value
-    ∙ ap (λ (a : Ahead). record { kept = k; ahead = joined (own k) a }) c.requires.below in
+    ∙ ap (λ (a : Ahead). record { kept = k; ahead = joined (own k) a }) c.ahead_below-below.ensures in
     let put = ap (λ (n : Node). set nodes c.args.place n) is in
     let Keeps : List Node → Type 0 = λ ns. KeepsNodesBut nodes ns c.args.place in
     subst Keeps (sym put) (put_nodes nodes c.args.place k c.requires.within)
