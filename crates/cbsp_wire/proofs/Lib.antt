@@ -5,6 +5,7 @@ pub mod MeaningLaws
 pub mod Tests
 pub mod Facts
 pub mod Ranges
+pub mod Rising
 pub mod ElementFacts
 pub mod WrittenItems
 pub mod WrittenElements

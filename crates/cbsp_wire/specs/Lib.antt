@@ -6,6 +6,7 @@ pub mod Range
 pub mod Same
 pub mod Valid
 pub mod Refusals
+pub mod Rising
 pub mod Meaning
 pub mod Laws
 pub mod Written

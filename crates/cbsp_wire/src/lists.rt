@@ -5,6 +5,7 @@ ghost use Rattle.std.specs.List.{list_any};
 ghost use Rattle.cbsp_wire.specs.Value.{cell_at, items_of};
 ghost use Rattle.cbsp_wire.specs.Range.{is_cell, are_distinct, cells_are_valid, items_are_whole};
 ghost use Rattle.cbsp_wire.specs.Range.{failures_are_by_lac_and_ci, is_by_lac_and_ci, is_list_body};
+ghost use Rattle.cbsp_wire.specs.Rising.{is_after, are_rising, are_rising_after};
 
 use crate::item::{Discriminator, ListItem};
 use crate::message::Cell;
@@ -34,8 +35,50 @@ fn has_cell<T: ListItem>(items: &[T], cell: Cell) -> bool
     false
 }
 
-/// Whether items name no cell twice.
+/// Whether a cell comes after another one, by LAC and then by CI.
+fn is_after(last: Cell, cell: Cell) -> bool
+    ensures { result ≡ is_after last cell }
+{
+    u32::from(last.lac) * 0x1_0000 + u32::from(last.ci)
+        < u32::from(cell.lac) * 0x1_0000 + u32::from(cell.ci)
+}
+
+/// Whether the cells of items rise, from the one after this.
+fn are_rising_after<T: ListItem>(first: Cell, items: &[T]) -> bool
+    ensures { result ≡ are_rising_after first (map T.cell_of items.now) }
+{
+    let mut last = first;
+    let mut left = items;
+    'search: while let [item, rest @ ..] = left {
+        let cell = item.cell();
+        if !is_after(last, cell) {
+            return false;
+        }
+        last = cell;
+        left = rest;
+    }
+    true
+}
+
+/// Whether the cells of items rise.
+fn are_rising<T: ListItem>(items: &[T]) -> bool
+    ensures { result ≡ are_rising (map T.cell_of items.now) }
+{
+    match items {
+        [item, rest @ ..] => are_rising_after(item.cell(), rest),
+        _ => true,
+    }
+}
+
+/// Whether items name no cell twice. Most lists rise, which takes one look at each item.
 fn are_distinct<T: ListItem>(items: &[T]) -> bool
+    ensures { result ≡ are_distinct (map T.cell_of items.now) }
+{
+    are_rising(items) || none_stands_twice(items)
+}
+
+/// Whether items name no cell twice, by a look at each two of them.
+fn none_stands_twice<T: ListItem>(items: &[T]) -> bool
     ensures { result ≡ are_distinct (map T.cell_of items.now) }
 {
     let mut left = items;
@@ -70,8 +113,42 @@ fn octets_have_cell<T: ListItem>(octets: &[u8], cell: Cell) -> bool
     false
 }
 
+/// Whether the cells of the items that octets are rise, from the one after this.
+fn octets_are_rising_after<T: ListItem>(first: Cell, octets: &[u8]) -> bool
+    ensures { result ≡ are_rising_after first (map T.cell_of (T.items_in octets.now)) }
+{
+    let mut last = first;
+    let mut left = octets;
+    'search: while let Some((item, rest)) = T::first_of(left) {
+        let cell = item.cell();
+        if !is_after(last, cell) {
+            return false;
+        }
+        last = cell;
+        left = rest;
+    }
+    true
+}
+
+/// Whether the cells of the items that octets are rise.
+fn octets_are_rising<T: ListItem>(octets: &[u8]) -> bool
+    ensures { result ≡ are_rising (map T.cell_of (T.items_in octets.now)) }
+{
+    match T::first_of(octets) {
+        Some((item, rest)) => octets_are_rising_after::<T>(item.cell(), rest),
+        None => true,
+    }
+}
+
 /// Whether the items that octets are name no cell twice.
 fn octets_are_distinct<T: ListItem>(octets: &[u8]) -> bool
+    ensures { result ≡ are_distinct (map T.cell_of (T.items_in octets.now)) }
+{
+    octets_are_rising::<T>(octets) || no_octets_stand_twice::<T>(octets)
+}
+
+/// Whether the items that octets are name no cell twice, by a look at each two of them.
+fn no_octets_stand_twice<T: ListItem>(octets: &[u8]) -> bool
     ensures { result ≡ are_distinct (map T.cell_of (T.items_in octets.now)) }
 {
     let mut left = octets;

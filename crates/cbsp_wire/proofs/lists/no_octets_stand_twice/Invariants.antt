@@ -1,6 +1,6 @@
 use Rattle.std.proofs.Common.{◌≡◌, length, map}
 use Rattle.cbsp_wire.specs.Range.{are_distinct}
-use Rattle.cbsp_wire.proofs.lists.octets_are_distinct.Given as goal
+use Rattle.cbsp_wire.proofs.lists.no_octets_stand_twice.Given as goal
 
 abbrev pub invariant-search : goal.invariant-search
 invariant-search g l =
