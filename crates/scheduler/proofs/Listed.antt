@@ -1,9 +1,9 @@
 -- Lemmas on the list of the places that are due.
 use Rattle.std.proofs.Common.{◌≡◌, ◌≢◌, ℕ, zero, suc, ◌+◌, ◌-◌, ◌*◌, ◌/◌, ◌%◌, ◌≤◌, ◌<◌, List, length, get_or, set}
-use Rattle.std.proofs.Common.{inl, inr, refl, sym, ap, subst, ◌∙◌, arith}
+use Rattle.std.proofs.Common.{Bool, true, false, cond, leb, inl, inr, refl, sym, ap, subst, ◌∙◌, arith}
 use Rattle.std.specs.List.{All}
-use Rattle.std.proofs.lemmas.List.{get_or-set_other}
-use Rattle.std.proofs.lemmas.Bool.{cases_lt, cases_eq}
+use Rattle.std.proofs.lemmas.List.{get_or-set_other, get_or-set_same, length-set}
+use Rattle.std.proofs.lemmas.Bool.{cases_lt, cases_eq, leb-true, leb-false}
 use Rattle.scheduler.specs.declared.turn.Ahead.{Ahead}
 use Rattle.scheduler.specs.declared.queue.Node.{Node}
 use Rattle.scheduler.specs.QueueSteps.{ahead_at, own_at, seen_in, kept_in, IsRight, HasTurn, AreKept}
@@ -103,6 +103,24 @@ listed_more slot nodes listed count bound are room here within due = record {
     | inr not ↦ (count, (omega arith, here ∙ omega (arith, h, not)))
   ];
 }
+
+-- a place that is written behind the listed ones, and counted if it is due
+pub listed_place : (slot : ℕ) (nodes : List Node) (listed : List ℕ) (count place : ℕ) (is_due : Bool)
+    → AreListed slot nodes listed count place → count < length listed → place < length nodes
+    → is_due ≡ leb (ahead_at nodes place).wake slot
+    → AreListed slot nodes (set listed count place) (count + cond is_due 1 0) (place + 1)
+listed_place slot nodes listed count place true are room within is =
+    listed_more slot nodes (set listed count place) count place (listed_written slot nodes listed count place place are)
+    (omega (arith, room, length-set listed count place)) (get_or-set_same listed count place 0 room) within
+    (leb-true (ahead_at nodes place).wake slot (sym is))
+listed_place slot nodes listed count place false are room within is =
+    let none : count ≡ count + 0 = omega arith in
+    let Listed : ℕ → Type 0 = λ n. AreListed slot nodes (set listed count place) n (place + 1) in
+    let awake : (k : ℕ) → place ≤ k → k < place + 1 → slot < (ahead_at nodes k).wake = λ k from till.
+    let here : k ≡ place = omega (arith, from, till) in
+    omega (arith, ap (λ j. (ahead_at nodes j).wake) here, leb-false (ahead_at nodes place).wake slot (sym is)) in
+    subst Listed none (listed_past slot nodes (set listed count place) count place (place + 1)
+    (listed_written slot nodes listed count place place are) (omega arith) awake)
 
 -- no place is due between the places below one that was looked at and those below the next one
 pub none_between : (slot : ℕ) (nodes : List Node) (listed : List ℕ) (count bound looked further : ℕ) → IsTree nodes

@@ -4,7 +4,7 @@
 //! below which that is so are listed, from place 0 down, and then looked at again, from the last of the list up.
 
 ghost use Rattle.std.specs.Prelude.{◌≡◌, ◌≢◌, ◌<◌, ◌≤◌, ℕ, ◌+◌, ◌*◌, length, All, AllPairs, Any, map, slice_set};
-ghost use Rattle.std.specs.Prelude.{◌==◌, ◌++◌, ◌∷◌, [], MatchBool, OnOk, OnErr};
+ghost use Rattle.std.specs.Prelude.{◌==◌, ◌++◌, ◌∷◌, [], if◌then◌else◌, MatchBool, OnOk, OnErr};
 ghost use Rattle.std.specs.Prelude.{Option, Some, None, slice_index_or};
 ghost use Rattle.scheduler.specs.PlanSteps.{IsChoice, after_slot, scheduled_stopped};
 ghost use Rattle.scheduler.specs.declared.queue.Node.{Node};
@@ -147,23 +147,15 @@ fn renew(nodes: &mut [Node], place: usize, slot: u16)
     nodes[place].renew(slot, below);
 }
 
-/// Lists, behind the places that are listed, the next one, if at or below it a message is to be looked at again by
-/// `slot`.
-fn list_place(nodes: &[Node], listed: &mut [usize], count: usize, place: usize, slot: u16) -> usize
-    requires room { length nodes.now ≤ length listed.old }
-    requires within { place < length nodes.now }
-    requires before { AreListed slot nodes.now listed.old count place }
-    ensures stays { (i : ℕ) → i < count → slice_index_or listed.new i 0 ≡ slice_index_or listed.old i 0 }
-    ensures more { count ≤ result }
-    ensures listed { AreListed slot nodes.now listed.new result (place + 1) }
+/// Lists a place behind those that are listed, if it is due, and says how many are then listed.
+fn list_place(listed: &mut [usize], count: usize, place: usize, is_due: bool) -> usize
+    requires { count < length listed.old }
+    ensures written { listed.new ≡ slice_set listed.old count place }
+    ensures counted { result ≡ count + (if is_due then 1 else 0) }
 {
     // written in either case, which spares a branch that can't be foreseen
     listed[count] = place;
-    if nodes[place].ahead.wake <= u32::from(slot) {
-        count + 1
-    } else {
-        count
-    }
+    if is_due { count + 1 } else { count }
 }
 
 /// Lists, behind the places that are listed, each place below this one at or below which a message is to be looked at
@@ -176,9 +168,12 @@ fn list_eight(nodes: &[Node], listed: &mut [usize], count: usize, place: usize, 
     ensures more { count ≤ result }
     ensures listed { AreListed slot nodes.now listed.new result (place * 8 + 9) }
 {
+    let first = place * BELOW + 1;
+    let eight = &nodes[first..first + BELOW];
     let mut found = count;
     for below in 0..BELOW {
-        found = list_place(nodes, listed, found, place * BELOW + 1 + below, slot);
+        let is_due = eight[below].ahead.wake <= u32::from(slot);
+        found = list_place(listed, found, first + below, is_due);
     }
     found
 }
@@ -202,7 +197,8 @@ fn list_below(nodes: &[Node], listed: &mut [usize], count: usize, place: usize, 
     for below in 0..BELOW {
         let child = place * BELOW + 1 + below;
         if child < nodes.len() {
-            found = list_place(nodes, listed, found, child, slot);
+            let is_due = nodes[child].ahead.wake <= u32::from(slot);
+            found = list_place(listed, found, child, is_due);
         }
     }
     found

@@ -1,6 +1,9 @@
-use Rattle.std.proofs.Common.{◌≡◌, ℕ, ◌+◌, ◌*◌, ◌<◌, ◌≤◌, List, arith, get_or, sym, subst, ◌∙◌}
-use Rattle.scheduler.specs.QueueSteps.{AreListed}
-use Rattle.scheduler.proofs.Listed.{listed_end}
+use Rattle.std.proofs.Common.{◌≡◌, ℕ, ◌+◌, ◌*◌, ◌<◌, ◌≤◌, List, arith, ap, length, leb, get_or, sym, subst, ◌∙◌}
+use Rattle.scheduler.specs.declared.turn.Ahead.{Ahead}
+use Rattle.scheduler.specs.QueueSteps.{AreListed, ahead_at}
+use Rattle.scheduler.proofs.FirstTurn.{blank}
+use Rattle.scheduler.proofs.Tree.{ahead_at-is}
+use Rattle.scheduler.proofs.Listed.{listed_end, listed_other, listed_place}
 use Rattle.scheduler.proofs.queue.list_below.Goals as goal
 use Rattle.scheduler.proofs.queue.list_below.Goals.{then-child-nodes, else-child-nodes}
 
@@ -20,12 +23,21 @@ loop-below-preserved c =
     let whole : To c.if-child-nodes.listed c.if-child-nodes.found = elim c.if-child-nodes.branch [
       | then-child-nodes w ↦
           let its = w.list_place-found.ensures in
+          let found = c.loop-below.found in
+          let was = c.loop-below.invariant in
+          let within : child < length nodes = omega (arith, w.if-child-nodes.true) in
+          let room : found < length old = omega (arith, was.1.1.few, c.requires.room, c.loop-below.auto.listed, within)
+          in
+          let wake = sym (ap (λ (a : Ahead). a.wake) (ahead_at-is nodes child blank within)) in
+          let due = ap (λ n. leb n w.from.result) wake ∙ ap (leb (ahead_at nodes child).wake) w.from.ensures in
+          let are = listed_place slot nodes old found child _ was.1.1 room within due in
           subst (λ listed. To listed c.if-child-nodes.found) (sym w.listed-is) (subst
           (To w.list_place-found.new.listed) (sym w.found-is) (
-            omega (arith, c.loop-below.invariant.0, its.more),
+            omega (arith, was.0, its.counted),
             (
-              λ i h. its.stays i (omega (arith, h, c.loop-below.invariant.0)) ∙ c.loop-below.invariant.1.0 i h,
-              its.listed,
+              λ i h. ap (λ listed. get_or listed i 0) its.written
+                  ∙ (listed_other old found child i (omega (arith, h, was.0)) ∙ was.1.0 i h),
+              rw (its.written, its.counted) are,
             ),
           ))
       | else-child-nodes w ↦
