@@ -1,2 +1,2 @@
 pub mod Serving
-pub mod Tapes
+pub mod Written

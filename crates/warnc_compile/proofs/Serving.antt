@@ -5,7 +5,7 @@ use native.Mathlib.Omega.{arith}
 use Rattle.std.specs.Global.{Global}
 use Rattle.cbsp_wire.specs.declared.message.Message.{Message}
 use Rattle.alert_book.specs.declared.request.Request.{Request}
-use Rattle.alert_book.specs.Session.{after_reply, GivesRequest, IsGiven, IsReply, Standing}
+use Rattle.alert_book.specs.Session.{after_reply, GivesRequest, IsGiven, Standing}
 use Rattle.alert_book.specs.Stands.{left_in, Advances, SessionState, StandsFor}
 use Rattle.alert_book.specs.TurnLaws.{SessionsEnd}
 

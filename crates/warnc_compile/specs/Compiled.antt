@@ -1,11 +1,13 @@
 -- What `warnc compile` makes of the octets that it reads: the tapes of the book's cells. Own.
-use Rattle.std.specs.Prelude.{◌≡◌, ⊤, ℕ, List, Option, All}
+use Rattle.std.specs.Prelude.{◌≡◌, ⊤, ℕ, ◌<◌, ◌≤◌, List, Option, All}
 use Rattle.std.specs.Io.KnownBytes.{Appends, Consumes, IsAtEnd, Keeps}
 use Rattle.std.specs.List.{flat_map}
 use Rattle.device_ends.specs.Moves.{AppendsFront}
 use Rattle.alert_book.specs.Book.{Contents, IsBook, RefusesBook}
 use Rattle.bsc_table.specs.Record.{Record}
 use Rattle.cbch_blocks.specs.RecordBlocks.{tape_of_record}
+use Rattle.parallel_compile.specs.declared.fault.CompileFault.{CompileFault}
+use Rattle.parallel_compile.specs.declared.fault.CompileFault.TheVariants as compile
 use Rattle.warnc_compile.specs.declared.fault.RunFault.{RunFault}
 use Rattle.warnc_compile.specs.declared.fault.RunFault.TheVariants as fault
 use Rattle.book_runs.specs.Meant.{IsMeantIn}
@@ -50,17 +52,30 @@ pub record ReadsBook (first last : Option (List ℕ)) : Type 0 where
   pub ended : IsAtEnd last
   pub is_book : IsBook input book
 
+-- there are 1 to 64 workers
+abbrev pub AreWorkers : ℕ → Type 0
+AreWorkers workers = (0 < workers) × (workers ≤ 64)
+
 -- a fault of the writer
 abbrev pub IsWriteFault : RunFault → Type 0
 IsWriteFault (fault.Write failed) = ⊤
 IsWriteFault other = ⊥
 
+-- why workers made no tapes, of octets that the reader has left before and after: there can't be so many of them, or
+-- the octets are a book, and memory ran out. No piece of theirs is missing
+abbrev pub IsCompileFault : (first last : Option (List ℕ)) → CompileFault → Type 0
+IsCompileFault first last compile.Workers = ⊤
+IsCompileFault first last compile.Refused = ReadsBook first last
+IsCompileFault first last (compile.Piece index) = ⊥
+
 -- why no tapes were made: the fault is the book's; or the octets are a book, and the desk refused an order, or wasn't
--- settled; or memory ran out; and nothing is written. Or the writer failed with a front of the tapes
+-- settled; or it is the workers' fault; or memory ran out; and nothing is written. Or the writer failed with a front of
+-- the tapes
 abbrev pub IsRunFault : (Means : (input output : List ℕ) → Type 0) (first last old new : Option (List ℕ)) → RunFault
     → Type 0
 IsRunFault Means first last old new (fault.Book f) = RefusesBook first last f × Keeps old new
 IsRunFault Means first last old new (fault.Desk f) = ReadsBook first last × Keeps old new
 IsRunFault Means first last old new (fault.Settle f) = ReadsBook first last × Keeps old new
+IsRunFault Means first last old new (fault.Compile f) = IsCompileFault first last f × Keeps old new
 IsRunFault Means first last old new fault.Refused = Keeps old new
 IsRunFault Means first last old new (fault.Write failed) = MakesFront Means first last old new

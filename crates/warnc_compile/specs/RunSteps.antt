@@ -5,13 +5,15 @@ use Rattle.bsc_table.specs.Record.{Record}
 use Rattle.cbch_blocks.specs.RecordBlocks.{tape_of_record}
 use Rattle.book_runs.specs.Live.{IsLiveRun}
 use Rattle.book_runs.specs.Run.{Exchange}
+use Rattle.parallel_compile.specs.declared.fault.CompileFault.TheVariants as compile
 use Rattle.warnc_compile.specs.declared.fault.RunFault.{RunFault}
 use Rattle.warnc_compile.specs.declared.fault.RunFault.TheVariants as fault
 
--- a fault of a run under way: neither the book's nor the writer's
+-- a fault of a run under way: neither the book's nor the writer's, and the workers' only if memory ran out
 abbrev pub IsOfRun : RunFault → Type 0
 IsOfRun (fault.Book f) = ⊥
 IsOfRun (fault.Write failed) = ⊥
+IsOfRun (fault.Compile f) = f ≡ compile.Refused
 IsOfRun other = ⊤
 
 -- the records of a run of a book with a session for each part

@@ -1,28 +1,28 @@
 //! The command `compile`: a book of alerts to the tapes of its cells.
 
-ghost use Rattle.std.specs.Prelude.{◌≡◌, ◌↔◌, ◌≢◌, ℕ, List, false, true, IfErr, IfOk, IsErrOf, IsTrue, OnErr, OnOk};
+ghost use Rattle.std.specs.Prelude.{◌≡◌, ◌↔◌, ◌≤◌, ◌<◌, false, true, IfErr, IsErrOf, IsTrue, OnOk};
 ghost use Rattle.device_ends.specs.Sink.{sink_failed, writer_of};
 ghost use Rattle.device_ends.specs.Source.{reader_of, source_failed};
-ghost use Rattle.alert_book.specs.Book.{IsBook, unread};
-ghost use Rattle.warnc_compile.specs.Compiled.{IsCompiled, IsRunFault, IsWriteFault, Makes};
+ghost use Rattle.alert_book.specs.Book.{unread};
+ghost use Rattle.parallel_compile.specs.declared.fault.CompileFault.TheVariants as compile;
+ghost use Rattle.warnc_compile.specs.Compiled.{AreWorkers, IsCompiled, IsRunFault, IsWriteFault, Makes};
 ghost use Rattle.warnc_compile.specs.declared.fault.RunFault.TheVariants as faults;
-ghost use Rattle.warnc_compile.specs.RunSteps.{AreTapesOf, HaveRunLive, IsOfRun};
 
 use crate::fault::RunFault;
-use crate::finish::{tapes_of, write_tapes};
-use crate::session::serve;
-use crate::settled::records_of;
-use alert_book::{Book, read_book};
-use bsc_table::CellRecord;
-use cbch_blocks::Tape;
+use crate::finish::write_tapes;
+use crate::tapes::tapes_of_book;
+use alert_book::read_book;
 use device_ends::{Sink, Source};
-use order_desk::{Desk, Open};
+use order_desk::Open;
+use parallel_compile::CompileFault;
 use std::io::{Read, Write};
 use std::sync::Wait;
 use std::thread::Threads;
 
 /// Reads a book, has the cells of a desk carry out what its one session orders, in runs of `slots` slots, settles the
-/// desk, and writes the tapes of the cells, in the order of the book. Nothing is written before all tapes are made.
+/// desk, and writes the tapes of the cells, in the order of the book. Nothing is written before all tapes are made. So
+/// many workers, 1 to 64, play the cells to the ends of their runs and make the tapes side by side: with any number of
+/// them the same is written.
 ///
 /// What was written is what the book means (`IsCompiled`): there is one session, whose messages are those of the book's
 /// rows by the replies that it gets; each cell's log has what the messages order of it, in order, once each and nothing
@@ -35,21 +35,27 @@ use std::thread::Threads;
 ///
 /// Returns the book's fault, the desk's, the settlement's or [`RunFault::Refused`] with nothing written, and
 /// [`RunFault::Write`] with a front of the tapes written. What a lock of the desk holds is known by its type alone, so
-/// no contract excludes the faults [`RunFault::Desk`] and [`RunFault::Settle`].
+/// no contract excludes the faults [`RunFault::Desk`] and [`RunFault::Settle`]. With no workers or over 64 it returns
+/// [`RunFault::Compile`] with [`CompileFault::Workers`], before anything is read; it never has [`CompileFault::Piece`].
 pub fn compile_stream<T: AllocGlobal + Threads + Wait + Sync, R: Read, W: Write>(
     rt: &T,
     source: &mut Source<R>,
     sink: &mut Sink<W>,
     slots: u16,
+    workers: u64,
 ) -> Result<(), RunFault>
     ensures ok { OnOk result (Makes (IsCompiled slots) (R.remaining (reader_of source.old))
         (R.remaining (reader_of source.new)) (W.contents (writer_of sink.old)) (W.contents (writer_of sink.new))) }
     ensures fault { IfErr result (IsRunFault (IsCompiled slots) (R.remaining (reader_of source.old))
         (R.remaining (reader_of source.new)) (W.contents (writer_of sink.old)) (W.contents (writer_of sink.new))) }
 
+    // The number of workers is judged first.
+    ensures workers { IsErrOf result (faults.Compile compile.Workers) ↔ (AreWorkers workers → ⊥) }
+    ensures untried { IsErrOf result (faults.Compile compile.Workers) → source.new ≡ source.old }
+
     // At any reader and any writer: a failed reader is reported exactly if the source has failed, and a failed writer
     // only if the sink has. Nothing is written with any other fault, and an end that had failed before is as it was.
-    ensures read { IsErrOf result (faults.Book unread) ↔ IsTrue (source_failed source.new) }
+    ensures read { AreWorkers workers → (IsErrOf result (faults.Book unread) ↔ IsTrue (source_failed source.new)) }
     ensures write { IfErr result (λ fault. IsWriteFault fault → sink_failed sink.new ≡ true) }
     ensures untouched { IfErr result (λ fault. (IsWriteFault fault → ⊥) → sink.new ≡ sink.old) }
     ensures not_failed { OnOk result (sink_failed sink.new ≡ false) }
@@ -59,47 +65,16 @@ pub fn compile_stream<T: AllocGlobal + Threads + Wait + Sync, R: Read, W: Write>
     // A handset is shown what the book means, whatever the cells answered.
     book_runs::run_laws();
     book_runs::session_laws();
+    if workers == 0 || workers > 64 {
+        return Err(RunFault::Compile(CompileFault::Workers));
+    }
     let book = match read_book(rt, source) {
         Ok(book) => book,
         Err(fault) => return Err(RunFault::Book(fault)),
     };
-    let tapes = tapes_of_book(rt, book, slots)?;
+    let tapes = tapes_of_book(rt, book, slots, 1, workers, &Open)?;
     match write_tapes(&tapes, sink) {
         Ok(()) => Ok(()),
         Err(fault) => Err(RunFault::Write(fault)),
     }
-}
-
-/// The records of a book's cells after its one session.
-fn records_of_book<T: AllocGlobal + Wait>(
-    rt: &T,
-    book: &Book,
-    slots: u16,
-) -> Result<Vec<CellRecord>, RunFault>
-    requires { (input : List ℕ) × IsBook input book.now }
-    ensures ok { IfOk result (λ records. HaveRunLive book.now slots 1 records.items) }
-    ensures err { IfErr result IsOfRun }
-{
-    // No book has a cell twice.
-    alert_book::book_laws();
-    let alloc = rt.alloc();
-    let desk = Desk::open(alloc, book.cells(), slots)?;
-    let mut pass = desk.pass();
-    serve(rt, alloc, book, 0, 1, &desk, &mut pass, &Open)?;
-    records_of(alloc, book, desk, 1, &[pass])
-}
-
-/// The tapes of a book's cells. The book goes before they are made.
-fn tapes_of_book<T: AllocGlobal + Wait>(
-    rt: &T,
-    book: Book,
-    slots: u16,
-) -> Result<Vec<Tape>, RunFault>
-    requires { (input : List ℕ) × IsBook input book }
-    ensures ok { IfOk result (λ tapes. AreTapesOf book slots 1 tapes.items) }
-    ensures err { IfErr result IsOfRun }
-{
-    let records = records_of_book(rt, &book, slots)?;
-    drop(book);
-    tapes_of(rt.alloc(), records)
 }

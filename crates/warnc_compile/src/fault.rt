@@ -6,6 +6,7 @@ ghost use Rattle.warnc_compile.specs.declared.fault.RunFault.TheVariants as faul
 use alert_book::BookFault;
 use cbch_blocks::WriteFailed;
 use order_desk::{DeskFault, SettleFault};
+use parallel_compile::CompileFault;
 use std::alloc::{AllocError, AllocFailed};
 use thiserror::Error;
 
@@ -21,6 +22,9 @@ pub enum RunFault {
     /// What the sessions were told isn't what the cells hold.
     #[error("{0}")]
     Settle(SettleFault),
+    /// The number of workers isn't one that there can be, or they had no memory.
+    #[error("{0}")]
+    Compile(CompileFault),
     /// The writer failed. Some of the tapes may be out: the fault has how many octets of the one under way.
     #[error("{0}")]
     Write(WriteFailed),
@@ -53,6 +57,14 @@ impl From<alert_book::Refused> for RunFault {
     }
 }
 
+impl From<DeskFault> for RunFault {
+    ghost from_gives = { λ desk fault. fault ≡ faults.Desk desk };
+
+    fn from(fault: DeskFault) -> RunFault {
+        RunFault::Desk(fault)
+    }
+}
+
 impl From<bsc_table::Refused> for RunFault {
     ghost from_gives = { λ _ fault. fault ≡ faults.Refused };
 
@@ -61,19 +73,19 @@ impl From<bsc_table::Refused> for RunFault {
     }
 }
 
-impl From<cbch_blocks::Refused> for RunFault {
+impl From<tickets::Refused> for RunFault {
     ghost from_gives = { λ _ fault. fault ≡ faults.Refused };
 
-    fn from(_error: cbch_blocks::Refused) -> RunFault {
+    fn from(_error: tickets::Refused) -> RunFault {
         RunFault::Refused
     }
 }
 
-impl From<DeskFault> for RunFault {
-    ghost from_gives = { λ desk fault. fault ≡ faults.Desk desk };
+impl From<CompileFault> for RunFault {
+    ghost from_gives = { λ compile fault. fault ≡ faults.Compile compile };
 
-    fn from(fault: DeskFault) -> RunFault {
-        RunFault::Desk(fault)
+    fn from(fault: CompileFault) -> RunFault {
+        RunFault::Compile(fault)
     }
 }
 

@@ -1,32 +1,14 @@
-//! The end of a run: the tapes of its records.
+//! The end of a run: its tapes are written.
 
-ghost use Rattle.std.specs.Prelude.{◌≡◌, ◌<◌, ℕ, List, map, length, true, is_err, All, IfErr, IfOk, OnErr, OnOk};
+ghost use Rattle.std.specs.Prelude.{◌≡◌, ◌<◌, ℕ, List, length, true, is_err, All, OnErr, OnOk};
 ghost use Rattle.std.specs.Io.KnownBytes.{Appends};
 ghost use Rattle.std.specs.List.{flat_map};
 ghost use Rattle.device_ends.specs.Moves.{AppendsFront};
 ghost use Rattle.device_ends.specs.Sink.{sink_failed, writer_of};
-ghost use Rattle.cbch_blocks.specs.RecordBlocks.{tape_of_record};
-ghost use Rattle.warnc_compile.specs.RunSteps.{IsOfRun};
 
-use crate::fault::RunFault;
-use bsc_table::CellRecord;
-use cbch_blocks::{Tape, WriteFailed, tape_of};
+use cbch_blocks::{Tape, WriteFailed};
 use device_ends::Sink;
-use std::alloc::Global;
 use std::io::Write;
-
-/// The tapes of records. Each record goes once its tape is made, so that the memory of all records and that of all
-/// tapes is never held at once.
-pub(crate) fn tapes_of(alloc: Global, records: Vec<CellRecord>) -> Result<Vec<Tape>, RunFault>
-    ensures ok { IfOk result (λ tapes. tapes.items ≡ map tape_of_record records.items) }
-    ensures err { IfErr result IsOfRun }
-{
-    let mut tapes = Vec::with_capacity(alloc, records.len())?;
-    for record in records {
-        tapes.push(tape_of(alloc, &record)?)?;
-    }
-    Ok(tapes)
-}
 
 /// Writes tapes, one after the other.
 pub(crate) fn write_tapes<W: Write>(tapes: &[Tape], sink: &mut Sink<W>) -> Result<(), WriteFailed>

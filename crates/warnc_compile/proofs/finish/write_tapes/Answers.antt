@@ -1,5 +1,5 @@
 use Rattle.std.proofs.Common.{◌<◌, List, ℕ, length, sym, subst}
-use Rattle.warnc_compile.proofs.Tapes.{front_of_tapes, where_err}
+use Rattle.warnc_compile.proofs.Written.{front_of_tapes, where_err}
 use Rattle.warnc_compile.proofs.finish.write_tapes.Goals as goal
 
 pub returns-in_err-write_to-clause-err : goal.returns-in_err-write_to-clause-err

@@ -1,7 +1,7 @@
 use Rattle.std.proofs.Common.{◌<◌, ◌≤◌, ℕ, List, length, All, sym, subst}
 use native.Mathlib.Omega.{arith}
 use Rattle.warnc_compile.specs.RunSteps.{AreTapesOf}
-use Rattle.warnc_compile.proofs.Tapes.{made_live, joined, tapes_have_octets}
+use Rattle.warnc_compile.proofs.Written.{made_live, joined, tapes_have_octets}
 use Rattle.warnc_compile.proofs.live.live_stream.Goals as goal
 
 pub write_tapes-requires : goal.write_tapes-requires

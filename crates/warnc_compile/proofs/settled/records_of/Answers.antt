@@ -1,5 +1,4 @@
 use Rattle.std.proofs.Common.{◌≡◌, List, All, refl, sym, subst, ◌∙◌}
-use Rattle.cbsp_wire.specs.declared.message.Cell.{Cell}
 use Rattle.bsc_table.specs.Record.{Record}
 use Rattle.book_runs.specs.Sessions.{AreSessions}
 use Rattle.session_check.specs.Checked.{HasRightNumbers}

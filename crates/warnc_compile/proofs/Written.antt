@@ -1,16 +1,18 @@
 -- How tapes are written, and of which run they are.
 use Rattle.std.proofs.Common.{◌≡◌, ℕ, ◌<◌, ◌≤◌, List, [], ◌∷◌, ◌++◌, length, map, take, drop, get_or, All}
-use Rattle.std.proofs.Common.{Option, Result, Ok, Err, OnErr, refl, sym, subst, ap, ◌∙◌, suc}
+use Rattle.std.proofs.Common.{Option, Result, Ok, Err, OnErr, refl, sym, subst, ap, ◌∙◌, suc, true, rules}
 use native.Mathlib.Omega.{arith}
 use Rattle.std.specs.Io.KnownBytes.{Appends}
 use Rattle.std.specs.List.{flat_map}
-use Rattle.std.proofs.lemmas.List.{length-append, take-append-drop, take-append-le}
+use Rattle.std.proofs.lemmas.List.{length-append, length-map, take-append-drop, take-append-le}
 use Rattle.std.proofs.lemmas.Grind.{flat_map-append}
 use Rattle.std.proofs.lemmas.List.Elements.{All-map}
 use Rattle.std.proofs.Math.Seq.{drop-cons}
 use Rattle.device_ends.specs.Moves.{AppendsFront}
 use Rattle.device_ends.proofs.EndLaws.{AppendsFront-after}
 use Rattle.alert_book.specs.Book.{Contents, IsBook}
+use Rattle.cbsp_wire.specs.declared.message.Cell.{Cell}
+use Rattle.cbsp_wire.specs.Range.{cells_are_valid}
 use Rattle.bsc_table.specs.Record.{Record}
 use Rattle.cbch_blocks.specs.RecordBlocks.{tape_of_record}
 use Rattle.book_runs.specs.Live.{IsLiveRun}
@@ -72,6 +74,17 @@ pub tapes_have_octets : (tapes : List (List ℕ)) (records : List Record) → ta
 tapes_have_octets tapes records made =
     subst (All (λ (tape : List ℕ). 0 < length tape)) (sym made)
     (All-map (λ (tape : List ℕ). 0 < length tape) tape_of_record records (λ k d within. omega arith))
+
+-- a book's cells are few, and so are their records
+pub records_are_few : (cells : List Cell) (records shown : List Record)
+    → cells_are_valid cells ≡ true
+    → map (λ (r : Record). r.cell) records ≡ cells
+    → shown ≡ records
+    → length shown ≤ 64
+records_are_few cells records shown valid are is =
+    let few : length cells ≤ 64 = search (rules, valid) in
+    subst (λ (n : ℕ). n ≤ 64)
+    (sym (ap length is ∙ sym (length-map records (λ (r : Record). r.cell)) ∙ ap length are)) few
 
 -- and joined they are the output
 pub joined_tapes : (records : List Record) → joined (map tape_of_record records) ≡ flat_map tape_of_record records
