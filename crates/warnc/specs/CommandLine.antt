@@ -50,23 +50,24 @@ pub record GivesSlots (words : List (List ℕ)) (slots : ℕ) : Type 0 where
   pub some : 1 ≤ slots
   pub most : slots ≤ 65535
 
--- the words give a number of sessions, 1 to 64; it is 1 where no word begins with the option's name
-pub record GivesSessions (words : List (List ℕ)) (sessions : ℕ) : Type 0 where
-  pub given : GivesNumber words (codes "--sessions") sessions
-      ⊎ ((is_given words (codes "--sessions") ≡ false) × (sessions ≡ 1))
-  pub some : 1 ≤ sessions
-  pub most : sessions ≤ 64
+-- the words give the option of this name a number, 1 to 64; it is 1 where no word begins with the option's name
+pub record GivesThreads (words : List (List ℕ)) (name : List ℕ) (number : ℕ) : Type 0 where
+  pub given : GivesNumber words name number ⊎ ((is_given words name ≡ false) × (number ≡ 1))
+  pub some : 1 ≤ number
+  pub most : number ≤ 64
 
--- the words ask for `compile` with this number of slots
-pub record IsCompileOrder (words : List (List ℕ)) (slots : ℕ) : Type 0 where
+-- the words ask for `compile` with this number of slots and of workers
+pub record IsCompileOrder (words : List (List ℕ)) (slots workers : ℕ) : Type 0 where
   pub command : slice_get words 1 ≡ Some (codes "compile")
   pub slots_given : GivesSlots words slots
+  pub workers_given : GivesThreads words (codes "--workers") workers
 
--- the words ask for `live` with this number of slots and of sessions
-pub record IsLiveOrder (words : List (List ℕ)) (slots sessions : ℕ) : Type 0 where
+-- the words ask for `live` with this number of slots, of sessions and of workers
+pub record IsLiveOrder (words : List (List ℕ)) (slots sessions workers : ℕ) : Type 0 where
   pub command : slice_get words 1 ≡ Some (codes "live")
   pub slots_given : GivesSlots words slots
-  pub sessions_given : GivesSessions words sessions
+  pub sessions_given : GivesThreads words (codes "--sessions") sessions
+  pub workers_given : GivesThreads words (codes "--workers") workers
 
 -- a word that asks for help or for the version
 abbrev pub is_text_word : List ℕ → Bool

@@ -13,6 +13,8 @@ use Rattle.order_desk.specs.declared.fault.DeskFault.{DeskFault}
 use Rattle.order_desk.specs.declared.fault.DeskFault.TheVariants as desk
 use Rattle.order_desk.specs.declared.settle.SettleFault.{SettleFault}
 use Rattle.order_desk.specs.declared.settle.SettleFault.TheVariants as settle
+use Rattle.parallel_compile.specs.declared.fault.CompileFault.{CompileFault}
+use Rattle.parallel_compile.specs.declared.fault.CompileFault.TheVariants as compile
 use Rattle.warnc_compile.specs.declared.fault.RunFault.{RunFault}
 use Rattle.warnc_compile.specs.declared.fault.RunFault.TheVariants as run
 use Rattle.warnc_engine.specs.declared.read.ReadCommandFault.{ReadCommandFault}
@@ -22,8 +24,8 @@ use Rattle.warnc_engine.specs.declared.read.ReadCommandFault.TheVariants as tabl
 abbrev pub IsOrdered : (words : List (List ℕ)) → Order → Type 0
 IsOrdered words (Page options) = IsPageOrder words options.language.now options.id options.serial
 IsOrdered words Read = IsReadOrder words
-IsOrdered words (Compile slots) = IsCompileOrder words slots
-IsOrdered words (Live slots sessions) = IsLiveOrder words slots sessions
+IsOrdered words (Compile slots workers) = IsCompileOrder words slots workers
+IsOrdered words (Live slots sessions workers) = IsLiveOrder words slots sessions workers
 
 -- the status of a fault of `read`: 1 if the input is refused, 3 if a device failed, 4 if there was no memory
 abbrev pub status_of_read_fault : ReadCommandFault → ℕ
@@ -42,12 +44,18 @@ abbrev pub status_of_settle_fault : SettleFault → ℕ
 status_of_settle_fault settle.Refused = 4
 status_of_settle_fault other = 1
 
--- the status of a fault of `compile` or of `live`: that of the book's fault, of the desk's or of the settlement's, 3 if
--- the writer failed, 4 if there was no memory
+-- the status of a fault of workers: 4 if there was no memory, else 1
+abbrev pub status_of_compile_fault : CompileFault → ℕ
+status_of_compile_fault compile.Refused = 4
+status_of_compile_fault other = 1
+
+-- the status of a fault of `compile` or of `live`: that of the book's fault, of the desk's, of the settlement's or of
+-- the workers', 3 if the writer failed, 4 if there was no memory
 abbrev pub status_of_run_fault : RunFault → ℕ
 status_of_run_fault (run.Book f) = status_of_book_fault f
 status_of_run_fault (run.Desk f) = status_of_desk_fault f
 status_of_run_fault (run.Settle f) = status_of_settle_fault f
+status_of_run_fault (run.Compile f) = status_of_compile_fault f
 status_of_run_fault (run.Write failed) = 3
 status_of_run_fault run.Refused = 4
 

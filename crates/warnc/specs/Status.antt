@@ -84,18 +84,20 @@ pub record WroteTable (words : List (List ℕ)) (input old new : Option (List �
   pub wrote : WritesOutput IsReadOutput input old new
 
 -- the words ask for `compile`, and what was written is the tapes of the book's cells, in runs of as many slots as the
--- words say
+-- words say, whatever the number of workers
 pub record WroteTapes (words : List (List ℕ)) (input old new : Option (List ℕ)) : Type 0 where
   pub slots : ℕ
-  pub asked : IsCompileOrder words slots
+  pub workers : ℕ
+  pub asked : IsCompileOrder words slots workers
   pub wrote : WritesOutput (IsCompiled slots) input old new
 
 -- the words ask for `live`, and what was written is the tapes of the book's cells, in runs of as many slots and with as
--- many sessions as the words say
+-- many sessions as the words say, whatever the number of workers
 pub record WroteLiveTapes (words : List (List ℕ)) (input old new : Option (List ℕ)) : Type 0 where
   pub slots : ℕ
   pub sessions : ℕ
-  pub asked : IsLiveOrder words slots sessions
+  pub workers : ℕ
+  pub asked : IsLiveOrder words slots sessions workers
   pub wrote : WritesOutput (IsLive slots sessions) input old new
 
 abbrev pub WroteWhatIsAsked : (words : List (List ℕ)) (input old new : Option (List ℕ)) → Type 0
@@ -121,14 +123,16 @@ pub record RefusesTapes (words : List (List ℕ)) (input : Option (List ℕ)) : 
 -- the words ask for `compile`, and the input is no book or has no run
 pub record RefusesAlerts (words : List (List ℕ)) (input : Option (List ℕ)) : Type 0 where
   pub slots : ℕ
-  pub asked : IsCompileOrder words slots
+  pub workers : ℕ
+  pub asked : IsCompileOrder words slots workers
   pub refused : IfSome input IsNoRun
 
 -- the words ask for `live`, and the input is no book or has no run
 pub record RefusesLiveAlerts (words : List (List ℕ)) (input : Option (List ℕ)) : Type 0 where
   pub slots : ℕ
   pub sessions : ℕ
-  pub asked : IsLiveOrder words slots sessions
+  pub workers : ℕ
+  pub asked : IsLiveOrder words slots sessions workers
   pub refused : IfSome input IsNoRun
 
 abbrev pub RefusesInput : (words : List (List ℕ)) (input : Option (List ℕ)) → Type 0

@@ -2,7 +2,7 @@
 
 ghost use Rattle.std.specs.Prelude.{◌≡◌, IfOk, IfSome, codes, map, slice_get};
 ghost use Rattle.warnc.specs.CommandLine.{asks_for_text, begins_with, is_given, is_text_word, GivesNumber};
-ghost use Rattle.warnc.specs.CommandLine.{GivesSessions, GivesSlots, GivesValue, IsPageOrder};
+ghost use Rattle.warnc.specs.CommandLine.{GivesSlots, GivesThreads, GivesValue, IsPageOrder};
 ghost use Rattle.warnc.specs.RunSteps.{IsOrdered};
 
 use cbs_page::Serial;
@@ -35,6 +35,8 @@ pub enum Order<'a> {
     Compile {
         /// How many slots each cell's run has, at least 1.
         slots: u16,
+        /// How many workers there are, 1 to 64.
+        workers: u16,
     },
     /// `live`.
     Live {
@@ -42,6 +44,8 @@ pub enum Order<'a> {
         slots: u16,
         /// How many sessions there are, 1 to 64.
         sessions: u16,
+        /// How many workers there are, 1 to 64.
+        workers: u16,
     },
 }
 
@@ -71,10 +75,12 @@ fn order_in<'a, S: AsStr>(words: &'a [S]) -> Option<Order<'a>>
         "read" => Some(Order::Read),
         "compile" => Some(Order::Compile {
             slots: slots_in(words)?,
+            workers: threads_in(words, "--workers")?,
         }),
         "live" => Some(Order::Live {
             slots: slots_in(words)?,
-            sessions: sessions_in(words)?,
+            sessions: threads_in(words, "--sessions")?,
+            workers: threads_in(words, "--workers")?,
         }),
         _ => None,
     }
@@ -106,18 +112,18 @@ fn slots_in<S: AsStr>(words: &[S]) -> Option<u16>
     Some(slots)
 }
 
-/// The number of sessions that the words give; 1 if they give none.
-fn sessions_in<S: AsStr>(words: &[S]) -> Option<u16>
-    ensures { IfSome result (GivesSessions (map S.text words.now)) }
+/// The number, 1 to 64, that the words give the option of this name; 1 if they give none.
+fn threads_in<S: AsStr>(words: &[S], name: &str) -> Option<u16>
+    ensures { IfSome result (GivesThreads (map S.text words.now) name.now) }
 {
-    if !is_given(words, "--sessions") {
+    if !is_given(words, name) {
         return Some(1);
     }
-    let sessions = number_of(words, "--sessions")?;
-    if sessions == 0 || sessions > 64 {
+    let number = number_of(words, name)?;
+    if number == 0 || number > 64 {
         return None;
     }
-    Some(sessions)
+    Some(number)
 }
 
 /// Whether a word begins with the name of an option.
@@ -210,22 +216,44 @@ fn read<'a>(alloc: Global) -> Command<'a> {
 fn compile<'a>(alloc: Global) -> Result<Command<'a>, AllocError> {
     Command::new(alloc, "compile")
         .about("Reads a book of alerts, as CSV, and writes the tapes of its cells' runs")
-        .arg(slots(alloc))
+        .arg(slots(alloc))?
+        .arg(workers(alloc))
 }
 
 /// The command line of `live`.
 fn live<'a>(alloc: Global) -> Result<Command<'a>, AllocError> {
-    let sessions = Arg::new(alloc, "sessions")
-        .long("sessions")
-        .value_name("SESSIONS")
-        .help("How many sessions order side by side, 1 to 64; 1 if it isn't given")
-        .value_parser(value_parser!(u16).range(1..=64));
+    let sessions = threads(
+        alloc,
+        "sessions",
+        "SESSIONS",
+        "How many sessions order side by side, 1 to 64; 1 if it isn't given",
+    );
     Command::new(alloc, "live")
         .about(
             "Does what compile does, with the book's alerts shared by sessions that order side by side",
         )
         .arg(slots(alloc))?
-        .arg(sessions)
+        .arg(sessions)?
+        .arg(workers(alloc))
+}
+
+/// The option of the number of workers.
+fn workers<'a>(alloc: Global) -> Arg<'a> {
+    threads(
+        alloc,
+        "workers",
+        "WORKERS",
+        "How many workers play cells and make tapes side by side, 1 to 64; 1 if it isn't given",
+    )
+}
+
+/// An option `--name` of a number of threads, which needn't be given.
+fn threads<'a>(alloc: Global, name: &'a str, value: &'a str, help: &'a str) -> Arg<'a> {
+    Arg::new(alloc, name)
+        .long(name)
+        .value_name(value)
+        .help(help)
+        .value_parser(value_parser!(u16).range(1..=64))
 }
 
 /// The option of the number of slots.

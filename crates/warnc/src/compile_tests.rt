@@ -36,12 +36,26 @@ fn a_refused_book_is_named(rt: HostRuntime) -> Result<(), Fail> {
     expect_fault(&rt, &COMPILE, text, 1, "warnc: row 2: unknown language\n")
 }
 
-/// Expects that a number of slots is no command line.
+#[test]
+fn four_workers_give_the_worked_tape(rt: HostRuntime) -> Result<(), Fail> {
+    let words = ["warnc", "compile", "--workers", "4", "--slots", "2"];
+    let mut reader = MemoryReader::new(BOOK, 7, None);
+    let mut writer = MemoryWriter::new(rt.alloc(), 11, None);
+    let mut faults = MemoryWriter::new(rt.alloc(), 64, None);
+    let status = run(&rt, &words, &mut reader, &mut writer, &mut faults);
+    assert_eq!(rt; writer.contents(), worked_tape(rt.alloc())?.as_slice());
+    assert_eq!(rt; status, 0);
+    Ok(())
+}
+
+/// Expects that an option of `compile` can't have this value.
 fn expect_usage<T: AllocGlobal + Abort + Threads + Wait + Sync>(
     rt: &T,
     slots: &str,
+    workers: &str,
 ) -> Result<(), Fail> {
-    let run = run_on(rt, &["warnc", "compile", "--slots", slots], BOOK)?;
+    let words = ["warnc", "compile", "--slots", slots, "--workers", workers];
+    let run = run_on(rt, &words, BOOK)?;
     assert_eq!(rt; run.status, 2);
     assert_eq!(rt; run.output.as_str(), "");
     assert!(rt; run.faults.starts_with("error: "), "{}", run.faults);
@@ -50,10 +64,19 @@ fn expect_usage<T: AllocGlobal + Abort + Threads + Wait + Sync>(
 
 #[test]
 fn runs_have_1_to_65535_slots(rt: HostRuntime) -> Result<(), Fail> {
-    expect_usage(&rt, "0")?;
-    expect_usage(&rt, "65536")?;
+    expect_usage(&rt, "0", "1")?;
+    expect_usage(&rt, "65536", "1")?;
     expect_output(&rt, &["warnc", "compile", "--slots=1"], "", "")?;
     expect_output(&rt, &["warnc", "compile", "--slots=65535"], "", "")
+}
+
+#[test]
+fn there_are_1_to_64_workers(rt: HostRuntime) -> Result<(), Fail> {
+    expect_usage(&rt, "2", "0")?;
+    expect_usage(&rt, "2", "65")?;
+    expect_usage(&rt, "2", "two")?;
+    let words = ["warnc", "compile", "--slots=2", "--workers=64"];
+    expect_output(&rt, &words, "", "")
 }
 
 #[test]

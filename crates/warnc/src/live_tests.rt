@@ -36,6 +36,7 @@ fn the_worked_book_gives_the_worked_tape(rt: HostRuntime) -> Result<(), Fail> {
     expect_tape(&rt, &["warnc", "live", "--sessions=1", "--slots=2"])?;
     expect_tape(&rt, &["warnc", "live", "--slots", "2", "--sessions", "64"])?;
     expect_tape(&rt, &LIVE)?;
+    expect_tape(&rt, &["warnc", "live", "--slots", "2", "--workers", "3"])?;
     expect_output(&rt, &LIVE, "", "")
 }
 
@@ -63,6 +64,7 @@ fn there_are_1_to_64_sessions(rt: HostRuntime) -> Result<(), Fail> {
     expect_usage(&rt, &["warnc", "live", "--slots", "2", "--sessions", "0"])?;
     expect_usage(&rt, &["warnc", "live", "--slots", "2", "--sessions", "65"])?;
     expect_usage(&rt, &["warnc", "live", "--slots", "2", "--sessions"])?;
+    expect_usage(&rt, &["warnc", "live", "--slots", "2", "--workers", "0"])?;
     expect_usage(
         &rt,
         &["warnc", "compile", "--slots", "2", "--sessions", "2"],

@@ -21,6 +21,7 @@ use clap::Error;
 use clap::error::ErrorKind;
 use device_ends::{Sink, Source, write_all};
 use order_desk::{DeskFault, Open, SettleFault};
+use parallel_compile::CompileFault;
 use std::alloc::{AllocGlobal, Global};
 use std::convert::AsStr;
 use std::io::{Read, Write};
@@ -94,10 +95,18 @@ pub fn run_between<T: AllocGlobal + Threads + Wait + Sync, S: AsStr, R: Read, W:
     match order_of(alloc, words) {
         Ok(Some(Order::Page(options))) => run_page(alloc, &options, source, sink, faults),
         Ok(Some(Order::Read)) => run_read(alloc, source, sink, faults),
-        Ok(Some(Order::Compile { slots })) => run_compile(rt, slots, source, sink, faults),
-        Ok(Some(Order::Live { slots, sessions })) => {
-            run_live(rt, slots, sessions, source, sink, faults)
+        Ok(Some(Order::Compile { slots, workers })) => {
+            run_compile(rt, slots, workers, source, sink, faults)
         }
+        Ok(
+            Some(
+                Order::Live {
+                    slots,
+                    sessions,
+                    workers,
+                },
+            ),
+        ) => run_live(rt, slots, sessions, workers, source, sink, faults),
         Ok(None) => {
             let _ = writeln!(faults, "warnc: no command");
             USAGE
@@ -189,17 +198,20 @@ fn status_of_read(fault: ReadCommandFault) -> u8
 fn run_compile<T: AllocGlobal + Threads + Wait + Sync, R: Read, W: Write, F: Write>(
     rt: &T,
     slots: u16,
+    workers: u16,
     source: &mut Source<R>,
     sink: &mut Sink<W>,
     faults: &mut F,
 ) -> u8
+    requires some_workers { 0 < workers }
+    requires few_workers { workers ≤ 64 }
     ensures done { result ≡ DONE → WritesOutput (IsCompiled slots)
         (R.remaining (reader_of source.old)) (W.contents (writer_of sink.old)) (W.contents (writer_of sink.new)) }
     ensures any_device { IsRunBetween result source.new sink.old sink.new
         (W.contents (writer_of sink.old)) (W.contents (writer_of sink.new)) }
     ensures refused { result ≡ REFUSED_INPUT → IfSome (R.remaining (reader_of source.old)) IsNoRun }
 {
-    match compile_stream(rt, source, sink, slots) {
+    match compile_stream(rt, source, sink, slots, u64::from(workers)) {
         Ok(()) => DONE,
         Err(fault) => {
             let _ = writeln!(faults, "warnc: {fault}");
@@ -213,19 +225,22 @@ fn run_live<T: AllocGlobal + Threads + Wait + Sync, R: Read, W: Write, F: Write>
     rt: &T,
     slots: u16,
     sessions: u16,
+    workers: u16,
     source: &mut Source<R>,
     sink: &mut Sink<W>,
     faults: &mut F,
 ) -> u8
     requires some { 0 < sessions }
     requires few { sessions ≤ 64 }
+    requires some_workers { 0 < workers }
+    requires few_workers { workers ≤ 64 }
     ensures done { result ≡ DONE → WritesOutput (IsLive slots sessions)
         (R.remaining (reader_of source.old)) (W.contents (writer_of sink.old)) (W.contents (writer_of sink.new)) }
     ensures any_device { IsRunBetween result source.new sink.old sink.new
         (W.contents (writer_of sink.old)) (W.contents (writer_of sink.new)) }
     ensures refused { result ≡ REFUSED_INPUT → IfSome (R.remaining (reader_of source.old)) IsNoRun }
 {
-    match live_stream(rt, source, sink, slots, sessions, &Open) {
+    match live_stream(rt, source, sink, slots, sessions, u64::from(workers), &Open) {
         Ok(()) => DONE,
         Err(fault) => {
             let _ = writeln!(faults, "warnc: {fault}");
@@ -242,8 +257,9 @@ fn status_of_run(fault: RunFault) -> u8
         RunFault::Book(fault) => status_of_book(fault),
         RunFault::Write(_) => DEVICE,
         RunFault::Desk(DeskFault::Memory { .. }) => MEMORY,
-        RunFault::Settle(SettleFault::Refused) | RunFault::Refused => MEMORY,
-        RunFault::Desk(_) | RunFault::Settle(_) => REFUSED_INPUT,
+        RunFault::Settle(SettleFault::Refused) => MEMORY,
+        RunFault::Compile(CompileFault::Refused) | RunFault::Refused => MEMORY,
+        RunFault::Desk(_) | RunFault::Settle(_) | RunFault::Compile(_) => REFUSED_INPUT,
     }
 }
 

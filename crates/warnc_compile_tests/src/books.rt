@@ -39,11 +39,21 @@ pub const IDLE: [u8; 23] = [
     0x2B, 0x2B, 0x2B, 0x2B, 0x2B, 0x2B, 0x2B,
 ];
 
-/// The tapes of a book.
+/// The tapes of a book, by one worker.
 pub fn tapes_of<T: AllocGlobal + Abort + Threads + Wait + Sync>(
     rt: &T,
     rows: &str,
     slots: u16,
+) -> Result<Vec<u8>, Fail> {
+    tapes_by(rt, rows, slots, 1)
+}
+
+/// The tapes of a book, by so many workers.
+pub fn tapes_by<T: AllocGlobal + Abort + Threads + Wait + Sync>(
+    rt: &T,
+    rows: &str,
+    slots: u16,
+    workers: u64,
 ) -> Result<Vec<u8>, Fail> {
     let mut reader = MemoryReader::new(rows.as_bytes(), 1000, None);
     let mut writer = MemoryWriter::new(rt.alloc(), 1000, None);
@@ -52,6 +62,7 @@ pub fn tapes_of<T: AllocGlobal + Abort + Threads + Wait + Sync>(
         &mut Source::new(&mut reader),
         &mut Sink::new(&mut writer),
         slots,
+        workers,
     );
     match done {
         Ok(()) => Ok(Vec::from_slice(rt.alloc(), writer.contents())?),

@@ -28,6 +28,7 @@ fn expect_refused<T: AllocGlobal + Abort + Threads + Wait + Sync>(
         &mut Source::new(&mut reader),
         &mut Sink::new(&mut writer),
         2,
+        1,
     );
     assert!(rt; result == Err(RunFault::Book(BookFault { row, kind })));
     assert_eq!(rt; writer.contents().len(), 0);
@@ -50,7 +51,7 @@ fn a_failed_reader_writes_nothing(rt: HostRuntime) {
     let mut reader = MemoryReader::new(BOOK.as_bytes(), 10, Some(1));
     let mut writer = MemoryWriter::new(rt.alloc(), 1000, None);
     let mut source = Source::new(&mut reader);
-    let result = compile_stream(&rt, &mut source, &mut Sink::new(&mut writer), 2);
+    let result = compile_stream(&rt, &mut source, &mut Sink::new(&mut writer), 2, 1);
     let fault = BookFault {
         row: 0,
         kind: BookFaultKind::ReadFailed,
@@ -65,7 +66,7 @@ fn a_failed_writer_takes_the_first_octets(rt: HostRuntime) -> Result<(), Fail> {
     let mut reader = MemoryReader::new(BOOK.as_bytes(), 1000, None);
     let mut writer = MemoryWriter::new(rt.alloc(), 10, Some(10));
     let mut sink = Sink::new(&mut writer);
-    let result = compile_stream(&rt, &mut Source::new(&mut reader), &mut sink, 2);
+    let result = compile_stream(&rt, &mut Source::new(&mut reader), &mut sink, 2, 1);
     assert!(rt; result == Err(RunFault::Write(WriteFailed { written: 100 })));
     assert!(rt; sink.failed());
     let tapes = tapes_of(&rt, BOOK, 2)?;

@@ -12,3 +12,5 @@ mod live;
 mod memory;
 #[cfg(test)]
 mod slots;
+#[cfg(test)]
+mod workers;

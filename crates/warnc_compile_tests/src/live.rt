@@ -19,7 +19,7 @@ const TWO: &str =
     "cell,1,1\ncell,1,2\nwrite,0,a,4370,0,1,en,2,2,0,1-1,@\nwrite,0,b,4371,0,2,en,2,2,0,1-2,Two\n";
 
 /// Four alerts in a cell each, with replacements and stops.
-const FOUR: &str = "cell,1,1\ncell,1,2\ncell,1,3\ncell,1,4\n\
+pub const FOUR: &str = "cell,1,1\ncell,1,2\ncell,1,3\ncell,1,4\n\
     write,0,a,1,0,1,en,2,2,0,1-1,One\n\
     write,0,b,2,0,2,en,2,3,0,1-2,Two\n\
     write,1,c,3,0,3,en,0,2,3,1-3,Three\n\
@@ -29,11 +29,12 @@ const FOUR: &str = "cell,1,1\ncell,1,2\ncell,1,3\ncell,1,4\n\
     write,4,d,2,0,7,en,2,3,0,1-4,Four\n";
 
 /// What a run writes, or its fault.
-fn written_by<T: AllocGlobal + Threads + Wait + Sync, G: Gate>(
+pub fn written_by<T: AllocGlobal + Threads + Wait + Sync, G: Gate>(
     rt: &T,
     rows: &str,
     slots: u16,
     sessions: u16,
+    workers: u64,
     gate: &G,
 ) -> Result<Vec<u8>, Fail> {
     let mut reader = MemoryReader::new(rows.as_bytes(), 1000, None);
@@ -47,6 +48,7 @@ fn written_by<T: AllocGlobal + Threads + Wait + Sync, G: Gate>(
         &mut Sink::new(&mut writer),
         slots,
         sessions,
+        workers,
         gate,
     );
     match done {
@@ -62,7 +64,7 @@ fn expect_same<T: AllocGlobal + Abort + Threads + Wait + Sync>(
     slots: u16,
     sessions: u16,
 ) -> Result<(), Fail> {
-    let tapes = written_by(rt, rows, slots, sessions, &Open)?;
+    let tapes = written_by(rt, rows, slots, sessions, 1, &Open)?;
     let same = tapes.as_slice() == tapes_of(rt, rows, slots)?.as_slice();
     assert!(rt; same, "{} sessions", sessions);
     Ok(())
@@ -70,17 +72,22 @@ fn expect_same<T: AllocGlobal + Abort + Threads + Wait + Sync>(
 
 /// Whoever is first in one of two cells stays there until the other is entered.
 #[derive(Drop)]
-struct Both {
+pub struct Both {
     entered: [AtomicU64; 2],
     gave_up: AtomicU64,
 }
 
 impl Both {
-    fn new() -> Both {
+    pub fn new() -> Both {
         Both {
             entered: [AtomicU64::new(0), AtomicU64::new(0)],
             gave_up: AtomicU64::new(0),
         }
+    }
+
+    /// Whether nobody came to one of the cells.
+    pub fn gave_up(&self) -> bool {
+        self.gave_up.load(Ordering::SeqCst) == 1
     }
 
     /// Waits for a cell to be entered, for a million turns at most.
@@ -110,7 +117,7 @@ impl Gate for Both {
 
 #[test]
 fn one_session_gives_the_worked_tape(rt: HostRuntime) -> Result<(), Fail> {
-    let tapes = written_by(&rt, WRITE, 2, 1, &Open)?;
+    let tapes = written_by(&rt, WRITE, 2, 1, 1, &Open)?;
     assert_eq!(&rt; tapes.len(), 192);
     assert_eq!(&rt; tapes.as_slice(), worked_tape(rt.alloc())?.as_slice());
     Ok(())
@@ -119,8 +126,8 @@ fn one_session_gives_the_worked_tape(rt: HostRuntime) -> Result<(), Fail> {
 #[test]
 fn two_sessions_are_in_two_cells_at_once(rt: HostRuntime) -> Result<(), Fail> {
     let both = Both::new();
-    let tapes = written_by(&rt, TWO, 2, 2, &both)?;
-    assert_eq!(&rt; both.gave_up.load(Ordering::SeqCst), 0);
+    let tapes = written_by(&rt, TWO, 2, 2, 1, &both)?;
+    assert!(&rt; !both.gave_up());
     assert_eq!(&rt; tapes.as_slice(), tapes_of(&rt, TWO, 2)?.as_slice());
     Ok(())
 }
@@ -137,7 +144,7 @@ fn sessions_of_separate_cells_give_what_one_gives(rt: HostRuntime) -> Result<(),
 #[test]
 fn two_sessions_share_a_cell(rt: HostRuntime) -> Result<(), Fail> {
     let rows = "cell,1,1\nwrite,0,a,1,0,1,en,2,2,0,*,One\nwrite,0,b,2,0,2,en,2,2,0,*,Two\n";
-    let readings = readings_of(rt.alloc(), &written_by(&rt, rows, 4, 2, &Open)?)?;
+    let readings = readings_of(rt.alloc(), &written_by(&rt, rows, 4, 2, 1, &Open)?)?;
     let [reading] = readings.as_slice() else {
         assert!(&rt; false, "one cell");
         return Ok(());
@@ -163,6 +170,7 @@ fn a_refused_book_is_reported(rt: HostRuntime) {
         &mut Sink::new(&mut writer),
         2,
         2,
+        1,
         &Open,
     );
     let fault = BookFault {
@@ -178,7 +186,8 @@ fn a_failed_writer_is_reported(rt: HostRuntime) -> Result<(), Fail> {
     let mut reader = MemoryReader::new(TWO.as_bytes(), 1000, None);
     let mut writer = MemoryWriter::new(rt.alloc(), 10, Some(10));
     let mut sink = Sink::new(&mut writer);
-    let result = live_stream(&rt, &mut Source::new(&mut reader), &mut sink, 2, 2, &Open);
+    let mut source = Source::new(&mut reader);
+    let result = live_stream(&rt, &mut source, &mut sink, 2, 2, 1, &Open);
     assert!(&rt; result == Err(RunFault::Write(WriteFailed { written: 100 })));
     assert!(&rt; sink.failed());
     match tapes_of(&rt, TWO, 2)?.get(..100) {

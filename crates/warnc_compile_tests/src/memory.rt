@@ -4,6 +4,7 @@ use alert_book::{BookFault, BookFaultKind};
 use device_ends::memory::{MemoryReader, MemoryWriter};
 use device_ends::{Sink, Source};
 use order_desk::{DeskFault, Open, SettleFault};
+use parallel_compile::CompileFault;
 use std::alloc::Global;
 use std::process::Abort;
 use std::sync::Wait;
@@ -44,6 +45,7 @@ fn is_memory(fault: RunFault) -> bool {
         }
         RunFault::Desk(DeskFault::Memory { .. }) => true,
         RunFault::Settle(SettleFault::Refused) | RunFault::Refused => true,
+        RunFault::Compile(CompileFault::Refused) => true,
         _ => false,
     }
 }
@@ -70,11 +72,12 @@ fn left_by_compile<T: AllocGlobal + Abort + Threads + Wait + Sync>(rt: &T) -> Op
         &mut Source::new(&mut reader),
         &mut Sink::new(&mut left),
         3,
+        1,
     );
     left_by(rt, result, left.len())
 }
 
-/// How many of 400 octets `live` leaves with two sessions.
+/// How many of 400 octets `live` leaves with two sessions and two workers.
 fn left_by_live<T: AllocGlobal + Abort + Threads + Wait + Sync>(rt: &T) -> Option<usize> {
     let mut out = [0; 400];
     let mut reader = MemoryReader::new(BOOK.as_bytes(), 100, None);
@@ -84,6 +87,7 @@ fn left_by_live<T: AllocGlobal + Abort + Threads + Wait + Sync>(rt: &T) -> Optio
         &mut Source::new(&mut reader),
         &mut Sink::new(&mut left),
         3,
+        2,
         2,
         &Open,
     );
