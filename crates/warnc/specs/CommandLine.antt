@@ -62,6 +62,12 @@ pub record IsCompileOrder (words : List (List ℕ)) (slots workers : ℕ) : Type
   pub slots_given : GivesSlots words slots
   pub workers_given : GivesThreads words (codes "--workers") workers
 
+-- the words ask for `report` with this number of slots and of workers
+pub record IsReportOrder (words : List (List ℕ)) (slots workers : ℕ) : Type 0 where
+  pub command : slice_get words 1 ≡ Some (codes "report")
+  pub slots_given : GivesSlots words slots
+  pub workers_given : GivesThreads words (codes "--workers") workers
+
 -- the words ask for `live` with this number of slots, of sessions and of workers
 pub record IsLiveOrder (words : List (List ℕ)) (slots sessions workers : ℕ) : Type 0 where
   pub command : slice_get words 1 ≡ Some (codes "live")

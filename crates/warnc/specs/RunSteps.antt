@@ -5,10 +5,10 @@ use Rattle.std.specs.Io.KnownBytes.{Keeps}
 use Rattle.device_ends.specs.Sink.{sink_failed}
 use Rattle.device_ends.specs.declared.reading.Source.{Source}
 use Rattle.device_ends.specs.declared.writing.Sink.{Sink}
-use Rattle.warnc.specs.CommandLine.{IsCompileOrder, IsLiveOrder, IsPageOrder, IsReadOrder}
+use Rattle.warnc.specs.CommandLine.{IsCompileOrder, IsLiveOrder, IsPageOrder, IsReadOrder, IsReportOrder}
 use Rattle.warnc.specs.Status.{OneHasFailed, status_of_book_fault}
 use Rattle.warnc.specs.declared.command.Order.{Order}
-use Rattle.warnc.specs.declared.command.Order.TheVariants.{Compile, Live, Page, Read}
+use Rattle.warnc.specs.declared.command.Order.TheVariants.{Compile, Live, Page, Read, Report}
 use Rattle.order_desk.specs.declared.fault.DeskFault.{DeskFault}
 use Rattle.order_desk.specs.declared.fault.DeskFault.TheVariants as desk
 use Rattle.order_desk.specs.declared.settle.SettleFault.{SettleFault}
@@ -17,6 +17,9 @@ use Rattle.parallel_compile.specs.declared.fault.CompileFault.{CompileFault}
 use Rattle.parallel_compile.specs.declared.fault.CompileFault.TheVariants as compile
 use Rattle.warnc_compile.specs.declared.fault.RunFault.{RunFault}
 use Rattle.warnc_compile.specs.declared.fault.RunFault.TheVariants as run
+use Rattle.warnc_compile.specs.declared.report_run.ReportRunFault.{ReportRunFault}
+use Rattle.warnc_compile.specs.declared.report_run.ReportRunFault.TheVariants as report_run
+use Rattle.report.specs.declared.fault.ReportFault.TheVariants as report
 use Rattle.warnc_engine.specs.declared.read.ReadCommandFault.{ReadCommandFault}
 use Rattle.warnc_engine.specs.declared.read.ReadCommandFault.TheVariants as table
 
@@ -25,6 +28,7 @@ abbrev pub IsOrdered : (words : List (List ℕ)) → Order → Type 0
 IsOrdered words (Page options) = IsPageOrder words options.language.now options.id options.serial
 IsOrdered words Read = IsReadOrder words
 IsOrdered words (Compile slots workers) = IsCompileOrder words slots workers
+IsOrdered words (Report slots workers) = IsReportOrder words slots workers
 IsOrdered words (Live slots sessions workers) = IsLiveOrder words slots sessions workers
 
 -- the status of a fault of `read`: 1 if the input is refused, 3 if a device failed, 4 if there was no memory
@@ -58,6 +62,13 @@ status_of_run_fault (run.Settle f) = status_of_settle_fault f
 status_of_run_fault (run.Compile f) = status_of_compile_fault f
 status_of_run_fault (run.Write failed) = 3
 status_of_run_fault run.Refused = 4
+
+-- the status of a fault of `report`: that of its run's fault, and of its own as of a run's
+abbrev pub status_of_report_fault : ReportRunFault → ℕ
+status_of_report_fault (report_run.Run f) = status_of_run_fault f
+status_of_report_fault (report_run.Report report.Cells) = 1
+status_of_report_fault (report_run.Report report.WriteFailed) = 3
+status_of_report_fault (report_run.Report report.Refused) = 4
 
 -- what a status says of a sink: `old` and `new` are the sink before and after, and `before` and `after` what its writer
 -- holds

@@ -12,8 +12,10 @@ use Rattle.alert_book.specs.declared.fault.BookFault.{BookFault}
 use Rattle.alert_book.specs.declared.fault.BookFaultKind.{BookFaultKind}
 use Rattle.alert_book.specs.declared.fault.BookFaultKind.TheVariants as kinds
 use Rattle.warnc.specs.CommandLine.{asks_for_text, IsCompileOrder, IsLiveOrder, IsPageOrder, IsReadOrder}
+use Rattle.warnc.specs.CommandLine.{IsReportOrder}
 use Rattle.warnc_compile.specs.Compiled.{IsCompiled}
 use Rattle.warnc_compile.specs.Live.{IsLive}
+use Rattle.warnc_compile.specs.Reported.{IsReported}
 use Rattle.warnc_engine.specs.PageOutput.{IsPageFault, IsPageOutput}
 use Rattle.warnc_engine.specs.ReadOutput.{IsReadOutput}
 use Rattle.cbs_page.specs.declared.paging.TextFault.TheVariants as text
@@ -100,10 +102,18 @@ pub record WroteLiveTapes (words : List (List ℕ)) (input old new : Option (Lis
   pub asked : IsLiveOrder words slots sessions workers
   pub wrote : WritesOutput (IsLive slots sessions) input old new
 
+-- the words ask for `report`, and what was written is the report of the book's cells, in runs of as many slots as the
+-- words say, whatever the number of workers
+pub record WroteReport (words : List (List ℕ)) (input old new : Option (List ℕ)) : Type 0 where
+  pub slots : ℕ
+  pub workers : ℕ
+  pub asked : IsReportOrder words slots workers
+  pub wrote : WritesOutput (IsReported slots) input old new
+
 abbrev pub WroteWhatIsAsked : (words : List (List ℕ)) (input old new : Option (List ℕ)) → Type 0
 WroteWhatIsAsked words input old new = WroteText words old new ⊎
     (WrotePages words input old new ⊎ (WroteTable words input old new
-    ⊎ (WroteTapes words input old new ⊎ WroteLiveTapes words input old new)))
+    ⊎ (WroteTapes words input old new ⊎ (WroteLiveTapes words input old new ⊎ WroteReport words input old new))))
 
 -- What status 1 says: the command that the words ask for refuses the input.
 
@@ -135,9 +145,17 @@ pub record RefusesLiveAlerts (words : List (List ℕ)) (input : Option (List ℕ
   pub asked : IsLiveOrder words slots sessions workers
   pub refused : IfSome input IsNoRun
 
+-- the words ask for `report`, and the input is no book or has no run
+pub record RefusesReportedAlerts (words : List (List ℕ)) (input : Option (List ℕ)) : Type 0 where
+  pub slots : ℕ
+  pub workers : ℕ
+  pub asked : IsReportOrder words slots workers
+  pub refused : IfSome input IsNoRun
+
 abbrev pub RefusesInput : (words : List (List ℕ)) (input : Option (List ℕ)) → Type 0
 RefusesInput words input =
-    RefusesText words input ⊎ (RefusesTapes words input ⊎ (RefusesAlerts words input ⊎ RefusesLiveAlerts words input))
+    RefusesText words input ⊎ (RefusesTapes words input ⊎ (RefusesAlerts words input
+    ⊎ (RefusesLiveAlerts words input ⊎ RefusesReportedAlerts words input)))
 
 -- one of the two ends has failed
 abbrev pub OneHasFailed : {R W : Type 0} → Source R → Sink W → Type 0

@@ -38,6 +38,13 @@ pub enum Order<'a> {
         /// How many workers there are, 1 to 64.
         workers: u16,
     },
+    /// `report`.
+    Report {
+        /// How many slots each cell's run has, at least 1.
+        slots: u16,
+        /// How many workers there are, 1 to 64.
+        workers: u16,
+    },
     /// `live`.
     Live {
         /// How many slots each cell's run has, at least 1.
@@ -74,6 +81,10 @@ fn order_in<'a, S: AsStr>(words: &'a [S]) -> Option<Order<'a>>
         },
         "read" => Some(Order::Read),
         "compile" => Some(Order::Compile {
+            slots: slots_in(words)?,
+            workers: threads_in(words, "--workers")?,
+        }),
+        "report" => Some(Order::Report {
             slots: slots_in(words)?,
             workers: threads_in(words, "--workers")?,
         }),
@@ -202,7 +213,8 @@ fn warnc<'a>(alloc: Global) -> Result<Command<'a>, AllocError> {
         .subcommand(page(alloc)?)?
         .subcommand(compile(alloc)?)?
         .subcommand(live(alloc)?)?
-        .subcommand(read(alloc))
+        .subcommand(read(alloc))?
+        .subcommand(report(alloc)?)
 }
 
 /// The command line of `read`.
@@ -216,6 +228,16 @@ fn read<'a>(alloc: Global) -> Command<'a> {
 fn compile<'a>(alloc: Global) -> Result<Command<'a>, AllocError> {
     Command::new(alloc, "compile")
         .about("Reads a book of alerts, as CSV, and writes the tapes of its cells' runs")
+        .arg(slots(alloc))?
+        .arg(workers(alloc))
+}
+
+/// The command line of `report`.
+fn report<'a>(alloc: Global) -> Result<Command<'a>, AllocError> {
+    Command::new(alloc, "report")
+        .about(
+            "Reads a book of alerts, as CSV, and writes what became of each order in each cell, as CSV",
+        )
         .arg(slots(alloc))?
         .arg(workers(alloc))
 }

@@ -7,9 +7,11 @@ ghost use Rattle.device_ends.specs.Sink.{sink_failed, writer_of};
 ghost use Rattle.device_ends.specs.Source.{reader_of, source_failed};
 ghost use Rattle.warnc_compile.specs.Compiled.{IsCompiled};
 ghost use Rattle.warnc_compile.specs.Live.{IsLive};
+ghost use Rattle.warnc_compile.specs.Reported.{IsReported};
 ghost use Rattle.warnc_engine.specs.PageOutput.{IsPageOutput};
 ghost use Rattle.warnc_engine.specs.ReadOutput.{IsReadOutput};
-ghost use Rattle.warnc.specs.RunSteps.{status_of_read_fault, status_of_run_fault, IsRunBetween, IsStatusOfSink};
+ghost use Rattle.warnc.specs.RunSteps.{status_of_read_fault, status_of_report_fault, status_of_run_fault};
+ghost use Rattle.warnc.specs.RunSteps.{IsRunBetween, IsStatusOfSink};
 ghost use Rattle.warnc.specs.Status.{status_of_book_fault, status_of_page_fault, IsNoRun, IsNoTapes, IsRefused};
 ghost use Rattle.warnc.specs.Status.{OneHasFailed, RefusesInput};
 ghost use Rattle.warnc.specs.Status.{WritesSome, WroteWhatIsAsked};
@@ -22,12 +24,13 @@ use clap::error::ErrorKind;
 use device_ends::{Sink, Source, write_all};
 use order_desk::{DeskFault, Open, SettleFault};
 use parallel_compile::CompileFault;
+use report::ReportFault;
 use std::alloc::{AllocGlobal, Global};
 use std::convert::AsStr;
 use std::io::{Read, Write};
 use std::sync::Wait;
 use std::thread::Threads;
-use warnc_compile::{RunFault, compile_stream, live_stream};
+use warnc_compile::{ReportRunFault, RunFault, compile_stream, live_stream, report_stream};
 use warnc_engine::page::{PageFault, page_stream};
 use warnc_engine::read::{ReadCommandFault, read_stream};
 
@@ -246,6 +249,45 @@ fn run_live<T: AllocGlobal + Threads + Wait + Sync, R: Read, W: Write, F: Write>
             let _ = writeln!(faults, "warnc: {fault}");
             status_of_run(fault)
         }
+    }
+}
+
+/// Runs `report`, and returns the status.
+fn run_report<T: AllocGlobal + Threads + Wait + Sync, R: Read, W: Write, F: Write>(
+    rt: &T,
+    slots: u16,
+    workers: u16,
+    source: &mut Source<R>,
+    sink: &mut Sink<W>,
+    faults: &mut F,
+) -> u8
+    requires some_workers { 0 < workers }
+    requires few_workers { workers ≤ 64 }
+    ensures done { result ≡ DONE → WritesOutput (IsReported slots)
+        (R.remaining (reader_of source.old)) (W.contents (writer_of sink.old)) (W.contents (writer_of sink.new)) }
+    ensures any_device { IsRunBetween result source.new sink.old sink.new
+        (W.contents (writer_of sink.old)) (W.contents (writer_of sink.new)) }
+    ensures wrote { result ≡ DONE → WritesSome (W.contents (writer_of sink.old)) (W.contents (writer_of sink.new)) }
+    ensures refused { result ≡ REFUSED_INPUT → IfSome (R.remaining (reader_of source.old)) IsNoRun }
+{
+    match report_stream(rt, source, sink, slots, u64::from(workers)) {
+        Ok(()) => DONE,
+        Err(fault) => {
+            let _ = writeln!(faults, "warnc: {fault}");
+            status_of_report(fault)
+        }
+    }
+}
+
+/// The status of a fault of `report`.
+fn status_of_report(fault: ReportRunFault) -> u8
+    ensures { result ≡ status_of_report_fault fault }
+{
+    match fault {
+        ReportRunFault::Run(fault) => status_of_run(fault),
+        ReportRunFault::Report(ReportFault::Cells) => REFUSED_INPUT,
+        ReportRunFault::Report(ReportFault::WriteFailed) => DEVICE,
+        ReportRunFault::Report(ReportFault::Refused) => MEMORY,
     }
 }
 

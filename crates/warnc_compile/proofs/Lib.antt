@@ -1,2 +1,3 @@
+pub mod Readings
 pub mod Serving
 pub mod Written

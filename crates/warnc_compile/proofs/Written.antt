@@ -92,7 +92,7 @@ joined_tapes [] = refl
 joined_tapes (r ∷ records) = ap (λ (rest : List ℕ). tape_of_record r ++ rest) (joined_tapes records)
 
 -- what has one element is that one
-only : {X : Type 0} (xs : List X) → length xs ≡ 1 → (x : X) × (xs ≡ x ∷ [])
+pub only : {X : Type 0} (xs : List X) → length xs ≡ 1 → (x : X) × (xs ≡ x ∷ [])
 only [] count = absurd (omega (arith, count))
 only (x ∷ []) count = (x, refl)
 only (x ∷ (y ∷ rest)) count = absurd (omega (arith, count))

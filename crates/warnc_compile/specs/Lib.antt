@@ -1,3 +1,4 @@
 pub mod Compiled
 pub mod Live
+pub mod Reported
 pub mod RunSteps

@@ -1,0 +1,119 @@
+-- What handsets read of the tapes of records, one after the other.
+use Rattle.std.proofs.Common.{◌≡◌, ℕ, suc, ◌+◌, ◌<◌, ◌∙◌, List, [], ◌∷◌, ◌++◌, length, map, take, get_or, All, ap, sym, subst, refl, Option, ◌≢◌, ◌≤◌}
+use native.Mathlib.Omega.{arith}
+use Rattle.std.proofs.Math.Seq.{take-suc}
+use Rattle.std.proofs.lemmas.List.{get_or-map, length-map, map-append}
+use Rattle.std.specs.Io.KnownBytes.{Keeps}
+use Rattle.alert_book.specs.Book.{Contents, IsBook}
+use Rattle.book_runs.specs.Live.{IsLiveRun}
+use Rattle.book_runs.specs.LiveLaws.{LiveRunsShowTheBook, OneSessionIsARun}
+use Rattle.book_runs.specs.Meant.{IsMeantIn}
+use Rattle.book_runs.specs.Run.{Exchange}
+use Rattle.book_runs.specs.RunLaws.{RunsShowTheBook}
+use Rattle.cbsp_wire.specs.declared.message.Cell.{Cell}
+use Rattle.bsc_table.specs.Record.{Record}
+use Rattle.report.specs.ReportText.{report_text}
+use Rattle.report.specs.Rows.{AreOfOneCells}
+use Rattle.report.specs.declared.fault.ReportFault.{ReportFault}
+use Rattle.report.specs.declared.fault.ReportFault.TheVariants as report
+use Rattle.report.specs.declared.row.Row.{Row}
+use Rattle.warnc_compile.specs.Compiled.{MakesFront, ReadsBook}
+use Rattle.warnc_compile.specs.RunSteps.{AreRowsOf, HaveRunLive}
+use Rattle.warnc_compile.specs.declared.report_run.ReportRunFault.TheVariants as reports
+use Rattle.warnc_compile.proofs.Written.{only}
+use Rattle.cbch_blocks.specs.RecordBlocks.{tape_of_record}
+use Rattle.handset.specs.Laws.{TapeIsOneKind}
+use Rattle.handset.specs.Tape.{IsTape, TapeReading}
+use Rattle.warnc_compile.specs.Reported.{reading_of_record, IsReported, IsReportRunFault}
+
+-- the readings of records before one, and that of its tape, are those up to it
+pub read_on : TapeIsOneKind → (records : List Record) (tapes : List (List ℕ)) (i : ℕ) (tape : List ℕ)
+    (reading : TapeReading)
+    → tapes ≡ map tape_of_record records
+    → i < length tapes
+    → tape ≡ get_or tapes i tape
+    → All (λ r. IsTape (tape_of_record r) (reading_of_record r)) records
+    → IsTape tape reading
+    → map reading_of_record (take i records) ++ reading ∷ [] ≡ map reading_of_record (take (i + 1) records)
+read_on kind [] tapes i tape reading made within at whole read =
+    absurd (omega (arith, ap length made, within))
+read_on kind (d ∷ rest) tapes i tape reading made within at whole read =
+    let records = d ∷ rest in
+    let inside : i < length records = subst (λ (n : ℕ). i < n)
+    (ap length made ∙ length-map records tape_of_record) within in
+    let r = get_or records i d in
+    let of : tape ≡ tape_of_record r =
+    at ∙ ap (λ (ts : List (List ℕ)). get_or ts i tape) made ∙ get_or-map tape_of_record records i d tape inside in
+    let one : reading ≡ reading_of_record r =
+    (kind tape).unique reading (reading_of_record r) read
+    (subst (λ (t : List ℕ). IsTape t (reading_of_record r)) (sym of) (whole i d inside)) in
+    ap (λ (x : TapeReading). map reading_of_record (take i records) ++ x ∷ []) one
+    ∙ sym (map-append reading_of_record (take i records) (r ∷ []))
+    ∙ ap (map reading_of_record) (sym (take-suc records i d inside))
+    ∙ ap (λ (n : ℕ). map reading_of_record (take n records)) next
+  where
+    next : suc i ≡ i + 1
+    next = omega arith
+
+-- the records of a run give tapes
+pub run_has_tapes : LiveRunsShowTheBook → (input : List ℕ) (book : Contents) (slots : ℕ) (records shown : List Record)
+    → slots ≤ 65535
+    → IsBook input book
+    → HaveRunLive book slots 1 records
+    → shown ≡ records
+    → All (λ r. IsTape (tape_of_record r) (reading_of_record r)) shown
+run_has_tapes law input book slots records shown few is_book live is =
+    let meant : All (IsMeantIn book) records =
+    law input book slots live.sessions records is_book few live.run in
+    subst (All (λ (r : Record). IsTape (tape_of_record r) (reading_of_record r))) (sym is)
+    (λ k d within. (meant k d within).tape)
+
+-- of their readings the report can fail for memory alone
+pub only_memory : (fault : ReportFault) (records shown : List Record) (readings given : List TapeReading)
+    → shown ≡ records
+    → readings ≡ map reading_of_record records
+    → given ≡ readings
+    → (fault ≡ report.Cells → ¬ AreOfOneCells shown given)
+    → fault ≢ report.WriteFailed
+    → fault ≡ report.Refused
+only_memory report.Cells records shown readings given is read are differ not_written =
+    absurd (differ refl (ap (map (λ (r : Record). r.cell)) is ∙ of_one records
+    ∙ ap (map (λ (x : TapeReading). x.cell)) (sym (are ∙ read))))
+  where
+    of_one : (all : List Record)
+        → map (λ (r : Record). r.cell) all ≡ map (λ (x : TapeReading). x.cell) (map reading_of_record all)
+    of_one [] = refl
+    of_one (r ∷ rest) = ap (λ (cells : List Cell). r.cell ∷ cells) (of_one rest)
+only_memory report.WriteFailed records shown readings given is read are differ not_written = absurd (not_written refl)
+only_memory report.Refused records shown readings given is read are differ not_written = refl
+
+-- the rows of a run of the book whose octets were read are reported by their text
+pub reported : OneSessionIsARun → RunsShowTheBook → (input : List ℕ) (book : Contents) (slots : ℕ) (rows : List Row)
+    → slots ≤ 65535
+    → IsBook input book
+    → AreRowsOf book slots rows
+    → IsReported slots input (report_text rows)
+reported one law input book slots rows few is_book are =
+    let session = only are.live.sessions are.live.parted in
+    let run = one book slots session.0 are.records
+    (subst (λ (sessions : List (List Exchange)). IsLiveRun book slots sessions are.records) session.1 are.live.run) in
+    record {
+      book = book;
+      is_book = is_book;
+      exchanges = session.0;
+      records = are.records;
+      run = run;
+      meant = law input book slots session.0 are.records is_book few run;
+      written = ap report_text are.made;
+    }
+
+-- a fault of the report after the run
+pub fault_of_report : (Means : (input output : List ℕ) → Type 0) (first last old new : Option (List ℕ))
+    (fault : ReportFault)
+    → fault ≢ report.Cells
+    → (fault ≡ report.WriteFailed → MakesFront Means first last old new)
+    → (fault ≡ report.Refused → ReadsBook first last × Keeps old new)
+    → IsReportRunFault Means first last old new (reports.Report fault)
+fault_of_report Means first last old new report.Cells not front kept = absurd (not refl)
+fault_of_report Means first last old new report.WriteFailed not front kept = front refl
+fault_of_report Means first last old new report.Refused not front kept = kept refl

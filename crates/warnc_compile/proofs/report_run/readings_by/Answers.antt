@@ -1,0 +1,18 @@
+use Rattle.std.proofs.Common.{◌∙◌, ◌++◌, ◌∷◌, [], ℕ, List, Bor, ap, subst}
+use Rattle.std.proofs.lemmas.List.{map-append}
+use Rattle.handset.specs.Tape.{IsTape, TapeReading, reading_of, readings_of}
+use Rattle.warnc_compile.proofs.Readings.{read_on}
+use Rattle.warnc_compile.proofs.report_run.readings_by.Goals as goal
+
+pub loop-tape-preserved : goal.loop-tape-preserved
+loop-tape-preserved g c =
+    let one = reading_of c.in-Ok.reading in
+    let read : IsTape c.tape-item.result one =
+    subst (λ (octets : List ℕ). IsTape octets one)
+    (ap (λ (reader : Bor (List ℕ)). reader.now) c.new.ensures.reader ∙ c.bytes.ensures) c.in-Ok.ensures.reading in
+    ap readings_of c.in_ok-push.ensures.items
+    ∙ map-append reading_of c.loop-tape.readings.items (c.in-Ok.reading ∷ [])
+    ∙ ap (λ (before : List TapeReading). before ++ one ∷ []) c.loop-tape.invariant
+    ∙ read_on c.tape_laws.ensures.tape c.args.records.now c.deref-tape-items.result.now c.loop-tape.tape-index
+    c.tape-item.result one (c.deref-tape-items.ensures.value ∙ c.in_ok-tapes.ensures.ok) c.loop-tape-test.true
+    c.tape-item.is c.requires.tapes read

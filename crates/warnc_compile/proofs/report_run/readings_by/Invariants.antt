@@ -1,0 +1,8 @@
+use Rattle.std.proofs.Common.{◌≡◌, map, take}
+use Rattle.handset.specs.Tape.{readings_of}
+use Rattle.warnc_compile.specs.Reported.{reading_of_record}
+use Rattle.warnc_compile.proofs.report_run.readings_by.Given as goal
+
+abbrev pub invariant-loop-tape : goal.invariant-loop-tape
+invariant-loop-tape g l =
+    readings_of l.readings.items ≡ map reading_of_record (take l.tape-index l.records)
