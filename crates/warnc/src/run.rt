@@ -96,20 +96,21 @@ pub fn run_between<T: AllocGlobal + Threads + Wait + Sync, S: AsStr, R: Read, W:
 {
     let alloc = rt.alloc();
     match order_of(alloc, words) {
-        Ok(Some(Order::Page(options))) => run_page(alloc, &options, source, sink, faults),
-        Ok(Some(Order::Read)) => run_read(alloc, source, sink, faults),
-        Ok(Some(Order::Compile { slots, workers })) => {
-            run_compile(rt, slots, workers, source, sink, faults)
-        }
-        Ok(
-            Some(
-                Order::Live {
-                    slots,
-                    sessions,
-                    workers,
-                },
-            ),
-        ) => run_live(rt, slots, sessions, workers, source, sink, faults),
+        Ok(Some(order)) => match order {
+            Order::Page(options) => run_page(alloc, &options, source, sink, faults),
+            Order::Read => run_read(alloc, source, sink, faults),
+            Order::Compile { slots, workers } => {
+                run_compile(rt, slots, workers, source, sink, faults)
+            }
+            Order::Report { slots, workers } => {
+                run_report(rt, slots, workers, source, sink, faults)
+            }
+            Order::Live {
+                slots,
+                sessions,
+                workers,
+            } => run_live(rt, slots, sessions, workers, source, sink, faults),
+        },
         Ok(None) => {
             let _ = writeln!(faults, "warnc: no command");
             USAGE
