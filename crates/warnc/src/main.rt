@@ -58,4 +58,6 @@ mod memory_tests;
 #[cfg(test)]
 mod read_tests;
 #[cfg(test)]
+mod report_tests;
+#[cfg(test)]
 mod tests;

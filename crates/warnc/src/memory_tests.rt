@@ -130,3 +130,11 @@ fn a_book_of_two_sessions_without_memory_is_status_4(rt: HostRuntime) -> Result<
     let words = ["warnc", "live", "--slots", "2", "--sessions", "2"];
     expect_out_of_memory(&rt, &words, BOOK, &tape)
 }
+
+#[test]
+fn a_report_without_memory_is_status_4(rt: HostRuntime) -> Result<(), Fail> {
+    let output =
+        b"lac,ci,id,serial,start,end,completed,shown\n1,1,4370,0010,0,2,1,yes\n".as_slice();
+    let words = ["warnc", "report", "--slots", "2"];
+    expect_out_of_memory(&rt, &words, BOOK, output)
+}

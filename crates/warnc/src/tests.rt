@@ -227,6 +227,7 @@ fn help_is_written(rt: HostRuntime) -> Result<(), Fail> {
     let options = [
         ("page", "--update <UPDATE>"),
         ("compile", "--slots <SLOTS>"),
+        ("report", "--workers <WORKERS>"),
     ];
     for (command, option) in options {
         let run = run_on(&rt, &["warnc", command, "--help"], b"")?;
