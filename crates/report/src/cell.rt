@@ -1,6 +1,6 @@
 //! The rows of a cell.
 
-ghost use Rattle.std.specs.Prelude.{◌≡◌, ◌++◌, ℕ, List, OnOk, length};
+ghost use Rattle.std.specs.Prelude.{◌≡◌, ◌++◌, List, OnOk, length};
 ghost use Rattle.handset.specs.Reception.{ShownMessage};
 ghost use Rattle.handset.specs.Keeping.{messages_of};
 ghost use Rattle.report.specs.Rows.{cell_rows, is_shown, showing_of};

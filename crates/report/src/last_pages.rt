@@ -1,6 +1,6 @@
 //! How often the last page of each message was aired: as often as a broadcast of it was completed.
 
-ghost use Rattle.std.specs.Prelude.{◌≡◌, ◌+◌, ◌<◌, ◌≤◌, ℕ, if◌then◌else◌, length, slice_index, EachIndex, IfOk, Some};
+ghost use Rattle.std.specs.Prelude.{◌≡◌, ◌+◌, ◌<◌, ◌≤◌, if◌then◌else◌, length, slice_index, EachIndex, IfOk, Some};
 ghost use Rattle.scheduler.specs.Pages.{airs_page};
 ghost use Rattle.bsc_table.specs.Book.{air_pairs};
 ghost use Rattle.report.specs.RowSteps.{last_pages, pages_at, pages_of};

@@ -1,6 +1,6 @@
 //! Runs of cells, their readings and their reports.
 
-ghost use Rattle.std.specs.Prelude.{◌≡◌, ◌≤◌, IfOk, length, All, IsTrue};
+ghost use Rattle.std.specs.Prelude.{◌≤◌, IfOk};
 ghost use Rattle.bsc_table.specs.Orders.{IsWellFormed};
 
 use bsc_table::{Answer, Category, CellBook, CellRecord, Command};
@@ -15,7 +15,7 @@ use std::alloc::Global;
 use std::process::Abort;
 use std::test::Fail;
 
-/// A page full of one septet's octets.
+/// A full page.
 pub const PAGE: Content = Content {
     used: 82,
     octets: [0; 82],
