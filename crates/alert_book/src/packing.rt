@@ -14,7 +14,7 @@ use rayon::prelude::*;
 use std::alloc::{AllocError, AllocGlobal, Global};
 use std::thread::Threads;
 
-/// How many texts a thread packs at least: to pack fewer takes less than to start it.
+/// How many texts a thread packs at least, so that also short ones, of about a microsecond each, are worth its start.
 const LEAST_TEXTS: usize = 32;
 
 /// The pages of an order's text, if it has one.
