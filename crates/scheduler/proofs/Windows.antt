@@ -9,7 +9,8 @@ use Rattle.std.specs.Option.{is_some}
 use Rattle.scheduler.specs.declared.plan.Item.{Item}
 use Rattle.scheduler.specs.declared.scheduled.Scheduled.{Scheduled}
 use Rattle.scheduler.specs.declared.kept.Kept.{Kept}
-use Rattle.scheduler.specs.Message.{ScheduledMessage, release, due, broadcast_at, HasBroadcast, has_broadcast, is_before_stop}
+use Rattle.scheduler.specs.Message.{ScheduledMessage, release, due, broadcast_at}
+use Rattle.scheduler.specs.Message.{HasBroadcast, has_broadcast, is_before_stop}
 use Rattle.scheduler.specs.Air.{airs}
 use Rattle.scheduler.specs.Follows.{message_of}
 use Rattle.scheduler.specs.PlanSteps.{IsFit, is_ready, after_slot}

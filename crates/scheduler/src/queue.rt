@@ -8,7 +8,8 @@ ghost use Rattle.std.specs.Prelude.{◌==◌, ◌++◌, ◌∷◌, [], if◌then
 ghost use Rattle.std.specs.Prelude.{Option, Some, None, slice_index_or};
 ghost use Rattle.scheduler.specs.PlanSteps.{IsChoice, after_slot, scheduled_stopped};
 ghost use Rattle.scheduler.specs.declared.queue.Node.{Node};
-ghost use Rattle.scheduler.specs.QueueSteps.{ahead_among, ahead_at, ahead_below, kept_in, seen_in, IsNode, IsTree, HasTurn};
+ghost use Rattle.scheduler.specs.QueueSteps.{ahead_among, ahead_at, ahead_below, kept_in, seen_in};
+ghost use Rattle.scheduler.specs.QueueSteps.{IsNode, IsTree, HasTurn};
 ghost use Rattle.scheduler.specs.QueueSteps.{IsTreeBut, KeepsNodesBut, own_at, IsRight, IsPlaceOf, IsFound, AreRising};
 ghost use Rattle.scheduler.specs.QueueSteps.{AreKept, AreListed, AreDue, kept_new, renewed_node};
 

@@ -1,4 +1,5 @@
-use Rattle.std.proofs.Common.{◌≡◌, ℕ, ◌+◌, ◌*◌, arith, subst, sym, ap, ◌∙◌, ◌-◌, ◌<◌, get_or, set, take, drop, leb, length, cond}
+use Rattle.std.proofs.Common.{◌≡◌, ℕ, ◌+◌, ◌*◌, arith, subst, sym, ap, ◌∙◌, ◌-◌, ◌<◌, get_or, set, take}
+use Rattle.std.proofs.Common.{drop, leb, length, cond}
 use Rattle.std.proofs.lemmas.List.{get_or-drop, get_or-take}
 use Rattle.scheduler.specs.declared.turn.Ahead.{Ahead}
 use Rattle.scheduler.specs.declared.queue.Node.{Node}
@@ -41,7 +42,15 @@ loop-below-preserved c =
 pub list_place-found-requires : goal.list_place-found-requires
 list_place-found-requires c =
     let are = c.loop-below.invariant.1.1 in
-    omega (arith, are.room, are.few, c.requires.room, c.requires.within, c.loop-below.auto.listed, c.loop-below-test.true)
+    omega (
+      arith,
+      are.room,
+      are.few,
+      c.requires.room,
+      c.requires.within,
+      c.loop-below.auto.listed,
+      c.loop-below-test.true,
+    )
 
 pub returns-clause-listed : goal.returns-clause-listed
 returns-clause-listed c =
