@@ -12,11 +12,6 @@ pub record IsFit (t : Scheduled) (slot : ℕ) : Type 0 where
   pub some_period : 0 < t.item.period
   pub few : t.completed ≤ slot
 
--- a message that is fit and has started by the slot
-pub record HasStarted (t : Scheduled) (slot : ℕ) : Type 0 where
-  pub fit : IsFit t slot
-  pub started : t.item.start ≤ slot
-
 -- and of all that a plan keeps: the numbers rise
 pub record IsSound (plan : PlanState) : Type 0 where
   pub rising : AllPairs (λ a b. a.item.entry < b.item.entry) plan.scheduled
