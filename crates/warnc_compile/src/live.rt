@@ -34,8 +34,8 @@ use std::thread::Threads;
 /// # Errors
 ///
 /// Returns the book's fault, that of the desk for the least session that met one, the settlement's or
-/// [`RunFault::Refused`] with nothing written, and [`RunFault::Write`] with a front of the tapes written. With no workers
-/// or over 64 it returns [`RunFault::Compile`] with [`CompileFault::Workers`], before anything is read.
+/// [`RunFault::Refused`] with nothing written, and [`RunFault::Write`] with a front of the tapes written. With no
+/// workers or over 64 it returns [`RunFault::Compile`] with [`CompileFault::Workers`], before anything is read.
 pub fn live_stream<T: AllocGlobal + Threads + Wait + Sync, R: Read, W: Write, G: Gate>(
     rt: &T,
     source: &mut Source<R>,

@@ -38,6 +38,12 @@ returns-clause-fault g c =
       front = wrote.front (ap Err is);
     })
     (λ is. (
-      record { input = read.input; book = c.in-Ok.book; read = read.consumed; ended = read.ended; is_book = read.meant },
+      record {
+        input = read.input;
+        book = c.in-Ok.book;
+        read = read.consumed;
+        ended = read.ended;
+        is_book = read.meant;
+      },
       rw (wrote.refused (ap Err is)) (Keeps-refl _),
     ))
