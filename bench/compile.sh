@@ -1,6 +1,6 @@
 #!/bin/sh
-# Times `warnc compile` on generated books of 64 cells and 4,096 slots, beside `wc -l` on the octets that it writes, in one
-# run, and reports its peak memory beside the size of the tapes.
+# Times `warnc compile` on generated books of 64 cells and 4,096 slots, with one worker and with four, beside `wc -l` on
+# the octets that it writes, in one run, and reports its peak memory beside the size of the tapes.
 set -eu
 top=$(cd "$(dirname "$0")/.." && pwd)
 work=$(mktemp -d)
@@ -27,9 +27,13 @@ def run(command, source, target):
 
 for kind in ("typical", "full"):
     book, tapes = os.path.join(work, kind), os.path.join(work, kind + ".tapes")
-    compiled, peak = run([program, "compile", "--slots", "4096"], book, tapes)
+    command = [program, "compile", "--slots", "4096", "--workers"]
+    several, _ = run([*command, "4"], book, tapes + ".4")
+    compiled, peak = run([*command, "1"], book, tapes)
+    assert open(tapes, "rb").read() == open(tapes + ".4", "rb").read(), kind
     octets = os.path.getsize(tapes)
     lines, _ = run(["wc", "-l"], tapes, os.devnull)
     print(f"{kind:8} {octets / 1e6:5.1f} MB of tapes  wc -l {lines:.3f} s  warnc compile {compiled:.3f} s, "
-          f"{octets / compiled / 1e6:.0f} MB/s, peak {peak / 1e6:.1f} MB, {peak / octets:.2f} times the tapes")
+          f"{octets / compiled / 1e6:.0f} MB/s, peak {peak / 1e6:.1f} MB, {peak / octets:.2f} times the tapes; "
+          f"with 4 workers {several:.3f} s, {compiled / several:.2f} times as fast")
 PY

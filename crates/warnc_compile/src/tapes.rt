@@ -1,7 +1,8 @@
 //! From a book to the tapes of its cells.
 
-ghost use Rattle.std.specs.Prelude.{◌≡◌, ◌<◌, ◌≤◌, ℕ, List, IfErr, IfOk};
+ghost use Rattle.std.specs.Prelude.{◌≡◌, ◌<◌, ◌≤◌, ℕ, List, map, IfErr, IfOk};
 ghost use Rattle.alert_book.specs.Book.{IsBook};
+ghost use Rattle.cbch_blocks.specs.RecordBlocks.{tape_of_record};
 ghost use Rattle.warnc_compile.specs.RunSteps.{AreTapesOf, HaveRunLive, IsOfRun};
 
 use crate::fault::RunFault;
@@ -59,10 +60,34 @@ pub(crate) fn tapes_of_book<T: AllocGlobal + Threads + Wait + Sync, G: Gate>(
     ensures ok { IfOk result (λ tapes. AreTapesOf book slots parts tapes.items) }
     ensures err { IfErr result IsOfRun }
 {
-    // No book has over 64 cells.
-    alert_book::book_laws();
     let records = records_of_book(rt, &book, slots, parts, workers, gate)?;
     drop(book);
-    let tapes = compile_all(rt, rt.alloc(), &records, workers, &Open)?;
+    tapes_of(rt, records, workers)
+}
+
+/// The tapes of records, as many at a time as there are workers. Records go once their tapes are made, so that the
+/// memory of all records and that of all tapes is never held at once.
+fn tapes_of<T: AllocGlobal + Threads + Sync>(
+    rt: &T,
+    records: Vec<CellRecord>,
+    workers: u64,
+) -> Result<Vec<Tape>, RunFault>
+    requires some { 0 < workers }
+    requires few { workers ≤ 64 }
+    ensures ok { IfOk result (λ tapes. tapes.items ≡ map tape_of_record records.items) }
+    ensures err { IfErr result IsOfRun }
+{
+    let mut tapes = Vec::with_capacity(rt.alloc(), records.len())?;
+    let mut group = Vec::with_capacity(rt.alloc(), workers as usize)?;
+    for record in records {
+        group.push(record)?;
+        if group.len() == workers as usize {
+            let mut made = compile_all(rt, rt.alloc(), &group, workers, &Open)?;
+            tapes.append(&mut made)?;
+            group.clear();
+        }
+    }
+    let mut made = compile_all(rt, rt.alloc(), &group, workers, &Open)?;
+    tapes.append(&mut made)?;
     Ok(tapes)
 }
