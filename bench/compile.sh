@@ -30,7 +30,7 @@ for kind in ("typical", "full"):
     command = [program, "compile", "--slots", "4096", "--workers"]
     several, _ = run([*command, "4"], book, tapes + ".4")
     compiled, peak = run([*command, "1"], book, tapes)
-    assert open(tapes, "rb").read() == open(tapes + ".4", "rb").read(), kind
+    subprocess.run(["cmp", tapes, tapes + ".4"], check=True)
     octets = os.path.getsize(tapes)
     lines, _ = run(["wc", "-l"], tapes, os.devnull)
     print(f"{kind:8} {octets / 1e6:5.1f} MB of tapes  wc -l {lines:.3f} s  warnc compile {compiled:.3f} s, "
