@@ -4,10 +4,37 @@ use crate::orders::*;
 use bsc_table::{Aired, Answer, SlotRange, State};
 use cbs_page::Serial;
 use cbsp_wire::{Cell, WireFault, cause};
-use order_desk::{Desk, DeskFault, Gate, Open, Pass};
+use order_desk::{Closed, Desk, DeskFault, Gate, Open, Pass};
 use std::process::Abort;
 use std::sync::Wait;
 use std::test::Fail;
+
+/// Expects that the first cell plays these slots.
+fn expect_play<T: AllocGlobal + Wait + Abort>(
+    rt: &T,
+    desk: &Desk,
+    pass: &mut Pass,
+    slots: u16,
+    expected: SlotRange,
+) {
+    let range = desk.play(rt, rt.alloc(), pass, FIRST, slots, &Open);
+    assert_eq!(rt; range, Ok(expected));
+}
+
+/// Expects the reply to an order.
+fn expect_reply<T: AllocGlobal + Wait + Abort>(
+    rt: &T,
+    desk: &Desk,
+    pass: &mut Pass,
+    at: u16,
+    octets: &[u8],
+    expected: &[u8],
+) {
+    match desk.order(rt, rt.alloc(), pass, at, octets, &Open) {
+        Ok(reply) => assert_eq!(rt; reply.as_slice(), expected),
+        Err(fault) => assert!(rt; false, "{}", fault),
+    }
+}
 
 /// A desk of two cells, with the reply and the notes of a replacement of 4370-0010 in both at slot 1, with this period:
 /// the second cell has another message beside it.
@@ -135,11 +162,19 @@ fn high_is_aired_before_normal_before_background(rt: HostRuntime) -> Result<(), 
     Ok(())
 }
 
-#[test]
-fn octets_that_are_no_order_are_refused(rt: HostRuntime) -> Result<(), Fail> {
-    let alloc = rt.alloc();
-    let desk = opened(alloc, [FIRST].as_slice(), 4)?;
-    let mut pass = desk.pass();
+/// Expects that octets aren't carried out, by this fault.
+fn expect_fault<T: AllocGlobal + Wait + Abort>(
+    rt: &T,
+    desk: &Desk,
+    pass: &mut Pass,
+    octets: &[u8],
+    fault: DeskFault,
+) {
+    assert_eq!(rt; fault_of(rt, desk, pass, octets), Some(fault));
+}
+
+/// Expects the faults of octets that are no order.
+fn expect_faults<T: AllocGlobal + Wait + Abort>(rt: &T, desk: &Desk, pass: &mut Pass) {
     let unknown = [0x07, 0x00, 0x00, 0x00];
     let trailing = [0x07, 0x00, 0x00, 0x00, 0x00];
     let cut = [0x04, 0x00, 0x00, 0x0E, 0x0E];
@@ -148,39 +183,40 @@ fn octets_that_are_no_order_are_refused(rt: HostRuntime) -> Result<(), Fail> {
         0x01, 0x00, 0x01, 0x12, 0x01,
     ];
     let reply = [0x05, 0x00, 0x00, 0x06, 0x0E, 0x11, 0x12, 0x02, 0x00, 0x10];
-    let faults = [
-        fault_of(&rt, &desk, &mut pass, unknown.as_slice()),
-        fault_of(&rt, &desk, &mut pass, trailing.as_slice()),
-        fault_of(&rt, &desk, &mut pass, cut.as_slice()),
-        fault_of(&rt, &desk, &mut pass, extended.as_slice()),
-        fault_of(&rt, &desk, &mut pass, reply.as_slice()),
-    ];
-    let expected = [
-        Some(DeskFault::Wire(WireFault::Cause(0x04))),
-        Some(DeskFault::Wire(WireFault::TrailingBytes)),
-        Some(DeskFault::Wire(WireFault::Truncated)),
-        Some(DeskFault::Cause(0x0C)),
-        Some(DeskFault::Cause(0x04)),
-    ];
-    assert_eq!(&rt; faults.as_slice(), expected.as_slice());
+    let no_message = DeskFault::Wire(WireFault::Cause(0x04));
+    expect_fault(rt, desk, pass, &unknown, no_message);
+    let too_long = DeskFault::Wire(WireFault::TrailingBytes);
+    expect_fault(rt, desk, pass, &trailing, too_long);
+    let too_short = DeskFault::Wire(WireFault::Truncated);
+    expect_fault(rt, desk, pass, &cut, too_short);
+    expect_fault(rt, desk, pass, &extended, DeskFault::Cause(0x0C));
+    expect_fault(rt, desk, pass, &reply, DeskFault::Cause(0x04));
+}
+
+#[test]
+fn octets_that_are_no_order_are_refused(rt: HostRuntime) -> Result<(), Fail> {
+    let desk = opened(rt.alloc(), [FIRST].as_slice(), 4)?;
+    let mut pass = desk.pass();
+    expect_faults(&rt, &desk, &mut pass);
     expect_notes(&rt, &pass, &[]);
     expect_book(&rt, &closed(desk)?, 0, FIRST, 0, 0);
     Ok(())
 }
 
+/// Expects that a cell of four slots plays them, and does not know message 4370 between two plays.
+fn expect_plays<T: AllocGlobal + Wait + Abort>(rt: &T, desk: &Desk, pass: &mut Pass) {
+    expect_play(rt, desk, pass, 2, SlotRange { from: 0, to: 2 });
+    let status = desk.status(rt, rt.alloc(), pass, FIRST, 4370, Serial::of(1), &Open);
+    assert_eq!(rt; status, Ok(None));
+    expect_play(rt, desk, pass, 9, SlotRange { from: 2, to: 4 });
+    expect_play(rt, desk, pass, 1, SlotRange { from: 4, to: 4 });
+}
+
 #[test]
 fn a_play_and_a_status_are_noted(rt: HostRuntime) -> Result<(), Fail> {
-    let alloc = rt.alloc();
-    let desk = opened(alloc, [FIRST].as_slice(), 4)?;
+    let desk = opened(rt.alloc(), [FIRST].as_slice(), 4)?;
     let mut pass = desk.pass();
-    let range = desk.play(&rt, alloc, &mut pass, FIRST, 2, &Open);
-    assert_eq!(&rt; range, Ok(SlotRange { from: 0, to: 2 }));
-    let status = desk.status(&rt, alloc, &mut pass, FIRST, 4370, Serial::of(1), &Open);
-    assert_eq!(&rt; status, Ok(None));
-    let range = desk.play(&rt, alloc, &mut pass, FIRST, 9, &Open);
-    assert_eq!(&rt; range, Ok(SlotRange { from: 2, to: 4 }));
-    let range = desk.play(&rt, alloc, &mut pass, FIRST, 1, &Open);
-    assert_eq!(&rt; range, Ok(SlotRange { from: 4, to: 4 }));
+    expect_plays(&rt, &desk, &mut pass);
     let notes = [
         Seen::Played(FIRST, 0, 2),
         Seen::Event(FIRST, 0, 2, Answer::Unknown),
@@ -191,22 +227,31 @@ fn a_play_and_a_status_are_noted(rt: HostRuntime) -> Result<(), Fail> {
     Ok(())
 }
 
-#[test]
-fn a_cell_of_another_desk_is_unknown(rt: HostRuntime) -> Result<(), Fail> {
+/// Expects that a cell of another desk neither plays, nor has a status, nor takes this order.
+fn expect_foreign<T: AllocGlobal + Wait + Abort>(
+    rt: &T,
+    desk: &Desk,
+    pass: &mut Pass,
+    octets: &[u8],
+) {
     let alloc = rt.alloc();
-    let desk = opened(alloc, [FIRST].as_slice(), 4)?;
-    let mut pass = desk.pass();
-    let range = desk.play(&rt, alloc, &mut pass, FOREIGN, 2, &Open);
-    assert_eq!(&rt; range, Err(DeskFault::Unknown));
-    let status = desk.status(&rt, alloc, &mut pass, FOREIGN, 4370, Serial::of(1), &Open);
-    assert_eq!(&rt; status, Err(DeskFault::Unknown));
-    let octets = write_to(alloc, standing(4370, 0x0010, 2), [FOREIGN].as_slice())?;
-    let reply = reply_to(&rt, &desk, &mut pass, 2, &octets)?;
+    let range = desk.play(rt, alloc, pass, FOREIGN, 2, &Open);
+    assert_eq!(rt; range, Err(DeskFault::Unknown));
+    let status = desk.status(rt, alloc, pass, FOREIGN, 4370, Serial::of(1), &Open);
+    assert_eq!(rt; status, Err(DeskFault::Unknown));
     let expected = [
         0x03, 0x00, 0x00, 0x0F, 0x0E, 0x11, 0x12, 0x03, 0x00, 0x10, 0x09, 0x00, 0x06, 0x01, 0x00,
         0x09, 0x00, 0x09, 0x03,
     ];
-    assert_eq!(&rt; reply.as_slice(), expected.as_slice());
+    expect_reply(rt, desk, pass, 2, octets, &expected);
+}
+
+#[test]
+fn a_cell_of_another_desk_is_unknown(rt: HostRuntime) -> Result<(), Fail> {
+    let octets = write_to(rt.alloc(), standing(4370, 0x0010, 2), [FOREIGN].as_slice())?;
+    let desk = opened(rt.alloc(), [FIRST].as_slice(), 4)?;
+    let mut pass = desk.pass();
+    expect_foreign(&rt, &desk, &mut pass, &octets);
     expect_notes(&rt, &pass, &[]);
     expect_book(&rt, &closed(desk)?, 0, FIRST, 0, 0);
     Ok(())
@@ -260,25 +305,37 @@ fn a_kill_stops_a_message(rt: HostRuntime) -> Result<(), Fail> {
     Ok(())
 }
 
+/// Expects the status of message 1 with serial number 1 in the first cell.
+fn expect_status<T: AllocGlobal + Wait + Abort>(
+    rt: &T,
+    desk: &Desk,
+    pass: &mut Pass,
+    expected: Result<Option<(u16, State)>, DeskFault>,
+) {
+    let status = desk.status(rt, rt.alloc(), pass, FIRST, 1, Serial::of(1), &Open);
+    assert_eq!(rt; status, expected);
+}
+
+/// Asks for a status until the first cell's log is full.
+fn fill_log<T: AllocGlobal + Wait + Abort>(rt: &T, desk: &Desk, pass: &mut Pass) {
+    for _ in 0..4096 {
+        expect_status(rt, desk, pass, Ok(None));
+    }
+}
+
 #[test]
 fn a_full_log_is_noted(rt: HostRuntime) -> Result<(), Fail> {
-    let alloc = rt.alloc();
-    let desk = opened(alloc, [FIRST].as_slice(), 2)?;
+    let kill = kill_in(rt.alloc(), 4370, 0x0010, [FIRST].as_slice())?;
+    let desk = opened(rt.alloc(), [FIRST].as_slice(), 2)?;
     let mut others = desk.pass();
-    for _ in 0..4096 {
-        let status = desk.status(&rt, alloc, &mut others, FIRST, 1, Serial::of(1), &Open);
-        assert_eq!(&rt; status, Ok(None));
-    }
+    fill_log(&rt, &desk, &mut others);
     let mut pass = desk.pass();
-    let kill = kill_in(alloc, 4370, 0x0010, [FIRST].as_slice())?;
-    let reply = reply_to(&rt, &desk, &mut pass, 1, &kill)?;
     let refused = [
         0x06, 0x00, 0x00, 0x0F, 0x0E, 0x11, 0x12, 0x02, 0x00, 0x10, 0x09, 0x00, 0x06, 0x01, 0x00,
         0x01, 0x00, 0x01, 0x08,
     ];
-    assert_eq!(&rt; reply.as_slice(), refused.as_slice());
-    let status = desk.status(&rt, alloc, &mut pass, FIRST, 1, Serial::of(1), &Open);
-    assert_eq!(&rt; status, Err(DeskFault::Full));
+    expect_reply(&rt, &desk, &mut pass, 1, &kill, &refused);
+    expect_status(&rt, &desk, &mut pass, Err(DeskFault::Full));
     let notes = [
         Seen::Played(FIRST, 0, 1),
         Seen::Full(FIRST),
@@ -288,22 +345,30 @@ fn a_full_log_is_noted(rt: HostRuntime) -> Result<(), Fail> {
     Ok(())
 }
 
+/// Expects that a desk has these cells and 65,535 slots, and that nothing is noted.
+fn expect_desk<T: AllocGlobal + Abort>(rt: &T, desk: &Desk, cells: &[Cell]) {
+    assert_eq!(rt; desk.cells(), cells);
+    assert_eq!(rt; desk.slots(), 65535);
+    expect_notes(rt, &desk.pass(), &[]);
+}
+
+/// Expects that a closed desk has three cells, these, and 65,535 slots, of which none was played.
+fn expect_closed<T: Abort>(rt: &T, closed: &Closed, cells: &[Cell]) {
+    assert_eq!(rt; closed.cells.as_slice(), cells);
+    assert_eq!(rt; closed.slots, 65535);
+    assert_eq!(rt; closed.books.len(), 3);
+    for (place, cell) in cells.iter().enumerate() {
+        expect_book(rt, closed, place, *cell, 0, 0);
+    }
+}
+
 #[test]
 fn a_desk_has_its_cells_and_slots(rt: HostRuntime) -> Result<(), Fail> {
-    let alloc = rt.alloc();
     let cells = [SECOND, FIRST, Cell { lac: 2, ci: 1 }];
-    let desk = opened(alloc, cells.as_slice(), 65535)?;
-    assert_eq!(&rt; desk.cells(), cells.as_slice());
-    assert_eq!(&rt; desk.slots(), 65535);
-    expect_notes(&rt, &desk.pass(), &[]);
+    let desk = opened(rt.alloc(), cells.as_slice(), 65535)?;
+    expect_desk(&rt, &desk, cells.as_slice());
     Open.inside(2);
-    let closed = closed(desk)?;
-    assert_eq!(&rt; closed.cells.as_slice(), cells.as_slice());
-    assert_eq!(&rt; closed.slots, 65535);
-    assert_eq!(&rt; closed.books.len(), 3);
-    expect_book(&rt, &closed, 0, SECOND, 0, 0);
-    expect_book(&rt, &closed, 1, FIRST, 0, 0);
-    expect_book(&rt, &closed, 2, Cell { lac: 2, ci: 1 }, 0, 0);
+    expect_closed(&rt, &closed(desk)?, cells.as_slice());
     Ok(())
 }
 
