@@ -20,9 +20,9 @@ use std::sync::Wait;
 use std::thread::Threads;
 
 /// Reads a book, has the cells of a desk carry out what its one session orders, in runs of `slots` slots, settles the
-/// desk, and writes the tapes of the cells, in the order of the book. Nothing is written before all tapes are made. So
-/// many workers, 1 to 64, play the cells to the ends of their runs and make the tapes side by side: with any number of
-/// them the same is written.
+/// desk, and writes the tapes of the cells, in the order of the book. Nothing is written before all tapes are made.
+/// `workers` workers, 1 to 64, play the cells to the ends of their runs and make the tapes side by side: with any
+/// number of them the same is written.
 ///
 /// What was written is what the book means (`IsCompiled`): there is one session, whose messages are those of the book's
 /// rows by the replies that it gets; each cell's log has what the messages order of it, in order, once each and nothing

@@ -73,8 +73,8 @@ impl<T: Drop> From<AllocFailed<T>> for ReportRunFault {
 }
 
 /// Reads a book, runs its cells as [`compile_stream`](crate::compile_stream) does, reads the tapes as handsets do, and
-/// writes a report of what became of each order of each cell, as CSV. Nothing is written before all of it is made. So
-/// many workers, 1 to 64, play the cells and make the tapes: with any number of them the same is written.
+/// writes a report of what became of each order of each cell, as CSV. Nothing is written before all of it is made.
+/// `workers` workers, 1 to 64, play the cells and make the tapes: with any number of them the same is written.
 ///
 /// What was written is the report of what the book means (`IsReported`): of each message that a cell accepted its start
 /// and end, how many of its broadcasts are whole in the blocks, and whether a handset that reads the cell's tape shows
