@@ -17,3 +17,4 @@ pub mod Utf8Laws
 pub mod OneBook
 pub mod RightOrders
 pub mod Writable
+mod NearCells

@@ -1,12 +1,13 @@
 -- What a session believes and does (own). Contracts of private functions alone speak of it.
-use Rattle.std.specs.Prelude.{◌≡◌, ℕ, Option, Some, None, List, [], if◌then◌else◌}
+use Rattle.std.specs.Prelude.{◌≡◌, ℕ, Option, Some, None, List, [], filter, if◌then◌else◌, map}
 use Rattle.cbs_page.specs.declared.paging.Paged.{Paged}
 use Rattle.cbsp_wire.specs.declared.message.Cell.{Cell}
 use Rattle.alert_book.specs.declared.believed.Believed.{Believed}
 use Rattle.alert_book.specs.declared.order.Order.{Order}
 use Rattle.alert_book.specs.declared.outcome.Outcome.{Outcome}
+use Rattle.alert_book.specs.declared.request.CellVersion.{CellVersion}
 use Rattle.alert_book.specs.declared.request.Request.{Request}
-use Rattle.alert_book.specs.Session.{cells_asked, is_of_part, requests_of, version_after}
+use Rattle.alert_book.specs.Session.{cells_asked, is_of_part, is_version, requests_of, version_after}
 use Rattle.alert_book.specs.VersionSteps.{Key, kept_version}
 
 -- the versions that are believed live, with what the last reply says
@@ -19,6 +20,13 @@ live_with entries (Some request) (Some outcome) number cell =
 abbrev pub live_by : Believed → (number : ℕ) → Cell → Option ℕ
 live_by live number cell =
     live_with live.versions.now live.sent.now live.outcome.now number cell
+
+-- a cell with the version of an alert that is believed live there; the cells among those found that have a version
+abbrev pub cell_version : (live : ℕ → Cell → Option ℕ) → (number : ℕ) → Cell → CellVersion
+cell_version live number cell = record { cell = cell; version = live number cell }
+
+abbrev pub cells_found : (version : ℕ) → List CellVersion → List Cell
+cells_found version found = map (λ f. f.cell) (filter (λ f. is_version version f.version) found)
 
 -- the requests that a row gives, if its order is of this part
 abbrev pub requests_in : (live : ℕ → Cell → Option ℕ) → (part parts : ℕ) → Order → Option Paged → List Request

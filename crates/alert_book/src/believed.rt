@@ -21,13 +21,16 @@ pub struct Believed<'a> {
 }
 
 impl Believed<'_> {
-    /// The version of an alert that is believed live in a cell, if one is.
-    pub fn version(&self, number: u16, cell: Cell) -> Option<u8>
+    /// The version of an alert that is believed live in a cell, if one is. The cell is looked for at this place first in
+    /// the last request and its reply.
+    pub fn version(&self, number: u16, cell: Cell, place: usize) -> Option<u8>
         ensures { result ≡ live_by self.now number cell }
     {
         let kept = self.versions.version(number, cell);
         match (self.sent, self.outcome) {
-            (Some(request), Some(outcome)) => version_after(request, outcome, number, cell, kept),
+            (Some(request), Some(outcome)) => {
+                version_after(request, outcome, number, cell, place, kept)
+            }
             _ => kept,
         }
     }

@@ -38,6 +38,18 @@ pub(crate) fn stands_in(cell: Cell, cells: &[Cell]) -> bool
     cells.iter().any(|other| is_cell(cell, *other))
 }
 
+/// Whether a cell stands in a list, in which it is looked for at a place first: lists of the cells that were asked, and
+/// of those that accepted, have mostly the same order.
+#[tactic(auto, using(crate::proofs::NearCells::found_near))]
+pub(crate) fn stands_near(cell: Cell, cells: &[Cell], place: usize) -> bool
+    ensures { result ≡ list_any (is_cell cell) cells.now }
+{
+    match cells.get(place) {
+        Some(other) if is_cell(cell, *other) => true,
+        _ => stands_in(cell, cells),
+    }
+}
+
 /// Whether no cell stands twice in a list.
 fn are_distinct(cells: &[Cell]) -> bool
     ensures { result ≡ are_distinct cells.now }

@@ -7,7 +7,7 @@ ghost use Rattle.alert_book.specs.Session.{accepting, cells_asked, cells_counted
 ghost use Rattle.alert_book.specs.Session.{is_reply_to, outcome_said, refuses, same_serial, version_by, version_said};
 ghost use Rattle.alert_book.specs.Session.{version_after, after_refusal};
 
-use crate::cells::{is_cell, stands_in};
+use crate::cells::{is_cell, stands_near};
 use crate::request::{Refused, Request};
 use cbs_page::Serial;
 use cbsp_wire::{Cell, Cells, Count, Counts, Failure, Failures, Message, cause};
@@ -218,35 +218,38 @@ fn refusal_of(refused: &[Failure], cell: Cell) -> Option<&Failure>
     refused.iter().find(|failure| refuses(cell, failure))
 }
 
-/// The version in a cell that was asked, after what the reply says.
+/// The version in a cell that was asked, after what the reply says. The cell is looked for at this place first.
 pub(crate) fn version_said(
     request: &Request,
     outcome: &Outcome,
     cell: Cell,
+    place: usize,
     before: Option<u8>,
 ) -> Option<u8>
     ensures { result ≡ version_said request.now outcome.now cell before }
 {
     match refusal_of(&outcome.refused.list, cell) {
         Some(failure) => after_refusal(failure.cause, before),
-        None if stands_in(cell, &outcome.accepted.list) => request.version,
+        None if stands_near(cell, &outcome.accepted.list, place) => request.version,
         None => before,
     }
 }
 
-/// The version of an alert in a cell after what a reply says of the cells that were asked.
+/// The version of an alert in a cell after what a reply says of the cells that were asked. The cell is looked for at
+/// this place first.
 pub(crate) fn version_after(
     request: &Request,
     outcome: &Outcome,
     number: u16,
     cell: Cell,
+    place: usize,
     before: Option<u8>,
 ) -> Option<u8>
     ensures { result
         ≡ version_after request.now outcome.now (cells_asked request.now.message) number cell before }
 {
-    if request.number == number && stands_in(cell, cells_asked(&request.message)) {
-        version_said(request, outcome, cell, before)
+    if request.number == number && stands_near(cell, cells_asked(&request.message), place) {
+        version_said(request, outcome, cell, place, before)
     } else {
         before
     }

@@ -1,10 +1,10 @@
 //! The requests that a row's order comes to: messages, each to the cells that have one version of its alert.
 
 ghost use Rattle.std.specs.Prelude.{◌≡◌, ◌<◌, ◌∷◌, ◌++◌, [], Some, None, All, map, IfOk, IfSome, OnOk, if◌then◌else◌};
-ghost use Rattle.alert_book.specs.Session.{cells_with, has_cells, is_version, requests_of, targets_of, serial_if};
+ghost use Rattle.alert_book.specs.Session.{has_cells, is_version, requests_of, targets_of, serial_if};
 ghost use Rattle.alert_book.specs.Session.{serial_of};
 ghost use Rattle.alert_book.specs.Session.{request_with, stop_request, update_request, write_of};
-ghost use Rattle.alert_book.specs.SessionSteps.{live_by};
+ghost use Rattle.alert_book.specs.SessionSteps.{cell_version, cells_found, live_by};
 ghost use Rattle.alert_book.specs.SendableSteps.{HasSerials, IsSendable};
 
 use crate::believed::Believed;
@@ -57,6 +57,15 @@ pub struct Target {
     pub cells: Cells,
 }
 
+/// A cell, and the version of an alert that is believed live there.
+#[derive(Clone, Copy)]
+pub struct CellVersion {
+    /// The cell.
+    pub cell: Cell,
+    /// The version, by its update number, if one is live.
+    pub version: Option<u8>,
+}
+
 /// The serial number of a version of an alert.
 fn serial_of(alert: Alert, version: u8) -> Serial
     requires alert { HasSerials alert }
@@ -88,20 +97,33 @@ fn is_version(version: u8, live: Option<u8>) -> bool
     }
 }
 
-/// Of some cells those where this version of an alert is believed live.
-fn cells_with(
+/// Some cells, each with the version of an alert that is believed live there.
+fn versions_in(
     alloc: Global,
     live: &Believed<'_>,
     number: u16,
-    version: u8,
     cells: &[Cell],
-) -> Result<Cells, Refused>
-    ensures { IfOk result (λ with. with ≡ cells_with (live_by live.now) number version cells.now) }
+) -> Result<Vec<CellVersion>, Refused>
+    ensures { IfOk result (λ found. found.items ≡ map (cell_version (live_by live.now) number) cells.now) }
+{
+    let mut found = Vec::with_capacity(alloc, cells.len())?;
+    for (place, cell) in cells.iter().enumerate() {
+        found.push(CellVersion {
+            cell: *cell,
+            version: live.version(number, *cell, place),
+        })?;
+    }
+    Ok(found)
+}
+
+/// Of some cells those that have this version.
+fn cells_with(alloc: Global, found: &[CellVersion], version: u8) -> Result<Cells, Refused>
+    ensures { IfOk result (λ cells. cells ≡ cells_found version found.now) }
 {
     let mut list = Vec::new(alloc);
-    for cell in cells {
-        if is_version(version, live.version(number, *cell)) {
-            list.push(*cell)?;
+    for one in found {
+        if is_version(version, one.version) {
+            list.push(one.cell)?;
         }
     }
     Ok(Cells { list })
@@ -171,9 +193,10 @@ fn targets_of(
     ensures same { IfOk result (λ targets. targets.items ≡ targets_of (live_by live.now) number cells.now) }
     ensures versions { IfOk result (λ targets. All (λ t. t.version < 16) targets.items) }
 {
+    let found = versions_in(alloc, live, number, cells)?;
     let mut targets = Vec::new(alloc);
     for version in 0..16 {
-        let cells = cells_with(alloc, live, number, version, cells)?;
+        let cells = cells_with(alloc, &found, version)?;
         push_target(&mut targets, Target { version, cells })?;
     }
     Ok(targets)

@@ -262,9 +262,9 @@ fn keep(versions: &mut Versions, sent: &Option<Request>, outcome: &Option<Outcom
     let (Some(request), Some(outcome)) = (sent, outcome) else {
         return;
     };
-    for cell in cells_asked(&request.message) {
+    for (place, cell) in cells_asked(&request.message).iter().enumerate() {
         let before = versions.version(request.number, *cell);
-        let version = version_said(request, outcome, *cell, before);
+        let version = version_said(request, outcome, *cell, place, before);
         versions.set(request.number, *cell, version);
     }
 }
