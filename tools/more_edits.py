@@ -20,7 +20,7 @@ PARTS = ("src", "specs", "proofs")
 
 
 def read_edit(path):
-    """Returns the pairs (file, old text, new text) of an edit."""
+    """Returns the pairs (file, old text, new text) of an edit. A text is one line, as it is for those in must-fail."""
     pairs, file, old = [], None, None
     with open(path, encoding="utf-8") as lines:
         for line in lines.read().split("\n"):
@@ -30,6 +30,8 @@ def read_edit(path):
                 old = line[5:]
             elif line.startswith("new:"):
                 pairs.append((file, old, line[4:].removeprefix(" ")))
+            elif line.strip():
+                raise SystemExit(f"{path}: a text of several lines")
     return pairs
 
 
