@@ -1,4 +1,4 @@
-//! The blocks of one slot of a record.
+//! The blocks of a slot that airs a page.
 
 ghost use Rattle.std.specs.Prelude.{◌≡◌, ◌-◌, ◌++◌, OnOk};
 ghost use Rattle.std.specs.List.{slice_get};
@@ -34,31 +34,13 @@ fn page_blocks(command: &Command, page: u8) -> [[u8; 23]; 4]
     }
 }
 
-/// The four blocks of a slot.
-fn slot_blocks(log: &[Entry], used: Option<Aired>) -> [[u8; 23]; 4]
-    requires { CanAir log.now (aired_pair used) }
-    ensures { result ≡ blocks_of_slot (page_aired log.now (aired_pair used)) }
-{
-    match used {
-        None => idle(),
-        Some(aired) => page_blocks(&log[aired.entry as usize].command, aired.page),
-    }
-}
-
-/// Appends the blocks of a slot.
-pub(crate) fn put_slot(
-    octets: &mut Vec<u8>,
-    log: &[Entry],
-    used: Option<Aired>,
-) -> Result<(), Refused>
-    requires { CanAir log.now (aired_pair used) }
+/// Appends the blocks of a slot that airs a page.
+pub(crate) fn put_page(octets: &mut Vec<u8>, log: &[Entry], aired: Aired) -> Result<(), Refused>
+    requires { CanAir log.now (aired_pair (Some aired)) }
     ensures { OnOk result (octets.new.items
-        ≡ octets.old.items ++ octets_of_blocks (blocks_of_slot (page_aired log.now (aired_pair used)))) }
+        ≡ octets.old.items ++ octets_of_blocks (blocks_of_slot (page_aired log.now (aired_pair (Some aired))))) }
 {
-    let [first, second, third, fourth] = slot_blocks(log, used);
-    octets.extend_from_slice(&first)?;
-    octets.extend_from_slice(&second)?;
-    octets.extend_from_slice(&third)?;
-    octets.extend_from_slice(&fourth)?;
+    let blocks = page_blocks(&log[aired.entry as usize].command, aired.page);
+    octets.extend_from_slice(blocks.as_flattened())?;
     Ok(())
 }

@@ -5,7 +5,8 @@ ghost use Rattle.std.specs.Io.KnownBytes.{Appends};
 ghost use Rattle.device_ends.specs.Sink.{sink_failed, writer_of};
 ghost use Rattle.cbch_blocks.specs.RecordBlocks.{tape_header, tape_of_record};
 
-use crate::slot::put_slot;
+use crate::blocks::idle;
+use crate::slot::put_page;
 use bsc_table::CellRecord;
 use cbsp_wire::Cell;
 use device_ends::{Sink, write_front};
@@ -116,8 +117,14 @@ pub fn tape_of(alloc: Global, run: &CellRecord) -> Result<Tape, Refused>
     let slots = run.slots();
     let mut octets = Vec::with_capacity(alloc, HEADER + SLOT * usize::from(slots))?;
     octets.extend_from_slice(&header_of(run.cell(), slots))?;
+    // The octets of an idle slot are made once, as most slots are idle.
+    let blocks = idle();
+    let idle = blocks.as_flattened();
     for used in run.air() {
-        put_slot(&mut octets, run.log(), *used)?;
+        match used {
+            None => octets.extend_from_slice(idle)?,
+            Some(aired) => put_page(&mut octets, run.log(), *aired)?,
+        }
     }
     Ok(Tape { octets })
 }
