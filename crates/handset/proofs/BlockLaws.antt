@@ -123,6 +123,13 @@ and-false : (b : Bool) → (b && false) ≡ false
 and-false true = refl
 and-false false = refl
 
+-- where no page is under way, a block ends none, and after one that begins none no page is under way
+pub ends_none : (block : List ℕ) → [] ≡ page_ended [] block
+ends_none block = simp and-false refl
+
+pub begins_none : (block : List ℕ) → type_of block ≢ 0x20 → [] ≡ under_way_with [] block
+begins_none block other = simp (ne_eqb (type_of block) 0x20 other, and-false) refl
+
 -- the blocks of a page that isn't whole have no page
 no_page : (kept : List (List ℕ)) → length kept ≤ 3 → pages_read kept ≡ []
 no_page [] few = refl

@@ -1,6 +1,6 @@
 -- One more block: what a handset keeps stands for the longer list of blocks, and what that shows more.
-use Rattle.std.proofs.Common.{◌≡◌, ℕ, ◌/◌, ◌%◌, ◌≤◌, Bool, true, false, cond, eqb, leb, List, [], ◌∷◌, ◌++◌, filter}
-use Rattle.std.proofs.Common.{length, slice_index, is_some, refl, sym, ◌∙◌, ap, arith, inl, inr, append-nil}
+use Rattle.std.proofs.Common.{◌≡◌, ◌≢◌, ℕ, ◌/◌, ◌%◌, ◌≤◌, Bool, true, false, cond, eqb, leb, List, [], ◌∷◌, ◌++◌}
+use Rattle.std.proofs.Common.{filter, length, slice_index, is_some, refl, sym, ◌∙◌, ap, arith, inl, inr, append-nil}
 use Rattle.std.proofs.Common.{append_assoc}
 use Rattle.std.specs.Prelude.{◌&&◌, ◌||◌}
 use Rattle.std.proofs.lemmas.Bool.{cases_Bool, eqb-false, leb-true, and_parts, or_parts}
@@ -12,7 +12,7 @@ use Rattle.handset.specs.Reception.{Name, name_of, type_of, page_octets, pages_r
 use Rattle.handset.specs.Reception.{completed_after, shown_in}
 use Rattle.handset.specs.Keeping.{HandsetState, kept_of, AreKept, IsUnderWay, HasRead}
 use Rattle.handset.specs.KeepingSteps.{under_way_with, page_ended, pages_with_read, TakesPage, message_ended_read}
-use Rattle.handset.proofs.BlockLaws.{under_way-more, pages-more}
+use Rattle.handset.proofs.BlockLaws.{begins_none, ends_none, under_way-more, pages-more}
 use Rattle.handset.proofs.PageLaws.{kept-more, completed-more}
 
 -- the messages that a list of pages completes are those of its front, and then those of its rest
@@ -109,6 +109,13 @@ reads_none handset after blocks block none under_way pages shown read =
       pages = rw (pages, same) read.pages;
       shown = shown ∙ read.shown ∙ sym (shows_none handset blocks block none read);
     }
+
+-- a block that begins no page, where none is under way: what is kept stays as it is
+pub reads_other : (handset : HandsetState) (blocks : List (List ℕ)) (block : List ℕ) → handset.under_way ≡ [] →
+    type_of block ≢ 0x20 → HasRead handset blocks → HasRead handset (blocks ++ block ∷ [])
+reads_other handset blocks block none other read =
+    reads_none handset handset blocks block (ends_none block ∙ ap (λ kept. page_ended kept block) (sym none))
+    (none ∙ begins_none block other ∙ ap (λ kept. under_way_with kept block) (sym none)) refl refl read
 
 -- a block that makes a page whole
 pub shows_page : (handset : HandsetState) (blocks : List (List ℕ)) (block : List ℕ) (page : PageView) →

@@ -1,9 +1,9 @@
 //! Pages in the blocks that carry them (3GPP TS 44.012): four blocks in a row, of types 20, 21, 22 and 33 (hex), are a
 //! page.
 
-ghost use Rattle.std.specs.Prelude.{◌≡◌, ◌++◌, ◌∷◌, [], drop};
+ghost use Rattle.std.specs.Prelude.{◌≡◌, ◌≢◌, ◌↔◌, ◌++◌, ◌∷◌, [], drop, IsTrue};
 ghost use Rattle.std.specs.Option.{option_to_list};
-ghost use Rattle.handset.specs.Reception.{page_octets};
+ghost use Rattle.handset.specs.Reception.{page_octets, type_of};
 ghost use Rattle.handset.specs.Keeping.{blocks_of};
 ghost use Rattle.handset.specs.KeepingSteps.{under_way_with, page_ended};
 
@@ -75,6 +75,19 @@ impl PartialPage {
                 self.stage = Stage::Third;
             }
             _ => self.stage = Stage::Nothing,
+        }
+    }
+
+    /// Whether no page is under way and a block begins none, as in idle slots. Such a block completes no page, and none
+    /// is under way after it.
+    pub fn passes_over(&self, block: &[u8; 23]) -> bool
+        ensures { IsTrue result ↔ (blocks_of self.now ≡ []) × (type_of block.now ≢ 0x20) }
+    {
+        match self.stage {
+            Stage::Nothing => block[0] != FIRST,
+            Stage::First => false,
+            Stage::Second => false,
+            Stage::Third => false,
         }
     }
 
