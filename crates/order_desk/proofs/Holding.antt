@@ -1,10 +1,7 @@
 -- What a lock held stays a run of its cell.
-use Rattle.std.proofs.Common.{◌≡◌, ℕ, ◌∙◌, true, eqb, List, Some, inr, refl, rules, slice_get, sym, subst}
-use Rattle.std.proofs.lemmas.List.Folds.{list_any_at}
-use Rattle.std.proofs.lemmas.Option.{get_or_from_slice_get, slice_get_within}
+use Rattle.std.proofs.Common.{◌≡◌, ℕ, ◌∙◌, true, List, Some, inr, slice_get, sym, subst}
 use Rattle.cbsp_wire.specs.declared.message.Cell.{Cell}
 use Rattle.bsc_table.specs.Record.{Record}
-use Rattle.cbsp_wire.specs.Range.{is_cell}
 use Rattle.bsc_table.specs.declared.command.Command.{Command}
 use Rattle.order_desk.specs.declared.errand.Errand.{Errand}
 use Rattle.order_desk.specs.declared.errand.Errand.TheVariants as errands
@@ -12,6 +9,7 @@ use Rattle.order_desk.specs.declared.note.Note.{Note}
 use Rattle.order_desk.specs.Desk.{IsAtMostPlayed, IsHeld, Line, has_cell}
 use Rattle.order_desk.specs.DeskSteps.{CanBeDone, cell_of}
 use Rattle.order_desk.specs.Notes.{IsPlayedFor, IsRunOf}
+use Rattle.order_desk.proofs.Places.{stands_there}
 
 -- a run that goes on from another is of the same cell
 pub run_on : (cell : Cell) (slots : ℕ) (before after : Record)
@@ -24,19 +22,10 @@ run_on cell slots before after held left = record {
   legal = left.legal;
 }
 
-eqb-same : (n : ℕ) → eqb n n ≡ true
-eqb-same n = search (rules)
-
--- a cell is itself
-pub is_itself : (c : Cell) → is_cell c c ≡ true
-is_itself c = rw (eqb-same c.lac, eqb-same c.ci) refl
-
 -- a cell that has a place at the desk is of the desk
 pub has_placed : (desk : Line) (cell : Cell) (place : ℕ) → slice_get desk.cells place ≡ Some cell
     → has_cell desk cell ≡ true
-has_placed desk cell place at =
-    list_any_at (is_cell cell) desk.cells place cell (slice_get_within desk.cells place cell at)
-    (rw (get_or_from_slice_get desk.cells place cell cell at) (is_itself cell))
+has_placed desk cell place at = stands_there desk.cells cell place at
 
 -- an errand that was given up after a play
 pub given_up : (desk : Line) (at : ℕ) (errand : Errand) (cell : Cell) (place : ℕ) (command : Command)

@@ -1,6 +1,6 @@
 -- Where a cell stands in a list.
 use Rattle.std.proofs.Common.{◌≡◌, ℕ, ◌<◌, ◌≤◌, Bool, true, false, cond, ltb, get_or, List, length, Some, None, refl}
-use Rattle.std.proofs.Common.{sym, ap, ◌∙◌, rules, slice_get, eqb-true}
+use Rattle.std.proofs.Common.{eqb, sym, ap, ◌∙◌, rules, slice_get, eqb-true}
 use native.Mathlib.Omega.{arith}
 use Rattle.std.specs.List.{list_any, position, position_or_len}
 use Rattle.std.proofs.lemmas.Bool.{and_parts, ltb-false}
@@ -8,7 +8,7 @@ use Rattle.std.proofs.lemmas.List.Elements.{All-from_get_or}
 use Rattle.std.proofs.lemmas.List.Folds.{list_any_at, list_any_none}
 use Rattle.std.proofs.lemmas.List.Quantifiers.{position-Some}
 use Rattle.std.proofs.lemmas.List.Sums.{fails_before_first}
-use Rattle.std.proofs.lemmas.Option.{slice_get-get_or}
+use Rattle.std.proofs.lemmas.Option.{get_or_from_slice_get, slice_get-get_or, slice_get_within}
 use Rattle.cbsp_wire.specs.declared.message.Cell.{Cell}
 use Rattle.cbsp_wire.specs.Range.{is_cell}
 
@@ -18,6 +18,24 @@ same_cell a b same =
     let parts = and_parts _ _ same in
     ap (λ x. record { lac = x; ci = a.ci }) (eqb-true a.lac b.lac parts.0)
     ∙ ap (λ x. record { lac = b.lac; ci = x }) (eqb-true a.ci b.ci parts.1)
+
+eqb-same : (n : ℕ) → eqb n n ≡ true
+eqb-same n = search (rules)
+
+-- a cell is itself
+pub is_itself : (c : Cell) → is_cell c c ≡ true
+is_itself c = rw (eqb-same c.lac, eqb-same c.ci) refl
+
+-- so is the one that stands at its place
+pub itself_at : (cells : List Cell) (cell : Cell) (place : ℕ) (default : Cell) → slice_get cells place ≡ Some cell
+    → is_cell cell (get_or cells place default) ≡ true
+itself_at cells cell place default at = rw (get_or_from_slice_get cells place cell default at) (is_itself cell)
+
+-- a cell that stands at a place is there
+pub stands_there : (cells : List Cell) (cell : Cell) (place : ℕ) → slice_get cells place ≡ Some cell
+    → list_any (is_cell cell) cells ≡ true
+stands_there cells cell place at = list_any_at (is_cell cell) cells place cell
+    (slice_get_within cells place cell at) (itself_at cells cell place cell at)
 
 -- a cell's place has it
 pub at_place : (cells : List Cell) (cell : Cell) (place : ℕ) → position (is_cell cell) cells ≡ Some place

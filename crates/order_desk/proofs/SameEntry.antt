@@ -1,10 +1,8 @@
 -- What a comparison of two entries says: that they are equal, and only then.
-use Rattle.std.proofs.Common.{◌≡◌, Decides, Option, ℕ, rules, true, subst, refl, ◌==◌, ◌&&◌}
+use Rattle.std.proofs.Common.{◌≡◌, Decides, rules, true, subst, refl, ◌==◌, ◌&&◌}
 use Rattle.std.proofs.lemmas.Bool.{and_from, eqb-true, eq-eqb}
 use Rattle.cbsp_wire.proofs.Tests.{and_parts}
-use Rattle.cbs_page.specs.declared.Dcs.{Dcs}
-use Rattle.cbs_page.specs.declared.content.Content.{Content}
-use Rattle.cbsp_wire.specs.Same.{same_contents, same_contents_decides}
+use Rattle.cbsp_wire.specs.Same.{same_contents_decides}
 use Rattle.bsc_table.specs.declared.command.Command.{Command}
 use Rattle.bsc_table.specs.declared.command.Command.TheVariants as commands
 use Rattle.bsc_table.specs.declared.entry.Entry.{Entry}

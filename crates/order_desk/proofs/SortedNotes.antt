@@ -1,15 +1,15 @@
 -- Notes that are sorted by cell, after one more note and after one more pass.
-use Rattle.std.proofs.Common.{◌≡◌, ℕ, zero, suc, ◌+◌, ◌<◌, ◌≤◌, Bool, true, false, not, Some, None, eqb}
+use Rattle.std.proofs.Common.{◌≡◌, ℕ, zero, suc, ◌+◌, ◌<◌, ◌≤◌, Bool, true, false, not, Some, eqb}
 use Rattle.std.proofs.Common.{List, [], ◌∷◌, ◌++◌, length, filter, take, inl, inr, sym, subst, refl, ap, ◌∙◌}
 use Rattle.std.proofs.Common.{slice_index_or, slice_set, arith}
-use Rattle.std.specs.List.{AllZip, list_any, position}
+use Rattle.std.specs.List.{AllZip, list_any, slice_get}
 use Rattle.std.proofs.Math.Seq.{get_or-append_seam, set-append_seam}
 use Rattle.std.proofs.lemmas.Bool.{cases_Bool, cases_lt, false≢true, eqb-true, eqb-false}
 use Rattle.std.proofs.lemmas.List.{take_more, map-append, length-set, get_or_default}
 use Rattle.std.proofs.lemmas.List.{get_or-set_same, get_or-set_other}
 use Rattle.std.proofs.lemmas.List.Folds.{list_any_at}
 use Rattle.std.proofs.lemmas.Slice.Zip.{AllZip-long}
-use Rattle.std.proofs.lemmas.List.Quantifiers.{position-Some}
+use Rattle.std.proofs.lemmas.Option.{slice_get_within}
 use Rattle.cbsp_wire.proofs.Tests.{and_parts}
 use Rattle.cbsp_wire.specs.declared.message.Cell.{Cell}
 use Rattle.cbsp_wire.specs.Range.{are_distinct, is_cell}
@@ -17,7 +17,7 @@ use Rattle.order_desk.specs.declared.note.Note.{Note}
 use Rattle.bsc_table.specs.Record.{Record}
 use Rattle.order_desk.specs.Settled.{IsBookOf, cell_of}
 use Rattle.order_desk.specs.SettleSteps.{AreSorted, IsOfCell, is_note_of, own_notes}
-use Rattle.order_desk.proofs.Places.{absent, same_cell}
+use Rattle.order_desk.proofs.Places.{itself_at, same_cell}
 use Rattle.order_desk.proofs.OwnNotes.{filter_with, filter_without}
 
 -- the items up to and with the next one
@@ -99,7 +99,7 @@ other_way a b is =
 -- a note of none of the cells
 pub sorted_other : (cells : List Cell) (before : List (List Note)) (given : List Note) (note : Note)
     (sorted : List (List (List Note)))
-    → position (is_cell (cell_of note)) cells ≡ None
+    → list_any (is_cell (cell_of note)) cells ≡ false
     → AreSorted cells (before ++ given ∷ []) sorted
     → AreSorted cells (before ++ (given ++ note ∷ []) ∷ []) sorted
 sorted_other cells before given note sorted none are = record {
@@ -112,7 +112,7 @@ sorted_other cells before given note sorted none are = record {
         → is_note_of (slice_index_or cells place default) note ≡ false
     foreign place default within = elim (cases_Bool (is_cell (slice_index_or cells place default) (cell_of note))) [
       | inl is ↦
-          absurd (false≢true (sym (absent cells (cell_of note) none)
+          absurd (false≢true (sym none
           ∙ list_any_at (is_cell (cell_of note)) cells place default within
           (other_way (slice_index_or cells place default) (cell_of note) is)))
       | inr other ↦ other
@@ -122,7 +122,7 @@ sorted_other cells before given note sorted none are = record {
 pub sorted_note : (cells : List Cell) (before : List (List Note)) (given : List Note) (note : Note)
     (sorted : List (List (List Note))) (place : ℕ) (own : List (List Note))
     → are_distinct cells ≡ true
-    → position (is_cell (cell_of note)) cells ≡ Some place
+    → slice_get cells place ≡ Some (cell_of note)
     → ((earlier : List (List Note)) (last : List Note) → slice_index_or sorted place [] ≡ earlier ++ last ∷ []
     → own ≡ earlier ++ (last ++ note ∷ []) ∷ [])
     → AreSorted cells (before ++ given ∷ []) sorted
@@ -142,10 +142,10 @@ sorted_note cells before given note sorted place own distinct found added are = 
     own_of n default = own_notes (slice_index_or cells n default) (before ++ (given ++ note ∷ []) ∷ [])
 
     is_at : (default : Cell) → is_cell (cell_of note) (slice_index_or cells place default) ≡ true
-    is_at default = (position-Some (is_cell (cell_of note)) cells place default found).1
+    is_at default = itself_at cells (cell_of note) place default found
 
     there : place < length cells
-    there = (position-Some (is_cell (cell_of note)) cells place (cell_of note) found).0
+    there = slice_get_within cells place (cell_of note) found
 
     here : (default : Cell) → slice_index_or (slice_set sorted place own) place [] ≡ own_of place default
     here default =

@@ -1,5 +1,5 @@
 -- Steps of a desk's calls (own). The contracts of private functions alone speak of it.
-use Rattle.std.specs.Prelude.{◌≡◌, ℕ, ◌<◌, ◌≤◌, ⊤, true, false, Some, List, [], ◌∷◌, ◌++◌}
+use Rattle.std.specs.Prelude.{◌≡◌, ℕ, ◌<◌, ◌≤◌, ⊤, true, false, Option, Some, None, List, [], ◌∷◌, ◌++◌}
 use Rattle.std.specs.Prelude.{All, length, map, take, vec_capacity, vec_len}
 use Rattle.std.specs.List.{list_any, slice_get}
 use Rattle.cbsp_wire.specs.declared.message.Cell.{Cell}
@@ -28,6 +28,11 @@ use Rattle.cbsp_wire.specs.Range.{cells_are_valid, is_cell}
 abbrev pub cell_of : Errand → Cell
 cell_of (errands.Own cell place command) = cell
 cell_of (errands.Foreign cell) = cell
+
+-- its place at the desk, if its cell is of the desk
+abbrev pub place_of : Errand → Option ℕ
+place_of (errands.Own cell place command) = Some place
+place_of (errands.Foreign cell) = None
 
 -- an errand of a command: to a cell of the desk, with its place and a copy; or to another cell
 abbrev pub IsErrand : (own : List Cell) → Command → Errand → Type 0

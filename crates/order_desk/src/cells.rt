@@ -1,7 +1,7 @@
 //! The cells that an order or a desk may have.
 
-ghost use Rattle.std.specs.Prelude.{◌≡◌};
-ghost use Rattle.std.specs.List.{list_any, position};
+ghost use Rattle.std.specs.Prelude.{◌≡◌, IfNone, IfSome, IsTrue, false};
+ghost use Rattle.std.specs.List.{list_any, position, slice_get};
 ghost use Rattle.cbsp_wire.specs.Range.{are_distinct, cells_are_valid, is_cell};
 
 use cbsp_wire::Cell;
@@ -14,7 +14,7 @@ pub(crate) fn is_cell(one: Cell, other: Cell) -> bool
 }
 
 /// Whether a cell stands in a list.
-pub(crate) fn stands_in(cell: Cell, cells: &[Cell]) -> bool
+fn stands_in(cell: Cell, cells: &[Cell]) -> bool
     ensures { result ≡ list_any (is_cell cell) cells.now }
 {
     cells.iter().any(|other| is_cell(cell, *other))
@@ -46,4 +46,32 @@ pub(crate) fn place_of(cells: &[Cell], cell: Cell) -> Option<usize>
     ensures { result ≡ position (is_cell cell) cells.now }
 {
     cells.iter().position(|other| is_cell(cell, *other))
+}
+
+/// Whether a cell stands at a place of a list.
+#[tactic(auto, using(crate::proofs::Places::same_cell))]
+fn stands_at(cells: &[Cell], place: usize, cell: Cell) -> bool
+    ensures { IsTrue result → slice_get cells.now place ≡ Some cell }
+{
+    match cells.get(place) {
+        Some(other) => is_cell(cell, *other),
+        None => false,
+    }
+}
+
+/// A place of a cell in a list, if it is there. It looks at a place that is near and at the one after it first: lists and
+/// notes mostly name the desk's cells in the desk's order.
+#[tactic(auto, using(crate::proofs::Places::at_place, crate::proofs::Places::absent))]
+pub(crate) fn place_near(cells: &[Cell], near: usize, cell: Cell) -> Option<usize>
+    ensures there { IfSome result (λ place. slice_get cells.now place ≡ Some cell) }
+    ensures absent { IfNone result (list_any (is_cell cell) cells.now ≡ false) }
+{
+    if stands_at(cells, near, cell) {
+        return Some(near);
+    }
+    let next = near.saturating_add(1);
+    if stands_at(cells, next, cell) {
+        return Some(next);
+    }
+    place_of(cells, cell)
 }

@@ -1,9 +1,9 @@
 //! Errands: what an order has to do in each cell of its list.
 
 ghost use Rattle.std.specs.Prelude.{◌≡◌, map, All, IfOk, IfErr};
-ghost use Rattle.order_desk.specs.DeskSteps.{IsErrand, cell_of};
+ghost use Rattle.order_desk.specs.DeskSteps.{IsErrand, cell_of, place_of};
 
-use crate::cells::place_of;
+use crate::cells::place_near;
 use crate::fault::DeskFault;
 use bsc_table::{Command, Refused};
 use cbsp_wire::Cell;
@@ -37,15 +37,30 @@ impl Errand {
             Errand::Own { cell, .. } | Errand::Foreign { cell } => *cell,
         }
     }
+
+    /// The place of its cell at the desk, if it is of the desk.
+    fn place(&self) -> Option<usize>
+        ensures { result ≡ place_of self.now }
+    {
+        match self {
+            Errand::Own { place, .. } => Some(*place),
+            Errand::Foreign { .. } => None,
+        }
+    }
 }
 
-/// What a command has to do in a cell.
-#[tactic(auto, using(crate::proofs::Places::at_place, crate::proofs::Places::absent))]
-fn errand_to(alloc: Global, own: &[Cell], cell: Cell, command: &Command) -> Result<Errand, Refused>
+/// What a command has to do in a cell, which is looked for first near a place.
+fn errand_to(
+    alloc: Global,
+    own: &[Cell],
+    near: usize,
+    cell: Cell,
+    command: &Command,
+) -> Result<Errand, Refused>
     ensures cell { IfOk result (λ errand. cell_of errand ≡ cell) }
     ensures errand { IfOk result (IsErrand own.now command.now) }
 {
-    match place_of(own, cell) {
+    match place_near(own, near, cell) {
         None => Ok(Errand::Foreign { cell }),
         Some(place) => Ok(Errand::Own {
             cell,
@@ -67,8 +82,11 @@ pub(crate) fn errands_of(
     ensures refused { IfErr result (λ fault. fault ≡ DeskFault.Memory 0) }
 {
     let mut errands = Vec::with_capacity(alloc, cells.len())?;
+    let mut near = 0;
     for cell in cells {
-        errands.push(errand_to(alloc, own, *cell, command)?)?;
+        let errand = errand_to(alloc, own, near, *cell, command)?;
+        near = errand.place().unwrap_or(near);
+        errands.push(errand)?;
     }
     Ok(errands)
 }

@@ -13,7 +13,7 @@ ghost use Rattle.order_desk.specs.Settled.{AreOwn, IsBookOf, IsFault, IsFirstFor
 ghost use Rattle.order_desk.specs.Settled.{IsSettled, ClosedDesk, cell_of, is_of, number_of};
 ghost use Rattle.order_desk.specs.SettleSteps.{IsFirstJudged, IsFirstNot, IsForeignIn, IsOfCell, IsStrangeBy};
 
-use crate::cells::{is_cell, stands_in};
+use crate::cells::{is_cell, place_near};
 use crate::closed::Closed;
 use crate::note::{Note, Pass};
 use crate::own::Own;
@@ -89,10 +89,12 @@ fn number_of(note: &Note) -> u16
 fn foreign_in(cells: &[Cell], notes: &[Note]) -> Option<(Cell, u16)>
     ensures { IsForeignIn cells.now notes.now result }
 {
+    let mut near = 0;
     for note in notes {
         let cell = cell_of(note);
-        if !stands_in(cell, cells) {
-            return Some((cell, number_of(note)));
+        match place_near(cells, near, cell) {
+            Some(place) => near = place,
+            None => return Some((cell, number_of(note))),
         }
     }
     None

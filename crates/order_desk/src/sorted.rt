@@ -7,7 +7,7 @@ ghost use Rattle.order_desk.specs.declared.note.Note.{Note};
 ghost use Rattle.order_desk.specs.Settled.{cell_of};
 ghost use Rattle.order_desk.specs.SettleSteps.{AreSorted};
 
-use crate::cells::place_of;
+use crate::cells::place_near;
 use crate::note::{Note, Pass};
 use crate::own::CellNotes;
 use cbsp_wire::Cell;
@@ -46,8 +46,14 @@ fn begin_all<'a>(alloc: Global, sorted: &mut [CellNotes<'a>]) -> Result<(), Allo
     Ok(())
 }
 
-/// Adds a note to the last pass of the cell that it is of, if that is one of these.
-fn put<'a>(sorted: &mut [CellNotes<'a>], cells: &[Cell], note: &'a Note) -> Result<(), AllocError>
+/// Adds a note to the last pass of the cell that it is of, if that is one of these, and returns the place near which to
+/// look for the cell of the next note.
+fn put<'a>(
+    sorted: &mut [CellNotes<'a>],
+    cells: &[Cell],
+    near: usize,
+    note: &'a Note,
+) -> Result<usize, AllocError>
     requires places { length sorted.old ≡ length cells.now }
     requires distinct { are_distinct cells.now ≡ true }
     ensures places { length sorted.new ≡ length sorted.old }
@@ -55,9 +61,12 @@ fn put<'a>(sorted: &mut [CellNotes<'a>], cells: &[Cell], note: &'a Note) -> Resu
         → AreSorted cells.now (before ++ given ∷ []) sorted.old
         → AreSorted cells.now (before ++ (given ++ note.now ∷ []) ∷ []) sorted.new }
 {
-    match place_of(cells, cell_of(note)) {
-        Some(place) => sorted[place].add(note),
-        None => Ok(()),
+    match place_near(cells, near, cell_of(note)) {
+        Some(place) => {
+            sorted[place].add(note)?;
+            Ok(place)
+        }
+        None => Ok(near),
     }
 }
 
@@ -74,8 +83,9 @@ fn put_all<'a>(
         → AreSorted cells.now (before ++ [] ∷ []) sorted.old
         → AreSorted cells.now (before ++ notes.now ∷ []) sorted.new }
 {
+    let mut near = 0;
     for note in notes {
-        put(sorted, cells, note)?;
+        near = put(sorted, cells, near, note)?;
     }
     Ok(())
 }

@@ -1,4 +1,4 @@
-use Rattle.std.proofs.Common.{◌≡◌, ◌∙◌, sym}
+use Rattle.std.proofs.Common.{◌∙◌, sym}
 use Rattle.order_desk.proofs.SameEntry.{same_entry}
 use Rattle.order_desk.proofs.placed.are_same.Goals as goal
 

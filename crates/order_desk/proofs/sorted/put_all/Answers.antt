@@ -14,7 +14,7 @@ loop-note-preserved c = (
       subst (λ (n : Note). take (c.loop-note.note-index + 1) c.args.notes.now ≡ given ++ n ∷ []) (sym c.note-item.is)
       (take_more c.args.notes.now c.loop-note.note-index c.note-item.result c.loop-note-test.true) in
       subst (λ (ns : List Note). AreSorted c.args.cells.now (before ++ ns ∷ []) c.put.new.sorted) (sym more)
-      (c.in_ok-put.ensures.ok refl before given (c.loop-note.invariant.1 before are)),
+      (c.in_ok-near.ensures.ok refl before given (c.loop-note.invariant.1 before are)),
 )
 
 -- src/sorted.rt:69:1
