@@ -7,6 +7,9 @@ use Rattle.cbsp_wire.specs.Range.{is_cell}
 use Rattle.bsc_table.specs.declared.entry.Entry.{Entry}
 use Rattle.bsc_table.specs.Record.{Record}
 use Rattle.order_desk.specs.declared.note.Note.{Note}
+use Rattle.order_desk.specs.declared.note.Note.TheVariants as notes
+use Rattle.order_desk.specs.declared.brief.Brief.{Brief}
+use Rattle.order_desk.specs.declared.brief.Brief.TheVariants as briefs
 use Rattle.order_desk.specs.declared.times.Kind.{Kind}
 use Rattle.order_desk.specs.declared.times.Kind.TheVariants as kinds
 use Rattle.order_desk.specs.declared.placed.Walk.{Walk}
@@ -19,6 +22,12 @@ use Rattle.order_desk.specs.Settled.{IsStrangeAt, OverlapsAt, cell_of, is_of, nu
 abbrev pub IsFirstNot : (ℕ → Type 0) → Option ℕ → Type 0
 IsFirstNot right None = (k : ℕ) → right k
 IsFirstNot right (Some k) = (right k → ⊥) × ((lesser : ℕ) → lesser < k → right lesser)
+
+-- the note that stands in brief
+abbrev pub note_of : Brief → Note
+note_of (briefs.Event cell number entry) = notes.Event cell number entry.now
+note_of (briefs.Played cell from to) = notes.Played cell from to
+note_of (briefs.Full cell) = notes.Full cell
 
 -- whether a note stands for a place: for the number of an entry, or for a played slot
 abbrev pub stands_for : Kind → Cell → ℕ → Note → Bool

@@ -59,8 +59,8 @@ fn stands_at(cells: &[Cell], place: usize, cell: Cell) -> bool
     }
 }
 
-/// A place of a cell in a list, if it is there. It looks at a place that is near and at the one after it first: lists and
-/// notes mostly name the desk's cells in the desk's order.
+/// A place of a cell in a list, if it is there. It looks at a place that is near and at the one after it first: orders
+/// mostly name the cells in the desk's order, and so do the notes of them.
 #[tactic(auto, using(crate::proofs::Places::at_place, crate::proofs::Places::absent))]
 pub(crate) fn place_near(cells: &[Cell], near: usize, cell: Cell) -> Option<usize>
     ensures there { IfSome result (λ place. slice_get cells.now place ≡ Some cell) }

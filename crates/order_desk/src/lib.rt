@@ -5,6 +5,7 @@
 //! noted is compared with what the cells hold.
 #![tactic(auto)]
 
+mod brief;
 mod cells;
 pub mod closed;
 pub mod desk;

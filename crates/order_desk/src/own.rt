@@ -2,7 +2,9 @@
 
 ghost use Rattle.std.specs.Prelude.{◌≡◌, ◌<◌, [], ◌∷◌, ◌++◌, length, slice_index_or, IsOk, List};
 ghost use Rattle.order_desk.specs.declared.note.Note.{Note};
+ghost use Rattle.order_desk.specs.SettleSteps.{note_of};
 
+use crate::brief::Brief;
 use crate::note::Note;
 use std::alloc::{AllocError, Global};
 use std::marker::Model;
@@ -10,16 +12,17 @@ use std::marker::Model;
 /// The notes of one pass that are of one cell, in the order of the pass. In clauses it is the list of them.
 #[derive(Drop)]
 pub(crate) struct Own<'a> {
-    notes: Vec<&'a Note>,
+    notes: Vec<Brief<'a>>,
 }
 
 impl<'a> Model for Own<'a> {
     ghost use Rattle.std.specs.Prelude.{List, map};
     ghost use Rattle.order_desk.specs.declared.note.Note.{Note};
+    ghost use Rattle.order_desk.specs.SettleSteps.{note_of};
 
     ghost Value = { List Note };
 
-    ghost view = { λ own. map (λ note. note.now) own.notes.items };
+    ghost view = { λ own. map note_of own.notes.items };
 }
 
 impl<'a> Own<'a> {
@@ -36,7 +39,7 @@ impl<'a> Own<'a> {
     fn push(&mut self, note: &'a Note) -> Result<(), AllocError>
         ensures { IsOk result → self.new ≡ self.old ++ note.now ∷ [] }
     {
-        self.notes.push(note)?;
+        self.notes.push(Brief::of(note))?;
         Ok(())
     }
 
@@ -48,11 +51,11 @@ impl<'a> Own<'a> {
     }
 
     /// The note at a place.
-    pub(crate) fn note(&self, place: usize) -> &'a Note
+    pub(crate) fn note(&self, place: usize) -> &Brief<'a>
         requires { place < length self.now }
-        ensures { (default : Note) → result.now ≡ slice_index_or self.now place default }
+        ensures { (default : Note) → note_of result.now ≡ slice_index_or self.now place default }
     {
-        self.notes[place]
+        &self.notes[place]
     }
 }
 

@@ -7,10 +7,10 @@ ghost use Rattle.cbsp_wire.specs.Range.{is_cell};
 ghost use Rattle.bsc_table.specs.declared.entry.Entry.{Entry};
 ghost use Rattle.order_desk.specs.declared.note.Note.{Note};
 ghost use Rattle.order_desk.specs.Agreement.{AreInPlaceAt};
-ghost use Rattle.order_desk.specs.SettleSteps.{HasWalked, IsFirstNot, IsNext, lesser};
+ghost use Rattle.order_desk.specs.SettleSteps.{HasWalked, IsFirstNot, IsNext, lesser, note_of};
 
+use crate::brief::Brief;
 use crate::cells::is_cell;
-use crate::note::Note;
 use crate::own::Own;
 use bsc_table::Entry;
 use cbsp_wire::Cell;
@@ -87,12 +87,12 @@ impl Walk {
     }
 
     /// The walk after one more note.
-    fn past(self, cell: Cell, log: &[Entry], note: &Note) -> Walk
+    fn past(self, cell: Cell, log: &[Entry], note: &Brief) -> Walk
         ensures { (before : List Note) → HasWalked cell log.now before self
-            → HasWalked cell log.now (before ++ note.now ∷ []) result }
+            → HasWalked cell log.now (before ++ note_of note.now ∷ []) result }
     {
         match note {
-            Note::Event {
+            Brief::Event {
                 cell: of,
                 number,
                 entry,
@@ -103,14 +103,14 @@ impl Walk {
                     self
                 }
             }
-            Note::Played { cell: of, to, .. } => {
+            Brief::Played { cell: of, to, .. } => {
                 if is_cell(cell, *of) {
                     self.past_range(*to)
                 } else {
                     self
                 }
             }
-            Note::Full { .. } => self,
+            Brief::Full { .. } => self,
         }
     }
 }

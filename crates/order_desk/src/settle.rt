@@ -11,8 +11,9 @@ ghost use Rattle.order_desk.specs.declared.settle.SettleFault.TheVariants as fau
 ghost use Rattle.order_desk.specs.Agreement.{Agrees, IsRightNumber, IsRightSlot, is_ended, is_full_of};
 ghost use Rattle.order_desk.specs.Settled.{AreOwn, IsBookOf, IsFault, IsFirstForeign, IsFirstWrong, IsPlayedOut};
 ghost use Rattle.order_desk.specs.Settled.{IsSettled, ClosedDesk, cell_of, is_of, number_of};
-ghost use Rattle.order_desk.specs.SettleSteps.{IsFirstJudged, IsFirstNot, IsForeignIn, IsOfCell, IsStrangeBy};
+ghost use Rattle.order_desk.specs.SettleSteps.{IsFirstJudged, IsFirstNot, IsForeignIn, IsOfCell, IsStrangeBy, note_of};
 
+use crate::brief::Brief;
 use crate::cells::{is_cell, place_near};
 use crate::closed::Closed;
 use crate::note::{Note, Pass};
@@ -114,21 +115,21 @@ fn first_foreign(cells: &[Cell], passes: &[Pass]) -> Option<(Cell, u16)>
 }
 
 /// Whether a note says that the cell's log was full.
-fn is_full(cell: Cell, note: &Note) -> bool
-    ensures { result ≡ is_full_of cell note.now }
+fn is_full(cell: Cell, note: &Brief) -> bool
+    ensures { result ≡ is_full_of cell (note_of note.now) }
 {
     match note {
-        Note::Full { cell: of } => is_cell(cell, *of),
+        Brief::Full { cell: of } => is_cell(cell, *of),
         _ => false,
     }
 }
 
 /// Whether a note is no range of the cell's played slots that ends after a slot.
-fn is_ended(cell: Cell, slot: u16, note: &Note) -> bool
-    ensures { result ≡ is_ended cell slot note.now }
+fn is_ended(cell: Cell, slot: u16, note: &Brief) -> bool
+    ensures { result ≡ is_ended cell slot (note_of note.now) }
 {
     match note {
-        Note::Played { cell: of, to, .. } if is_cell(cell, *of) => *to <= slot,
+        Brief::Played { cell: of, to, .. } if is_cell(cell, *of) => *to <= slot,
         _ => true,
     }
 }

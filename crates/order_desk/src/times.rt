@@ -4,10 +4,10 @@ ghost use Rattle.std.specs.Prelude.{◌≡◌, ◌⊎◌, ℕ, ◌+◌, ◌<◌,
 ghost use Rattle.std.specs.Prelude.{replicate, slice_index_or, List, [], ◌++◌, filter};
 ghost use Rattle.order_desk.specs.declared.note.Note.{Note};
 ghost use Rattle.order_desk.specs.Agreement.{all_notes};
-ghost use Rattle.order_desk.specs.SettleSteps.{AreTimes, IsFirstNot, stands_for};
+ghost use Rattle.order_desk.specs.SettleSteps.{AreTimes, IsFirstNot, note_of, stands_for};
 
+use crate::brief::Brief;
 use crate::cells::is_cell;
-use crate::note::Note;
 use crate::own::Own;
 use cbsp_wire::Cell;
 use std::alloc::{AllocError, Global};
@@ -31,14 +31,14 @@ struct Span {
 }
 
 /// The places of the cell for which a note stands.
-fn span_of(kind: Kind, cell: Cell, note: &Note) -> Span
+fn span_of(kind: Kind, cell: Cell, note: &Brief) -> Span
     ensures { (place : ℕ) → (nat_le result.from place && nat_lt place result.to)
-        ≡ stands_for kind cell place note.now }
+        ≡ stands_for kind cell place (note_of note.now) }
 {
     match (kind, note) {
         (
             Kind::Numbers,
-            Note::Event {
+            Brief::Event {
                 cell: of,
                 number,
                 ..
@@ -47,7 +47,7 @@ fn span_of(kind: Kind, cell: Cell, note: &Note) -> Span
             from: usize::from(*number),
             to: usize::from(*number) + 1,
         },
-        (Kind::Slots, Note::Played { cell: of, from, to }) if is_cell(cell, *of) => Span {
+        (Kind::Slots, Brief::Played { cell: of, from, to }) if is_cell(cell, *of) => Span {
             from: usize::from(*from),
             to: usize::from(*to),
         },

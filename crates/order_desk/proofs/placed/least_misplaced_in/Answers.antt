@@ -1,6 +1,6 @@
 use Rattle.std.proofs.Common.{◌<◌, List, take, length, sym, subst, arith}
 use Rattle.order_desk.specs.declared.note.Note.{Note}
-use Rattle.order_desk.specs.SettleSteps.{HasWalked}
+use Rattle.order_desk.specs.SettleSteps.{HasWalked, note_of}
 use Rattle.order_desk.proofs.SortedNotes.{take_next}
 use Rattle.order_desk.proofs.placed.least_misplaced_in.Goals as goal
 
@@ -8,7 +8,7 @@ use Rattle.order_desk.proofs.placed.least_misplaced_in.Goals as goal
 pub loop-place-preserved : goal.loop-place-preserved
 loop-place-preserved c =
     subst (λ (given : List Note). HasWalked c.args.cell c.args.log.now given c.past-walk.result)
-    (sym (take_next c.args.own.now c.loop-place.place c.note.result.now within c.note.ensures))
+    (sym (take_next c.args.own.now c.loop-place.place (note_of c.note.result.now) within c.note.ensures))
     (c.past-walk.ensures (take c.loop-place.place c.args.own.now) c.loop-place.invariant)
   where
     within : c.loop-place.place < length c.args.own.now
