@@ -53,6 +53,46 @@ pub fn reply_to<T: AllocGlobal + Wait>(
     }
 }
 
+/// Has a session's next message carried out, `late` slots after its own, and returns the reply; None if there is none.
+fn turn<T: AllocGlobal + Wait>(
+    rt: &T,
+    session: &mut Session<'_>,
+    desk: &Desk,
+    pass: &mut Pass,
+    late: u16,
+    last: Option<&[u8]>,
+) -> Result<Option<Vec<u8>>, Fail> {
+    match session.next(last)? {
+        Some((at, octets)) => {
+            let reply = reply_to(rt, desk, pass, at.saturating_add(late), &octets)?;
+            Ok(Some(reply))
+        }
+        None => Ok(None),
+    }
+}
+
+/// Serves a session to its end, and returns how many messages there were.
+fn serve<T: AllocGlobal + Wait>(
+    rt: &T,
+    session: &mut Session<'_>,
+    desk: &Desk,
+    pass: &mut Pass,
+    late: u16,
+) -> Result<u16, Fail> {
+    let mut reply: Option<Vec<u8>> = None;
+    for messages in 0..100_u16 {
+        let last = match &reply {
+            Some(octets) => Some(octets.as_slice()),
+            None => None,
+        };
+        reply = turn(rt, session, desk, pass, late, last)?;
+        if reply.is_none() {
+            return Ok(messages);
+        }
+    }
+    Err(Fail::new("the session has too many messages"))
+}
+
 /// Serves the session of a part at a desk, each message `late` slots after its own, and returns its pass and how many
 /// messages there were.
 pub fn served<T: AllocGlobal + Wait>(
@@ -67,15 +107,8 @@ pub fn served<T: AllocGlobal + Wait>(
 {
     let mut pass = desk.pass();
     let mut session = Session::new(rt.alloc(), book, part, parts)?;
-    let mut next = session.next(None)?;
-    for messages in 0..100_u16 {
-        let Some((at, octets)) = next else {
-            return Ok((pass, messages));
-        };
-        let reply = reply_to(rt, desk, &mut pass, at.saturating_add(late), &octets)?;
-        next = session.next(Some(&reply))?;
-    }
-    Err(Fail::new("the session has too many messages"))
+    let messages = serve(rt, &mut session, desk, &mut pass, late)?;
+    Ok((pass, messages))
 }
 
 /// A list of two passes.
