@@ -1,6 +1,6 @@
 -- What handsets read of the tapes of records, one after the other.
 use Rattle.std.proofs.Common.{◌≡◌, ◌≢◌, ℕ, suc, ◌+◌, ◌<◌, ◌≤◌, ◌∙◌, List, [], ◌∷◌, ◌++◌, length, map, take, get_or}
-use Rattle.std.proofs.Common.{All, Option, ap, sym, subst, refl}
+use Rattle.std.proofs.Common.{All, Option, ap, append_assoc, sym, subst, refl}
 use native.Mathlib.Omega.{arith}
 use Rattle.std.proofs.Math.Seq.{take-suc}
 use Rattle.std.proofs.lemmas.List.{get_or-map, length-map, map-append}
@@ -55,6 +55,19 @@ read_on kind (d ∷ rest) tapes i tape reading made within at whole read =
   where
     next : suc i ≡ i + 1
     next = omega arith
+
+-- the readings of records in two parts are those of the one, and then those of the other
+pub read_in_parts : (before after : List TapeReading) (front rest left all : List Record)
+    → after ≡ before ++ map reading_of_record front
+    → left ≡ front ++ rest
+    → before ++ map reading_of_record left ≡ map reading_of_record all
+    → after ++ map reading_of_record rest ≡ map reading_of_record all
+read_in_parts before after front rest left all read split so_far =
+    ap (λ (readings : List TapeReading). readings ++ map reading_of_record rest) read
+    ∙ append_assoc before (map reading_of_record front) (map reading_of_record rest)
+    ∙ ap (λ (readings : List TapeReading). before ++ readings)
+    (sym (map-append reading_of_record front rest) ∙ ap (map reading_of_record) (sym split))
+    ∙ so_far
 
 -- the records of a run give tapes
 pub run_has_tapes : LiveRunsShowTheBook → (input : List ℕ) (book : Contents) (slots : ℕ) (records shown : List Record)

@@ -1,7 +1,7 @@
 //! The command `report`: a book of alerts to the report of its cells.
 
-ghost use Rattle.std.specs.Prelude.{◌≡◌, ◌↔◌, ◌<◌, ◌≤◌, ℕ, List, false, true, length, map, All, IfErr, IfOk, IsErrOf};
-ghost use Rattle.std.specs.Prelude.{IsTrue, OnOk};
+ghost use Rattle.std.specs.Prelude.{◌≡◌, ◌↔◌, ◌<◌, ◌≤◌, ◌++◌, ℕ, List, false, true, length, map, All, IfErr, IfOk};
+ghost use Rattle.std.specs.Prelude.{IsErrOf, IsTrue, OnOk};
 ghost use Rattle.device_ends.specs.Sink.{sink_failed, writer_of};
 ghost use Rattle.device_ends.specs.Source.{reader_of, source_failed};
 ghost use Rattle.alert_book.specs.Book.{unread, IsBook};
@@ -151,7 +151,8 @@ fn rows_of_book<T: AllocGlobal + Threads + Wait + Sync>(
     }
 }
 
-/// What handsets read of the tapes of records.
+/// What handsets read of the tapes of records. As many tapes at a time are made as there are workers, and are read
+/// before the next ones are made, so that no more of them are held.
 fn readings_by<T: AllocGlobal + Threads + Wait + Sync>(
     rt: &T,
     records: &[CellRecord],
@@ -164,10 +165,34 @@ fn readings_by<T: AllocGlobal + Threads + Wait + Sync>(
     ensures ok { IfOk result (λ readings. readings_of readings.items ≡ map reading_of_record records.now) }
     ensures err { IfErr result IsOfReport }
 {
+    let mut readings = Vec::with_capacity(rt.alloc(), records.len())?;
+    let mut left = records;
+    while !left.is_empty() {
+        let (group, rest) = left.split_at(left.len().min(workers as usize));
+        read_group(rt, group, workers, &mut readings)?;
+        left = rest;
+    }
+    Ok(readings)
+}
+
+/// Makes the tapes of some records, and appends what handsets read of them.
+fn read_group<T: AllocGlobal + Threads + Sync>(
+    rt: &T,
+    records: &[CellRecord],
+    workers: u64,
+    readings: &mut Vec<Reading>,
+) -> Result<(), ReportRunFault>
+    requires few { length records.now ≤ 64 }
+    requires tapes { All (λ r. IsTape (tape_of_record r) (reading_of_record r)) records.now }
+    requires some_workers { 0 < workers }
+    requires few_workers { workers ≤ 64 }
+    ensures ok { OnOk result (readings_of readings.new.items
+        ≡ readings_of readings.old.items ++ map reading_of_record records.now) }
+    ensures err { IfErr result IsOfReport }
+{
     // Octets are one tape at most.
     handset::tape_laws();
     let tapes = compile_all(rt, rt.alloc(), records, workers, &Open)?;
-    let mut readings = Vec::with_capacity(rt.alloc(), tapes.len())?;
     for tape in &tapes {
         // The tape is whole, and memory doesn't fail to be read: only memory to read to can be refused.
         let Ok(reading) = read_tape(rt.alloc(), &mut Source::new(tape.bytes())) else {
@@ -175,5 +200,5 @@ fn readings_by<T: AllocGlobal + Threads + Wait + Sync>(
         };
         readings.push(reading)?;
     }
-    Ok(readings)
+    Ok(())
 }
