@@ -5,6 +5,7 @@ use bsc_table::{Aired, Answer, SlotRange, State};
 use cbs_page::Serial;
 use cbsp_wire::{Cell, WireFault, cause};
 use order_desk::{Closed, Desk, DeskFault, Gate, Open, Pass};
+use std::alloc::Global;
 use std::process::Abort;
 use std::sync::Wait;
 use std::test::Fail;
@@ -36,31 +37,59 @@ fn expect_reply<T: AllocGlobal + Wait + Abort>(
     }
 }
 
-/// A desk of two cells, with the reply and the notes of a replacement of 4370-0010 in both at slot 1, with this period:
-/// the second cell has another message beside it.
-fn replaced_in_two_cells<T: AllocGlobal + Wait + Abort>(
+/// The reply to a write in these cells.
+fn reply_to_write<T: AllocGlobal + Wait>(
     rt: &T,
+    desk: &Desk,
+    pass: &mut Pass,
+    at: u16,
+    wish: Wish,
+    cells: &[Cell],
+) -> Result<Vec<u8>, Fail> {
+    let octets = write_to(rt.alloc(), wish, cells)?;
+    reply_to(rt, desk, pass, at, &octets)
+}
+
+/// The reply to a replacement of 4370-0010 in both cells at slot 1, with this period: the second cell has another
+/// message beside it.
+fn replaced_in_two_cells<T: AllocGlobal + Wait>(
+    rt: &T,
+    desk: &Desk,
+    pass: &mut Pass,
     period: u16,
-    reply: &[u8],
-    notes: &[Seen],
-) -> Result<(Desk, Pass), Fail> {
-    let alloc = rt.alloc();
+) -> Result<Vec<u8>, Fail> {
     let both = [FIRST, SECOND];
-    let desk = opened(alloc, both.as_slice(), 8)?;
-    let mut pass = desk.pass();
-    let first = write_to(alloc, standing(4370, 0x0010, 2), both.as_slice())?;
-    let second = write_to(alloc, standing(4371, 0x0020, 2), [SECOND].as_slice())?;
+    let _ = reply_to_write(rt, desk, pass, 0, standing(4370, 0x0010, 2), &both)?;
+    let _ = reply_to_write(rt, desk, pass, 0, standing(4371, 0x0020, 2), &[SECOND])?;
     let update = Wish {
         replaces: Some(0x0010),
         ..standing(4370, 0x0011, period)
     };
-    let third = write_to(alloc, update, both.as_slice())?;
-    let _ = reply_to(rt, &desk, &mut pass, 0, &first)?;
-    let _ = reply_to(rt, &desk, &mut pass, 0, &second)?;
-    let octets = reply_to(rt, &desk, &mut pass, 1, &third)?;
+    reply_to_write(rt, desk, pass, 1, update, &both)
+}
+
+/// Expects the reply and the notes of that replacement, and then this status of 4370-0010 in the second cell.
+fn expect_replaced<T: AllocGlobal + Wait + Abort>(
+    rt: &T,
+    desk: &Desk,
+    period: u16,
+    reply: &[u8],
+    notes: &[Seen],
+    state: State,
+) -> Result<(), Fail> {
+    let mut pass = desk.pass();
+    let octets = replaced_in_two_cells(rt, desk, &mut pass, period)?;
     assert_eq!(rt; octets.as_slice(), reply);
     expect_notes(rt, &pass, notes);
-    Ok((desk, pass))
+    let old = Serial::of(0x0010);
+    let status = desk.status(rt, rt.alloc(), &mut pass, SECOND, 4370, old, &Open);
+    assert_eq!(rt; status, Ok(Some((1, state))));
+    Ok(())
+}
+
+/// A desk of two cells with eight slots.
+fn opened_of_two(alloc: Global) -> Result<Desk, Fail> {
+    opened(alloc, [FIRST, SECOND].as_slice(), 8)
 }
 
 /// The notes of a replacement at slot 1 with these answers.
@@ -93,11 +122,8 @@ fn a_replacement_takes_over_in_one_of_two_cells(rt: HostRuntime) -> Result<(), F
         0x00,
     ];
     let notes = notes_of(now, later);
-    let (desk, mut pass) = replaced_in_two_cells(&rt, 2, reply.as_slice(), notes.as_slice())?;
-    let old = Serial::of(0x0010);
-    let status = desk.status(&rt, rt.alloc(), &mut pass, SECOND, 4370, old, &Open);
-    assert_eq!(&rt; status, Ok(Some((1, State::Stopped { slot: 1 }))));
-    Ok(())
+    let desk = opened_of_two(rt.alloc())?;
+    expect_replaced(&rt, &desk, 2, &reply, &notes, State::Stopped { slot: 1 })
 }
 
 #[test]
@@ -113,30 +139,25 @@ fn a_replacement_is_refused_in_one_of_two_cells(rt: HostRuntime) -> Result<(), F
         0x00, 0x01, 0x00,
     ];
     let notes = notes_of(later, no_room);
-    let (desk, mut pass) = replaced_in_two_cells(&rt, 1, reply.as_slice(), notes.as_slice())?;
+    let desk = opened_of_two(rt.alloc())?;
     // in the second cell the old text goes on
-    let old = Serial::of(0x0010);
-    let status = desk.status(&rt, rt.alloc(), &mut pass, SECOND, 4370, old, &Open);
-    assert_eq!(&rt; status, Ok(Some((1, State::Standing))));
-    Ok(())
+    expect_replaced(&rt, &desk, 1, &reply, &notes, State::Standing)
 }
 
-/// Orders a write in the first cell, from slot 0 on.
-fn write_at_0<T: AllocGlobal + Wait>(
+/// Orders a write in the first cell at a slot.
+fn write_at<T: AllocGlobal + Wait>(
     rt: &T,
     desk: &Desk,
     pass: &mut Pass,
+    at: u16,
     wish: Wish,
 ) -> Result<(), Fail> {
-    let octets = write_to(rt.alloc(), wish, [FIRST].as_slice())?;
-    let _ = reply_to(rt, desk, pass, 0, &octets)?;
+    let _ = reply_to_write(rt, desk, pass, at, wish, &[FIRST])?;
     Ok(())
 }
 
-#[test]
-fn high_is_aired_before_normal_before_background(rt: HostRuntime) -> Result<(), Fail> {
-    let alloc = rt.alloc();
-    let desk = opened(alloc, [FIRST].as_slice(), 4)?;
+/// Orders a message of each category, and plays four slots.
+fn play_categories<T: AllocGlobal + Wait + Abort>(rt: &T, desk: &Desk) -> Result<(), Fail> {
     let mut pass = desk.pass();
     let background = Wish {
         category: 1,
@@ -146,19 +167,24 @@ fn high_is_aired_before_normal_before_background(rt: HostRuntime) -> Result<(), 
         category: 0,
         ..standing(4370, 3, 4)
     };
-    write_at_0(&rt, &desk, &mut pass, background)?;
-    write_at_0(&rt, &desk, &mut pass, standing(4370, 2, 4))?;
-    write_at_0(&rt, &desk, &mut pass, high)?;
-    let range = desk.play(&rt, alloc, &mut pass, FIRST, 4, &Open);
-    assert_eq!(&rt; range, Ok(SlotRange { from: 0, to: 4 }));
-    let closed = closed(desk)?;
+    write_at(rt, desk, &mut pass, 0, background)?;
+    write_at(rt, desk, &mut pass, 0, standing(4370, 2, 4))?;
+    write_at(rt, desk, &mut pass, 0, high)?;
+    expect_play(rt, desk, &mut pass, 4, SlotRange { from: 0, to: 4 });
+    Ok(())
+}
+
+#[test]
+fn high_is_aired_before_normal_before_background(rt: HostRuntime) -> Result<(), Fail> {
+    let desk = opened(rt.alloc(), [FIRST].as_slice(), 4)?;
+    play_categories(&rt, &desk)?;
     let air = [
         Some(Aired { entry: 2, page: 1 }),
         Some(Aired { entry: 1, page: 1 }),
         Some(Aired { entry: 0, page: 1 }),
         None,
     ];
-    expect_air(&rt, &closed, air.as_slice());
+    expect_air(&rt, &closed(desk)?, air.as_slice());
     Ok(())
 }
 
@@ -257,17 +283,22 @@ fn a_cell_of_another_desk_is_unknown(rt: HostRuntime) -> Result<(), Fail> {
     Ok(())
 }
 
+/// Plays three of four slots, and orders a message at a slot before and one at a slot after these.
+fn order_early_and_late<T: AllocGlobal + Wait + Abort>(
+    rt: &T,
+    desk: &Desk,
+    pass: &mut Pass,
+) -> Result<(), Fail> {
+    expect_play(rt, desk, pass, 3, SlotRange { from: 0, to: 3 });
+    write_at(rt, desk, pass, 0, standing(4370, 1, 2))?;
+    write_at(rt, desk, pass, 9, standing(4370, 2, 2))
+}
+
 #[test]
 fn an_order_is_at_its_slot_or_the_clock_or_the_end(rt: HostRuntime) -> Result<(), Fail> {
-    let alloc = rt.alloc();
-    let desk = opened(alloc, [FIRST].as_slice(), 4)?;
+    let desk = opened(rt.alloc(), [FIRST].as_slice(), 4)?;
     let mut pass = desk.pass();
-    let range = desk.play(&rt, alloc, &mut pass, FIRST, 3, &Open);
-    assert_eq!(&rt; range, Ok(SlotRange { from: 0, to: 3 }));
-    let early = write_to(alloc, standing(4370, 1, 2), [FIRST].as_slice())?;
-    let late = write_to(alloc, standing(4370, 2, 2), [FIRST].as_slice())?;
-    let _ = reply_to(&rt, &desk, &mut pass, 0, &early)?;
-    let _ = reply_to(&rt, &desk, &mut pass, 9, &late)?;
+    order_early_and_late(&rt, &desk, &mut pass)?;
     let notes = [
         Seen::Played(FIRST, 0, 3),
         Seen::Event(FIRST, 0, 3, Answer::Started { slot: 3 }),
@@ -283,15 +314,9 @@ fn an_order_is_at_its_slot_or_the_clock_or_the_end(rt: HostRuntime) -> Result<()
     Ok(())
 }
 
-#[test]
-fn a_kill_stops_a_message(rt: HostRuntime) -> Result<(), Fail> {
-    let alloc = rt.alloc();
-    let desk = opened(alloc, [FIRST].as_slice(), 4)?;
+/// Expects the replies to a write and to its kill.
+fn expect_killed<T: AllocGlobal + Wait + Abort>(rt: &T, desk: &Desk, write: &[u8], kill: &[u8]) {
     let mut pass = desk.pass();
-    let write = write_to(alloc, standing(4370, 0x0010, 2), [FIRST].as_slice())?;
-    let kill = kill_in(alloc, 4370, 0x0010, [FIRST].as_slice())?;
-    let done = reply_to(&rt, &desk, &mut pass, 0, &write)?;
-    let stopped = reply_to(&rt, &desk, &mut pass, 0, &kill)?;
     let started = [
         0x02, 0x00, 0x00, 0x0E, 0x0E, 0x11, 0x12, 0x03, 0x00, 0x10, 0x04, 0x00, 0x05, 0x01, 0x00,
         0x01, 0x00, 0x01,
@@ -300,8 +325,16 @@ fn a_kill_stops_a_message(rt: HostRuntime) -> Result<(), Fail> {
         0x05, 0x00, 0x00, 0x11, 0x0E, 0x11, 0x12, 0x02, 0x00, 0x10, 0x08, 0x00, 0x08, 0x01, 0x00,
         0x01, 0x00, 0x01, 0x00, 0x00, 0x00,
     ];
-    assert_eq!(&rt; done.as_slice(), started.as_slice());
-    assert_eq!(&rt; stopped.as_slice(), counted.as_slice());
+    expect_reply(rt, desk, &mut pass, 0, write, &started);
+    expect_reply(rt, desk, &mut pass, 0, kill, &counted);
+}
+
+#[test]
+fn a_kill_stops_a_message(rt: HostRuntime) -> Result<(), Fail> {
+    let write = write_to(rt.alloc(), standing(4370, 0x0010, 2), [FIRST].as_slice())?;
+    let kill = kill_in(rt.alloc(), 4370, 0x0010, [FIRST].as_slice())?;
+    let desk = opened(rt.alloc(), [FIRST].as_slice(), 4)?;
+    expect_killed(&rt, &desk, &write, &kill);
     Ok(())
 }
 
@@ -372,21 +405,23 @@ fn a_desk_has_its_cells_and_slots(rt: HostRuntime) -> Result<(), Fail> {
     Ok(())
 }
 
+/// Expects a fault's text.
+fn expect_text<T: AllocGlobal + Abort>(
+    rt: &T,
+    fault: DeskFault,
+    expected: &str,
+) -> Result<(), Fail> {
+    let text = format!(in rt.alloc(); "{fault}")?;
+    assert_eq!(rt; text.as_str(), expected);
+    Ok(())
+}
+
 #[test]
 fn a_fault_has_a_text(rt: HostRuntime) -> Result<(), Fail> {
-    let alloc = rt.alloc();
-    let faults = [
-        DeskFault::Wire(WireFault::Truncated),
-        DeskFault::Cause(0x0C),
-        DeskFault::Unknown,
-        DeskFault::Full,
-    ];
-    for fault in faults {
-        let text = format!(in alloc; "{fault}")?;
-        assert_eq!(&rt; text.as_str(), "order was refused");
-    }
-    let fault = DeskFault::Memory { done: 3 };
-    let text = format!(in alloc; "{fault}")?;
-    assert_eq!(&rt; text.as_str(), "out of memory");
-    Ok(())
+    let refused = "order was refused";
+    expect_text(&rt, DeskFault::Wire(WireFault::Truncated), refused)?;
+    expect_text(&rt, DeskFault::Cause(0x0C), refused)?;
+    expect_text(&rt, DeskFault::Unknown, refused)?;
+    expect_text(&rt, DeskFault::Full, refused)?;
+    expect_text(&rt, DeskFault::Memory { done: 3 }, "out of memory")
 }

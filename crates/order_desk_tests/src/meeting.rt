@@ -4,10 +4,12 @@ use crate::orders::*;
 use bsc_table::{Answer, State};
 use cbs_page::Serial;
 use order_desk::{Desk, Gate, Pass};
+use std::process::Abort;
 use std::sync::Wait;
 use std::sync::atomic::{AtomicU64, Ordering};
 use std::test::Fail;
 use std::thread;
+use std::thread::Threads;
 
 /// What the two threads have come to.
 #[derive(Drop)]
@@ -29,6 +31,15 @@ fn is_set(flag: &AtomicU64) -> bool {
 }
 
 impl Meeting {
+    /// A meeting that no thread has come to.
+    fn new() -> Meeting {
+        Meeting {
+            entered: AtomicU64::new(0),
+            answered: AtomicU64::new(0),
+            gave_up: AtomicU64::new(0),
+        }
+    }
+
     /// Waits for a flag, and notes if it gives up.
     fn wait_for(&self, flag: &AtomicU64) {
         if !is_set(flag) {
@@ -72,36 +83,17 @@ fn order_second<T: AllocGlobal + Wait>(
     done
 }
 
-#[test]
-fn two_cells_are_ordered_at_once(rt: HostRuntime) -> Result<(), Fail> {
-    let alloc = rt.alloc();
-    let desk = opened(alloc, [FIRST, SECOND].as_slice(), 4)?;
-    let meeting = Meeting {
-        entered: AtomicU64::new(0),
-        answered: AtomicU64::new(0),
-        gave_up: AtomicU64::new(0),
-    };
-    let mut first = desk.pass();
-    let mut second = desk.pass();
-    let one = write_to(alloc, standing(4370, 0x0010, 2), [FIRST].as_slice())?;
-    let two = write_to(alloc, standing(4370, 0x0010, 2), [SECOND].as_slice())?;
-    let (one_done, two_done) = thread::join(
-        &rt,
-        || order_first(&rt, &desk, &mut first, &one, &meeting),
-        || order_second(&rt, &desk, &mut second, &two, &meeting),
-    );
-    assert!(&rt; one_done && two_done);
-    assert_eq!(&rt; meeting.gave_up.load(Ordering::SeqCst), 0);
-    let status = desk.status(
-        &rt,
-        alloc,
-        &mut first,
-        FIRST,
-        4370,
-        Serial::of(0x0010),
-        &meeting,
-    );
-    assert_eq!(&rt; status, Ok(Some((0, State::Standing))));
+/// Expects that the first cell's message stands, and what the two passes have noted.
+fn expect_standing<T: AllocGlobal + Wait + Abort>(
+    rt: &T,
+    desk: &Desk,
+    first: &mut Pass,
+    second: &Pass,
+    meeting: &Meeting,
+) {
+    let serial = Serial::of(0x0010);
+    let status = desk.status(rt, rt.alloc(), first, FIRST, 4370, serial, meeting);
+    assert_eq!(rt; status, Ok(Some((0, State::Standing))));
     let told = Answer::Told {
         completed: 0,
         state: State::Standing,
@@ -111,11 +103,35 @@ fn two_cells_are_ordered_at_once(rt: HostRuntime) -> Result<(), Fail> {
         Seen::Event(FIRST, 0, 0, started),
         Seen::Event(FIRST, 1, 0, told),
     ];
-    expect_notes(&rt, &first, firsts.as_slice());
-    expect_notes(
-        &rt,
-        &second,
-        [Seen::Event(SECOND, 0, 0, started)].as_slice(),
+    expect_notes(rt, first, &firsts);
+    expect_notes(rt, second, &[Seen::Event(SECOND, 0, 0, started)]);
+}
+
+/// Expects that two orders are done while their threads meet.
+fn expect_met<T: AllocGlobal + Threads + Wait + Abort + Sync>(
+    rt: &T,
+    desk: &Desk,
+    one: &[u8],
+    two: &[u8],
+) {
+    let meeting = Meeting::new();
+    let mut first = desk.pass();
+    let mut second = desk.pass();
+    let (one_done, two_done) = thread::join(
+        rt,
+        || order_first(rt, desk, &mut first, one, &meeting),
+        || order_second(rt, desk, &mut second, two, &meeting),
     );
+    assert!(rt; one_done && two_done);
+    assert_eq!(rt; meeting.gave_up.load(Ordering::SeqCst), 0);
+    expect_standing(rt, desk, &mut first, &second, &meeting);
+}
+
+#[test]
+fn two_cells_are_ordered_at_once(rt: HostRuntime) -> Result<(), Fail> {
+    let one = write_to(rt.alloc(), standing(4370, 0x0010, 2), [FIRST].as_slice())?;
+    let two = write_to(rt.alloc(), standing(4370, 0x0010, 2), [SECOND].as_slice())?;
+    let desk = opened(rt.alloc(), [FIRST, SECOND].as_slice(), 4)?;
+    expect_met(&rt, &desk, &one, &two);
     Ok(())
 }

@@ -106,21 +106,36 @@ fn attempts<T: AllocGlobal + Wait + Abort>(
     (0, None)
 }
 
-#[test]
-fn an_order_stops_where_memory_ends(rt: HostRuntime) -> Result<(), Fail> {
-    let alloc = rt.alloc();
-    let octets = write_to(alloc, standing(4370, 0x0010, 2), CELLS.as_slice())?;
-    let desk = opened(alloc, CELLS.as_slice(), 4)?;
-    let mut spare: Vec<Vec<u8>> = Vec::with_capacity(alloc, BLOCKS)?;
-    for _ in 0..BLOCKS {
+/// Blocks of memory that can be given back one by one.
+fn spare_blocks(alloc: Global, blocks: usize) -> Result<Vec<Vec<u8>>, Fail> {
+    let mut spare: Vec<Vec<u8>> = Vec::with_capacity(alloc, blocks)?;
+    for _ in 0..blocks {
         spare.push(Vec::with_capacity(alloc, BLOCK)?)?;
     }
-    let mut taken = Vec::with_capacity(alloc, 100_000)?;
-    take_all(alloc, &mut taken);
-    let (refused, done) = attempts(&rt, &desk, &octets, &mut spare);
+    Ok(spare)
+}
+
+/// Orders with hardly any memory. Expects that more than four orders had no answer, and returns how many answers the
+/// one after them had.
+fn done_in_drought<T: AllocGlobal + Wait + Abort>(
+    rt: &T,
+    desk: &Desk,
+    octets: &[u8],
+) -> Result<Option<u16>, Fail> {
+    let mut spare = spare_blocks(rt.alloc(), BLOCKS)?;
+    let mut taken = Vec::with_capacity(rt.alloc(), 100_000)?;
+    take_all(rt.alloc(), &mut taken);
+    let (refused, done) = attempts(rt, desk, octets, &mut spare);
     taken.clear();
-    assert!(&rt; refused > 4);
-    match done {
+    assert!(rt; refused > 4);
+    Ok(done)
+}
+
+#[test]
+fn an_order_stops_where_memory_ends(rt: HostRuntime) -> Result<(), Fail> {
+    let octets = write_to(rt.alloc(), standing(4370, 0x0010, 2), CELLS.as_slice())?;
+    let desk = opened(rt.alloc(), CELLS.as_slice(), 4)?;
+    match done_in_drought(&rt, &desk, &octets)? {
         None => assert!(&rt; false, "no order was cut short"),
         Some(done) => expect_books(&rt, &closed(desk)?, done),
     }
@@ -178,27 +193,41 @@ fn settlements<T: AllocGlobal + Abort>(
     (DESKS, None)
 }
 
-#[test]
-fn a_settlement_is_refused_where_memory_ends(rt: HostRuntime) -> Result<(), Fail> {
-    let alloc = rt.alloc();
-    let octets = write_to(alloc, standing(4370, 0x0010, 2), CELLS.as_slice())?;
-    let (first, pass) = answered(&rt, &octets)?;
-    let mut passes = Vec::new(alloc);
-    passes.push(pass)?;
-    let mut desks = Vec::new(alloc);
+/// Desks that answered an order, and the pass of the first.
+fn all_answered<T: AllocGlobal + Wait + Abort>(
+    rt: &T,
+    octets: &[u8],
+) -> Result<(Vec<Closed>, Pass), Fail> {
+    let (first, pass) = answered(rt, octets)?;
+    let mut desks = Vec::new(rt.alloc());
     desks.push(first)?;
     for _ in 1..DESKS {
-        desks.push(answered(&rt, &octets)?.0)?;
+        desks.push(answered(rt, octets)?.0)?;
     }
-    let mut spare: Vec<Vec<u8>> = Vec::with_capacity(alloc, 800)?;
-    for _ in 0..800 {
-        spare.push(Vec::with_capacity(alloc, BLOCK)?)?;
-    }
-    let mut taken = Vec::with_capacity(alloc, 200_000)?;
-    take_all(alloc, &mut taken);
-    let (refused, records) = settlements(&rt, &mut desks, &passes, &mut taken, &mut spare);
+    Ok((desks, pass))
+}
+
+/// Settles desks with hardly any memory. Expects that more than four are refused, and then that one has all records.
+fn expect_settled<T: AllocGlobal + Abort>(
+    rt: &T,
+    desks: &mut Vec<Closed>,
+    passes: &[Pass],
+) -> Result<(), Fail> {
+    let mut spare = spare_blocks(rt.alloc(), 800)?;
+    let mut taken = Vec::with_capacity(rt.alloc(), 200_000)?;
+    take_all(rt.alloc(), &mut taken);
+    let (refused, records) = settlements(rt, desks, passes, &mut taken, &mut spare);
     taken.clear();
-    assert!(&rt; refused > 4);
-    assert_eq!(&rt; records, Some(CELLS.len()));
+    assert!(rt; refused > 4);
+    assert_eq!(rt; records, Some(CELLS.len()));
     Ok(())
+}
+
+#[test]
+fn a_settlement_is_refused_where_memory_ends(rt: HostRuntime) -> Result<(), Fail> {
+    let octets = write_to(rt.alloc(), standing(4370, 0x0010, 2), CELLS.as_slice())?;
+    let (mut desks, pass) = all_answered(&rt, &octets)?;
+    let mut passes = Vec::new(rt.alloc());
+    passes.push(pass)?;
+    expect_settled(&rt, &mut desks, &passes)
 }

@@ -61,6 +61,11 @@ fn octets_of(alloc: Global, message: &Message) -> Result<Vec<u8>, Fail> {
     }
 }
 
+/// The contents of one page.
+fn one_page(alloc: Global) -> Result<Contents, Fail> {
+    Ok(Contents::new(Vec::from_slice(alloc, [PAGE].as_slice())?)?)
+}
+
 /// The octets of a WRITE-REPLACE.
 pub fn write_to(alloc: Global, wish: Wish, cells: &[Cell]) -> Result<Vec<u8>, Fail> {
     let message = Message::Write {
@@ -73,7 +78,7 @@ pub fn write_to(alloc: Global, wish: Wish, cells: &[Cell]) -> Result<Vec<u8>, Fa
         period: wish.period,
         broadcasts: 0,
         dcs: Dcs(0x01),
-        contents: Contents::new(Vec::from_slice(alloc, [PAGE].as_slice())?)?,
+        contents: one_page(alloc)?,
     };
     octets_of(alloc, &message)
 }

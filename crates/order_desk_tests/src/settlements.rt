@@ -68,6 +68,11 @@ fn strange(cell: Cell, number: u16) -> SettleFault {
     SettleFault::Strange { cell, number }
 }
 
+/// A slot of the first cell is noted wrong, by nobody or twice.
+fn overlap(slot: u16) -> SettleFault {
+    SettleFault::Overlap { cell: FIRST, slot }
+}
+
 /// A list of one pass.
 fn only(alloc: Global, pass: Pass) -> Result<Vec<Pass>, Fail> {
     let mut passes = Vec::new(alloc);
@@ -80,6 +85,29 @@ fn two(alloc: Global, first: Pass, second: Pass) -> Result<Vec<Pass>, Fail> {
     let mut passes = only(alloc, first)?;
     passes.push(second)?;
     Ok(passes)
+}
+
+/// Expects a settlement with one pass to be refused, by this fault.
+fn expect_fault_of_one<T: AllocGlobal + Abort>(
+    rt: &T,
+    desk: Desk,
+    pass: Pass,
+    fault: SettleFault,
+) -> Result<(), Fail> {
+    let passes = only(rt.alloc(), pass)?;
+    expect_fault(rt, desk, &passes, fault)
+}
+
+/// Expects a settlement with two passes to be refused, by this fault.
+fn expect_fault_of_two<T: AllocGlobal + Abort>(
+    rt: &T,
+    desk: Desk,
+    first: Pass,
+    second: Pass,
+    fault: SettleFault,
+) -> Result<(), Fail> {
+    let passes = two(rt.alloc(), first, second)?;
+    expect_fault(rt, desk, &passes, fault)
 }
 
 /// A desk of one cell with four slots, of which two were played.
@@ -102,69 +130,58 @@ fn asked<T: AllocGlobal + Wait + Abort>(rt: &T, slot: u16, id: u16) -> Result<(D
     Ok((desk, pass))
 }
 
+/// A desk of the first cell with four slots.
+fn fresh(alloc: Global) -> Result<Desk, Fail> {
+    opened(alloc, [FIRST].as_slice(), 4)
+}
+
+/// The records of a desk, settled with some passes.
+fn records_of<T: AllocGlobal + Abort>(
+    rt: &T,
+    desk: Desk,
+    passes: &[Pass],
+) -> Result<Vec<CellRecord>, Fail> {
+    match settled(rt, desk, passes)? {
+        Ok(records) => Ok(records),
+        Err(fault) => Err(Fail::new(fault)),
+    }
+}
+
+/// Expects the record of one cell with four slots and one entry.
+fn expect_record(rt: &impl Abort, records: &[CellRecord]) {
+    assert_eq!(rt; records.len(), 1);
+    for record in records {
+        assert_eq!(rt; record.slots(), 4);
+        assert_eq!(rt; record.air().len(), 4);
+        assert_eq!(rt; record.log().len(), 1);
+    }
+}
+
 #[test]
 fn a_play_that_was_noted_is_settled(rt: HostRuntime) -> Result<(), Fail> {
     let (desk, mut pass) = half_played(&rt)?;
     ask_in(&rt, &desk, &mut pass, FIRST, 4370)?;
     let passes = only(rt.alloc(), pass)?;
-    let records = match settled(&rt, desk, &passes)? {
-        Ok(records) => records,
-        Err(fault) => return Err(Fail::new(fault)),
-    };
-    assert_eq!(&rt; records.len(), 1);
-    for record in &records {
-        assert_eq!(&rt; record.slots(), 4);
-        assert_eq!(&rt; record.air().len(), 4);
-        assert_eq!(&rt; record.log().len(), 1);
-    }
+    expect_record(&rt, &records_of(&rt, desk, &passes)?);
     Ok(())
 }
 
 #[test]
 fn a_play_without_its_pass_is_an_overlap(rt: HostRuntime) -> Result<(), Fail> {
-    let (desk, _pass) = half_played(&rt)?;
-    let passes = Vec::new(rt.alloc());
-    expect_fault(
-        &rt,
-        desk,
-        &passes,
-        SettleFault::Overlap {
-            cell: FIRST,
-            slot: 0,
-        },
-    )
+    expect_fault(&rt, half_played(&rt)?.0, &[], overlap(0))
 }
 
 #[test]
 fn a_pass_of_a_play_elsewhere_is_an_overlap(rt: HostRuntime) -> Result<(), Fail> {
-    let (_desk, pass) = half_played(&rt)?;
-    let fresh = opened(rt.alloc(), [FIRST].as_slice(), 4)?;
-    let passes = only(rt.alloc(), pass)?;
-    expect_fault(
-        &rt,
-        fresh,
-        &passes,
-        SettleFault::Overlap {
-            cell: FIRST,
-            slot: 0,
-        },
-    )
+    let pass = half_played(&rt)?.1;
+    expect_fault_of_one(&rt, fresh(rt.alloc())?, pass, overlap(0))
 }
 
 #[test]
 fn slots_that_are_noted_twice_are_an_overlap(rt: HostRuntime) -> Result<(), Fail> {
+    let again = half_played(&rt)?.1;
     let (desk, pass) = half_played(&rt)?;
-    let (_other, again) = half_played(&rt)?;
-    let passes = two(rt.alloc(), pass, again)?;
-    expect_fault(
-        &rt,
-        desk,
-        &passes,
-        SettleFault::Overlap {
-            cell: FIRST,
-            slot: 0,
-        },
-    )
+    expect_fault_of_two(&rt, desk, pass, again, overlap(0))
 }
 
 #[test]
@@ -172,139 +189,127 @@ fn the_first_slot_that_nobody_noted_is_told(rt: HostRuntime) -> Result<(), Fail>
     let (desk, pass) = half_played(&rt)?;
     let mut lost = desk.pass();
     let _ = play_in(&rt, &desk, &mut lost, FIRST, 1)?;
-    let passes = only(rt.alloc(), pass)?;
-    expect_fault(
-        &rt,
-        desk,
-        &passes,
-        SettleFault::Overlap {
-            cell: FIRST,
-            slot: 2,
-        },
-    )
+    expect_fault_of_one(&rt, desk, pass, overlap(2))
 }
 
 #[test]
 fn a_status_without_its_pass_is_strange(rt: HostRuntime) -> Result<(), Fail> {
-    let (desk, _pass) = asked(&rt, 0, 4370)?;
-    let passes = Vec::new(rt.alloc());
-    expect_fault(&rt, desk, &passes, strange(FIRST, 0))
+    expect_fault(&rt, asked(&rt, 0, 4370)?.0, &[], strange(FIRST, 0))
 }
 
 #[test]
 fn a_pass_of_a_status_elsewhere_is_strange(rt: HostRuntime) -> Result<(), Fail> {
-    let (_desk, pass) = asked(&rt, 0, 4370)?;
-    let fresh = opened(rt.alloc(), [FIRST].as_slice(), 4)?;
-    let passes = only(rt.alloc(), pass)?;
-    expect_fault(&rt, fresh, &passes, strange(FIRST, 0))
+    let pass = asked(&rt, 0, 4370)?.1;
+    expect_fault_of_one(&rt, fresh(rt.alloc())?, pass, strange(FIRST, 0))
 }
 
 #[test]
 fn an_entry_that_is_noted_twice_is_strange(rt: HostRuntime) -> Result<(), Fail> {
+    let again = asked(&rt, 0, 4370)?.1;
     let (desk, pass) = asked(&rt, 0, 4370)?;
-    let (_other, again) = asked(&rt, 0, 4370)?;
-    let passes = two(rt.alloc(), pass, again)?;
-    expect_fault(&rt, desk, &passes, strange(FIRST, 0))
+    expect_fault_of_two(&rt, desk, pass, again, strange(FIRST, 0))
 }
 
 #[test]
 fn a_note_of_another_command_is_strange(rt: HostRuntime) -> Result<(), Fail> {
-    let (desk, _pass) = asked(&rt, 0, 4370)?;
-    let (_other, pass) = asked(&rt, 0, 4371)?;
-    let passes = only(rt.alloc(), pass)?;
-    expect_fault(&rt, desk, &passes, strange(FIRST, 0))
+    let pass = asked(&rt, 0, 4371)?.1;
+    expect_fault_of_one(&rt, asked(&rt, 0, 4370)?.0, pass, strange(FIRST, 0))
 }
 
 #[test]
 fn a_note_of_another_slot_is_strange(rt: HostRuntime) -> Result<(), Fail> {
-    let (desk, _pass) = asked(&rt, 0, 4370)?;
-    let (_other, pass) = asked(&rt, 1, 4370)?;
-    let passes = only(rt.alloc(), pass)?;
-    expect_fault(&rt, desk, &passes, strange(FIRST, 0))
+    let pass = asked(&rt, 1, 4370)?.1;
+    expect_fault_of_one(&rt, asked(&rt, 0, 4370)?.0, pass, strange(FIRST, 0))
 }
 
 #[test]
 fn a_note_of_no_cell_of_the_desk_comes_first(rt: HostRuntime) -> Result<(), Fail> {
-    let alloc = rt.alloc();
-    let desk = opened(alloc, [SECOND].as_slice(), 4)?;
+    let pass = half_played(&rt)?.1;
+    let desk = opened(rt.alloc(), [SECOND].as_slice(), 4)?;
     let mut lost = desk.pass();
     let _ = play_in(&rt, &desk, &mut lost, SECOND, 1)?;
-    let (_other, pass) = half_played(&rt)?;
-    let passes = only(alloc, pass)?;
-    expect_fault(&rt, desk, &passes, strange(FIRST, 4096))
+    expect_fault_of_one(&rt, desk, pass, strange(FIRST, 4096))
 }
 
 #[test]
 fn a_foreign_entry_is_told_by_its_number(rt: HostRuntime) -> Result<(), Fail> {
-    let alloc = rt.alloc();
-    let desk = opened(alloc, [SECOND].as_slice(), 4)?;
-    let (_other, pass) = asked(&rt, 0, 4370)?;
-    let passes = only(alloc, pass)?;
-    expect_fault(&rt, desk, &passes, strange(FIRST, 0))
+    let pass = asked(&rt, 0, 4370)?.1;
+    let desk = opened(rt.alloc(), [SECOND].as_slice(), 4)?;
+    expect_fault_of_one(&rt, desk, pass, strange(FIRST, 0))
 }
 
-#[test]
-fn a_book_of_another_cell_is_strange(rt: HostRuntime) -> Result<(), Fail> {
-    let alloc = rt.alloc();
-    let desk = opened(alloc, [FIRST, SECOND].as_slice(), 4)?;
-    let Closed { slots, books, .. } = closed(desk)?;
-    let cells = Vec::from_slice(alloc, [SECOND, FIRST].as_slice())?;
+/// Expects that the second cell is judged first, and has the first cell's book, once the cells are exchanged.
+fn expect_exchanged<T: AllocGlobal + Abort>(
+    rt: &T,
+    closed: Closed,
+    cells: Vec<Cell>,
+) -> Result<(), Fail> {
+    let Closed { slots, books, .. } = closed;
     if cells.len() != books.len() || !cells_ok(&cells) {
         return Err(Fail::new("the desk has other cells or books"));
     }
-    let swapped = Closed {
+    let exchanged = Closed {
         cells,
         slots,
         books,
     };
-    let passes = Vec::new(alloc);
-    let fault = swapped.settle(alloc, &passes).err();
-    assert_eq!(&rt; fault, Some(strange(SECOND, 4096)));
+    let fault = exchanged.settle(rt.alloc(), &[]).err();
+    assert_eq!(rt; fault, Some(strange(SECOND, 4096)));
+    Ok(())
+}
+
+#[test]
+fn a_book_of_another_cell_is_strange(rt: HostRuntime) -> Result<(), Fail> {
+    let cells = Vec::from_slice(rt.alloc(), [SECOND, FIRST].as_slice())?;
+    let desk = opened(rt.alloc(), [FIRST, SECOND].as_slice(), 4)?;
+    expect_exchanged(&rt, closed(desk)?, cells)
+}
+
+/// Asks a cell for a status, and plays a slot of the first cell, with a pass that is lost.
+fn ask_and_play<T: AllocGlobal + Wait>(rt: &T, desk: &Desk, asked: Cell) -> Result<(), Fail> {
+    let mut lost = desk.pass();
+    ask_in(rt, desk, &mut lost, asked, 4370)?;
+    let _ = play_in(rt, desk, &mut lost, FIRST, 1)?;
     Ok(())
 }
 
 #[test]
 fn cells_are_judged_in_their_order(rt: HostRuntime) -> Result<(), Fail> {
-    let alloc = rt.alloc();
-    let desk = opened(alloc, [FIRST, SECOND].as_slice(), 4)?;
-    let mut lost = desk.pass();
-    ask_in(&rt, &desk, &mut lost, SECOND, 4370)?;
-    let _ = play_in(&rt, &desk, &mut lost, FIRST, 1)?;
-    let passes = Vec::new(alloc);
+    let desk = opened(rt.alloc(), [FIRST, SECOND].as_slice(), 4)?;
+    ask_and_play(&rt, &desk, SECOND)?;
     // the first cell's slot comes before the second cell's entry
-    expect_fault(
-        &rt,
-        desk,
-        &passes,
-        SettleFault::Overlap {
-            cell: FIRST,
-            slot: 0,
-        },
-    )
+    expect_fault(&rt, desk, &[], overlap(0))
+}
+
+/// Plays a slot of the first cell, and asks it for a status, with a pass that is lost.
+fn play_and_ask<T: AllocGlobal + Wait>(rt: &T, desk: &Desk) -> Result<(), Fail> {
+    let mut lost = desk.pass();
+    let _ = play_in(rt, desk, &mut lost, FIRST, 1)?;
+    ask_in(rt, desk, &mut lost, FIRST, 4370)
 }
 
 #[test]
 fn entries_of_a_cell_are_judged_before_its_slots(rt: HostRuntime) -> Result<(), Fail> {
-    let alloc = rt.alloc();
-    let desk = opened(alloc, [FIRST].as_slice(), 4)?;
-    let mut lost = desk.pass();
-    let _ = play_in(&rt, &desk, &mut lost, FIRST, 1)?;
-    ask_in(&rt, &desk, &mut lost, FIRST, 4370)?;
-    let passes = Vec::new(alloc);
-    expect_fault(&rt, desk, &passes, strange(FIRST, 0))
+    let desk = fresh(rt.alloc())?;
+    play_and_ask(&rt, &desk)?;
+    expect_fault(&rt, desk, &[], strange(FIRST, 0))
+}
+
+/// Asks the first cell for a status until its log is full, and once more.
+fn fill_log<T: AllocGlobal + Wait + Abort>(rt: &T, desk: &Desk) -> Result<Pass, Fail> {
+    let mut pass = desk.pass();
+    for _ in 0..4096 {
+        ask_in(rt, desk, &mut pass, FIRST, 4370)?;
+    }
+    let status = desk.status(rt, rt.alloc(), &mut pass, FIRST, 4370, Serial::of(1), &Open);
+    assert_eq!(rt; status, Err(DeskFault::Full));
+    Ok(pass)
 }
 
 #[test]
 fn a_full_log_is_settled(rt: HostRuntime) -> Result<(), Fail> {
-    let alloc = rt.alloc();
-    let desk = opened(alloc, [FIRST].as_slice(), 1)?;
-    let mut pass = desk.pass();
-    for _ in 0..4096 {
-        ask_in(&rt, &desk, &mut pass, FIRST, 4370)?;
-    }
-    let status = desk.status(&rt, alloc, &mut pass, FIRST, 4370, Serial::of(1), &Open);
-    assert_eq!(&rt; status, Err(DeskFault::Full));
-    let passes = only(alloc, pass)?;
+    let desk = opened(rt.alloc(), [FIRST].as_slice(), 1)?;
+    let passes = only(rt.alloc(), fill_log(&rt, &desk)?)?;
     assert!(&rt; settled(&rt, desk, &passes)?.is_ok());
     Ok(())
 }
