@@ -21,8 +21,8 @@ pub struct Believed<'a> {
 }
 
 impl Believed<'_> {
-    /// The version of an alert that is believed live in a cell, if one is. The cell is looked for at this place first in
-    /// the last request and its reply.
+    /// The version of an alert that is believed live in a cell, if one is. The cell is looked for at this place first,
+    /// in the last request and in its reply.
     pub fn version(&self, number: u16, cell: Cell, place: usize) -> Option<u8>
         ensures { result ≡ live_by self.now number cell }
     {
