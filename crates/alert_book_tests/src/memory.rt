@@ -4,6 +4,7 @@ ghost use Rattle.std.specs.Prelude.{◌<◌};
 
 use crate::reading::{book_of, read_by};
 use alert_book::{BookFault, BookFaultKind, Session};
+use scarce_memory::take_all;
 use std::alloc::{AllocError, Global};
 use std::process::Abort;
 use std::test::Fail;
@@ -18,20 +19,6 @@ const MANY: u16 = 100;
 
 /// How many octets each block of the memory has that is given back.
 const BLOCK: usize = 512;
-
-/// Takes all the memory that the process may have, in blocks of falling size.
-fn take_all(alloc: Global, taken: &mut Vec<Vec<u8>>) {
-    let mut size = 0x4000_0000_0000_usize;
-    for _ in 0..43 {
-        for _ in 0..20_000 {
-            let Ok(block) = Vec::with_capacity(alloc, size) else {
-                break;
-            };
-            let _ = taken.push(block);
-        }
-        size /= 2;
-    }
-}
 
 /// Blocks of memory that can be given back one by one.
 fn spare_blocks(alloc: Global) -> Result<Vec<Vec<u8>>, AllocError> {

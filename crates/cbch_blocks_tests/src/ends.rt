@@ -5,6 +5,7 @@ use cbch_blocks::{Refused, Tape, WriteFailed, tape_of};
 use cbsp_wire::Cell;
 use device_ends::Sink;
 use device_ends::memory::MemoryWriter;
+use scarce_memory::take_all;
 use std::alloc::Global;
 use std::process::Abort;
 use std::test::Fail;
@@ -40,20 +41,6 @@ fn a_writer_fails_at_each_call(rt: HostRuntime) -> Result<(), Fail> {
         }
     }
     Ok(())
-}
-
-/// Takes the memory that the process may have, in blocks of falling size, down to 1 MiB.
-fn take_all(alloc: Global, taken: &mut Vec<Vec<u8>>) {
-    let mut size = 0x4000_0000_0000_usize;
-    for _ in 0..27 {
-        for _ in 0..20_000 {
-            let Ok(block) = Vec::with_capacity(alloc, size) else {
-                break;
-            };
-            let _ = taken.push(block);
-        }
-        size /= 2;
-    }
 }
 
 #[test]

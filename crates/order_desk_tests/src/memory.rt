@@ -5,6 +5,7 @@ use crate::orders::*;
 use bsc_table::Answer;
 use cbsp_wire::Cell;
 use order_desk::{Closed, Desk, DeskFault, Open, Pass, SettleFault, cells_ok};
+use scarce_memory::take_all;
 use std::alloc::Global;
 use std::process::Abort;
 use std::sync::Wait;
@@ -26,20 +27,6 @@ const BLOCK: usize = 256;
 
 /// How many blocks there are.
 const BLOCKS: usize = 200;
-
-/// Takes all the memory that the process may have, in blocks of falling size.
-fn take_all(alloc: Global, taken: &mut Vec<Vec<u8>>) {
-    let mut size = 0x4000_0000_0000_usize;
-    for _ in 0..43 {
-        for _ in 0..20_000 {
-            let Ok(block) = Vec::with_capacity(alloc, size) else {
-                break;
-            };
-            let _ = taken.push(block);
-        }
-        size /= 2;
-    }
-}
 
 /// Expects the notes of cells that answered in the order of their list, each played before if it was, and that many
 /// answers.

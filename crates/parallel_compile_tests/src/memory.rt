@@ -4,23 +4,10 @@ use crate::records::{airing, expect_same, idle, tape_with};
 use bsc_table::CellRecord;
 use order_desk::Open;
 use parallel_compile::{CompileFault, compile_all, compile_one, gather};
+use scarce_memory::take_all;
 use std::alloc::Global;
 use std::process::Abort;
 use std::test::Fail;
-
-/// Takes all the memory that the process may have, in blocks of falling size.
-fn take_all(alloc: Global, taken: &mut Vec<Vec<u8>>) {
-    let mut size = 0x4000_0000_0000_usize;
-    for _ in 0..43 {
-        for _ in 0..20_000 {
-            let Ok(block) = Vec::with_capacity(alloc, size) else {
-                break;
-            };
-            let _ = taken.push(block);
-        }
-        size /= 2;
-    }
-}
 
 /// Two records.
 fn records(rt: &impl Abort, alloc: Global) -> Result<[CellRecord; 2], Fail> {

@@ -1,31 +1,18 @@
 //! Reports with hardly any memory: each allocation is refused once, and nothing is written then; and long logs.
 
-use crate::runs::{kill, open, played_out, readings_of, standing, started, write};
+use crate::runs::{kill, open, order, played_out, readings_of, standing, started};
 use crate::worked::two_cells;
 use bsc_table::{Answer, CellRecord};
 use device_ends::Sink;
 use handset::Reading;
 use report::{ReportFault, rows, write_report};
+use scarce_memory::take_all;
 use std::alloc::Global;
 use std::process::Abort;
 use std::test::Fail;
 
 /// How many octets each block of the memory has that is given back.
 const BLOCK: usize = 256;
-
-/// Takes all the memory that the process may have, in blocks of falling size.
-fn take_all(alloc: Global, taken: &mut Vec<Vec<u8>>) {
-    let mut size = 0x4000_0000_0000_usize;
-    for _ in 0..43 {
-        for _ in 0..20_000 {
-            let Ok(block) = Vec::with_capacity(alloc, size) else {
-                break;
-            };
-            let _ = taken.push(block);
-        }
-        size /= 2;
-    }
-}
 
 /// Expects that memory was refused, and that nothing was written.
 fn expect_refused(rt: &impl Abort, fault: ReportFault, left: usize) {
@@ -94,8 +81,15 @@ fn a_long_log_and_many_slots(rt: HostRuntime) -> Result<(), Fail> {
     let mut book = open(rt.alloc(), 1, 65_535)?;
     for number in 0..2048 {
         if number < 60 {
-            let standing = write(rt.alloc(), standing(number, 1), 1, 60)?;
-            assert_eq!(rt; book.apply(&standing), started(0));
+            order(
+                &rt,
+                rt.alloc(),
+                &mut book,
+                standing(number, 1),
+                1,
+                60,
+                started(0),
+            )?;
         } else {
             kill(&rt, &mut book, number, 2, Answer::Cause(0x02));
         }

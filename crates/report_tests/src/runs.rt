@@ -53,7 +53,7 @@ pub fn standing_for(id: u16, old: u16, serial: u16) -> Wish {
 }
 
 /// The command of a write of so many pages, 1 or 2, with this period.
-pub fn write(alloc: Global, wish: Wish, pages: usize, period: u16) -> Result<Command, Fail>
+fn write(alloc: Global, wish: Wish, pages: usize, period: u16) -> Result<Command, Fail>
     requires period { 1 ≤ period }
     requires short { period ≤ 1024 }
     ensures { IfOk result (λ command. IsWellFormed command) }
@@ -78,6 +78,24 @@ pub fn write(alloc: Global, wish: Wish, pages: usize, period: u16) -> Result<Com
         dcs: Dcs(0x01),
         contents: Contents::new(list)?,
     })
+}
+
+/// Orders a write of so many pages, 1 or 2, with this period, and expects this answer.
+pub fn order(
+    rt: &impl Abort,
+    alloc: Global,
+    book: &mut CellBook,
+    wish: Wish,
+    pages: usize,
+    period: u16,
+    answer: Answer,
+) -> Result<(), Fail>
+    requires period { 1 ≤ period }
+    requires short { period ≤ 1024 }
+{
+    let command = write(alloc, wish, pages, period)?;
+    assert_eq!(rt; book.apply(&command), answer);
+    Ok(())
 }
 
 /// Kills a message, and expects this answer.

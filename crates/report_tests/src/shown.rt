@@ -1,7 +1,7 @@
 //! The rows of one cell: what was stopped, refused, never started and never shown.
 
 use crate::runs::{
-    Wish, expect_report, kill, open, played_out, replaced, standing, standing_for, started, write,
+    Wish, expect_report, kill, open, order, played_out, replaced, standing, standing_for, started,
 };
 use bsc_table::{Answer, CellBook, Command, State};
 use cbs_page::Serial;
@@ -19,17 +19,34 @@ fn expect_lines(rt: &impl Abort, alloc: Global, book: CellBook, lines: &str) -> 
 #[test]
 fn a_refused_write_has_its_cause(rt: HostRuntime) -> Result<(), Fail> {
     let mut book = open(rt.alloc(), 2, 4)?;
-    assert_eq!(rt;
-        book.apply(&write(rt.alloc(), standing(4370, 0x10), 1, 2)?),
-        started(0)
-    );
-    assert_eq!(rt;
-        book.apply(&write(rt.alloc(), standing(4371, 0x20), 1, 2)?),
-        started(0)
-    );
+    order(
+        &rt,
+        rt.alloc(),
+        &mut book,
+        standing(4370, 0x10),
+        1,
+        2,
+        started(0),
+    )?;
+    order(
+        &rt,
+        rt.alloc(),
+        &mut book,
+        standing(4371, 0x20),
+        1,
+        2,
+        started(0),
+    )?;
     book.play(1);
-    let third = write(rt.alloc(), standing(4370, 0x11), 1, 2)?;
-    assert_eq!(rt; book.apply(&third), Answer::Cause(0x06));
+    order(
+        &rt,
+        rt.alloc(),
+        &mut book,
+        standing(4370, 0x11),
+        1,
+        2,
+        Answer::Cause(0x06),
+    )?;
     expect_lines(
         &rt,
         rt.alloc(),
@@ -42,25 +59,47 @@ fn a_refused_write_has_its_cause(rt: HostRuntime) -> Result<(), Fail> {
 fn kills_end_messages_and_have_rows_if_refused(rt: HostRuntime) -> Result<(), Fail> {
     let mut book = open(rt.alloc(), 1, 8)?;
     kill(&rt, &mut book, 4370, 0x10, Answer::Cause(0x02));
-    assert_eq!(rt;
-        book.apply(&write(rt.alloc(), standing(4370, 0x10), 1, 3)?),
-        started(0)
-    );
+    order(
+        &rt,
+        rt.alloc(),
+        &mut book,
+        standing(4370, 0x10),
+        1,
+        3,
+        started(0),
+    )?;
     // of the same serial number, and of the same identifier
-    assert_eq!(rt;
-        book.apply(&write(rt.alloc(), standing(4371, 0x10), 1, 4)?),
-        started(0)
-    );
-    assert_eq!(rt;
-        book.apply(&write(rt.alloc(), standing(4370, 0x20), 1, 4)?),
-        started(0)
-    );
+    order(
+        &rt,
+        rt.alloc(),
+        &mut book,
+        standing(4371, 0x10),
+        1,
+        4,
+        started(0),
+    )?;
+    order(
+        &rt,
+        rt.alloc(),
+        &mut book,
+        standing(4370, 0x20),
+        1,
+        4,
+        started(0),
+    )?;
     book.play(3);
     kill(&rt, &mut book, 4370, 0x10, Answer::Stopped { completed: 1 });
     book.play(1);
     kill(&rt, &mut book, 4370, 0x10, Answer::Cause(0x02));
-    let again = write(rt.alloc(), standing(4370, 0x10), 1, 3)?;
-    assert_eq!(rt; book.apply(&again), Answer::Cause(0x0D));
+    order(
+        &rt,
+        rt.alloc(),
+        &mut book,
+        standing(4370, 0x10),
+        1,
+        3,
+        Answer::Cause(0x0D),
+    )?;
     book.play(4);
     kill(&rt, &mut book, 4371, 0x10, Answer::Cause(0x0A));
     expect_lines(
@@ -74,17 +113,34 @@ fn kills_end_messages_and_have_rows_if_refused(rt: HostRuntime) -> Result<(), Fa
 #[test]
 fn a_message_that_was_stopped_before_its_start(rt: HostRuntime) -> Result<(), Fail> {
     let mut book = open(rt.alloc(), 1, 8)?;
-    assert_eq!(rt;
-        book.apply(&write(rt.alloc(), standing(4370, 1), 2, 4)?),
-        started(0)
-    );
-    assert_eq!(rt;
-        book.apply(&write(rt.alloc(), standing(4370, 2), 2, 4)?),
-        started(0)
-    );
+    order(
+        &rt,
+        rt.alloc(),
+        &mut book,
+        standing(4370, 1),
+        2,
+        4,
+        started(0),
+    )?;
+    order(
+        &rt,
+        rt.alloc(),
+        &mut book,
+        standing(4370, 2),
+        2,
+        4,
+        started(0),
+    )?;
     book.play(1);
-    let waiting = write(rt.alloc(), standing_for(4370, 1, 3), 2, 4)?;
-    assert_eq!(rt; book.apply(&waiting), replaced(4, 0));
+    order(
+        &rt,
+        rt.alloc(),
+        &mut book,
+        standing_for(4370, 1, 3),
+        2,
+        4,
+        replaced(4, 0),
+    )?;
     book.play(2);
     kill(&rt, &mut book, 4370, 3, Answer::Stopped { completed: 0 });
     expect_lines(
@@ -98,17 +154,34 @@ fn a_message_that_was_stopped_before_its_start(rt: HostRuntime) -> Result<(), Fa
 #[test]
 fn a_message_whose_start_is_past_the_end(rt: HostRuntime) -> Result<(), Fail> {
     let mut book = open(rt.alloc(), 1, 2)?;
-    assert_eq!(rt;
-        book.apply(&write(rt.alloc(), standing(4370, 1), 2, 4)?),
-        started(0)
-    );
-    assert_eq!(rt;
-        book.apply(&write(rt.alloc(), standing(4370, 2), 2, 4)?),
-        started(0)
-    );
+    order(
+        &rt,
+        rt.alloc(),
+        &mut book,
+        standing(4370, 1),
+        2,
+        4,
+        started(0),
+    )?;
+    order(
+        &rt,
+        rt.alloc(),
+        &mut book,
+        standing(4370, 2),
+        2,
+        4,
+        started(0),
+    )?;
     book.play(1);
-    let waiting = write(rt.alloc(), standing_for(4370, 1, 3), 2, 4)?;
-    assert_eq!(rt; book.apply(&waiting), replaced(4, 0));
+    order(
+        &rt,
+        rt.alloc(),
+        &mut book,
+        standing_for(4370, 1, 3),
+        2,
+        4,
+        replaced(4, 0),
+    )?;
     expect_lines(
         &rt,
         rt.alloc(),
@@ -128,8 +201,8 @@ fn a_message_runs_out_or_the_run_ends(rt: HostRuntime) -> Result<(), Fail> {
         broadcasts: 65_535,
         ..standing(4371, 0xFFFF)
     };
-    assert_eq!(rt; book.apply(&write(rt.alloc(), twice, 1, 3)?), started(0));
-    assert_eq!(rt; book.apply(&write(rt.alloc(), often, 1, 3)?), started(0));
+    order(&rt, rt.alloc(), &mut book, twice, 1, 3, started(0))?;
+    order(&rt, rt.alloc(), &mut book, often, 1, 3, started(0))?;
     book.play(7);
     let status = Command::Status {
         id: 4370,

@@ -1,7 +1,7 @@
 //! The report of a worked run of two cells: in the second one a replacement has to wait for room.
 
 use crate::runs::{
-    expect_report, open, played_out, replaced, standing, standing_for, started, write,
+    expect_report, open, order, played_out, replaced, standing, standing_for, started,
 };
 use bsc_table::CellRecord;
 use cbs_page::Serial;
@@ -18,24 +18,33 @@ pub const LINES: &str = "1,1,4370,0010,0,1,1,yes
 1,2,4370,0011,2,4,1,yes
 ";
 
-/// The records of cells 1-1 and 1-2, of four slots: at slot 0 message 4370 0010 begins in both and 4371 0020 in 1-2, at
-/// slot 1 message 4370 0011 replaces the first one. Each has one page and period 2.
+/// The record of cell 1-1, of four slots: message 4370 0010 begins at slot 0, and 4370 0011 replaces it at slot 1. Each
+/// has one page and period 2.
+fn one_cell(rt: &impl Abort, alloc: Global) -> Result<CellRecord, Fail> {
+    let mut book = open(alloc, 1, 4)?;
+    order(rt, alloc, &mut book, standing(4370, 0x10), 1, 2, started(0))?;
+    book.play(1);
+    let wish = standing_for(4370, 0x10, 0x11);
+    order(rt, alloc, &mut book, wish, 1, 2, replaced(1, 1))?;
+    Ok(played_out(book))
+}
+
+/// The record of cell 1-2: the same, but message 4371 0020 begins at slot 0 too, so that the replacement has to wait.
+fn other_cell(rt: &impl Abort, alloc: Global) -> Result<CellRecord, Fail> {
+    let mut book = open(alloc, 2, 4)?;
+    order(rt, alloc, &mut book, standing(4370, 0x10), 1, 2, started(0))?;
+    order(rt, alloc, &mut book, standing(4371, 0x20), 1, 2, started(0))?;
+    book.play(1);
+    let wish = standing_for(4370, 0x10, 0x11);
+    order(rt, alloc, &mut book, wish, 1, 2, replaced(2, 1))?;
+    Ok(played_out(book))
+}
+
+/// The records of both cells.
 pub fn two_cells(rt: &impl Abort, alloc: Global) -> Result<Vec<CellRecord>, Fail> {
-    let first = write(alloc, standing(4370, 0x10), 1, 2)?;
-    let second = write(alloc, standing(4371, 0x20), 1, 2)?;
-    let third = write(alloc, standing_for(4370, 0x10, 0x11), 1, 2)?;
-    let mut one = open(alloc, 1, 4)?;
-    let mut two = open(alloc, 2, 4)?;
-    assert_eq!(rt; one.apply(&first), started(0));
-    assert_eq!(rt; two.apply(&first), started(0));
-    assert_eq!(rt; two.apply(&second), started(0));
-    one.play(1);
-    two.play(1);
-    assert_eq!(rt; one.apply(&third), replaced(1, 1));
-    assert_eq!(rt; two.apply(&third), replaced(2, 1));
     let mut runs = Vec::with_capacity(alloc, 2)?;
-    runs.push(played_out(one))?;
-    runs.push(played_out(two))?;
+    runs.push(one_cell(rt, alloc)?)?;
+    runs.push(other_cell(rt, alloc)?)?;
     Ok(runs)
 }
 

@@ -8,6 +8,7 @@ use crate::served::*;
 use alert_book::Book;
 use bsc_table::CellRecord;
 use order_desk::{Desk, Pass, SettleFault};
+use scarce_memory::take_all;
 use session_check::check_sessions;
 use std::alloc::Global;
 use std::process::Abort;
@@ -23,20 +24,6 @@ const BLOCK: usize = 512;
 
 /// How many blocks there are.
 const BLOCKS: usize = 200;
-
-/// Takes all the memory that the process may have, in blocks of falling size.
-fn take_all(alloc: Global, taken: &mut Vec<Vec<u8>>) {
-    let mut size = 0x4000_0000_0000_usize;
-    for _ in 0..43 {
-        for _ in 0..20_000 {
-            let Ok(block) = Vec::with_capacity(alloc, size) else {
-                break;
-            };
-            let _ = taken.push(block);
-        }
-        size /= 2;
-    }
-}
 
 /// Checks with more and more memory until a check isn't refused, and returns how many were, and what that one says.
 fn attempts(

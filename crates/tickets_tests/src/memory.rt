@@ -1,22 +1,8 @@
 //! A counter with hardly any memory: `new` alone takes some.
 
-use std::alloc::Global;
+use scarce_memory::take_all;
 use std::test::Fail;
 use tickets::{Counter, Refused};
-
-/// Takes all the memory that the process may have, in blocks of falling size.
-fn take_all(alloc: Global, taken: &mut Vec<Vec<u8>>) {
-    let mut size = 0x4000_0000_0000_usize;
-    for _ in 0..43 {
-        for _ in 0..20_000 {
-            let Ok(block) = Vec::with_capacity(alloc, size) else {
-                break;
-            };
-            let _ = taken.push(block);
-        }
-        size /= 2;
-    }
-}
 
 #[test]
 fn no_memory_makes_no_counter(rt: HostRuntime) -> Result<(), Fail> {

@@ -5,7 +5,7 @@ use device_ends::memory::{MemoryReader, MemoryWriter};
 use device_ends::{Sink, Source};
 use order_desk::{DeskFault, Open, SettleFault};
 use parallel_compile::CompileFault;
-use std::alloc::Global;
+use scarce_memory::take_all;
 use std::process::Abort;
 use std::sync::Wait;
 use std::test::Fail;
@@ -18,20 +18,6 @@ const BOOK: &str =
 
 /// How many octets each block of the memory has that is given back.
 const BLOCK: usize = 512;
-
-/// Takes all the memory that the process may have, in blocks of falling size.
-fn take_all(alloc: Global, taken: &mut Vec<Vec<u8>>) {
-    let mut size = 0x4000_0000_0000_usize;
-    for _ in 0..43 {
-        for _ in 0..20_000 {
-            let Ok(block) = Vec::with_capacity(alloc, size) else {
-                break;
-            };
-            let _ = taken.push(block);
-        }
-        size /= 2;
-    }
-}
 
 /// Whether a fault says that there was no memory.
 fn is_memory(fault: RunFault) -> bool {
