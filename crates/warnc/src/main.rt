@@ -3,13 +3,10 @@
 
 ghost use Rattle.std.specs.Prelude.{◌≡◌, ◌⊎◌, IfErr};
 
-mod command;
-pub mod run;
-
-use crate::run::{MEMORY, USAGE, run};
 use std::io::Write;
 use std::process::ExitCode;
 use std::{env, io};
+use warnc_commands::run::{MEMORY, USAGE, run};
 
 fn main(rt: HostRuntime) -> ExitCode {
     let status = match words_of(&rt) {
@@ -48,16 +45,3 @@ fn report(rt: &HostRuntime, fault: &str, status: u8) -> u8
     let _ = writeln!(rt.stderr(), "warnc: {fault}");
     status
 }
-
-#[cfg(test)]
-mod compile_tests;
-#[cfg(test)]
-mod live_tests;
-#[cfg(test)]
-mod memory_tests;
-#[cfg(test)]
-mod read_tests;
-#[cfg(test)]
-mod report_tests;
-#[cfg(test)]
-mod tests;

@@ -1,9 +1,9 @@
 //! The command line: which words are taken, and what they mean.
 
 ghost use Rattle.std.specs.Prelude.{◌≡◌, IfOk, IfSome, codes, map, slice_get};
-ghost use Rattle.warnc.specs.CommandLine.{asks_for_text, begins_with, is_given, is_text_word, GivesNumber};
-ghost use Rattle.warnc.specs.CommandLine.{GivesSlots, GivesThreads, GivesValue, IsPageOrder};
-ghost use Rattle.warnc.specs.RunSteps.{IsOrdered};
+ghost use Rattle.warnc_commands.specs.CommandLine.{asks_for_text, begins_with, is_given, is_text_word, GivesNumber};
+ghost use Rattle.warnc_commands.specs.CommandLine.{GivesSlots, GivesThreads, GivesValue, IsPageOrder};
+ghost use Rattle.warnc_commands.specs.RunSteps.{IsOrdered};
 
 use cbs_page::Serial;
 use clap::{Arg, Command, Error, value_parser};

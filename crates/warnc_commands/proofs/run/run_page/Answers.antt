@@ -1,6 +1,6 @@
-use Rattle.warnc.specs.Status.{WritesSome}
+use Rattle.warnc_commands.specs.Status.{WritesSome}
 use Rattle.warnc_engine.proofs.OutputLaws.{some_output}
-use Rattle.warnc.proofs.run.run_page.Goals as goal
+use Rattle.warnc_commands.proofs.run.run_page.Goals as goal
 
 pub returns-in-Ok-clause-wrote : goal.returns-in-Ok-clause-wrote
 returns-in-Ok-clause-wrote g c =

@@ -1,8 +1,7 @@
 //! Runs of `compile` between memory and memory. The blocks are those of a worked page.
 
-use crate::read_tests::worked_tape;
-use crate::run::run;
-use crate::tests::{
+use crate::read::worked_tape;
+use crate::runs::{
     expect_failed_reader, expect_failed_writer, expect_fault, expect_output, run_on,
 };
 use device_ends::memory::{MemoryReader, MemoryWriter};
@@ -10,6 +9,7 @@ use std::process::Abort;
 use std::sync::Wait;
 use std::test::Fail;
 use std::thread::Threads;
+use warnc_commands::run::run;
 
 /// The words of `compile` with two slots.
 const COMPILE: [&str; 4] = ["warnc", "compile", "--slots", "2"];

@@ -11,8 +11,8 @@ use Rattle.alert_book.specs.Book.{Contents, IsBook, IsWrong, max_input}
 use Rattle.alert_book.specs.declared.fault.BookFault.{BookFault}
 use Rattle.alert_book.specs.declared.fault.BookFaultKind.{BookFaultKind}
 use Rattle.alert_book.specs.declared.fault.BookFaultKind.TheVariants as kinds
-use Rattle.warnc.specs.CommandLine.{asks_for_text, IsCompileOrder, IsLiveOrder, IsPageOrder, IsReadOrder}
-use Rattle.warnc.specs.CommandLine.{IsReportOrder}
+use Rattle.warnc_commands.specs.CommandLine.{asks_for_text, IsCompileOrder, IsLiveOrder, IsPageOrder, IsReadOrder}
+use Rattle.warnc_commands.specs.CommandLine.{IsReportOrder}
 use Rattle.warnc_compile.specs.Compiled.{IsCompiled}
 use Rattle.warnc_compile.specs.Live.{IsLive}
 use Rattle.warnc_compile.specs.Reported.{IsReported}

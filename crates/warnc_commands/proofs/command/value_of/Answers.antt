@@ -2,8 +2,8 @@ use Rattle.std.proofs.Common.{◌≡◌, sym, ◌∙◌, Some, lit<, ◌++◌, �
 use Rattle.std.proofs.lemmas.Bool.{ltb-true}
 use Rattle.std.proofs.lemmas.Slice.Eq.{bytes_eq-Decides}
 use Rattle.std.proofs.lemmas.Str.Pattern.{split_parts}
-use Rattle.warnc.proofs.WordLaws.{value_after, value_within}
-use Rattle.warnc.proofs.command.value_of.Goals as goal
+use Rattle.warnc_commands.proofs.WordLaws.{value_after, value_within}
+use Rattle.warnc_commands.proofs.command.value_of.Goals as goal
 
 pub returns-then-eq : goal.returns-then-eq
 returns-then-eq g c =

@@ -1,6 +1,6 @@
 //! Runs of `read` between memory and memory. The blocks are those of a worked page; UCS-2 pages are spelled out.
 
-use crate::tests::{Outcome, expect_failed_reader, expect_failed_writer, expect_fault, run_on};
+use crate::runs::{Outcome, expect_failed_reader, expect_failed_writer, expect_fault, run_on};
 use std::alloc::{AllocError, Global};
 use std::process::Abort;
 use std::sync::Wait;

@@ -1,6 +1,6 @@
 use Rattle.std.proofs.Common.{◌≡◌, drop, map}
-use Rattle.warnc.specs.CommandLine.{asks_for_text}
-use Rattle.warnc.proofs.command.asks_for_text.Given as goal
+use Rattle.warnc_commands.specs.CommandLine.{asks_for_text}
+use Rattle.warnc_commands.proofs.command.asks_for_text.Given as goal
 
 abbrev pub invariant-loop-word : goal.invariant-loop-word
 invariant-loop-word g l =

@@ -1,6 +1,6 @@
 use Rattle.std.proofs.Common.{◌≡◌, drop, map}
-use Rattle.warnc.specs.CommandLine.{is_given}
-use Rattle.warnc.proofs.command.is_given.Given as goal
+use Rattle.warnc_commands.specs.CommandLine.{is_given}
+use Rattle.warnc_commands.proofs.command.is_given.Given as goal
 
 abbrev pub invariant-loop-word : goal.invariant-loop-word
 invariant-loop-word g l =

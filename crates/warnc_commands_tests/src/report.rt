@@ -1,7 +1,7 @@
 //! Runs of `report` between memory and memory.
 
-use crate::compile_tests::BOOK;
-use crate::tests::{
+use crate::compile::BOOK;
+use crate::runs::{
     expect_failed_reader, expect_failed_writer, expect_fault, expect_output, run_on,
 };
 use std::process::Abort;

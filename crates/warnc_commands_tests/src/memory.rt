@@ -1,16 +1,16 @@
 //! Runs of the program with hardly any memory: whatever is refused, the run ends with status 4 and writes nothing.
 
-use crate::compile_tests::BOOK;
-use crate::read_tests::worked_tape;
-use crate::run::run;
+use crate::compile::BOOK;
+use crate::read::worked_tape;
 use device_ends::memory::MemoryReader;
-use std::alloc::Global;
+use scarce_memory::take_all;
 use std::io;
 use std::io::Write;
 use std::process::Abort;
 use std::sync::Wait;
 use std::test::Fail;
 use std::thread::Threads;
+use warnc_commands::run::run;
 
 /// How many octets each block of the memory has that is given back.
 const BLOCK: usize = 512;
@@ -43,20 +43,6 @@ impl Write for Slate {
 
     fn flush(&mut self) -> io::Result<()> {
         Ok(())
-    }
-}
-
-/// Takes all the memory that the process may have, in blocks of falling size.
-fn take_all(alloc: Global, taken: &mut Vec<Vec<u8>>) {
-    let mut size = 0x4000_0000_0000_usize;
-    for _ in 0..43 {
-        for _ in 0..20_000 {
-            let Ok(block) = Vec::with_capacity(alloc, size) else {
-                break;
-            };
-            let _ = taken.push(block);
-        }
-        size /= 2;
     }
 }
 
@@ -108,7 +94,7 @@ fn a_page_without_memory_is_status_4(rt: HostRuntime) -> Result<(), Fail> {
         "warnc", "page", "--lang", "en", "--id", "4370", "--scope", "0", "--code", "1", "--update",
         "0",
     ];
-    expect_out_of_memory(&rt, &words, b"@\n", crate::tests::AT.as_bytes())
+    expect_out_of_memory(&rt, &words, b"@\n", crate::runs::AT.as_bytes())
 }
 
 #[test]

@@ -10,11 +10,11 @@ ghost use Rattle.warnc_compile.specs.Live.{IsLive};
 ghost use Rattle.warnc_compile.specs.Reported.{IsReported};
 ghost use Rattle.warnc_engine.specs.PageOutput.{IsPageOutput};
 ghost use Rattle.warnc_engine.specs.ReadOutput.{IsReadOutput};
-ghost use Rattle.warnc.specs.RunSteps.{status_of_read_fault, status_of_report_fault, status_of_run_fault};
-ghost use Rattle.warnc.specs.RunSteps.{IsRunBetween, IsStatusOfSink};
-ghost use Rattle.warnc.specs.Status.{status_of_book_fault, status_of_page_fault, IsNoRun, IsNoTapes, IsRefused};
-ghost use Rattle.warnc.specs.Status.{OneHasFailed, RefusesInput};
-ghost use Rattle.warnc.specs.Status.{WritesSome, WroteWhatIsAsked};
+ghost use Rattle.warnc_commands.specs.RunSteps.{status_of_read_fault, status_of_report_fault, status_of_run_fault};
+ghost use Rattle.warnc_commands.specs.RunSteps.{IsRunBetween, IsStatusOfSink};
+ghost use Rattle.warnc_commands.specs.Status.{status_of_book_fault, status_of_page_fault, IsNoRun, IsNoTapes};
+ghost use Rattle.warnc_commands.specs.Status.{IsRefused, OneHasFailed, RefusesInput};
+ghost use Rattle.warnc_commands.specs.Status.{WritesSome, WroteWhatIsAsked};
 
 use crate::command::{Order, PageOptions, asks_for_text, order_of};
 use alert_book::{BookFault, BookFaultKind};

@@ -1,9 +1,8 @@
 //! Runs of `live` between memory and memory. The blocks are those of a worked page.
 
-use crate::compile_tests::BOOK;
-use crate::read_tests::worked_tape;
-use crate::run::run;
-use crate::tests::{
+use crate::compile::BOOK;
+use crate::read::worked_tape;
+use crate::runs::{
     expect_failed_reader, expect_failed_writer, expect_fault, expect_output, run_on,
 };
 use device_ends::memory::{MemoryReader, MemoryWriter};
@@ -11,6 +10,7 @@ use std::process::Abort;
 use std::sync::Wait;
 use std::test::Fail;
 use std::thread::Threads;
+use warnc_commands::run::run;
 
 /// The words of `live` with two slots and two sessions.
 const LIVE: [&str; 6] = ["warnc", "live", "--slots", "2", "--sessions", "2"];

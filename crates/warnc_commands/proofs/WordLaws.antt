@@ -4,7 +4,7 @@ use Rattle.std.proofs.Common.{slice_index_or, Some}
 use Rattle.std.specs.Option.{option_map}
 use Rattle.std.specs.Prelude.{slice_get}
 use Rattle.std.proofs.lemmas.Option.{slice_get-map, slice_get_read}
-use Rattle.warnc.specs.CommandLine.{GivesValue}
+use Rattle.warnc_commands.specs.CommandLine.{GivesValue}
 
 -- a word that stands among the words
 word_at : {X : Type 0} (text : X → List ℕ) (words : List X) (place : ℕ) (word : X) → place < length words →

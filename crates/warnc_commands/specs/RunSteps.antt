@@ -5,10 +5,10 @@ use Rattle.std.specs.Io.KnownBytes.{Keeps}
 use Rattle.device_ends.specs.Sink.{sink_failed}
 use Rattle.device_ends.specs.declared.reading.Source.{Source}
 use Rattle.device_ends.specs.declared.writing.Sink.{Sink}
-use Rattle.warnc.specs.CommandLine.{IsCompileOrder, IsLiveOrder, IsPageOrder, IsReadOrder, IsReportOrder}
-use Rattle.warnc.specs.Status.{OneHasFailed, status_of_book_fault}
-use Rattle.warnc.specs.declared.command.Order.{Order}
-use Rattle.warnc.specs.declared.command.Order.TheVariants.{Compile, Live, Page, Read, Report}
+use Rattle.warnc_commands.specs.CommandLine.{IsCompileOrder, IsLiveOrder, IsPageOrder, IsReadOrder, IsReportOrder}
+use Rattle.warnc_commands.specs.Status.{OneHasFailed, status_of_book_fault}
+use Rattle.warnc_commands.specs.declared.command.Order.{Order}
+use Rattle.warnc_commands.specs.declared.command.Order.TheVariants.{Compile, Live, Page, Read, Report}
 use Rattle.order_desk.specs.declared.fault.DeskFault.{DeskFault}
 use Rattle.order_desk.specs.declared.fault.DeskFault.TheVariants as desk
 use Rattle.order_desk.specs.declared.settle.SettleFault.{SettleFault}

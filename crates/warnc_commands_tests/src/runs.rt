@@ -1,7 +1,6 @@
 //! Runs of the program between memory and memory: words and input in, status, output and fault lines out. The pages are
 //! those of worked examples, packed by an independent script.
 
-use crate::run::run;
 use device_ends::memory::{MemoryReader, MemoryWriter};
 use std::alloc::Global;
 use std::io;
@@ -10,6 +9,7 @@ use std::process::Abort;
 use std::sync::Wait;
 use std::test::Fail;
 use std::thread::Threads;
+use warnc_commands::run::run;
 use warnc_engine::page::MAX_INPUT;
 
 /// What a run gives.

@@ -1,0 +1,6 @@
+//! The commands of `warnc`: which words are a command line, and a run on them between a reader and a writer. The
+//! program gives it the words and the ends of its process.
+#![tactic(auto)]
+
+mod command;
+pub mod run;

@@ -1,0 +1,16 @@
+//! Tests of `warnc`'s commands by runs between memory and memory: worked rows of each command, refused words, ends that
+//! fail and refused memory.
+#![tactic(auto)]
+
+#[cfg(test)]
+mod compile;
+#[cfg(test)]
+mod live;
+#[cfg(test)]
+mod memory;
+#[cfg(test)]
+mod read;
+#[cfg(test)]
+mod report;
+#[cfg(test)]
+mod runs;
