@@ -80,7 +80,7 @@ fn write(alloc: Global, wish: Wish, pages: usize, period: u16) -> Result<Command
     })
 }
 
-/// Orders a write of so many pages, 1 or 2, with this period, and expects this answer.
+/// Orders a write of 1 or 2 pages with this period, and expects this answer.
 pub fn order(
     rt: &impl Abort,
     alloc: Global,

@@ -11,6 +11,6 @@ mod memory;
 #[cfg(test)]
 mod read;
 #[cfg(test)]
-mod report;
+mod reports;
 #[cfg(test)]
 mod runs;
