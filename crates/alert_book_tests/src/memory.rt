@@ -4,7 +4,7 @@ ghost use Rattle.std.specs.Prelude.{◌<◌};
 
 use crate::reading::{book_of, read_by};
 use alert_book::{BookFault, BookFaultKind, Session};
-use scarce_memory::take_all;
+use test_support::take_all;
 use std::alloc::{AllocError, Global};
 use std::process::Abort;
 use std::test::Fail;

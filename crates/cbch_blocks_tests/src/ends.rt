@@ -5,7 +5,7 @@ use cbch_blocks::{Refused, Tape, WriteFailed, tape_of};
 use cbsp_wire::Cell;
 use device_ends::Sink;
 use device_ends::memory::MemoryWriter;
-use scarce_memory::take_all;
+use test_support::take_all;
 use std::alloc::Global;
 use std::process::Abort;
 use std::test::Fail;

@@ -5,7 +5,7 @@ use crate::orders::*;
 use bsc_table::Answer;
 use cbsp_wire::Cell;
 use order_desk::{Closed, Desk, DeskFault, Open, Pass, SettleFault, cells_ok};
-use scarce_memory::take_all;
+use test_support::take_all;
 use std::alloc::Global;
 use std::process::Abort;
 use std::sync::Wait;

@@ -4,7 +4,7 @@ use crate::records::{airing, expect_same, idle, tape_with};
 use bsc_table::CellRecord;
 use order_desk::Open;
 use parallel_compile::{CompileFault, compile_all, compile_one, gather};
-use scarce_memory::take_all;
+use test_support::take_all;
 use std::alloc::Global;
 use std::process::Abort;
 use std::test::Fail;

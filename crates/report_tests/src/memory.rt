@@ -6,7 +6,7 @@ use bsc_table::{Answer, CellRecord};
 use device_ends::Sink;
 use handset::Reading;
 use report::{ReportFault, rows, write_report};
-use scarce_memory::take_all;
+use test_support::take_all;
 use std::alloc::Global;
 use std::process::Abort;
 use std::test::Fail;

@@ -8,7 +8,7 @@ use crate::served::*;
 use alert_book::Book;
 use bsc_table::CellRecord;
 use order_desk::{Desk, Pass, SettleFault};
-use scarce_memory::take_all;
+use test_support::take_all;
 use session_check::check_sessions;
 use std::alloc::Global;
 use std::process::Abort;

@@ -1,6 +1,6 @@
 //! A counter with hardly any memory: `new` alone takes some.
 
-use scarce_memory::take_all;
+use test_support::take_all;
 use std::test::Fail;
 use tickets::{Counter, Refused};
 

@@ -3,7 +3,7 @@
 use crate::compile::BOOK;
 use crate::read::worked_tape;
 use device_ends::memory::MemoryReader;
-use scarce_memory::take_all;
+use test_support::take_all;
 use std::io;
 use std::io::Write;
 use std::process::Abort;

@@ -5,7 +5,7 @@ use device_ends::memory::{MemoryReader, MemoryWriter};
 use device_ends::{Sink, Source};
 use order_desk::{DeskFault, Open, SettleFault};
 use parallel_compile::CompileFault;
-use scarce_memory::take_all;
+use test_support::take_all;
 use std::process::Abort;
 use std::sync::Wait;
 use std::test::Fail;

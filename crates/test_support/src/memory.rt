@@ -1,7 +1,5 @@
 //! Scarce memory, for tests that refuse it: takes all that the process may have, so that a call can be tried with what
-//! is given back. Nothing of the program uses it, and no clause stands here: contracts allow any call to be refused
-//! memory, so none can say what is left.
-#![tactic(auto)]
+//! is given back. No clause stands here: contracts allow any call to be refused memory, so none can say what is left.
 
 use std::alloc::Global;
 
