@@ -1,6 +1,8 @@
 #!/usr/bin/env python3
 """Proves and builds warnc: crates that don't stand on each other side by side, each once those below it are proved.
 
+Of the crates that can begin, the one with the longest way to the program begins first: by the seconds that each crate took on this
+machine the last time, which its out/ keeps, else by its lines. A crate that runs alone gets all processors.
 On a terminal one line changes as it goes; elsewhere there is a line for each crate. If a crate isn't proved, the end of what the
 prover said is printed, and the rest is in the named file.
 """
@@ -16,6 +18,8 @@ PROGRAM = "warnc"
 MEMORY = 3 << 30
 # how many lines of a failed check are shown
 SCREEN = 24
+# seconds for each line of a crate that was never built here, and for any crate
+A_LINE, A_CRATE = 0.05, 10
 
 
 def crates_below(name):
@@ -35,41 +39,91 @@ def crates_below(name):
     return found
 
 
+def kept_seconds(crate):
+    return os.path.join(TOP, "crates", crate, "out", "seconds")
+
+
+def lines_of(crate):
+    """Returns how many lines of code, definitions and proofs a crate has."""
+    count = 0
+    for folder, _, files in os.walk(os.path.join(TOP, "crates", crate)):
+        if "/out" not in folder:
+            for file in files:
+                if file.endswith((".rt", ".antt")):
+                    with open(os.path.join(folder, file), "rb") as it:
+                        count += it.read().count(b"\n")
+    return count
+
+
+def seconds_of(crate):
+    """Returns how long a crate is likely to take: as long as the last time, else by its lines."""
+    try:
+        with open(kept_seconds(crate), encoding="ascii") as it:
+            return float(it.read())
+    except (OSError, ValueError):
+        return A_CRATE + A_LINE * lines_of(crate)
+
+
+def longest_ways(below, seconds):
+    """Returns for each crate how long it and the longest chain of crates above it take."""
+    above = {crate: [it for it in below if crate in below[it]] for crate in below}
+    ways = {}
+
+    def way(crate):
+        if crate not in ways:
+            ways[crate] = seconds[crate] + max((way(it) for it in above[crate]), default=0)
+        return ways[crate]
+
+    return {crate: way(crate) for crate in below}
+
+
+def processors():
+    return len(os.sched_getaffinity(0))
+
+
 def lanes():
     """Returns how many checks run at a time: one a processor, and no more than memory holds."""
     with open("/proc/meminfo", encoding="ascii") as lines:
         free = next(int(line.split()[1]) for line in lines if line.startswith("MemAvailable:")) << 10
-    return max(1, min(len(os.sched_getaffinity(0)), free // MEMORY))
+    return max(1, min(processors(), free // MEMORY))
 
 
 class Progress:
     """What is shown as it goes: one line that changes on a terminal, else a line for each crate that is done."""
 
-    def __init__(self, total):
-        self.total = total
+    def __init__(self, seconds):
+        self.seconds = seconds
+        self.done = []
         self.began = time.monotonic()
         self.changes = sys.stderr.isatty()
 
     def minutes(self):
         return f"{(time.monotonic() - self.began) / 60:.1f} min"
 
-    def show(self, done, running):
+    def left(self):
+        """Returns how much is left, in hundredths of the whole."""
+        done = sum(self.seconds[it] for it in self.done)
+        return f"{100 - 100 * done / sum(self.seconds.values()):.0f} % left"
+
+    def show(self, running):
         if self.changes:
-            line = f"warnc: {done} of {self.total} crates proved, {self.minutes()}; now {', '.join(running)}"
+            line = f"warnc: {len(self.done)} of {len(self.seconds)} crates proved, {self.left()}, {self.minutes()}; now {', '.join(running)}"
             print(f"\r\x1b[K{line[:os.get_terminal_size(2).columns - 1]}", end="", file=sys.stderr, flush=True)
 
-    def done(self, crate, done):
+    def add(self, crate):
+        self.done.append(crate)
         if not self.changes:
-            print(f"warnc: {crate} proved, {done} of {self.total}, {self.minutes()}", file=sys.stderr, flush=True)
+            said = f"{crate} proved, {len(self.done)} of {len(self.seconds)}, {self.left()}"
+            print(f"warnc: {said}, {self.minutes()}", file=sys.stderr, flush=True)
 
     def end(self, text):
         front = "\r\x1b[K" if self.changes else ""
         print(f"{front}warnc: {text}, {self.minutes()}", file=sys.stderr, flush=True)
 
 
-def start(crate, folder):
+def start(crate, folder, jobs):
     """Starts the check of a crate, which writes to a file of this folder."""
-    words = ["rt", "run", "--", "--help"] if crate == PROGRAM else ["rt", "lib"]
+    words = ["rt", "run", "--jobs", str(jobs), "--", "--help"] if crate == PROGRAM else ["rt", "lib", "--jobs", str(jobs)]
     with open(os.path.join(folder, crate), "wb") as log:
         return subprocess.Popen(words, cwd=os.path.join(TOP, "crates", crate), stdin=subprocess.DEVNULL, stdout=log, stderr=log)
 
@@ -88,28 +142,44 @@ def explain(crate, folder):
     print(f"warnc: {crate} isn't proved; all that was said is in {os.path.relpath(kept)}", file=sys.stderr)
 
 
+def keep_seconds(crate, seconds):
+    """Keeps how long a crate took, if that was no look at work that was done before."""
+    try:
+        if seconds > A_CRATE or not os.path.exists(kept_seconds(crate)):
+            with open(kept_seconds(crate), "w", encoding="ascii") as it:
+                it.write(f"{seconds:.0f}\n")
+    except OSError:
+        pass
+
+
 def build():
     below = crates_below(PROGRAM)
-    progress = Progress(len(below))
+    seconds = {crate: seconds_of(crate) for crate in below}
+    ways = longest_ways(below, seconds)
+    progress = Progress(seconds)
     print(f"warnc: proving and building {len(below)} crates, which takes minutes the first time", file=sys.stderr, flush=True)
-    left, running, done, room = list(below), {}, set(), lanes()
+    left, running, room = sorted(below, key=lambda it: -ways[it]), {}, lanes()
     with tempfile.TemporaryDirectory(prefix="warnc-build-") as folder:
         while left or running:
-            for crate in [it for it in left if done.issuperset(below[it])][: room - len(running)]:
+            ready = [it for it in left if set(progress.done).issuperset(below[it])][: room - len(running)]
+            # the processors that no other check has, shared by those that begin now
+            jobs = max(1, (processors() - len(running)) // max(1, len(ready)))
+            for crate in ready:
                 left.remove(crate)
-                running[crate] = start(crate, folder)
-            progress.show(len(done), running)
+                running[crate] = (start(crate, folder, jobs), time.monotonic())
+            progress.show(running)
             time.sleep(0.2)
-            for crate in [it for it, check in running.items() if check.poll() is not None]:
-                if running.pop(crate).returncode:
-                    for check in running.values():
-                        check.terminate()
+            for crate in [it for it, (check, _) in running.items() if check.poll() is not None]:
+                check, began = running.pop(crate)
+                if check.returncode:
+                    for other, _ in running.values():
+                        other.terminate()
                     progress.end("the build failed")
                     explain(crate, folder)
                     return 70
-                done.add(crate)
-                progress.done(crate, len(done))
-    progress.end(f"{len(done)} crates proved, and the program built")
+                keep_seconds(crate, time.monotonic() - began)
+                progress.add(crate)
+    progress.end(f"{len(progress.done)} crates proved, and the program built")
     return 0
 
 

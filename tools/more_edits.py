@@ -5,8 +5,13 @@ Edits of different functions are tried together: they are put into one copy of t
 have an open goal. An edit counts as refused only if a goal of its own function stays open. An edit that isn't refused so, or that
 changes more than one function, or a constant or a macro, is tried alone, and is refused if the crate isn't proved with it.
 
-Usage: more_edits.py [--batch N] [CRATE..]     the last line is 'N refused, M not refused'
+Usage: more_edits.py [--batch N] [--lanes N] [--since COMMIT] [CRATE..]
+
+With names of crates, those alone are tried; with --since, those that changed since that commit. docs/gate.md keeps on which commit
+all were tried last: a run of all crates writes it, and so does a run since that commit or one before it. The last line is
+'N refused, M not refused', and the run fails if M is not 0.
 """
+import argparse
 import os
 import re
 import shutil
@@ -14,13 +19,18 @@ import subprocess
 import sys
 import tempfile
 import time
+from concurrent.futures import ThreadPoolExecutor
 
 TOP = os.path.dirname(os.path.dirname(os.path.realpath(__file__)))
 PARTS = ("src", "specs", "proofs")
+# what a check is likely to hold at most, in bytes
+MEMORY = 4 << 30
+GATE = os.path.join(TOP, "docs", "gate.md")
+RECORD = re.compile(r"(?m)^All were last tried on \S+, on commit `(\w+)`: .*$")
 
 
 def read_edit(path):
-    """Returns the pairs (file, old text, new text) of an edit. A text is one line, as it is for those in must-fail."""
+    """Returns the triples (file, old text, new text) of an edit. A text is one line, as it is for those in must-fail."""
     pairs, file, old = [], None, None
     with open(path, encoding="utf-8") as lines:
         for line in lines.read().split("\n"):
@@ -33,6 +43,11 @@ def read_edit(path):
             elif line.strip():
                 raise SystemExit(f"{path}: a text of several lines")
     return pairs
+
+
+def read(folder, file):
+    with open(os.path.join(folder, file), encoding="utf-8") as it:
+        return it.read()
 
 
 def function_at(text, place):
@@ -48,35 +63,36 @@ def function_at(text, place):
 
 
 class Edit:
+    """A wrong body: where it stands, and in which functions of its crate."""
+
     def __init__(self, crate, name):
         self.name = name.removesuffix(".edit")
         self.pairs = read_edit(os.path.join(crate, "more-edits", name))
         self.functions = set()
-        for file, old, _ in self.pairs:
-            with open(os.path.join(crate, file), encoding="utf-8") as it:
-                text = it.read()
-            if text.count(old) != 1 and len(self.pairs) == 1:
-                raise SystemExit(f"{crate}/more-edits/{name}: its 'old:' text stands {text.count(old)} times in {file}")
-            self.functions.add((file, function_at(text, text.find(old)) if old in text else None))
+        texts = {}
+        for file, old, new in self.pairs:
+            text = texts.setdefault(file, read(crate, file))
+            if text.count(old) != 1:
+                raise SystemExit(f"{crate}/more-edits/{name}: an 'old:' text stands {text.count(old)} times in {file}")
+            self.functions.add((file, function_at(text, text.find(old))))
+            texts[file] = text.replace(old, new)
 
     def is_of_one_function(self, crate):
         """Whether all of it is in one function, whose name is the only one of its kind in its file."""
         if len(self.functions) != 1:
             return False
         ((file, name),) = self.functions
-        with open(os.path.join(crate, file), encoding="utf-8") as it:
-            return name is not None and len(re.findall(rf"\bfn {name}\b", it.read())) == 1
+        return name is not None and len(re.findall(rf"\bfn {name}\b", read(crate, file))) == 1
 
-    def apply(self, crate):
-        """Puts the edit into a copy of the crate, and returns whether each of its texts stood there once."""
+    def put_into(self, texts, crate):
+        """Puts the edit into the texts of a crate's files, or returns False where one of its own texts isn't there once."""
+        changed = dict(texts)
         for file, old, new in self.pairs:
-            path = os.path.join(crate, file)
-            with open(path, encoding="utf-8") as it:
-                text = it.read()
+            text = changed.get(file) or read(crate, file)
             if text.count(old) != 1:
                 return False
-            with open(path, "w", encoding="utf-8") as it:
-                it.write(text.replace(old, new))
+            changed[file] = text.replace(old, new)
+        texts.update(changed)
         return True
 
 
@@ -93,14 +109,15 @@ class Room:
             shutil.copytree(os.path.join(TOP, "crates", other), os.path.join(folder, "crates", other), symlinks=True,
                             ignore=None if other == name else shutil.ignore_patterns("incremental"))
 
-    def check(self, edits):
-        """Returns what the prover says of the crate with these edits, None if one of them doesn't fit."""
+    def check(self, texts):
+        """Returns what the prover says of the crate with these texts of files in place of its own."""
         for part in PARTS:
             if os.path.isdir(os.path.join(self.original, part)):
                 shutil.rmtree(os.path.join(self.crate, part))
                 shutil.copytree(os.path.join(self.original, part), os.path.join(self.crate, part))
-        if not all([edit.apply(self.crate) for edit in edits]):
-            return None
+        for file, text in texts.items():
+            with open(os.path.join(self.crate, file), "w", encoding="utf-8") as it:
+                it.write(text)
         ran = subprocess.run(["rt", "check", "--allow-holes"], cwd=self.crate, stdin=subprocess.DEVNULL, stdout=subprocess.PIPE,
                              stderr=subprocess.STDOUT, errors="replace")
         return ran.stdout
@@ -118,48 +135,48 @@ def has_open_goal(said, edit):
 
 
 def batches(crate, edits, size):
-    """Puts edits of different functions together; each that can't share a check stands alone."""
+    """Puts edits of different functions together, and returns these lists and the edits that can't share a check."""
     shared, alone = [], []
     for edit in edits:
         if not edit.is_of_one_function(crate):
-            alone.append([edit])
+            alone.append(edit)
             continue
-        for batch in shared:
-            if len(batch) < size and all(edit.functions.isdisjoint(other.functions) for other in batch):
+        for batch, texts in shared:
+            others = all(edit.functions.isdisjoint(other.functions) for other in batch)
+            if len(batch) < size and others and edit.put_into(texts, crate):
                 batch.append(edit)
                 break
         else:
-            shared.append([edit])
-    return [it for it in shared if len(it) > 1], alone + [it for it in shared if len(it) == 1]
+            texts = {}
+            edit.put_into(texts, crate)
+            shared.append(([edit], texts))
+    return [it for it in shared if len(it[0]) > 1], alone + [it[0][0] for it in shared if len(it[0]) == 1]
 
 
 def is_refused_alone(room, edit):
-    said = room.check([edit])
-    if said is None:
-        return False
-    reached = re.search(r"^(holes=\d+|logic=)", said, re.M) or re.search(r"^fn \S+: ", said, re.M)
-    return bool(reached) and bool(re.search(r"^fn \S+: (no proof|not proved)", said, re.M))
+    texts = {}
+    edit.put_into(texts, room.original)
+    said = room.check(texts)
+    return bool(re.search(r"^fn \S+: (no proof|not proved)", said, re.M))
 
 
 def try_crate(name, size):
+    """Returns how many edits of a crate were refused, and the names of the others."""
     crate = os.path.join(TOP, "crates", name)
-    names = sorted(it for it in os.listdir(os.path.join(crate, "more-edits")) if it.endswith(".edit"))
-    edits = [Edit(crate, it) for it in names]
+    edits = [Edit(crate, it) for it in sorted(os.listdir(os.path.join(crate, "more-edits"))) if it.endswith(".edit")]
     began, refused = time.monotonic(), set()
+    together, alone = batches(crate, edits, size)
     with tempfile.TemporaryDirectory(prefix="more-edits-") as folder:
         room = Room(folder, name)
-        together, alone = batches(crate, edits, size)
-        alone = [batch[0] for batch in alone]
-        for batch in together:
-            said = room.check(batch) or ""
-            for edit in batch:
-                if has_open_goal(said, edit):
-                    refused.add(edit.name)
-                else:
-                    alone.append(edit)
-        for edit in alone:
-            if is_refused_alone(room, edit):
-                refused.add(edit.name)
+        said = room.check({})
+        if not re.search(r"^logic=proved", said, re.M):
+            print(said[-2000:])
+            raise SystemExit(f"{name}: the crate isn't proved as it stands, so no edit says anything")
+        for batch, texts in together:
+            said = room.check(texts)
+            refused.update(edit.name for edit in batch if has_open_goal(said, edit))
+            alone += [edit for edit in batch if edit.name not in refused]
+        refused.update(edit.name for edit in alone if is_refused_alone(room, edit))
     left = [it.name for it in edits if it.name not in refused]
     minutes = (time.monotonic() - began) / 60
     print(f"{name}: {len(refused)} of {len(edits)} refused, {len(together)} batches and {len(alone)} alone, {minutes:.1f} min", flush=True)
@@ -168,17 +185,66 @@ def try_crate(name, size):
     return len(refused), len(left)
 
 
-def main(words):
-    size = 12
-    if words[:1] == ["--batch"]:
-        size, words = int(words[1]), words[2:]
+def lanes():
+    """Returns how many crates are tried at a time: one a processor, and no more than memory holds."""
+    with open("/proc/meminfo", encoding="ascii") as lines:
+        free = next(int(line.split()[1]) for line in lines if line.startswith("MemAvailable:")) << 10
+    return max(1, min(len(os.sched_getaffinity(0)), free // MEMORY))
+
+
+def git(*words):
+    return subprocess.run(["git", *words], cwd=TOP, stdout=subprocess.PIPE, text=True, check=True).stdout.strip()
+
+
+def changed_since(commit):
+    """Returns the crates of which a source, a definition, a proof or an edit has changed since a commit."""
+    paths = git("diff", "--name-only", commit, "--", "crates").split("\n") + git("ls-files", "--others", "--exclude-standard", "crates").split("\n")
+    return {path.split("/")[1] for path in paths if path.count("/") > 2 and path.split("/")[2] in (*PARTS, "more-edits")}
+
+
+def is_whole(words):
+    """Whether a run of these words leaves no edit untried that has changed since all were tried last."""
+    if words.crates:
+        return False
+    if words.since is None:
+        return True
+    last = RECORD.search(read(TOP, GATE))
+    return bool(last) and subprocess.run(["git", "merge-base", "--is-ancestor", words.since, last[1]], cwd=TOP, check=False).returncode == 0
+
+
+def keep_record(count):
+    """Writes into docs/gate.md on which commit all edits were tried."""
+    text = read(TOP, GATE)
+    line = f"All were last tried on {time.strftime('%Y-%m-%d')}, on commit `{git('rev-parse', '--short', 'HEAD')}`: {count} refused, 0 not refused."
+    with open(GATE, "w", encoding="utf-8") as it:
+        it.write(RECORD.sub(line, text))
+
+
+def edits_in_all(names):
+    return sum(it.endswith(".edit") for name in names for it in os.listdir(os.path.join(TOP, "crates", name, "more-edits")))
+
+
+def main():
+    words = argparse.ArgumentParser(description=__doc__, formatter_class=argparse.RawDescriptionHelpFormatter)
+    words.add_argument("--batch", type=int, default=12, help="how many edits share a check at most")
+    words.add_argument("--lanes", type=int, default=lanes(), help="how many crates are tried at a time")
+    words.add_argument("--since", metavar="COMMIT", help="tries the crates that changed since this commit")
+    words.add_argument("crates", metavar="CRATE", nargs="*")
+    words = words.parse_args()
     folder = os.path.join(TOP, "crates")
-    names = words or sorted(it for it in os.listdir(folder) if os.path.isdir(os.path.join(folder, it, "more-edits")))
-    counts = [try_crate(it, size) for it in names]
+    every = sorted(it for it in os.listdir(folder) if os.path.isdir(os.path.join(folder, it, "more-edits")))
+    names = words.crates or every
+    if words.since is not None:
+        changed = changed_since(words.since)
+        names = [it for it in names if it in changed]
+    with ThreadPoolExecutor(words.lanes) as pool:
+        counts = list(pool.map(lambda it: try_crate(it, words.batch), names))
     refused, left = sum(it[0] for it in counts), sum(it[1] for it in counts)
+    if left == 0 and is_whole(words):
+        keep_record(edits_in_all(every))
     print(f"{refused} refused, {left} not refused")
     return 1 if left else 0
 
 
 if __name__ == "__main__":
-    sys.exit(main(sys.argv[1:]))
+    sys.exit(main())
