@@ -19,8 +19,8 @@ use Rattle.order_desk.specs.declared.fault.DeskFault.TheVariants as faults
 use Rattle.order_desk.specs.declared.note.Note.{Note}
 use Rattle.order_desk.specs.Desk.{AreAnswered, HaveAnswered, IsAnswered, IsAtMostPlayed, IsCarriedOut, IsOrderOf}
 use Rattle.order_desk.specs.Desk.{IsRefusedOrder, Line, has_cell}
-use Rattle.order_desk.specs.DeskSteps.{AreCutShort, AreDone, AreDoneBefore, AreHalted, CanBeDone, IsDone, IsErrand}
-use Rattle.order_desk.specs.DeskSteps.{IsPrepared, cell_of}
+use Rattle.order_desk.specs.DeskSteps.{AreCutShort, AreDone, AreDoneBefore, AreHalted, AreStopped, CanBeDone, IsDone}
+use Rattle.order_desk.specs.DeskSteps.{IsErrand, IsPrepared, cell_of}
 use Rattle.order_desk.specs.Reply.{cells_answered, reply_message}
 use Rattle.order_desk.specs.ReplySteps.{HasRoomFor}
 use Rattle.order_desk.specs.declared.order.Order.{Order}
@@ -72,16 +72,33 @@ pub cut_short : (desk : Line) (at : ℕ) (list : List Errand) (n : ℕ) (e : Err
     → n < length list
     → e ≡ get_or list n e
     → AreDone desk at (take n list) answers notes
+    → has_cell desk (cell_of e) ≡ true
     → IsAtMostPlayed desk at (cell_of e) rest
     → AreCutShort desk at list n (notes ++ rest)
-cut_short desk at list n e answers notes rest within is so_far played = record {
+cut_short desk at list n e answers notes rest within is so_far own played = record {
   noted = notes;
   rest = rest;
   errand = e;
   before = record { answers = answers; within = within; done = so_far };
   next = slice_get-get_or list n e within ∙ ap Some (sym is);
+  own = own;
   at_most_played = played;
   notes_are = refl;
+}
+
+-- it was stopped, with nothing noted
+pub stopped : (desk : Line) (at : ℕ) (list : List Errand) (n : ℕ) (e : Errand) (answers : List (Cell × Answer))
+    (notes : List Note)
+    → n < length list
+    → e ≡ get_or list n e
+    → AreDone desk at (take n list) answers notes
+    → has_cell desk (cell_of e) ≡ true
+    → AreStopped desk at list n notes
+stopped desk at list n e answers notes within is so_far own = record {
+  errand = e;
+  before = record { answers = answers; within = within; done = so_far };
+  next = slice_get-get_or list n e within ∙ ap Some (sym is);
+  own = own;
 }
 
 -- a turn of the loop over errands that had an answer
@@ -192,12 +209,24 @@ refused_order desk at octets command list (faults.Memory done) notes order each 
         cell = cell_of halted.errand;
         first = have_answered desk at command list done halted.noted each halted.before;
         next = slice_get-map cell_of list done ∙ ap (option_map cell_of) halted.next;
+        own = halted.own;
         at_most_played = halted.at_most_played;
         notes_are = halted.notes_are;
       },
     )
 refused_order desk at octets command list faults.Unknown notes order each halted =
-    (map cell_of list, command, halted.0, order, have_answered desk at command list halted.0 notes each halted.1)
+    let at_cell = halted.1 in (
+      map cell_of list,
+      command,
+      halted.0,
+      order,
+      record {
+        cell = cell_of at_cell.errand;
+        first = have_answered desk at command list halted.0 notes each at_cell.before;
+        next = slice_get-map cell_of list halted.0 ∙ ap (option_map cell_of) at_cell.next;
+        own = at_cell.own;
+      },
+    )
 refused_order desk at octets command list faults.Full notes order each halted = absurd halted
 refused_order desk at octets command list (faults.Wire fault) notes order each halted = absurd halted
 refused_order desk at octets command list (faults.Cause cause) notes order each halted = absurd halted

@@ -35,8 +35,18 @@ pub given_up : (desk : Line) (at : ℕ) (errand : Errand) (cell : Cell) (place :
     → IsHeld desk cell before
     → IsRunOf before.cell before.slots after
     → IsPlayedFor at before after notes
-    → IsAtMostPlayed desk at (cell_of errand) notes
+    → (has_cell desk (cell_of errand) ≡ true) × IsAtMostPlayed desk at (cell_of errand) notes
 given_up desk at errand cell place command before after notes is can held left played =
     let own = subst (CanBeDone desk) is can in
-    subst (λ e. IsAtMostPlayed desk at (cell_of e) notes) (sym is)
-    (inr (before, after, has_placed desk cell place own.0, held, run_on cell desk.slots before after held left, played))
+    let here = has_placed desk cell place own.0 in
+    subst (λ e. (has_cell desk (cell_of e) ≡ true) × IsAtMostPlayed desk at (cell_of e) notes) (sym is)
+    (here, inr (before, after, here, held, run_on cell desk.slots before after held left, played))
+
+-- an errand to a cell that has a place at the desk is to a cell of the desk
+pub is_to_own : (desk : Line) (errand : Errand) (cell : Cell) (place : ℕ) (command : Command)
+    → errand ≡ errands.Own cell place command
+    → CanBeDone desk errand
+    → has_cell desk (cell_of errand) ≡ true
+is_to_own desk errand cell place command is can =
+    subst (λ e. has_cell desk (cell_of e) ≡ true) (sym is)
+    (has_placed desk cell place (subst (CanBeDone desk) is can).0)

@@ -12,3 +12,4 @@ pub mod Judged
 pub mod SameEntry
 pub mod OwnNotes
 pub mod SortedNotes
+mod Steps

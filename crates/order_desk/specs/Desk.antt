@@ -86,7 +86,8 @@ pub record HaveAnswered (desk : Line) (at : ℕ) (cells : List Cell) (command : 
   pub within : place < length cells
   pub answered : AreAnswered desk at command answers notes
 
--- an order ended while the cell at this place of its list was served: those before it have answered
+-- an order ended while the cell at this place of its list, a cell of the desk, was served: those before it have
+-- answered
 pub record IsCutShort (desk : Line) (at : ℕ) (cells : List Cell) (command : Command) (place : ℕ) (notes : List Note)
     : Type 0 where
   pub noted : List Note
@@ -94,8 +95,18 @@ pub record IsCutShort (desk : Line) (at : ℕ) (cells : List Cell) (command : Co
   pub cell : Cell
   pub first : HaveAnswered desk at cells command place noted
   pub next : slice_get cells place ≡ Some cell
+  pub own : has_cell desk cell ≡ true
   pub at_most_played : IsAtMostPlayed desk at cell rest
   pub notes_are : notes ≡ noted ++ rest
+
+-- an order ended at the cell at this place of its list, a cell of the desk, of which nothing is noted: those before it
+-- have answered
+pub record IsStopped (desk : Line) (at : ℕ) (cells : List Cell) (command : Command) (place : ℕ) (notes : List Note)
+    : Type 0 where
+  pub cell : Cell
+  pub first : HaveAnswered desk at cells command place notes
+  pub next : slice_get cells place ≡ Some cell
+  pub own : has_cell desk cell ≡ true
 
 -- octets are no order, for this fault, or weren't read for want of memory
 abbrev pub IsNoOrder : List ℕ → DeskFault → Type 0
@@ -105,7 +116,8 @@ IsNoOrder octets (faults.Memory done) = (done ≡ 0) × ((m : Message) × IsMess
 IsNoOrder octets faults.Unknown = ⊥
 IsNoOrder octets faults.Full = ⊥
 
--- an order ended with this fault after these notes. A lock that holds a book of another cell ends it at that cell
+-- an order ended with this fault after these notes. A lock that holds a book of another cell ends it at that cell,
+-- which is one of the desk: a cell that isn't of the desk is answered, and the order goes on
 abbrev pub IsRefusedOrder : Line → (at : ℕ) → List ℕ → DeskFault → List Note → Type 0
 IsRefusedOrder desk at octets (faults.Wire fault) notes = IsNoOrder octets (faults.Wire fault) × (notes ≡ [])
 IsRefusedOrder desk at octets (faults.Cause cause) notes = IsNoOrder octets (faults.Cause cause) × (notes ≡ [])
@@ -115,7 +127,7 @@ IsRefusedOrder desk at octets (faults.Memory done) notes =
     × IsOrderOf octets cells command × IsCutShort desk at cells command done notes)
 IsRefusedOrder desk at octets faults.Unknown notes =
     (cells : List Cell) × (command : Command) × (place : ℕ)
-    × IsOrderOf octets cells command × HaveAnswered desk at cells command place notes
+    × IsOrderOf octets cells command × IsStopped desk at cells command place notes
 IsRefusedOrder desk at octets faults.Full notes = ⊥
 
 -- a cell of the desk was played

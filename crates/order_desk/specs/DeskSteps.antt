@@ -19,7 +19,7 @@ use Rattle.order_desk.specs.declared.note.Note.TheVariants.{Full}
 use Rattle.order_desk.specs.declared.order.Halt.{Halt}
 use Rattle.order_desk.specs.declared.order.Halt.TheVariants as halts
 use Rattle.order_desk.specs.declared.order.Order.{Order}
-use Rattle.order_desk.specs.Desk.{IsAtMostPlayed, IsHeld, IsOrderOf, Line}
+use Rattle.order_desk.specs.Desk.{IsAtMostPlayed, IsHeld, IsOrderOf, Line, has_cell}
 use Rattle.order_desk.specs.Notes.{IsAsked, IsServed}
 use Rattle.order_desk.specs.ReplySteps.{HasRoomFor}
 use Rattle.cbsp_wire.specs.Range.{cells_are_valid, is_cell}
@@ -81,11 +81,12 @@ AreDone desk at (e ∷ later) answers notes =
     × (answers ≡ (cell_of e, answer) ∷ others) × (notes ≡ own ++ more)
     × IsDone desk at e answer own × AreDone desk at later others more
 
--- an errand was given up, after these notes: for want of memory after a play at most, or because its lock held a book
--- of another cell
+-- an errand to a cell of the desk was given up, after these notes: because memory ran out after a play at most, or
+-- because the cell's lock held a book of another cell
 abbrev pub IsHalted : Line → (at : ℕ) → Errand → Halt → List Note → Type 0
-IsHalted desk at e halts.Refused notes = IsAtMostPlayed desk at (cell_of e) notes
-IsHalted desk at e halts.WrongBook notes = notes ≡ []
+IsHalted desk at e halts.Refused notes =
+    (has_cell desk (cell_of e) ≡ true) × IsAtMostPlayed desk at (cell_of e) notes
+IsHalted desk at e halts.WrongBook notes = (has_cell desk (cell_of e) ≡ true) × (notes ≡ [])
 
 -- the errands before this place were done, and that is all that was noted
 pub record AreDoneBefore (desk : Line) (at : ℕ) (list : List Errand) (place : ℕ) (notes : List Note) : Type 0 where
@@ -100,13 +101,21 @@ pub record AreCutShort (desk : Line) (at : ℕ) (list : List Errand) (place : �
   pub errand : Errand
   pub before : AreDoneBefore desk at list place noted
   pub next : slice_get list place ≡ Some errand
+  pub own : has_cell desk (cell_of errand) ≡ true
   pub at_most_played : IsAtMostPlayed desk at (cell_of errand) rest
   pub notes_are : notes ≡ noted ++ rest
+
+-- errands ended at the one at this place, to a cell of the desk, of which nothing is noted
+pub record AreStopped (desk : Line) (at : ℕ) (list : List Errand) (place : ℕ) (notes : List Note) : Type 0 where
+  pub errand : Errand
+  pub before : AreDoneBefore desk at list place notes
+  pub next : slice_get list place ≡ Some errand
+  pub own : has_cell desk (cell_of errand) ≡ true
 
 -- errands ended with a fault
 abbrev pub AreHalted : Line → (at : ℕ) → List Errand → DeskFault → List Note → Type 0
 AreHalted desk at list (faults.Memory done) notes = AreCutShort desk at list done notes
-AreHalted desk at list faults.Unknown notes = (place : ℕ) × AreDoneBefore desk at list place notes
+AreHalted desk at list faults.Unknown notes = (place : ℕ) × AreStopped desk at list place notes
 AreHalted desk at list faults.Full notes = ⊥
 AreHalted desk at list (faults.Wire fault) notes = ⊥
 AreHalted desk at list (faults.Cause cause) notes = ⊥

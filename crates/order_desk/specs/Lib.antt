@@ -7,3 +7,4 @@ pub mod ReplySteps
 pub mod Agreement
 pub mod Settled
 pub mod SettleSteps
+pub mod StepLaws

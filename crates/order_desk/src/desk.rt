@@ -87,7 +87,7 @@ impl Desk {
     ///
     /// # Errors
     ///
-    /// `Refused` if memory runs out.
+    /// `Refused` if out of memory.
     pub fn open(alloc: Global, cells: &[Cell], slots: u16) -> Result<Desk, Refused>
         requires { cells_are_valid cells.now ≡ true }
         ensures { IfOk result (λ desk. desk ≡ record { cells = cells.now; slots = slots }) }
@@ -133,7 +133,7 @@ impl Desk {
     ///
     /// # Errors
     ///
-    /// `Refused` if memory runs out; the books are gone then.
+    /// `Refused` if out of memory; the books are gone then.
     pub fn close(self) -> Result<Closed, Refused>
         ensures cells { IfOk result (λ closed. closed.cells ≡ self.cells) }
         ensures slots { IfOk result (λ closed. closed.slots ≡ self.slots) }
@@ -249,9 +249,12 @@ impl Desk {
     /// # Errors
     ///
     /// - `Wire` if the octets are no message, `Cause` if the message is no order (see `orders_of`): nothing is done.
-    /// - `Memory { done }` if memory runs out, with the number of cells of the list that had answered: the next one was
-    ///   at most played, and the others are as they were. All that the call itself takes is taken before the first
-    ///   cell.
+    /// - `Memory { done }` if out of memory, with the number of cells of the list that had answered: the next one, a
+    ///   cell of the desk, was at most played. All that the call itself takes is taken before the first cell.
+    /// - `Unknown` if the lock of a cell of the desk holds the book of another cell or run, which no call leaves there:
+    ///   the cells before it have answered, and nothing of it is noted.
+    ///
+    /// A cell that isn't of the desk is no fault: it is answered cause 03, and the order goes on.
     pub fn order<R: Wait, G: Gate>(
         &self,
         rt: &R,
@@ -288,7 +291,8 @@ impl Desk {
     ///
     /// # Errors
     ///
-    /// `Unknown` if the cell isn't of the desk, `Memory { done: 0 }` if memory runs out; nothing is played then.
+    /// `Unknown` if the cell isn't of the desk, or its lock holds the book of another; `Memory { done: 0 }` if out of
+    /// memory. Nothing is noted then.
     pub fn play<R: Wait, G: Gate>(
         &self,
         rt: &R,
@@ -324,8 +328,8 @@ impl Desk {
     ///
     /// # Errors
     ///
-    /// `Unknown` if the cell isn't of the desk; `Full` if its log has 4,096 entries, which is noted; `Memory { done: 0
-    /// }` if memory runs out, and nothing is entered.
+    /// `Unknown` if the cell isn't of the desk, or its lock holds the book of another; `Full` if its log has 4,096
+    /// entries, which is noted; `Memory { done: 0 }` if out of memory. Nothing is noted with the other two.
     pub fn status<R: Wait, G: Gate>(
         &self,
         rt: &R,

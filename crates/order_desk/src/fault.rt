@@ -16,7 +16,7 @@ pub enum DeskFault {
     /// The message is no order, with this cause (3GPP TS 48.049, 8.2, Cause): see `orders_of`.
     #[error("order was refused")]
     Cause(u8),
-    /// The cell isn't of the desk.
+    /// The cell isn't of the desk, or its lock holds the book of another cell or run, which no call leaves there.
     #[error("order was refused")]
     Unknown,
     /// The cell's log has 4,096 entries.

@@ -1,7 +1,8 @@
-//! Laws of replies.
+//! Laws of replies, and of what is done in cells.
 
 ghost use Rattle.order_desk.specs.ReplyLaws.{AcceptedAreListed, CellsAnswerTheirCommands, OthersAreNotRefused};
 ghost use Rattle.order_desk.specs.ReplyLaws.{RefusalsAreListed, ReplacedAreCounted, StopsAreCounted};
+ghost use Rattle.order_desk.specs.StepLaws.{OrdersAreSteps, PlaysAreSteps, PlaysOfOrdersAreSteps, StatusesAreSteps};
 
 /// What the lists of a reply say of the cells that were asked. It does nothing: its contract is the law.
 pub fn reply_laws()
@@ -20,4 +21,15 @@ pub fn reply_laws()
 
     // What cells answer are answers of which a reply can be made.
     ensures cells_answer_their_commands { CellsAnswerTheirCommands }
+{}
+
+/// What `Desk::order`, `Desk::play` and `Desk::status` do in a cell are steps of the cell, as `steps_of_a_cell` of
+/// bsc_table has them: an order is a play up to its slot and then its command, in one hold of the cell's lock. So
+/// whatever users do at a desk, in whichever order they come to a cell, is a list of its steps. It does nothing: its
+/// contract is the law.
+pub fn desk_steps()
+    ensures orders { OrdersAreSteps }
+    ensures plays_of_orders { PlaysOfOrdersAreSteps }
+    ensures plays { PlaysAreSteps }
+    ensures statuses { StatusesAreSteps }
 {}

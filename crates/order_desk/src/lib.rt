@@ -28,7 +28,7 @@ pub use closed::Closed;
 pub use desk::Desk;
 pub use fault::DeskFault;
 pub use gate::{Gate, Open};
-pub use laws::reply_laws;
+pub use laws::{desk_steps, reply_laws};
 pub use note::{Note, Pass};
 pub use reply::reply_of;
 pub use settle::SettleFault;

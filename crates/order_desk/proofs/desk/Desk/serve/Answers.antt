@@ -1,6 +1,7 @@
-use Rattle.std.proofs.Common.{rules, subst}
+use Rattle.std.proofs.Common.{[], refl, rules, subst, sym}
+use Rattle.std.proofs.lemmas.List.{append-nil}
 use Rattle.order_desk.specs.Notes.{IsRunOf}
-use Rattle.order_desk.proofs.Holding.{given_up}
+use Rattle.order_desk.proofs.Holding.{given_up, is_to_own}
 use Rattle.order_desk.proofs.desk.Desk.serve.Goals as goal
 
 pub returns-clause-halted : goal.returns-clause-halted
@@ -14,3 +15,9 @@ returns-clause-halted g c =
           c.serve.new.book refused.0 c.in-Own.is c.requires.errand held c.serve.ensures.stays refused.1,
       refused.2,
     )
+
+pub returns-then-not-is_of-clause-halted : goal.returns-then-not-is_of-clause-halted
+returns-then-not-is_of-clause-halted g c =
+    let own = is_to_own c.args.self.now c.args.errand c.in-Own.cell c.in-Own.place c.in-Own.command c.in-Own.is
+    c.requires.errand in
+    ([], (own, refl), sym (append-nil c.args.notes.now.items))

@@ -2,10 +2,10 @@ use Rattle.std.proofs.Common.{◌≡◌, ◌++◌, ◌∙◌, List, ap, append_a
 use native.Mathlib.Omega.{arith}
 use Rattle.std.proofs.lemmas.Iterator.Adapters.{YieldsList-from_vec}
 use Rattle.std.proofs.lemmas.Iterator.Consumers.{YieldsList-turn}
-use Rattle.std.proofs.lemmas.List.{length_push}
+use Rattle.std.proofs.lemmas.List.{append-nil, length_push}
 use Rattle.order_desk.specs.declared.note.Note.{Note}
 use Rattle.order_desk.specs.DeskSteps.{AreCutShort, IsHalted}
-use Rattle.order_desk.proofs.Errands.{cut_short, done_turn}
+use Rattle.order_desk.proofs.Errands.{cut_short, done_turn, stopped}
 use Rattle.order_desk.proofs.desk.Desk.serve_all.Goals as goal
 
 pub loop-errand-preserved : goal.loop-errand-preserved
@@ -53,7 +53,28 @@ returns-in-Err-Refused-clause-halted g c =
       subst (λ n. AreCutShort desk c.args.at list n (so_far.0 ++ halted.0))
           (sym (c.len.ensures ∙ c.loop-errand.invariant.count))
           (cut_short desk c.args.at list (length place) c.in-Some.errand c.loop-errand.answers.items so_far.0 halted.0
-          turn.0 turn.1 so_far.1 halted.1),
+          turn.0 turn.1 so_far.1 halted.1.0 halted.1.1),
       halted.2 ∙ ap (λ (n : List Note). n ++ halted.0) so_far.2
           ∙ append_assoc c.args.notes.now.items so_far.0 halted.0,
+    )
+
+pub returns-in-Err-WrongBook-clause-halted : goal.returns-in-Err-WrongBook-clause-halted
+returns-in-Err-WrongBook-clause-halted g c =
+    let turn = YieldsList-turn (YieldsList-from_vec c.args.errands.items
+    (search (rules, c.into_iter-errand-iterator.ensures.into_iter_gives))
+    (search (rules, c.into_iter-errand-iterator.ensures.into_iter_gives))) c.loop-errand.yielded _
+    c.loop-errand.yielded_by _ c.next.new.self c.in-Some.errand c.in-Some.is c.next.ensures.steps in
+    let so_far = c.loop-errand.invariant.so_far in
+    let halted = subst (λ halt. (added : List Note) × IsHalted c.args.self.now c.args.at c.in-Some.errand halt added
+    × (c.serve.new.notes.items ≡ c.loop-errand.notes.items ++ added)) c.in-Err-WrongBook.field-0-is
+    c.in-Err-WrongBook.ensures.halted in (
+      so_far.0,
+      (
+        length c.loop-errand.yielded,
+        stopped c.args.self.now c.args.at c.args.errands.items
+            (length c.loop-errand.yielded) c.in-Some.errand c.loop-errand.answers.items so_far.0 turn.0 turn.1 so_far.1
+            halted.1.0,
+      ),
+      halted.2 ∙ ap (λ (n : List Note). c.loop-errand.notes.items ++ n) halted.1.1
+          ∙ append-nil c.loop-errand.notes.items ∙ so_far.2,
     )
