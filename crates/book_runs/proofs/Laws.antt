@@ -4,7 +4,7 @@ use Rattle.alert_book.specs.Laws.{CellsAreValid, RowsAreFew}
 use Rattle.alert_book.specs.Texts.{TextsAreUtf8}
 use Rattle.alert_book.specs.TurnLaws.{AsksOncePerOrder, RequestsAreWritable, RequestsComeOfOrders}
 use Rattle.bsc_table.specs.Written.{AcceptedAreWrites}
-use Rattle.composition.specs.Composition.{ShownAreTheBroadcast}
+use Rattle.composition.specs.Composition.{CompletedIsWholeInBlocks, ShownAreTheBroadcast}
 use Rattle.composition.specs.Meaning.{AcceptedAreMeant, NoneAfterTheStop, RecordsAreTapes, ReportedIsWholeInBlocks}
 use Rattle.composition.specs.Meaning.{TextsAreThoseOfContents}
 
@@ -14,6 +14,7 @@ pub record Laws : Type 0 where
   pub come_of_orders : RequestsComeOfOrders
   pub accepted_are_writes : AcceptedAreWrites
   pub shown_are_the_broadcast : ShownAreTheBroadcast
+  pub completed_is_whole : CompletedIsWholeInBlocks
   pub accepted_are_meant : AcceptedAreMeant
   pub reported_is_whole : ReportedIsWholeInBlocks
   pub none_after_the_stop : NoneAfterTheStop

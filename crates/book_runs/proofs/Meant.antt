@@ -7,6 +7,7 @@ use Rattle.std.proofs.lemmas.List.Elements.{All-weaker}
 use Rattle.cbs_page.specs.declared.octets.PageView.{PageView}
 use Rattle.scheduler.specs.Air.{Air}
 use Rattle.scheduler.specs.Completed.{completed}
+use Rattle.handset.specs.Counting.{whole_in}
 use Rattle.handset.specs.Reception.{ShownMessage, shown_in}
 use Rattle.handset.specs.Tape.{max_slots}
 use Rattle.alert_book.specs.declared.order.Order.{Order}
@@ -14,9 +15,10 @@ use Rattle.alert_book.specs.Book.{Contents}
 use Rattle.alert_book.specs.Texts.{HasUtf8Text}
 use Rattle.alert_book.specs.TurnLaws.{ComesOf}
 use Rattle.bsc_table.specs.declared.entry.Entry.{Entry}
+use Rattle.bsc_table.specs.Legal.{IsLegal}
 use Rattle.bsc_table.specs.Record.{Accepted, Record, accepted_in}
 use Rattle.cbch_blocks.specs.RecordBlocks.{blocks_of, blocks_of_slot, blocks_of_uses, page_aired}
-use Rattle.composition.specs.Composition.{AreTheBroadcast, blocks_before, message_accepted}
+use Rattle.composition.specs.Composition.{AreTheBroadcast, blocks_before, message_accepted, name_accepted}
 use Rattle.book_runs.specs.Live.{IsRunBy}
 use Rattle.book_runs.specs.LiveLaws.{LiveRunsShowTheBook}
 use Rattle.book_runs.specs.Meant.{IsMeantIn, IsOfOrder}
@@ -68,6 +70,14 @@ none_else book r slot shown texts are k d within =
     (accepted_in r.log) texts one in
     subst (λ (m : ShownMessage). Any (IsOfOrder m) book.orders) (sym both.4.1.1) both.4.0
 
+-- the completed number of an accepted message is that of its whole broadcasts in the blocks
+counted : (laws : Laws) (r : Record) → IsLegal r → blocks_before r.clock r ≡ blocks_of r
+    → All (λ a. whole_in (name_accepted a) (blocks_of r) ≡ completed a.message r.air r.clock) (accepted_in r.log)
+counted laws r legal all k d within =
+    let a = get_or (accepted_in r.log) k d in
+    subst (λ (blocks : List (List ℕ)). whole_in (name_accepted a) blocks ≡ completed a.message r.air r.clock) all
+    (laws.completed_is_whole r legal k d within r.clock (omega arith))
+
 is_meant_in : (laws : Laws) (book : Contents) (slots : ℕ) (exchanges : List Exchange) (r : Record)
     → All HasUtf8Text book.orders → All (IsOrdered book) exchanges → slots ≤ max_slots → HasLogOf slots exchanges r
     → IsMeantIn book r
@@ -85,6 +95,7 @@ is_meant_in laws book slots exchanges r utf8 asked few run =
       all = all;
       shown = shown;
       meant = laws.accepted_are_meant r r.clock legal (omega arith);
+      counted = counted laws r legal all;
       reported = laws.reported_is_whole r legal;
       stopped = λ k d within slot before. laws.none_after_the_stop r slot legal before k d within;
       texts = of_orders;

@@ -10,6 +10,7 @@ returns c =
       come_of_orders = c.session_laws.ensures.come_of_orders;
       accepted_are_writes = c.legal_histories.ensures.accepted_are_writes;
       shown_are_the_broadcast = c.composition_laws.ensures.shown_are_the_broadcast;
+      completed_is_whole = c.composition_laws.ensures.completed_is_whole_in_blocks;
       accepted_are_meant = c.composition_laws.ensures.accepted_are_meant;
       reported_is_whole = c.composition_laws.ensures.reported_is_whole_in_blocks;
       none_after_the_stop = c.composition_laws.ensures.none_after_the_stop;
