@@ -1,3 +1,5 @@
 pub mod Readings
 pub mod Serving
 pub mod Written
+pub mod Asked
+pub mod FirstFault

@@ -1,6 +1,6 @@
 -- What handsets read of the tapes of records, one after the other.
 use Rattle.std.proofs.Common.{◌≡◌, ◌≢◌, ℕ, suc, ◌+◌, ◌<◌, ◌≤◌, ◌∙◌, List, [], ◌∷◌, ◌++◌, length, map, take, get_or}
-use Rattle.std.proofs.Common.{All, Option, ap, append_assoc, sym, subst, refl}
+use Rattle.std.proofs.Common.{All, Option, ap, append_assoc, rules, sym, subst, refl}
 use native.Mathlib.Omega.{arith}
 use Rattle.std.proofs.Math.Seq.{take-suc}
 use Rattle.std.proofs.lemmas.List.{get_or-map, length-map, map-append}
@@ -10,6 +10,7 @@ use Rattle.book_runs.specs.Live.{IsLiveRun}
 use Rattle.book_runs.specs.LiveLaws.{LiveRunsShowTheBook, OneSessionIsARun}
 use Rattle.book_runs.specs.Meant.{IsMeantIn}
 use Rattle.book_runs.specs.Run.{Exchange}
+use Rattle.book_runs.specs.Ordered.{RunsAcceptWhatWasOrdered}
 use Rattle.book_runs.specs.RunLaws.{RunsShowTheBook}
 use Rattle.cbsp_wire.specs.declared.message.Cell.{Cell}
 use Rattle.bsc_table.specs.Record.{Record}
@@ -18,10 +19,13 @@ use Rattle.report.specs.Rows.{AreOfOneCells}
 use Rattle.report.specs.declared.fault.ReportFault.{ReportFault}
 use Rattle.report.specs.declared.fault.ReportFault.TheVariants as report
 use Rattle.report.specs.declared.row.Row.{Row}
-use Rattle.warnc_compile.specs.Compiled.{MakesFront, ReadsBook}
-use Rattle.warnc_compile.specs.RunSteps.{AreRowsOf, HaveRunLive}
+use Rattle.warnc_compile.specs.Compiled.{IsWriteFault, MakesFront, ReadsBook}
+use Rattle.warnc_compile.specs.RunSteps.{AreRowsOf, HaveRunLive, IsOfBook, IsOfBookReport}
+use Rattle.warnc_compile.specs.declared.fault.RunFault.{RunFault}
+use Rattle.warnc_compile.specs.declared.fault.RunFault.TheVariants as run
+use Rattle.warnc_compile.specs.declared.report_run.ReportRunFault.{ReportRunFault}
 use Rattle.warnc_compile.specs.declared.report_run.ReportRunFault.TheVariants as reports
-use Rattle.warnc_compile.proofs.Written.{only}
+use Rattle.warnc_compile.proofs.Written.{fault_of_run, only}
 use Rattle.cbch_blocks.specs.RecordBlocks.{tape_of_record}
 use Rattle.handset.specs.Laws.{TapeIsOneKind}
 use Rattle.handset.specs.Tape.{IsTape, TapeReading}
@@ -102,12 +106,13 @@ only_memory report.WriteFailed records shown readings given is read are differ n
 only_memory report.Refused records shown readings given is read are differ not_written = refl
 
 -- the rows of a run of the book whose octets were read are reported by their text
-pub reported : OneSessionIsARun → RunsShowTheBook → (input : List ℕ) (book : Contents) (slots : ℕ) (rows : List Row)
+pub reported : OneSessionIsARun → RunsShowTheBook → RunsAcceptWhatWasOrdered
+    → (input : List ℕ) (book : Contents) (slots : ℕ) (rows : List Row)
     → slots ≤ 65535
     → IsBook input book
     → AreRowsOf book slots rows
     → IsReported slots input (report_text rows)
-reported one law input book slots rows few is_book are =
+reported one law orders input book slots rows few is_book are =
     let session = only are.live.sessions are.live.parted in
     let run = one book slots session.0 are.records
     (subst (λ (sessions : List (List Exchange)). IsLiveRun book slots sessions are.records) session.1 are.live.run) in
@@ -118,16 +123,49 @@ reported one law input book slots rows few is_book are =
       records = are.records;
       run = run;
       meant = law input book slots session.0 are.records is_book few run;
+      accepted = orders input book slots session.0 are.records is_book run;
       written = ap report_text are.made;
     }
 
 -- a fault of the report after the run
-pub fault_of_report : (Means : (input output : List ℕ) → Type 0) (first last old new : Option (List ℕ))
+pub fault_of_report : (slots : ℕ) (Means : (input output : List ℕ) → Type 0) (first last old new : Option (List ℕ))
     (fault : ReportFault)
     → fault ≢ report.Cells
     → (fault ≡ report.WriteFailed → MakesFront Means first last old new)
     → (fault ≡ report.Refused → ReadsBook first last × Keeps old new)
-    → IsReportRunFault Means first last old new (reports.Report fault)
-fault_of_report Means first last old new report.Cells not front kept = absurd (not refl)
-fault_of_report Means first last old new report.WriteFailed not front kept = front refl
-fault_of_report Means first last old new report.Refused not front kept = kept refl
+    → IsReportRunFault slots Means first last old new (reports.Report fault)
+fault_of_report slots Means first last old new report.Cells not front kept = absurd (not refl)
+fault_of_report slots Means first last old new report.WriteFailed not front kept = front refl
+fault_of_report slots Means first last old new report.Refused not front kept = kept refl
+
+-- a fault of a run under way isn't the writer's
+not_written : (book : Contents) (slots : ℕ) (f : RunFault) → IsOfBook book slots 1 f → IsWriteFault f → ⊥
+not_written book slots (run.Book f) is write = write
+not_written book slots (run.Desk f) is write = write
+not_written book slots (run.Settle f) is write = write
+not_written book slots (run.Compile f) is write = write
+not_written book slots (run.Write failed) is write = is
+not_written book slots run.Refused is write = write
+
+-- a fault under way to the report of a book whose octets were read, with nothing written
+pub fault_of_book_report : (slots : ℕ) (Means : (input output : List ℕ) → Type 0) (first last old new : Option (List ℕ))
+    (book : Contents) (fault : ReportRunFault)
+    → (read : ReadsBook first last)
+    → read.book ≡ book
+    → IsOfBookReport book slots fault
+    → Keeps old new
+    → IsReportRunFault slots Means first last old new fault
+fault_of_book_report slots Means first last old new book (reports.Run f) read is of_book kept =
+    (not_written book slots f of_book, fault_of_run slots 1 Means first last old new book f read is of_book kept)
+fault_of_book_report slots Means first last old new book (reports.Report report.Refused) read is of_book kept =
+    (read, kept)
+fault_of_book_report slots Means first last old new book (reports.Report report.Cells) read is of_book kept =
+    absurd (apart of_book)
+  where
+    apart : report.Cells ≡ report.Refused → ⊥
+    apart h = search (rules, h)
+fault_of_book_report slots Means first last old new book (reports.Report report.WriteFailed) read is of_book kept =
+    absurd (apart of_book)
+  where
+    apart : report.WriteFailed ≡ report.Refused → ⊥
+    apart h = search (rules, h)

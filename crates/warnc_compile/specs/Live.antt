@@ -7,11 +7,13 @@ use Rattle.bsc_table.specs.Record.{Record}
 use Rattle.cbch_blocks.specs.RecordBlocks.{tape_of_record}
 use Rattle.book_runs.specs.Live.{IsLiveRun}
 use Rattle.book_runs.specs.Meant.{IsMeantIn}
+use Rattle.book_runs.specs.Ordered.{AreThoseStarted}
 use Rattle.book_runs.specs.Run.{Exchange}
 
 -- what is written for the octets that were read: they are a book; a run of as many sessions as there are parts gives
--- each cell a record, which shows what the book means; and these are the tapes of the records, in the order of the
--- book's cells, and nothing else
+-- each cell a record, which shows what the book means; each message that a cell accepted is one that an order of the
+-- book had it start, with that order's text, and no other order started one; and these are the tapes of the records, in
+-- the order of the book's cells, and nothing else
 pub record IsLive (slots parts : ℕ) (input output : List ℕ) : Type 0 where
   pub book : Contents
   pub is_book : IsBook input book
@@ -20,4 +22,5 @@ pub record IsLive (slots parts : ℕ) (input output : List ℕ) : Type 0 where
   pub records : List Record
   pub run : IsLiveRun book slots sessions records
   pub meant : All (IsMeantIn book) records
+  pub accepted : All (AreThoseStarted book (flat_map (λ (exchanges : List Exchange). exchanges) sessions)) records
   pub written : output ≡ flat_map tape_of_record records

@@ -7,6 +7,7 @@ use Rattle.cbch_blocks.specs.RecordBlocks.{blocks_of}
 use Rattle.handset.specs.Reception.{shown_in}
 use Rattle.handset.specs.Tape.{TapeReading}
 use Rattle.book_runs.specs.Meant.{IsMeantIn}
+use Rattle.book_runs.specs.Ordered.{AreThoseStarted}
 use Rattle.book_runs.specs.Run.{Exchange, IsRun}
 use Rattle.report.specs.ReportText.{report_text}
 use Rattle.report.specs.Rows.{rows_of}
@@ -20,7 +21,8 @@ abbrev pub reading_of_record : Record → TapeReading
 reading_of_record r = record { cell = r.cell; slots = r.slots; shown = shown_in (blocks_of r) }
 
 -- what is written for the octets that were read: they are a book; its run gives each cell a record, which shows what
--- the book means; and this is the report of the records and of what handsets read of their blocks, and nothing else
+-- the book means; each message that a cell accepted is one that an order of the book had it start; and this is the
+-- report of the records and of what handsets read of their blocks, and nothing else
 pub record IsReported (slots : ℕ) (input output : List ℕ) : Type 0 where
   pub book : Contents
   pub is_book : IsBook input book
@@ -28,6 +30,7 @@ pub record IsReported (slots : ℕ) (input output : List ℕ) : Type 0 where
   pub records : List Record
   pub run : IsRun book slots exchanges records
   pub meant : All (IsMeantIn book) records
+  pub accepted : All (AreThoseStarted book exchanges) records
   pub written : output ≡ report_text (rows_of records (map reading_of_record records))
 
 -- a fault of the writer
@@ -37,10 +40,10 @@ IsReportWriteFault other = ⊥
 
 -- why no report was made: a fault of the run, with nothing written; or memory ran out after it, with nothing written;
 -- or the writer failed with a front of the report. The cells never differ
-abbrev pub IsReportRunFault : (Means : (input output : List ℕ) → Type 0) (first last old new : Option (List ℕ))
-    → ReportRunFault → Type 0
-IsReportRunFault Means first last old new (fault.Run f) =
-    (IsWriteFault f → ⊥) × IsRunFault Means first last old new f
-IsReportRunFault Means first last old new (fault.Report report.Cells) = ⊥
-IsReportRunFault Means first last old new (fault.Report report.WriteFailed) = MakesFront Means first last old new
-IsReportRunFault Means first last old new (fault.Report report.Refused) = ReadsBook first last × Keeps old new
+abbrev pub IsReportRunFault : (slots : ℕ) (Means : (input output : List ℕ) → Type 0)
+    (first last old new : Option (List ℕ)) → ReportRunFault → Type 0
+IsReportRunFault slots Means first last old new (fault.Run f) =
+    (IsWriteFault f → ⊥) × IsRunFault slots 1 Means first last old new f
+IsReportRunFault slots Means first last old new (fault.Report report.Cells) = ⊥
+IsReportRunFault slots Means first last old new (fault.Report report.WriteFailed) = MakesFront Means first last old new
+IsReportRunFault slots Means first last old new (fault.Report report.Refused) = ReadsBook first last × Keeps old new

@@ -21,21 +21,22 @@ use std::thread::Threads;
 
 /// Reads a book, has the cells of a desk carry out what its one session orders, in runs of `slots` slots, settles the
 /// desk, and writes the tapes of the cells, in the order of the book. Nothing is written before all tapes are made.
-/// `workers` workers, 1 to 64, play the cells to the ends of their runs and make the tapes side by side: with any
-/// number of them the same is written.
+/// `workers` workers, 1 to 64, play the cells to the ends of their runs and make the tapes side by side. What is
+/// promised does not depend on their number.
 ///
 /// What was written is what the book means (`IsCompiled`): there is one session, whose messages are those of the book's
 /// rows by the replies that it gets; each cell's log has what the messages order of it, in order, once each and nothing
 /// else, each at the least slot that is neither before its message's nor before the entry before it; each answer is the
 /// one that the cell's log and air give; and a handset that reads the cell's tape is shown exactly the texts of the
 /// orders that the cell accepted and of which a broadcast is whole, once each, with their identifiers and serial
-/// numbers. Each reported number of broadcasts is that of the whole broadcasts in the blocks.
+/// numbers. Each completed number and each reported one is that of the whole broadcasts in the blocks.
 ///
 /// # Errors
 ///
 /// Returns the book's fault, the desk's, the settlement's or [`RunFault::Refused`] with nothing written, and
-/// [`RunFault::Write`] with a front of the tapes written. What a lock of the desk holds is known by its type alone, so
-/// no contract excludes the faults [`RunFault::Desk`] and [`RunFault::Settle`]. With no workers or over 64 it returns
+/// [`RunFault::Write`] with some tapes written whole, and of the one under way as many octets as it names. What a lock
+/// of the desk holds is known by its type alone, so no contract excludes [`RunFault::Desk`] with `Unknown` and
+/// [`RunFault::Settle`]; the desk refuses no order for what it says. With no workers or over 64 it returns
 /// [`RunFault::Compile`] with [`CompileFault::Workers`], before anything is read; it never has [`CompileFault::Piece`].
 pub fn compile_stream<T: AllocGlobal + Threads + Wait + Sync, R: Read, W: Write>(
     rt: &T,
@@ -46,7 +47,7 @@ pub fn compile_stream<T: AllocGlobal + Threads + Wait + Sync, R: Read, W: Write>
 ) -> Result<(), RunFault>
     ensures ok { OnOk result (Makes (IsCompiled slots) (R.remaining (reader_of source.old))
         (R.remaining (reader_of source.new)) (W.contents (writer_of sink.old)) (W.contents (writer_of sink.new))) }
-    ensures fault { IfErr result (IsRunFault (IsCompiled slots) (R.remaining (reader_of source.old))
+    ensures fault { IfErr result (IsRunFault slots 1 (IsCompiled slots) (R.remaining (reader_of source.old))
         (R.remaining (reader_of source.new)) (W.contents (writer_of sink.old)) (W.contents (writer_of sink.new))) }
 
     // The number of workers is judged first.
@@ -64,6 +65,7 @@ pub fn compile_stream<T: AllocGlobal + Threads + Wait + Sync, R: Read, W: Write>
 {
     // A handset is shown what the book means, whatever the cells answered.
     book_runs::run_laws();
+    book_runs::order_laws();
     book_runs::session_laws();
     if workers == 0 || workers > 64 {
         return Err(RunFault::Compile(CompileFault::Workers));

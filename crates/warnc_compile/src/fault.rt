@@ -16,16 +16,16 @@ pub enum RunFault {
     /// The book can't be read, or is refused.
     #[error("{0}")]
     Book(BookFault),
-    /// The desk refused an order of a session.
+    /// The desk ended an order of a session: it was out of memory, or found the book of another cell in a lock.
     #[error("{0}")]
     Desk(DeskFault),
-    /// What the sessions were told isn't what the cells hold.
+    /// What the passes note isn't what the cells hold, or isn't what the sessions ordered.
     #[error("{0}")]
     Settle(SettleFault),
     /// The number of workers isn't one that there can be, or they had no memory.
     #[error("{0}")]
     Compile(CompileFault),
-    /// The writer failed. Some of the tapes may be out: the fault has how many octets of the one under way.
+    /// The writer failed. Some tapes are out whole, and of the one under way as many octets as the fault names.
     #[error("{0}")]
     Write(WriteFailed),
     /// There was no memory.

@@ -33,9 +33,8 @@ use std::thread::Threads;
 ///
 /// # Errors
 ///
-/// Returns the book's fault, that of the desk for the least session that met one, the settlement's or
-/// [`RunFault::Refused`] with nothing written, and [`RunFault::Write`] with a front of the tapes written. With no
-/// workers or over 64 it returns [`RunFault::Compile`] with [`CompileFault::Workers`], before anything is read.
+/// Returns the faults of [`compile_stream`](crate::compile_stream). Of sessions that met a fault of the desk, the least
+/// one's is returned, unless memory runs out.
 pub fn live_stream<T: AllocGlobal + Threads + Wait + Sync, R: Read, W: Write, G: Gate>(
     rt: &T,
     source: &mut Source<R>,
@@ -49,7 +48,7 @@ pub fn live_stream<T: AllocGlobal + Threads + Wait + Sync, R: Read, W: Write, G:
     requires few { sessions ≤ 64 }
     ensures ok { OnOk result (Makes (IsLive slots sessions) (R.remaining (reader_of source.old))
         (R.remaining (reader_of source.new)) (W.contents (writer_of sink.old)) (W.contents (writer_of sink.new))) }
-    ensures fault { IfErr result (IsRunFault (IsLive slots sessions) (R.remaining (reader_of source.old))
+    ensures fault { IfErr result (IsRunFault slots sessions (IsLive slots sessions) (R.remaining (reader_of source.old))
         (R.remaining (reader_of source.new)) (W.contents (writer_of sink.old)) (W.contents (writer_of sink.new))) }
 
     // The number of workers is judged first.

@@ -10,7 +10,7 @@ ghost use Rattle.handset.specs.Tape.{readings_of, IsTape};
 ghost use Rattle.parallel_compile.specs.declared.fault.CompileFault.TheVariants as compile;
 ghost use Rattle.warnc_compile.specs.Compiled.{AreWorkers, Makes};
 ghost use Rattle.warnc_compile.specs.Reported.{reading_of_record, IsReported, IsReportRunFault, IsReportWriteFault};
-ghost use Rattle.warnc_compile.specs.RunSteps.{AreRowsOf, IsOfReport};
+ghost use Rattle.warnc_compile.specs.RunSteps.{AreRowsOf, IsOfBookReport, IsOfReport};
 ghost use Rattle.warnc_compile.specs.declared.fault.RunFault.TheVariants as faults;
 ghost use Rattle.warnc_compile.specs.declared.report_run.ReportRunFault.TheVariants as reports;
 
@@ -74,7 +74,7 @@ impl<T: Drop> From<AllocFailed<T>> for ReportRunFault {
 
 /// Reads a book, runs its cells as [`compile_stream`](crate::compile_stream) does, reads the tapes as handsets do, and
 /// writes a report of what became of each order of each cell, as CSV. Nothing is written before all of it is made.
-/// `workers` workers, 1 to 64, play the cells and make the tapes: with any number of them the same is written.
+/// `workers` workers, 1 to 64, play the cells and make the tapes. What is promised does not depend on their number.
 ///
 /// What was written is the report of what the book means (`IsReported`): of each message that a cell accepted its start
 /// and end, how many of its broadcasts are whole in the blocks, and whether a handset that reads the cell's tape shows
@@ -93,7 +93,7 @@ pub fn report_stream<T: AllocGlobal + Threads + Wait + Sync, R: Read, W: Write>(
 ) -> Result<(), ReportRunFault>
     ensures ok { OnOk result (Makes (IsReported slots) (R.remaining (reader_of source.old))
         (R.remaining (reader_of source.new)) (W.contents (writer_of sink.old)) (W.contents (writer_of sink.new))) }
-    ensures fault { IfErr result (IsReportRunFault (IsReported slots) (R.remaining (reader_of source.old))
+    ensures fault { IfErr result (IsReportRunFault slots (IsReported slots) (R.remaining (reader_of source.old))
         (R.remaining (reader_of source.new)) (W.contents (writer_of sink.old)) (W.contents (writer_of sink.new))) }
 
     // The number of workers is judged first.
@@ -111,6 +111,7 @@ pub fn report_stream<T: AllocGlobal + Threads + Wait + Sync, R: Read, W: Write>(
 {
     // A handset is shown what the book means, whatever the cells answered.
     book_runs::run_laws();
+    book_runs::order_laws();
     book_runs::session_laws();
     if workers == 0 || workers > 64 {
         return Err(ReportRunFault::Run(RunFault::Compile(CompileFault::Workers)));
@@ -137,7 +138,7 @@ fn rows_of_book<T: AllocGlobal + Threads + Wait + Sync>(
     requires some_workers { 0 < workers }
     requires few_workers { workers ≤ 64 }
     ensures ok { IfOk result (λ rows. AreRowsOf book slots rows.items) }
-    ensures err { IfErr result IsOfReport }
+    ensures err { IfErr result (IsOfBookReport book slots) }
 {
     // No book has over 64 cells, and each record gives a tape.
     alert_book::book_laws();

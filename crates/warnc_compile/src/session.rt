@@ -1,6 +1,7 @@
 //! A session of a book at a desk: its orders, and the replies to them.
 
-ghost use Rattle.std.specs.Prelude.{◌<◌, IfErr};
+ghost use Rattle.std.specs.Prelude.{◌<◌, ℕ, IfErr, List};
+ghost use Rattle.alert_book.specs.Book.{IsBook};
 ghost use Rattle.warnc_compile.specs.RunSteps.{IsOfRun};
 
 use crate::fault::RunFault;
@@ -25,11 +26,14 @@ pub(crate) fn serve<R: Wait, G: Gate>(
     pass: &mut Pass,
     gate: &G,
 ) -> Result<(), RunFault>
-    requires { part < parts }
+    requires part { part < parts }
+    requires book { (input : List ℕ) × IsBook input book.now }
     ensures { IfErr result IsOfRun }
 {
-    // Each request leaves fewer that can follow it: a session ends.
+    // Each request leaves fewer that can follow it, so a session ends; and its message is an order, so the desk refuses
+    // none for what it says.
     alert_book::session_laws();
+    cbsp_wire::meaning_law();
     let mut session = Session::new(alloc, book, part, parts)?;
     let mut next = session.next(None)?;
     while let Some((at, octets)) = next {

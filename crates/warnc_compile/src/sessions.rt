@@ -1,7 +1,9 @@
 //! The sessions of a book's parts, side by side.
 
-ghost use Rattle.std.specs.Prelude.{◌≡◌, ◌<◌, vec_len, All, IfErr, IfOk};
-ghost use Rattle.warnc_compile.specs.RunSteps.{IsOfRun};
+ghost use Rattle.std.specs.Prelude.{◌≡◌, ◌⊎◌, ◌<◌, ℕ, map, vec_len, All, IfErr, IfOk, List};
+ghost use Rattle.alert_book.specs.Book.{IsBook};
+ghost use Rattle.warnc_compile.specs.RunSteps.{IsFirstFault, IsOfRun};
+ghost use Rattle.warnc_compile.specs.declared.fault.RunFault.TheVariants as faults;
 
 use crate::fault::RunFault;
 use crate::session::serve;
@@ -48,7 +50,8 @@ fn serve_part<T: AllocGlobal + Wait, G: Gate>(
     job: Job,
     gate: &G,
 ) -> Ended
-    requires { job.part < parts }
+    requires part { job.part < parts }
+    requires book { (input : List ℕ) × IsBook input book.now }
     ensures { IfErr result.done IsOfRun }
 {
     let Job { part, mut pass } = job;
@@ -61,6 +64,10 @@ pub(crate) fn passes_of<T: AllocGlobal>(rt: &T, all: Vec<Ended>) -> Result<Vec<P
     requires { All (λ ended. IfErr ended.done IsOfRun) all.items }
     ensures ok { IfOk result (λ passes. vec_len passes ≡ vec_len all) }
     ensures err { IfErr result IsOfRun }
+
+    // It is the first one's fault, if it isn't memory.
+    ensures first { IfErr result (λ fault. (fault ≡ faults.Refused)
+        ⊎ IsFirstFault (map (λ e. e.done) all.items) fault) }
 {
     let mut passes = Vec::with_capacity(rt.alloc(), all.len())?;
     for ended in all {
@@ -81,6 +88,7 @@ pub(crate) fn served<T: AllocGlobal + Threads + Wait + Sync, G: Gate>(
     parts: u16,
     gate: &G,
 ) -> Result<Vec<Pass>, RunFault>
+    requires { (input : List ℕ) × IsBook input book.now }
     ensures ok { IfOk result (λ passes. vec_len passes ≡ parts) }
     ensures err { IfErr result IsOfRun }
 {
@@ -89,7 +97,8 @@ pub(crate) fn served<T: AllocGlobal + Threads + Wait + Sync, G: Gate>(
         rt,
         jobs,
         &|job: Job| -> Ended
-            requires { job.part < parts }
+            requires part { job.part < parts }
+            requires book { (input : List ℕ) × IsBook input book.now }
             ensures { IfErr result.done IsOfRun }
         { serve_part(rt, book, parts, desk, job, gate) },
     )?;

@@ -3,7 +3,7 @@
 ghost use Rattle.std.specs.Prelude.{◌≡◌, ◌<◌, ◌≤◌, ℕ, List, length, IfErr, IfOk};
 ghost use Rattle.alert_book.specs.Book.{IsBook};
 ghost use Rattle.book_runs.specs.Live.{IsLiveRun};
-ghost use Rattle.warnc_compile.specs.RunSteps.{HaveRunLive, IsOfRun};
+ghost use Rattle.warnc_compile.specs.RunSteps.{HaveRunLive, IsOfBook};
 
 use crate::fault::RunFault;
 use alert_book::Book;
@@ -31,7 +31,7 @@ pub(crate) fn records_of(
     requires some { 0 < parts }
     requires passes { parts ≤ length passes.now }
     ensures ok { IfOk result (λ records. HaveRunLive book.now desk.slots parts records.items) }
-    ensures err { IfErr result IsOfRun }
+    ensures err { IfErr result (IsOfBook book.now desk.slots parts) }
 {
     // What the passes noted is what each cell holds, so the cells hold what the sessions asked.
     book_runs::session_laws();

@@ -3,7 +3,7 @@
 ghost use Rattle.std.specs.Prelude.{◌≡◌, ◌<◌, ◌≤◌, ℕ, List, map, IfErr, IfOk};
 ghost use Rattle.alert_book.specs.Book.{IsBook};
 ghost use Rattle.cbch_blocks.specs.RecordBlocks.{tape_of_record};
-ghost use Rattle.warnc_compile.specs.RunSteps.{AreTapesOf, HaveRunLive, IsOfRun};
+ghost use Rattle.warnc_compile.specs.RunSteps.{AreTapesOf, HaveRunLive, IsOfBook, IsOfRun};
 
 use crate::fault::RunFault;
 use crate::sessions::served;
@@ -32,7 +32,7 @@ pub(crate) fn records_of_book<T: AllocGlobal + Threads + Wait + Sync, G: Gate>(
     requires few { parts ≤ 64 }
     requires few_workers { workers ≤ 64 }
     ensures ok { IfOk result (λ records. HaveRunLive book.now slots parts records.items) }
-    ensures err { IfErr result IsOfRun }
+    ensures err { IfErr result (IsOfBook book.now slots parts) }
 {
     // No book has a cell twice.
     alert_book::book_laws();
@@ -58,7 +58,7 @@ pub(crate) fn tapes_of_book<T: AllocGlobal + Threads + Wait + Sync, G: Gate>(
     requires some_workers { 0 < workers }
     requires few_workers { workers ≤ 64 }
     ensures ok { IfOk result (λ tapes. AreTapesOf book slots parts tapes.items) }
-    ensures err { IfErr result IsOfRun }
+    ensures err { IfErr result (IsOfBook book slots parts) }
 {
     let records = records_of_book(rt, &book, slots, parts, workers, gate)?;
     drop(book);

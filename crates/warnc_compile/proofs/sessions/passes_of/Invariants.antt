@@ -1,5 +1,10 @@
-use Rattle.std.proofs.Common.{◌≡◌, length, vec_len}
+use Rattle.std.proofs.Common.{◌≡◌, IsOk, All, length, take, vec_len}
+use Rattle.warnc_compile.specs.declared.sessions.Ended.{Ended}
 use Rattle.warnc_compile.proofs.sessions.passes_of.Given as goal
 
 abbrev pub invariant-loop-ended : goal.invariant-loop-ended
-invariant-loop-ended g l = vec_len l.passes ≡ length l.yielded
+invariant-loop-ended g l =
+    let done = length l.yielded in record {
+      count : vec_len l.passes ≡ done;
+      none : All (λ (x : Ended). IsOk x.done) (take done l.fn.all.items);
+    }
