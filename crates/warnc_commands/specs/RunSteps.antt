@@ -17,8 +17,7 @@ use Rattle.parallel_compile.specs.declared.fault.CompileFault.{CompileFault}
 use Rattle.parallel_compile.specs.declared.fault.CompileFault.TheVariants as compile
 use Rattle.warnc_compile.specs.declared.fault.RunFault.{RunFault}
 use Rattle.warnc_compile.specs.declared.fault.RunFault.TheVariants as run
-use Rattle.warnc_compile.specs.declared.report_run.ReportRunFault.{ReportRunFault}
-use Rattle.warnc_compile.specs.declared.report_run.ReportRunFault.TheVariants as report_run
+use Rattle.report.specs.declared.fault.ReportFault.{ReportFault}
 use Rattle.report.specs.declared.fault.ReportFault.TheVariants as report
 use Rattle.warnc_engine.specs.declared.read.ReadCommandFault.{ReadCommandFault}
 use Rattle.warnc_engine.specs.declared.read.ReadCommandFault.TheVariants as table
@@ -53,7 +52,7 @@ abbrev pub status_of_compile_fault : CompileFault → ℕ
 status_of_compile_fault compile.Refused = 4
 status_of_compile_fault other = 1
 
--- the status of a fault of `compile` or of `live`: that of the book's fault, of the desk's, of the settlement's or of
+-- the status of a fault of a run: that of the book's fault, of the desk's, of the settlement's or of
 -- the workers', 3 if the writer failed, 4 if there was no memory
 abbrev pub status_of_run_fault : RunFault → ℕ
 status_of_run_fault (run.Book f) = status_of_book_fault f
@@ -63,12 +62,11 @@ status_of_run_fault (run.Compile f) = status_of_compile_fault f
 status_of_run_fault (run.Write failed) = 3
 status_of_run_fault run.Refused = 4
 
--- the status of a fault of `report`: that of its run's fault, and of its own as of a run's
-abbrev pub status_of_report_fault : ReportRunFault → ℕ
-status_of_report_fault (report_run.Run f) = status_of_run_fault f
-status_of_report_fault (report_run.Report report.Cells) = 1
-status_of_report_fault (report_run.Report report.WriteFailed) = 3
-status_of_report_fault (report_run.Report report.Refused) = 4
+-- the status of a fault of a report after its run
+abbrev pub status_of_report_fault : ReportFault → ℕ
+status_of_report_fault report.Cells = 1
+status_of_report_fault report.WriteFailed = 3
+status_of_report_fault report.Refused = 4
 
 -- what a status says of a sink: `old` and `new` are the sink before and after, and `before` and `after` what its writer
 -- holds

@@ -13,7 +13,8 @@ use Rattle.alert_book.specs.declared.fault.BookFaultKind.{BookFaultKind}
 use Rattle.alert_book.specs.declared.fault.BookFaultKind.TheVariants as kinds
 use Rattle.warnc_commands.specs.CommandLine.{asks_for_text, IsCompileOrder, IsLiveOrder, IsPageOrder, IsReadOrder}
 use Rattle.warnc_commands.specs.CommandLine.{IsReportOrder}
-use Rattle.warnc_compile.specs.Compiled.{IsCompiled}
+use Rattle.warnc_compile.specs.declared.fault.RunFault.{RunFault}
+use Rattle.warnc_compile.specs.Compiled.{IsCompiled, StopsRun}
 use Rattle.warnc_compile.specs.Live.{IsLive}
 use Rattle.warnc_compile.specs.Reported.{IsReported}
 use Rattle.warnc_engine.specs.PageOutput.{IsPageFault, IsPageOutput}
@@ -55,10 +56,12 @@ abbrev pub IsNoBook : (input : List ℕ) → Type 0
 IsNoBook input = (max_input < length input)
     ⊎ ((f : BookFault) × IsWrong input f × (status_of_book_fault f ≡ 1))
 
--- or the input is a book, whose run is refused or not settled by the desk. What a lock of the desk holds is known by
--- its type alone, so no contract excludes it
-abbrev pub IsNoRun : (input : List ℕ) → Type 0
-IsNoRun input = IsNoBook input ⊎ ((book : Contents) × IsBook input book)
+-- or the input is a book, whose run, of so many slots and with so many sessions, the desk ends: it finds the book of
+-- another cell in a lock, or isn't settled. What a lock of the desk holds is known by its type alone, so no contract
+-- excludes it
+abbrev pub IsNoRun : (slots parts : ℕ) (input : List ℕ) → Type 0
+IsNoRun slots parts input = IsNoBook input
+    ⊎ ((book : Contents) × IsBook input book × ((fault : RunFault) × StopsRun book slots parts fault))
 
 -- something was written
 abbrev pub WritesSome : (old new : Option (List ℕ)) → Type 0
@@ -135,7 +138,7 @@ pub record RefusesAlerts (words : List (List ℕ)) (input : Option (List ℕ)) :
   pub slots : ℕ
   pub workers : ℕ
   pub asked : IsCompileOrder words slots workers
-  pub refused : IfSome input IsNoRun
+  pub refused : IfSome input (IsNoRun slots 1)
 
 -- the words ask for `live`, and the input is no book or has no run
 pub record RefusesLiveAlerts (words : List (List ℕ)) (input : Option (List ℕ)) : Type 0 where
@@ -143,14 +146,14 @@ pub record RefusesLiveAlerts (words : List (List ℕ)) (input : Option (List ℕ
   pub sessions : ℕ
   pub workers : ℕ
   pub asked : IsLiveOrder words slots sessions workers
-  pub refused : IfSome input IsNoRun
+  pub refused : IfSome input (IsNoRun slots sessions)
 
 -- the words ask for `report`, and the input is no book or has no run
 pub record RefusesReportedAlerts (words : List (List ℕ)) (input : Option (List ℕ)) : Type 0 where
   pub slots : ℕ
   pub workers : ℕ
   pub asked : IsReportOrder words slots workers
-  pub refused : IfSome input IsNoRun
+  pub refused : IfSome input (IsNoRun slots 1)
 
 abbrev pub RefusesInput : (words : List (List ℕ)) (input : Option (List ℕ)) → Type 0
 RefusesInput words input =

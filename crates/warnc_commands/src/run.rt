@@ -213,7 +213,7 @@ fn run_compile<T: AllocGlobal + Threads + Wait + Sync, R: Read, W: Write, F: Wri
         (R.remaining (reader_of source.old)) (W.contents (writer_of sink.old)) (W.contents (writer_of sink.new)) }
     ensures any_device { IsRunBetween result source.new sink.old sink.new
         (W.contents (writer_of sink.old)) (W.contents (writer_of sink.new)) }
-    ensures refused { result ≡ REFUSED_INPUT → IfSome (R.remaining (reader_of source.old)) IsNoRun }
+    ensures refused { result ≡ REFUSED_INPUT → IfSome (R.remaining (reader_of source.old)) (IsNoRun slots 1) }
 {
     match compile_stream(rt, source, sink, slots, u64::from(workers)) {
         Ok(()) => DONE,
@@ -242,7 +242,8 @@ fn run_live<T: AllocGlobal + Threads + Wait + Sync, R: Read, W: Write, F: Write>
         (R.remaining (reader_of source.old)) (W.contents (writer_of sink.old)) (W.contents (writer_of sink.new)) }
     ensures any_device { IsRunBetween result source.new sink.old sink.new
         (W.contents (writer_of sink.old)) (W.contents (writer_of sink.new)) }
-    ensures refused { result ≡ REFUSED_INPUT → IfSome (R.remaining (reader_of source.old)) IsNoRun }
+    ensures refused { result ≡ REFUSED_INPUT → IfSome (R.remaining (reader_of source.old))
+        (IsNoRun slots sessions) }
 {
     match live_stream(rt, source, sink, slots, sessions, u64::from(workers), &Open) {
         Ok(()) => DONE,
@@ -269,30 +270,33 @@ fn run_report<T: AllocGlobal + Threads + Wait + Sync, R: Read, W: Write, F: Writ
     ensures any_device { IsRunBetween result source.new sink.old sink.new
         (W.contents (writer_of sink.old)) (W.contents (writer_of sink.new)) }
     ensures wrote { result ≡ DONE → WritesSome (W.contents (writer_of sink.old)) (W.contents (writer_of sink.new)) }
-    ensures refused { result ≡ REFUSED_INPUT → IfSome (R.remaining (reader_of source.old)) IsNoRun }
+    ensures refused { result ≡ REFUSED_INPUT → IfSome (R.remaining (reader_of source.old)) (IsNoRun slots 1) }
 {
     match report_stream(rt, source, sink, slots, u64::from(workers)) {
         Ok(()) => DONE,
-        Err(fault) => {
+        Err(ReportRunFault::Run(fault)) => {
+            let _ = writeln!(faults, "warnc: {fault}");
+            status_of_run(fault)
+        }
+        Err(ReportRunFault::Report(fault)) => {
             let _ = writeln!(faults, "warnc: {fault}");
             status_of_report(fault)
         }
     }
 }
 
-/// The status of a fault of `report`.
-fn status_of_report(fault: ReportRunFault) -> u8
+/// The status of a fault of a report after its run.
+fn status_of_report(fault: ReportFault) -> u8
     ensures { result ≡ status_of_report_fault fault }
 {
     match fault {
-        ReportRunFault::Run(fault) => status_of_run(fault),
-        ReportRunFault::Report(ReportFault::Cells) => REFUSED_INPUT,
-        ReportRunFault::Report(ReportFault::WriteFailed) => DEVICE,
-        ReportRunFault::Report(ReportFault::Refused) => MEMORY,
+        ReportFault::Cells => REFUSED_INPUT,
+        ReportFault::WriteFailed => DEVICE,
+        ReportFault::Refused => MEMORY,
     }
 }
 
-/// The status of a fault of `compile` or of `live`.
+/// The status of a fault of a run, of `compile`, of `live` or of `report`.
 fn status_of_run(fault: RunFault) -> u8
     ensures { result ≡ status_of_run_fault fault }
 {
