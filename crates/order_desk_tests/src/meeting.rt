@@ -1,28 +1,49 @@
-//! Two orders at once: one thread is inside a cell while another orders in the next.
+//! Three orders at once: while one is inside a cell, another order of this cell waits, and one of another cell doesn't.
 
-use crate::orders::*;
-use bsc_table::{Answer, State};
-use cbs_page::Serial;
+use crate::lines::message_of;
+use crate::run::Run;
+use crate::table::expect_each;
 use order_desk::{Desk, Gate, Pass};
+use std::alloc::Global;
 use std::process::Abort;
 use std::sync::Wait;
-use std::sync::atomic::{AtomicU64, Ordering};
+use std::sync::atomic::{AtomicBool, Ordering};
 use std::test::Fail;
 use std::thread;
 use std::thread::Threads;
+use test_support::Words;
 
-/// What the two threads have come to.
+/// For how many turns a thread waits at most for another one.
+const LONGEST: u32 = 1_000_000;
+
+/// For how many turns the first order stays inside its cell once the others have come. An order that doesn't wait for
+/// it is answered by then.
+const STAY: u32 = 100_000;
+
+/// How far one of the other orders has come.
 #[derive(Drop)]
-struct Meeting {
-    entered: AtomicU64,
-    answered: AtomicU64,
-    gave_up: AtomicU64,
+struct Other {
+    asked: AtomicBool,
+    answered: AtomicBool,
 }
 
-/// Whether a flag is set, at once or within a million turns.
-fn is_set(flag: &AtomicU64) -> bool {
-    for _ in 0..1_000_000_u32 {
-        if flag.load(Ordering::SeqCst) == 1 {
+/// What the three orders have come to. The first and the third are of the first cell, the second is of the second.
+#[derive(Drop)]
+struct Meeting {
+    /// The first is inside its cell.
+    entered: AtomicBool,
+    second: Other,
+    third: Other,
+    /// The third was answered while the first was inside.
+    too_early: AtomicBool,
+    /// A thread has waited in vain.
+    gave_up: AtomicBool,
+}
+
+/// Whether a flag is set, at once or within so many turns.
+fn is_set(flag: &AtomicBool, turns: u32) -> bool {
+    for _ in 0..turns {
+        if flag.load(Ordering::SeqCst) {
             return true;
         }
         thread::yield_now();
@@ -31,35 +52,47 @@ fn is_set(flag: &AtomicU64) -> bool {
 }
 
 impl Meeting {
-    /// A meeting that no thread has come to.
+    /// A meeting to which no thread has come.
     fn new() -> Meeting {
         Meeting {
-            entered: AtomicU64::new(0),
-            answered: AtomicU64::new(0),
-            gave_up: AtomicU64::new(0),
+            entered: AtomicBool::new(false),
+            second: Other {
+                asked: AtomicBool::new(false),
+                answered: AtomicBool::new(false),
+            },
+            third: Other {
+                asked: AtomicBool::new(false),
+                answered: AtomicBool::new(false),
+            },
+            too_early: AtomicBool::new(false),
+            gave_up: AtomicBool::new(false),
         }
     }
 
     /// Waits for a flag, and notes if it gives up.
-    fn wait_for(&self, flag: &AtomicU64) {
-        if !is_set(flag) {
-            self.gave_up.store(1, Ordering::SeqCst);
+    fn wait_for(&self, flag: &AtomicBool) {
+        if !is_set(flag, LONGEST) {
+            self.gave_up.store(true, Ordering::SeqCst);
         }
     }
 }
 
 impl Gate for Meeting {
-    /// Whoever is in the first cell stays there until the order in the second was answered.
+    /// The first order stays inside the first cell until the second was answered and the third has come. Then it looks
+    /// for some turns whether the third is answered, which has to wait.
     fn inside(&self, place: u16) {
-        if place == 0 {
-            self.entered.store(1, Ordering::SeqCst);
-            self.wait_for(&self.answered);
+        if place == 0 && !self.entered.load(Ordering::SeqCst) {
+            self.entered.store(true, Ordering::SeqCst);
+            self.wait_for(&self.second.answered);
+            self.wait_for(&self.third.asked);
+            let early = is_set(&self.third.answered, STAY);
+            self.too_early.store(early, Ordering::SeqCst);
         }
     }
 }
 
-/// An order of the first cell.
-fn order_first<T: AllocGlobal + Wait>(
+/// Has an order carried out, and says whether there was a reply.
+fn order<T: AllocGlobal + Wait>(
     rt: &T,
     desk: &Desk,
     pass: &mut Pass,
@@ -69,69 +102,117 @@ fn order_first<T: AllocGlobal + Wait>(
     desk.order(rt, rt.alloc(), pass, 0, octets, meeting).is_ok()
 }
 
-/// An order of the second cell, once the first one's is inside its cell.
-fn order_second<T: AllocGlobal + Wait>(
+/// Does the same once the first order is inside its cell.
+fn order_after<T: AllocGlobal + Wait>(
     rt: &T,
     desk: &Desk,
     pass: &mut Pass,
     octets: &[u8],
     meeting: &Meeting,
+    other: &Other,
 ) -> bool {
     meeting.wait_for(&meeting.entered);
-    let done = order_first(rt, desk, pass, octets, meeting);
-    meeting.answered.store(1, Ordering::SeqCst);
+    other.asked.store(true, Ordering::SeqCst);
+    let done = order(rt, desk, pass, octets, meeting);
+    other.answered.store(true, Ordering::SeqCst);
     done
 }
 
-/// Expects that the first cell's message stands, and what the two passes have noted.
-fn expect_standing<T: AllocGlobal + Wait + Abort>(
+/// Has the second and the third order carried out at once, and says whether there were replies.
+fn order_others<T: AllocGlobal + Threads + Wait + Sync>(
     rt: &T,
     desk: &Desk,
-    first: &mut Pass,
-    second: &Pass,
+    passes: (&mut Pass, &mut Pass),
+    orders: (&[u8], &[u8]),
     meeting: &Meeting,
-) {
-    let serial = Serial::of(0x0010);
-    let status = desk.status(rt, rt.alloc(), first, FIRST, 4370, serial, meeting);
-    assert_eq!(rt; status, Ok(Some((0, State::Standing))));
-    let told = Answer::Told {
-        completed: 0,
-        state: State::Standing,
-    };
-    let started = Answer::Started { slot: 0 };
-    let firsts = [
-        Seen::Event(FIRST, 0, 0, started),
-        Seen::Event(FIRST, 1, 0, told),
-    ];
-    expect_notes(rt, first, &firsts);
-    expect_notes(rt, second, &[Seen::Event(SECOND, 0, 0, started)]);
+) -> bool {
+    let (second, third) = passes;
+    let (two, three) = orders;
+    let (second_done, third_done) = thread::join(
+        rt,
+        || order_after(rt, desk, second, two, meeting, &meeting.second),
+        || order_after(rt, desk, third, three, meeting, &meeting.third),
+    );
+    second_done && third_done
 }
 
-/// Expects that two orders are done while their threads meet.
+/// Has all three orders carried out at once, and says whether there were replies.
+fn order_all<T: AllocGlobal + Threads + Wait + Sync>(
+    rt: &T,
+    run: &mut Run,
+    orders: &[Vec<u8>],
+    meeting: &Meeting,
+) -> bool {
+    let desk = &run.desk;
+    match (run.passes.as_mut_slice(), orders) {
+        ([p, q, r], [one, two, three]) => {
+            let (first_done, others_done) = thread::join(
+                rt,
+                || order(rt, desk, p, one, meeting),
+                || order_others(rt, desk, (q, r), (two, three), meeting),
+            );
+            first_done && others_done
+        }
+        _ => false,
+    }
+}
+
+/// Expects that three orders are carried out while their threads meet.
 fn expect_met<T: AllocGlobal + Threads + Wait + Abort + Sync>(
     rt: &T,
-    desk: &Desk,
-    one: &[u8],
-    two: &[u8],
+    run: &mut Run,
+    orders: &[Vec<u8>],
 ) {
     let meeting = Meeting::new();
-    let mut first = desk.pass();
-    let mut second = desk.pass();
-    let (one_done, two_done) = thread::join(
-        rt,
-        || order_first(rt, desk, &mut first, one, &meeting),
-        || order_second(rt, desk, &mut second, two, &meeting),
+    assert!(rt;
+        order_all(rt, run, orders, &meeting),
+        "there were fewer than three replies"
     );
-    assert!(rt; one_done && two_done);
-    assert_eq!(rt; meeting.gave_up.load(Ordering::SeqCst), 0);
-    expect_standing(rt, desk, &mut first, &second, &meeting);
+    assert!(rt;
+        !meeting.gave_up.load(Ordering::SeqCst),
+        "a thread waited in vain"
+    );
+    assert!(rt;
+        !meeting.too_early.load(Ordering::SeqCst),
+        "two were inside one cell"
+    );
 }
 
+/// Makes the octets of the three orders.
+fn three_orders(alloc: Global) -> Result<Vec<Vec<u8>>, Fail> {
+    let mut orders = Vec::with_capacity(alloc, 3)?;
+    for words in [
+        "write 4370 0010 normal 2 1-1",
+        "write 4370 0010 normal 2 1-2",
+        "write 4371 0020 normal 2 1-1",
+    ] {
+        orders.push(message_of(alloc, &mut Words::of(words))?)?;
+    }
+    Ok(orders)
+}
+
+const DESK: &str = "desk 4 1-1,1-2";
+
+/// The third order's entry comes after the first one's.
+const AFTERWARDS: &str = "
+p asks 1-1 4370 0010 -> Told { completed: 0, state: Standing }
+p note all -> 2 notes
+p note 0 -> 1-1 entry 0 at 0: Started { slot: 0 }
+p note 1 -> 1-1 entry 2 at 0: Told { completed: 0, state: Standing }
+q note all -> 1 notes
+q note 0 -> 1-2 entry 0 at 0: Started { slot: 0 }
+r note all -> 1 notes
+r note 0 -> 1-1 entry 1 at 0: Started { slot: 0 }
+settle p,q,r -> settled 1-1: 4 slots, air of 4, log of 3 1-2: 4 slots, air of 4, log of 1
+";
+
 #[test]
-fn two_cells_are_ordered_at_once(rt: HostRuntime) -> Result<(), Fail> {
-    let one = write_to(rt.alloc(), standing(4370, 0x0010, 2), [FIRST].as_slice())?;
-    let two = write_to(rt.alloc(), standing(4370, 0x0010, 2), [SECOND].as_slice())?;
-    let desk = opened(rt.alloc(), [FIRST, SECOND].as_slice(), 4)?;
-    expect_met(&rt, &desk, &one, &two);
+fn an_order_holds_its_cell_and_no_other(rt: HostRuntime) -> Result<(), Fail> {
+    let orders = three_orders(rt.alloc())?;
+    let mut run = Run::new(rt.alloc())?;
+    let _ = expect_each(&rt, &mut run, DESK)?;
+    expect_met(&rt, &mut run, &orders);
+    let rows = expect_each(&rt, &mut run, AFTERWARDS)?;
+    assert_eq!(&rt; rows, 9);
     Ok(())
 }

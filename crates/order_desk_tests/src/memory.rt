@@ -1,23 +1,18 @@
 //! Orders and settlements with hardly any memory: how far an order came is what its fault, its pass and the books say;
 //! a settlement is refused, or made.
 
-use crate::orders::*;
+use crate::lines::message_of;
+use crate::run::desk_of;
 use bsc_table::Answer;
-use cbsp_wire::Cell;
-use order_desk::{Closed, Desk, DeskFault, Open, Pass, SettleFault, cells_ok};
-use test_support::take_all;
+use order_desk::{Closed, Desk, DeskFault, Note, Open, Pass, SettleFault, cells_ok};
 use std::alloc::Global;
 use std::process::Abort;
 use std::sync::Wait;
 use std::test::Fail;
+use test_support::{Words, take_all};
 
-/// The cells of the desks.
-const CELLS: [Cell; 4] = [
-    Cell { lac: 1, ci: 1 },
-    Cell { lac: 1, ci: 2 },
-    Cell { lac: 1, ci: 3 },
-    Cell { lac: 1, ci: 4 },
-];
+/// How many cells the desks have.
+const CELLS: u16 = 4;
 
 /// The slot of the orders.
 const AT: u16 = 2;
@@ -25,56 +20,65 @@ const AT: u16 = 2;
 /// How many octets each block of the memory has that is given back.
 const BLOCK: usize = 256;
 
-/// How many blocks there are.
-const BLOCKS: usize = 200;
+/// How many blocks there are for the orders.
+const BLOCKS: u16 = 200;
 
-/// Expects the notes of cells that answered in the order of their list, each played before if it was, and that many
-/// answers.
-fn expect_done<T: Abort>(rt: &T, pass: &Pass, done: u16) {
-    let mut answered = 0_usize;
-    for note in pass.notes() {
-        let cell = CELLS.get(answered).copied().unwrap_or(FOREIGN);
-        let one = what_of(note);
-        if one != Seen::Played(cell, 0, AT) {
-            assert_eq!(rt; one, Seen::Event(cell, 0, AT, Answer::Started { slot: AT }));
-            answered = answered.saturating_add(1);
-        }
+/// The desks: their slots, and their cells.
+const DESK: &str = "4 1-1,1-2,1-3,1-4";
+
+/// An order of all these cells.
+const ORDER: &str = "write 4370 0010 normal 2 1-1,1-2,1-3,1-4";
+
+/// Blocks of memory that can be given back one by one.
+fn spare_blocks(alloc: Global, blocks: u16) -> Result<Vec<Vec<u8>>, Fail> {
+    let mut spare: Vec<Vec<u8>> = Vec::with_capacity(alloc, usize::from(blocks))?;
+    for _ in 0..blocks {
+        spare.push(Vec::with_capacity(alloc, BLOCK)?)?;
     }
-    assert_eq!(rt; answered, usize::from(done));
+    Ok(spare)
 }
 
-/// How many cells an order answered before it was refused memory; None if it wasn't.
-fn done_by<T: AllocGlobal + Wait + Abort>(
-    rt: &T,
-    desk: &Desk,
-    pass: &mut Pass,
-    octets: &[u8],
-) -> Option<u16> {
-    match desk.order(rt, rt.alloc(), pass, AT, octets, &Open) {
-        Ok(_reply) => None,
+/// How many cells answered by the notes of a pass: one after the other, each played before if it was.
+fn answered_in<T: Abort>(rt: &T, pass: &Pass) -> u16 {
+    let mut done = 0_u16;
+    for note in pass.notes() {
+        let next = done.saturating_add(1);
+        match note {
+            Note::Played {
+                cell,
+                from: 0,
+                to: AT,
+            } => assert_eq!(rt; cell.ci, next),
+            Note::Event {
+                cell,
+                number: 0,
+                entry,
+            } => {
+                assert_eq!(rt; cell.ci, next);
+                assert_eq!(rt; entry.slot, AT);
+                assert_eq!(rt; entry.answer, Answer::Started { slot: AT });
+                done = next;
+            }
+            _ => assert!(rt; false, "another note"),
+        }
+    }
+    done
+}
+
+/// How many cells an order answered before it was refused memory; None if it wasn't. Expects its pass to say the same.
+fn done_by<T: AllocGlobal + Wait + Abort>(rt: &T, desk: &Desk, octets: &[u8]) -> Option<u16> {
+    let mut pass = desk.pass();
+    match desk.order(rt, rt.alloc(), &mut pass, AT, octets, &Open) {
         Err(DeskFault::Memory { done }) => {
-            expect_done(rt, pass, done);
+            assert_eq!(rt; answered_in(rt, &pass), done);
+            assert!(rt; done > 0 || pass.notes().len() < 2);
             Some(done)
         }
-        Err(_) => {
-            assert!(rt; false, "another fault");
-            None
-        }
+        _ => None,
     }
 }
 
-/// Expects books of which those of the first places have played and answered, and those after the next have not.
-fn expect_books<T: Abort>(rt: &T, closed: &Closed, done: u16) {
-    for (place, book) in closed.books.iter().enumerate() {
-        let entries = usize::from(place < usize::from(done));
-        assert_eq!(rt; book.log().len(), entries);
-        if place != usize::from(done) {
-            assert_eq!(rt; usize::from(book.clock()), entries * usize::from(AT));
-        }
-    }
-}
-
-/// Orders with more and more memory until a cell has answered, and returns how often none had and how many have now.
+/// Orders with more and more memory until a cell has answered. Returns how often none had, and how many have then.
 fn attempts<T: AllocGlobal + Wait + Abort>(
     rt: &T,
     desk: &Desk,
@@ -82,24 +86,13 @@ fn attempts<T: AllocGlobal + Wait + Abort>(
     spare: &mut Vec<Vec<u8>>,
 ) -> (u16, Option<u16>) {
     for refused in 0..BLOCKS {
-        let mut pass = desk.pass();
-        let done = done_by(rt, desk, &mut pass, octets);
+        let done = done_by(rt, desk, octets);
         if done != Some(0) {
-            return (refused as u16, done);
+            return (refused, done);
         }
-        assert!(rt; pass.notes().len() < 2);
         let _ = spare.pop();
     }
     (0, None)
-}
-
-/// Blocks of memory that can be given back one by one.
-fn spare_blocks(alloc: Global, blocks: usize) -> Result<Vec<Vec<u8>>, Fail> {
-    let mut spare: Vec<Vec<u8>> = Vec::with_capacity(alloc, blocks)?;
-    for _ in 0..blocks {
-        spare.push(Vec::with_capacity(alloc, BLOCK)?)?;
-    }
-    Ok(spare)
 }
 
 /// Orders with hardly any memory. Expects that more than four orders had no answer, and returns how many answers the
@@ -118,26 +111,53 @@ fn done_in_drought<T: AllocGlobal + Wait + Abort>(
     Ok(done)
 }
 
+/// Expects books of which the first `done` have played and answered, and those after the next have not.
+fn expect_books<T: Abort>(rt: &T, closed: &Closed, done: u16) {
+    assert_eq!(rt; closed.books.len(), usize::from(CELLS));
+    for book in &closed.books {
+        let before = book.cell().ci <= done;
+        assert_eq!(rt; book.log().len(), usize::from(before));
+        if book.cell().ci != done.saturating_add(1) {
+            assert_eq!(rt; book.clock(), if before { AT } else { 0 });
+        }
+    }
+}
+
 #[test]
 fn an_order_stops_where_memory_ends(rt: HostRuntime) -> Result<(), Fail> {
-    let octets = write_to(rt.alloc(), standing(4370, 0x0010, 2), CELLS.as_slice())?;
-    let desk = opened(rt.alloc(), CELLS.as_slice(), 4)?;
+    let octets = message_of(rt.alloc(), &mut Words::of(ORDER))?;
+    let desk = desk_of(rt.alloc(), &mut Words::of(DESK))?;
     match done_in_drought(&rt, &desk, &octets)? {
         None => assert!(&rt; false, "no order was cut short"),
-        Some(done) => expect_books(&rt, &closed(desk)?, done),
+        Some(done) => expect_books(&rt, &desk.close()?, done),
     }
     Ok(())
 }
 
 /// How many desks are settled at most.
-const DESKS: usize = 40;
+const DESKS: u16 = 40;
 
 /// A closed desk whose cells have answered an order, and the pass that says so.
-fn answered<T: AllocGlobal + Wait + Abort>(rt: &T, octets: &[u8]) -> Result<(Closed, Pass), Fail> {
-    let desk = opened(rt.alloc(), CELLS.as_slice(), 4)?;
+fn answered<T: AllocGlobal + Wait>(rt: &T, octets: &[u8]) -> Result<(Closed, Pass), Fail> {
+    let desk = desk_of(rt.alloc(), &mut Words::of(DESK))?;
     let mut pass = desk.pass();
-    let _ = reply_to(rt, &desk, &mut pass, AT, octets)?;
-    Ok((closed(desk)?, pass))
+    let _ = desk.order(rt, rt.alloc(), &mut pass, AT, octets, &Open)?;
+    Ok((desk.close()?, pass))
+}
+
+/// Desks that answered an order, and as many passes.
+fn all_answered<T: AllocGlobal + Wait>(
+    rt: &T,
+    octets: &[u8],
+    desks: &mut Vec<Closed>,
+    passes: &mut Vec<Pass>,
+) -> Result<(), Fail> {
+    for _ in 0..DESKS {
+        let (desk, pass) = answered(rt, octets)?;
+        desks.push(desk)?;
+        passes.push(pass)?;
+    }
+    Ok(())
 }
 
 /// How many records a settlement gives; None if it was refused memory.
@@ -163,7 +183,7 @@ fn settlements<T: AllocGlobal + Abort>(
     passes: &[Pass],
     taken: &mut Vec<Vec<u8>>,
     spare: &mut Vec<Vec<u8>>,
-) -> (usize, Option<usize>) {
+) -> (u16, Option<usize>) {
     for refused in 0..DESKS {
         let Some(desk) = desks.pop() else {
             return (refused, None);
@@ -180,20 +200,6 @@ fn settlements<T: AllocGlobal + Abort>(
     (DESKS, None)
 }
 
-/// Desks that answered an order, and the pass of the first.
-fn all_answered<T: AllocGlobal + Wait + Abort>(
-    rt: &T,
-    octets: &[u8],
-) -> Result<(Vec<Closed>, Pass), Fail> {
-    let (first, pass) = answered(rt, octets)?;
-    let mut desks = Vec::new(rt.alloc());
-    desks.push(first)?;
-    for _ in 1..DESKS {
-        desks.push(answered(rt, octets)?.0)?;
-    }
-    Ok((desks, pass))
-}
-
 /// Settles desks with hardly any memory. Expects that more than four are refused, and then that one has all records.
 fn expect_settled<T: AllocGlobal + Abort>(
     rt: &T,
@@ -206,15 +212,17 @@ fn expect_settled<T: AllocGlobal + Abort>(
     let (refused, records) = settlements(rt, desks, passes, &mut taken, &mut spare);
     taken.clear();
     assert!(rt; refused > 4);
-    assert_eq!(rt; records, Some(CELLS.len()));
+    assert_eq!(rt; records, Some(usize::from(CELLS)));
     Ok(())
 }
 
 #[test]
 fn a_settlement_is_refused_where_memory_ends(rt: HostRuntime) -> Result<(), Fail> {
-    let octets = write_to(rt.alloc(), standing(4370, 0x0010, 2), CELLS.as_slice())?;
-    let (mut desks, pass) = all_answered(&rt, &octets)?;
+    let octets = message_of(rt.alloc(), &mut Words::of(ORDER))?;
+    let mut desks = Vec::new(rt.alloc());
     let mut passes = Vec::new(rt.alloc());
-    passes.push(pass)?;
+    all_answered(&rt, &octets, &mut desks, &mut passes)?;
+    // the notes of each desk are those of the first one
+    passes.truncate(1);
     expect_settled(&rt, &mut desks, &passes)
 }

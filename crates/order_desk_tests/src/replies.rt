@@ -1,167 +1,141 @@
-//! Replies, worked by hand from the layouts of the elements.
+//! Replies to answers that are given, and lists of cells.
 
-ghost use Rattle.std.specs.Prelude.{◌≡◌, ◌≤◌, [], true, All, IfOk, length};
-ghost use Rattle.bsc_table.specs.declared.command.Category.TheVariants.{Normal};
-ghost use Rattle.bsc_table.specs.declared.command.Command.TheVariants as commands;
+ghost use Rattle.std.specs.Prelude.{◌≡◌, ◌≤◌, true, All, IsTrue, length};
 ghost use Rattle.cbsp_wire.specs.Range.{cells_are_valid};
 ghost use Rattle.order_desk.specs.Reply.{cells_answered, IsAnswerTo};
 
-use bsc_table::{Answer, Category, Command};
-use cbs_page::{Dcs, Serial};
-use cbsp_wire::{Cell, Contents, cause};
+use crate::lines::*;
+use crate::table::expect_rows;
+use bsc_table::{Answer, Command, orders_of};
+use cbsp_wire::{Cell, read};
 use order_desk::{cells_ok, reply_of};
-use std::alloc::{AllocError, Global};
-use std::process::Abort;
+use std::alloc::Global;
 use std::test::Fail;
+use test_support::Words;
 
-/// A write of message 4370 with no page: a reply doesn't depend on what is broadcast.
-fn write_of(alloc: Global, serial: Serial, replaces: Option<Serial>) -> Result<Command, AllocError>
-    ensures { IfOk result
-        (λ command. command ≡ commands.Write 4370 serial replaces Normal 2 0 (record { 0 = 1 }) []) }
+/// Whether a command can get an answer.
+fn can_get(command: &Command, answer: Answer) -> bool
+    ensures { IsTrue result → IsAnswerTo command.now answer }
 {
-    Ok(Command::Write {
-        id: 4370,
-        serial,
-        replaces,
-        category: Category::Normal,
-        period: 2,
-        broadcasts: 0,
-        dcs: Dcs(1),
-        contents: Contents::new(Vec::new(alloc))?,
-    })
+    match (command, answer) {
+        (Command::Write { replaces: None, .. }, Answer::Started { .. } | Answer::Cause(_)) => true,
+        (
+            Command::Write {
+                replaces: Some(_),
+                ..
+            },
+            Answer::Replaced { .. } | Answer::Cause(_),
+        ) => { true }
+        (Command::Kill { .. }, Answer::Stopped { .. } | Answer::Cause(_)) => true,
+        _ => false,
+    }
 }
 
-/// A kill of message 4370.
-fn kill_of(serial: Serial) -> Command
-    ensures { result ≡ commands.Kill 4370 serial }
-{
-    Command::Kill { id: 4370, serial }
+/// The answer that words name.
+fn answer_of(words: &mut Words) -> Result<Answer, Fail> {
+    match words.word() {
+        "started" => Ok(Answer::Started {
+            slot: words.number16()?,
+        }),
+        "replaced" => Ok(Answer::Replaced {
+            slot: words.number16()?.into(),
+            completed: words.number16()?,
+        }),
+        "stopped" => Ok(Answer::Stopped {
+            completed: words.number16()?,
+        }),
+        "cause" => {
+            let cause = words.hex16()?;
+            if cause > 0xFF {
+                return Err(Fail::new("no cause has two octets"));
+            }
+            Ok(Answer::Cause(cause as u8))
+        }
+        _ => Err(Fail::new("no such answer")),
+    }
 }
 
-/// The cell of these codes.
-fn cell(lac: u16, ci: u16) -> Cell
-    ensures { result ≡ record { lac = lac; ci = ci } }
-{
-    Cell { lac, ci }
-}
-
-/// Expects the octets of a reply.
-fn expect_reply<T: AllocGlobal + Abort>(
-    rt: &T,
-    command: &Command,
-    answers: &[(Cell, Answer)],
-    expected: &[u8],
-) -> Result<(), Fail>
+/// The octets of the reply to a command, by the answers of its cells.
+fn reply_text(alloc: Global, command: &Command, answers: &[(Cell, Answer)]) -> Result<String, Fail>
     requires some { 1 ≤ length answers.now }
     requires valid { cells_are_valid (cells_answered answers.now) ≡ true }
     requires answered { All (λ answer. IsAnswerTo command.now answer.1) answers.now }
 {
-    let reply = reply_of(rt.alloc(), command, answers)?;
-    assert_eq!(rt; reply.as_slice(), expected);
-    Ok(())
+    let reply = reply_of(alloc, command, answers)?;
+    Ok(hex::encode(alloc, reply.as_slice())?)
 }
 
-#[test]
-fn a_write_is_done(rt: HostRuntime) -> Result<(), Fail> {
-    let command = write_of(rt.alloc(), Serial::of(0x0010), None)?;
-    let answers = [(cell(1, 1), Answer::Started { slot: 0 })];
-    let expected = [
-        0x02, 0x00, 0x00, 0x0E, 0x0E, 0x11, 0x12, 0x03, 0x00, 0x10, 0x04, 0x00, 0x05, 0x01, 0x00,
-        0x01, 0x00, 0x01,
-    ];
-    expect_reply(&rt, &command, &answers, &expected)
-}
-
-#[test]
-fn a_kill_is_done(rt: HostRuntime) -> Result<(), Fail> {
-    let command = kill_of(Serial::of(0x0010));
-    let answers = [(cell(1, 1), Answer::Stopped { completed: 0 })];
-    let expected = [
-        0x05, 0x00, 0x00, 0x11, 0x0E, 0x11, 0x12, 0x02, 0x00, 0x10, 0x08, 0x00, 0x08, 0x01, 0x00,
-        0x01, 0x00, 0x01, 0x00, 0x00, 0x00,
-    ];
-    expect_reply(&rt, &command, &answers, &expected)
-}
-
-#[test]
-fn a_replacement_is_done_in_one_of_two_cells(rt: HostRuntime) -> Result<(), Fail> {
-    let command = write_of(rt.alloc(), Serial::of(0x0011), Some(Serial::of(0x0010)))?;
-    let answers = [
-        (
-            cell(1, 1),
-            Answer::Replaced {
-                slot: 1,
-                completed: 1,
-            },
+/// The octets of the reply to a command, by the answer of its one cell, or by those of its two.
+fn reply_to(
+    alloc: Global,
+    command: &Command,
+    cells: &[Cell],
+    words: &mut Words,
+) -> Result<String, Fail> {
+    let first = answer_of(words)?;
+    match cells {
+        [one] if can_get(command, first) && cells_ok(&[*one]) => reply_text(
+            alloc,
+            command,
+            &[(*one, first)],
         ),
-        (cell(1, 2), Answer::Cause(cause::BSC_CAPACITY_EXCEEDED)),
-    ];
-    let expected = [
-        0x03, 0x00, 0x00, 0x1D, 0x0E, 0x11, 0x12, 0x03, 0x00, 0x11, 0x02, 0x00, 0x10, 0x09, 0x00,
-        0x06, 0x01, 0x00, 0x01, 0x00, 0x02, 0x06, 0x08, 0x00, 0x08, 0x01, 0x00, 0x01, 0x00, 0x01,
-        0x00, 0x01, 0x00,
-    ];
-    expect_reply(&rt, &command, &answers, &expected)
-}
-
-#[test]
-fn a_replacement_is_refused_everywhere(rt: HostRuntime) -> Result<(), Fail> {
-    let command = write_of(rt.alloc(), Serial::of(0x0011), Some(Serial::of(0x0010)))?;
-    let answers = [
-        (cell(1, 2), Answer::Cause(cause::BSC_CAPACITY_EXCEEDED)),
-        (
-            cell(1, 1),
-            Answer::Cause(cause::MESSAGE_REFERENCE_NOT_IDENTIFIED),
-        ),
-    ];
-    // three numbers of three octets, and a list of 3 octets and two items of 6
-    let expected = [
-        0x03, 0x00, 0x00, 0x18, 0x0E, 0x11, 0x12, 0x03, 0x00, 0x11, 0x02, 0x00, 0x10, 0x09, 0x00,
-        0x0C, 0x01, 0x00, 0x01, 0x00, 0x02, 0x06, 0x01, 0x00, 0x01, 0x00, 0x01, 0x02,
-    ];
-    expect_reply(&rt, &command, &answers, &expected)
-}
-
-#[test]
-fn a_write_is_refused_in_a_foreign_cell(rt: HostRuntime) -> Result<(), Fail> {
-    let command = write_of(rt.alloc(), Serial::of(0x0010), None)?;
-    let answers = [(cell(9, 9), Answer::Cause(cause::CELL_IDENTITY_NOT_VALID))];
-    let expected = [
-        0x03, 0x00, 0x00, 0x0F, 0x0E, 0x11, 0x12, 0x03, 0x00, 0x10, 0x09, 0x00, 0x06, 0x01, 0x00,
-        0x09, 0x00, 0x09, 0x03,
-    ];
-    expect_reply(&rt, &command, &answers, &expected)
-}
-
-#[test]
-fn a_kill_is_refused_in_one_of_two_cells(rt: HostRuntime) -> Result<(), Fail> {
-    let command = kill_of(Serial::of(0x0010));
-    let answers = [
-        (
-            cell(1, 1),
-            Answer::Cause(cause::MESSAGE_REFERENCE_NOT_IDENTIFIED),
-        ),
-        (cell(1, 2), Answer::Stopped { completed: 258 }),
-    ];
-    // 3 + 3 octets of numbers, 9 of failures, 11 of completed broadcasts
-    let expected = [
-        0x06, 0x00, 0x00, 0x1A, 0x0E, 0x11, 0x12, 0x02, 0x00, 0x10, 0x09, 0x00, 0x06, 0x01, 0x00,
-        0x01, 0x00, 0x01, 0x02, 0x08, 0x00, 0x08, 0x01, 0x00, 0x01, 0x00, 0x02, 0x01, 0x02, 0x00,
-    ];
-    expect_reply(&rt, &command, &answers, &expected)
-}
-
-#[test]
-fn cells_are_at_most_64_and_distinct(rt: HostRuntime) -> Result<(), Fail> {
-    let mut cells = Vec::new(rt.alloc());
-    for ci in 0..64 {
-        cells.push(cell(1, ci))?;
+        [one, other] => {
+            let second = answer_of(words)?;
+            if can_get(command, first) && can_get(command, second) && cells_ok(&[*one, *other]) {
+                reply_text(alloc, command, &[(*one, first), (*other, second)])
+            } else {
+                Err(Fail::new("the command can't get this answer"))
+            }
+        }
+        _ => Err(Fail::new("the command can't get this answer")),
     }
-    assert!(&rt; cells_ok(&cells));
-    cells.push(cell(1, 64))?;
-    assert!(&rt; !cells_ok(&cells));
-    assert!(&rt; !cells_ok(&[cell(1, 2), cell(2, 1), cell(1, 2)]));
-    assert!(&rt; cells_ok(&[cell(1, 2), cell(2, 1), cell(2, 2)]));
-    assert!(&rt; cells_ok(&[]));
-    Ok(())
+}
+
+/// The octets of the reply to an order, by the answers of its cells. The words: the order, and the answers.
+pub fn replied(alloc: Global, words: &mut Words) -> Result<String, Fail> {
+    let octets = message_of(alloc, words)?;
+    let message = read(alloc, &octets)?;
+    match orders_of(message) {
+        Ok((cells, command)) => reply_to(alloc, &command, &cells, words),
+        Err(_) => Err(Fail::new("no order")),
+    }
+}
+
+/// Whether a desk may have these cells. The words: the cells, `none`, or `1-0..` and how many there are from 1-0 on.
+pub fn cells_text(alloc: Global, words: &mut Words) -> Result<String, Fail> {
+    let cells = match words.word() {
+        "none" => Vec::new(alloc),
+        "1-0.." => many_cells(alloc, words.number16()?)?,
+        word => cells_of(alloc, word)?,
+    };
+    let text = if cells_ok(&cells) { "right" } else { "wrong" };
+    Ok(String::from_str(alloc, text)?)
+}
+
+/// Worked by hand from the layouts of the elements.
+const REPLIES: &str = "
+reply write 4370 0010 normal 2 1-1 started 0 -> 0200000e0e11120300100400050100010001
+reply write 4370 0010 normal 2 9-9 cause 03 -> 0300000f0e1112030010090006010009000903
+reply kill 4370 0010 1-1 stopped 0 -> 050000110e11120200100800080100010001000000
+
+# 3 + 3 octets of numbers, 9 of failures, 11 of completed broadcasts
+reply kill 4370 0010 1-1,1-2 cause 02 stopped 258 -> 0600001a0e11120200100900060100010001020800080100010002010200
+
+# A replacement in two cells: three numbers of three octets, and lists of what was refused and of what was completed.
+reply replace 4370 0010 0011 normal 2 1-1,1-2 replaced 1 1 cause 06 -> \
+    0300001d0e11120300110200100900060100010002060800080100010001000100
+reply replace 4370 0010 0011 normal 2 1-2,1-1 cause 06 cause 02 -> \
+    030000180e111203001102001009000c010001000206010001000102
+
+# A desk has at most 64 cells, and none twice.
+cells 1-0.. 64 -> right
+cells 1-0.. 65 -> wrong
+cells 1-2,2-1,1-2 -> wrong
+cells 1-2,2-1,2-2 -> right
+cells none -> right
+";
+
+#[test]
+fn a_reply_says_what_each_cell_answered(rt: HostRuntime) -> Result<(), Fail> {
+    expect_rows(&rt, REPLIES)
 }

@@ -1,0 +1,135 @@
+//! What the words of a row name: cells, and messages of the warning centre as octets.
+
+use cbs_page::{Content, Dcs, Serial};
+use cbsp_wire::{Cell, Cells, Contents, Message, write};
+use std::alloc::Global;
+use std::test::Fail;
+use test_support::{Words, octets_of};
+
+/// A page.
+const PAGE: Content = Content {
+    used: 1,
+    octets: [0x0D; 82],
+};
+
+/// The cell of a word: location area code and cell identity, as `1-2`.
+pub fn cell_of(word: &str) -> Result<Cell, Fail> {
+    let mut cell = Cell { lac: 0, ci: 0 };
+    for octet in word.as_bytes() {
+        match *octet {
+            b'-' if cell.lac == 0 => {
+                cell = Cell {
+                    lac: cell.ci,
+                    ci: 0,
+                };
+            }
+            b'0'..=b'9' => {
+                let digit = u16::from(*octet - b'0');
+                cell.ci = cell.ci.saturating_mul(10).saturating_add(digit);
+            }
+            _ => return Err(Fail::new("no cell")),
+        }
+    }
+    if cell.lac == 0 {
+        return Err(Fail::new("no location area"));
+    }
+    Ok(cell)
+}
+
+/// The cells of a word: `1-1,1-2`.
+pub fn cells_of(alloc: Global, word: &str) -> Result<Vec<Cell>, Fail> {
+    let mut cells = Vec::new(alloc);
+    for part in word.split(',') {
+        cells.push(cell_of(part)?)?;
+    }
+    Ok(cells)
+}
+
+/// So many cells of location area 1, from 1-0 on.
+pub fn many_cells(alloc: Global, count: u16) -> Result<Vec<Cell>, Fail> {
+    let mut cells = Vec::new(alloc);
+    for ci in 0..count {
+        cells.push(Cell { lac: 1, ci })?;
+    }
+    Ok(cells)
+}
+
+/// The octets of a message.
+fn written(alloc: Global, message: &Message) -> Result<Vec<u8>, Fail> {
+    Ok(write(alloc, message)?)
+}
+
+/// The contents of one page.
+fn one_page(alloc: Global) -> Result<Contents, Fail> {
+    Ok(Contents::new(Vec::from_slice(alloc, [PAGE].as_slice())?)?)
+}
+
+/// The category of a word (3GPP TS 48.049, 8.2).
+fn category_of(word: &str) -> Result<u8, Fail> {
+    match word {
+        "high" => Ok(0),
+        "background" => Ok(1),
+        "normal" => Ok(2),
+        _ => Err(Fail::new("no category")),
+    }
+}
+
+/// The octets of a WRITE-REPLACE of one page that is broadcast until it is stopped, and replaces the message of this
+/// serial number. The words: the serial number, the category, the period, and the cells.
+fn write_of(
+    alloc: Global,
+    old_serial: Option<Serial>,
+    id: u16,
+    words: &mut Words,
+) -> Result<Vec<u8>, Fail> {
+    let new_serial = Serial::of(words.hex16()?);
+    let category = Some(category_of(words.word())?);
+    let period = words.number16()?;
+    let list = cells_of(alloc, words.word())?;
+    let message = Message::Write {
+        id,
+        new_serial,
+        old_serial,
+        cells: Cells { list },
+        channel: None,
+        category,
+        period,
+        broadcasts: 0,
+        dcs: Dcs(0x01),
+        contents: one_page(alloc)?,
+    };
+    written(alloc, &message)
+}
+
+/// The octets of a KILL. The words: the identifier, the serial number, and the cells.
+fn kill_of(alloc: Global, words: &mut Words) -> Result<Vec<u8>, Fail> {
+    let id = words.number16()?;
+    let old_serial = Serial::of(words.hex16()?);
+    let list = cells_of(alloc, words.word())?;
+    let message = Message::Kill {
+        id,
+        old_serial,
+        cells: Cells { list },
+        channel: None,
+    };
+    written(alloc, &message)
+}
+
+/// The octets of a message: `write ..`, `replace ..`, `kill ..`, or `octets` and their digits. The identifier comes
+/// first, and in a replacement the serial number of the replaced message after it.
+pub fn message_of(alloc: Global, words: &mut Words) -> Result<Vec<u8>, Fail> {
+    match words.word() {
+        "write" => {
+            let id = words.number16()?;
+            write_of(alloc, None, id, words)
+        }
+        "replace" => {
+            let id = words.number16()?;
+            let old_serial = Some(Serial::of(words.hex16()?));
+            write_of(alloc, old_serial, id, words)
+        }
+        "kill" => kill_of(alloc, words),
+        "octets" => octets_of(alloc, words.word()),
+        _ => Err(Fail::new("no such message")),
+    }
+}

@@ -1,0 +1,186 @@
+//! A desk with three passes, and what its calls answer.
+
+use crate::lines::*;
+use bsc_table::Answer;
+use cbs_page::Serial;
+use cbsp_wire::Cell;
+use order_desk::{Desk, DeskFault, Note, Open, Pass, cells_ok};
+use std::alloc::Global;
+use std::fmt::{Debug, Display};
+use std::mem;
+use std::sync::Wait;
+use std::test::Fail;
+use test_support::Words;
+
+/// A desk, and the passes of its users.
+#[derive(Drop)]
+pub struct Run {
+    /// The desk.
+    pub desk: Desk,
+    /// The passes p, q and r.
+    pub passes: Vec<Pass>,
+}
+
+/// A desk of some cells.
+pub fn opened(alloc: Global, cells: &[Cell], slots: u16) -> Result<Desk, Fail> {
+    if !cells_ok(cells) {
+        return Err(Fail::new("these cells are of no desk"));
+    }
+    Ok(Desk::open(alloc, cells, slots)?)
+}
+
+/// A desk. The words: how many slots it has, and its cells.
+pub fn desk_of(alloc: Global, words: &mut Words) -> Result<Desk, Fail> {
+    let slots = words.number16()?;
+    let cells = cells_of(alloc, words.word())?;
+    opened(alloc, &cells, slots)
+}
+
+/// Three passes without notes.
+pub fn new_passes(alloc: Global, desk: &Desk) -> Result<Vec<Pass>, Fail> {
+    let mut passes = Vec::with_capacity(alloc, 3)?;
+    for _ in 0..3 {
+        passes.push(desk.pass())?;
+    }
+    Ok(passes)
+}
+
+impl Run {
+    /// A run at a desk without cells.
+    pub fn new(alloc: Global) -> Result<Run, Fail> {
+        let desk = opened(alloc, &[], 0)?;
+        let passes = new_passes(alloc, &desk)?;
+        Ok(Run { desk, passes })
+    }
+
+    /// The desk; one without cells takes its place.
+    pub fn taken(&mut self, alloc: Global) -> Result<Desk, Fail> {
+        Ok(mem::replace(&mut self.desk, opened(alloc, &[], 0)?))
+    }
+}
+
+/// A value by its names.
+pub fn shown<D: Debug>(alloc: Global, value: &D) -> Result<String, Fail> {
+    Ok(format!(in alloc; "{value:?}")?)
+}
+
+/// A fault by its names, and what it says.
+pub fn told<F: Debug + Display>(alloc: Global, fault: &F) -> Result<String, Fail> {
+    Ok(format!(in alloc; "{fault:?}: {fault}")?)
+}
+
+/// Orders, and answers the reply, or why there is none. The words: the slot, and a message.
+fn ordered<T: AllocGlobal + Wait>(
+    rt: &T,
+    desk: &Desk,
+    pass: &mut Pass,
+    words: &mut Words,
+) -> Result<String, Fail> {
+    let at = words.number16()?;
+    let octets = message_of(rt.alloc(), words)?;
+    match desk.order(rt, rt.alloc(), pass, at, &octets, &Open) {
+        Ok(reply) => Ok(hex::encode(rt.alloc(), reply.as_slice())?),
+        Err(fault) => told(rt.alloc(), &fault),
+    }
+}
+
+/// Plays. The words: the cell, and how many slots.
+fn played<T: AllocGlobal + Wait>(
+    rt: &T,
+    desk: &Desk,
+    pass: &mut Pass,
+    words: &mut Words,
+) -> Result<String, Fail> {
+    let cell = cell_of(words.word())?;
+    let slots = words.number16()?;
+    match desk.play(rt, rt.alloc(), pass, cell, slots, &Open) {
+        Ok(range) => shown(rt.alloc(), &(range.from..range.to)),
+        Err(fault) => told(rt.alloc(), &fault),
+    }
+}
+
+/// Asks for a status, and if that is of an unknown message, once more until it has asked `times` times. The words: the
+/// cell, the identifier, and the serial number.
+fn asked<T: AllocGlobal + Wait>(
+    rt: &T,
+    desk: &Desk,
+    pass: &mut Pass,
+    times: u64,
+    words: &mut Words,
+) -> Result<String, Fail> {
+    let cell = cell_of(words.word())?;
+    let id = words.number16()?;
+    let serial = Serial::of(words.hex16()?);
+    for _ in 0..times {
+        match desk.status(rt, rt.alloc(), pass, cell, id, serial, &Open) {
+            Ok(None) => {}
+            Ok(Some((completed, state))) => {
+                return shown(rt.alloc(), &Answer::Told { completed, state });
+            }
+            Err(fault) => return told(rt.alloc(), &fault),
+        }
+    }
+    shown(rt.alloc(), &Answer::Unknown)
+}
+
+/// What an answer says.
+fn answer_text(alloc: Global, answer: Answer) -> Result<String, Fail> {
+    match answer {
+        Answer::Cause(cause) => Ok(format!(in alloc; "refused with cause {cause:02X}")?),
+        _ => shown(alloc, &answer),
+    }
+}
+
+/// What a note says.
+fn note_text(alloc: Global, note: &Note) -> Result<String, Fail> {
+    match note {
+        Note::Event {
+            cell,
+            number,
+            entry,
+        } => {
+            let answer = answer_text(alloc, entry.answer)?;
+            let Cell { lac, ci } = *cell;
+            Ok(format!(in alloc; "{lac}-{ci} entry {number} at {}: {answer}", entry.slot)?)
+        }
+        Note::Played { cell, from, to } => {
+            Ok(format!(in alloc; "{}-{} played {from}..{to}", cell.lac, cell.ci)?)
+        }
+        Note::Full { cell } => Ok(format!(in alloc; "{}-{} full", cell.lac, cell.ci)?),
+    }
+}
+
+/// A note of a pass, or how many there are. The word: `all`, or the note's number from 0.
+fn noted(alloc: Global, pass: &Pass, words: &mut Words) -> Result<String, Fail> {
+    let notes = pass.notes();
+    match words.word() {
+        "all" => Ok(format!(in alloc; "{} notes", notes.len())?),
+        place => match notes.get(place.parse::<usize>()?) {
+            Some(note) => note_text(alloc, note),
+            None => Err(Fail::new("there is no such note")),
+        },
+    }
+}
+
+/// Has the pass of a place do what the words say.
+pub fn with_pass<T: AllocGlobal + Wait>(
+    rt: &T,
+    run: &mut Run,
+    place: usize,
+    words: &mut Words,
+) -> Result<String, Fail> {
+    let Some(pass) = run.passes.get_mut(place) else {
+        return Err(Fail::new("no such pass"));
+    };
+    match words.word() {
+        "orders" => ordered(rt, &run.desk, pass, words),
+        "plays" => played(rt, &run.desk, pass, words),
+        "asks" => asked(rt, &run.desk, pass, 1, words),
+        "asks-often" => {
+            let times = words.number()?;
+            asked(rt, &run.desk, pass, times, words)
+        }
+        "note" => noted(rt.alloc(), pass, words),
+        _ => Err(Fail::new("no such action of a pass")),
+    }
+}
