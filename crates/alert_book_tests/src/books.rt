@@ -1,32 +1,252 @@
-//! Books that are read.
+//! Books as tables: what is read, and the line of each fault beside the book mended. docs/formats.md has these rows.
+//!
+//! `|` is the line feed that ends a row, and `%` with two digits an octet that a table can't show.
 
-ghost use Rattle.std.specs.Prelude.{◌<◌};
-
-use crate::reading::read_by;
-use cbsp_wire::Cell;
-use std::process::Abort;
+use crate::books_table::expect_rows;
 use std::test::Fail;
-use std::thread::Threads;
 
-/// A book with two alerts, one of which is updated and stopped.
-const WORKED: &str =
-    "cell,1,1\ncell,1,2\nwrite,0,a,4370,0,1,en,2,2,0,*,One\nwrite,0,b,4371,0,2,en,0,2,65535,1-2,Two\n\
-     update,1,a,en,2,2,0,1-2 1-1,Three\nstop,2,b,1-2\n";
+/// The cells of books, and the fault of each kind, where a read gives few octets.
+const BOOKS: &str = r#"
+most 5
+before cell,1,1|cell,1,2|write,0,a,4370,0,1,en,2,2,0,*,One|write,0,b,4371,0,2,en,0,2,65535,1-2,Two|
+cells_of update,1,a,en,2,2,0,1-2 1-1,Three|stop,2,b,1-2| -> 1-1 1-2
+before
+cells_of cell,1,1||cell,00001,2 -> 1-1 1-2
+cells_of -> none
+cells_of cell,65535,0%0D| -> 65535-0
 
-/// Expects that a book declares these cells.
-fn expect_cells<T: AllocGlobal + Abort + Threads + Sync>(rt: &T, book: &str, cells: &[Cell]) {
-    match read_by(rt, book.as_bytes(), 5) {
-        Ok(book) => assert_eq!(rt; book.cells(), cells),
-        Err(fault) => assert!(rt; false, "{}", fault),
-    }
+most 7
+fault cell,1| -> BookFault { row: 1, kind: Columns }
+fault sell,1,1| -> BookFault { row: 1, kind: Verb }
+fault cell,x,1| -> BookFault { row: 1, kind: Number }
+fault cell,1,1|cell,1,1| -> BookFault { row: 2, kind: TwiceNamed }
+fault write,0,a,4370,0,1,en,2,2,0,*,One| -> BookFault { row: 1, kind: UnknownCell }
+fault stop,0,a,*| -> BookFault { row: 1, kind: UnknownName }
+before cell,1,1|write,0,a,4370,0,1,
+fault en,2,2,0,1-2,One| -> BookFault { row: 2, kind: UnknownCell }
+fault en,2,2,0,1-1 1-1,One| -> BookFault { row: 2, kind: TwiceNamed }
+fault en,2,0,0,*,One| -> BookFault { row: 2, kind: Number }
+fault en,2,1025,0,*,One| -> BookFault { row: 2, kind: Number }
+fault en,3,2,0,*,One| -> BookFault { row: 2, kind: Number }
+fault en,2,2,0,*,| -> BookFault { row: 2, kind: Text(Empty) }
+fault en,2,2,0,*,A%09B| -> BookFault { row: 2, kind: Text(BadCharacter { place: 1 }) }
+# The language of a text is looked at before its characters.
+fault xx,2,2,0,*,| -> BookFault { row: 2, kind: Text(BadLanguage) }
+"#;
+
+/// The line of each fault, and the row mended.
+const ROWS: &str = r#"
+# A book of one row, with no line feed at its end.
+book cell,1 -> row 1: columns
+book cell,1,1 -> read
+book sell,1,1 -> row 1: verb
+book cell,x,1 -> row 1: number
+book cell,1,1,1 -> row 1: columns
+book Cell,1,1 -> row 1: verb
+book %20cell,1,1 -> row 1: verb
+book cell,+1,1 -> row 1: number
+book cell,65536,1 -> row 1: number
+book cell,65535,1 -> read
+book cell,000001,1 -> row 1: number
+book cell,00001,1 -> read
+book write,0,a,4370,0,1,en,2,2,0,*,One -> row 1: unknown cell
+book cell,1,1|write,0,a,4370,0,1,en,2,2,0,*,One| -> read
+book stop,0,a,* -> row 1: unknown name
+book -> read
+
+# A row after a cell and a write.
+before cell,1,1|write,0,a,4370,0,1,en,2,2,0,*,One|
+book cell,1,1| -> row 3: named twice
+book cell,1,2| -> read
+book cell,00001,01| -> row 3: named twice
+book cell,00001,02| -> read
+book cell,1| -> row 3: columns
+book stop,0,b,*| -> row 3: unknown name
+book stop,0,a,*| -> read
+book stop,65536,a,*| -> row 3: number
+book stop,65535,a,*| -> read
+book stop,0,a| -> row 3: columns
+book stop,0,a,1-1| -> read
+book update,0,,en,2,2,0,*,Two| -> row 3: unknown name
+book update,0,a,en,2,2,0,*,Two| -> read
+book update,0,a,en,2,2,0,*,Two,three| -> row 3: columns
+book update,0,a,en,2,2,0,*,"Two,three"| -> read
+book write,0,a,4371,0,1,en,2,2,0,*,Two| -> row 3: named twice
+book write,0,b,4371,0,1,en,2,2,0,*,Two| -> read
+book write,0,,4371,0,1,en,2,2,0,*,Two| -> row 3: unknown name
+book write,0, ,4371,0,1,en,2,2,0,*,Two| -> read
+
+# The columns of a write, from its message identifier on.
+before cell,1,1|write,0,a,
+book 4370,0,1,en,2,2,0,1-2,One| -> row 2: unknown cell
+book 4370,0,1,en,2,2,0,1-1,One| -> read
+book 4370,0,1,en,2,2,0,1-1 1-1,One| -> row 2: named twice
+book 4370,0,1,en,2,2,0,01-1,One| -> read
+book 4370,0,1,en,2,2,0,1/1,One| -> row 2: number
+book 4370,0,1,en,2,2,0,,One| -> row 2: number
+book 4370,0,1,en,2,2,0,*,One| -> read
+book 4370,0,1,en,2,0,0,*,One| -> row 2: number
+book 4370,0,1,en,2,1,0,*,One| -> read
+book 4370,0,1,en,2,1025,0,*,One| -> row 2: number
+book 4370,0,1,en,2,1024,0,*,One| -> read
+book 4370,0,1,en,3,2,0,*,One| -> row 2: number
+book 4370,0,1,en,1,2,0,*,One| -> read
+book 4370,4,1,en,2,2,0,*,One| -> row 2: number
+book 4370,3,1,en,2,2,0,*,One| -> read
+book 4370,0,1024,en,2,2,0,*,One| -> row 2: number
+book 4370,0,1023,en,2,2,0,*,One| -> read
+book 65536,0,1,en,2,2,0,*,One| -> row 2: number
+book 65535,0,1,en,2,2,0,*,One| -> read
+book 4370,0,1,en,2,2,65536,*,One| -> row 2: number
+book 4370,0,1,en,2,2,65535,*,One| -> read
+book 4370,0,1,en,2,2,0,*,| -> row 2: text is empty
+book 4370,0,1,en,2,2,0,*,%20| -> read
+book 4370,0,1,xx,2,2,0,*,One| -> row 2: unknown language
+book 4370,0,1,und,2,2,0,*,One| -> read
+book 4370,0,1,en,2,2,0,*,A%09B| -> row 2: bad character at 1
+book 4370,0,1,en,2,2,0,*,A B| -> read
+book 4370,0,1,en,2,2,0,*,Я🚨| -> row 2: bad character at 1
+book 4370,0,1,en,2,2,0,*,Я!| -> read
+"#;
+
+/// Which fault is told: of one row the first, of several rows that of the first row, and those of texts last.
+const FIRST_FAULTS: &str = r#"
+book sell,%FF,1| -> row 1: columns
+book sell| -> row 1: verb
+book cell,x| -> row 1: columns
+book cell,x,1|sell| -> row 1: number
+book cell,1,1|cell,1,x| -> row 2: number
+book write,x,,65536,9,9,en,9,0,x,,| -> row 1: number
+book write,0,,65536,9,9,en,9,0,x,,| -> row 1: unknown name
+book stop,0,a,| -> row 1: unknown name
+book write,0,a,4370,0,1,xx,2,2,x,1-1,| -> row 1: number
+book write,0,a,4370,0,1,xx,2,2,0,1-1,| -> row 1: unknown cell
+book cell,1,1|write,0,a,4370,0,1,xx,2,2,0,1-2 1-1 1-1 x,| -> row 2: number
+book cell,1,1|write,0,a,4370,0,1,xx,2,2,0,1-1 1-1 1-2,| -> row 2: unknown cell
+book cell,1,1|write,0,a,4370,0,1,xx,2,2,0,1-1 1-1,| -> row 2: named twice
+book cell,1,1|write,0,a,4370,0,1,xx,2,2,0,*,|stop,0,b,*| -> row 3: unknown name
+book cell,1,1|write,0,a,1,0,1,xx,2,2,0,*,|write,0,b,2,0,1,en,2,2,0,*,| -> row 2: unknown language
+"#;
+
+/// What people and spreadsheets write that isn't a book.
+const NO_BOOKS: &str = r#"
+book cell;1;1| -> row 1: verb
+book cell%091%091| -> row 1: verb
+book cell,1,1,,,,,,,,,| -> row 1: columns
+book cell, 1,1| -> row 1: number
+book verb,lac,ci|cell,1,1| -> row 1: verb
+book cell,1,1|,,,| -> row 2: verb
+book %FF%FEc%00e%00l%00l%00,%00 -> row 1: columns
+book cell,1,1|write,0,a,4370,0,1,en,2,2,0,*,caf%E9| -> row 2: columns
+book cell,1,1|write,0,a,4370,0,1,en,2,2,0,*,"go%0D|now"| -> row 2: bad character at 2
+book ||cell,1,1|||sell| -> row 2: verb
+book cell,1,1|write,0,a,4370,0,1,en,2,2,0,*,"go||now"|sell| -> row 3: verb
+"#;
+
+/// Both sides of each limit, and readers that fail.
+const LIMITS: &str = "
+# 1,395 letters fill 15 pages.
+before cell,1,1|write,0,a,4370,0,1,en,2,2,0,*,
+times 1395 a
+book | -> read
+book a| -> row 2: too many pages
+
+# An alert may be updated fifteen times. The cells of a sixteenth update are looked at before its number.
+before cell,1,1|write,0,a,4370,0,1,en,2,2,0,*,One|
+times 15 update,1,a,en,2,2,0,*,Two|
+book -> read
+book | -> read
+book update,1,a,en,2,2,0,*,Two| -> row 18: too many updates
+book update,1,a,en,2,2,0,1-2,Two| -> row 18: unknown cell
+
+# A book declares 64 cells at most. A 65th has its columns looked at first, and its numbers last.
+before
+cells 64
+book | -> read
+book cell,1,64| -> row 65: too many rows
+book cell,1| -> row 65: columns
+book cell,x,1| -> row 65: too many rows
+
+# A book has 4,096 rows at most: here 64 cells, a write and its stops.
+before
+cells 64
+times 1 write,0,a,4370,0,1,en,2,2,0,*,One|
+times 4031 stop,1,a,*|
+book | -> read
+book stop,1,a,*| -> row 4097: too many rows
+
+# A book has 16 MiB at most. One octet past the bound is read, and no more.
+before
+line_feeds 16777217 -> row 0: too many rows
+most 65536
+line_feeds 16777216 -> read
+line_feeds_left 16777218 -> BookFault { row: 0, kind: TooManyRows }, 1 left
+
+# A reader that fails at its first call, its second ..
+before cell,1,1|write,0,a,4370,0,1,en,2,2,0,1-1,One|update,1,a,ru,2,2,0,*,Вода|stop,2,a,1-1|
+most 10
+failing_after 0 -> BookFault { row: 0, kind: ReadFailed }, the source has failed
+failing_after 1 -> BookFault { row: 0, kind: ReadFailed }, the source has failed
+failing_after 2 -> BookFault { row: 0, kind: ReadFailed }, the source has failed
+failing_after 3 -> BookFault { row: 0, kind: ReadFailed }, the source has failed
+failing_after 4 -> BookFault { row: 0, kind: ReadFailed }, the source has failed
+failing_after 5 -> BookFault { row: 0, kind: ReadFailed }, the source has failed
+failing_after 6 -> BookFault { row: 0, kind: ReadFailed }, the source has failed
+failing_after 7 -> BookFault { row: 0, kind: ReadFailed }, the source has failed
+failing_after 8 -> BookFault { row: 0, kind: ReadFailed }, the source has failed
+
+# The line of such a fault names no row.
+before cell,1,1|write,0,a,4370,0,1,en,2,2,0,*,One|
+most 4
+line_failing_after 2 -> read failed
+";
+
+/// Books as people and spreadsheets write them: their cells, and the one message that the session then sends.
+const WRITTEN: &str = r#"
+most 5
+# Rows end in LF, CR LF, CR or the end of the book, and empty lines are no rows.
+sent cell,1,1|write,0,a,4370,0,1,en,2,2,0,*,@| -> 1-1; write-@ at slot 0 of row 2; nothing
+sent cell,1,1%0D|write,0,a,4370,0,1,en,2,2,0,*,@%0D| -> 1-1; write-@ at slot 0 of row 2; nothing
+sent cell,1,1%0Dwrite,0,a,4370,0,1,en,2,2,0,*,@%0D -> 1-1; write-@ at slot 0 of row 2; nothing
+sent cell,1,1|write,0,a,4370,0,1,en,2,2,0,*,@ -> 1-1; write-@ at slot 0 of row 2; nothing
+sent ||cell,1,1%0D|%0D|write,0,a,4370,0,1,en,2,2,0,*,@||| -> 1-1; write-@ at slot 0 of row 2; nothing
+
+# The export of a spreadsheet quotes every field, and may begin with a byte order mark.
+before "cell","1","1"%0D|
+sent "write","0","a","4370","0","1","en","2","2","0","*","@"%0D|%0D| -> 1-1; write-@ at slot 0 of row 2; nothing
+before %EF%BB%BF"cell","1","1"%0D|
+sent "write","0","a","4370","0","1","en","2","2","0","*","@"%0D| -> 1-1; write-@ at slot 0 of row 2; nothing
+before %EF%BB%BFcell,1,1|
+sent write,0,a,4370,0,1,en,2,2,0,*,@| -> 1-1; write-@ at slot 0 of row 2; nothing
+
+# A text has quotes, also where the last one is missing, and line feeds.
+before cell,1,1|
+sent write,0,a,4370,0,1,en,2,2,0,*,"say ""go"""| -> 1-1; write-say-go at slot 0 of row 2; nothing
+sent write,0,a,4370,0,1,en,2,2,0,*,say "go"| -> 1-1; write-say-go at slot 0 of row 2; nothing
+sent write,0,a,4370,0,1,en,2,2,0,*,"say ""go"" -> 1-1; write-say-go at slot 0 of row 2; nothing
+before cell,1,1%0D|
+sent write,0,"a,|b",4370,0,1,en,2,2,0,*,"go|now"%0D| -> 1-1; write-go-now at slot 0 of row 2; nothing
+sent write,0,тревога,4370,0,1,ru,2,2,0,1-1,Вода%0D| -> 1-1; write-вода at slot 0 of row 2; nothing
+"#;
+
+#[test]
+fn books_have_their_cells_or_a_fault(rt: HostRuntime) -> Result<(), Fail> {
+    expect_rows(&rt, BOOKS)
 }
 
 #[test]
-fn worked_books_are_read(rt: HostRuntime) -> Result<(), Fail> {
-    let both = [Cell { lac: 1, ci: 1 }, Cell { lac: 1, ci: 2 }];
-    expect_cells(&rt, WORKED, &both);
-    expect_cells(&rt, "cell,1,1\n\ncell,00001,2", &both);
-    expect_cells(&rt, "", &[]);
-    expect_cells(&rt, "cell,65535,0\r\n", &[Cell { lac: 65535, ci: 0 }]);
-    Ok(())
+fn each_fault_has_its_line(rt: HostRuntime) -> Result<(), Fail> {
+    expect_rows(&rt, ROWS)?;
+    expect_rows(&rt, FIRST_FAULTS)?;
+    expect_rows(&rt, NO_BOOKS)
+}
+
+#[test]
+fn limits_and_failed_readers_are_told(rt: HostRuntime) -> Result<(), Fail> {
+    expect_rows(&rt, LIMITS)
+}
+
+#[test]
+fn books_as_people_write_them_are_sent(rt: HostRuntime) -> Result<(), Fail> {
+    expect_rows(&rt, WRITTEN)
 }

@@ -1,22 +1,18 @@
-//! Tests of `alert_book` by its public calls: worked books, each fault, many texts, readers that fail,
-//! and refused memory.
+//! Tests of `alert_book` by its public calls, most of them as tables of lines: books with the line of each fault,
+//! sessions, books whose many texts several threads pack, and refused memory.
 #![tactic(auto)]
 
 #[cfg(test)]
 mod books;
 #[cfg(test)]
-mod ends;
+mod books_table;
 #[cfg(test)]
-mod faults;
-#[cfg(test)]
-mod lines;
+mod long_books;
 #[cfg(test)]
 mod memory;
 #[cfg(test)]
-mod packing;
+mod octets;
 #[cfg(test)]
 mod reading;
 #[cfg(test)]
 mod sessions;
-#[cfg(test)]
-mod written;

@@ -2,13 +2,14 @@
 
 ghost use Rattle.std.specs.Prelude.{◌<◌};
 
+use crate::octets::{name_of, octets_named};
 use crate::reading::{book_of, read_by};
-use alert_book::{BookFault, BookFaultKind, Session};
-use test_support::take_all;
-use std::alloc::{AllocError, Global};
+use alert_book::{Book, BookFault, BookFaultKind, Session};
+use std::alloc::Global;
 use std::process::Abort;
 use std::test::Fail;
 use std::thread::Threads;
+use test_support::take_all;
 
 /// A book of each verb, in two languages.
 const BOOK: &str =
@@ -20,33 +21,53 @@ const MANY: u16 = 100;
 /// How many octets each block of the memory has that is given back.
 const BLOCK: usize = 512;
 
-/// Blocks of memory that can be given back one by one.
-fn spare_blocks(alloc: Global) -> Result<Vec<Vec<u8>>, AllocError> {
-    let mut spare: Vec<Vec<u8>> = Vec::with_capacity(alloc, 400)?;
-    for _ in 0..400 {
-        spare.push(Vec::with_capacity(alloc, BLOCK)?)?;
-    }
-    Ok(spare)
+/// The memory that a test has taken, and blocks that it can give back one by one.
+#[derive(Drop)]
+struct Taken {
+    spare: Vec<Vec<u8>>,
+    all: Vec<Vec<u8>>,
 }
 
-/// Reads a book of one cell without memory, and again and again with one block more, until it is read. Expects more
-/// refusals than this number.
-fn expect_refusals<T: AllocGlobal + Abort + Threads + Sync>(
+impl Taken {
+    /// Spare blocks alone so far.
+    fn new(alloc: Global) -> Result<Taken, Fail> {
+        let mut spare: Vec<Vec<u8>> = Vec::with_capacity(alloc, 400)?;
+        for _ in 0..400 {
+            spare.push(Vec::with_capacity(alloc, BLOCK)?)?;
+        }
+        let all = Vec::with_capacity(alloc, 100_000)?;
+        Ok(Taken { spare, all })
+    }
+
+    /// Takes all memory that there is.
+    fn take(&mut self, alloc: Global) {
+        take_all(alloc, &mut self.all);
+    }
+
+    /// Gives a spare block back.
+    fn give_block(&mut self) {
+        let _ = self.spare.pop();
+    }
+
+    /// Gives all back but the spare blocks.
+    fn give_all(&mut self) {
+        self.all.clear();
+    }
+}
+
+/// Reads a book of one cell without memory, and again and again with one block more, until it is read. Answers how
+/// often it was refused.
+fn refusals<T: AllocGlobal + Abort + Threads + Sync>(
     rt: &T,
-    book: &str,
-    least: u16,
-) -> Result<(), Fail> {
-    let mut spare = spare_blocks(rt.alloc())?;
-    let mut taken = Vec::with_capacity(rt.alloc(), 100_000)?;
-    take_all(rt.alloc(), &mut taken);
+    book: &[u8],
+    taken: &mut Taken,
+) -> u16 {
     let mut refused = 0_u16;
     for _ in 0..400 {
-        match read_by(rt, book.as_bytes(), 100) {
+        match read_by(rt, book, 100) {
             Ok(book) => {
                 assert_eq!(rt; book.cells().len(), 1);
-                taken.clear();
-                assert!(rt; refused > least);
-                return Ok(());
+                return refused;
             }
             Err(fault) => assert_eq!(rt;
                 fault,
@@ -57,119 +78,176 @@ fn expect_refusals<T: AllocGlobal + Abort + Threads + Sync>(
             ),
         }
         refused = refused.saturating_add(1);
-        let _ = spare.pop();
+        taken.give_block();
     }
-    taken.clear();
     assert!(rt; false, "no book is read with 200 KB");
+    refused
+}
+
+/// Expects more refusals of a book than this number.
+fn expect_refusals<T: AllocGlobal + Abort + Threads + Sync>(
+    rt: &T,
+    book: &[u8],
+    least: u16,
+) -> Result<(), Fail> {
+    let mut taken = Taken::new(rt.alloc())?;
+    taken.take(rt.alloc());
+    let refused = refusals(rt, book, &mut taken);
+    taken.give_all();
+    assert!(rt; refused > least);
     Ok(())
 }
 
 #[test]
 fn refused_memory_is_reported(rt: HostRuntime) -> Result<(), Fail> {
-    expect_refusals(&rt, BOOK, 3)
+    expect_refusals(&rt, BOOK.as_bytes(), 3)
+}
+
+/// A book of one cell and many texts.
+fn many_texts(alloc: Global) -> Result<String, Fail> {
+    let mut book = String::from_str(alloc, "cell,1,1\n")?;
+    for number in 0..MANY {
+        let row = format!(in alloc; "write,0,{number},4370,0,{number},en,2,2,0,*,One\n")?;
+        book.push_str(&row)?;
+    }
+    Ok(book)
 }
 
 /// With so many texts threads would pack them, but there is no memory for threads.
 #[test]
 fn refused_memory_for_many_texts_is_reported(rt: HostRuntime) -> Result<(), Fail> {
-    let mut book = String::from_str(rt.alloc(), "cell,1,1\n")?;
-    for number in 0..MANY {
-        let row = format!(in rt.alloc(); "write,0,{number},4370,0,{number},en,2,2,0,*,One\n")?;
-        book.push_str(&row)?;
-    }
-    expect_refusals(&rt, &book, 30)
+    let book = many_texts(rt.alloc())?;
+    expect_refusals(&rt, book.as_bytes(), 30)
 }
 
-/// The replies to the three requests of the book: each is accepted, with no broadcast completed.
-const REPLIES: [&[u8]; 3] = [
-    &[
-        0x02, 0x00, 0x00, 0x0E, 0x0E, 0x11, 0x12, 0x03, 0x00, 0x10, 0x04, 0x00, 0x05, 0x01, 0x00,
-        0x01, 0x00, 0x01,
-    ],
-    &[
-        0x02, 0x00, 0x00, 0x14, 0x0E, 0x11, 0x12, 0x03, 0x00, 0x11, 0x02, 0x00, 0x10, 0x08, 0x00,
-        0x08, 0x01, 0x00, 0x01, 0x00, 0x01, 0x00, 0x00, 0x00,
-    ],
-    &[
-        0x05, 0x00, 0x00, 0x11, 0x0E, 0x11, 0x12, 0x02, 0x00, 0x11, 0x08, 0x00, 0x08, 0x01, 0x00,
-        0x01, 0x00, 0x01, 0x00, 0x00, 0x00,
-    ],
+/// The replies to the requests of the book: each is accepted, with no broadcast completed.
+const REPLIES: [&str; 3] = ["written", "replaced-unsent", "killed-0011"];
+
+/// The requests: a write, its replacement in UCS-2, the kill of that, and nothing more.
+const REQUESTS: [&str; 4] = [
+    "write-one at slot 0",
+    "update-вода at slot 1",
+    "kill-0011 at slot 2",
+    "nothing",
 ];
 
-/// The first octets of the requests: a write, its replacement in UCS-2, and the kill of that.
-const REQUESTS: [&[u8]; 3] = [
-    &[
-        0x01, 0x00, 0x00, 0x6E, 0x0E, 0x11, 0x12, 0x03, 0x00, 0x10, 0x04, 0x00, 0x05, 0x01, 0x00,
-        0x01, 0x00, 0x01, 0x05, 0x02, 0x06, 0x00, 0x02, 0x07, 0x00, 0x00, 0x13, 0x01, 0x0C, 0x01,
-        0x01, 0x03,
-    ],
-    &[
-        0x01, 0x00, 0x00, 0x71, 0x0E, 0x11, 0x12, 0x03, 0x00, 0x11, 0x02, 0x00, 0x10, 0x04, 0x00,
-        0x05, 0x01, 0x00, 0x01, 0x00, 0x01, 0x05, 0x02, 0x06, 0x00, 0x02, 0x07, 0x00, 0x00, 0x13,
-        0x01, 0x0C, 0x48, 0x01, 0x08, 0x04, 0x12, 0x04, 0x3E, 0x04, 0x34, 0x04, 0x30,
-    ],
-    &[
-        0x04, 0x00, 0x00, 0x0E, 0x0E, 0x11, 0x12, 0x02, 0x00, 0x11, 0x04, 0x00, 0x05, 0x01, 0x00,
-        0x01, 0x00, 0x01,
-    ],
-];
+/// What a session gave, which is looked at once there is memory again.
+type Given = Vec<Option<(u16, Vec<u8>)>>;
 
-/// Asks for the next request again and again, with one block of memory more each time, until it is given; it keeps
-/// memory. A session that is refused memory stands where it stood. Answers how often it was refused.
-fn expect_next<T: AllocGlobal + Abort>(
+/// Asks for the next request, and keeps what is given. A session that is refused memory stands where it stood, and gets
+/// one block more. Answers whether it was refused.
+fn is_refused<T: Abort>(
     rt: &T,
     session: &mut Session<'_>,
     last: Option<&[u8]>,
-    spare: &mut Vec<Vec<u8>>,
-    held: &mut Vec<Option<(u16, Vec<u8>)>>,
-) -> u16 {
+    taken: &mut Taken,
+    given: &mut Given,
+) -> bool {
     let row = session.row();
-    let mut refused = 0_u16;
-    for _ in 0..400 {
-        if let Ok(given) = session.next(last) {
-            let _ = held.push(given);
-            return refused;
+    match session.next(last) {
+        Ok(next) => {
+            let _ = given.push(next);
+            false
         }
-        assert_eq!(rt; session.row(), row);
-        refused = refused.saturating_add(1);
-        let _ = spare.pop();
+        Err(_) => {
+            assert_eq!(rt; session.row(), row);
+            taken.give_block();
+            true
+        }
     }
-    assert!(rt; false, "no request with 200 KB");
-    refused
 }
 
-/// Expects that a session gave the three requests, and then none.
-fn expect_requests<T: Abort>(rt: &T, held: &[Option<(u16, Vec<u8>)>]) {
-    for (place, first) in REQUESTS.iter().enumerate() {
-        match held.get(place) {
-            Some(Some((slot, octets))) => {
-                assert_eq!(rt; usize::from(*slot), place);
-                assert!(rt; octets.starts_with(first));
-            }
-            _ => assert!(rt; false, "no request {}", place),
+/// Asks for the next request again and again until it is given; it keeps memory. Answers how often it was refused.
+fn refusals_of_next<T: Abort>(
+    rt: &T,
+    session: &mut Session<'_>,
+    last: Option<&[u8]>,
+    taken: &mut Taken,
+    given: &mut Given,
+) -> u16 {
+    for refused in 0..400 {
+        if !is_refused(rt, session, last, taken, given) {
+            return refused;
         }
     }
-    assert!(rt; matches!(held.get(3), Some(None)));
+    assert!(rt; false, "no request with 200 KB");
+    400
+}
+
+/// Expects that a session is refused memory once at least before it gives its next request.
+fn expect_refused<T: Abort>(
+    rt: &T,
+    session: &mut Session<'_>,
+    last: Option<&[u8]>,
+    taken: &mut Taken,
+    given: &mut Given,
+) {
+    let refused = refusals_of_next(rt, session, last, taken, given);
+    assert!(rt; refused > 0);
+}
+
+/// Runs the session of a book without memory, and expects that each request is refused once at least.
+fn expect_refused_requests<T: AllocGlobal + Abort>(
+    rt: &T,
+    session: &mut Session<'_>,
+    replies: &[Vec<u8>],
+    taken: &mut Taken,
+    given: &mut Given,
+) {
+    expect_refused(rt, session, None, taken, given);
+    for reply in replies {
+        taken.take(rt.alloc());
+        expect_refused(rt, session, Some(reply.as_slice()), taken, given);
+    }
+}
+
+/// The replies as octets.
+fn replies(alloc: Global) -> Result<Vec<Vec<u8>>, Fail> {
+    let mut replies = Vec::with_capacity(alloc, 3)?;
+    for name in REPLIES {
+        replies.push(octets_named(alloc, name)?)?;
+    }
+    Ok(replies)
+}
+
+/// The name of what a session gave, and its slot.
+fn request_of(alloc: Global, given: &Option<(u16, Vec<u8>)>) -> Result<String, Fail> {
+    match given {
+        Some((slot, octets)) => {
+            let name = name_of(alloc, octets)?;
+            Ok(format!(in alloc; "{name} at slot {slot}")?)
+        }
+        None => Ok(String::from_str(alloc, "nothing")?),
+    }
+}
+
+/// Expects that a session gave the requests.
+fn expect_requests<T: AllocGlobal + Abort>(rt: &T, given: &Given) -> Result<(), Fail> {
+    assert_eq!(rt; given.len(), REQUESTS.len());
+    for (request, wanted) in given.iter().zip(REQUESTS) {
+        assert_eq!(rt; request_of(rt.alloc(), request)?.as_str(), wanted);
+    }
+    Ok(())
+}
+
+/// What a session of the book gives without memory.
+fn given_without_memory<T: AllocGlobal + Abort + Threads + Sync>(
+    rt: &T,
+    book: &Book,
+) -> Result<Given, Fail> {
+    let replies = replies(rt.alloc())?;
+    let mut taken = Taken::new(rt.alloc())?;
+    let mut given = Vec::with_capacity(rt.alloc(), 4)?;
+    taken.take(rt.alloc());
+    let mut session = Session::new(rt.alloc(), book, 0, 1)?;
+    expect_refused_requests(rt, &mut session, &replies, &mut taken, &mut given);
+    taken.give_all();
+    Ok(given)
 }
 
 #[test]
 fn a_session_without_memory_stands_where_it_stood(rt: HostRuntime) -> Result<(), Fail> {
-    let book = book_of(&rt, BOOK)?;
-    let mut spare = spare_blocks(rt.alloc())?;
-    let mut held = Vec::with_capacity(rt.alloc(), 4)?;
-    let mut taken = Vec::with_capacity(rt.alloc(), 100_000)?;
-    take_all(rt.alloc(), &mut taken);
-    let mut session = Session::new(rt.alloc(), &book, 0, 1)?;
-    let mut refused = [0_u16; 4];
-    refused[0] = expect_next(&rt, &mut session, None, &mut spare, &mut held);
-    for (place, reply) in REPLIES.iter().enumerate() {
-        take_all(rt.alloc(), &mut taken);
-        refused[place + 1] = expect_next(&rt, &mut session, Some(*reply), &mut spare, &mut held);
-    }
-    taken.clear();
-    expect_requests(&rt, &held);
-    for times in refused {
-        assert!(&rt; times > 0);
-    }
-    Ok(())
+    let book = book_of(&rt, BOOK.as_bytes(), 64)?;
+    let given = given_without_memory(&rt, &book)?;
+    expect_requests(&rt, &given)
 }

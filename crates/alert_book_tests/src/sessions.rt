@@ -1,269 +1,223 @@
-//! Sessions: the messages that rows give, by the replies so far. Messages and replies are worked by hand.
+//! Sessions as tables: the messages that the rows of a book give, by the replies so far.
 
 ghost use Rattle.std.specs.Prelude.{◌<◌};
 
-use crate::reading::book_of;
+use crate::octets::{name_of, octets_named};
+use crate::reading::{add_rows, book_of};
 use alert_book::{Book, Session};
+use cbsp_wire::Cell;
+use std::alloc::Global;
 use std::process::Abort;
 use std::test::Fail;
+use std::thread::Threads;
+use test_support::{Row, Words};
 
-/// The message of the first row, but for the 82 octets of its content.
-const WRITE: [u8; 32] = [
-    0x01, 0x00, 0x00, 0x6E, 0x0E, 0x11, 0x12, 0x03, 0x00, 0x10, 0x04, 0x00, 0x05, 0x01, 0x00, 0x01,
-    0x00, 0x01, 0x05, 0x02, 0x06, 0x00, 0x02, 0x07, 0x00, 0x00, 0x13, 0x01, 0x0C, 0x01, 0x01, 0x01,
-];
+/// Cases, parted by empty lines. The first lines of a case are the rows of its book. `session 0 1` is a session of part
+/// 0 of 1, and says which row gave its last message. `next` asks for the next message after a reply, `next -` after
+/// none.
+const SESSIONS: &str = "
+# A write and its stop.
+rows cell,1,1|write,0,a,4370,0,1,en,2,2,0,1-1,@|stop,1,a,*|
+session 0 1 -> row 0
+next - -> write-@ at slot 0 of row 2
+next written -> kill-0010 at slot 1 of row 3
+next - -> nothing
+next - -> nothing
 
-/// The reply that accepts it.
-const WRITE_DONE: [u8; 18] = [
-    0x02, 0x00, 0x00, 0x0E, 0x0E, 0x11, 0x12, 0x03, 0x00, 0x10, 0x04, 0x00, 0x05, 0x01, 0x00, 0x01,
-    0x00, 0x01,
-];
+# A write that is refused, or whose reply is none or another message, has no later message.
+rows cell,1,1|write,0,a,4370,0,1,en,2,2,0,*,@|update,1,a,en,2,2,0,*,@|stop,2,a,*|
+session 0 1 -> row 0
+next - -> write-@ at slot 0 of row 2
+next not-written -> nothing
+next - -> nothing
+session 0 1 -> row 0
+next - -> write-@ at slot 0 of row 2
+next kill-0010 -> nothing
+next - -> nothing
+session 0 1 -> row 0
+next - -> write-@ at slot 0 of row 2
+next - -> nothing
+next - -> nothing
 
-/// The message that stops it.
-const KILL: [u8; 18] = [
-    0x04, 0x00, 0x00, 0x0E, 0x0E, 0x11, 0x12, 0x02, 0x00, 0x10, 0x04, 0x00, 0x05, 0x01, 0x00, 0x01,
-    0x00, 0x01,
-];
+# Of two cells the second refuses the alert: its update and its stop are for the first.
+rows cell,1,1|cell,1,2|write,0,a,4370,0,1,en,2,2,0,*,@|
+rows update,7,a,en,2,2,3,1-2 1-1,@|stop,9,a,*|
+session 0 1 -> row 0
+next - -> write-to-both at slot 0 of row 3
+next written-but-in-1-2 -> update-@ at slot 7 of row 4
+next replaced -> kill-0011 at slot 9 of row 5
+next - -> nothing
+next - -> nothing
 
-/// A request that is expected: the reply to the one before, its slot, its first octets and its row.
-#[derive(Clone, Copy)]
-struct Turn<'a> {
-    last: Option<&'a [u8]>,
-    at: u16,
-    first: &'a [u8],
-    row: u16,
-}
+# Version 0 in cell 1-2 and version 1 in cell 1-1 are both stopped by one row. The second kill has no reply, so its
+# version is believed live as before, and the next row stops it again.
+rows cell,1,1|cell,1,2|write,0,a,4370,0,1,en,2,2,0,*,@|
+rows update,1,a,en,2,2,3,1-1,@|stop,2,a,*|stop,3,a,*|
+session 0 1 -> row 0
+next - -> write-to-both at slot 0 of row 3
+next written-in-both -> update-@ at slot 1 of row 4
+next replaced -> kill-0010-in-1-2 at slot 2 of row 5
+next not-killed-in-1-2 -> kill-0011 at slot 2 of row 5
+next - -> kill-0011 at slot 3 of row 6
+next - -> nothing
+next - -> nothing
 
-/// Expects that a session gives a request.
-fn expect_turn<T: Abort>(rt: &T, session: &mut Session<'_>, turn: &Turn<'_>) {
-    match session.next(turn.last) {
-        Ok(Some((slot, octets))) => {
-            assert_eq!(rt; slot, turn.at);
-            assert!(rt; octets.starts_with(turn.first));
+# Of two alerts in two parts each part has one.
+rows cell,1,1|write,0,a,4370,0,1,en,2,2,0,*,@|write,5,b,4371,0,2,en,2,2,0,*,@|
+session 0 2 -> row 0
+next - -> write-@ at slot 0 of row 2
+next - -> nothing
+next - -> nothing
+session 1 2 -> row 0
+next - -> write-second-alert at slot 5 of row 3
+next - -> nothing
+next - -> nothing
+";
+
+/// The names of cells.
+pub fn names_of(alloc: Global, cells: &[Cell]) -> Result<String, Fail> {
+    let mut names = String::new(alloc);
+    for cell in cells {
+        if !names.is_empty() {
+            names.push(' ')?;
         }
-        _ => assert!(rt; false, "no message of row {}", turn.row),
+        names.push_str(&format!(in alloc; "{}-{}", cell.lac, cell.ci)?)?;
     }
-    assert_eq!(rt; session.row(), turn.row);
+    if names.is_empty() {
+        names.push_str("none")?;
+    }
+    Ok(names)
 }
 
-/// Expects that a session has no request after this reply.
-pub fn expect_end<T: Abort>(rt: &T, session: &mut Session<'_>, last: Option<&[u8]>) {
-    match session.next(last) {
-        Ok(None) => {}
-        _ => assert!(rt; false, "a message after the last"),
-    }
-}
-
-/// Expects that a session gives these requests, and none after this reply.
-fn expect_requests<T: Abort>(
-    rt: &T,
+/// The name of the next message after a reply, its slot and its row.
+fn next_after(
+    alloc: Global,
     session: &mut Session<'_>,
-    turns: &[Turn<'_>],
     last: Option<&[u8]>,
-) {
-    assert_eq!(rt; session.row(), 0);
-    for turn in turns {
-        expect_turn(rt, session, turn);
+) -> Result<String, Fail> {
+    match session.next(last) {
+        Ok(Some((slot, octets))) => {
+            let name = name_of(alloc, &octets)?;
+            let row = session.row();
+            Ok(format!(in alloc; "{name} at slot {slot} of row {row}")?)
+        }
+        Ok(None) => Ok(String::from_str(alloc, "nothing")?),
+        Err(fault) => Err(Fail::new(fault)),
     }
-    expect_end(rt, session, last);
-    expect_end(rt, session, None);
 }
 
-/// Expects the same of the session of a part.
-fn expect_turns<T: AllocGlobal + Abort>(
-    rt: &T,
-    book: &Book,
-    part: u16,
-    parts: u16,
-    turns: &[Turn<'_>],
-    last: Option<&[u8]>,
-) -> Result<(), Fail>
-    requires { part < parts }
-{
-    let mut session = Session::new(rt.alloc(), book, part, parts)?;
-    expect_requests(rt, &mut session, turns, last);
+/// Adds what a session gives next, after no reply.
+fn add_next(told: &mut String, alloc: Global, session: &mut Session<'_>) -> Result<(), Fail> {
+    let next = next_after(alloc, session, None)?;
+    told.push_str("; ")?;
+    told.push_str(&next)?;
+    Ok(())
+}
+
+/// The cells of a book, the message that its session sends first, and what follows that.
+pub fn sent_by(alloc: Global, book: &Book) -> Result<String, Fail> {
+    let mut told = names_of(alloc, book.cells())?;
+    let mut session = Session::new(alloc, book, 0, 1)?;
+    add_next(&mut told, alloc, &mut session)?;
+    add_next(&mut told, alloc, &mut session)?;
+    Ok(told)
+}
+
+/// What comes of an action on a session.
+fn carried_out(alloc: Global, session: &mut Session<'_>, action: &str) -> Result<String, Fail> {
+    match action.split_once(' ') {
+        Some(("next", "-")) => next_after(alloc, session, None),
+        Some(("next", name)) => {
+            let reply = octets_named(alloc, name)?;
+            next_after(alloc, session, Some(&reply))
+        }
+        _ => Err(Fail::new("no such action")),
+    }
+}
+
+/// Expects what a line after that of a session says.
+fn expect_line(
+    rt: &impl Abort,
+    alloc: Global,
+    session: &mut Session<'_>,
+    line: &str,
+) -> Result<(), Fail> {
+    if let Some(row) = Row::of(line) {
+        let found = carried_out(alloc, session, row.action)?;
+        assert_eq!(rt; found.as_str(), row.wanted, "{line}");
+    }
+    Ok(())
+}
+
+/// Expects what those lines say.
+fn expect_lines(
+    rt: &impl Abort,
+    alloc: Global,
+    session: &mut Session<'_>,
+    lines: &str,
+) -> Result<(), Fail> {
+    for line in lines.split('\n') {
+        expect_line(rt, alloc, session, line)?;
+    }
+    Ok(())
+}
+
+/// Expects what the lines of a session say, of which the first has its part and the number of parts.
+fn expect_session(rt: &impl Abort, alloc: Global, book: &Book, lines: &str) -> Result<(), Fail> {
+    let (first, lines) = lines.split_once('\n').unwrap_or((lines, ""));
+    let (parts_of, wanted) = first.split_once(" -> ").unwrap_or((first, ""));
+    let mut words = Words::of(parts_of);
+    let part = words.number16()?;
+    let parts = words.number16()?;
+    assert_eq!(rt; words.word(), "", "{first}");
+    if part >= parts {
+        return Err(Fail::new("no such part"));
+    }
+    let mut session = Session::new(alloc, book, part, parts)?;
+    let row = format!(in alloc; "row {}", session.row())?;
+    assert_eq!(rt; row.as_str(), wanted, "{first}");
+    expect_lines(rt, alloc, &mut session, lines)
+}
+
+/// The octets of the rows with which a case begins.
+fn rows_of(alloc: Global, lines: &str) -> Result<Vec<u8>, Fail> {
+    let mut octets = Vec::new(alloc);
+    for line in lines.split('\n') {
+        if let Some(row) = Row::of(line) {
+            match row.action.strip_prefix("rows ") {
+                Some(rows) => add_rows(&mut octets, rows)?,
+                None => return Err(Fail::new("a case begins with rows")),
+            }
+        }
+    }
+    Ok(octets)
+}
+
+/// Expects what a case says: rows, and sessions of their book.
+fn expect_case<T: AllocGlobal + Abort + Threads + Sync>(rt: &T, case: &str) -> Result<(), Fail> {
+    let alloc = rt.alloc();
+    let Some((rows, sessions)) = case.split_once("\nsession ") else {
+        return Err(Fail::new("a case has a session"));
+    };
+    let book = book_of(rt, &rows_of(alloc, rows)?, 64)?;
+    for session in sessions.split("\nsession ") {
+        expect_session(rt, alloc, &book, session)?;
+    }
+    Ok(())
+}
+
+/// Expects what the cases of a table say.
+fn expect_cases<T: AllocGlobal + Abort + Threads + Sync>(rt: &T, table: &str) -> Result<(), Fail> {
+    let mut cases = 0_usize;
+    for case in table.split("\n\n") {
+        expect_case(rt, case)?;
+        cases = cases.saturating_add(1);
+    }
+    assert_eq!(rt; cases, 5);
     Ok(())
 }
 
 #[test]
-fn a_write_and_its_stop_are_the_worked_messages(rt: HostRuntime) -> Result<(), Fail> {
-    let rows = "cell,1,1\nwrite,0,a,4370,0,1,en,2,2,0,1-1,@\nstop,1,a,*\n";
-    let turns = [
-        Turn {
-            last: None,
-            at: 0,
-            first: &WRITE,
-            row: 2,
-        },
-        Turn {
-            last: Some(&WRITE_DONE),
-            at: 1,
-            first: &KILL,
-            row: 3,
-        },
-    ];
-    let book = book_of(&rt, rows)?;
-    expect_turns(&rt, &book, 0, 1, &turns, None)
-}
-
-/// The failure of cell 1-1 with cause 06.
-const REFUSED: [u8; 19] = [
-    0x03, 0x00, 0x00, 0x0F, 0x0E, 0x11, 0x12, 0x03, 0x00, 0x10, 0x09, 0x00, 0x06, 0x01, 0x00, 0x01,
-    0x00, 0x01, 0x06,
-];
-
-/// The first request of the rows below.
-const FIRST: [Turn<'_>; 1] = [Turn {
-    last: None,
-    at: 0,
-    first: &WRITE,
-    row: 2,
-}];
-
-#[test]
-fn a_refused_write_has_no_later_message(rt: HostRuntime) -> Result<(), Fail> {
-    let rows = "cell,1,1\nwrite,0,a,4370,0,1,en,2,2,0,*,@\nupdate,1,a,en,2,2,0,*,@\nstop,2,a,*\n";
-    let book = book_of(&rt, rows)?;
-    expect_turns(&rt, &book, 0, 1, &FIRST, Some(&REFUSED))?;
-    expect_turns(&rt, &book, 0, 1, &FIRST, Some(&KILL))?;
-    expect_turns(&rt, &book, 0, 1, &FIRST, None)
-}
-
-/// The reply of a replacement of version 0 by version 1 in cell 1-1, with one broadcast completed.
-const REPLACED: [u8; 24] = [
-    0x02, 0x00, 0x00, 0x14, 0x0E, 0x11, 0x12, 0x03, 0x00, 0x11, 0x02, 0x00, 0x10, 0x08, 0x00, 0x08,
-    0x01, 0x00, 0x01, 0x00, 0x01, 0x00, 0x01, 0x00,
-];
-
-/// The message that stops version 1 in cell 1-1.
-const KILL_1: [u8; 18] = [
-    0x04, 0x00, 0x00, 0x0E, 0x0E, 0x11, 0x12, 0x02, 0x00, 0x11, 0x04, 0x00, 0x05, 0x01, 0x00, 0x01,
-    0x00, 0x01,
-];
-
-/// The message of a first row for both cells, but for its content.
-const WRITE_TO_BOTH: [u8; 36] = [
-    0x01, 0x00, 0x00, 0x72, 0x0E, 0x11, 0x12, 0x03, 0x00, 0x10, 0x04, 0x00, 0x09, 0x01, 0x00, 0x01,
-    0x00, 0x01, 0x00, 0x01, 0x00, 0x02, 0x05, 0x02, 0x06, 0x00, 0x02, 0x07, 0x00, 0x00, 0x13, 0x01,
-    0x0C, 0x01, 0x01, 0x01,
-];
-
-/// Refused 06 in cell 1-2, accepted in cell 1-1.
-const WRITE_IN_ONE: [u8; 27] = [
-    0x03, 0x00, 0x00, 0x17, 0x0E, 0x11, 0x12, 0x03, 0x00, 0x10, 0x09, 0x00, 0x06, 0x01, 0x00, 0x01,
-    0x00, 0x02, 0x06, 0x04, 0x00, 0x05, 0x01, 0x00, 0x01, 0x00, 0x01,
-];
-
-/// The message that replaces 0010 by 0011 in cell 1-1, with three broadcasts requested, but for its content.
-const UPDATE: [u8; 35] = [
-    0x01, 0x00, 0x00, 0x71, 0x0E, 0x11, 0x12, 0x03, 0x00, 0x11, 0x02, 0x00, 0x10, 0x04, 0x00, 0x05,
-    0x01, 0x00, 0x01, 0x00, 0x01, 0x05, 0x02, 0x06, 0x00, 0x02, 0x07, 0x00, 0x03, 0x13, 0x01, 0x0C,
-    0x01, 0x01, 0x01,
-];
-
-/// An alert in two cells, of which the second refuses it.
-#[test]
-fn an_update_is_for_the_cells_that_accepted(rt: HostRuntime) -> Result<(), Fail> {
-    let rows = "cell,1,1\ncell,1,2\nwrite,0,a,4370,0,1,en,2,2,0,*,@\n\
-         update,7,a,en,2,2,3,1-2 1-1,@\nstop,9,a,*\n";
-    let turns = [
-        Turn {
-            last: None,
-            at: 0,
-            first: &WRITE_TO_BOTH,
-            row: 3,
-        },
-        Turn {
-            last: Some(&WRITE_IN_ONE),
-            at: 7,
-            first: &UPDATE,
-            row: 4,
-        },
-        Turn {
-            last: Some(&REPLACED),
-            at: 9,
-            first: &KILL_1,
-            row: 5,
-        },
-    ];
-    let book = book_of(&rt, rows)?;
-    expect_turns(&rt, &book, 0, 1, &turns, None)
-}
-
-/// Accepted in both cells.
-const WRITE_IN_BOTH: [u8; 22] = [
-    0x02, 0x00, 0x00, 0x12, 0x0E, 0x11, 0x12, 0x03, 0x00, 0x10, 0x04, 0x00, 0x09, 0x01, 0x00, 0x01,
-    0x00, 0x01, 0x00, 0x01, 0x00, 0x02,
-];
-
-/// The message that stops version 0 in cell 1-2.
-const KILL_0: [u8; 18] = [
-    0x04, 0x00, 0x00, 0x0E, 0x0E, 0x11, 0x12, 0x02, 0x00, 0x10, 0x04, 0x00, 0x05, 0x01, 0x00, 0x01,
-    0x00, 0x02,
-];
-
-/// Cause 02: it isn't live in cell 1-2.
-const NOT_LIVE: [u8; 19] = [
-    0x06, 0x00, 0x00, 0x0F, 0x0E, 0x11, 0x12, 0x02, 0x00, 0x10, 0x09, 0x00, 0x06, 0x01, 0x00, 0x01,
-    0x00, 0x02, 0x02,
-];
-
-/// Version 0 in cell 1-2 and version 1 in cell 1-1, both stopped by one row. The second kill has no reply, so its
-/// version is believed live as before, and the next row stops it again.
-#[test]
-fn a_row_has_a_message_for_each_version(rt: HostRuntime) -> Result<(), Fail> {
-    let rows = "cell,1,1\ncell,1,2\nwrite,0,a,4370,0,1,en,2,2,0,*,@\n\
-         update,1,a,en,2,2,3,1-1,@\nstop,2,a,*\nstop,3,a,*\n";
-    let turns = [
-        Turn {
-            last: None,
-            at: 0,
-            first: &WRITE_TO_BOTH,
-            row: 3,
-        },
-        Turn {
-            last: Some(&WRITE_IN_BOTH),
-            at: 1,
-            first: &UPDATE,
-            row: 4,
-        },
-        Turn {
-            last: Some(&REPLACED),
-            at: 2,
-            first: &KILL_0,
-            row: 5,
-        },
-        Turn {
-            last: Some(&NOT_LIVE),
-            at: 2,
-            first: &KILL_1,
-            row: 5,
-        },
-        Turn {
-            last: None,
-            at: 3,
-            first: &KILL_1,
-            row: 6,
-        },
-    ];
-    let book = book_of(&rt, rows)?;
-    expect_turns(&rt, &book, 0, 1, &turns, None)
-}
-
-/// The beginning of the write of the second alert below.
-const SECOND: [u8; 10] = [0x01, 0x00, 0x00, 0x6E, 0x0E, 0x11, 0x13, 0x03, 0x00, 0x20];
-
-/// Of two alerts in two parts each part has one.
-#[test]
-fn a_part_has_its_alerts_alone(rt: HostRuntime) -> Result<(), Fail> {
-    let rows = "cell,1,1\nwrite,0,a,4370,0,1,en,2,2,0,*,@\nwrite,5,b,4371,0,2,en,2,2,0,*,@\n";
-    let second = [Turn {
-        last: None,
-        at: 5,
-        first: &SECOND,
-        row: 3,
-    }];
-    let book = book_of(&rt, rows)?;
-    expect_turns(&rt, &book, 0, 2, &FIRST, None)?;
-    expect_turns(&rt, &book, 1, 2, &second, None)
+fn sessions_give_the_worked_messages(rt: HostRuntime) -> Result<(), Fail> {
+    expect_cases(&rt, SESSIONS)
 }
