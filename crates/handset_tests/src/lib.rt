@@ -1,9 +1,9 @@
-//! Tests of `handset` by its public calls: blocks in many orders, tapes that are built octet by octet, and readers that
-//! fail.
+//! Tests of `handset` by its public calls, as tables of lines: blocks in many orders, tapes that are built octet by
+//! octet, and readers that fail.
 #![tactic(auto)]
 
 #[cfg(test)]
-mod messages;
+mod phone;
 #[cfg(test)]
 mod tapes;
 #[cfg(test)]

@@ -1,43 +1,123 @@
 //! Tapes that are built octet by octet, whole, cut short and made longer, and readers that fail.
+//!
+//! The octets are what these lines add: `hex DIGITS ..`; `tape N`, the tape of 192 octets of cell 1-1 with the worked
+//! page and an idle slot, with N in the header as the number of its slots; `page`, the worked page's blocks; `idle N`,
+//! the blocks of N idle slots. `repeat N` has them N times, and `new` begins anew.
+//!
+//! `one` reads them as one tape, `all` as tapes: the answer has the cell, the number of slots and the messages of each,
+//! or the fault. `one N CALLS` and `all N CALLS` have a reader of N octets a call that fails after so many calls, and
+//! the answer says how many octets it still has. `after DIGITS` hands readings on to a list that has the reading of the
+//! tape of these digits. `fronts N M` reads each front of N to M octets both ways. `fails N CALLS` reads both ways with
+//! a reader of N octets a call that fails after 0 to CALLS calls, and once more after the fault.
 
-ghost use Rattle.std.specs.Prelude.{◌<◌};
-
-use crate::worked::WORKED;
+use crate::worked::{IDLE, WORKED};
 use device_ends::Source;
 use device_ends::memory::MemoryReader;
 use handset::{Reading, Refused, TapeFault, read_each, read_tape, read_tapes};
 use std::alloc::Global;
 use std::process::Abort;
 use std::test::Fail;
+use test_support::{Row, Words, octets_of};
 
-/// A block of an idle slot.
-const IDLE: [u8; 23] = [
-    0x2F, 0x2B, 0x2B, 0x2B, 0x2B, 0x2B, 0x2B, 0x2B, 0x2B, 0x2B, 0x2B, 0x2B, 0x2B, 0x2B, 0x2B, 0x2B,
-    0x2B, 0x2B, 0x2B, 0x2B, 0x2B, 0x2B, 0x2B,
-];
+const WHOLE: &str = "
+tape 2
+length -> 192
+one -> 1-1 2 slots: 4370 0010 @
+all -> 1-1 2 slots: 4370 0010 @
+repeat 2
+all -> 1-1 2 slots: 4370 0010 @; 1-1 2 slots: 4370 0010 @
 
-/// The header of a tape of no slots, of cell 1234 5678 (hex).
-const EMPTY: [u8; 8] = [0x12, 0x34, 0x56, 0x78, 0x00, 0x00, 0x00, 0x00];
+# no slots; readings are handed on in order, after those that were there
+new
+hex 1234 5678 00000000
+one -> 4660-22136 0 slots
+new
+tape 2
+hex 1234 5678 00000000
+after 1234567800000000 -> 4660-22136 0 slots; 1-1 2 slots: 4370 0010 @; 4660-22136 0 slots
 
-/// The header of a tape of 65,535 slots.
-const MOST: [u8; 8] = [0x00, 0x01, 0x00, 0x01, 0x00, 0x00, 0xFF, 0xFF];
+# 65,535 slots, which take many pieces: the page is in the last slot
+new
+hex 0001 0001 0000ffff
+idle 65534
+page
+length -> 6029228
+one -> 1-1 65535 slots: 4370 0010 @
+";
 
-/// The header of a tape of 65,536 slots.
-const OVER: [u8; 8] = [0x00, 0x01, 0x00, 0x01, 0x00, 0x01, 0x00, 0x00];
+const FAULTS: &str = "
+# an octet more than a tape, and each front of it
+tape 2
+hex 00
+one -> Long
+all -> Short
+fronts 1 191 -> Short, Short
 
-/// The tape of 192 octets: its header, the worked blocks, and those of an idle slot.
-fn worked_tape(alloc: Global) -> Result<Vec<u8>, Fail> {
-    tape_of_slots(alloc, 2)
-}
+# no octets: no tapes
+new
+one -> Short
+all ->
+# 65,535 slots, and 65,536
+hex 0001 0001 0000ffff
+one -> Short
+all -> Short
+new
+hex 0001 0001 00010000
+one -> Long
+all -> Long
+# fewer slots in the header: the idle blocks are then taken for a header with 2B2B2B2B slots; then more slots
+new
+tape 1
+one -> Long
+all -> Long
+new
+tape 3
+one -> Short
+all -> Short
 
-/// The same octets with another number of slots in the header.
-fn tape_of_slots(alloc: Global, slots: u8) -> Result<Vec<u8>, Fail> {
-    let mut octets = Vec::new(alloc);
-    octets.extend_from_slice(&[0x00, 0x01, 0x00, 0x01, 0x00, 0x00, 0x00, slots])?;
-    push_blocks(&mut octets, &WORKED)?;
-    push_blocks(&mut octets, &[IDLE; 4])?;
-    Ok(octets)
-}
+text Short -> tape is short
+text Long -> tape is long
+text ReadFailed -> read failed
+text OutOfMemory -> out of memory
+text Refused -> out of memory
+";
+
+/// A reader that is asked once more than it has to be would be told as failed.
+const ENDS: &str = "
+# 192 calls of one octet, and one for the end
+tape 2
+fails 1 192 -> each
+one 1 193 -> 1-1 2 slots: 4370 0010 @, 0 left
+all 1 193 -> 1-1 2 slots: 4370 0010 @, 0 left
+# 28 calls of seven octets, and one for the end
+fails 7 27 -> each
+one -> 1-1 2 slots: 4370 0010 @
+# two calls of 100 octets, and one for the end
+fails 100 2 -> each
+
+# 64 tapes are read, and nothing after the octet that follows the last tape that may be there: a call for each of the
+# headers, and one for that octet
+new
+hex 1234 5678 00000000
+repeat 64
+count -> 64
+hex 0001
+all 1000 65 -> Long, 1 left
+one 1000 2 -> Long, 505 left
+
+# eight octets that say 65,536 slots decide
+new
+hex 0001 0001 00010000
+one 1000 1 -> Long, 0 left
+# a call for the header of the first tape, one for its blocks, and one for the second header
+new
+tape 2
+hex 0001 0001 00010000 20
+all 1000 3 -> Long, 1 left
+";
+
+/// A reader that gives many octets a call, and doesn't fail.
+const STEADY: (usize, Option<usize>) = (1000, None);
 
 /// Appends four blocks.
 fn push_blocks(octets: &mut Vec<u8>, blocks: &[[u8; 23]; 4]) -> Result<(), Fail> {
@@ -47,282 +127,237 @@ fn push_blocks(octets: &mut Vec<u8>, blocks: &[[u8; 23]; 4]) -> Result<(), Fail>
     Ok(())
 }
 
-/// What `read_tape` says of a source.
-fn read_one(alloc: Global, source: &mut Source<&mut MemoryReader>) -> Result<Reading, TapeFault> {
-    read_tape(alloc, source)
+/// Adds what a line says to the octets.
+fn add(alloc: Global, octets: &mut Vec<u8>, verb: &str, words: &mut Words) -> Result<String, Fail> {
+    match verb {
+        "new" => octets.clear(),
+        "hex" => add_hex(alloc, octets, words)?,
+        "tape" => {
+            octets.extend_from_slice(&[0x00, 0x01, 0x00, 0x01, 0x00, 0x00])?;
+            octets.extend_from_slice(&words.number16()?.to_be_bytes())?;
+            push_blocks(octets, &WORKED)?;
+            push_blocks(octets, &[IDLE; 4])?;
+        }
+        "page" => push_blocks(octets, &WORKED)?,
+        "idle" => {
+            for _ in 0..words.number16()? {
+                push_blocks(octets, &[IDLE; 4])?;
+            }
+        }
+        "repeat" => {
+            let once = Vec::from_slice(alloc, octets)?;
+            for _ in 1..words.number16()? {
+                octets.extend_from_slice(&once)?;
+            }
+        }
+        _ => return Ok(String::from_str(alloc, "no such action")?),
+    }
+    Ok(String::new(alloc))
 }
 
-/// What `read_tapes` says of a source.
-fn read_all(
+/// Adds the octets of words of hexadecimal digits, at most eight.
+fn add_hex(alloc: Global, octets: &mut Vec<u8>, words: &mut Words) -> Result<(), Fail> {
+    for _ in 0..8 {
+        octets.extend_from_slice(&octets_of(alloc, words.word())?)?;
+    }
+    Ok(())
+}
+
+/// How the octets are read.
+#[derive(Clone, Copy)]
+enum Kind {
+    One,
+    All,
+}
+
+/// Reads a source into a list.
+fn read(
     alloc: Global,
+    kind: Kind,
     source: &mut Source<&mut MemoryReader>,
-) -> Result<Vec<Reading>, TapeFault> {
-    read_tapes(alloc, source)
-}
-
-/// What `read_tape` says of these octets.
-fn one(alloc: Global, octets: &[u8]) -> Result<Reading, TapeFault> {
-    let mut reader = MemoryReader::new(octets, 1000, None);
-    read_one(alloc, &mut Source::new(&mut reader))
-}
-
-/// What `read_tapes` says of these octets.
-fn all(alloc: Global, octets: &[u8]) -> Result<Vec<Reading>, TapeFault> {
-    let mut reader = MemoryReader::new(octets, 1000, None);
-    read_all(alloc, &mut Source::new(&mut reader))
-}
-
-/// That `read_tape` finds these octets long with a reader that fails after so many calls, and leaves so many octets.
-fn expect_one_stops(rt: &impl Abort, alloc: Global, octets: &[u8], calls: usize, left: usize) {
-    let mut reader = MemoryReader::new(octets, 1000, Some(calls));
-    let mut source = Source::new(&mut reader);
-    assert!(rt; read_one(alloc, &mut source).err() == Some(TapeFault::Long));
-    assert!(rt; !source.failed());
-    assert_eq!(rt; reader.rest().len(), left);
-}
-
-/// That `read_tapes` does.
-fn expect_all_stops(rt: &impl Abort, alloc: Global, octets: &[u8], calls: usize, left: usize) {
-    let mut reader = MemoryReader::new(octets, 1000, Some(calls));
-    let mut source = Source::new(&mut reader);
-    assert!(rt; read_all(alloc, &mut source).err() == Some(TapeFault::Long));
-    assert!(rt; !source.failed());
-    assert_eq!(rt; reader.rest().len(), left);
-}
-
-/// That these octets, read as one tape and as tapes, have these faults.
-fn expect_faults(
-    rt: &impl Abort,
-    alloc: Global,
-    octets: &[u8],
-    of_one: TapeFault,
-    of_all: Option<TapeFault>,
-) {
-    assert!(rt; one(alloc, octets).err() == Some(of_one));
-    assert!(rt; all(alloc, octets).err() == of_all);
-}
-
-/// That the tape of 192 octets with another number of slots in the header has this fault.
-fn expect_fault_at(
-    rt: &impl Abort,
-    alloc: Global,
-    slots: u8,
-    fault: TapeFault,
-) -> Result<(), Fail> {
-    let octets = tape_of_slots(alloc, slots)?;
-    expect_faults(rt, alloc, &octets, fault, Some(fault));
-    Ok(())
-}
-
-/// That a reading is of the tape of 192 octets.
-fn expect_worked(rt: &impl Abort, reading: &Reading) {
-    assert_eq!(rt;
-        (reading.cell.lac, reading.cell.ci, reading.slots),
-        (1, 1, 2)
-    );
-    assert_eq!(rt; reading.shown.len(), 1);
-    for shown in &reading.shown {
-        assert_eq!(rt; (shown.id, shown.serial.number()), (4370, 0x0010));
-        assert_eq!(rt; shown.text.as_str(), "@");
-    }
-}
-
-/// That these octets are read as this number of worked tapes.
-fn expect_tapes(rt: &impl Abort, alloc: Global, octets: &[u8], count: usize) -> Result<(), Fail> {
-    let readings = all(alloc, octets)?;
-    assert_eq!(rt; readings.len(), count);
-    for reading in &readings {
-        expect_worked(rt, reading);
-    }
-    Ok(())
-}
-
-#[test]
-fn the_worked_tape_is_read(rt: HostRuntime) -> Result<(), Fail> {
-    let alloc = rt.alloc();
-    let mut octets = worked_tape(alloc)?;
-    assert_eq!(rt; octets.len(), 192);
-    expect_worked(&rt, &one(alloc, &octets)?);
-    expect_tapes(&rt, alloc, &octets, 1)?;
-    octets.extend_from_slice(&worked_tape(alloc)?)?;
-    expect_tapes(&rt, alloc, &octets, 2)
-}
-
-/// An octet more than a tape, and each front of it.
-#[test]
-fn longer_and_shorter(rt: HostRuntime) -> Result<(), Fail> {
-    let mut octets = worked_tape(rt.alloc())?;
-    octets.push(0x00)?;
-    expect_faults(
-        &rt,
-        rt.alloc(),
-        &octets,
-        TapeFault::Long,
-        Some(TapeFault::Short),
-    );
-    octets.pop();
-    for _ in 1..192 {
-        octets.pop();
-        expect_faults(
-            &rt,
-            rt.alloc(),
-            &octets,
-            TapeFault::Short,
-            Some(TapeFault::Short),
-        );
-    }
-    Ok(())
-}
-
-#[test]
-fn faults_of_inputs(rt: HostRuntime) -> Result<(), Fail> {
-    let (short, long) = (TapeFault::Short, TapeFault::Long);
-    expect_faults(&rt, rt.alloc(), &[], short, None);
-    expect_faults(&rt, rt.alloc(), &MOST, short, Some(short));
-    expect_faults(&rt, rt.alloc(), &OVER, long, Some(long));
-    // Fewer slots in the header: the idle blocks are then taken for a header with 2B2B2B2B slots. Then more slots.
-    expect_fault_at(&rt, rt.alloc(), 1, long)?;
-    expect_fault_at(&rt, rt.alloc(), 3, short)
-}
-
-/// A whole tape of 65,535 slots, which takes many pieces: the worked page is in its last slot.
-#[test]
-fn a_tape_of_65535_slots(rt: HostRuntime) -> Result<(), Fail> {
-    let mut octets = Vec::new(rt.alloc());
-    octets.extend_from_slice(&MOST)?;
-    for _ in 0..65534 {
-        push_blocks(&mut octets, &[IDLE; 4])?;
-    }
-    push_blocks(&mut octets, &WORKED)?;
-    assert_eq!(rt; octets.len(), 6029228);
-    let reading = one(rt.alloc(), &octets)?;
-    assert_eq!(rt; reading.slots, 65535);
-    assert_eq!(rt; reading.shown.len(), 1);
-    for shown in &reading.shown {
-        assert_eq!(rt; shown.text.as_str(), "@");
-    }
-    Ok(())
-}
-
-/// That a reading is of the tape of no slots.
-fn expect_empty(rt: &impl Abort, reading: &Reading) {
-    assert_eq!(rt; reading.cell.lac, 0x1234);
-    assert_eq!(rt; reading.cell.ci, 0x5678);
-    assert_eq!(rt; reading.slots, 0);
-    assert_eq!(rt; reading.shown.len(), 0);
-}
-
-#[test]
-fn a_tape_of_no_slots(rt: HostRuntime) -> Result<(), Fail> {
-    expect_empty(&rt, &one(rt.alloc(), &EMPTY)?);
-    Ok(())
-}
-
-/// 64 tapes are read, and nothing after the octet that follows the last tape that may be there.
-#[test]
-fn tapes_of_no_slots(rt: HostRuntime) -> Result<(), Fail> {
-    let mut octets = Vec::new(rt.alloc());
-    for _ in 0..64 {
-        octets.extend_from_slice(&EMPTY)?;
-    }
-    assert_eq!(rt; all(rt.alloc(), &octets)?.len(), 64);
-    octets.extend_from_slice(&[0x00, 0x01])?;
-    // A call for each of 64 headers, and one for the octet after them.
-    expect_all_stops(&rt, rt.alloc(), &octets, 65, 1);
-    expect_one_stops(&rt, rt.alloc(), &octets, 2, 505);
-    Ok(())
-}
-
-/// Readings are handed on in order, after those that were there.
-#[test]
-fn readings_are_handed_on(rt: HostRuntime) -> Result<(), Fail> {
-    let mut octets = worked_tape(rt.alloc())?;
-    octets.extend_from_slice(&EMPTY)?;
-    let mut readings = all(rt.alloc(), &EMPTY)?;
-    let mut reader = MemoryReader::new(&octets, 1000, None);
-    read_each(rt.alloc(), &mut Source::new(&mut reader), &mut readings)?;
-    assert_eq!(rt; readings.len(), 3);
-    for (place, reading) in readings.iter().enumerate() {
-        if place == 1 {
-            expect_worked(&rt, reading);
-        } else {
-            expect_empty(&rt, reading);
+    readings: &mut Vec<Reading>,
+) -> Result<(), TapeFault> {
+    match kind {
+        Kind::One => {
+            let reading = read_tape(alloc, source)?;
+            if readings.push(reading).is_err() {
+                return Err(TapeFault::Refused);
+            }
+        }
+        Kind::All => {
+            let mut read = read_tapes(alloc, source)?;
+            readings.append(&mut read)?;
         }
     }
     Ok(())
 }
 
-/// That both readings fail, and fail again, with a reader that gives so many octets a call, and fails after `given`.
-fn expect_failures(rt: &impl Abort, alloc: Global, octets: &[u8], per_call: usize, given: usize)
-    requires { 0 < per_call }
-{
-    let failed = Some(TapeFault::ReadFailed);
-    let mut reader = MemoryReader::new(octets, per_call, Some(given));
-    let mut source = Source::new(&mut reader);
-    assert_eq!(rt; read_one(alloc, &mut source).err(), failed);
-    assert_eq!(rt; read_one(alloc, &mut source).err(), failed);
-    let mut reader = MemoryReader::new(octets, per_call, Some(given));
-    let mut source = Source::new(&mut reader);
-    assert_eq!(rt; read_all(alloc, &mut source).err(), failed);
-    assert_eq!(rt; read_all(alloc, &mut source).err(), failed);
-}
-
-/// That both readings fail while the reader gives so many octets a call, and fewer calls than the tape takes.
-fn fails_until(
-    rt: &impl Abort,
+/// The readings, or the fault.
+fn answer(
     alloc: Global,
+    read: Result<(), TapeFault>,
+    readings: &[Reading],
+) -> Result<String, Fail> {
+    let mut text = String::new(alloc);
+    if let Err(fault) = read {
+        return Ok(format!(in alloc; "{fault:?}")?);
+    }
+    for reading in readings {
+        let between = if text.is_empty() { "" } else { "; " };
+        let cell = reading.cell;
+        let line = format!(in alloc; "{between}{}-{} {} slots", cell.lac, cell.ci, reading.slots)?;
+        text.push_str(&line)?;
+        for shown in &reading.shown {
+            let serial = shown.serial.number();
+            text.push_str(&format!(in alloc; ": {} {serial:04x} {}", shown.id, shown.text)?)?;
+        }
+    }
+    Ok(text)
+}
+
+/// What these octets are read as. A reader that can fail is asked what it still has.
+fn read_octets(
+    alloc: Global,
+    kind: Kind,
     octets: &[u8],
-    per_call: usize,
-    calls: usize,
-) -> Result<(), Fail>
-    requires { 0 < per_call }
-{
-    for given in 0..calls {
-        expect_failures(rt, alloc, octets, per_call, given);
+    pace: (usize, Option<usize>),
+) -> Result<String, Fail> {
+    let mut readings = Vec::new(alloc);
+    let mut reader = MemoryReader::new(octets, pace.0.max(1), pace.1);
+    let mut source = Source::new(&mut reader);
+    let result = read(alloc, kind, &mut source, &mut readings);
+    let is_failed = source.failed();
+    let text = answer(alloc, result, &readings)?;
+    match (pace.1, is_failed) {
+        (None, false) => Ok(text),
+        (_, false) => Ok(format!(in alloc; "{text}, {} left", reader.rest().len())?),
+        (_, true) => Ok(format!(in alloc; "{text}, source failed")?),
     }
-    let mut reader = MemoryReader::new(octets, per_call, None);
-    expect_worked(rt, &read_one(alloc, &mut Source::new(&mut reader))?);
-    Ok(())
 }
 
-#[test]
-fn a_reader_that_fails(rt: HostRuntime) -> Result<(), Fail> {
-    let octets = worked_tape(rt.alloc())?;
-    // 192 calls of one octet, and one for the end.
-    fails_until(&rt, rt.alloc(), &octets, 1, 193)?;
-    // 27 calls of seven octets are fewer than 192.
-    fails_until(&rt, rt.alloc(), &octets, 7, 28)?;
-    fails_until(&rt, rt.alloc(), &octets, 100, 3)
-}
-
-/// A reader that fails next isn't asked for more after eight octets that say 65,536 slots.
-#[test]
-fn stops_at_a_long_header(rt: HostRuntime) -> Result<(), Fail> {
-    expect_one_stops(&rt, rt.alloc(), &OVER, 1, 0);
-    let mut octets = worked_tape(rt.alloc())?;
-    octets.extend_from_slice(&OVER)?;
-    octets.push(0x20)?;
-    // A call for the header of the first tape, one for its blocks, and one for the second header.
-    expect_all_stops(&rt, rt.alloc(), &octets, 3, 1);
-    Ok(())
-}
-
-/// That a fault has this text.
-fn expect_text(rt: &impl Abort, alloc: Global, fault: TapeFault, text: &str) -> Result<(), Fail> {
-    assert_eq!(rt; fault.to_string(alloc)?.as_str(), text);
-    Ok(())
-}
-
-#[test]
-fn faults_have_texts(rt: HostRuntime) -> Result<(), Fail> {
-    for (fault, text) in [
-        (TapeFault::Short, "tape is short"),
-        (TapeFault::Long, "tape is long"),
-        (TapeFault::ReadFailed, "read failed"),
-        (TapeFault::Refused, "out of memory"),
-    ] {
-        expect_text(&rt, rt.alloc(), fault, text)?;
+/// The pace that words say, if there are any.
+fn pace_of(words: &mut Words) -> Result<(usize, Option<usize>), Fail> {
+    let word = words.word();
+    if word.is_empty() {
+        return Ok(STEADY);
     }
-    assert_eq!(rt; Refused.to_string(rt.alloc())?.as_str(), "out of memory");
+    Ok((word.parse::<usize>()?, Some(usize::from(words.number16()?))))
+}
+
+/// Whether both ways to read fail, and fail again, with a reader that fails after so many calls.
+fn fails_at(alloc: Global, octets: &[u8], per_call: usize, calls: usize) -> bool {
+    let mut readings = Vec::new(alloc);
+    for kind in [Kind::One, Kind::All] {
+        let mut reader = MemoryReader::new(octets, per_call.max(1), Some(calls));
+        let mut source = Source::new(&mut reader);
+        let first = read(alloc, kind, &mut source, &mut readings);
+        let second = read(alloc, kind, &mut source, &mut readings);
+        if first != Err(TapeFault::ReadFailed) || second != Err(TapeFault::ReadFailed) {
+            return false;
+        }
+    }
+    true
+}
+
+/// Reads again and again with readers that fail.
+fn fails(alloc: Global, octets: &[u8], words: &mut Words) -> Result<String, Fail> {
+    let per_call = usize::from(words.number16()?);
+    for calls in 0..=words.number16()? {
+        if !fails_at(alloc, octets, per_call, usize::from(calls)) {
+            return Ok(format!(in alloc; "not after {calls} calls")?);
+        }
+    }
+    Ok(String::from_str(alloc, "each")?)
+}
+
+/// Reads each front of so many octets, both ends included, and returns what all of them are read as.
+fn fronts(alloc: Global, octets: &[u8], words: &mut Words) -> Result<String, Fail> {
+    let mut all = String::new(alloc);
+    for length in words.number16()?..=words.number16()? {
+        let front = octets.get(..usize::from(length)).unwrap_or(octets);
+        let one = read_octets(alloc, Kind::One, front, STEADY)?;
+        let tapes = read_octets(alloc, Kind::All, front, STEADY)?;
+        let both = format!(in alloc; "{one}, {tapes}")?;
+        if !all.is_empty() && all != both {
+            return Ok(format!(in alloc; "{both} at {length}")?);
+        }
+        all = both;
+    }
+    Ok(all)
+}
+
+/// What a list has after the octets' readings were handed on to it. Before it has the reading of a tape of its own.
+fn after(alloc: Global, octets: &[u8], words: &mut Words) -> Result<String, Fail> {
+    let first = octets_of(alloc, words.word())?;
+    let mut reader = MemoryReader::new(&first, 1000, None);
+    let mut readings = read_tapes(alloc, &mut Source::new(&mut reader))?;
+    let mut reader = MemoryReader::new(octets, 1000, None);
+    let result = read_each(alloc, &mut Source::new(&mut reader), &mut readings);
+    answer(alloc, result, &readings)
+}
+
+/// How many tapes the octets are.
+fn count(alloc: Global, octets: &[u8]) -> Result<String, Fail> {
+    let mut reader = MemoryReader::new(octets, 1000, None);
+    let readings = read_tapes(alloc, &mut Source::new(&mut reader))?;
+    Ok(readings.len().to_string(alloc)?)
+}
+
+/// The text of a fault.
+fn text(alloc: Global, fault: &str) -> Result<String, Fail> {
+    match fault {
+        "Short" => Ok(TapeFault::Short.to_string(alloc)?),
+        "Long" => Ok(TapeFault::Long.to_string(alloc)?),
+        "ReadFailed" => Ok(TapeFault::ReadFailed.to_string(alloc)?),
+        "OutOfMemory" => Ok(TapeFault::Refused.to_string(alloc)?),
+        "Refused" => Ok(Refused.to_string(alloc)?),
+        _ => Ok(String::from_str(alloc, "no such fault")?),
+    }
+}
+
+/// What comes of an action.
+fn carried_out(alloc: Global, octets: &mut Vec<u8>, words: &mut Words) -> Result<String, Fail> {
+    match words.word() {
+        "one" => read_octets(alloc, Kind::One, octets, pace_of(words)?),
+        "all" => read_octets(alloc, Kind::All, octets, pace_of(words)?),
+        "length" => Ok(octets.len().to_string(alloc)?),
+        "count" => count(alloc, octets),
+        "fails" => fails(alloc, octets, words),
+        "fronts" => fronts(alloc, octets, words),
+        "after" => after(alloc, octets, words),
+        "text" => text(alloc, words.word()),
+        verb => add(alloc, octets, verb, words),
+    }
+}
+
+/// Expects what the rows of a table say.
+fn expect_rows(rt: &impl Abort, alloc: Global, table: &str) -> Result<(), Fail> {
+    let mut octets = Vec::new(alloc);
+    let mut rows = 0_u16;
+    for line in table.split('\n') {
+        if let Some(row) = Row::of(line) {
+            let mut words = Words::of(row.action);
+            let found = carried_out(alloc, &mut octets, &mut words)?;
+            assert_eq!(rt; found.as_str(), row.wanted, "{line}");
+            assert_eq!(rt; words.word(), "", "{line}");
+            rows = rows.saturating_add(1);
+        }
+    }
+    assert!(rt; rows > 10);
     Ok(())
+}
+
+#[test]
+fn tapes_are_read(rt: HostRuntime) -> Result<(), Fail> {
+    expect_rows(&rt, rt.alloc(), WHOLE)
+}
+
+#[test]
+fn short_and_long_tapes_have_faults(rt: HostRuntime) -> Result<(), Fail> {
+    expect_rows(&rt, rt.alloc(), FAULTS)
+}
+
+#[test]
+fn nothing_is_read_past_what_decides(rt: HostRuntime) -> Result<(), Fail> {
+    expect_rows(&rt, rt.alloc(), ENDS)
 }

@@ -1,0 +1,277 @@
+//! What a handset shows of blocks in many orders, by the rules of TS 44.012 and TS 23.041.
+//!
+//! `feed` hands blocks to the handset and says at which of them it shows a message. A block is one of these words:
+//! `@1` to `@4`, the worked blocks of the text `@`; `idle`; two hexadecimal digits, a block of this type whose other
+//! octets are carriage returns in UCS-2. `page SERIAL CODING PARAMETER LETTER` feeds the four blocks of a page of
+//! message 4370 whose content is this letter in UCS-2; `first` feeds the first of them alone. `pages` feeds such a
+//! page under each serial number from 0 and says whether each shows the same; `shown` says how many messages were
+//! shown, and `end` which, and goes on with a new handset.
+
+use crate::worked::{IDLE, WORKED};
+use handset::{Handset, Shown};
+use std::alloc::Global;
+use std::mem;
+use std::process::Abort;
+use std::test::Fail;
+use test_support::{Row, Words};
+
+/// A message is shown once, at the last of four blocks in a row.
+const BLOCKS: &str = "
+# an idle block before each
+feed idle @1 idle @2 idle @3 idle @4 -> nothing
+feed 2f @1 2f @2 2f @3 2f @4 -> nothing
+shown -> 0
+feed @1 @2 @3 @4 -> block 4: 4370 0010 @
+# a repeat
+feed @1 @2 @3 @4 -> nothing
+shown -> 1
+end -> 4370 0010 @
+
+# the third block is missing; then all but the first are; then another page comes
+first 0020 48 11 b -> nothing
+feed 21 33 -> nothing
+first 0020 48 11 b -> nothing
+page 0010 48 11 a -> block 4: 4370 0010 a
+shown -> 1
+";
+
+/// What pages show that come one after another.
+const PAGES: &str = "
+# page parameter 00, and a repeat with another text
+page 0010 48 00 a -> block 4: 4370 0010 a
+page 0010 48 11 b -> nothing
+
+# one page, which comes again between two pages of another message
+page 0020 48 11 A -> block 4: 4370 0020 A
+page 0030 48 12 B -> nothing
+page 0020 48 11 A -> nothing
+page 0030 48 22 C -> block 4: 4370 0030 BC
+
+# two serial numbers whose pages don't go together: the text has the order of numbers
+page 0040 48 12 D -> nothing
+page 0041 48 22 E -> nothing
+page 0041 48 12 F -> block 4: 4370 0041 FE
+page 0040 48 22 G -> block 4: 4370 0040 DG
+
+# no data coding, a number over the total, and then a page that is shown
+page 0050 f0 11 H -> nothing
+page 0050 48 32 I -> nothing
+page 0050 48 11 J -> block 4: 4370 0050 J
+
+# first of two, one of another total, one of another data coding, the first again, and the second
+page 0060 48 12 K -> nothing
+page 0060 48 23 L -> nothing
+page 0060 49 22 M -> nothing
+page 0060 48 12 N -> nothing
+page 0060 48 22 O -> block 4: 4370 0060 KO
+
+# three pages in another order, some of them twice
+page 0070 48 23 P -> nothing
+page 0070 48 33 Q -> nothing
+page 0070 48 33 R -> nothing
+page 0070 48 13 S -> block 4: 4370 0070 SPQ
+page 0070 48 13 T -> nothing
+shown -> 8
+";
+
+/// Neither pages nor messages are forgotten, however many.
+const MANY: &str = "
+pages 100 48 12 a nothing -> each
+pages 100 48 22 b ab -> each
+shown -> 100
+";
+
+/// A handset, and what the blocks of a line showed.
+#[derive(Drop)]
+struct Phone {
+    alloc: Global,
+    handset: Handset,
+    fed: u16,
+    answer: String,
+}
+
+/// A block of a type whose other octets are carriage returns.
+fn block_of(kind: u8) -> [u8; 23] {
+    [
+        kind, 0x00, 0x0D, 0x00, 0x0D, 0x00, 0x0D, 0x00, 0x0D, 0x00, 0x0D, 0x00, 0x0D, 0x00, 0x0D,
+        0x00, 0x0D, 0x00, 0x0D, 0x00, 0x0D, 0x00, 0x0D,
+    ]
+}
+
+/// The block that a word names.
+fn block(word: &str) -> Result<[u8; 23], Fail> {
+    let [first, second, third, last] = WORKED;
+    match word {
+        "@1" => Ok(first),
+        "@2" => Ok(second),
+        "@3" => Ok(third),
+        "@4" => Ok(last),
+        "idle" => Ok(IDLE),
+        _ => Ok(block_of(u8::from_str_radix(word, 16)?)),
+    }
+}
+
+/// The first block of a page of message 4370: its words are data coding, page parameter and letter.
+fn first_block(serial: u16, words: &mut Words) -> Result<[u8; 23], Fail> {
+    let coding = u8::from_str_radix(words.word(), 16)?;
+    let parameter = u8::from_str_radix(words.word(), 16)?;
+    let letter = words.word().bytes().next().ok_or("no letter")?;
+    let mut block = block_of(0x20);
+    let [high, low] = serial.to_be_bytes();
+    block[1..9].copy_from_slice(&[high, low, 0x11, 0x12, coding, parameter, 0x00, letter]);
+    Ok(block)
+}
+
+/// The same with another serial number.
+fn numbered(mut block: [u8; 23], serial: u16) -> [u8; 23] {
+    let [high, low] = serial.to_be_bytes();
+    block[1] = high;
+    block[2] = low;
+    block
+}
+
+/// Appends the line of a message to a text.
+fn push_message(alloc: Global, text: &mut String, message: &Shown) -> Result<(), Fail> {
+    let number = message.serial.number();
+    let line = format!(in alloc; "{} {number:04x} {}", message.id, message.text)?;
+    text.push_str(&line)?;
+    Ok(())
+}
+
+impl Phone {
+    /// A handset that was fed nothing.
+    fn new(alloc: Global) -> Phone {
+        Phone {
+            alloc,
+            handset: Handset::new(alloc),
+            fed: 0,
+            answer: String::new(alloc),
+        }
+    }
+
+    /// Feeds a block, and notes the message that it shows.
+    fn feed(&mut self, block: &[u8; 23]) -> Result<(), Fail> {
+        self.fed = self.fed.saturating_add(1);
+        if let Some(message) = self.handset.feed(block)? {
+            let place = format!(in self.alloc; "block {}: ", self.fed)?;
+            self.answer.push_str(&place)?;
+            push_message(self.alloc, &mut self.answer, &message)?;
+        }
+        Ok(())
+    }
+
+    /// What was noted since the last answer.
+    fn answer(&mut self) -> Result<String, Fail> {
+        self.fed = 0;
+        if self.answer.is_empty() {
+            self.answer.push_str("nothing")?;
+        }
+        Ok(mem::replace(&mut self.answer, String::new(self.alloc)))
+    }
+
+    /// What blocks show, one word each, at most 64 of them.
+    fn feed_all(&mut self, words: &mut Words) -> Result<String, Fail> {
+        for _ in 0..64 {
+            let word = words.word();
+            if word.is_empty() {
+                break;
+            }
+            self.feed(&block(word)?)?;
+        }
+        self.answer()
+    }
+
+    /// What the four blocks of a page show, of which this is the first.
+    fn page(&mut self, first: &[u8; 23]) -> Result<String, Fail> {
+        self.feed(first)?;
+        for kind in [0x21, 0x22, 0x33] {
+            self.feed(&block_of(kind))?;
+        }
+        self.answer()
+    }
+
+    /// Feeds a page under each of so many serial numbers, and says whether each shows the text that is the last word.
+    fn pages(&mut self, words: &mut Words) -> Result<String, Fail> {
+        let count = words.number16()?;
+        let first = first_block(0, words)?;
+        let text = words.word();
+        for serial in 0..count {
+            let answer = self.page(&numbered(first, serial))?;
+            let shown = format!(in self.alloc; "block 4: 4370 {serial:04x} {text}")?;
+            let wanted = if text == "nothing" {
+                text
+            } else {
+                shown.as_str()
+            };
+            if answer.as_str() != wanted {
+                return Ok(answer);
+            }
+        }
+        Ok(String::from_str(self.alloc, "each")?)
+    }
+
+    /// Which messages were shown. A new handset takes the place of this one.
+    fn end(&mut self) -> Result<String, Fail> {
+        let handset = mem::replace(&mut self.handset, Handset::new(self.alloc));
+        let mut text = String::new(self.alloc);
+        for message in &handset.into_shown() {
+            if !text.is_empty() {
+                text.push_str(", ")?;
+            }
+            push_message(self.alloc, &mut text, message)?;
+        }
+        Ok(text)
+    }
+
+    /// What comes of an action.
+    fn carry_out(&mut self, words: &mut Words) -> Result<String, Fail> {
+        match words.word() {
+            "feed" => self.feed_all(words),
+            "first" => {
+                let serial = words.hex16()?;
+                self.feed(&first_block(serial, words)?)?;
+                self.answer()
+            }
+            "page" => {
+                let serial = words.hex16()?;
+                self.page(&first_block(serial, words)?)
+            }
+            "pages" => self.pages(words),
+            "shown" => Ok(self.handset.shown().len().to_string(self.alloc)?),
+            "end" => self.end(),
+            _ => Ok(String::from_str(self.alloc, "no such action")?),
+        }
+    }
+}
+
+/// Expects what the rows of a table say of a new handset, and that there are so many rows.
+fn expect_rows(rt: &impl Abort, alloc: Global, table: &str, rows: u16) -> Result<(), Fail> {
+    let mut phone = Phone::new(alloc);
+    let mut count = 0_u16;
+    for line in table.split('\n') {
+        if let Some(row) = Row::of(line) {
+            let mut words = Words::of(row.action);
+            let found = phone.carry_out(&mut words)?;
+            assert_eq!(rt; found.as_str(), row.wanted, "{line}");
+            assert_eq!(rt; words.word(), "", "{line}");
+            count = count.saturating_add(1);
+        }
+    }
+    assert_eq!(rt; count, rows);
+    Ok(())
+}
+
+#[test]
+fn a_message_is_shown_once_at_its_last_block(rt: HostRuntime) -> Result<(), Fail> {
+    expect_rows(&rt, rt.alloc(), BLOCKS, 12)
+}
+
+#[test]
+fn pages_show_what_they_say(rt: HostRuntime) -> Result<(), Fail> {
+    expect_rows(&rt, rt.alloc(), PAGES, 24)
+}
+
+#[test]
+fn many_pages_and_messages_are_kept(rt: HostRuntime) -> Result<(), Fail> {
+    expect_rows(&rt, rt.alloc(), MANY, 3)
+}
