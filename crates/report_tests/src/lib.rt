@@ -3,14 +3,8 @@
 #![tactic(auto)]
 
 #[cfg(test)]
-mod cells;
-#[cfg(test)]
-mod ends;
+mod books;
 #[cfg(test)]
 mod memory;
 #[cfg(test)]
-mod runs;
-#[cfg(test)]
-mod shown;
-#[cfg(test)]
-mod worked;
+mod tables;

@@ -1,107 +1,78 @@
-//! Reports with hardly any memory: each allocation is refused once, and nothing is written then; and long logs.
+//! Reports with hardly any memory: each allocation is refused once, and nothing is written then.
 
-use crate::runs::{kill, open, order, played_out, readings_of, standing, started};
-use crate::worked::two_cells;
-use bsc_table::{Answer, CellRecord};
+use crate::books::expect_rows;
+use crate::tables::TWO_CELLS;
+use bsc_table::CellRecord;
 use device_ends::Sink;
 use handset::Reading;
 use report::{ReportFault, rows, write_report};
-use test_support::take_all;
 use std::alloc::Global;
 use std::process::Abort;
 use std::test::Fail;
+use test_support::take_all;
 
 /// How many octets each block of the memory has that is given back.
 const BLOCK: usize = 256;
 
-/// Expects that memory was refused, and that nothing was written.
-fn expect_refused(rt: &impl Abort, fault: ReportFault, left: usize) {
-    assert_eq!(rt; fault, ReportFault::Refused);
-    assert_eq!(rt; left, 400);
-}
-
-/// How many of 400 octets a report leaves; None if it was refused memory.
+/// What a report of these leaves of 400 octets; the fault of one that isn't written.
 fn left_by(
-    rt: &impl Abort,
     alloc: Global,
     runs: &[CellRecord],
     readings: &[Reading],
-) -> Option<usize> {
+) -> (Result<(), ReportFault>, usize) {
     let mut out = [0; 400];
     let mut left = out.as_mut_slice();
     let rows = match rows(alloc, runs, readings) {
         Ok(rows) => rows,
-        Err(fault) => {
-            expect_refused(rt, fault, left.len());
-            return None;
-        }
+        Err(fault) => return (Err(fault), left.len()),
     };
-    let mut sink = Sink::new(&mut left);
-    if let Err(fault) = write_report(alloc, rows.as_slice(), &mut sink) {
-        assert!(rt; !sink.failed());
-        expect_refused(rt, fault, left.len());
-        return None;
+    let done = write_report(alloc, rows.as_slice(), &mut Sink::new(&mut left));
+    (done, left.len())
+}
+
+/// Blocks that are given back one after another, once all other memory is taken.
+fn spare_blocks(alloc: Global) -> Result<Vec<Vec<u8>>, Fail> {
+    let mut spare: Vec<Vec<u8>> = Vec::with_capacity(alloc, 400)?;
+    for _ in 0..400 {
+        spare.push(Vec::with_capacity(alloc, BLOCK)?)?;
     }
-    Some(left.len())
+    Ok(spare)
+}
+
+/// How many reports are refused memory before one is written, each with one block more.
+fn refusals(
+    rt: &impl Abort,
+    alloc: Global,
+    runs: &[CellRecord],
+    readings: &[Reading],
+    spare: &mut Vec<Vec<u8>>,
+) -> u16 {
+    let mut refused = 0_u16;
+    for _ in 0..400 {
+        // the cells are compared without memory
+        let fewer = left_by(alloc, runs, &readings[..readings.len().saturating_sub(1)]);
+        assert_eq!(rt; fewer, (Err(ReportFault::Cells), 400));
+        let (done, left) = left_by(alloc, runs, readings);
+        if done.is_ok() {
+            assert_eq!(rt; left, 400 - 163);
+            return refused;
+        }
+        assert_eq!(rt; (done, left), (Err(ReportFault::Refused), 400));
+        refused = refused.saturating_add(1);
+        let _ = spare.pop();
+    }
+    assert!(rt; false, "no report with 100 KB");
+    refused
 }
 
 #[test]
 fn refused_memory_is_reported(rt: HostRuntime) -> Result<(), Fail> {
-    let runs = two_cells(&rt, rt.alloc())?;
-    let readings = readings_of(rt.alloc(), runs.as_slice())?;
-    let mut fewer = readings_of(rt.alloc(), runs.as_slice())?;
-    fewer.pop();
-    let mut spare: Vec<Vec<u8>> = Vec::with_capacity(rt.alloc(), 400)?;
-    for _ in 0..400 {
-        spare.push(Vec::with_capacity(rt.alloc(), BLOCK)?)?;
-    }
+    let books = expect_rows(&rt, rt.alloc(), TWO_CELLS, 12)?;
+    let mut spare = spare_blocks(rt.alloc())?;
     let mut taken = Vec::with_capacity(rt.alloc(), 100_000)?;
     take_all(rt.alloc(), &mut taken);
-    let mut refused = 0_u16;
-    for _ in 0..400 {
-        // the cells are compared without memory
-        let differ = rows(rt.alloc(), runs.as_slice(), fewer.as_slice());
-        assert!(rt; matches!(differ, Err(ReportFault::Cells)));
-        if let Some(count) = left_by(&rt, rt.alloc(), runs.as_slice(), readings.as_slice()) {
-            taken.clear();
-            assert_eq!(rt; count, 400 - 163);
-            assert!(rt; refused > 3);
-            return Ok(());
-        }
-        refused = refused.saturating_add(1);
-        let _ = spare.pop();
-    }
+    let refused = refusals(&rt, rt.alloc(), &books.runs, &books.readings, &mut spare);
     taken.clear();
-    assert!(rt; false, "no report with 100 KB");
-    Ok(())
-}
-
-#[test]
-fn a_long_log_and_many_slots(rt: HostRuntime) -> Result<(), Fail> {
-    let mut book = open(rt.alloc(), 1, 65_535)?;
-    for number in 0..2048 {
-        if number < 60 {
-            order(
-                &rt,
-                rt.alloc(),
-                &mut book,
-                standing(number, 1),
-                1,
-                60,
-                started(0),
-            )?;
-        } else {
-            kill(&rt, &mut book, number, 2, Answer::Cause(0x02));
-        }
-        kill(&rt, &mut book, number, 3, Answer::Cause(0x02));
-    }
-    let mut runs = Vec::with_capacity(rt.alloc(), 1)?;
-    runs.push(played_out(book))?;
-    let readings = readings_of(rt.alloc(), runs.as_slice())?;
-    let rows = rows(rt.alloc(), runs.as_slice(), readings.as_slice())?;
-    assert_eq!(rt; rows.len(), 4096);
-    // aired in each slot that 60 divides
-    assert_eq!(rt; rows[0].completed, 1093);
-    assert_eq!(rt; rows[0].end, 65_535);
+    assert!(rt; refused > 3);
     Ok(())
 }
