@@ -1,16 +1,20 @@
-//! Tests of `warnc`'s commands by runs between memory and memory: worked rows of each command, refused words, ends that
-//! fail and refused memory.
+//! Tests of `warnc`'s commands by runs between memory and memory, as tables of lines: worked rows of each command,
+//! refused words, ends that fail, and refused memory.
 #![tactic(auto)]
 
 #[cfg(test)]
-mod compile;
+mod bench;
 #[cfg(test)]
-mod live;
+mod books;
 #[cfg(test)]
-mod memory;
+mod octets;
+#[cfg(test)]
+mod page;
 #[cfg(test)]
 mod read;
 #[cfg(test)]
-mod reports;
+mod rows;
 #[cfg(test)]
-mod runs;
+mod scarce;
+#[cfg(test)]
+mod words;

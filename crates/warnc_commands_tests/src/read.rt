@@ -1,135 +1,144 @@
-//! Runs of `read` between memory and memory. The blocks are those of a worked page; UCS-2 pages are spelled out.
+//! Runs of `read`. The blocks are those of a worked page; UCS-2 pages are spelled out.
 
-use crate::runs::{Outcome, expect_failed_reader, expect_failed_writer, expect_fault, run_on};
-use std::alloc::{AllocError, Global};
-use std::process::Abort;
-use std::sync::Wait;
+use crate::rows::expect_rows;
 use std::test::Fail;
-use std::thread::Threads;
 
-/// The words of `read`.
-const READ: [&str; 2] = ["warnc", "read"];
+const READ: &str = "
+args read
+# the worked tape: cell 1-1, two slots, the text `@`, and an idle slot
+worked-hex 0001 0001 00000002
+worked-hex 200010111201118046a3d168341a8d46a3d168341a8d46
+worked-hex 21a3d168341a8d46a3d168341a8d46a3d168341a8d46a3
+worked-hex 22d168341a8d46a3d168341a8d46a3d168341a8d46a3d1
+worked-hex 3368341a8d46a3d168341a8d46a3d168341a8d46a3d100
+worked-hex 2f2b2b2b2b2b2b2b2b2b2b2b2b2b2b2b2b2b2b2b2b2b2b
+worked-hex 2f2b2b2b2b2b2b2b2b2b2b2b2b2b2b2b2b2b2b2b2b2b2b
+worked-hex 2f2b2b2b2b2b2b2b2b2b2b2b2b2b2b2b2b2b2b2b2b2b2b
+worked-hex 2f2b2b2b2b2b2b2b2b2b2b2b2b2b2b2b2b2b2b2b2b2b2b
+in-worked
+run -> 0
+out -> lac,ci,id,serial,text
+out -> 1,1,4370,0010,@
 
-/// The row of the columns' names.
-const COLUMNS: &str = "lac,ci,id,serial,text\n";
+in-none
+run -> 0
+out -> lac,ci,id,serial,text
 
-/// The four blocks of the text `@`, with message identifier 4370 and serial number 0010.
-const AT: &str = "200010111201118046a3d168341a8d46a3d168341a8d46\
-         21a3d168341a8d46a3d168341a8d46a3d168341a8d46a3\
-         22d168341a8d46a3d168341a8d46a3d168341a8d46a3d1\
-         3368341a8d46a3d168341a8d46a3d168341a8d46a3d100";
+# tapes follow each other: the worked one, a slot of `Вода` in UCS-2, the worked one
+in-worked
+in-hex fffe 0102 00000001
+in-hex 20 0010 1112 48 11 0412 043e 0434 0430 000d 000d 000d 000d
+in-hex 21 000d 000d 000d 000d 000d 000d 000d 000d 000d 000d 000d
+in-hex 22 000d 000d 000d 000d 000d 000d 000d 000d 000d 000d 000d
+in-hex 33 000d 000d 000d 000d 000d 000d 000d 000d 000d 000d 000d
+in-worked
+run -> 0
+out -> lac,ci,id,serial,text
+out -> 1,1,4370,0010,@
+out -> 65534,258,4370,0010,Вода
+out -> 1,1,4370,0010,@
 
-/// An idle block.
-const IDLE: &str = "2f2b2b2b2b2b2b2b2b2b2b2b2b2b2b2b2b2b2b2b2b2b2b";
+# the text `a,\"b`, a line feed, `c`: it is quoted
+in-hex 0007 0009 00000001
+in-hex 20 0010 1112 48 11 0061 002c 0022 0062 000a 0063 000d 000d
+in-hex 21 000d 000d 000d 000d 000d 000d 000d 000d 000d 000d 000d
+in-hex 22 000d 000d 000d 000d 000d 000d 000d 000d 000d 000d 000d
+in-hex 33 000d 000d 000d 000d 000d 000d 000d 000d 000d 000d 000d
+run -> 0
+out -> lac,ci,id,serial,text
+out -> 7,9,4370,0010,\"a,\"\"b
+out -> c\"
+";
 
-/// A tape of cell 1/1 with two slots: the text `@`, and an idle one.
-pub fn worked_tape(alloc: Global) -> Result<Vec<u8>, Fail> {
-    let mut digits = String::new(alloc);
-    digits.push_str("0001000100000002")?;
-    digits.push_str(AT)?;
-    for _ in 0..4 {
-        digits.push_str(IDLE)?;
-    }
-    Ok(hex::decode(alloc, digits)?)
-}
+const REFUSED: &str = "
+args read
+in-hex 0001 0001 00000002
+in-hex 200010111201118046a3d168341a8d46a3d168341a8d46
+in-hex 21a3d168341a8d46a3d168341a8d46a3d168341a8d46a3
+in-hex 22d168341a8d46a3d168341a8d46a3d168341a8d46a3d1
+in-hex 3368341a8d46a3d168341a8d46a3d168341a8d46a3d100
+in-hex 2f2b2b2b2b2b2b2b2b2b2b2b2b2b2b2b2b2b2b2b2b2b2b
+in-hex 2f2b2b2b2b2b2b2b2b2b2b2b2b2b2b2b2b2b2b2b2b2b2b
+in-hex 2f2b2b2b2b2b2b2b2b2b2b2b2b2b2b2b2b2b2b2b2b2b2b
+in-hex 2f2b2b2b2b2b2b2b2b2b2b2b2b2b2b2b2b2b2b2b2b2b2b
+in-hex 00
+fronts 1 191 -> 1 warnc: tape is short
+fails -> 1 warnc: tape is short
 
-/// A tape of a cell with one slot, of a UCS-2 page whose text is these characters of the first plane.
-fn tape_of(alloc: Global, cell: [u8; 4], text: &str) -> Result<Vec<u8>, AllocError> {
-    let mut page = Vec::new(alloc);
-    page.extend_from_slice(&[0x00, 0x10, 0x11, 0x12, 0x48, 0x11])?;
-    for character in text.chars() {
-        let [_, _, high, low] = (character as u32).to_be_bytes();
-        page.extend_from_slice(&[high, low])?;
-    }
-    for _ in text.chars().count()..41 {
-        page.extend_from_slice(&[0x00, 0x0D])?;
-    }
-    let mut tape = Vec::new(alloc);
-    tape.extend_from_slice(&cell)?;
-    tape.extend_from_slice(&[0, 0, 0, 1])?;
-    for (quarter, kind) in page.chunks(22).zip([0x20, 0x21, 0x22, 0x33]) {
-        tape.push(kind)?;
-        tape.extend_from_slice(quarter)?;
-    }
-    Ok(tape)
-}
+# 65,536 slots, 2,147,483,648 slots, and 65,535 slots
+in-hex 0001 0001 00010000
+fails -> 1 warnc: tape is long
+in-hex 0001 0001 80000000
+fails -> 1 warnc: tape is long
+in-hex 0001 0001 0000ffff
+fails -> 1 warnc: tape is short
 
-/// Expects a table with these rows behind the columns' names, and no fault.
-fn expect_table<T: AllocGlobal + Abort + Threads + Wait + Sync>(
-    rt: &T,
-    tapes: &[u8],
-    rows: &str,
-) -> Result<(), Fail> {
-    let run: Outcome = run_on(rt, &READ, tapes)?;
-    assert_eq!(rt; run.faults.as_str(), "");
-    assert!(rt; run.output.starts_with(COLUMNS), "{}", run.output);
-    assert_eq!(rt; &run.output[COLUMNS.len()..], rows);
-    assert_eq!(rt; run.status, 0);
-    Ok(())
+# 64 tapes, and an octet more
+in-hex 0001 0002 00000001
+in-hex 20 0010 1112 48 11 044f 000d 000d 000d 000d 000d 000d 000d
+in-hex 21 000d 000d 000d 000d 000d 000d 000d 000d 000d 000d 000d
+in-hex 22 000d 000d 000d 000d 000d 000d 000d 000d 000d 000d 000d
+in-hex 33 000d 000d 000d 000d 000d 000d 000d 000d 000d 000d 000d
+repeat 64
+run -> 0
+out -> lac,ci,id,serial,text
+out 64 -> 1,2,4370,0010,я
+in-hex 0001 0002 00000001
+in-hex 20 0010 1112 48 11 044f 000d 000d 000d 000d 000d 000d 000d
+in-hex 21 000d 000d 000d 000d 000d 000d 000d 000d 000d 000d 000d
+in-hex 22 000d 000d 000d 000d 000d 000d 000d 000d 000d 000d 000d
+in-hex 33 000d 000d 000d 000d 000d 000d 000d 000d 000d 000d 000d
+repeat 64
+in-hex 00
+fails -> 1 warnc: tape is long
+
+# what is read once more would be told as a failed reader
+worked lac,ci,id,serial,text
+worked 1,1,4370,0010,@
+in-hex 0001 0001 00000002
+in-hex 200010111201118046a3d168341a8d46a3d168341a8d46
+in-hex 21a3d168341a8d46a3d168341a8d46a3d168341a8d46a3
+in-hex 22d168341a8d46a3d168341a8d46a3d168341a8d46a3d1
+in-hex 3368341a8d46a3d168341a8d46a3d168341a8d46a3d100
+in-hex 2f2b2b2b2b2b2b2b2b2b2b2b2b2b2b2b2b2b2b2b2b2b2b
+in-hex 2f2b2b2b2b2b2b2b2b2b2b2b2b2b2b2b2b2b2b2b2b2b2b
+in-hex 2f2b2b2b2b2b2b2b2b2b2b2b2b2b2b2b2b2b2b2b2b2b2b
+in-hex 2f2b2b2b2b2b2b2b2b2b2b2b2b2b2b2b2b2b2b2b2b2b2b
+reads 0 192 -> 3 warnc: read failed
+# 192 octets and the end are read, and nothing more
+reader 1 193
+run -> 0
+all -> worked
+writer 20 0
+run -> 3
+err -> warnc: write failed
+all -> 0 of 38
+writer 20 1
+run -> 3
+err -> warnc: write failed
+all -> 20 of 38
+
+# 64 tapes of no slots: the end is looked for after the last one, and once
+in-hex 0001 0002 00000000
+repeat 64
+reader 1 513
+run -> 0
+out -> lac,ci,id,serial,text
+reader 1 512
+fails -> 3 warnc: read failed
+
+# a header that says too many slots decides
+in-hex 0001 0001 00010000
+reader 8 1
+fails -> 1 warnc: tape is long
+";
+
+#[test]
+fn tapes_show_their_texts(rt: HostRuntime) -> Result<(), Fail> {
+    expect_rows(&rt, READ)
 }
 
 #[test]
-fn the_worked_tape_shows_its_text(rt: HostRuntime) -> Result<(), Fail> {
-    let tape = worked_tape(rt.alloc())?;
-    assert_eq!(rt; tape.len(), 192);
-    expect_table(&rt, &tape, "1,1,4370,0010,@\n")?;
-    expect_table(&rt, b"", "")
-}
-
-#[test]
-fn tapes_follow_each_other(rt: HostRuntime) -> Result<(), Fail> {
-    let mut tapes = worked_tape(rt.alloc())?;
-    tapes.extend_from_slice(&tape_of(rt.alloc(), [0xFF, 0xFE, 0x01, 0x02], "Вода")?)?;
-    tapes.extend_from_slice(&worked_tape(rt.alloc())?)?;
-    let rows = "1,1,4370,0010,@\n65534,258,4370,0010,Вода\n1,1,4370,0010,@\n";
-    expect_table(&rt, &tapes, rows)
-}
-
-#[test]
-fn a_text_with_commas_and_quotes_is_quoted(rt: HostRuntime) -> Result<(), Fail> {
-    let tape = tape_of(rt.alloc(), [0, 7, 0, 9], "a,\"b\nc")?;
-    expect_table(&rt, &tape, "7,9,4370,0010,\"a,\"\"b\nc\"\n")
-}
-
-#[test]
-fn tapes_that_end_early_are_short(rt: HostRuntime) -> Result<(), Fail> {
-    let tape = worked_tape(rt.alloc())?;
-    for length in 1..tape.len() {
-        expect_fault(&rt, &READ, &tape[..length], 1, "warnc: tape is short\n")?;
-    }
-    let mut longer = worked_tape(rt.alloc())?;
-    longer.push(0)?;
-    expect_fault(&rt, &READ, &longer, 1, "warnc: tape is short\n")
-}
-
-#[test]
-fn more_slots_or_tapes_than_there_may_be_are_long(rt: HostRuntime) -> Result<(), Fail> {
-    let slots = [0, 1, 0, 1, 0x00, 0x01, 0x00, 0x00];
-    expect_fault(&rt, &READ, &slots, 1, "warnc: tape is long\n")?;
-    let slots = [0, 1, 0, 1, 0x80, 0x00, 0x00, 0x00];
-    expect_fault(&rt, &READ, &slots, 1, "warnc: tape is long\n")?;
-    let slots = [0, 1, 0, 1, 0x00, 0x00, 0xFF, 0xFF];
-    expect_fault(&rt, &READ, &slots, 1, "warnc: tape is short\n")?;
-    let mut tapes = Vec::new(rt.alloc());
-    let mut rows = String::new(rt.alloc());
-    for _ in 0..64 {
-        tapes.extend_from_slice(&tape_of(rt.alloc(), [0, 1, 0, 2], "я")?)?;
-        rows.push_str("1,2,4370,0010,я\n")?;
-    }
-    expect_table(&rt, &tapes, rows.as_str())?;
-    tapes.push(0)?;
-    expect_fault(&rt, &READ, &tapes, 1, "warnc: tape is long\n")
-}
-
-#[test]
-fn a_reader_that_fails_anywhere_is_status_3(rt: HostRuntime) -> Result<(), Fail> {
-    let tape = worked_tape(rt.alloc())?;
-    for call in 0..193 {
-        expect_failed_reader(&rt, &READ, &tape, call);
-    }
-    let table = "lac,ci,id,serial,text\n1,1,4370,0010,@\n";
-    for call in 0..2 {
-        expect_failed_writer(&rt, &READ, &tape, table.as_bytes(), 20, call);
-    }
-    Ok(())
+fn refused_tapes_and_failed_devices_are_named(rt: HostRuntime) -> Result<(), Fail> {
+    expect_rows(&rt, REFUSED)
 }

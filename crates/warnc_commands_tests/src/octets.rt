@@ -1,0 +1,117 @@
+//! Octets that lines put together, and octets that a run wrote.
+
+use crate::bench::Pace;
+use device_ends::memory::MemoryWriter;
+use std::alloc::Global;
+use std::test::Fail;
+use test_support::octets_of;
+
+/// Octets that lines put together for a run. The first line after the run begins anew.
+#[derive(Drop)]
+pub struct Sheet {
+    pub octets: Vec<u8>,
+    pub is_used: bool,
+}
+
+impl Sheet {
+    /// No octets.
+    pub fn new(alloc: Global) -> Sheet {
+        Sheet {
+            octets: Vec::new(alloc),
+            is_used: false,
+        }
+    }
+
+    /// Puts octets at the end.
+    pub fn add(&mut self, octets: &[u8]) -> Result<(), Fail> {
+        if self.is_used {
+            self.octets.clear();
+            self.is_used = false;
+        }
+        self.octets.extend_from_slice(octets)?;
+        Ok(())
+    }
+
+    /// Puts a line at the end.
+    pub fn add_line(&mut self, line: &str) -> Result<(), Fail> {
+        self.add(line.as_bytes())?;
+        self.add(b"\n")
+    }
+
+    /// Puts octets at the end that words of hexadecimal digits name.
+    pub fn add_hex(&mut self, alloc: Global, words: &str) -> Result<(), Fail> {
+        for word in words.split_whitespace() {
+            self.add(&octets_of(alloc, word)?)?;
+        }
+        Ok(())
+    }
+
+    /// Has the octets so many times, one after the other.
+    pub fn repeat(&mut self, alloc: Global, count: u64) -> Result<(), Fail> {
+        let once = Vec::from_slice(alloc, &self.octets)?;
+        for _ in 1..count {
+            self.octets.extend_from_slice(&once)?;
+        }
+        Ok(())
+    }
+}
+
+/// What a run wrote, and how much of it was looked at.
+#[derive(Drop)]
+pub struct Written {
+    pub writer: MemoryWriter,
+    looked: usize,
+}
+
+impl Written {
+    /// Nothing yet, by a writer of this pace.
+    pub fn new(alloc: Global, pace: Pace) -> Written {
+        Written {
+            writer: MemoryWriter::new(alloc, pace.octets, pace.calls),
+            looked: 0,
+        }
+    }
+
+    /// What wasn't looked at.
+    pub fn left(&self) -> &[u8] {
+        match self.writer.contents().get(self.looked..) {
+            Some(left) => left,
+            None => &[],
+        }
+    }
+
+    /// All that wasn't looked at.
+    pub fn rest(&mut self, alloc: Global) -> Result<String, Fail> {
+        let rest = String::from_utf8_lossy(alloc, self.left())?;
+        self.looked = self.writer.contents().len();
+        Ok(rest)
+    }
+
+    /// The next line, which a line feed has to end.
+    pub fn line(&mut self, alloc: Global) -> Result<String, Fail> {
+        let left = self.left();
+        let Some(length) = left.iter().position(|octet| *octet == b'\n') else {
+            return Ok(String::from_str(alloc, "no line")?);
+        };
+        let line = String::from_utf8_lossy(alloc, &left[..length])?;
+        self.looked = self.looked.saturating_add(length).saturating_add(1);
+        Ok(line)
+    }
+
+    /// How much it is of worked octets.
+    pub fn part_of(&mut self, alloc: Global, worked: &[u8]) -> Result<String, Fail> {
+        self.looked = self.writer.contents().len();
+        part_of(alloc, self.writer.contents(), worked)
+    }
+}
+
+/// How much octets are of worked ones: `worked` if they are the same, `N of M` if they are the first N of M.
+pub fn part_of(alloc: Global, octets: &[u8], worked: &[u8]) -> Result<String, Fail> {
+    if octets == worked {
+        return Ok(String::from_str(alloc, "worked")?);
+    }
+    if worked.starts_with(octets) {
+        return Ok(format!(in alloc; "{} of {}", octets.len(), worked.len())?);
+    }
+    Ok(String::from_utf8_lossy(alloc, octets)?)
+}

@@ -1,0 +1,153 @@
+//! The lines of a table, and what comes of them.
+//!
+//! What the next run gets:
+//!
+//! - `args WORDS`: the command line without the program's name, up to the next such line;
+//! - `in TEXT`, `in-hex DIGITS ..`, `in-worked`: a line of input, octets of it, or the worked octets. The first after
+//!   a run begins a new input; `in-none` is one of no octets, and `repeat N` has the input N times;
+//! - `worked TEXT`, `worked-hex DIGITS ..`: worked octets, with which an output is compared;
+//! - `reader N CALLS`, `writer N CALLS`, `faults N CALLS`: the device moves N octets a call, and fails after so many
+//!   calls. At other runs none fails.
+//!
+//! The program runs:
+//!
+//! - `run -> STATUS`. Lines say then what it wrote: `out -> LINE`, the next line of the output; `out N -> LINE`, the
+//!   next N lines, which are the same; `starts TEXT -> yes`, the next line begins so; `all -> worked` or
+//!   `all -> N of M`, how much of the worked octets it is; `says TEXT -> yes` and `lists COMMAND -> yes`, all that is
+//!   left of it does; `err -> LINE`, the next line of the faults. If no line speaks of an octet, the next run is no
+//!   action;
+//! - `fails -> STATUS LINE`: all that it writes is a line of faults;
+//! - `usage -> STATUS WORD`: all that it writes is faults that begin with this word;
+//! - `fronts N M -> STATUS LINE`: it `fails` so on each front of the input that has N to M octets;
+//! - `reads N M -> STATUS LINE`: it `fails` so with a reader of an octet a call that fails after N to M calls;
+//! - `scarce -> STATUS OUTPUT`: it runs with more and more memory until that is enough.
+
+use crate::bench::{Bench, Pace, runs};
+use crate::octets::Written;
+use crate::scarce::scarce;
+use std::alloc::Global;
+use std::process::Abort;
+use std::sync::Wait;
+use std::test::Fail;
+use std::thread::Threads;
+use test_support::{Row, Words};
+
+/// Expects that no word is left.
+fn end(words: &mut Words) -> Result<(), Fail> {
+    if words.word().is_empty() {
+        return Ok(());
+    }
+    Err(Fail::new("words are left over"))
+}
+
+/// The pace that two numbers say.
+fn pace_of(numbers: &str) -> Result<Pace, Fail> {
+    let mut numbers = Words::of(numbers);
+    let octets = usize::from(numbers.number16()?);
+    let calls = Some(numbers.word().parse::<usize>()?);
+    end(&mut numbers)?;
+    Ok(Pace { octets, calls })
+}
+
+/// Has what a line says for the next run.
+fn set<'a>(
+    alloc: Global,
+    bench: &mut Bench<'a>,
+    verb: &str,
+    rest: &'a str,
+) -> Result<String, Fail> {
+    match verb {
+        "args" => bench.args = rest,
+        "in" => bench.input.add_line(rest)?,
+        "in-hex" => bench.input.add_hex(alloc, rest)?,
+        "in-none" if rest.is_empty() => bench.input.add(b"")?,
+        "in-worked" if rest.is_empty() => bench.input.add(&bench.worked.octets)?,
+        "repeat" => bench.input.repeat(alloc, rest.parse::<u64>()?)?,
+        "worked" => bench.worked.add_line(rest)?,
+        "worked-hex" => bench.worked.add_hex(alloc, rest)?,
+        "reader" => bench.reader = pace_of(rest)?,
+        "writer" => bench.writer = pace_of(rest)?,
+        "faults" => bench.faults_writer = pace_of(rest)?,
+        _ => return Ok(String::from_str(alloc, "no such action")?),
+    }
+    Ok(String::new(alloc))
+}
+
+/// The next lines, if they are all the same.
+fn lines(alloc: Global, written: &mut Written, rest: &str) -> Result<String, Fail> {
+    let count = if rest.is_empty() {
+        1
+    } else {
+        rest.parse::<u16>()?
+    };
+    let line = written.line(alloc)?;
+    for _ in 1..count {
+        let next = written.line(alloc)?;
+        if next != line {
+            return Ok(next);
+        }
+    }
+    Ok(line)
+}
+
+/// What a line reads of the last run.
+fn shown(alloc: Global, bench: &mut Bench, verb: &str, rest: &str) -> Result<String, Fail> {
+    let is_so = match verb {
+        "out" => return lines(alloc, &mut bench.output, rest),
+        "err" => return lines(alloc, &mut bench.faults, rest),
+        "all" if rest.is_empty() => return bench.output.part_of(alloc, &bench.worked.octets),
+        "starts" => bench.output.line(alloc)?.starts_with(rest),
+        "says" => bench.output.rest(alloc)?.contains(rest),
+        _ => {
+            let listed = format!(in alloc; "\n  {rest} ")?;
+            bench.output.rest(alloc)?.contains(listed.as_str())
+        }
+    };
+    Ok(String::from_str(alloc, if is_so { "yes" } else { "no" })?)
+}
+
+/// The numbers of a line that runs the program; 0 and 0 if it has none.
+fn numbers_of(rest: &str) -> Result<(u16, u16), Fail> {
+    if rest.is_empty() {
+        return Ok((0, 0));
+    }
+    let mut numbers = Words::of(rest);
+    let both = (numbers.number16()?, numbers.number16()?);
+    end(&mut numbers)?;
+    Ok(both)
+}
+
+/// What comes of an action.
+fn carried_out<'a, T: AllocGlobal + Threads + Wait + Sync>(
+    rt: &T,
+    bench: &mut Bench<'a>,
+    action: &'a str,
+) -> Result<String, Fail> {
+    let (verb, rest) = action.split_once(' ').unwrap_or((action, ""));
+    match verb {
+        "run" | "fails" | "usage" | "fronts" | "reads" if bench.unseen() == 0 => {
+            runs(rt, bench, verb, numbers_of(rest)?)
+        }
+        "scarce" if rest.is_empty() => scarce(rt, bench),
+        "out" | "err" | "starts" | "all" | "says" | "lists" => {
+            shown(rt.alloc(), bench, verb, rest)
+        }
+        _ => set(rt.alloc(), bench, verb, rest),
+    }
+}
+
+/// Expects what the rows of a table say, and that each run's octets are looked at.
+pub fn expect_rows<T: AllocGlobal + Abort + Threads + Wait + Sync>(
+    rt: &T,
+    table: &str,
+) -> Result<(), Fail> {
+    let mut bench = Bench::new(rt.alloc());
+    for line in table.split('\n') {
+        if let Some(row) = Row::of(line) {
+            let found = carried_out(rt, &mut bench, row.action)?;
+            assert_eq!(rt; found.as_str(), row.wanted, "{line}");
+        }
+    }
+    assert_eq!(rt; bench.unseen(), 0);
+    Ok(())
+}
