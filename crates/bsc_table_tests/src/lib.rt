@@ -1,20 +1,14 @@
-//! Tests of `bsc_table`'s book: worked runs with their answers and airs, each refusal in its place, and both sides of
-//! each limit.
+//! Tests of `bsc_table`'s book as tables of lines: worked runs with their answers and airs, each refusal in its place,
+//! both sides of each limit, and which messages are orders.
 #![tactic(auto)]
 
 #[cfg(test)]
-mod airs;
-#[cfg(test)]
-mod background;
-#[cfg(test)]
 mod messages;
-#[cfg(test)]
-mod orders;
 #[cfg(test)]
 mod orders_vectors;
 #[cfg(test)]
-mod refusals;
-#[cfg(test)]
 mod runs;
 #[cfg(test)]
-mod takeovers;
+mod runs_table;
+#[cfg(test)]
+mod told;

@@ -1,14 +1,35 @@
-//! Which messages of the warning centre are orders, and a book without a command.
+//! Which messages of the warning centre are orders, and of what, as a table.
 
-use bsc_table::{Category, CellBook, Command, SlotRange, orders_of};
+use crate::told::cell_of;
+use bsc_table::{Category, Command, orders_of};
 use cbs_page::{Content, Dcs, Serial};
 use cbsp_wire::{Cell, Cells, Contents, Counts, Message};
 use std::alloc::Global;
 use std::process::Abort;
 use std::test::Fail;
+use test_support::{Row, Words};
 
-/// Two cells, in this order.
-const CELLS: [Cell; 2] = [Cell { lac: 1, ci: 2 }, Cell { lac: 1, ci: 1 }];
+/// `write CHANNEL CATEGORY` is a write to cells 1-2 and 1-1, `kill CHANNEL` a kill, and `killed CHANNEL` the reply to a
+/// kill; `-` is no channel or no category. What comes of it is the cells and the command, or the cause in hexadecimal.
+const ORDERS: &str = "
+# A write is an order to its cells, in their order.
+write - - -> 1-2 1-1 write 4370 0011 for 0010 normal every 7 times 5 dcs 01 both pages
+copy write - - -> 1-2 1-1 write 4370 0011 for 0010 normal every 7 times 5 dcs 01 both pages
+# So is a kill.
+kill 0 -> 1-2 1-1 kill 4370 0010
+# A category is known by its value.
+write 0 0 -> 1-2 1-1 write 4370 0011 for 0010 high every 7 times 5 dcs 01 both pages
+write 0 2 -> 1-2 1-1 write 4370 0011 for 0010 normal every 7 times 5 dcs 01 both pages
+write 0 1 -> 1-2 1-1 write 4370 0011 for 0010 background every 7 times 5 dcs 01 both pages
+# An unknown category is refused before the extended channel is.
+write - 3 -> cause 01
+write 1 2 -> cause 0C
+write 1 1 -> cause 0C
+write 1 3 -> cause 01
+kill 1 -> cause 0C
+# A reply is no order.
+killed 1 -> cause 04
+";
 
 /// A page.
 const PAGE: Content = Content {
@@ -16,19 +37,25 @@ const PAGE: Content = Content {
     octets: [0x0D; 82],
 };
 
+/// The cells of each message.
 fn cells(alloc: Global) -> Result<Cells, Fail> {
+    let list = [Cell { lac: 1, ci: 2 }, Cell { lac: 1, ci: 1 }];
     Ok(Cells {
-        list: Vec::from_slice(alloc, CELLS.as_slice())?,
+        list: Vec::from_slice(alloc, list.as_slice())?,
     })
 }
 
-/// A message to write these pages with this channel and category.
-fn write_pages(
-    alloc: Global,
-    channel: Option<u8>,
-    category: Option<u8>,
-    pages: &[Content],
-) -> Result<Message, Fail> {
+/// The next word, as the value of an element that may be absent.
+fn element(words: &mut Words<'_>) -> Result<Option<u8>, Fail> {
+    match words.word() {
+        "-" => Ok(None),
+        value => Ok(Some(value.parse::<u8>()?)),
+    }
+}
+
+/// A message to write two pages.
+fn write(alloc: Global, channel: Option<u8>, category: Option<u8>) -> Result<Message, Fail> {
+    let pages = Vec::from_slice(alloc, [PAGE, PAGE].as_slice())?;
     Ok(Message::Write {
         id: 4370,
         new_serial: Serial::of(0x0011),
@@ -39,16 +66,11 @@ fn write_pages(
         period: 7,
         broadcasts: 5,
         dcs: Dcs(0x01),
-        contents: Contents::new(Vec::from_slice(alloc, pages)?)?,
+        contents: Contents::new(pages)?,
     })
 }
 
-/// A message to write two pages with this channel and category.
-fn write(alloc: Global, channel: Option<u8>, category: Option<u8>) -> Result<Message, Fail> {
-    write_pages(alloc, channel, category, [PAGE, PAGE].as_slice())
-}
-
-/// A message to kill with this channel.
+/// A message to kill.
 fn kill(alloc: Global, channel: Option<u8>) -> Result<Message, Fail> {
     Ok(Message::Kill {
         id: 4370,
@@ -58,146 +80,152 @@ fn kill(alloc: Global, channel: Option<u8>) -> Result<Message, Fail> {
     })
 }
 
-/// The cause with which a message is refused as an order, if it is.
-fn cause_of(message: Message) -> Option<u8> {
-    match orders_of(message) {
-        Ok(_order) => None,
-        Err(cause) => Some(cause),
-    }
-}
-
-/// The category of the write that a message is an order for.
-fn category_of(message: Message) -> Option<Category> {
-    match orders_of(message) {
-        Ok((_named, command)) => match &command {
-            Command::Write { category, .. } => Some(*category),
-            _ => None,
-        },
-        Err(_cause) => None,
-    }
-}
-
-/// Expects the write that `write` orders without a channel and a category.
-fn expect_write(rt: &impl Abort, command: Command) {
-    let Command::Write {
-        id,
-        serial,
-        replaces,
-        category,
-        period,
-        broadcasts,
-        dcs,
-        contents,
-    } = command
-    else {
-        assert!(rt; false);
-        return;
-    };
-    assert_eq!(rt; (id, serial.number()), (4370, 0x0011));
-    assert_eq!(rt;
-        (replaces, category),
-        (Some(Serial::of(0x0010)), Category::Normal)
-    );
-    assert_eq!(rt; (period, broadcasts, dcs), (7, 5, Dcs(0x01)));
-    assert_eq!(rt; contents.as_slice(), [PAGE, PAGE].as_slice());
-}
-
-#[test]
-fn a_write_is_an_order_to_its_cells(rt: HostRuntime) -> Result<(), Fail> {
-    let alloc = rt.alloc();
-    let Ok((named, command)) = orders_of(write(alloc, None, None)?) else {
-        assert!(rt; false);
-        return Ok(());
-    };
-    assert_eq!(rt; named.as_slice(), CELLS.as_slice());
-    expect_write(&rt, command.copy(alloc)?);
-    expect_write(&rt, command);
-    Ok(())
-}
-
-#[test]
-fn a_kill_is_an_order_to_its_cells(rt: HostRuntime) -> Result<(), Fail> {
-    let alloc = rt.alloc();
-    let Ok((named, command)) = orders_of(kill(alloc, Some(0))?) else {
-        assert!(rt; false);
-        return Ok(());
-    };
-    assert_eq!(rt; named.as_slice(), CELLS.as_slice());
-    let Command::Kill { id, serial } = command else {
-        assert!(rt; false);
-        return Ok(());
-    };
-    assert_eq!(rt; (id, serial.number()), (4370, 0x0010));
-    Ok(())
-}
-
-#[test]
-fn an_unknown_category_and_the_extended_channel_are_refused(rt: HostRuntime) -> Result<(), Fail> {
-    let alloc = rt.alloc();
-    assert_eq!(rt; cause_of(write(alloc, None, Some(3))?), Some(0x01));
-    assert_eq!(rt; cause_of(write(alloc, Some(1), Some(2))?), Some(0x0C));
-    assert_eq!(rt; cause_of(write(alloc, Some(1), Some(1))?), Some(0x0C));
-    assert_eq!(rt; cause_of(write(alloc, Some(1), Some(3))?), Some(0x01));
-    assert_eq!(rt; cause_of(kill(alloc, Some(1))?), Some(0x0C));
-    Ok(())
-}
-
-#[test]
-fn a_reply_is_no_order(rt: HostRuntime) -> Result<(), Fail> {
-    let alloc = rt.alloc();
-    let reply = Message::KillDone {
+/// The reply to it.
+fn killed(alloc: Global, channel: Option<u8>) -> Result<Message, Fail> {
+    Ok(Message::KillDone {
         id: 4370,
         old_serial: Serial::of(0x0010),
         completed: Counts {
             list: Vec::new(alloc),
         },
         cells: cells(alloc)?,
-        channel: Some(1),
+        channel,
+    })
+}
+
+/// A category's name.
+fn name_of(category: Category) -> &'static str {
+    match category {
+        Category::High => "high",
+        Category::Normal => "normal",
+        Category::Background => "background",
+    }
+}
+
+/// What pages are.
+fn pages_told(contents: &Contents) -> &'static str {
+    if contents.as_slice() == [PAGE, PAGE].as_slice() {
+        "both pages"
+    } else {
+        "other pages"
+    }
+}
+
+/// The serial number of the message that a write replaces.
+fn replaced(serial: Option<Serial>) -> u16 {
+    match serial {
+        Some(serial) => serial.number(),
+        None => 0,
+    }
+}
+
+/// What a command asks for.
+fn command_told(alloc: Global, command: &Command) -> Result<String, Fail> {
+    match command {
+        Command::Write {
+            id,
+            serial,
+            replaces,
+            category,
+            period,
+            broadcasts,
+            dcs,
+            contents,
+        } => {
+            let (serial, old) = (serial.number(), replaced(*replaces));
+            let category = name_of(*category);
+            let pages = pages_told(contents);
+            let of = format!(in alloc; "write {id} {serial:04X} for {old:04X} {category}")?;
+            let when = format!(in alloc; "every {period} times {broadcasts}")?;
+            Ok(format!(in alloc; "{of} {when} dcs {:02X} {pages}", dcs.0)?)
+        }
+        Command::Kill { id, serial } => {
+            Ok(format!(in alloc; "kill {id} {:04X}", serial.number())?)
+        }
+        Command::Status { id, serial } => {
+            Ok(format!(in alloc; "status {id} {:04X}", serial.number())?)
+        }
+    }
+}
+
+/// The names of cells.
+fn names_of(alloc: Global, cells: &[Cell]) -> Result<String, Fail> {
+    let mut names = String::new(alloc);
+    for cell in cells {
+        names.push_str(&cell_of(alloc, *cell)?)?;
+        names.push(' ')?;
+    }
+    Ok(names)
+}
+
+/// The cells and the command of a message, or the cause for which it is refused.
+fn order_told(alloc: Global, message: Message) -> Result<String, Fail> {
+    match orders_of(message) {
+        Ok((cells, command)) => {
+            let mut told = names_of(alloc, &cells)?;
+            told.push_str(&command_told(alloc, &command)?)?;
+            Ok(told)
+        }
+        Err(cause) => Ok(format!(in alloc; "cause {cause:02X}")?),
+    }
+}
+
+/// The same, by a copy of the command.
+fn copy_told(alloc: Global, message: Message) -> Result<String, Fail> {
+    match orders_of(message) {
+        Ok((cells, command)) => {
+            let mut told = names_of(alloc, &cells)?;
+            let command = command.copy(alloc)?;
+            told.push_str(&command_told(alloc, &command)?)?;
+            Ok(told)
+        }
+        Err(_) => Err(Fail::new("no order")),
+    }
+}
+
+/// The message that words say.
+fn message_of(alloc: Global, words: &mut Words<'_>) -> Result<Message, Fail> {
+    let verb = words.word();
+    let channel = element(words)?;
+    let category = if verb == "write" {
+        element(words)?
+    } else {
+        None
     };
-    assert_eq!(rt; cause_of(reply), Some(0x04));
+    if !words.word().is_empty() {
+        return Err(Fail::new("words are left over"));
+    }
+    match verb {
+        "write" => write(alloc, channel, category),
+        "kill" => kill(alloc, channel),
+        "killed" => killed(alloc, channel),
+        _ => Err(Fail::new("no such message")),
+    }
+}
+
+/// What comes of a row's words.
+fn told_of(alloc: Global, action: &str) -> Result<String, Fail> {
+    match action.strip_prefix("copy ") {
+        Some(action) => copy_told(alloc, message_of(alloc, &mut Words::of(action))?),
+        None => order_told(alloc, message_of(alloc, &mut Words::of(action))?),
+    }
+}
+
+/// Expects what the rows of a table say.
+fn expect_rows(rt: &impl Abort, alloc: Global, table: &str) -> Result<(), Fail> {
+    let mut rows = 0_usize;
+    for line in table.split('\n') {
+        if let Some(row) = Row::of(line) {
+            let found = told_of(alloc, row.action)?;
+            assert_eq!(rt; found.as_str(), row.wanted, "{line}");
+            rows = rows.saturating_add(1);
+        }
+    }
+    assert_eq!(rt; rows, 12);
     Ok(())
 }
 
 #[test]
-fn a_category_is_known_by_its_value(rt: HostRuntime) -> Result<(), Fail> {
-    let alloc = rt.alloc();
-    assert_eq!(rt;
-        category_of(write(alloc, Some(0), Some(0))?),
-        Some(Category::High)
-    );
-    assert_eq!(rt;
-        category_of(write(alloc, Some(0), Some(2))?),
-        Some(Category::Normal)
-    );
-    assert_eq!(rt;
-        category_of(write(alloc, Some(0), Some(1))?),
-        Some(Category::Background)
-    );
-    Ok(())
-}
-
-/// Expects that a book which is to play as many slots plays these.
-fn expect_range(rt: &impl Abort, book: &mut CellBook, k: u16, from: u16, to: u16) {
-    assert_eq!(rt; book.play(k), SlotRange { from, to });
-}
-
-/// Expects the record of the finished book of an empty run of 8 slots.
-fn expect_finished(rt: &impl Abort, book: CellBook) {
-    assert!(rt; book.clock() == book.slots());
-    let record = book.finish();
-    assert_eq!(rt; (record.cell(), record.slots()), (CELLS[0], 8));
-    assert_eq!(rt; record.log().len(), 0);
-    assert_eq!(rt; record.air(), [None; 8].as_slice());
-}
-
-#[test]
-fn a_book_plays_its_slots_up_to_the_end(rt: HostRuntime) -> Result<(), Fail> {
-    let mut book = CellBook::open(rt.alloc(), CELLS[0], 8)?;
-    assert_eq!(rt; (book.cell(), book.slots(), book.clock()), (CELLS[0], 8, 0));
-    expect_range(&rt, &mut book, 5, 0, 5);
-    assert_eq!(rt; (book.log().len(), book.air().len()), (0, 5));
-    expect_range(&rt, &mut book, 5, 5, 8);
-    expect_range(&rt, &mut book, 1, 8, 8);
-    expect_finished(&rt, book);
-    Ok(())
+fn messages_are_orders_or_have_a_cause(rt: HostRuntime) -> Result<(), Fail> {
+    expect_rows(&rt, rt.alloc(), ORDERS)
 }

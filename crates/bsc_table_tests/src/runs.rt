@@ -1,28 +1,347 @@
-//! The longest run.
+//! Runs of a book as tables: a line for each command, what it answers, and what the cell airs.
+//!
+//! `air` has a word for each slot: `4/2` is page 2 of the message that entry 4 of the log accepted, and `-` is nothing.
 
-use crate::orders::*;
-use bsc_table::{Answer, State};
-use cbsp_wire::cause;
+use crate::runs_table::expect_rows;
 use std::test::Fail;
 
-/// A page every second slot of 65,535 is aired in slots 0 to 65,534.
+/// What is aired, and until when a load is reserved.
+const AIRS: &str = "
+# The message that is due first is aired first.
+cell 1-1 8
+write 0001 every 2 -> started at 0
+write 0002 every 4 pages 2 -> started at 0
+play 4 -> 0..4
+status 0001 -> 2 standing
+status 0002 -> 1 standing
+status 0003 -> unknown
+air -> 0/1 1/1 0/1 1/2
+log -> 2 entries
+
+# A load stays until the period of the stop is over.
+cell 1-1 8
+write 0001 every 2 -> started at 0
+write 0002 every 4 pages 2 -> started at 0
+play 3 -> 0..3
+kill 0002 -> stopped, 0 completed
+write 0003 every 4 pages 2 -> refused: bsc capacity exceeded
+play 1 -> 3..4
+write 0003 every 4 pages 2 -> started at 4
+ask 0002 -> 0 stopped at 3
+play 9 -> 4..8
+air -> 0/1 1/1 0/1 - 0/1 4/1 0/1 4/2
+log -> 6 entries
+entry 3 -> at 3, refused: bsc capacity exceeded
+
+# A stop on the boundary frees the load at once.
+cell 1-1 4
+write 0007 every 2 pages 2 -> started at 0
+kill 0007 -> stopped, 0 completed
+kill 0007 -> refused: message reference not identified
+write 0007 every 2 pages 2 -> refused: message reference already used
+write 0008 every 2 pages 2 -> started at 0
+write 0009 every 1024 -> refused: bsc capacity exceeded
+
+# Requested broadcasts run out.
+cell 1-1 10
+write 0009 every 3 times 2 -> started at 0
+play 5 -> 0..5
+kill 0009 -> stopped, 2 completed
+
+cell 1-1 10
+write 0009 every 3 times 2 -> started at 0
+play 5 -> 0..5
+write 0001 every 1 -> refused: bsc capacity exceeded
+play 1 -> 5..6
+status 0009 -> 2 ran out
+kill 0009 -> refused: message reference not identified
+write 0001 every 1 -> started at 6
+play 4 -> 6..10
+air -> 0/1 - - 0/1 - - 3/1 3/1 3/1 3/1
+
+# High comes before normal.
+cell 1-1 2
+write 0001 every 2 -> started at 0
+write 0002 high every 2 -> started at 0
+play 2 -> 0..2
+air -> 1/1 0/1
+
+# A load that isn't free yet guards the others.
+cell 1-1 4
+write 0001 every 4 pages 2 -> started at 0
+write 0002 high every 2 -> started at 0
+play 1 -> 0..1
+kill 0002 -> stopped, 1 completed
+write 0003 high every 2 -> refused: bsc capacity exceeded
+play 3 -> 1..4
+status 0001 -> 1 standing
+air -> 1/1 0/1 0/2 -
+";
+
+/// Replacements that wait for the slots of an older message.
+const TAKEOVERS: &str = "
+# A replacement at the end of a period starts at once, and one within the period waits for its end.
+cell 1-1 6
+write 0001 every 6 -> started at 0
+write 0002 every 3 -> started at 0
+write 0003 every 2 -> started at 0
+play 3 -> 0..3
+write 0004 for 0002 every 3 -> replaced at 3, 1 completed
+play 6 -> 3..6
+air -> 2/1 1/1 2/1 0/1 2/1 3/1
+
+cell 1-1 6
+write 0001 every 6 -> started at 0
+write 0002 every 3 -> started at 0
+write 0003 every 2 -> started at 0
+play 4 -> 0..4
+write 0004 for 0002 every 3 -> replaced at 6, 1 completed
+play 6 -> 4..6
+air -> 2/1 1/1 2/1 0/1 2/1 -
+
+# A refused replacement leaves the old message.
+cell 1-1 8
+write 0001 every 2 -> started at 0
+write 0002 every 4 pages 2 -> started at 0
+play 3 -> 0..3
+write 0003 for 0002 every 4 pages 3 -> refused: bsc capacity exceeded
+status 0002 -> 0 standing
+status 0003 -> unknown
+play 1 -> 3..4
+write 0003 for 0002 every 4 pages 2 -> replaced at 4, 1 completed
+status 0002 -> 1 stopped at 4
+kill 0002 -> refused: message reference not identified
+
+# A replacement waits, and may be replaced again.
+cell 1-1 8
+write 0001 every 4 -> started at 0
+write 0002 every 4 pages 3 -> started at 0
+play 1 -> 0..1
+write 0003 for 0001 every 4 -> replaced at 4, 1 completed
+status 0003 -> 0 standing
+play 1 -> 1..2
+write 0004 for 0003 every 2 -> refused: bsc capacity exceeded
+play 1 -> 2..3
+write 0005 for 0003 every 4 -> replaced at 4, 0 completed
+play 5 -> 3..8
+status 0001 -> 1 stopped at 1
+status 0002 -> 2 standing
+status 0003 -> 0 stopped at 3
+status 0004 -> unknown
+status 0005 -> 1 standing
+air -> 0/1 1/1 1/2 1/3 1/1 1/2 1/3 4/1
+
+# What a load has over the old one is reserved at once.
+cell 1-1 8
+write 0001 every 4 -> started at 0
+write 0002 every 2 -> started at 0
+play 1 -> 0..1
+write 0003 for 0001 every 2 -> replaced at 4, 0 completed
+play 1 -> 1..2
+write 0004 every 4 -> refused: bsc capacity exceeded
+play 6 -> 2..8
+status 0001 -> 0 stopped at 1
+status 0002 -> 4 standing
+status 0003 -> 2 standing
+air -> 1/1 - 1/1 - 1/1 2/1 1/1 2/1
+
+# A replacement that fits starts at once.
+cell 1-1 4
+write 0001 every 4 -> started at 0
+write 0002 every 2 -> started at 0
+play 1 -> 0..1
+write 0003 for 0001 every 2 -> replaced at 4, 0 completed
+play 1 -> 1..2
+write 0005 for 0003 every 4 -> replaced at 2, 0 completed
+play 2 -> 2..4
+status 0005 -> 1 standing
+air -> 1/1 - 1/1 3/1
+
+# One of two halves is handed over.
+cell 1-1 4
+write 0001 every 2 -> started at 0
+write 0002 every 2 -> started at 0
+play 1 -> 0..1
+write 0003 for 0001 every 2 pages 2 -> refused: bsc capacity exceeded
+status 0001 -> 1 standing
+write 0003 for 0001 every 2 -> replaced at 2, 1 completed
+play 3 -> 1..4
+status 0001 -> 1 stopped at 1
+status 0002 -> 2 standing
+status 0003 -> 1 standing
+air -> 0/1 1/1 1/1 3/1
+
+# A message that is killed while it waits was never broadcast.
+cell 1-1 8
+write 0001 every 4 -> started at 0
+write 0002 every 4 pages 3 -> started at 0
+play 1 -> 0..1
+write 0003 for 0001 every 4 -> replaced at 4, 1 completed
+play 2 -> 1..3
+kill 0003 -> stopped, 0 completed
+kill 0003 -> refused: message reference not identified
+write 0004 for 0003 every 4 -> refused: message reference not identified
+write 0004 every 4 -> refused: bsc capacity exceeded
+play 1 -> 3..4
+write 0004 every 4 -> started at 4
+play 4 -> 4..8
+status 0003 -> 0 stopped at 3
+status 0004 -> 1 standing
+
+# A start past the run airs nothing.
+cell 1-1 3
+write 0001 every 4 -> started at 0
+write 0002 every 4 pages 3 -> started at 0
+play 1 -> 0..1
+write 0003 for 0001 every 4 -> replaced at 4, 1 completed
+play 2 -> 1..3
+status 0003 -> 0 standing
+air -> 0/1 1/1 1/2
+
+# One that waits is among the 64 that a cell reserves.
+cell 1-1 3
+writes 62 every 1024 -> started at 0
+write 0064 every 2 -> started at 0
+play 1 -> 0..1
+write 0065 for 0064 every 2 -> replaced at 2, 1 completed
+write 0066 for 0005 every 2 -> refused: cell memory exceeded
+write 0066 for 0065 every 2 -> replaced at 2, 0 completed
+";
+
+/// Background messages: aired where nothing else is pending, and accepted without room.
+const BACKGROUND: &str = "
+# Background is aired between normal pages.
+cell 1-1 8
+write 0001 every 2 -> started at 0
+write 0002 background every 4 pages 2 -> started at 0
+play 8 -> 0..8
+status 0001 -> 4 standing
+status 0002 -> 2 standing
+air -> 0/1 1/1 0/1 1/2 0/1 1/1 0/1 1/2
+
+# It needs no room, and drops what is due.
+cell 1-1 8
+write 0001 every 1 -> started at 0
+write 0002 background every 4 pages 2 -> started at 0
+play 3 -> 0..3
+kill 0001 -> stopped, 3 completed
+play 5 -> 3..8
+status 0002 -> 1 standing
+air -> 0/1 0/1 0/1 1/1 1/1 1/2 - -
+
+# Nothing takes over from it.
+cell 1-1 4
+write 0001 every 2 pages 2 -> started at 0
+write 0002 background every 4 pages 2 -> started at 0
+play 1 -> 0..1
+write 0003 for 0002 every 4 pages 2 -> refused: bsc capacity exceeded
+write 0004 for 0002 background every 4 -> replaced at 1, 0 completed
+write 0002 background every 4 -> refused: message reference already used
+write 0005 for 0002 background every 4 -> refused: message reference not identified
+play 1 -> 1..2
+write 0006 for 0001 background every 4 -> replaced at 2, 1 completed
+write 0007 for 0004 every 2 pages 2 -> replaced at 2, 0 completed
+play 2 -> 2..4
+status 0007 -> 1 standing
+
+# It replaces a message that waits, whose excess is free at once. The one behind which that waited stays reserved.
+cell 1-1 6
+write 0001 every 4 -> started at 0
+write 0002 every 2 -> started at 0
+play 1 -> 0..1
+write 0003 for 0001 every 2 -> replaced at 4, 0 completed
+play 1 -> 1..2
+write 0004 every 4 -> refused: bsc capacity exceeded
+write 0005 for 0003 background every 4 -> replaced at 2, 0 completed
+write 0006 every 4 -> started at 2
+write 0007 every 1024 -> refused: bsc capacity exceeded
+play 4 -> 2..6
+air -> 1/1 - 1/1 5/1 1/1 4/1
+";
+
+/// Each refusal in its place, the limits, and the end of a run.
+const REFUSALS: &str = "
+# Three thirds fill a cell.
+cell 1-1 3
+write 0001 every 3 -> started at 0
+write 0002 every 3 -> started at 0
+write 0003 every 3 -> started at 0
+write 0004 every 1024 -> refused: bsc capacity exceeded
+kill 0001 -> stopped, 0 completed
+write 0004 every 1024 -> started at 0
+
+# A cell reserves 64 messages.
+cell 1-1 3
+writes 64 every 1024 -> started at 0
+write 0040 every 1024 -> refused: cell memory exceeded
+write 0040 every 1 -> refused: cell memory exceeded
+write 0040 for 003F every 1024 -> replaced at 0, 0 completed
+
+# A log has room for 4,096 entries.
+cell 1-1 0
+asks 4096 0001 -> unknown
+kill 0001 -> refused: bsc memory exceeded
+ask 0001 -> refused: bsc memory exceeded
+write 0001 every 1 -> refused: bsc memory exceeded
+status 0001 -> unknown
+log -> 4096 entries
+
+# After the run only a status is answered.
+cell 1-1 2
+write 0001 every 2 -> started at 0
+play 2 -> 0..2
+write 0001 every 2 -> refused: cell broadcast not operational
+kill 0009 -> refused: cell broadcast not operational
+ask 0001 -> 1 standing
+ask 0009 -> unknown
+log -> 5 entries
+
+# The first cause that applies is told.
+cell 1-1 2
+write 0001 every 1 -> started at 0
+write 0001 for 0009 every 1 -> refused: message reference not identified
+write 0001 every 1 -> refused: message reference already used
+write 0001 for 0001 every 1 -> refused: message reference already used
+write 0002 every 1024 -> refused: bsc capacity exceeded
+kill 0002 -> refused: message reference not identified
+status 0001 -> 0 standing
+
+# A book without a command plays its slots up to the end.
+cell 1-2 8
+book -> 1-2, 8 slots, next is 0
+play 5 -> 0..5
+log -> 0 entries
+aired -> 5 slots
+play 5 -> 5..8
+play 1 -> 8..8
+finish -> 1-2, 8 slots, 0 entries, air - - - - - - - -
+
+# A page every second slot of 65,535 is aired in slots 0 to 65,534.
+cell 1-1 65535
+write 0001 every 2 -> started at 0
+play 65534 -> 0..65534
+status 0001 -> 32767 standing
+write 0002 every 1024 -> started at 65534
+play 2 -> 65534..65535
+status 0001 -> 32768 standing
+status 0002 -> 0 standing
+write 0003 every 2 -> refused: cell broadcast not operational
+book -> 1-1, 65535 slots, next is 65535
+aired -> 65535 slots
+";
+
 #[test]
-fn a_run_of_65535_slots(rt: HostRuntime) -> Result<(), Fail> {
-    let steps = [
-        Step::One(standing(1, 2), started(0)),
-        Step::Play(65534),
-        Step::Status(1, Some((32767, State::Standing))),
-        Step::One(standing(2, 1024), started(65534)),
-        Step::Play(2),
-        Step::Status(1, Some((32768, State::Standing))),
-        Step::Status(2, Some((0, State::Standing))),
-        Step::One(
-            standing(3, 2),
-            Answer::Cause(cause::CELL_BROADCAST_NOT_OPERATIONAL),
-        ),
-    ];
-    let book = run(&rt, rt.alloc(), 65535, steps.as_slice())?;
-    assert_eq!(rt; book.clock(), 65535);
-    assert_eq!(rt; book.air().len(), 65535);
-    Ok(())
+fn runs_air_what_was_worked_by_hand(rt: HostRuntime) -> Result<(), Fail> {
+    expect_rows(&rt, rt.alloc(), AIRS)?;
+    expect_rows(&rt, rt.alloc(), BACKGROUND)
+}
+
+#[test]
+fn replacements_take_over_in_time(rt: HostRuntime) -> Result<(), Fail> {
+    expect_rows(&rt, rt.alloc(), TAKEOVERS)
+}
+
+#[test]
+fn commands_are_refused_past_each_limit(rt: HostRuntime) -> Result<(), Fail> {
+    expect_rows(&rt, rt.alloc(), REFUSALS)
 }
