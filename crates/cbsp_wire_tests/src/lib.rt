@@ -1,9 +1,11 @@
-//! Tests of `cbsp_wire` on values from outside it: worked messages, each refusal in its place, and both sides of each
-//! limit.
+//! Tests of `cbsp_wire` on values from outside it, as tables of lines: worked messages, each refusal in its place, and
+//! both sides of each limit.
 #![tactic(auto)]
 
 #[cfg(test)]
 mod limits;
+#[cfg(test)]
+mod made;
 #[cfg(test)]
 mod messages;
 #[cfg(test)]
@@ -12,6 +14,8 @@ mod octets;
 mod refusals;
 #[cfg(test)]
 mod rows;
+#[cfg(test)]
+mod table;
 #[cfg(test)]
 mod vectors;
 #[cfg(test)]

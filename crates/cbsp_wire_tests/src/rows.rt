@@ -1,11 +1,10 @@
-//! What a message says, as a row of a table lists it, and what is expected of a row.
+//! What a message says, as a line of a table lists it, and what is written of it.
 
-use crate::octets::{meaning_of, octets_of, written_octets};
+use crate::table::reading;
 use cbs_page::{Content, Serial};
-use cbsp_wire::{Cell, Count, Failure, Message};
+use cbsp_wire::{Cell, Count, Failure, Message, WireFault, read, write};
 use std::alloc::{AllocError, Global};
 use std::fmt::Write;
-use std::process::Abort;
 use std::test::Fail;
 
 /// What any message may say, as a row lists it.
@@ -21,82 +20,80 @@ struct Columns<'a> {
     channel: Option<u8>,
 }
 
-/// A serial number, or `-` for none.
-fn serial_text(alloc: Global, serial: Option<Serial>) -> Result<String, AllocError> {
+/// Puts a serial number, or `-` for none.
+fn put_serial(row: &mut String, serial: Option<Serial>) -> Result<(), AllocError> {
     match serial {
-        Some(serial) => format!(in alloc; "{:04x}", serial.number()),
-        None => format!(in alloc; "-"),
+        Some(serial) => write!(row, "{:04x}", serial.number()),
+        None => row.push_str("-"),
     }
 }
 
-/// An octet as a decimal number, or `-` for none.
-fn octet_text(alloc: Global, octet: Option<u8>) -> Result<String, AllocError> {
+/// Puts an octet as a decimal number, or `-` for none.
+fn put_octet(row: &mut String, octet: Option<u8>) -> Result<(), AllocError> {
     match octet {
-        Some(octet) => format!(in alloc; "{octet}"),
-        None => format!(in alloc; "-"),
+        Some(octet) => write!(row, "{octet}"),
+        None => row.push_str("-"),
     }
 }
 
 /// Puts a comma before an item that isn't the first.
-fn put_comma(text: &mut String) -> Result<(), AllocError> {
-    if text.is_empty() {
+fn put_comma(row: &mut String, place: usize) -> Result<(), AllocError> {
+    if place == 0 {
         Ok(())
     } else {
-        text.push_str(",")
+        row.push_str(",")
     }
 }
 
-/// The items so far, or `-` for none.
-fn or_none(mut text: String) -> Result<String, AllocError> {
-    if text.is_empty() {
-        text.push_str("-")?;
+/// Puts `-` for a list without items.
+fn put_none(row: &mut String, length: usize) -> Result<(), AllocError> {
+    if length == 0 {
+        row.push_str("-")
+    } else {
+        Ok(())
     }
-    Ok(text)
 }
 
-/// The failures.
-fn failures_text(alloc: Global, failures: &[Failure]) -> Result<String, AllocError> {
-    let mut text = String::new(alloc);
-    for failure in failures {
+/// Puts the failures.
+fn put_failures(row: &mut String, failures: &[Failure]) -> Result<(), AllocError> {
+    for (place, failure) in failures.iter().enumerate() {
         let Failure { cell, cause } = *failure;
-        put_comma(&mut text)?;
-        write!(text, "{}-{}:{cause:02x}", cell.lac, cell.ci)?;
+        put_comma(row, place)?;
+        write!(row, "{}-{}:{cause:02x}", cell.lac, cell.ci)?;
     }
-    or_none(text)
+    put_none(row, failures.len())
 }
 
-/// The completed broadcasts.
-fn completed_text(alloc: Global, completed: &[Count]) -> Result<String, AllocError> {
-    let mut text = String::new(alloc);
-    for count in completed {
+/// Puts the completed broadcasts.
+fn put_completed(row: &mut String, completed: &[Count]) -> Result<(), AllocError> {
+    for (place, count) in completed.iter().enumerate() {
         let Count { cell, number, info } = *count;
-        put_comma(&mut text)?;
-        write!(text, "{}-{}:{number}:{info}", cell.lac, cell.ci)?;
+        put_comma(row, place)?;
+        write!(row, "{}-{}:{number}:{info}", cell.lac, cell.ci)?;
     }
-    or_none(text)
+    put_none(row, completed.len())
 }
 
-/// The cells.
-fn cells_text(alloc: Global, cells: &[Cell]) -> Result<String, AllocError> {
-    let mut text = String::new(alloc);
-    for cell in cells {
+/// Puts the cells.
+fn put_cells(row: &mut String, cells: &[Cell]) -> Result<(), AllocError> {
+    for (place, cell) in cells.iter().enumerate() {
         let Cell { lac, ci } = *cell;
-        put_comma(&mut text)?;
-        write!(text, "{lac}-{ci}")?;
+        put_comma(row, place)?;
+        write!(row, "{lac}-{ci}")?;
     }
-    or_none(text)
+    put_none(row, cells.len())
 }
 
-/// The contents.
-fn contents_text(alloc: Global, contents: &[Content]) -> Result<String, AllocError> {
-    let mut text = String::new(alloc);
-    for content in contents {
-        let used = content.used;
-        let octets = hex::encode(alloc, content.octets.as_slice())?;
-        put_comma(&mut text)?;
-        write!(text, "{used}:{octets}")?;
+/// Puts the contents.
+fn put_contents(row: &mut String, contents: &[Content]) -> Result<(), AllocError> {
+    for (place, content) in contents.iter().enumerate() {
+        put_comma(row, place)?;
+        write!(row, "{}:", content.used)?;
+        for octet in content.octets.as_slice() {
+            write!(row, "{octet:02x}")?;
+        }
     }
-    or_none(text)
+    put_none(row, contents.len())
 }
 
 /// The columns of a message.
@@ -205,20 +202,28 @@ fn columns_of(message: &Message) -> Columns<'_> {
     }
 }
 
-/// The row of a message.
-fn row_of(alloc: Global, message: &Message) -> Result<String, AllocError> {
-    let columns = columns_of(message);
-    let (kind, id) = (columns.kind, columns.id);
-    let new = serial_text(alloc, columns.new)?;
-    let old = serial_text(alloc, columns.old)?;
-    let failures = failures_text(alloc, columns.failures)?;
-    let completed = completed_text(alloc, columns.completed)?;
-    let cells = cells_text(alloc, columns.cells)?;
-    let channel = octet_text(alloc, columns.channel)?;
-    let mut row = format!(in alloc;
-        "{kind} id={id} new={new} old={old} failures={failures} completed={completed} cells={cells} channel={channel}"
-    )?;
-    if let Message::Write {
+/// Puts the columns that any message may have.
+fn put_columns(row: &mut String, columns: Columns<'_>) -> Result<(), AllocError> {
+    row.push_str(columns.kind)?;
+    let id = columns.id;
+    write!(row, " id={id} new=")?;
+    put_serial(row, columns.new)?;
+    row.push_str(" old=")?;
+    put_serial(row, columns.old)?;
+    row.push_str(" failures=")?;
+    put_failures(row, columns.failures)?;
+    row.push_str(" completed=")?;
+    put_completed(row, columns.completed)?;
+    row.push_str(" cells=")?;
+    put_cells(row, columns.cells)?;
+    row.push_str(" channel=")?;
+    put_octet(row, columns.channel)
+}
+
+/// Puts what a message says.
+fn put_message(row: &mut String, message: &Message) -> Result<(), AllocError> {
+    put_columns(row, columns_of(message))?;
+    let Message::Write {
         category,
         period,
         broadcasts,
@@ -226,87 +231,85 @@ fn row_of(alloc: Global, message: &Message) -> Result<String, AllocError> {
         contents,
         ..
     } = message
-    {
-        let category = octet_text(alloc, *category)?;
-        let contents = contents_text(alloc, contents.as_slice())?;
-        let dcs = dcs.0;
-        write!(
-            row,
-            " category={category} period={period} broadcasts={broadcasts} dcs={dcs:02x} contents={contents}"
-        )?;
+    else {
+        return Ok(());
+    };
+    row.push_str(" category=")?;
+    put_octet(row, *category)?;
+    write!(
+        row,
+        " period={period} broadcasts={broadcasts} dcs={:02x} contents=",
+        dcs.0
+    )?;
+    put_contents(row, contents.as_slice())
+}
+
+/// What a fault is called.
+pub fn fault_text(fault: WireFault) -> &'static str {
+    match fault {
+        WireFault::Truncated => "truncated",
+        WireFault::TrailingBytes => "trailing octets",
+        WireFault::Cause(0x00) => "cause 00",
+        WireFault::Cause(0x01) => "cause 01",
+        WireFault::Cause(0x04) => "cause 04",
+        WireFault::Cause(0x05) => "cause 05",
+        WireFault::Cause(_) => "another cause",
+        WireFault::Refused => "out of memory",
+    }
+}
+
+/// What octets say, and the octets that are written of it.
+fn said(alloc: Global, octets: &[u8], row: &mut String) -> Result<Vec<u8>, Fail> {
+    let message = read(alloc, octets)?;
+    put_message(row, &message)?;
+    Ok(write(alloc, &message)?)
+}
+
+/// `fronts OCTETS`: how many of their fronts are truncated.
+pub fn fronts(alloc: Global, octets: &[u8]) -> Result<String, Fail> {
+    let mut truncated = 0_u16;
+    for length in 0..octets.len() {
+        if reading(alloc, &octets[..length]) == "truncated" {
+            truncated = truncated.saturating_add(1);
+        }
+    }
+    Ok(format!(in alloc; "{truncated} of {} are truncated", octets.len())?)
+}
+
+/// Puts what octets say. As many are written of it, which say the same and are written as they are. Gives those.
+fn put_said(alloc: Global, octets: &[u8], row: &mut String) -> Result<Vec<u8>, Fail> {
+    let written = said(alloc, octets, row)?;
+    let mut again = String::new(alloc);
+    let rewritten = said(alloc, &written, &mut again)?;
+    if again.as_str() != row.as_str() || rewritten.as_slice() != written.as_slice() {
+        row.push_str(" but not again")?;
+    }
+    if written.len() != octets.len() {
+        row.push_str(" but of another length")?;
+    }
+    Ok(written)
+}
+
+/// `says OCTETS`: what they say.
+pub fn says(alloc: Global, octets: &[u8]) -> Result<String, Fail> {
+    let mut row = String::new(alloc);
+    put_said(alloc, octets, &mut row)?;
+    Ok(row)
+}
+
+/// `in_order OCTETS`: what they say, and they are what is written of it.
+pub fn in_order(alloc: Global, octets: &[u8]) -> Result<String, Fail> {
+    let mut row = String::new(alloc);
+    let written = put_said(alloc, octets, &mut row)?;
+    if written.as_slice() != octets {
+        row.push_str(" but not in order")?;
     }
     Ok(row)
 }
 
-/// Expects that octets say this. Gives the octets that are written of it.
-fn expect_row(rt: &impl Abort, alloc: Global, octets: &[u8], said: &str) -> Result<Vec<u8>, Fail> {
-    let message = meaning_of(alloc, octets)?;
-    let row = row_of(alloc, &message)?;
-    assert_eq!(rt; row.as_str(), said);
-    Ok(written_octets(alloc, &message)?)
-}
-
-/// Expects that octets say this, and that what is written of it says the same and is written as it is. Gives the digits
-/// of what is written.
-fn expect_rows(rt: &impl Abort, alloc: Global, octets: &[u8], said: &str) -> Result<String, Fail> {
-    let written = expect_row(rt, alloc, octets, said)?;
-    let again = expect_row(rt, alloc, &written, said)?;
-    assert_eq!(rt; again.as_slice(), written.as_slice());
+/// `writes OCTETS`: the octets that are written of what they say.
+pub fn writes(alloc: Global, octets: &[u8]) -> Result<String, Fail> {
+    let mut row = String::new(alloc);
+    let written = said(alloc, octets, &mut row)?;
     Ok(hex::encode(alloc, written.as_slice())?)
-}
-
-/// Expects that the octets that digits name say this, and that it is written with the digits `expected`.
-fn expect_written(
-    rt: &impl Abort,
-    alloc: Global,
-    digits: &str,
-    said: &str,
-    expected: &str,
-) -> Result<(), Fail> {
-    let octets = octets_of(alloc, digits)?;
-    let written = expect_rows(rt, alloc, &octets, said)?;
-    assert_eq!(rt; written.as_str(), expected);
-    Ok(())
-}
-
-/// Expects that the octets that digits name say this, and that as many are written.
-fn expect_said(rt: &impl Abort, alloc: Global, digits: &str, said: &str) -> Result<(), Fail> {
-    let octets = octets_of(alloc, digits)?;
-    let written = expect_rows(rt, alloc, &octets, said)?;
-    assert_eq!(rt; written.len(), digits.len());
-    Ok(())
-}
-
-/// Expects that each row of octets says what its row says, and is written as it is.
-pub fn expect_all_written(
-    rt: &impl Abort,
-    alloc: Global,
-    rows: &[(&str, &str)],
-) -> Result<(), Fail> {
-    for (digits, said) in rows {
-        expect_written(rt, alloc, digits, said, digits)?;
-    }
-    Ok(())
-}
-
-/// Expects that each row of octets says what its row says, and that as many are written.
-pub fn expect_all_said(rt: &impl Abort, alloc: Global, rows: &[(&str, &str)]) -> Result<(), Fail> {
-    for (digits, said) in rows {
-        expect_said(rt, alloc, digits, said)?;
-    }
-    Ok(())
-}
-
-/// Expects that each of these octets says this, and is written with the digits `expected`.
-pub fn expect_each_written(
-    rt: &impl Abort,
-    alloc: Global,
-    each: &[&str],
-    said: &str,
-    expected: &str,
-) -> Result<(), Fail> {
-    for digits in each {
-        expect_written(rt, alloc, digits, said, expected)?;
-    }
-    Ok(())
 }

@@ -1,0 +1,177 @@
+//! Messages that are made for the writer.
+
+use crate::rows::fault_text;
+use crate::table::{expect_rows, reading};
+use cbs_page::{Content, Dcs, Serial};
+use cbsp_wire::{Cell, Cells, Contents, Count, Counts, Failure, Failures, Message, write};
+use std::alloc::{AllocError, Global};
+use std::test::Fail;
+use test_support::Words;
+
+/// So many cells, with cell identities from 0.
+fn cells(alloc: Global, count: u16) -> Result<Cells, AllocError> {
+    let mut list = Vec::new(alloc);
+    for ci in 0..count {
+        list.push(Cell { lac: 1, ci })?;
+    }
+    Ok(Cells { list })
+}
+
+/// An order to write with so many cells and contents.
+fn order(
+    alloc: Global,
+    cell_count: u16,
+    content_count: u8,
+    used: u8,
+) -> Result<Message, AllocError> {
+    let mut list = Vec::new(alloc);
+    for _ in 0..content_count {
+        list.push(Content {
+            used,
+            octets: [0x0D; 82],
+        })?;
+    }
+    Ok(Message::Write {
+        id: 4370,
+        new_serial: Serial::of(0x0010),
+        old_serial: Some(Serial::of(0x0020)),
+        cells: cells(alloc, cell_count)?,
+        channel: Some(0),
+        category: Some(2),
+        period: 1024,
+        broadcasts: 65535,
+        dcs: Dcs::UCS2,
+        contents: Contents::new(list)?,
+    })
+}
+
+/// A kill that names so many cells.
+fn kill(alloc: Global, cell_count: u16) -> Result<Message, AllocError> {
+    Ok(Message::Kill {
+        id: 1,
+        old_serial: Serial::of(16),
+        cells: cells(alloc, cell_count)?,
+        channel: None,
+    })
+}
+
+/// A reply to a kill that no cell refused and no cell took.
+fn kill_done(alloc: Global) -> Message {
+    Message::KillDone {
+        id: 1,
+        old_serial: Serial::of(16),
+        completed: Counts {
+            list: Vec::new(alloc),
+        },
+        cells: Cells {
+            list: Vec::new(alloc),
+        },
+        channel: Some(2),
+    }
+}
+
+/// A reply to a kill that says of a failure and names none.
+fn kill_failed(alloc: Global) -> Result<Message, AllocError> {
+    Ok(Message::KillFailed {
+        id: 1,
+        old_serial: Serial::of(16),
+        failures: Failures {
+            list: Vec::new(alloc),
+        },
+        completed: Counts {
+            list: Vec::new(alloc),
+        },
+        cells: cells(alloc, 1)?,
+        channel: None,
+    })
+}
+
+/// So many failures, with cell identities from 0.
+fn failures(alloc: Global, count: u16) -> Result<Failures, AllocError> {
+    let mut list = Vec::new(alloc);
+    for ci in 0..count {
+        let cell = Cell { lac: 1, ci };
+        list.push(Failure { cell, cause: 0x06 })?;
+    }
+    Ok(Failures { list })
+}
+
+/// So many completed broadcasts, with cell identities from 0.
+fn counts(alloc: Global, count: u16) -> Result<Counts, AllocError> {
+    let mut list = Vec::new(alloc);
+    for ci in 0..count {
+        let cell = Cell { lac: 1, ci };
+        list.push(Count {
+            cell,
+            number: 3,
+            info: 0,
+        })?;
+    }
+    Ok(Counts { list })
+}
+
+/// A reply with so many items in each list.
+fn reply(alloc: Global, count: u16) -> Result<Message, AllocError> {
+    Ok(Message::WriteFailed {
+        id: 4370,
+        new_serial: Serial::of(0x0010),
+        old_serial: Some(Serial::of(0x0020)),
+        failures: failures(alloc, count)?,
+        completed: counts(alloc, count)?,
+        cells: cells(alloc, count)?,
+        channel: Some(0),
+    })
+}
+
+/// The message of the words `write CELLS CONTENTS USED`, `kill CELLS`, `kill-done`, `kill-failed` or
+/// `write-failed ITEMS`.
+fn message_of(alloc: Global, words: &mut Words<'_>) -> Result<Message, Fail> {
+    match words.word() {
+        "write" => {
+            let (cells, contents) = (words.number16()?, words.word().parse::<u8>()?);
+            Ok(order(alloc, cells, contents, words.word().parse::<u8>()?)?)
+        }
+        "kill" => Ok(kill(alloc, words.number16()?)?),
+        "kill-done" => Ok(kill_done(alloc)),
+        "kill-failed" => Ok(kill_failed(alloc)?),
+        "write-failed" => Ok(reply(alloc, words.number16()?)?),
+        _ => Err(Fail::new("no such message")),
+    }
+}
+
+/// `make MESSAGE`: how many octets are written, and how they are read; or why none are.
+pub fn make(alloc: Global, words: &mut Words<'_>) -> Result<String, Fail> {
+    let message = message_of(alloc, words)?;
+    if !words.word().is_empty() {
+        return Err(Fail::new("words are left over"));
+    }
+    match write(alloc, &message) {
+        Ok(octets) => Ok(format!(in alloc; "{} octets {}", octets.len(), reading(alloc, &octets))?),
+        Err(fault) => Ok(String::from_str(alloc, fault_text(fault))?),
+    }
+}
+
+/// Messages that are written, with their lengths, and messages that no octets mean.
+const MADE: &str = "
+# Without contents, with a sixteenth one, without cells, with a 65th one, and with a page of 83 octets.
+make write 1 0 82 -> cause 01
+make write 1 16 82 -> cause 01
+make write 0 1 82 -> cause 01
+make write 65 1 82 -> cause 01
+make write 1 1 83 -> cause 01
+# Without cells, without failures, and with a channel that there isn't.
+make kill 0 -> cause 01
+make kill-failed -> cause 01
+make kill-done -> cause 01
+# The head 4, five numbers of 3, a list of 4 + 4, four elements of 2, and a content of 84, then 63 cells of 4 and 14
+# contents of 84 more.
+make write 1 1 82 -> 119 octets read
+make write 64 15 82 -> 1547 octets read
+# The head 4, three numbers of 3, lists of 3 + 64 * 6, 4 + 64 * 7 and 4 + 64 * 4, and the channel indicator 2.
+make write-failed 64 -> 1114 octets read
+";
+
+#[test]
+fn messages_that_are_made_have_their_lengths(rt: HostRuntime) -> Result<(), Fail> {
+    expect_rows(&rt, rt.alloc(), MADE, 11)
+}
