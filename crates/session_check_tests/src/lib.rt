@@ -7,4 +7,6 @@ mod memory;
 #[cfg(test)]
 mod passes;
 #[cfg(test)]
+mod run;
+#[cfg(test)]
 mod served;

@@ -4,20 +4,16 @@ ghost use Rattle.std.specs.Prelude.{◌≡◌, ◌<◌, ◌≤◌, length, All};
 ghost use Rattle.session_check.specs.Checked.{HasRightNumbers};
 ghost use Rattle.session_check.specs.NotedSteps.{cells_of};
 
-use crate::served::*;
+use crate::run::{begun, expect_each};
+use crate::served::settled;
 use alert_book::Book;
 use bsc_table::CellRecord;
 use order_desk::{Desk, Pass, SettleFault};
-use test_support::take_all;
 use session_check::check_sessions;
 use std::alloc::Global;
 use std::process::Abort;
-use std::sync::Wait;
 use std::test::Fail;
-
-/// An alert of each verb in two cells.
-const BOOK: &str =
-    "cell,1,1\ncell,1,2\nwrite,0,a,4370,0,1,en,2,2,0,*,One\nupdate,1,a,en,2,2,0,*,Two\nstop,2,a,1-1\n";
+use test_support::{Words, take_all};
 
 /// How many octets each block of the memory has that is given back.
 const BLOCK: usize = 512;
@@ -94,21 +90,10 @@ fn expect_settled<T: AllocGlobal + Abort>(
     expect_in_drought(rt, book, &records, passes, &mut spare)
 }
 
-/// The pass of a book's one session, and an empty one.
-fn passes_of<T: AllocGlobal + Wait>(rt: &T, book: &Book, desk: &Desk) -> Result<Vec<Pass>, Fail> {
-    let (pass, _) = served(rt, book, 0, 1, desk, 0)?;
-    two(rt.alloc(), pass, desk.pass())
-}
-
-/// Serves a book's one session, and expects the same of it.
-fn expect_refusals<T: AllocGlobal + Wait + Abort>(rt: &T, book: &Book) -> Result<(), Fail> {
-    let desk = opened(rt.alloc(), book, 4)?;
-    let passes = passes_of(rt, book, &desk)?;
-    expect_settled(rt, book, desk, &passes)
-}
-
 #[test]
 fn refused_memory_is_reported(rt: HostRuntime) -> Result<(), Fail> {
-    let book = book_of(&rt, BOOK)?;
-    expect_refusals(&rt, &book)
+    let mut run = begun(&rt, &mut Words::of("verbs 4 1"))?;
+    expect_each(&rt, &mut run, "p serves 0 0 -> 3")?;
+    let desk = run.taken(rt.alloc())?;
+    expect_settled(&rt, &run.book, desk, &run.passes)
 }

@@ -93,37 +93,22 @@ fn serve<T: AllocGlobal + Wait>(
     Err(Fail::new("the session has too many messages"))
 }
 
-/// Serves the session of a part at a desk, each message `late` slots after its own, and returns its pass and how many
-/// messages there were.
+/// Serves the session of a part at a desk, each message `late` slots after its own, and returns how many messages there
+/// were.
 pub fn served<T: AllocGlobal + Wait>(
     rt: &T,
     book: &Book,
     part: u16,
     parts: u16,
     desk: &Desk,
+    pass: &mut Pass,
     late: u16,
-) -> Result<(Pass, u16), Fail>
-    requires { part < parts }
-{
-    let mut pass = desk.pass();
+) -> Result<u16, Fail> {
+    if part >= parts {
+        return Err(Fail::new("there is no such part"));
+    }
     let mut session = Session::new(rt.alloc(), book, part, parts)?;
-    let messages = serve(rt, &mut session, desk, &mut pass, late)?;
-    Ok((pass, messages))
-}
-
-/// A list of two passes.
-pub fn two(alloc: Global, first: Pass, second: Pass) -> Result<Vec<Pass>, Fail> {
-    let mut passes = Vec::with_capacity(alloc, 3)?;
-    passes.push(first)?;
-    passes.push(second)?;
-    Ok(passes)
-}
-
-/// A list of three passes.
-pub fn three(alloc: Global, first: Pass, second: Pass, third: Pass) -> Result<Vec<Pass>, Fail> {
-    let mut passes = two(alloc, first, second)?;
-    passes.push(third)?;
-    Ok(passes)
+    serve(rt, &mut session, desk, pass, late)
 }
 
 /// The records of a desk that is settled with passes.
