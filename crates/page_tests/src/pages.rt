@@ -1,0 +1,216 @@
+//! Actions on pages: their octets, and the texts that are cut into them.
+
+ghost use Rattle.std.specs.Prelude.{◌≤◌};
+
+use crate::codes::content_of;
+use crate::table::{digits_of, octets_of};
+use cbs_page::{
+    Dcs, PageView, Paged, Refused, Serial, TextFault, language_dcs, page_bytes, page_text,
+    paginate, read_page,
+};
+use std::alloc::{AllocError, Global};
+use std::fmt::Write;
+use std::test::Fail;
+use test_support::Words;
+
+/// What comes of an action on a page: on a text, which stands as it is, or on words, all of which are read.
+pub fn carried_out(alloc: Global, verb: &str, rest: &str) -> Result<String, Fail> {
+    match verb {
+        "cut" => cut(alloc, rest),
+        "content" => content(alloc, rest),
+        "shown" => shown(alloc, rest),
+        "page" => page(alloc, rest),
+        "view" => view(alloc, rest),
+        _ => {
+            let mut words = Words::of(rest);
+            let found = by_words(alloc, verb, &mut words)?;
+            if words.word().is_empty() {
+                return Ok(found);
+            }
+            Err(Fail::new("words are left over"))
+        }
+    }
+}
+
+/// What comes of an action whose words are all short.
+fn by_words(alloc: Global, verb: &str, words: &mut Words<'_>) -> Result<String, Fail> {
+    match verb {
+        "serial" => serial(alloc, words),
+        "fields" => fields(alloc, words),
+        "alphabet" => alphabet(alloc, words),
+        "language" => language(alloc, words),
+        "fault" => fault(alloc, words),
+        _ => Ok(format!(in alloc; "no such action")?),
+    }
+}
+
+/// The next word, an octet of hexadecimal digits.
+fn octet_of(words: &mut Words<'_>) -> Result<u8, Fail> {
+    Ok(u8::from_str_radix(words.word(), 16)?)
+}
+
+/// The next word, a number below 256.
+fn number8(words: &mut Words<'_>) -> Result<u8, Fail> {
+    Ok(words.word().parse::<u8>()?)
+}
+
+/// `serial SCOPE CODE UPDATE`: the serial number, `-` if there is none.
+fn serial(alloc: Global, words: &mut Words<'_>) -> Result<String, Fail> {
+    match Serial::new(number8(words)?, words.number16()?, number8(words)?) {
+        Some(serial) => Ok(format!(in alloc; "{:04x}", serial.number())?),
+        None => Ok(format!(in alloc; "-")?),
+    }
+}
+
+/// `fields SERIAL`: its geographical scope, message code and update number, and the number again.
+fn fields(alloc: Global, words: &mut Words<'_>) -> Result<String, Fail> {
+    let serial = Serial::of(words.hex16()?);
+    let (scope, code, update) = (serial.scope(), serial.code(), serial.update());
+    Ok(format!(in alloc; "{scope} {code} {update} {:04x}", serial.number())?)
+}
+
+/// `alphabet FIRST LAST`: the alphabet that all these data codings have.
+fn alphabet(alloc: Global, words: &mut Words<'_>) -> Result<String, Fail> {
+    let (first, last) = (octet_of(words)?, octet_of(words)?);
+    let alphabet = Dcs(first).alphabet();
+    for value in first..=last {
+        if Dcs(value).alphabet() != alphabet {
+            return Ok(format!(in alloc; "another one from {value:02x}")?);
+        }
+    }
+    Ok(format!(in alloc; "{alphabet:?}")?)
+}
+
+/// `language WORD`: the data coding of a language.
+fn language(alloc: Global, words: &mut Words<'_>) -> Result<String, Fail> {
+    Ok(format!(in alloc; "{:?}", language_dcs(words.word()))?)
+}
+
+/// `page ID SERIAL DCS NUMBER TOTAL CONTENT`: the octets of the page, numbers in hexadecimal.
+fn page(alloc: Global, rest: &str) -> Result<String, Fail> {
+    let mut words = Words::of(rest);
+    let (id, serial, dcs) = (
+        words.hex16()?,
+        Serial::of(words.hex16()?),
+        octet_of(&mut words)?,
+    );
+    let (number, total) = (octet_of(&mut words)?, octet_of(&mut words)?);
+    let given = octets_of(alloc, words.word())?;
+    if number < 1 || number > total || total > 15 || !words.word().is_empty() {
+        return Err(Fail::new("no page"));
+    }
+    let octets = page_bytes(id, serial, Dcs(dcs), number, total, &content_of(&given)?);
+    Ok(digits_of(alloc, octets.as_slice())?)
+}
+
+/// `view OCTETS`: what a page says.
+fn view(alloc: Global, digits: &str) -> Result<String, Fail> {
+    let given = octets_of(alloc, digits)?;
+    let mut octets = [0; 88];
+    if given.len() != 88 {
+        return Err(Fail::new("not 88 octets"));
+    }
+    octets.copy_from_slice(&given);
+    Ok(said_by(alloc, &read_page(&octets))?)
+}
+
+/// What a page says.
+fn said_by(alloc: Global, view: &PageView) -> Result<String, AllocError> {
+    let PageView {
+        serial,
+        id,
+        dcs,
+        number,
+        total,
+        content,
+    } = *view;
+    let readable = if view.readable() {
+        "readable"
+    } else {
+        "unreadable"
+    };
+    let content = digits_of(alloc, content.as_slice())?;
+    format!(in alloc;
+        "serial {:04x} id {id:04x} dcs {:02x} page {number} of {total} {readable} content {content}",
+        serial.number(),
+        dcs.0
+    )
+}
+
+/// The text that a page of one page shows.
+fn text_of(alloc: Global, dcs: Dcs, content: &[u8; 82]) -> Result<String, Fail> {
+    let view = read_page(&page_bytes(1, Serial::of(1), dcs, 1, 1, content));
+    if !view.readable() {
+        return Err(Fail::new("not readable"));
+    }
+    Ok(page_text(alloc, &view)?)
+}
+
+/// `shown DCS CONTENT`: the text that a page with this data coding and content shows.
+fn shown(alloc: Global, rest: &str) -> Result<String, Fail> {
+    let (dcs, digits) = rest.split_once(' ').unwrap_or((rest, ""));
+    let given = octets_of(alloc, digits)?;
+    text_of(
+        alloc,
+        Dcs(u8::from_str_radix(dcs, 16)?),
+        &content_of(&given)?,
+    )
+}
+
+/// The text that the pages of a message show, joined.
+fn text_of_pages(alloc: Global, paged: &Paged) -> Result<String, Fail> {
+    let mut text = String::new(alloc);
+    for content in &paged.pages {
+        text.push_str(&text_of(alloc, paged.dcs, &content.octets)?)?;
+    }
+    Ok(text)
+}
+
+/// `cut LANGUAGE TEXT`: the data coding of the pages and the octets used of each, or the fault. The pages show the text
+/// again.
+fn cut(alloc: Global, rest: &str) -> Result<String, Fail> {
+    let (language, text) = rest.split_once(' ').unwrap_or((rest, ""));
+    match paginate(alloc, text, language) {
+        Ok(paged) => pages_of(alloc, &paged, text),
+        Err(fault) => Ok(format!(in alloc; "{fault:?}")?),
+    }
+}
+
+/// The pages of a text.
+fn pages_of(alloc: Global, paged: &Paged, text: &str) -> Result<String, Fail> {
+    let mut said = format!(in alloc; "dcs {:02x} used", paged.dcs.0)?;
+    for content in &paged.pages {
+        write!(said, " {}", content.used)?;
+    }
+    if text_of_pages(alloc, paged)?.as_str() != text {
+        said.push_str(" and another text")?;
+    }
+    Ok(said)
+}
+
+/// `content NUMBER LANGUAGE TEXT`: the octets of the page of this number.
+fn content(alloc: Global, rest: &str) -> Result<String, Fail> {
+    let (number, rest) = rest.split_once(' ').unwrap_or((rest, ""));
+    let (language, text) = rest.split_once(' ').unwrap_or((rest, ""));
+    let place = number.parse::<usize>()?.wrapping_sub(1);
+    let paged = paginate(alloc, text, language)?;
+    match paged.pages.get(place) {
+        Some(content) => Ok(digits_of(alloc, content.octets.as_slice())?),
+        None => Err(Fail::new("no such page")),
+    }
+}
+
+/// `fault NAME PLACE`: what a fault of a text is called.
+fn fault(alloc: Global, words: &mut Words<'_>) -> Result<String, Fail> {
+    let fault = match words.word() {
+        "BadLanguage" => TextFault::BadLanguage,
+        "Empty" => TextFault::Empty,
+        "BadCharacter" => TextFault::BadCharacter {
+            place: usize::from(words.number16()?),
+        },
+        "TooManyPages" => TextFault::TooManyPages,
+        "Refused" => TextFault::Refused,
+        _ => return Ok(format!(in alloc; "{Refused}")?),
+    };
+    Ok(format!(in alloc; "{fault}")?)
+}
