@@ -26,7 +26,7 @@ PARTS = ("src", "specs", "proofs")
 # what a check is likely to hold at most, in bytes
 MEMORY = 4 << 30
 GATE = os.path.join(TOP, "docs", "gate.md")
-RECORD = re.compile(r"(?m)^All were last tried on \S+, on commit `(\w+)`: .*$")
+RECORD = re.compile(r"(?m)^All were last tried (?:on \S+, on commit `(\w+)`|in parts).*$")
 
 
 def read_edit(path):
@@ -209,7 +209,7 @@ def is_whole(words):
     if words.since is None:
         return True
     last = RECORD.search(read(TOP, GATE))
-    return bool(last) and subprocess.run(["git", "merge-base", "--is-ancestor", words.since, last[1]], cwd=TOP, check=False).returncode == 0
+    return bool(last and last[1]) and subprocess.run(["git", "merge-base", "--is-ancestor", words.since, last[1]], cwd=TOP, check=False).returncode == 0
 
 
 def keep_record(count):
