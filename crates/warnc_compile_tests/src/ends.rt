@@ -1,78 +1,108 @@
-//! Books that are refused, and readers and writers that fail.
+//! Books that are refused, readers and writers that fail, and threads that meet.
 
-use crate::books::tapes_of;
-use alert_book::{BookFault, BookFaultKind};
-use cbch_blocks::WriteFailed;
-use device_ends::memory::{MemoryReader, MemoryWriter};
-use device_ends::{Sink, Source};
-use std::process::Abort;
-use std::sync::Wait;
+use crate::rows::expect_rows;
 use std::test::Fail;
-use std::thread::Threads;
-use warnc_compile::{RunFault, compile_stream};
 
-/// The book of one page.
-const BOOK: &str = "cell,1,1\nwrite,0,a,4370,0,1,en,2,2,0,1-1,@";
+const REFUSED: &str = "
+last cell,1
+compile 2 1 -> Book(BookFault { row: 1, kind: Columns })
+live 2 2 1 -> Book(BookFault { row: 1, kind: Columns })
+in cell,1,1
+last cell,1,1
+compile 2 1 -> Book(BookFault { row: 2, kind: TwiceNamed })
+in cell,1,1
+last write,0,a,4370,0,1,en,3,2,0,*,One
+compile 2 1 -> Book(BookFault { row: 2, kind: Number })
 
-/// Expects that a book is refused with this fault, and that nothing is written.
-fn expect_refused<T: AllocGlobal + Abort + Threads + Wait + Sync>(
-    rt: &T,
-    rows: &str,
-    row: u16,
-    kind: BookFaultKind,
-) {
-    let mut reader = MemoryReader::new(rows.as_bytes(), 1000, None);
-    let mut writer = MemoryWriter::new(rt.alloc(), 1000, None);
-    let result = compile_stream(
-        rt,
-        &mut Source::new(&mut reader),
-        &mut Sink::new(&mut writer),
-        2,
-        1,
-    );
-    assert!(rt; result == Err(RunFault::Book(BookFault { row, kind })));
-    assert_eq!(rt; writer.contents().len(), 0);
+# there are 1 to 64 workers; the reader, which would fail at once, isn't read
+in cell,1,1
+reader 10 0
+compile 2 0 -> Compile(Workers)
+reader 10 0
+live 2 2 0 -> Compile(Workers)
+reader 10 0
+compile 2 65 -> Compile(Workers)
+reader 10 0
+live 2 2 65 -> Compile(Workers)
+reader 10 0
+compile 2 18446744073709551615 -> Compile(Workers)
+reader 10 0
+live 2 2 18446744073709551615 -> Compile(Workers)
+";
+
+const FAILED: &str = "
+in cell,1,1
+last write,0,a,4370,0,1,en,2,2,0,1-1,@
+reader 10 1
+compile 2 1 -> Book(BookFault { row: 0, kind: ReadFailed }), source failed
+compile 2 1 -> done
+keep
+writer 10 10
+compile 2 1 -> Write(WriteFailed { written: 100 }), sink failed
+all -> 100 of 192
+
+# two cells with a text each: two tapes of 192 octets
+in cell,1,1
+in cell,1,2
+in write,0,a,4370,0,1,en,2,2,0,1-1,@
+in write,0,b,4371,0,2,en,2,2,0,1-2,Two
+compile 2 1 -> done
+keep
+writer 10 10
+live 2 2 1 -> Write(WriteFailed { written: 100 }), sink failed
+all -> 100 of 384
+# in the second tape: the fault counts the octets of that one
+writer 1 242
+compile 2 1 -> Write(WriteFailed { written: 50 }), sink failed
+all -> 242 of 384
+writer 1 242
+live 2 2 1 -> Write(WriteFailed { written: 50 }), sink failed
+all -> 242 of 384
+# between them, and at the last octet
+writer 1 192
+compile 2 1 -> Write(WriteFailed { written: 0 }), sink failed
+all -> 192 of 384
+writer 1 383
+live 2 2 1 -> Write(WriteFailed { written: 191 }), sink failed
+all -> 383 of 384
+# a sink that had failed before takes nothing
+failed-sink
+writer 1 0
+compile 2 1 -> Write(WriteFailed { written: 0 }), sink failed
+all -> 0 of 384
+failed-sink
+writer 1 0
+live 2 2 1 -> Write(WriteFailed { written: 0 }), sink failed
+all -> 0 of 384
+";
+
+const MEETING: &str = "
+# two sessions
+in cell,1,1
+in cell,1,2
+in write,0,a,4370,0,1,en,2,2,0,1-1,@
+in write,0,b,4371,0,2,en,2,2,0,1-2,Two
+compile 2 1 -> done
+keep
+meet 2 2 1 -> done, in both cells at once
+all -> worked
+
+# two workers; of these cells nothing is asked, so that no session enters them
+in cell,1,1
+in cell,1,2
+compile 3 1 -> done
+keep
+meet 3 1 2 -> done, in both cells at once
+all -> worked
+";
+
+#[test]
+fn refused_books_and_failed_ends_are_reported(rt: HostRuntime) -> Result<(), Fail> {
+    expect_rows(&rt, REFUSED)?;
+    expect_rows(&rt, FAILED)
 }
 
 #[test]
-fn refused_books_write_nothing(rt: HostRuntime) {
-    expect_refused(&rt, "cell,1", 1, BookFaultKind::Columns);
-    expect_refused(&rt, "cell,1,1\ncell,1,1", 2, BookFaultKind::TwiceNamed);
-    expect_refused(
-        &rt,
-        "cell,1,1\nwrite,0,a,4370,0,1,en,3,2,0,*,One",
-        2,
-        BookFaultKind::Number,
-    );
-}
-
-#[test]
-fn a_failed_reader_writes_nothing(rt: HostRuntime) {
-    let mut reader = MemoryReader::new(BOOK.as_bytes(), 10, Some(1));
-    let mut writer = MemoryWriter::new(rt.alloc(), 1000, None);
-    let mut source = Source::new(&mut reader);
-    let result = compile_stream(&rt, &mut source, &mut Sink::new(&mut writer), 2, 1);
-    let fault = BookFault {
-        row: 0,
-        kind: BookFaultKind::ReadFailed,
-    };
-    assert!(rt; result == Err(RunFault::Book(fault)));
-    assert!(rt; source.failed());
-    assert_eq!(rt; writer.contents().len(), 0);
-}
-
-#[test]
-fn a_failed_writer_takes_the_first_octets(rt: HostRuntime) -> Result<(), Fail> {
-    let mut reader = MemoryReader::new(BOOK.as_bytes(), 1000, None);
-    let mut writer = MemoryWriter::new(rt.alloc(), 10, Some(10));
-    let mut sink = Sink::new(&mut writer);
-    let result = compile_stream(&rt, &mut Source::new(&mut reader), &mut sink, 2, 1);
-    assert!(rt; result == Err(RunFault::Write(WriteFailed { written: 100 })));
-    assert!(rt; sink.failed());
-    let tapes = tapes_of(&rt, BOOK, 2)?;
-    match tapes.get(..100) {
-        Some(front) => assert_eq!(rt; writer.contents(), front),
-        None => assert!(rt; false, "the tape is short"),
-    }
-    Ok(())
+fn threads_are_in_two_cells_at_once(rt: HostRuntime) -> Result<(), Fail> {
+    expect_rows(&rt, MEETING)
 }

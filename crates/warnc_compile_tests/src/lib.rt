@@ -1,16 +1,18 @@
-//! Tests of `warnc_compile` by its public calls: books compiled to tapes by one session or by several, and what a
-//! handset shows of them.
+//! Tests of `warnc_compile` by its public calls, as tables of lines: books compiled to tapes by one session or by
+//! several, and what a handset shows of them.
 #![tactic(auto)]
 
+#[cfg(test)]
+mod bench;
 #[cfg(test)]
 mod books;
 #[cfg(test)]
 mod ends;
 #[cfg(test)]
-mod live;
+mod gate;
 #[cfg(test)]
-mod memory;
+mod rows;
 #[cfg(test)]
-mod slots;
+mod scarce;
 #[cfg(test)]
-mod workers;
+mod tapes;

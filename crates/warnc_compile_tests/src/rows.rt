@@ -1,0 +1,157 @@
+//! The lines of a table, and what comes of them.
+//!
+//! What the next call gets:
+//!
+//! - `in TEXT`: a line of the book, `last TEXT`: one without a line feed. The first after a call begins a new book;
+//!   `in-none` is a book of no lines;
+//! - `reader N CALLS`, `writer N CALLS`: the end moves N octets a call, and fails after so many calls. At other calls
+//!   neither fails;
+//! - `failed-sink`: the sink has failed before the call;
+//! - `worked DIGITS ..`: octets with which tapes are compared, after those of the lines before; `keep` has them be what
+//!   the last call wrote.
+//!
+//! The calls:
+//!
+//! - `compile SLOTS WORKERS -> done`, or the fault; `live SLOTS SESSIONS WORKERS -> done`;
+//! - `meet SLOTS SESSIONS WORKERS -> done, in both cells at once`: threads wait for each other in two cells;
+//!
+//! What a call wrote, of which a line has to speak before the next call:
+//!
+//! - `all -> worked` or `all -> N of M`: how much of the worked octets it is;
+//! - `aired -> SERIAL-AND-IDENTIFIER ..`: the first block of each slot, 2b2b2b2b if it is idle;
+//! - `cells -> LAC-CI ..`: whose tapes these are;
+//! - `shown N -> IDENTIFIER SERIAL TEXT, ..`: what a handset shows of the Nth tape.
+//!
+//! An answer may be one of two, `A or B`.
+
+use crate::bench::{Bench, Call, Pace, make_call};
+use crate::tapes::{aired, cells, part_of, shown};
+use std::alloc::Global;
+use std::process::Abort;
+use std::sync::Wait;
+use std::test::Fail;
+use std::thread::Threads;
+use test_support::{Row, Words, octets_of};
+
+/// The pace that the next two words say.
+fn pace_of(words: &mut Words) -> Result<Pace, Fail> {
+    Ok(Pace {
+        octets: usize::from(words.number16()?),
+        calls: Some(usize::from(words.number16()?)),
+    })
+}
+
+/// Adds a line to the book.
+fn add_line(bench: &mut Bench, line: &str) -> Result<(), Fail> {
+    if bench.is_book_used {
+        bench.book.clear();
+        bench.is_book_used = false;
+    }
+    bench.book.extend_from_slice(line.as_bytes())?;
+    Ok(())
+}
+
+/// Keeps what the last call wrote.
+fn keep(alloc: Global, bench: &mut Bench) -> Result<(), Fail> {
+    bench.worked = Vec::from_slice(alloc, &bench.written)?;
+    bench.is_unseen = false;
+    Ok(())
+}
+
+/// Has what a line says for the next call.
+fn set(alloc: Global, bench: &mut Bench, verb: &str, words: &mut Words) -> Result<String, Fail> {
+    match verb {
+        "in-none" => add_line(bench, "")?,
+        "reader" => bench.reader = pace_of(words)?,
+        "writer" => bench.writer = pace_of(words)?,
+        "failed-sink" => bench.is_sink_failed = true,
+        "worked" => bench
+            .worked
+            .extend_from_slice(&octets_of(alloc, words.word())?)?,
+        "keep" => keep(alloc, bench)?,
+        _ => return Ok(String::from_str(alloc, "no such action")?),
+    }
+    Ok(String::new(alloc))
+}
+
+/// What a line reads of what the last call wrote.
+fn read_back(
+    alloc: Global,
+    bench: &mut Bench,
+    verb: &str,
+    words: &mut Words,
+) -> Result<String, Fail> {
+    bench.is_unseen = false;
+    match verb {
+        "all" => part_of(alloc, &bench.written, &bench.worked),
+        "aired" => aired(alloc, &bench.written),
+        "cells" => cells(alloc, &bench.written),
+        _ => shown(alloc, &bench.written, words.number16()?),
+    }
+}
+
+/// What comes of an action.
+fn carried_out<T: AllocGlobal + Threads + Wait + Sync>(
+    rt: &T,
+    bench: &mut Bench,
+    action: &str,
+) -> Result<String, Fail> {
+    let alloc = rt.alloc();
+    if let Some(line) = action.strip_prefix("in ") {
+        add_line(bench, line)?;
+        add_line(bench, "\n")?;
+        return Ok(String::new(alloc));
+    }
+    if let Some(line) = action.strip_prefix("last ") {
+        add_line(bench, line)?;
+        return Ok(String::new(alloc));
+    }
+    let mut words = Words::of(action);
+    let verb = words.word();
+    let answer = match verb {
+        "compile" | "live" | "meet" => called(rt, bench, verb, &mut words)?,
+        "all" | "aired" | "cells" | "shown" => read_back(alloc, bench, verb, &mut words)?,
+        _ => set(alloc, bench, verb, &mut words)?,
+    };
+    if words.word().is_empty() {
+        return Ok(answer);
+    }
+    Ok(String::from_str(alloc, "words are left over")?)
+}
+
+/// What comes of a call.
+fn called<T: AllocGlobal + Threads + Wait + Sync>(
+    rt: &T,
+    bench: &mut Bench,
+    verb: &str,
+    words: &mut Words,
+) -> Result<String, Fail> {
+    if bench.is_unseen {
+        return Ok(String::from_str(rt.alloc(), "no line said what the last call wrote")?);
+    }
+    let called = Call::of(verb, words)?;
+    make_call(rt, bench, called)
+}
+
+/// Expects what the rows of a table say.
+pub fn expect_rows<T: AllocGlobal + Abort + Threads + Wait + Sync>(
+    rt: &T,
+    table: &str,
+) -> Result<(), Fail> {
+    let mut bench = Bench::new(rt.alloc());
+    let mut rows = 0_u32;
+    for line in table.split('\n') {
+        if let Some(row) = Row::of(line) {
+            let found = carried_out(rt, &mut bench, row.action)?;
+            let is_wanted = row
+                .wanted
+                .split(" or ")
+                .any(|wanted| wanted == found.as_str());
+            assert!(rt; is_wanted, "{line}: {found}");
+            rows = rows.saturating_add(1);
+        }
+    }
+    assert!(rt; rows > 0);
+    assert!(rt; !bench.is_unseen);
+    Ok(())
+}
