@@ -5,10 +5,10 @@ use cbch_blocks::{Refused, Tape, WriteFailed, tape_of};
 use cbsp_wire::Cell;
 use device_ends::Sink;
 use device_ends::memory::MemoryWriter;
-use test_support::take_all;
 use std::alloc::Global;
 use std::process::Abort;
 use std::test::Fail;
+use test_support::take_all;
 
 /// Writes a tape to a writer that takes so many octets a call and fails after so many calls.
 fn expect_front(rt: &impl Abort, alloc: Global, tape: &Tape, per_call: usize, calls: usize) {

@@ -4,10 +4,10 @@ use crate::records::{airing, expect_same, idle, tape_with};
 use bsc_table::CellRecord;
 use order_desk::Open;
 use parallel_compile::{CompileFault, compile_all, compile_one, gather};
-use test_support::take_all;
 use std::alloc::Global;
 use std::process::Abort;
 use std::test::Fail;
+use test_support::take_all;
 
 /// Two records.
 fn records(rt: &impl Abort, alloc: Global) -> Result<[CellRecord; 2], Fail> {

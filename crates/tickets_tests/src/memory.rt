@@ -1,7 +1,7 @@
 //! A counter with hardly any memory: `new` alone takes some.
 
-use test_support::take_all;
 use std::test::Fail;
+use test_support::take_all;
 use tickets::{Counter, Refused};
 
 #[test]
