@@ -109,7 +109,7 @@ class Room:
             shutil.copytree(os.path.join(TOP, "crates", other), os.path.join(folder, "crates", other), symlinks=True,
                             ignore=None if other == name else shutil.ignore_patterns("incremental"))
 
-    def check(self, texts):
+    def check(self, texts, *flags):
         """Returns what the prover says of the crate with these texts of files in place of its own."""
         for part in PARTS:
             if os.path.isdir(os.path.join(self.original, part)):
@@ -118,7 +118,7 @@ class Room:
         for file, text in texts.items():
             with open(os.path.join(self.crate, file), "w", encoding="utf-8") as it:
                 it.write(text)
-        ran = subprocess.run(["rt", "check", "--allow-holes"], cwd=self.crate, stdin=subprocess.DEVNULL, stdout=subprocess.PIPE,
+        ran = subprocess.run(["rt", "check", *flags], cwd=self.crate, stdin=subprocess.DEVNULL, stdout=subprocess.PIPE,
                              stderr=subprocess.STDOUT, errors="replace")
         return ran.stdout
 
@@ -156,7 +156,7 @@ def batches(crate, edits, size):
 def is_refused_alone(room, edit):
     texts = {}
     edit.put_into(texts, room.original)
-    said = room.check(texts)
+    said = room.check(texts, "--allow-holes")
     return bool(re.search(r"^fn \S+: (no proof|not proved)", said, re.M))
 
 
@@ -173,7 +173,7 @@ def try_crate(name, size):
             print(said[-2000:])
             raise SystemExit(f"{name}: the crate isn't proved as it stands, so no edit says anything")
         for batch, texts in together:
-            said = room.check(texts)
+            said = room.check(texts, "--allow-holes")
             refused.update(edit.name for edit in batch if has_open_goal(said, edit))
             alone += [edit for edit in batch if edit.name not in refused]
         refused.update(edit.name for edit in alone if is_refused_alone(room, edit))
