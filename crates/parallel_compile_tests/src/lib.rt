@@ -1,12 +1,12 @@
-//! Tests of `parallel_compile` by its public calls, so that it isn't proved twice: pieces in and out of order, tapes by
-//! several workers, and refused memory.
+//! Tests of `parallel_compile` by its public calls, so that it isn't proved twice: pieces in and out of order and tapes
+//! by several workers as tables of lines, workers at the gate, and refused memory.
 #![tactic(auto)]
 
 #[cfg(test)]
 mod memory;
 #[cfg(test)]
-mod pieces;
-#[cfg(test)]
 mod records;
+#[cfg(test)]
+mod tapes;
 #[cfg(test)]
 mod workers;

@@ -46,11 +46,3 @@ pub fn airing(rt: &impl Abort, alloc: Global) -> Result<CellRecord, Fail> {
 pub fn tape_with(alloc: Global, ci: u16) -> Result<Tape, Fail> {
     Ok(tape_of(alloc, &idle(alloc, ci, 2)?)?)
 }
-
-/// Expects tapes of these octets, and no more.
-pub fn expect_same<T: Abort>(rt: &T, tapes: &[Tape], wanted: &[Tape]) {
-    assert_eq!(rt; tapes.len(), wanted.len());
-    for (tape, other) in tapes.iter().zip(wanted) {
-        assert_eq!(rt; tape.bytes(), other.bytes());
-    }
-}
