@@ -17,7 +17,7 @@ OrdersAreSteps = (at : ℕ) (command : Command) (answer : Answer) (before after 
     → IsServed at command answer before after notes
     → IsReached (Play (at - before.clock) ∷ Ask command ∷ []) before after
 
--- an order that ends for want of memory has played at most
+-- an order that ends out of memory has played at most
 abbrev pub PlaysOfOrdersAreSteps : Type 0
 PlaysOfOrdersAreSteps = (at : ℕ) (before after : Record) (notes : List Note)
     → IsPlayedFor at before after notes
