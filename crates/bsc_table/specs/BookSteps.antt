@@ -30,7 +30,7 @@ use Rattle.bsc_table.specs.Claim.{Claim, own_load, is_claimed_at, claimed_at, st
 use Rattle.bsc_table.specs.Handover.{Place}
 use Rattle.bsc_table.specs.Orders.{IsWellFormed}
 use Rattle.bsc_table.specs.Answer.{answer_at, admit_or_refuse, answer_with_room}
-use Rattle.bsc_table.specs.Steps.{entry_by}
+use Rattle.bsc_table.specs.Transitions.{entry_by}
 use Rattle.bsc_table.specs.Accepted.{accepted_of}
 use Rattle.bsc_table.specs.Refusals.{is_accepting}
 

@@ -14,6 +14,6 @@ pub mod Claim
 pub mod Handover
 pub mod Room
 pub mod Begun
-pub mod Steps
+pub mod Transitions
 pub mod Accepted
 pub mod Table

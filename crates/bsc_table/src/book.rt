@@ -19,7 +19,7 @@ ghost use Rattle.bsc_table.specs.Answer.{answer_with_room, answer_of};
 ghost use Rattle.bsc_table.specs.Orders.{IsWellFormed};
 ghost use Rattle.bsc_table.specs.Legal.{IsLegal};
 ghost use Rattle.bsc_table.specs.Promised.{IsServed, IsBounded};
-ghost use Rattle.bsc_table.specs.Steps.{opened, entry_by, with_entry, answered_with, IsPlayedUpTo, Ask, Play, IsStep};
+ghost use Rattle.bsc_table.specs.Transitions.{opened, entry_by, with_entry, answered_with, IsPlayedUpTo, Ask, Play, IsStep};
 ghost use Rattle.bsc_table.specs.Accepted.{accepted_of};
 ghost use Rattle.bsc_table.specs.Book.{air_pairs, reservation_for};
 ghost use Rattle.bsc_table.specs.BookSteps.{IsGoneTo, IsNotLive, IsLiveAs, IsLiveIn, IsNext, IsStop, IsStart};
@@ -156,10 +156,10 @@ impl CellBook {
     /// - `Started`, or `Replaced`, where the new message is background, which reserves nothing;
     /// - cause 07 where 64 messages are reserved, the one to replace being stopped;
     /// - `Started`, or `Replaced` where one is replaced, where the load fits beside those that are then reserved;
-    /// - `Replaced` at a later slot where the message takes over: it starts where the reservation of the message ahead
-    /// of
-    ///   it ends (of the one that it replaces, or of the one behind which that one waits), and what its load has over
-    ///   that one's fits until then;
+    /// - `Replaced` at a later slot if the message can take over from its predecessor, the message that it replaces or,
+    ///   if that one is itself waiting, the message that that one waits for: it starts where the reservation of the
+    ///   predecessor ends, and until then the excess of its load over the predecessor's load fits beside the loads that
+    ///   are reserved;
     /// - else cause 06.
     ///
     /// Each answer but cause 08 has an entry, which is the only trace of a refusal. Where there is no memory for what

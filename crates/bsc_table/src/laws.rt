@@ -12,7 +12,7 @@ ghost use Rattle.bsc_table.specs.Promised.{LegalHistoriesAreBounded, LegalPagesA
 ghost use Rattle.bsc_table.specs.Refusals.{RefusalsChangeNothing, AcceptedEntriesAreAll};
 ghost use Rattle.bsc_table.specs.Written.{AcceptedAreWrites, UsesAreOfWrites, AcceptedRise, AcceptedHaveLoads};
 ghost use Rattle.bsc_table.specs.Reported.{LegalAnswersAreTrue};
-ghost use Rattle.bsc_table.specs.Steps.{OpenedAreLegal, StepKeepsLegal, StepsKeepLegal};
+ghost use Rattle.bsc_table.specs.Transitions.{OpenedAreLegal, StepKeepsLegal, StepsKeepLegal};
 
 /// Admitted load is a guarantee: where the loads that are reserved at each slot sum to at most `SCALE`, and each slot
 /// airs what the air rule says, each broadcast is completed within its own period, from its release up to its due

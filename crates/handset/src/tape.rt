@@ -98,7 +98,7 @@ impl From<crate::Refused> for TapeFault {
 ///
 /// Returns [`TapeFault::Short`] if the input ends before its tape does, [`TapeFault::Long`] if it goes on after the
 /// tape or the header says more than 65,535 slots, [`TapeFault::ReadFailed`] exactly if the source has failed, now or
-/// earlier, and [`TapeFault::Refused`] if out of memory. Of a long input no more is read than the header that says
+/// earlier, and [`TapeFault::Refused`] if memory runs out. Of a long input no more is read than the header that says
 /// too many slots, or one octet after the tape.
 pub fn read_tape<R: Read>(alloc: Global, source: &mut Source<R>) -> Result<Reading, TapeFault>
     ensures reading { IfOk result (λ reading. IfSome (R.remaining (reader_of source.old)) (λ input.

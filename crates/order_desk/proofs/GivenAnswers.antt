@@ -22,7 +22,7 @@ use Rattle.bsc_table.specs.Record.{Accepted, accepted_named, message_named, clai
 use Rattle.bsc_table.specs.Record.{is_live}
 use Rattle.bsc_table.specs.Answer.{answer_at, admit_or_refuse, answer_for, answer_of, answer_to_new, answer_to_kill}
 use Rattle.bsc_table.specs.Answer.{answer_to_replacement, answer_to_write, answer_with_room, if_live, unless_accepted}
-use Rattle.bsc_table.specs.Steps.{has_entry}
+use Rattle.bsc_table.specs.Transitions.{has_entry}
 use Rattle.order_desk.specs.Reply.{IsAnswerTo}
 use Rattle.order_desk.specs.ReplyLaws.{IsOrdered}
 

@@ -2,7 +2,7 @@
 use Rattle.std.proofs.Common.{◌≡◌, ℕ, ◌+◌, ◌-◌, min, max, ◌∙◌, refl, sym, subst, inr}
 use native.Mathlib.Omega.{arith}
 use Rattle.bsc_table.specs.Record.{Record}
-use Rattle.bsc_table.specs.Steps.{Ask, IsPlayedUpTo, IsStep, Play}
+use Rattle.bsc_table.specs.Transitions.{Ask, IsPlayedUpTo, IsStep, Play}
 use Rattle.bsc_table.specs.declared.command.Command.{Command}
 use Rattle.bsc_table.specs.declared.entry.Answer.{Answer}
 use Rattle.order_desk.specs.declared.note.Note.{Note}

@@ -9,7 +9,7 @@ use Rattle.bsc_table.specs.declared.entry.State.{State}
 use Rattle.bsc_table.specs.Answer.{answer_of, answer_with_status, status_of}
 use Rattle.bsc_table.specs.Legal.{IsLegal}
 use Rattle.bsc_table.specs.Record.{Record, message_named}
-use Rattle.bsc_table.specs.Steps.{IsPlayedUpTo, answered_with, entry_by, has_entry}
+use Rattle.bsc_table.specs.Transitions.{IsPlayedUpTo, answered_with, entry_by, has_entry}
 use Rattle.order_desk.specs.declared.note.Note.{Note}
 use Rattle.order_desk.specs.declared.note.Note.TheVariants.{Event, Played, Full}
 

@@ -8,7 +8,7 @@ use Rattle.bsc_table.specs.declared.command.Command.{Command}
 use Rattle.bsc_table.specs.declared.command.Command.TheVariants as commands
 use Rattle.bsc_table.specs.declared.entry.Entry.{Entry}
 use Rattle.bsc_table.specs.Answer.{answer_of}
-use Rattle.bsc_table.specs.Steps.{has_entry}
+use Rattle.bsc_table.specs.Transitions.{has_entry}
 use Rattle.bsc_table.specs.declared.entry.Answer.{Answer}
 use Rattle.bsc_table.specs.declared.entry.Answer.TheVariants as answers
 use Rattle.order_desk.specs.Reply.{IsAnswerTo, accepted_in, cells_answered, counted_in, refused_in}

@@ -7,7 +7,7 @@ use Rattle.cbsp_wire.specs.declared.message.Cell.{Cell}
 use Rattle.cbsp_wire.specs.Range.{is_cell}
 use Rattle.bsc_table.specs.Legal.{IsLegal}
 use Rattle.bsc_table.specs.Record.{Record}
-use Rattle.bsc_table.specs.Steps.{IsPlayedUpTo}
+use Rattle.bsc_table.specs.Transitions.{IsPlayedUpTo}
 use Rattle.order_desk.specs.declared.note.Note.{Note}
 use Rattle.order_desk.specs.declared.note.Note.TheVariants as notes
 use Rattle.order_desk.specs.declared.settle.SettleFault.{SettleFault}

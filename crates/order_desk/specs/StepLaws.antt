@@ -7,7 +7,7 @@ use Rattle.bsc_table.specs.declared.entry.Answer.{Answer}
 use Rattle.bsc_table.specs.declared.entry.SlotRange.{SlotRange}
 use Rattle.bsc_table.specs.declared.entry.State.{State}
 use Rattle.bsc_table.specs.Record.{Record}
-use Rattle.bsc_table.specs.Steps.{Ask, IsReached, IsStep, Play}
+use Rattle.bsc_table.specs.Transitions.{Ask, IsReached, IsStep, Play}
 use Rattle.order_desk.specs.declared.note.Note.{Note}
 use Rattle.order_desk.specs.Notes.{IsPlay, IsPlayedFor, IsServed, IsStatus}
 

@@ -3,7 +3,7 @@
 ghost use Rattle.std.specs.Prelude.{◌≡◌, ◌+◌, ◌*◌, ◌<◌, ◌≤◌, ◌∷◌, [], ◌++◌, List, length, map, false, true, vec_len};
 ghost use Rattle.std.specs.Prelude.{vec_capacity, All, IfErr, IfNone, IfOk, IfSome, OnErr, OnOk};
 ghost use Rattle.cbsp_wire.specs.Range.{cells_are_valid};
-ghost use Rattle.bsc_table.specs.Steps.{opened};
+ghost use Rattle.bsc_table.specs.Transitions.{opened};
 ghost use Rattle.order_desk.specs.declared.note.Note.{Note};
 ghost use Rattle.order_desk.specs.Desk.{IsCarriedOut, IsPlayed, IsRefusedOrder, IsRefusedPlay, IsRefusedStatus};
 ghost use Rattle.order_desk.specs.Desk.{IsTold, has_cell};

@@ -3,7 +3,7 @@
 ghost use Rattle.std.specs.Prelude.{◌≡◌, ◌+◌, ◌≤◌, ◌∷◌, [], ◌++◌, IfOk, IfErr, OnOk, OnErr, IsTrue, List, vec_len};
 ghost use Rattle.std.specs.Prelude.{vec_capacity, if◌then◌else◌};
 ghost use Rattle.bsc_table.specs.Orders.{IsWellFormed};
-ghost use Rattle.bsc_table.specs.Steps.{has_entry};
+ghost use Rattle.bsc_table.specs.Transitions.{has_entry};
 ghost use Rattle.order_desk.specs.declared.note.Note.{Note};
 ghost use Rattle.order_desk.specs.declared.note.Note.TheVariants as notes_of;
 ghost use Rattle.order_desk.specs.DeskSteps.{IsUntold};

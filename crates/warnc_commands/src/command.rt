@@ -22,7 +22,7 @@ pub struct PageOptions<'a> {
 }
 
 /// The version of the program, and on a line of its own what `rt version` says of the toolchain that proved it.
-const VERSION: &str = "0.1.0\nrattle-kit-13b logic dac8208d650f15bf";
+const VERSION: &str = "0.1.0\nrattle-kit-13f logic dac8208d650f15bf";
 
 /// What the words ask for.
 #[derive(Clone, Copy, Debug, PartialEq, Eq)]

@@ -29,7 +29,7 @@ use Rattle.bsc_table.specs.Begun.{IsBegun}
 use Rattle.bsc_table.specs.Accepted.{TableState}
 use Rattle.bsc_table.specs.Book.{air_pairs, record_of}
 use Rattle.bsc_table.specs.BookSteps.{stop_numbered, IsLiveIn, IsNext}
-use Rattle.bsc_table.specs.Steps.{with_entry}
+use Rattle.bsc_table.specs.Transitions.{with_entry}
 use Rattle.bsc_table.specs.Book.{IsBook, reservation_for, reservations_at}
 use Rattle.bsc_table.specs.BookSteps.{left_by}
 use Rattle.bsc_table.proofs.History.Pairs.{OfAnotherPair, BelowIt, live_is_standing}

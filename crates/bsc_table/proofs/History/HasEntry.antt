@@ -19,7 +19,7 @@ use Rattle.bsc_table.specs.Record.{is_live}
 use Rattle.bsc_table.specs.Answer.{answer_at, admit_or_refuse, answer_for, answer_to_new, answer_to_replacement}
 use Rattle.bsc_table.specs.Answer.{unless_accepted, if_live, answer_to_write, answer_to_kill, status_answer}
 use Rattle.bsc_table.specs.Answer.{answer_with_room}
-use Rattle.bsc_table.specs.Steps.{has_entry}
+use Rattle.bsc_table.specs.Transitions.{has_entry}
 
 abbrev HasOne : Answer → Type 0
 HasOne answer = has_entry answer ≡ true

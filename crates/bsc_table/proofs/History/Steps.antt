@@ -16,8 +16,8 @@ use Rattle.bsc_table.specs.Orders.{IsWellFormed}
 use Rattle.bsc_table.specs.Record.{Record, messages_in}
 use Rattle.bsc_table.specs.Answer.{answer_of, answer_with_room}
 use Rattle.bsc_table.specs.Legal.{IsLegal, IsAnswered}
-use Rattle.bsc_table.specs.Steps.{opened, has_entry, answered_with, IsPlayedUpTo, Ask, Play, StepOfCell, IsStep}
-use Rattle.bsc_table.specs.Steps.{IsReached, IsWellFormedStep, OpenedAreLegal, StepKeepsLegal, StepsKeepLegal}
+use Rattle.bsc_table.specs.Transitions.{opened, has_entry, answered_with, IsPlayedUpTo, Ask, Play, StepOfCell, IsStep}
+use Rattle.bsc_table.specs.Transitions.{IsReached, IsWellFormedStep, OpenedAreLegal, StepKeepsLegal, StepsKeepLegal}
 use Rattle.bsc_table.proofs.History.LegalWithEntry.{IsLegal-entry}
 use Rattle.bsc_table.proofs.History.HasEntry.{has_entry-with_room}
 

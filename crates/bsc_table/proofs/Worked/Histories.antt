@@ -31,7 +31,7 @@ use Rattle.bsc_table.specs.Claim.{claimed_at}
 use Rattle.bsc_table.specs.Answer.{answer_of}
 use Rattle.bsc_table.specs.Legal.{IsAnswered, IsLegal}
 use Rattle.bsc_table.specs.Reported.{IsTrulyReported}
-use Rattle.bsc_table.specs.Steps.{opened, IsPlayedUpTo, Ask, Play, IsReached}
+use Rattle.bsc_table.specs.Transitions.{opened, IsPlayedUpTo, Ask, Play, IsReached}
 use Rattle.bsc_table.proofs.History.Promises.{legal_histories_are_served, legal_histories_are_bounded}
 use Rattle.bsc_table.proofs.History.ReportedCounts.{legal_answers_are_true}
 

@@ -1,5 +1,5 @@
 use Rattle.std.proofs.Common.{◌≡◌, map, take}
-use Rattle.bsc_table.specs.Steps.{opened}
+use Rattle.bsc_table.specs.Transitions.{opened}
 use Rattle.order_desk.proofs.desk.open_books.Given as goal
 
 abbrev pub invariant-loop-cell : goal.invariant-loop-cell

@@ -6,7 +6,7 @@ use Rattle.bsc_table.specs.Record.{Record}
 use Rattle.bsc_table.specs.Answer.{answer_of, answer_with_room}
 use Rattle.bsc_table.specs.Legal.{IsLegal}
 use Rattle.bsc_table.specs.declared.entry.Answer.{Answer}
-use Rattle.bsc_table.specs.Steps.{with_entry, answered_with, has_entry}
+use Rattle.bsc_table.specs.Transitions.{with_entry, answered_with, has_entry}
 use Rattle.bsc_table.specs.Book.{record_of}
 use Rattle.bsc_table.specs.BookSteps.{IsNext, decided_answer}
 use Rattle.bsc_table.proofs.History.HasEntry.{has_entry-with_room}
