@@ -1,12 +1,16 @@
 #!/usr/bin/env python3
 """Proves and builds warnc: crates that don't stand on each other side by side, each once those below it are proved.
 
+`rt` keeps one checkout's checks out of each other's libraries, so that two of them wait for each other. So each lane is a checkout of
+its own, outside the repository: what is proved in one is taken over by the others, and is linked into this one.
+
 Of the crates that can begin, the one with the longest way to the program begins first: by the seconds that each crate took on this
 machine the last time, which its out/ keeps, else by its lines. A crate that runs alone gets all processors.
 On a terminal one line changes as it goes; elsewhere there is a line for each crate. If a crate isn't proved, the end of what the
 prover said is printed, and the rest is in the named file.
 """
 import os
+import shutil
 import subprocess
 import sys
 import tempfile
@@ -121,11 +125,40 @@ class Progress:
         print(f"{front}warnc: {text}, {self.minutes()}", file=sys.stderr, flush=True)
 
 
-def start(crate, folder, jobs):
-    """Starts the check of a crate, which writes to a file of this folder."""
+def copy_checkout(folder, crates):
+    """Copies the sources of these crates to a checkout of their own, and returns it."""
+    os.makedirs(os.path.join(folder, "crates"))
+    for file in ("crates.txt", "HANDLES"):
+        shutil.copy2(os.path.join(TOP, file), folder)
+    for crate in crates:
+        shutil.copytree(os.path.join(TOP, "crates", crate), os.path.join(folder, "crates", crate),
+                        ignore=shutil.ignore_patterns("out", "out.log", "__pycache__"))
+    return folder
+
+
+def link_out(crate, checkout):
+    """Links what a check of a crate kept in another checkout into this one."""
+    made, here = (os.path.join(it, "crates", crate, "out") for it in (checkout, TOP))
+    for name in ("incremental", "rlib"):
+        shutil.rmtree(os.path.join(here, name), ignore_errors=True)
+        if os.path.isdir(os.path.join(made, name)):
+            shutil.copytree(os.path.join(made, name), os.path.join(here, name), copy_function=link_or_copy)
+
+
+def link_or_copy(file, to):
+    """Links a file, or copies it if the two places are on two disks."""
+    try:
+        os.link(file, to)
+    except OSError:
+        shutil.copy2(file, to)
+
+
+def start(crate, folder, checkout, jobs):
+    """Starts the check of a crate in a checkout, which writes to a file of this folder."""
     words = ["rt", "run", "--jobs", str(jobs), "--", "--help"] if crate == PROGRAM else ["rt", "lib", "--jobs", str(jobs)]
     with open(os.path.join(folder, crate), "wb") as log:
-        return subprocess.Popen(words, cwd=os.path.join(TOP, "crates", crate), stdin=subprocess.DEVNULL, stdout=log, stderr=log)
+        return subprocess.Popen(words, cwd=os.path.join(checkout, "crates", crate), stdin=subprocess.DEVNULL, stdout=log,
+                                stderr=log)
 
 
 def explain(crate, folder):
@@ -152,31 +185,42 @@ def keep_seconds(crate, seconds):
         pass
 
 
+def end_all(running):
+    """Ends the checks that run."""
+    for check, _, _ in running.values():
+        check.terminate()
+
+
 def build():
+    """Builds the program, and returns the status."""
     below = crates_below(PROGRAM)
     seconds = {crate: seconds_of(crate) for crate in below}
     ways = longest_ways(below, seconds)
     progress = Progress(seconds)
     print(f"warnc: proving and building {len(below)} crates, which takes minutes the first time", file=sys.stderr, flush=True)
-    left, running, room = sorted(below, key=lambda it: -ways[it]), {}, lanes()
+    left, running = sorted(below, key=lambda it: -ways[it]), {}
     with tempfile.TemporaryDirectory(prefix="warnc-build-") as folder:
+        free = [copy_checkout(os.path.join(folder, f"lane{it}"), below) for it in range(lanes())]
         while left or running:
-            ready = [it for it in left if set(progress.done).issuperset(below[it])][: room - len(running)]
+            ready = [it for it in left if set(progress.done).issuperset(below[it])][: len(free)]
             # the processors that no other check has, shared by those that begin now
             jobs = max(1, (processors() - len(running)) // max(1, len(ready)))
             for crate in ready:
                 left.remove(crate)
-                running[crate] = (start(crate, folder, jobs), time.monotonic())
+                checkout = TOP if crate == PROGRAM else free.pop()
+                running[crate] = (start(crate, folder, checkout, jobs), checkout, time.monotonic())
             progress.show(running)
             time.sleep(0.2)
-            for crate in [it for it, (check, _) in running.items() if check.poll() is not None]:
-                check, began = running.pop(crate)
+            for crate in [it for it, (check, _, _) in running.items() if check.poll() is not None]:
+                check, checkout, began = running.pop(crate)
                 if check.returncode:
-                    for other, _ in running.values():
-                        other.terminate()
+                    end_all(running)
                     progress.end("the build failed")
                     explain(crate, folder)
                     return 70
+                if crate != PROGRAM:
+                    link_out(crate, checkout)
+                    free.append(checkout)
                 keep_seconds(crate, time.monotonic() - began)
                 progress.add(crate)
     progress.end(f"{len(progress.done)} crates proved, and the program built")
