@@ -126,10 +126,12 @@ class Progress:
 
 
 def copy_checkout(folder, crates):
-    """Copies the sources of these crates to a checkout of their own, and returns it."""
+    """Copies the sources of these crates to a checkout of their own, which lists no others, and returns it."""
     os.makedirs(os.path.join(folder, "crates"))
-    for file in ("crates.txt", "HANDLES"):
-        shutil.copy2(os.path.join(TOP, file), folder)
+    shutil.copy2(os.path.join(TOP, "HANDLES"), folder)
+    with open(os.path.join(TOP, "crates.txt"), encoding="utf-8") as every, \
+            open(os.path.join(folder, "crates.txt"), "w", encoding="utf-8") as listed:
+        listed.writelines(it for it in every if it.partition(":")[0].split()[:1] in [[crate] for crate in crates])
     for crate in crates:
         shutil.copytree(os.path.join(TOP, "crates", crate), os.path.join(folder, "crates", crate),
                         ignore=shutil.ignore_patterns("out", "out.log", "__pycache__"))
