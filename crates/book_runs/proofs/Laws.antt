@@ -1,6 +1,8 @@
--- What the crates below promise, as clauses of their public laws: all that the proofs here know of them.
+-- What the crates below promise, as clauses of their public laws: all that the proofs here know of them, but that
+-- OneAnswer stands on lemmas of scheduler and bsc_table, too.
 use Rattle.cbs_page.specs.Laws.{PagedTextsComeBack}
-use Rattle.alert_book.specs.Laws.{CellsAreValid, RowsAreFew}
+use Rattle.scheduler.specs.AirLaws.{FrontsAreByTheRule, OneAirList}
+use Rattle.alert_book.specs.Laws.{BooksAreOne, CellsAreValid, RowsAreFew}
 use Rattle.alert_book.specs.Texts.{TextsAreUtf8}
 use Rattle.alert_book.specs.TurnLaws.{AsksOncePerOrder, RequestsAreWritable, RequestsComeOfOrders}
 use Rattle.bsc_table.specs.Written.{AcceptedAreWrites}
@@ -27,3 +29,9 @@ pub record BookLaws : Type 0 where
   pub cells_are_valid : CellsAreValid
   pub writable : RequestsAreWritable
   pub once_per_order : AsksOncePerOrder
+
+-- and those by which a book has one run
+pub record OneRunLaws : Type 0 where
+  pub books_are_one : BooksAreOne
+  pub one_air : OneAirList
+  pub fronts : FrontsAreByTheRule

@@ -20,3 +20,6 @@ mod Parts
 mod Room
 mod InOrder
 mod Settled
+mod OneAnswer
+mod SameBook
+mod OneRun

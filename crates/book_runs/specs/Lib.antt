@@ -5,3 +5,4 @@ pub mod RunLaws
 pub mod Sessions
 pub mod Live
 pub mod LiveLaws
+pub mod OneRun

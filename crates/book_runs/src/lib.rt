@@ -2,11 +2,13 @@
 //! blocks. A book is served by one session, or by several side by side, each of a part of its alerts.
 //!
 //! Nothing here runs: the crate has the definitions of a run, on which the engines of the program stand, and the laws
-//! that say what it means, proved from the public laws of the crates below it.
+//! that say what it means and that it is one, proved from the public laws of the crates below it, and from lemmas of
+//! theirs.
 #![tactic(auto)]
 
 ghost use Rattle.book_runs.specs.LiveLaws.{LiveRunsAcceptWhatWasOrdered, LiveRunsShowTheBook, OneSessionIsARun};
 ghost use Rattle.book_runs.specs.LiveLaws.{SettledSessionsAreRuns};
+ghost use Rattle.book_runs.specs.OneRun.{RunsAreOne};
 ghost use Rattle.book_runs.specs.Ordered.{RunsAcceptWhatWasOrdered};
 ghost use Rattle.book_runs.specs.RunLaws.{RunsShowTheBook};
 
@@ -31,6 +33,15 @@ pub fn order_laws()
     alert_book::session_laws();
     bsc_table::legal_histories();
     composition::composition_laws();
+}
+
+/// States, as its contract, that a book has one run of so many slots. Does nothing: its body names the laws that carry
+/// it.
+pub fn one_run_law()
+    ensures { RunsAreOne }
+{
+    alert_book::book_laws();
+    scheduler::air_laws();
 }
 
 /// States, as its contract, what holds of the runs of a book whose parts are served by a session each, side by side.
