@@ -3,3 +3,4 @@ pub mod Serving
 pub mod Written
 pub mod Asked
 pub mod FirstFault
+mod OneOutput

@@ -2,3 +2,4 @@ pub mod Compiled
 pub mod Live
 pub mod Reported
 pub mod RunSteps
+pub mod OneOutput

@@ -12,6 +12,7 @@
 pub mod compile;
 pub mod fault;
 mod finish;
+mod laws;
 pub mod live;
 pub mod report_run;
 mod session;
@@ -22,5 +23,6 @@ mod workers;
 
 pub use compile::compile_stream;
 pub use fault::RunFault;
+pub use laws::output_laws;
 pub use live::live_stream;
 pub use report_run::{ReportRunFault, report_stream};

@@ -1,0 +1,15 @@
+//! Laws of what is written.
+
+ghost use Rattle.warnc_compile.specs.OneOutput.{CompiledIsOne, ReportedIsOne};
+
+/// States, as its contract, that what is written for a book is a function of the book's octets and of the number of
+/// slots. Does nothing: its body names the law that carries it.
+pub fn output_laws()
+    // The tapes are the same whatever the number of workers, the machine and the day.
+    ensures compiled { CompiledIsOne }
+
+    // And so is the report.
+    ensures reported { ReportedIsOne }
+{
+    book_runs::one_run_law();
+}
