@@ -16,5 +16,8 @@ pub mod FewRows
 pub mod Utf8Laws
 pub mod OneBook
 pub mod RightOrders
+mod OneAlert
+mod LastAccepted
+mod TurnsReplace
 pub mod Writable
 mod NearCells

@@ -203,7 +203,7 @@ pub record IsRight (sending : Sending) : Type 0 where
   pub period : is_period sending.period ≡ true
   pub cells : AreAsked sending.cells
 
-right_gives : {A B : Type 0} (P : B → Type 0) (r : Result A BookFaultKind) (next : A → Result B BookFaultKind) →
+pub right_gives : {A B : Type 0} (P : B → Type 0) (r : Result A BookFaultKind) (next : A → Result B BookFaultKind) →
     ((value : A) → r ≡ Ok value → (made : B) → next value ≡ Ok made → P made) →
     (made : B) → if_right r next ≡ Ok made → P made
 right_gives {A} {B} P (Ok value) next gives made is = gives value refl made is

@@ -84,7 +84,7 @@ cell_same a b same =
     ap (λ n. cell_with n a.ci) lac ∙ ap (λ n. cell_with b.lac n) ci
 
 -- a cell stands among those with a version only if that is its version
-version_is : (live : ℕ → Cell → Option ℕ) (number : ℕ) (cell : Cell) (cells : List Cell) (version : ℕ) →
+pub version_is : (live : ℕ → Cell → Option ℕ) (number : ℕ) (cell : Cell) (cells : List Cell) (version : ℕ) →
     list_any (is_cell cell) (cells_with live number version cells) ≡ true →
     is_version version (live number cell) ≡ true
 version_is live number cell [] version asked = absurd (both_ways false refl asked)
@@ -132,7 +132,7 @@ one_version None a n = let none = no_version a n in omega (arith, none)
 one_version (Some most) a n = some_version most a n
 
 -- whether a request asks a cell
-abbrev asks : Cell → Request → Bool
+abbrev pub asks : Cell → Request → Bool
 asks cell request = list_any (is_cell cell) (cells_asked request.message)
 
 -- the targets of a row have a cell once at most
@@ -151,7 +151,7 @@ targets_have_once live number cells cell =
     omega (arith, kept, mapped, weaker, one)
 
 -- a row asks a cell once at most
-row_asks_once : (live : ℕ → Cell → Option ℕ) (order : Order) (sends : Action) (paged : Option Paged) (cell : Cell) →
+pub row_asks_once : (live : ℕ → Cell → Option ℕ) (order : Order) (sends : Action) (paged : Option Paged) (cell : Cell) →
     length (filter (asks cell) (requests_by live order sends paged)) ≤ 1
 row_asks_once live order (action.Write sending) None cell = omega arith
 row_asks_once live order (action.Write sending) (Some paged) cell =
@@ -173,7 +173,7 @@ row_asks_once live order (action.Stop cells) (Some paged) cell =
 
 -- how often a session asks a cell from a standing on, at most: by the request that was sent, by those that are due, and
 -- once for each order that is left
-abbrev sent_asks : Cell → Option Request → ℕ
+abbrev pub sent_asks : Cell → Option Request → ℕ
 sent_asks cell None = 0
 sent_asks cell (Some request) = one_if (asks cell request)
 

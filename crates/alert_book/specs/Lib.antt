@@ -8,6 +8,7 @@ pub mod Texts
 pub mod Session
 pub mod Turns
 pub mod TurnLaws
+pub mod LastAccepted
 pub mod SendableSteps
 pub mod RowSteps
 pub mod PackingSteps

@@ -2,6 +2,7 @@
 
 ghost use Rattle.alert_book.specs.Laws.{BooksAreOne, BooksAreRight, CellsAreValid, FaultsAreOne, RowsAreFew};
 ghost use Rattle.alert_book.specs.Laws.{RowsAreOne, RowsAreRightOrWrong};
+ghost use Rattle.alert_book.specs.LastAccepted.{LastAcceptedIsReplaced};
 ghost use Rattle.alert_book.specs.Texts.{TextsAreUtf8};
 ghost use Rattle.alert_book.specs.TurnLaws.{AsksOncePerOrder, RequestsAreWritable, RequestsComeOfOrders, SessionsEnd};
 
@@ -32,6 +33,10 @@ pub fn session_laws()
 
     // The message of each request can be written.
     ensures writable { RequestsAreWritable }
+
+    // No cell is asked to replace or to stop a version of an alert but the one that it accepted last, by the replies so
+    // far.
+    ensures last_accepted { LastAcceptedIsReplaced }
 {}
 
 /// The texts of a book's orders are UTF-8. It does nothing: its contract is the law.
