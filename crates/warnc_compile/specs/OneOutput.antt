@@ -1,6 +1,7 @@
 -- What is written for a book is a function of its octets and of the number of slots (own).
 use Rattle.std.specs.Prelude.{◌≡◌, ℕ, List}
 use Rattle.warnc_compile.specs.Compiled.{IsCompiled}
+use Rattle.warnc_compile.specs.Live.{IsLive}
 use Rattle.warnc_compile.specs.Reported.{IsReported}
 
 -- the tapes that are written for a book are the same whatever the number of workers, the machine and the day
@@ -15,4 +16,11 @@ abbrev pub ReportedIsOne : Type 0
 ReportedIsOne = (slots : ℕ) (input output other : List ℕ)
     → IsReported slots input output
     → IsReported slots input other
+    → output ≡ other
+
+-- with one session, `live` writes the tapes that `compile` writes
+abbrev pub LiveOfOneIsCompiled : Type 0
+LiveOfOneIsCompiled = (slots : ℕ) (input output other : List ℕ)
+    → IsLive slots 1 input output
+    → IsCompiled slots input other
     → output ≡ other
