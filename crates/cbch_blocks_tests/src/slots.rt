@@ -80,7 +80,7 @@ fn an_open_tape_is_that_of_a_silent_run(rt: HostRuntime) -> Result<(), Fail> {
     Ok(())
 }
 
-/// Whether the tape of a run of two slots, of which one airs the worked page with an octet changed, is that of a record.
+/// Whether the tape of two slots, of which one airs the worked page with an octet changed, is that of a record.
 fn is_of_with(alloc: Global, slot: u16, place: usize, run: &CellRecord) -> Result<bool, Fail> {
     let mut tape = Tape::open(alloc, CELL, 2)?;
     if slot < 2 && tape.bytes().len() == 192 {

@@ -4,7 +4,6 @@ use Rattle.std.proofs.lemmas.List.{drop-map, drop_min, length-drop, length-map, 
 use Rattle.std.proofs.lemmas.List.{take_min}
 use Rattle.std.proofs.lemmas.Simd.{map-map}
 use Rattle.bsc_table.specs.declared.entry.Aired.{Aired}
-use Rattle.bsc_table.specs.declared.entry.Entry.{Entry}
 use Rattle.bsc_table.specs.Book.{air_pairs, aired_pair}
 use Rattle.bsc_table.specs.Legal.{IsLegal}
 use Rattle.bsc_table.specs.Record.{Record}
