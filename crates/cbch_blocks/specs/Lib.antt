@@ -1,3 +1,4 @@
 pub mod Blocks
 pub mod RecordBlocks
+pub mod Slots
 pub mod TapeSteps

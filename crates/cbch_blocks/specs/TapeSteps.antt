@@ -4,6 +4,7 @@ use Rattle.std.specs.List.{slice_get}
 use Rattle.bsc_table.specs.declared.command.Command.{Command}
 use Rattle.bsc_table.specs.declared.command.Command.TheVariants as commands
 use Rattle.bsc_table.specs.declared.entry.Entry.{Entry}
+use Rattle.cbch_blocks.specs.RecordBlocks.{blocks_of_slot, octets_of_blocks, page_aired}
 
 -- a command that can be sent has a page of this number, and 15 pages at most
 abbrev pub CanSendPage : ℕ → Command → Type 0
@@ -20,3 +21,7 @@ CanSendPageOf page (Some e) = CanSendPage page e.command
 abbrev pub CanAir : List Entry → Option (ℕ × ℕ) → Type 0
 CanAir log None = ⊤
 CanAir log (Some used) = CanSendPageOf used.1 (slice_get log used.0)
+
+-- the octets of the blocks of a slot
+abbrev pub octets_of_slot : List Entry → Option (ℕ × ℕ) → List ℕ
+octets_of_slot log used = octets_of_blocks (blocks_of_slot (page_aired log used))

@@ -3,6 +3,7 @@
 #![tactic(auto)]
 
 mod blocks;
+mod front;
 mod slot;
 pub mod tape;
 

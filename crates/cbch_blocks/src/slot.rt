@@ -1,12 +1,14 @@
 //! The blocks of a slot that airs a page.
 
-ghost use Rattle.std.specs.Prelude.{◌≡◌, ◌-◌, ◌++◌, OnOk};
+ghost use Rattle.std.specs.Prelude.{◌≡◌, ◌-◌, ◌++◌, ℕ, List, MatchOption, OnOk};
 ghost use Rattle.std.specs.List.{slice_get};
 ghost use Rattle.bsc_table.specs.Book.{aired_pair};
+ghost use Rattle.cbch_blocks.specs.Blocks.{idle_blocks};
 ghost use Rattle.cbch_blocks.specs.RecordBlocks.{blocks_of_slot, octets_of_blocks, page_aired, pages_of_command};
-ghost use Rattle.cbch_blocks.specs.TapeSteps.{CanAir, CanSendPage};
+ghost use Rattle.cbch_blocks.specs.TapeSteps.{CanAir, CanSendPage, octets_of_slot};
 
 use crate::blocks::{cut, idle};
+use crate::front::strip_front;
 use crate::tape::Refused;
 use bsc_table::{Aired, Command, Entry};
 use cbs_page::page_bytes;
@@ -34,13 +36,40 @@ fn page_blocks(command: &Command, page: u8) -> [[u8; 23]; 4]
     }
 }
 
+/// The four blocks of a slot that airs a page.
+fn aired_blocks(log: &[Entry], aired: Aired) -> [[u8; 23]; 4]
+    requires { CanAir log.now (aired_pair (Some aired)) }
+    ensures { result ≡ blocks_of_slot (page_aired log.now (aired_pair (Some aired))) }
+{
+    page_blocks(&log[aired.entry as usize].command, aired.page)
+}
+
+/// The octets after the blocks of a slot, if they begin with these. `idle` are the octets of an idle slot.
+pub(crate) fn strip_slot<'a>(
+    octets: &'a [u8],
+    idle: &[u8],
+    log: &[Entry],
+    used: Option<Aired>,
+) -> Option<&'a [u8]>
+    requires idle { idle.now ≡ octets_of_blocks idle_blocks }
+    requires used { CanAir log.now (aired_pair used) }
+    ensures { MatchOption result
+        ((rest : List ℕ) → octets.now ≡ octets_of_slot log.now (aired_pair used) ++ rest → ⊥)
+        (λ rest. octets.now ≡ octets_of_slot log.now (aired_pair used) ++ rest.now) }
+{
+    match used {
+        None => strip_front(octets, idle),
+        Some(aired) => strip_front(octets, aired_blocks(log, aired).as_flattened()),
+    }
+}
+
 /// Appends the blocks of a slot that airs a page.
 pub(crate) fn put_page(octets: &mut Vec<u8>, log: &[Entry], aired: Aired) -> Result<(), Refused>
     requires { CanAir log.now (aired_pair (Some aired)) }
     ensures { OnOk result (octets.new.items
         ≡ octets.old.items ++ octets_of_blocks (blocks_of_slot (page_aired log.now (aired_pair (Some aired))))) }
 {
-    let blocks = page_blocks(&log[aired.entry as usize].command, aired.page);
+    let blocks = aired_blocks(log, aired);
     octets.extend_from_slice(blocks.as_flattened())?;
     Ok(())
 }

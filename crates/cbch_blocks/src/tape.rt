@@ -1,12 +1,16 @@
 //! Tapes: the octets of a record's blocks, behind a header that says its cell and how many slots it has.
 
-ghost use Rattle.std.specs.Prelude.{◌≡◌, ◌<◌, ◌≤◌, true, is_err, length, take, IfErr, IfOk, OnOk};
+ghost use Rattle.std.specs.Prelude.{◌≡◌, ◌↔◌, ◌+◌, ◌*◌, ◌<◌, ◌≤◌, true, is_err, length, take, IfErr, IfOk, IsTrue};
+ghost use Rattle.std.specs.Prelude.{OnOk};
 ghost use Rattle.std.specs.Io.KnownBytes.{Appends};
 ghost use Rattle.device_ends.specs.Sink.{sink_failed, writer_of};
+ghost use Rattle.cbch_blocks.specs.Blocks.{blocks_of_page};
 ghost use Rattle.cbch_blocks.specs.RecordBlocks.{tape_header, tape_of_record};
+ghost use Rattle.cbch_blocks.specs.Slots.{silent_record, with_slot};
 
-use crate::blocks::idle;
-use crate::slot::put_page;
+use crate::blocks::{cut, idle};
+use crate::front::strip_front;
+use crate::slot::{put_page, strip_slot};
 use bsc_table::CellRecord;
 use cbsp_wire::Cell;
 use device_ends::{Sink, write_front};
@@ -57,6 +61,60 @@ impl Model for Tape {
 }
 
 impl Tape {
+    /// The tape of a cell that airs nothing in its run of `slots` slots. Takes the memory for all its octets at once,
+    /// and no other.
+    ///
+    /// # Errors
+    ///
+    /// Returns [`Refused`] if out of memory.
+    pub fn open(alloc: Global, cell: Cell, slots: u16) -> Result<Tape, Refused>
+        ensures { IfOk result (λ tape. tape ≡ tape_of_record (silent_record cell slots)) }
+    {
+        let mut octets = Vec::with_capacity(alloc, HEADER + SLOT * usize::from(slots))?;
+        octets.extend_from_slice(&header_of(cell, slots))?;
+        let blocks = idle();
+        let idle = blocks.as_flattened();
+        for _ in 0..slots {
+            octets.extend_from_slice(idle)?;
+        }
+        Ok(Tape { octets })
+    }
+
+    /// Has a slot of the tape air a page: the blocks of the slot become those of the page, and no other octet changes.
+    /// Takes no memory.
+    pub fn set(&mut self, slot: u16, page: &[u8; 88])
+        requires { 8 + 92 * (slot + 1) ≤ length self.old }
+        ensures set { self.new ≡ with_slot slot (blocks_of_page page.now) self.old }
+        ensures long { length self.new ≡ length self.old }
+        ensures headed { take 8 self.new ≡ take 8 self.old }
+    {
+        let first = HEADER + SLOT * slot as usize;
+        let blocks = cut(page);
+        self.octets[first..first + SLOT].copy_from_slice(blocks.as_flattened());
+    }
+
+    /// Whether the tape is that of a record. Takes no memory.
+    pub fn is_of(&self, run: &CellRecord) -> bool
+        ensures { IsTrue result ↔ (self.now ≡ tape_of_record run.now) }
+    {
+        // Each used slot airs a page of an accepted write of the log.
+        bsc_table::legal_histories();
+        let header = header_of(run.cell(), run.slots());
+        let Some(mut left) = strip_front(self.bytes(), &header) else {
+            return false;
+        };
+        // The octets of an idle slot are made once, as most slots are idle.
+        let blocks = idle();
+        let idle = blocks.as_flattened();
+        for used in run.air() {
+            match strip_slot(left, idle, run.log(), *used) {
+                Some(rest) => left = rest,
+                None => return false,
+            }
+        }
+        left.is_empty()
+    }
+
     /// The octets, at most 8 + 92 * 65,535 of them.
     pub fn bytes(&self) -> &[u8]
         ensures { result.now ≡ self.now }

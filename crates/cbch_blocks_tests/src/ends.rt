@@ -35,7 +35,7 @@ fn expect_front(rt: &impl Abort, alloc: Global, tape: &Tape, per_call: usize, ca
 fn a_writer_fails_at_each_call(rt: HostRuntime) -> Result<(), Fail> {
     let tape = tape_of(rt.alloc(), &one_write(&rt, rt.alloc())?)?;
     assert_eq!(rt; tape.bytes().len(), 192);
-    for (per_call, most) in [(1, 192), (7, 28), (100, 2)] {
+    for (per_call, most) in [(1, 192), (7, 28), (10, 20), (100, 2)] {
         for calls in 0..=most {
             expect_front(&rt, rt.alloc(), &tape, per_call, calls);
         }
@@ -45,13 +45,44 @@ fn a_writer_fails_at_each_call(rt: HostRuntime) -> Result<(), Fail> {
 
 #[test]
 fn refused_memory_is_reported(rt: HostRuntime) -> Result<(), Fail> {
-    let run = silent(rt.alloc(), Cell { lac: 1, ci: 1 }, 65_535)?;
+    let cell = Cell { lac: 1, ci: 1 };
+    let run = silent(rt.alloc(), cell, 65_535)?;
     let mut taken = Vec::with_capacity(rt.alloc(), 100_000)?;
     take_all(rt.alloc(), &mut taken);
-    let answer = tape_of(rt.alloc(), &run);
+    let made = tape_of(rt.alloc(), &run);
+    let opened = Tape::open(rt.alloc(), cell, 65_535);
     taken.clear();
-    assert!(rt; matches!(answer, Err(Refused)));
+    assert!(rt; matches!(made, Err(Refused)));
+    assert!(rt; matches!(opened, Err(Refused)));
     assert_eq!(rt; tape_of(rt.alloc(), &run)?.bytes().len(), 6_029_228);
+    assert_eq!(rt;
+        Tape::open(rt.alloc(), cell, 65_535)?.bytes().len(),
+        6_029_228
+    );
+    Ok(())
+}
+
+/// How many octets a tape has.
+fn length_of(tape: Result<Tape, Refused>) -> Option<usize> {
+    match tape {
+        Ok(tape) => Some(tape.bytes().len()),
+        Err(Refused) => None,
+    }
+}
+
+#[test]
+fn a_tape_needs_no_more_memory_than_its_octets(rt: HostRuntime) -> Result<(), Fail> {
+    let cell = Cell { lac: 1, ci: 1 };
+    let run = silent(rt.alloc(), cell, 100)?;
+    // Less room than a list of 9,208 octets takes that grows by doubling, from 8 octets or from 100.
+    let room: Vec<u8> = Vec::with_capacity(rt.alloc(), 9_300)?;
+    let mut taken = Vec::with_capacity(rt.alloc(), 100_000)?;
+    take_all(rt.alloc(), &mut taken);
+    drop(room);
+    let made = length_of(tape_of(rt.alloc(), &run));
+    let opened = length_of(Tape::open(rt.alloc(), cell, 100));
+    taken.clear();
+    assert_eq!(rt; (made, opened), (Some(9_208), Some(9_208)));
     Ok(())
 }
 

@@ -1,5 +1,5 @@
-//! Tests of `cbch_blocks` by its public calls, so that it isn't proved twice: worked blocks and tapes, writers that
-//! fail at each call, and refused memory.
+//! Tests of `cbch_blocks` by its public calls, so that it isn't proved twice: worked blocks and tapes, tapes set slot
+//! by slot, writers that fail at each call, and refused memory.
 #![tactic(auto)]
 
 #[cfg(test)]
@@ -8,5 +8,7 @@ mod blocks;
 mod ends;
 #[cfg(test)]
 mod records;
+#[cfg(test)]
+mod slots;
 #[cfg(test)]
 mod tapes;

@@ -1,8 +1,8 @@
 -- What a desk does in a cell are steps of that cell.
-use Rattle.std.proofs.Common.{◌≡◌, ℕ, ◌+◌, ◌-◌, min, max, ◌∙◌, refl, sym, subst, inr}
+use Rattle.std.proofs.Common.{◌≡◌, ℕ, ◌+◌, ◌-◌, min, max, refl, subst, inr}
 use native.Mathlib.Omega.{arith}
 use Rattle.bsc_table.specs.Record.{Record}
-use Rattle.bsc_table.specs.Transitions.{Ask, IsPlayedUpTo, IsStep, Play}
+use Rattle.bsc_table.specs.Transitions.{Ask, IsPlayedUpTo, IsStep}
 use Rattle.bsc_table.specs.declared.command.Command.{Command}
 use Rattle.bsc_table.specs.declared.entry.Answer.{Answer}
 use Rattle.order_desk.specs.declared.note.Note.{Note}

@@ -1,6 +1,7 @@
 pub mod Desk
 pub mod DeskSteps
 pub mod Notes
+pub mod Pieces
 pub mod Reply
 pub mod ReplyLaws
 pub mod ReplySteps

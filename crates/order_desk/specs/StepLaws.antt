@@ -1,6 +1,6 @@
 -- What a desk does in a cell are steps of that cell (own): so whatever sessions and workers do at a desk, and in
 -- whichever order, is for each cell a list of its steps, one after the other.
-use Rattle.std.specs.Prelude.{ℕ, ◌-◌, ◌≤◌, Option, List, [], ◌∷◌}
+use Rattle.std.specs.Prelude.{ℕ, ◌-◌, Option, List, [], ◌∷◌}
 use Rattle.bsc_table.specs.declared.command.Command.{Command}
 use Rattle.bsc_table.specs.declared.command.Command.TheVariants as commands
 use Rattle.bsc_table.specs.declared.entry.Answer.{Answer}

@@ -8,6 +8,7 @@ ghost use Rattle.order_desk.specs.declared.note.Note.{Note};
 ghost use Rattle.order_desk.specs.Desk.{IsCarriedOut, IsPlayed, IsRefusedOrder, IsRefusedPlay, IsRefusedStatus};
 ghost use Rattle.order_desk.specs.Desk.{IsTold, has_cell};
 ghost use Rattle.order_desk.specs.DeskSteps.{AreDone, AreHalted, CanBeDone, IsDone, IsHalted};
+ghost use Rattle.order_desk.specs.Pieces.{IsPieceOf, IsRefusedPiece};
 
 use crate::cells::place_of;
 use crate::closed::Closed;
@@ -17,6 +18,7 @@ use crate::gate::Gate;
 use crate::held::{self, is_of};
 use crate::note::{Note, Pass};
 use crate::order::{Halt, Order, prepared};
+use crate::piece::{Piece, put_pages};
 use crate::reply::reply_in;
 use bsc_table::{Answer, CellBook, Refused, SlotRange, State};
 use cbs_page::Serial;
@@ -108,7 +110,8 @@ impl Desk {
 
     /// Its cells, in the order in which it was opened with them. It takes no memory.
     pub fn cells(&self) -> &[Cell]
-        ensures { result.now ≡ self.now.cells }
+        ensures cells { result.now ≡ self.now.cells }
+        ensures valid { cells_are_valid result.now ≡ true }
     {
         self.cells.as_slice()
     }
@@ -359,5 +362,40 @@ impl Desk {
             return Err(DeskFault::Unknown);
         }
         held::status(book, &mut pass.notes, id, serial)
+    }
+
+    /// What a cell aired in at most `k` slots from `from` on, of those that were played. This is no step of the cell:
+    /// nothing is entered in its log, and nothing is noted.
+    ///
+    /// # Errors
+    ///
+    /// `Unknown` if the cell isn't of the desk, or its lock holds the book of another; `Memory { done: 0 }` if out of
+    /// memory.
+    pub fn piece<R: Wait, G: Gate>(
+        &self,
+        rt: &R,
+        alloc: Global,
+        cell: Cell,
+        from: u16,
+        k: u16,
+        gate: &G,
+    ) -> Result<Piece, DeskFault>
+        requires { k ≤ 64 }
+        ensures piece { IfOk result (IsPieceOf self.now cell from k) }
+        ensures refused { IfErr result (IsRefusedPiece self.now cell) }
+        ensures foreign { has_cell self.now cell ≡ false → result ≡ Err DeskFault.Unknown }
+    {
+        let Some(place) = self.place_of(cell) else {
+            return Err(DeskFault::Unknown);
+        };
+        let mut pages = Vec::with_capacity(alloc, k as usize)?;
+        let guard = self.books[place].lock(rt);
+        gate.inside(place as u16);
+        let book = &*guard;
+        if !is_of(book, cell, self.slots()) {
+            return Err(DeskFault::Unknown);
+        }
+        put_pages(book, &mut pages, from, k);
+        Ok(Piece { cell, from, pages })
     }
 }

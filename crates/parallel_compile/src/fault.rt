@@ -12,13 +12,13 @@ pub enum CompileFault {
     /// The number of workers isn't 1 to 64.
     #[error("piece failed")]
     Workers,
-    /// There was no memory.
+    /// Out of memory, or a thread couldn't be made.
     #[error("out of memory")]
     Refused,
-    /// The pieces aren't one for each place.
+    /// The pieces aren't one for each place, or the tapes aren't the records'.
     #[error("piece failed")]
     Piece {
-        /// The least number that is missing, that two pieces have, or that is no place's.
+        /// The least number that is missing, that two pieces have, that is no place's, or whose tape is another.
         index: u64,
     },
 }

@@ -23,7 +23,7 @@ pub(crate) struct Work {
 }
 
 /// A seat for each worker, split from the first.
-fn seats_of(
+pub(crate) fn seats_of(
     alloc: Global,
     counter: &Counter,
     first: &mut Seat,

@@ -10,25 +10,31 @@ use std::test::Fail;
 use std::thread;
 use std::thread::Threads;
 
-/// Whoever makes one of two tapes waits until the other is begun.
+/// Whoever is in one of two places for the first time waits until somebody has been in the other.
 #[derive(Drop)]
-struct Both {
+pub struct Both {
     entered: [AtomicU64; 2],
     gave_up: AtomicU64,
 }
 
 impl Both {
-    fn new() -> Both {
+    /// Nobody has been in either place.
+    pub fn new() -> Both {
         Both {
             entered: [AtomicU64::new(0), AtomicU64::new(0)],
             gave_up: AtomicU64::new(0),
         }
     }
 
-    /// Waits for a tape to be begun, for a million turns at most.
-    fn wait_for(&self, begun: &AtomicU64) {
+    /// Whether nobody has waited in vain.
+    pub fn met(&self) -> bool {
+        self.gave_up.load(Ordering::SeqCst) == 0
+    }
+
+    /// Waits until a place was entered, for a million turns at most.
+    fn wait_for(&self, entered: &AtomicU64) {
         for _ in 0..1_000_000_u32 {
-            if begun.load(Ordering::SeqCst) == 1 {
+            if entered.load(Ordering::SeqCst) == 1 {
                 return;
             }
             thread::yield_now();
@@ -88,7 +94,7 @@ fn two_tapes_are_made_at_once(rt: HostRuntime) -> Result<(), Fail> {
     ];
     let both = Both::new();
     expect_same(&rt, records.as_slice(), &both)?;
-    assert_eq!(&rt; both.gave_up.load(Ordering::SeqCst), 0);
+    assert!(&rt; both.met());
     Ok(())
 }
 

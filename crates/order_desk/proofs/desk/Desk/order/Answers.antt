@@ -15,7 +15,7 @@ pub returns-then-is_err-clause-refused : goal.returns-then-is_err-clause-refused
 returns-then-is_err-clause-refused g c =
     let desk = c.args.self.now in
     let order = c.in_ok-command.field-0 in
-    let prepared = subst (λ (own : List Cell). IsPrepared own c.args.bytes.now order) c.cells.ensures
+    let prepared = subst (λ (own : List Cell). IsPrepared own c.args.bytes.now order) c.cells.ensures.cells
     c.in_ok-command.ensures.prepared in (
       [],
       no_room desk c.args.at c.args.bytes.now order prepared,
@@ -27,7 +27,7 @@ pub reply_in-requires-clause-room : goal.reply_in-requires-clause-room
 reply_in-requires-clause-room g c =
     let desk = c.args.self.now in
     let order = c.in_ok-command.field-0 in
-    let prepared = subst (λ (own : List Cell). IsPrepared own c.args.bytes.now order) c.cells.ensures
+    let prepared = subst (λ (own : List Cell). IsPrepared own c.args.bytes.now order) c.cells.ensures.cells
     c.in_ok-command.ensures.prepared in
     let done = c.in-Ok.ensures.done in
     subst (λ (answers : List (Cell × Answer)). HasRoomFor (length answers) order.room) (sym c.deref.ensures.value)
@@ -38,7 +38,7 @@ pub reply_in-requires-clause-valid : goal.reply_in-requires-clause-valid
 reply_in-requires-clause-valid g c =
     let desk = c.args.self.now in
     let order = c.in_ok-command.field-0 in
-    let prepared = subst (λ (own : List Cell). IsPrepared own c.args.bytes.now order) c.cells.ensures
+    let prepared = subst (λ (own : List Cell). IsPrepared own c.args.bytes.now order) c.cells.ensures.cells
     c.in_ok-command.ensures.prepared in
     let done = c.in-Ok.ensures.done in
     subst (λ (answers : List (Cell × Answer)). cells_are_valid (cells_answered answers) ≡ true)
@@ -50,7 +50,7 @@ pub returns-in-Ok-clause-carried_out : goal.returns-in-Ok-clause-carried_out
 returns-in-Ok-clause-carried_out g c =
     let desk = c.args.self.now in
     let order = c.in_ok-command.field-0 in
-    let prepared = subst (λ (own : List Cell). IsPrepared own c.args.bytes.now order) c.cells.ensures
+    let prepared = subst (λ (own : List Cell). IsPrepared own c.args.bytes.now order) c.cells.ensures.cells
     c.in_ok-command.ensures.prepared in
     let done = c.in-Ok.ensures.done in
     let reply = c.reply_in.result.items in
@@ -69,7 +69,7 @@ pub returns-clause-refused : goal.returns-clause-refused
 returns-clause-refused g c =
     let desk = c.args.self.now in
     let order = c.in_ok-command.field-0 in
-    let prepared = subst (λ (own : List Cell). IsPrepared own c.args.bytes.now order) c.cells.ensures
+    let prepared = subst (λ (own : List Cell). IsPrepared own c.args.bytes.now order) c.cells.ensures.cells
     c.in_ok-command.ensures.prepared in
     let halted = c.in-Err.ensures.halted in (
       halted.0,
