@@ -177,8 +177,8 @@ book stop,1,a,*| -> row 4097: too many rows
 
 # A book has 16 MiB at most. One octet past the bound is read, and no more.
 before
-line_feeds 16777217 -> row 0: too many rows
 most 65536
+line_feeds 16777217 -> row 0: too many rows
 line_feeds 16777216 -> read
 line_feeds_left 16777218 -> BookFault { row: 0, kind: TooManyRows }, 1 left
 

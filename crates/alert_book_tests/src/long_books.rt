@@ -1,10 +1,8 @@
 //! Books with so many texts that several threads pack them.
 
-ghost use Rattle.std.specs.Prelude.{◌<◌};
-
 use crate::books_table::expect_rows;
-use crate::reading::{add_rows, book_of, fault_in, octets_of_rows};
-use alert_book::{BookFault, Session};
+use crate::reading::book_of;
+use alert_book::Session;
 use std::alloc::Global;
 use std::process::Abort;
 use std::test::Fail;
@@ -13,6 +11,7 @@ use test_support::Words;
 
 /// Faults of the long book where other rows stand in place of some of its rows.
 const FAULTS: &str = "
+most 7
 # Of two texts that can't be sent the first is told.
 long_book 40 bad 270 worse -> BookFault { row: 40, kind: Text(BadCharacter { place: 1 }) }
 long_book 40 worse 270 bad -> BookFault { row: 40, kind: Text(BadLanguage) }
@@ -26,14 +25,31 @@ long_book 40 short 270 bad -> BookFault { row: 40, kind: Columns }
 ";
 
 /// The row after the last. The first declares a cell, and each other writes an alert.
-const END: u16 = 302;
+pub const END: u16 = 302;
 
 /// Rows that stand in place of others, each after its name.
 const OTHERS: &str = "
-bad write,0,bad,4370,0,1,en,2,2,0,*,A%09B|
-worse write,0,worse,4370,0,1,xx,2,2,0,*,One|
-short cell,1|
+bad write,0,bad,4370,0,1,en,2,2,0,*,A\tB
+worse write,0,worse,4370,0,1,xx,2,2,0,*,One
+short cell,1
 ";
+
+/// The row that words such as `40 bad 270 worse` put at this place, in a table of rows by their names; an empty one if
+/// they put none there.
+fn row_at<'a>(rows: &'a str, words: &str, place: u16) -> Result<&'a str, Fail> {
+    let mut words = Words::of(words);
+    for _ in 0..3 {
+        let number = words.word();
+        let name = words.word();
+        if number.is_empty() {
+            return Ok("");
+        }
+        if number.parse::<u16>()? == place {
+            return row_named(rows, name);
+        }
+    }
+    Err(Fail::new("too many words"))
+}
 
 /// The row of a name in a table of rows.
 fn row_named<'a>(rows: &'a str, name: &str) -> Result<&'a str, Fail> {
@@ -46,21 +62,8 @@ fn row_named<'a>(rows: &'a str, name: &str) -> Result<&'a str, Fail> {
     Err(Fail::new("no such row"))
 }
 
-/// The name that words such as `40 bad 270 worse` put at this row; an empty one if they put none there.
-fn name_at<'a>(others: &'a str, row: u16) -> Result<&'a str, Fail> {
-    let mut words = Words::of(others);
-    for _ in 0..8 {
-        let number = words.word();
-        let name = words.word();
-        if number.is_empty() || number.parse::<u16>()? == row {
-            return Ok(name);
-        }
-    }
-    Err(Fail::new("too many words"))
-}
-
-/// The row of this number: an alert with a text of its own, of one to six pages.
-fn row_of(alloc: Global, row: u16) -> Result<String, Fail> {
+/// Adds the row of this number: an alert with a text of its own, of one to six pages.
+fn push_row(book: &mut String, row: u16) -> Result<(), Fail> {
     let (language, text) = if row % 3 == 0 {
         (
             "ru",
@@ -72,39 +75,27 @@ fn row_of(alloc: Global, row: u16) -> Result<String, Fail> {
             " Flood warning for the lower town: leave the river bank.",
         )
     };
-    let mut line = format!(in alloc; "write,0,a{row},4370,0,{row},{language},2,2,0,*,{row}")?;
+    write!(book, "write,0,a{row},4370,0,{row},{language},2,2,0,*,{row}")?;
     for _ in 0..row % 7 {
-        line.push_str(text)?;
+        book.push_str(text)?;
     }
-    line.push('\n')?;
-    Ok(line)
+    Ok(())
 }
 
-/// Adds the row of this number, or that of a name.
-fn add_row(octets: &mut Vec<u8>, alloc: Global, row: u16, name: &str) -> Result<(), Fail> {
-    if name.is_empty() {
-        octets.extend_from_slice(row_of(alloc, row)?.as_bytes())?;
-        return Ok(());
+/// A book of a cell and of the rows from one number to another, where words put some in place of those of the same
+/// number.
+pub fn long_book(alloc: Global, from: u16, to: u16, others: &str) -> Result<String, Fail> {
+    let mut book = String::from_str(alloc, "cell,1,1\n")?;
+    for row in from..to {
+        let other = row_at(OTHERS, others, row)?;
+        if other.is_empty() {
+            push_row(&mut book, row)?;
+        } else {
+            book.push_str(other)?;
+        }
+        book.push('\n')?;
     }
-    add_rows(octets, row_named(OTHERS, name)?)
-}
-
-/// The octets of the long book, where some rows stand in place of those of the same number.
-fn octets_with(alloc: Global, others: &str) -> Result<Vec<u8>, Fail> {
-    let mut octets = octets_of_rows(alloc, "cell,1,1|")?;
-    for row in 2..END {
-        add_row(&mut octets, alloc, row, name_at(others, row)?)?;
-    }
-    Ok(octets)
-}
-
-/// The fault of the long book with these rows.
-pub fn long_book_with<T: AllocGlobal + Threads + Sync>(
-    rt: &T,
-    others: &str,
-) -> Result<Option<BookFault>, Fail> {
-    let octets = octets_with(rt.alloc(), others)?;
-    Ok(fault_in(rt, &octets, 7))
+    Ok(book)
 }
 
 /// The octets of a session's next message, whose slot has to be 0; none after the last.
@@ -117,14 +108,11 @@ fn next_octets(alloc: Global, session: &mut Session<'_>) -> Result<Vec<u8>, Fail
     }
 }
 
-/// The octets of the message of a book of one cell and the row of this number.
-fn octets_alone<T: AllocGlobal + Threads + Sync>(rt: &T, row: u16) -> Result<Vec<u8>, Fail> {
-    let alloc = rt.alloc();
-    let mut octets = octets_of_rows(alloc, "cell,1,1|")?;
-    add_row(&mut octets, alloc, row, "")?;
-    let book = book_of(rt, &octets, 64)?;
-    let mut session = Session::new(alloc, &book, 0, 1)?;
-    next_octets(alloc, &mut session)
+/// The octets of the first message of a book.
+fn first_octets<T: AllocGlobal + Threads + Sync>(rt: &T, book: &str) -> Result<Vec<u8>, Fail> {
+    let book = book_of(rt, book.as_bytes(), 64)?;
+    let mut session = Session::new(rt.alloc(), &book, 0, 1)?;
+    next_octets(rt.alloc(), &mut session)
 }
 
 /// Expects that a session's next message is the one that the row of this number has alone.
@@ -133,7 +121,7 @@ fn expect_message<T: AllocGlobal + Abort + Threads + Sync>(
     session: &mut Session<'_>,
     row: u16,
 ) -> Result<(), Fail> {
-    let alone = octets_alone(rt, row)?;
+    let alone = first_octets(rt, &long_book(rt.alloc(), row, row.saturating_add(1), "")?)?;
     assert!(rt; !alone.is_empty(), "row {row}");
     let given = next_octets(rt.alloc(), session)?;
     assert!(rt; given == alone, "row {row}");
@@ -155,7 +143,7 @@ fn expect_messages<T: AllocGlobal + Abort + Threads + Sync>(
 
 #[test]
 fn many_texts_are_packed_as_each_alone(rt: HostRuntime) -> Result<(), Fail> {
-    let book = book_of(&rt, &octets_with(rt.alloc(), "")?, 64)?;
+    let book = book_of(&rt, long_book(rt.alloc(), 2, END, "")?.as_bytes(), 64)?;
     let mut session = Session::new(rt.alloc(), &book, 0, 1)?;
     expect_messages(&rt, &mut session)
 }

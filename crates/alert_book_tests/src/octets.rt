@@ -6,7 +6,7 @@ use test_support::{Words, octets_of};
 
 /// In each line a name and the octets of a message, one group of digits for each information element. After `..` the
 /// message goes on with octets that no test looks at: its content.
-const MESSAGES: &str = "
+pub const MESSAGES: &str = "
 write-@ 01 00006E 0E1112 030010 0400050100010001 0502 060002 070000 1301 0C01 0101 80 46A3D168341A \
     8D46A3D168341A 8D46A3D168341A 8D46A3D168341A 8D46A3D168341A 8D46A3D168341A \
     8D46A3D168341A 8D46A3D168341A 8D46A3D168341A 8D46A3D168341A 8D46A3D168341A 8D46A3D100
@@ -50,13 +50,8 @@ fn octets_left(alloc: Global, words: &mut Words<'_>) -> Result<(Vec<u8>, bool), 
     Err(Fail::new("a message of too many words"))
 }
 
-/// The octets of the message of a name.
-pub fn octets_named(alloc: Global, name: &str) -> Result<Vec<u8>, Fail> {
-    octets_in(alloc, MESSAGES, name)
-}
-
 /// The octets of the message of a name in a table of messages.
-fn octets_in(alloc: Global, messages: &str, name: &str) -> Result<Vec<u8>, Fail> {
+pub fn octets_in(alloc: Global, messages: &str, name: &str) -> Result<Vec<u8>, Fail> {
     for line in messages.split('\n') {
         let mut words = Words::of(line);
         if words.word() == name {
@@ -67,19 +62,8 @@ fn octets_in(alloc: Global, messages: &str, name: &str) -> Result<Vec<u8>, Fail>
     Err(Fail::new("no message has this name"))
 }
 
-/// Whether octets are the message that words write.
-fn are_written(alloc: Global, words: &mut Words<'_>, octets: &[u8]) -> Result<bool, Fail> {
-    let (written, goes_on) = octets_left(alloc, words)?;
-    Ok(octets.starts_with(&written) && (goes_on || octets.len() == written.len()))
-}
-
-/// The name of a message.
-pub fn name_of(alloc: Global, octets: &[u8]) -> Result<&'static str, Fail> {
-    name_in(alloc, MESSAGES, octets)
-}
-
 /// The name of a message in a table of messages.
-fn name_in<'a>(alloc: Global, messages: &'a str, octets: &[u8]) -> Result<&'a str, Fail> {
+pub fn name_in<'a>(alloc: Global, messages: &'a str, octets: &[u8]) -> Result<&'a str, Fail> {
     for line in messages.split('\n') {
         let mut words = Words::of(line);
         let name = words.word();
@@ -88,4 +72,10 @@ fn name_in<'a>(alloc: Global, messages: &'a str, octets: &[u8]) -> Result<&'a st
         }
     }
     Ok("a message without a name")
+}
+
+/// Whether octets are the message that words write.
+fn are_written(alloc: Global, words: &mut Words<'_>, octets: &[u8]) -> Result<bool, Fail> {
+    let (written, goes_on) = octets_left(alloc, words)?;
+    Ok(octets.starts_with(&written) && (goes_on || octets.len() == written.len()))
 }

@@ -1,50 +1,54 @@
 //! How tests read books.
 
-ghost use Rattle.std.specs.Prelude.{◌<◌};
-
 use alert_book::{Book, BookFault, read_book};
 use device_ends::Source;
 use device_ends::memory::MemoryReader;
-use std::alloc::Global;
 use std::test::Fail;
 use std::thread::Threads;
 
-/// Reads a book of which a read gives so many octets at most.
-pub fn read_by<T: AllocGlobal + Threads + Sync>(
-    rt: &T,
-    octets: &[u8],
-    most: usize,
-) -> Result<Book, BookFault>
-    requires { 0 < most }
-{
-    let mut reader = MemoryReader::new(octets, most, None);
-    read_book(rt, &mut Source::new(&mut reader))
+/// What comes of reading octets as a book.
+#[derive(Clone, Copy)]
+pub struct Outcome {
+    /// How many cells the book declares; 0 if the octets are no book.
+    pub cells: usize,
+    /// Why they are none; None if they are one.
+    pub fault: Option<BookFault>,
+    /// Whether the source has failed.
+    pub failed: bool,
+    /// How many octets are not read.
+    pub left: usize,
 }
 
-/// The fault of a book; None if it is read.
-pub fn fault_in<T: AllocGlobal + Threads + Sync>(
+/// Reads octets, of which a read gives so many at most, and one at least, by a reader that fails after so many calls.
+pub fn outcome_of<T: AllocGlobal + Threads + Sync>(
     rt: &T,
     octets: &[u8],
     most: usize,
-) -> Option<BookFault>
-    requires { 0 < most }
-{
-    match read_by(rt, octets, most) {
-        Ok(_) => None,
-        Err(fault) => Some(fault),
+    calls: Option<usize>,
+) -> Outcome {
+    let mut reader = MemoryReader::new(octets, most.max(1), calls);
+    let mut source = Source::new(&mut reader);
+    let (cells, fault) = match read_book(rt, &mut source) {
+        Ok(book) => (book.cells().len(), None),
+        Err(fault) => (0, Some(fault)),
+    };
+    let failed = source.failed();
+    Outcome {
+        cells,
+        fault,
+        failed,
+        left: reader.rest().len(),
     }
 }
 
-/// The book of these octets, of which a read gives so many at most.
+/// The book of these octets, of which a read gives so many at most, and one at least.
 pub fn book_of<T: AllocGlobal + Threads + Sync>(
     rt: &T,
     octets: &[u8],
     most: usize,
 ) -> Result<Book, Fail> {
-    if most == 0 {
-        return Err(Fail::new("a read gives an octet at least"));
-    }
-    match read_by(rt, octets, most) {
+    let mut reader = MemoryReader::new(octets, most.max(1), None);
+    match read_book(rt, &mut Source::new(&mut reader)) {
         Ok(book) => Ok(book),
         Err(fault) => Err(Fail::new(fault)),
     }
@@ -54,22 +58,17 @@ pub fn book_of<T: AllocGlobal + Threads + Sync>(
 /// and all else stands for itself.
 pub fn add_rows(octets: &mut Vec<u8>, text: &str) -> Result<(), Fail> {
     for (place, part) in text.split('%').enumerate() {
-        if place == 0 {
-            add_plain(octets, part)?;
-        } else {
-            add_escaped(octets, part)?;
+        let mut plain = part;
+        if place > 0 {
+            let (digits, rest) = part
+                .split_at_checked(2)
+                .ok_or("two digits follow a percent sign")?;
+            octets.push(u8::from_str_radix(digits, 16)?)?;
+            plain = rest;
         }
+        add_plain(octets, plain)?;
     }
     Ok(())
-}
-
-/// Adds the octet that a text begins with, as two digits, and what follows them.
-fn add_escaped(octets: &mut Vec<u8>, text: &str) -> Result<(), Fail> {
-    let Some((digits, rest)) = text.split_at_checked(2) else {
-        return Err(Fail::new("two digits follow a percent sign"));
-    };
-    octets.push(u8::from_str_radix(digits, 16)?)?;
-    add_plain(octets, rest)
 }
 
 /// Adds a text without escapes.
@@ -78,11 +77,4 @@ fn add_plain(octets: &mut Vec<u8>, text: &str) -> Result<(), Fail> {
         octets.push(if octet == b'|' { b'\n' } else { octet })?;
     }
     Ok(())
-}
-
-/// The octets that a table writes.
-pub fn octets_of_rows(alloc: Global, text: &str) -> Result<Vec<u8>, Fail> {
-    let mut octets = Vec::new(alloc);
-    add_rows(&mut octets, text)?;
-    Ok(octets)
 }

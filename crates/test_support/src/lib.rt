@@ -5,6 +5,6 @@ mod memory;
 mod rows;
 mod words;
 
-pub use memory::take_all;
+pub use memory::{Scarce, take_all};
 pub use rows::Row;
 pub use words::{Words, octets_of};
