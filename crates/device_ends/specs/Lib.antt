@@ -1,6 +1,7 @@
 pub mod Source
 pub mod Sink
 pub mod Moves
+pub mod Stream
 pub mod TransferSteps
 pub mod Calls
 pub mod MemoryReader

@@ -1,4 +1,3 @@
 pub mod PageOutput
 pub mod ReadOutput
-pub mod Stream
 pub mod ReadSteps

@@ -5,10 +5,10 @@ ghost use Rattle.std.specs.List.{flat_map};
 ghost use Rattle.device_ends.specs.Moves.{ConsumesSome, WritesOutput};
 ghost use Rattle.device_ends.specs.Sink.{writer_of};
 ghost use Rattle.device_ends.specs.Source.{reader_of};
+ghost use Rattle.device_ends.specs.Stream.{IsStreamBetween};
 ghost use Rattle.handset.specs.Keeping.{HasRead, message_shown, messages_of};
 ghost use Rattle.warnc_engine.specs.PageOutput.{without_final_lf, blocks_of_message, block_line, message_line};
 ghost use Rattle.warnc_engine.specs.PageOutput.{lines_of, IsPageOutput, IsPageFault, IsStreamFault};
-ghost use Rattle.warnc_engine.specs.Stream.{IsStreamBetween};
 
 use cbch_blocks::cut;
 use cbs_page::{Paged, Serial, TextFault, page_bytes, paginate};
@@ -67,8 +67,8 @@ pub fn page_stream<R: Read, W: Write>(
         (MAX_INPUT + 1) }
 
     // At any reader and any writer.
-    ensures any_device { IsStreamBetween PageFault.ReadFailed PageFault.WriteFailed result source.old source.new
-        sink.old sink.new (W.contents (writer_of sink.old)) (W.contents (writer_of sink.new)) }
+    ensures any_device { IsStreamBetween PageFault.ReadFailed (λ fault. fault ≡ PageFault.WriteFailed) result source.old
+        source.new sink.old sink.new (W.contents (writer_of sink.old)) (W.contents (writer_of sink.new)) }
 {
     let input = match read_up_to(source, alloc, MAX_INPUT) {
         Ok(input) => input,

@@ -5,9 +5,9 @@ ghost use Rattle.std.specs.Io.KnownBytes.{IsAtEnd};
 ghost use Rattle.device_ends.specs.Moves.{WritesOutput};
 ghost use Rattle.device_ends.specs.Sink.{writer_of};
 ghost use Rattle.device_ends.specs.Source.{reader_of};
+ghost use Rattle.device_ends.specs.Stream.{IsStreamBetween};
 ghost use Rattle.warnc_engine.specs.ReadOutput.{IsReadOutput, IsReadFault, IsReadTo};
 ghost use Rattle.warnc_engine.specs.ReadSteps.{fault_of_tapes};
-ghost use Rattle.warnc_engine.specs.Stream.{IsStreamBetween};
 
 use crate::table::Table;
 use device_ends::{Failed, Sink, Source, write_all};
@@ -55,8 +55,9 @@ pub fn read_stream<R: Read, W: Write>(
     ensures extent { IfErr result (IsReadTo (R.remaining (reader_of source.old)) (R.remaining (reader_of source.new))) }
 
     // At any reader and any writer.
-    ensures any_device { IsStreamBetween ReadCommandFault.ReadFailed ReadCommandFault.WriteFailed result
-        source.old source.new sink.old sink.new (W.contents (writer_of sink.old)) (W.contents (writer_of sink.new)) }
+    ensures any_device { IsStreamBetween ReadCommandFault.ReadFailed (λ fault. fault ≡ ReadCommandFault.WriteFailed)
+        result source.old source.new sink.old sink.new (W.contents (writer_of sink.old))
+        (W.contents (writer_of sink.new)) }
 {
     if source.failed() {
         return Err(ReadCommandFault::ReadFailed);
