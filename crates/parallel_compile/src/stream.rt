@@ -143,7 +143,7 @@ fn stream<R: Threads + Wait + Sync, G: Gate>(
     )
 }
 
-/// Plays the cells of a desk to the ends of their runs, by so many workers: 1 to 64. Returns the tapes of what the
+/// Plays the cells of a desk to the ends of their runs, by `workers` workers, 1 to 64. Returns the tapes of what the
 /// cells aired, in their order, and the workers' passes. The workers send the tapes in pieces of up to 64 slots, and
 /// the calling thread puts these together. No contract says that the tapes are those of the cells' records:
 /// [`check_streamed`](crate::check_streamed) compares them once the desk is settled. `gate` is called with a cell's
