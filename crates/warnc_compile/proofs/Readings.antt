@@ -14,13 +14,14 @@ use Rattle.book_runs.specs.Ordered.{RunsAcceptWhatWasOrdered}
 use Rattle.book_runs.specs.RunLaws.{RunsShowTheBook}
 use Rattle.cbsp_wire.specs.declared.message.Cell.{Cell}
 use Rattle.bsc_table.specs.Record.{Record}
+use Rattle.parallel_compile.specs.declared.fault.CompileFault.TheVariants as compile
 use Rattle.report.specs.ReportText.{report_text}
 use Rattle.report.specs.Rows.{AreOfOneCells}
 use Rattle.report.specs.declared.fault.ReportFault.{ReportFault}
 use Rattle.report.specs.declared.fault.ReportFault.TheVariants as report
 use Rattle.report.specs.declared.row.Row.{Row}
 use Rattle.warnc_compile.specs.Compiled.{IsWriteFault, MakesFront, ReadsBook}
-use Rattle.warnc_compile.specs.RunSteps.{AreRowsOf, HaveRunLive, IsOfBook, IsOfBookReport}
+use Rattle.warnc_compile.specs.RunSteps.{AreRowsOf, HaveRunLive, IsOfBook, IsOfBookReport, IsOfTapes}
 use Rattle.warnc_compile.specs.declared.fault.RunFault.{RunFault}
 use Rattle.warnc_compile.specs.declared.fault.RunFault.TheVariants as run
 use Rattle.warnc_compile.specs.declared.report_run.ReportRunFault.{ReportRunFault}
@@ -29,7 +30,7 @@ use Rattle.warnc_compile.proofs.Written.{fault_of_run, only}
 use Rattle.cbch_blocks.specs.RecordBlocks.{tape_of_record}
 use Rattle.handset.specs.Laws.{TapeIsOneKind}
 use Rattle.handset.specs.Tape.{IsTape, TapeReading}
-use Rattle.warnc_compile.specs.Reported.{reading_of_record, IsReported, IsReportRunFault}
+use Rattle.warnc_compile.specs.Reported.{reading_of_record, IsPieceFault, IsReported, IsReportRunFault}
 
 -- the readings of records before one, and that of its tape, are those up to it
 pub read_on : TapeIsOneKind → (records : List Record) (tapes : List (List ℕ)) (i : ℕ) (tape : List ℕ)
@@ -138,14 +139,23 @@ fault_of_report slots Means first last old new report.Cells not front kept = abs
 fault_of_report slots Means first last old new report.WriteFailed not front kept = front refl
 fault_of_report slots Means first last old new report.Refused not front kept = kept refl
 
--- a fault of a run under way isn't the writer's
-not_written : (book : Contents) (slots : ℕ) (f : RunFault) → IsOfBook book slots 1 f → IsWriteFault f → ⊥
-not_written book slots (run.Book f) is write = write
-not_written book slots (run.Desk f) is write = write
-not_written book slots (run.Settle f) is write = write
-not_written book slots (run.Compile f) is write = write
-not_written book slots (run.Write failed) is write = is
-not_written book slots run.Refused is write = write
+-- a fault of a run under way isn't the writer's, nor a wrong tape's, and is one of the tapes
+not_written : (book : Contents) (slots : ℕ) (f : RunFault) → IsOfBook book slots 1 f
+    → (IsWriteFault f → ⊥) × (IsPieceFault f → ⊥) × IsOfTapes book slots 1 f
+not_written book slots (run.Book f) is = absurd is
+not_written book slots (run.Desk f) is = (λ write. write, λ piece. piece, is)
+not_written book slots (run.Settle f) is = (λ write. write, λ piece. piece, is)
+not_written book slots (run.Compile compile.Workers) is = absurd (apart is)
+  where
+    apart : compile.Workers ≡ compile.Refused → ⊥
+    apart h = search (rules, h)
+not_written book slots (run.Compile compile.Refused) is = (λ write. write, λ piece. piece, λ h. search (rules, h))
+not_written book slots (run.Compile (compile.Piece index)) is = absurd (apart is)
+  where
+    apart : compile.Piece index ≡ compile.Refused → ⊥
+    apart h = search (rules, h)
+not_written book slots (run.Write failed) is = absurd is
+not_written book slots run.Refused is = (λ write. write, λ piece. piece, is)
 
 -- a fault under way to the report of a book whose octets were read, with nothing written
 pub fault_of_book_report : (slots : ℕ) (Means : (input output : List ℕ) → Type 0) (first last old new : Option (List ℕ))
@@ -156,7 +166,8 @@ pub fault_of_book_report : (slots : ℕ) (Means : (input output : List ℕ) → 
     → Keeps old new
     → IsReportRunFault slots Means first last old new fault
 fault_of_book_report slots Means first last old new book (reports.Run f) read is of_book kept =
-    (not_written book slots f of_book, fault_of_run slots 1 Means first last old new book f read is of_book kept)
+    let other = not_written book slots f of_book in
+    (other.0, other.1, fault_of_run slots 1 Means first last old new book f read is other.2 kept)
 fault_of_book_report slots Means first last old new book (reports.Report report.Refused) read is of_book kept =
     (read, kept)
 fault_of_book_report slots Means first last old new book (reports.Report report.Cells) read is of_book kept =

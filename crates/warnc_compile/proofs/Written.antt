@@ -1,6 +1,7 @@
 -- How tapes are written, and of which run they are.
 use Rattle.std.proofs.Common.{◌≡◌, ℕ, ◌<◌, ◌≤◌, List, [], ◌∷◌, ◌++◌, length, map, take, get_or, All}
-use Rattle.std.proofs.Common.{Option, Result, Err, IfErr, refl, sym, subst, ap, append_assoc, ◌∙◌, suc, true, rules}
+use Rattle.std.proofs.Common.{Option, Result, Err, IfErr, refl, sym, subst, ap, append-nil, append_assoc, ◌∙◌, suc}
+use Rattle.std.proofs.Common.{true, rules}
 use Rattle.std.proofs.Common.{◌⊎◌, inl, inr, ◌+◌, ◌*◌, zero}
 use native.Mathlib.Omega.{arith}
 use Rattle.std.proofs.KnownBytes.{Appends-trans}
@@ -22,14 +23,14 @@ use Rattle.bsc_table.specs.Record.{Record}
 use Rattle.cbch_blocks.specs.RecordBlocks.{tape_of_record}
 use Rattle.book_runs.specs.Live.{IsLiveRun, IsRunBy}
 use Rattle.book_runs.specs.LiveLaws.{LiveRunsAcceptWhatWasOrdered, LiveRunsShowTheBook, OneSessionIsARun}
-use Rattle.book_runs.specs.Ordered.{RunsAcceptWhatWasOrdered}
+use Rattle.book_runs.specs.Ordered.{AreThoseStarted}
 use Rattle.book_runs.specs.Run.{Exchange}
-use Rattle.book_runs.specs.RunLaws.{RunsShowTheBook}
 use Rattle.warnc_compile.specs.declared.fault.RunFault.{RunFault}
 use Rattle.warnc_compile.specs.declared.fault.RunFault.TheVariants as run
-use Rattle.warnc_compile.specs.Compiled.{tape_size, IsCompiled, IsCompileFault, IsRunFault, IsSettleFault, ReadsBook}
+use Rattle.parallel_compile.specs.declared.fault.CompileFault.TheVariants as compile
+use Rattle.warnc_compile.specs.Compiled.{tape_size, IsCompiled, IsRunFault, IsSettleFault, Makes, ReadsBook}
 use Rattle.warnc_compile.specs.Live.{IsLive}
-use Rattle.warnc_compile.specs.RunSteps.{AreTapesOf, IsOfBook, TakesFront}
+use Rattle.warnc_compile.specs.RunSteps.{AreTapesOf, IsOfTapes, TakesFront}
 
 -- tapes, one after the other
 abbrev pub joined : List (List ℕ) → List ℕ
@@ -215,30 +216,7 @@ only [] count = absurd (omega (arith, count))
 only (x ∷ []) count = (x, refl)
 only (x ∷ (y ∷ rest)) count = absurd (omega (arith, count))
 
--- a run of the book whose octets were read is compiled to its tapes
-pub compiled : OneSessionIsARun → RunsShowTheBook → RunsAcceptWhatWasOrdered
-    → (input : List ℕ) (book : Contents) (slots : ℕ)
-    (tapes : List (List ℕ))
-    → slots ≤ 65535
-    → IsBook input book
-    → AreTapesOf book slots 1 tapes
-    → IsCompiled slots input (joined tapes)
-compiled one law orders input book slots tapes few is_book are =
-    let session = only are.live.sessions are.live.parted in
-    let run = one book slots session.0 are.records
-    (subst (λ (sessions : List (List Exchange)). IsLiveRun book slots sessions are.records) session.1 are.live.run) in
-    record {
-      book = book;
-      is_book = is_book;
-      exchanges = session.0;
-      records = are.records;
-      run = run;
-      meant = law input book slots session.0 are.records is_book few run;
-      accepted = orders input book slots session.0 are.records is_book run;
-      written = ap joined are.made ∙ joined_tapes are.records;
-    }
-
--- and so is a run of several sessions
+-- a run of several sessions of the book whose octets were read is compiled to its tapes
 pub made_live : LiveRunsShowTheBook → LiveRunsAcceptWhatWasOrdered
     → (input : List ℕ) (book : Contents) (slots parts : ℕ) (tapes : List (List ℕ))
     → slots ≤ 65535
@@ -273,19 +251,74 @@ taken_of_run law input book slots parts tapes written old new few is_book are ta
     (All-weaker (IsRunBy slots are.live.sessions) (λ (r : Record). r.slots ≡ slots) (λ r run. run.run) are.records
     are.live.run.each))) taken
 
+-- what one session makes of a book is what the book's session makes of it
+pub made_by_one : OneSessionIsARun → (slots : ℕ) (input output : List ℕ)
+    → IsLive slots 1 input output
+    → IsCompiled slots input output
+made_by_one one slots input output live =
+    let session = only live.sessions live.parted in record {
+      book = live.book;
+      is_book = live.is_book;
+      exchanges = session.0;
+      records = live.records;
+      run = one live.book slots session.0 live.records
+          (subst (λ (sessions : List (List Exchange)). IsLiveRun live.book slots sessions live.records) session.1
+          live.run);
+      meant = live.meant;
+      accepted = subst (λ (exchanges : List Exchange). All (AreThoseStarted live.book exchanges) live.records)
+          (ap (flat_map (λ (exchanges : List Exchange). exchanges)) session.1 ∙ append-nil session.0) live.accepted;
+      written = live.written;
+    }
+
+-- and so are the tapes that were written, and the front of them
+pub makes_by_one : OneSessionIsARun → (slots : ℕ) (first last old new : Option (List ℕ))
+    → Makes (IsLive slots 1) first last old new
+    → Makes (IsCompiled slots) first last old new
+makes_by_one one slots first last old new makes = record {
+  input = makes.input;
+  output = makes.output;
+  read = makes.read;
+  ended = makes.ended;
+  meant = made_by_one one slots makes.input makes.output makes.meant;
+  appended = makes.appended;
+}
+
+-- and the faults
+pub fault_by_one : OneSessionIsARun → (slots : ℕ) (first last old new : Option (List ℕ)) (fault : RunFault)
+    → IsRunFault slots 1 (IsLive slots 1) first last old new fault
+    → IsRunFault slots 1 (IsCompiled slots) first last old new fault
+fault_by_one one slots first last old new (run.Book f) is = is
+fault_by_one one slots first last old new (run.Desk f) is = is
+fault_by_one one slots first last old new (run.Settle f) is = is
+fault_by_one one slots first last old new (run.Compile f) is = is
+fault_by_one one slots first last old new run.Refused is = is
+fault_by_one one slots first last old new (run.Write failed) is = record {
+  input = is.input;
+  output = is.output;
+  read = is.read;
+  ended = is.ended;
+  meant = made_by_one one slots is.input is.output is.meant;
+  whole = is.whole;
+  under_way = is.under_way;
+  some_left = is.some_left;
+  front = is.front;
+}
+
 -- a fault of the run of a book whose octets were read, with nothing written
 pub fault_of_run : (slots parts : ℕ) (Means : (input output : List ℕ) → Type 0) (first last old new : Option (List ℕ))
     (book : Contents) (fault : RunFault)
     → (read : ReadsBook first last)
     → read.book ≡ book
-    → IsOfBook book slots parts fault
+    → IsOfTapes book slots parts fault
     → Keeps old new
     → IsRunFault slots parts Means first last old new fault
 fault_of_run slots parts Means first last old new book (run.Book f) read is of_book kept = absurd of_book
 fault_of_run slots parts Means first last old new book (run.Desk f) read is of_book kept = (of_book, read, kept)
 fault_of_run slots parts Means first last old new book (run.Settle f) read is of_book kept =
     (read, subst (λ (b : Contents). IsSettleFault b slots parts f) (sym is) of_book, kept)
-fault_of_run slots parts Means first last old new book (run.Compile f) read is of_book kept =
-    (subst (IsCompileFault first last) (sym of_book) read, kept)
+fault_of_run slots parts Means first last old new book (run.Compile compile.Workers) read is of_book kept = (tt, kept)
+fault_of_run slots parts Means first last old new book (run.Compile compile.Refused) read is of_book kept = (read, kept)
+fault_of_run slots parts Means first last old new book (run.Compile (compile.Piece index)) read is of_book kept =
+    (read, kept)
 fault_of_run slots parts Means first last old new book (run.Write failed) read is of_book kept = absurd of_book
 fault_of_run slots parts Means first last old new book run.Refused read is of_book kept = kept

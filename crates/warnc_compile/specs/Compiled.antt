@@ -90,11 +90,11 @@ IsWriteFault (fault.Write failed) = ⊤
 IsWriteFault other = ⊥
 
 -- why workers made no tapes, of octets that the reader has left before and after: there can't be so many of them, or
--- the octets are a book, and memory ran out. No piece of theirs is missing
+-- the octets are a book, and memory ran out, or the tape at a place isn't that of the cell's record
 abbrev pub IsCompileFault : (first last : Option (List ℕ)) → CompileFault → Type 0
 IsCompileFault first last compile.Workers = ⊤
 IsCompileFault first last compile.Refused = ReadsBook first last
-IsCompileFault first last (compile.Piece index) = ⊥
+IsCompileFault first last (compile.Piece index) = ReadsBook first last
 
 -- a fault of the desk under an order of a session: it is out of memory, or finds the book of another cell in a lock
 abbrev pub IsDeskFault : DeskFault → Type 0
@@ -111,11 +111,12 @@ IsSettleFault book slots parts other =
     (closed : ClosedDesk) × (passes : List (List Note)) × (closed.cells ≡ book.cells) × (closed.slots ≡ slots)
     × IsFault closed passes other
 
--- the faults with which the desk can end the run of a book for another reason than memory: no contract excludes them,
--- since what a lock holds is known by its type alone
+-- the faults with which a run of a book can end for another reason than memory: no contract excludes them, since what a
+-- lock of the desk holds, and what a worker sends, is known by its type alone
 abbrev pub StopsRun : (book : Contents) (slots parts : ℕ) → RunFault → Type 0
 StopsRun book slots parts (fault.Desk f) = f ≡ desk.Unknown
 StopsRun book slots parts (fault.Settle f) = (f ≢ settle.Refused) × IsSettleFault book slots parts f
+StopsRun book slots parts (fault.Compile (compile.Piece index)) = ⊤
 StopsRun book slots parts other = ⊥
 
 -- why no tapes were made of a book, in runs of so many slots and with so many sessions: the fault is the book's; or the

@@ -9,9 +9,12 @@ use Rattle.handset.specs.Tape.{TapeReading}
 use Rattle.book_runs.specs.Meant.{IsMeantIn}
 use Rattle.book_runs.specs.Ordered.{AreThoseStarted}
 use Rattle.book_runs.specs.Run.{Exchange, IsRun}
+use Rattle.parallel_compile.specs.declared.fault.CompileFault.TheVariants as compile
 use Rattle.report.specs.ReportText.{report_text}
 use Rattle.report.specs.Rows.{rows_of}
 use Rattle.report.specs.declared.fault.ReportFault.TheVariants as report
+use Rattle.warnc_compile.specs.declared.fault.RunFault.{RunFault}
+use Rattle.warnc_compile.specs.declared.fault.RunFault.TheVariants as run
 use Rattle.warnc_compile.specs.declared.report_run.ReportRunFault.{ReportRunFault}
 use Rattle.warnc_compile.specs.declared.report_run.ReportRunFault.TheVariants as fault
 use Rattle.warnc_compile.specs.Compiled.{IsRunFault, IsWriteFault, MakesFront, ReadsBook}
@@ -38,12 +41,17 @@ abbrev pub IsReportWriteFault : ReportRunFault → Type 0
 IsReportWriteFault (fault.Report report.WriteFailed) = ⊤
 IsReportWriteFault other = ⊥
 
+-- a fault of the workers: the tape at a place isn't that of the cell's record
+abbrev pub IsPieceFault : RunFault → Type 0
+IsPieceFault (run.Compile (compile.Piece index)) = ⊤
+IsPieceFault other = ⊥
+
 -- why no report was made: a fault of the run, with nothing written; or memory ran out after it, with nothing written;
--- or the writer failed with a front of the report. The cells never differ
+-- or the writer failed with a front of the report. The cells never differ, and no tape is another record's
 abbrev pub IsReportRunFault : (slots : ℕ) (Means : (input output : List ℕ) → Type 0)
     (first last old new : Option (List ℕ)) → ReportRunFault → Type 0
 IsReportRunFault slots Means first last old new (fault.Run f) =
-    (IsWriteFault f → ⊥) × IsRunFault slots 1 Means first last old new f
+    (IsWriteFault f → ⊥) × (IsPieceFault f → ⊥) × IsRunFault slots 1 Means first last old new f
 IsReportRunFault slots Means first last old new (fault.Report report.Cells) = ⊥
 IsReportRunFault slots Means first last old new (fault.Report report.WriteFailed) = MakesFront Means first last old new
 IsReportRunFault slots Means first last old new (fault.Report report.Refused) = ReadsBook first last × Keeps old new

@@ -1,5 +1,5 @@
 -- Steps of a run (own). The contracts of private functions alone speak of them.
-use Rattle.std.specs.Prelude.{◌≡◌, ⊤, ℕ, ◌<◌, ◌≤◌, List, [], ◌∷◌, ◌++◌, length, map, take, slice_index_or, All}
+use Rattle.std.specs.Prelude.{◌≡◌, ◌≢◌, ⊤, ℕ, ◌<◌, ◌≤◌, List, [], ◌∷◌, ◌++◌, length, map, take, slice_index_or, All}
 use Rattle.std.specs.Prelude.{Option, Result, Err, IsOk}
 use Rattle.std.specs.Io.KnownBytes.{Appends}
 use Rattle.std.specs.List.{flat_map}
@@ -33,6 +33,11 @@ IsOfRun fault.Refused = ⊤
 abbrev pub IsOfBook : (book : Contents) (slots parts : ℕ) → RunFault → Type 0
 IsOfBook book slots parts (fault.Settle f) = IsSettleFault book slots parts f
 IsOfBook book slots parts other = IsOfRun other
+
+-- a fault of the tapes of such a run: of the run, or of the workers, but for their number
+abbrev pub IsOfTapes : (book : Contents) (slots parts : ℕ) → RunFault → Type 0
+IsOfTapes book slots parts (fault.Compile f) = f ≢ compile.Workers
+IsOfTapes book slots parts other = IsOfBook book slots parts other
 
 -- a thread has ended with this fault, and all before it had none
 pub record IsFirstFault (dones : List (Result ⊤ RunFault)) (fault : RunFault) : Type 0 where

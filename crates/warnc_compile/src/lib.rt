@@ -1,15 +1,17 @@
 //! The engines of the commands `compile`, `live` and `report`, from a reader to a writer: a book of alerts to the tapes
 //! of its cells, or to the report of them.
 //!
-//! [`compile_stream`] reads all of the book, has the cells of a desk carry out what its one session orders, has workers
-//! play the cells to their ends, settles the desk, and writes the tapes of the records, which workers make.
-//! [`live_stream`] does the same with several sessions, each in a thread of its own, and [`report_stream`] reads the
-//! tapes of one session and writes what became of each order. What was written is said by definitions of the book's
-//! octets alone (`IsCompiled`, `IsLive`, `IsReported`), which know of no worker: which orders each cell answered, at
-//! which slot, and what a handset shows that reads its tape.
+//! [`live_stream`] reads all of the book, has the cells of a desk carry out what its sessions order, each in a thread
+//! of its own, has workers play the cells to their ends and hand on their pages, of which it puts the tapes together
+//! while the desk is open, settles the desk, compares the tapes with the records, and writes them. [`compile_stream`]
+//! is that with one session, and [`report_stream`] makes the tapes of one session's records, reads them and writes what
+//! became of each order. What was written is said by definitions of the book's octets alone (`IsCompiled`, `IsLive`,
+//! `IsReported`), which know of no worker: which orders each cell answered, at which slot, and what a handset shows
+//! that reads its tape.
 #![tactic(auto)]
 
 pub mod compile;
+pub mod counts;
 pub mod fault;
 mod finish;
 mod laws;
@@ -22,6 +24,7 @@ mod tapes;
 mod workers;
 
 pub use compile::compile_stream;
+pub use counts::{Sessions, Workers};
 pub use fault::RunFault;
 pub use laws::output_laws;
 pub use live::live_stream;

@@ -1,14 +1,16 @@
 //! The command `live`: a book of alerts, whose parts are ordered side by side, to the tapes of its cells.
 
-ghost use Rattle.std.specs.Prelude.{◌≡◌, ◌↔◌, ◌<◌, ◌≤◌, false, true, IfErr, IsErrOf, IsTrue, OnOk};
-ghost use Rattle.device_ends.specs.Sink.{sink_failed, writer_of};
-ghost use Rattle.device_ends.specs.Source.{reader_of, source_failed};
+ghost use Rattle.std.specs.Prelude.{◌≡◌, ◌↔◌, ◌<◌, ◌≤◌, IfErr, IsErrOf, OnOk};
+ghost use Rattle.device_ends.specs.Sink.{writer_of};
+ghost use Rattle.device_ends.specs.Source.{reader_of};
+ghost use Rattle.device_ends.specs.Stream.{IsStreamBetween};
 ghost use Rattle.alert_book.specs.Book.{unread};
 ghost use Rattle.parallel_compile.specs.declared.fault.CompileFault.TheVariants as compile;
 ghost use Rattle.warnc_compile.specs.Compiled.{AreWorkers, IsRunFault, IsWriteFault, Makes};
 ghost use Rattle.warnc_compile.specs.Live.{IsLive};
 ghost use Rattle.warnc_compile.specs.declared.fault.RunFault.TheVariants as faults;
 
+use crate::counts::{Sessions, Workers};
 use crate::fault::RunFault;
 use crate::finish::write_tapes;
 use crate::tapes::tapes_of_book;
@@ -22,19 +24,28 @@ use std::thread::Threads;
 
 /// Reads a book, and has the cells of a desk carry out what the sessions of its parts order, in runs of `slots` slots:
 /// there are `sessions` of them, 1 to 64, each in a thread of its own with a pass of its own. Once they have ended,
-/// `workers` workers, 1 to 64, play the cells to the ends of their runs, each with a pass of its own; the desk is
-/// settled with all passes, and the tapes of the cells, which workers make, are written in the order of the book.
-/// Nothing is written before all tapes are made. `gate` is called while a cell is held.
+/// `workers` workers, 1 to 64, each with a pass of its own, play the cells to the ends of their runs and hand their
+/// pages on as they are played; the tapes are put together from them while the desk is open. Then the desk is settled
+/// with all passes, and the tapes are compared with the records of the cells, and written in the order of the book.
+/// Nothing is written before that. `gate` is called while a cell is held.
 ///
 /// What was written is what the book means (`IsLive`): there is a session for each part, whose messages are those of
 /// the part's rows by the replies that it gets; each cell's log has what the sessions order of it, each session's in
 /// its order, once each and nothing else, each at the least slot that is neither before its message's nor before the
-/// entry before it. All else is as for [`compile_stream`](crate::compile_stream), whichever session came first.
+/// entry before it; each answer is the one that the cell's log and air give; and a handset that reads the cell's tape
+/// is shown exactly the texts of the orders that the cell accepted and of which a broadcast is whole, once each, with
+/// their identifiers and serial numbers. Each completed number and each reported one is that of the whole broadcasts in
+/// the blocks. All this is so whichever session came first, and does not depend on the number of workers.
 ///
 /// # Errors
 ///
-/// Returns the faults of [`compile_stream`](crate::compile_stream). Of sessions that met a fault of the desk, the least
-/// one's is returned, unless memory runs out.
+/// Returns the book's fault, the desk's, the settlement's, the workers' or [`RunFault::Refused`] with nothing written,
+/// and [`RunFault::Write`] with some tapes written whole, and of the one under way as many octets as it names. What a
+/// lock of the desk holds is known by its type alone, and what a worker sends by the type of its messages, so no
+/// contract excludes [`RunFault::Desk`] with `Unknown`, [`RunFault::Settle`], and [`CompileFault::Piece`] for a tape
+/// that isn't its record's; the desk refuses no order for what it says. With no workers or over 64 it returns
+/// [`RunFault::Compile`] with [`CompileFault::Workers`], before anything is read. Of sessions that met a fault of the
+/// desk, the least one's is returned, unless memory runs out.
 pub fn live_stream<T: AllocGlobal + Threads + Wait + Sync, R: Read, W: Write, G: Gate>(
     rt: &T,
     source: &mut Source<R>,
@@ -51,28 +62,26 @@ pub fn live_stream<T: AllocGlobal + Threads + Wait + Sync, R: Read, W: Write, G:
     ensures fault { IfErr result (IsRunFault slots sessions (IsLive slots sessions) (R.remaining (reader_of source.old))
         (R.remaining (reader_of source.new)) (W.contents (writer_of sink.old)) (W.contents (writer_of sink.new))) }
 
-    // The number of workers is judged first.
+    // The number of workers is judged first, and nothing is done if it is wrong.
     ensures workers { IsErrOf result (faults.Compile compile.Workers) ↔ (AreWorkers workers → ⊥) }
-    ensures untried { IsErrOf result (faults.Compile compile.Workers) → source.new ≡ source.old }
+    ensures untried { IsErrOf result (faults.Compile compile.Workers)
+        → (source.new ≡ source.old) × (sink.new ≡ sink.old) }
 
-    // At any reader and any writer, as for `compile_stream`.
-    ensures read { AreWorkers workers → (IsErrOf result (faults.Book unread) ↔ IsTrue (source_failed source.new)) }
-    ensures write { IfErr result (λ fault. IsWriteFault fault → sink_failed sink.new ≡ true) }
-    ensures untouched { IfErr result (λ fault. (IsWriteFault fault → ⊥) → sink.new ≡ sink.old) }
-    ensures not_failed { OnOk result (sink_failed sink.new ≡ false) }
-    ensures source_stays { source_failed source.old ≡ true → source.new ≡ source.old }
-    ensures sink_stays { sink_failed sink.old ≡ true → sink.new ≡ sink.old }
+    // At any reader and any writer.
+    ensures any_ends { AreWorkers workers → IsStreamBetween (faults.Book unread) IsWriteFault result source.old
+        source.new sink.old sink.new (W.contents (writer_of sink.old)) (W.contents (writer_of sink.new)) }
 {
     // A handset is shown what the book means, whatever the cells answered, and whichever session came first.
     book_runs::session_laws();
-    if workers == 0 || workers > 64 {
+    let Some(workers) = Workers::new(workers) else {
         return Err(RunFault::Compile(CompileFault::Workers));
-    }
+    };
     let book = match read_book(rt, source) {
         Ok(book) => book,
         Err(fault) => return Err(RunFault::Book(fault)),
     };
-    let tapes = tapes_of_book(rt, book, slots, sessions, workers, gate)?;
+    let sessions = Sessions { number: sessions };
+    let tapes = tapes_of_book(rt, &book, slots, sessions, workers, gate)?;
     match write_tapes(&tapes, sink) {
         Ok(()) => Ok(()),
         Err(fault) => Err(RunFault::Write(fault)),

@@ -1,9 +1,9 @@
 //! The command `report`: a book of alerts to the report of its cells.
 
-ghost use Rattle.std.specs.Prelude.{◌≡◌, ◌↔◌, ◌<◌, ◌≤◌, ◌++◌, ℕ, List, false, true, length, map, All, IfErr, IfOk};
-ghost use Rattle.std.specs.Prelude.{IsErrOf, IsTrue, OnOk};
-ghost use Rattle.device_ends.specs.Sink.{sink_failed, writer_of};
-ghost use Rattle.device_ends.specs.Source.{reader_of, source_failed};
+ghost use Rattle.std.specs.Prelude.{◌≡◌, ◌↔◌, ◌≤◌, ◌++◌, ℕ, List, length, map, All, IfErr, IfOk, IsErrOf, OnOk};
+ghost use Rattle.device_ends.specs.Sink.{writer_of};
+ghost use Rattle.device_ends.specs.Source.{reader_of};
+ghost use Rattle.device_ends.specs.Stream.{IsStreamBetween};
 ghost use Rattle.alert_book.specs.Book.{unread, IsBook};
 ghost use Rattle.cbch_blocks.specs.RecordBlocks.{tape_of_record};
 ghost use Rattle.handset.specs.Tape.{readings_of, IsTape};
@@ -14,6 +14,7 @@ ghost use Rattle.warnc_compile.specs.RunSteps.{AreRowsOf, IsOfBookReport, IsOfRe
 ghost use Rattle.warnc_compile.specs.declared.fault.RunFault.TheVariants as faults;
 ghost use Rattle.warnc_compile.specs.declared.report_run.ReportRunFault.TheVariants as reports;
 
+use crate::counts::Workers;
 use crate::fault::RunFault;
 use crate::tapes::records_of_book;
 use alert_book::{Book, read_book};
@@ -72,9 +73,10 @@ impl<T: Drop> From<AllocFailed<T>> for ReportRunFault {
     }
 }
 
-/// Reads a book, runs its cells as [`compile_stream`](crate::compile_stream) does, reads the tapes as handsets do, and
-/// writes a report of what became of each order of each cell, as CSV. Nothing is written before all of it is made.
-/// `workers` workers, 1 to 64, play the cells and make the tapes. What is promised does not depend on their number.
+/// Reads a book, has its one session order at a desk as [`compile_stream`](crate::compile_stream) does, makes the tapes
+/// of the settled desk's records, reads them as handsets do, and writes a report of what became of each order of each
+/// cell, as CSV. Nothing is written before all of it is made. `workers` workers, 1 to 64, play the cells and make the
+/// tapes. What is promised does not depend on their number.
 ///
 /// What was written is the report of what the book means (`IsReported`): of each message that a cell accepted its start
 /// and end, how many of its broadcasts are whole in the blocks, and whether a handset that reads the cell's tape shows
@@ -82,8 +84,9 @@ impl<T: Drop> From<AllocFailed<T>> for ReportRunFault {
 ///
 /// # Errors
 ///
-/// Returns the faults of [`compile_stream`](crate::compile_stream) with nothing written, and of the report
-/// [`ReportFault::Refused`] with nothing written and [`ReportFault::WriteFailed`] with a front of it.
+/// Returns the faults of [`compile_stream`](crate::compile_stream) but [`RunFault::Write`] and [`CompileFault::Piece`],
+/// with nothing written, and of the report [`ReportFault::Refused`] with nothing written and
+/// [`ReportFault::WriteFailed`] with a front of it.
 pub fn report_stream<T: AllocGlobal + Threads + Wait + Sync, R: Read, W: Write>(
     rt: &T,
     source: &mut Source<R>,
@@ -96,26 +99,22 @@ pub fn report_stream<T: AllocGlobal + Threads + Wait + Sync, R: Read, W: Write>(
     ensures fault { IfErr result (IsReportRunFault slots (IsReported slots) (R.remaining (reader_of source.old))
         (R.remaining (reader_of source.new)) (W.contents (writer_of sink.old)) (W.contents (writer_of sink.new))) }
 
-    // The number of workers is judged first.
+    // The number of workers is judged first, and nothing is done if it is wrong.
     ensures workers { IsErrOf result (reports.Run (faults.Compile compile.Workers)) ↔ (AreWorkers workers → ⊥) }
-    ensures untried { IsErrOf result (reports.Run (faults.Compile compile.Workers)) → source.new ≡ source.old }
+    ensures untried { IsErrOf result (reports.Run (faults.Compile compile.Workers))
+        → (source.new ≡ source.old) × (sink.new ≡ sink.old) }
 
-    // At any reader and any writer, as for `compile_stream`.
-    ensures read { AreWorkers workers
-        → (IsErrOf result (reports.Run (faults.Book unread)) ↔ IsTrue (source_failed source.new)) }
-    ensures write { IfErr result (λ fault. IsReportWriteFault fault → sink_failed sink.new ≡ true) }
-    ensures untouched { IfErr result (λ fault. (IsReportWriteFault fault → ⊥) → sink.new ≡ sink.old) }
-    ensures not_failed { OnOk result (sink_failed sink.new ≡ false) }
-    ensures source_stays { source_failed source.old ≡ true → source.new ≡ source.old }
-    ensures sink_stays { sink_failed sink.old ≡ true → sink.new ≡ sink.old }
+    // At any reader and any writer.
+    ensures any_ends { AreWorkers workers → IsStreamBetween (reports.Run (faults.Book unread)) IsReportWriteFault result
+        source.old source.new sink.old sink.new (W.contents (writer_of sink.old)) (W.contents (writer_of sink.new)) }
 {
     // A handset is shown what the book means, whatever the cells answered.
     book_runs::run_laws();
     book_runs::order_laws();
     book_runs::session_laws();
-    if workers == 0 || workers > 64 {
+    let Some(workers) = Workers::new(workers) else {
         return Err(ReportRunFault::Run(RunFault::Compile(CompileFault::Workers)));
-    }
+    };
     let book = match read_book(rt, source) {
         Ok(book) => book,
         Err(fault) => return Err(ReportRunFault::Run(RunFault::Book(fault))),
@@ -132,18 +131,16 @@ fn rows_of_book<T: AllocGlobal + Threads + Wait + Sync>(
     rt: &T,
     book: Book,
     slots: u16,
-    workers: u64,
+    workers: Workers,
 ) -> Result<Vec<Row>, ReportRunFault>
     requires book { (input : List ℕ) × IsBook input book }
-    requires some_workers { 0 < workers }
-    requires few_workers { workers ≤ 64 }
     ensures ok { IfOk result (λ rows. AreRowsOf book slots rows.items) }
     ensures err { IfErr result (IsOfBookReport book slots) }
 {
     // No book has over 64 cells, and each record gives a tape.
     alert_book::book_laws();
     book_runs::session_laws();
-    let records = records_of_book(rt, &book, slots, 1, workers, &Open)?;
+    let records = records_of_book(rt, &book, slots, workers)?;
     drop(book);
     let readings = readings_by(rt, &records, workers)?;
     match rows(rt.alloc(), &records, &readings) {
@@ -157,19 +154,17 @@ fn rows_of_book<T: AllocGlobal + Threads + Wait + Sync>(
 fn readings_by<T: AllocGlobal + Threads + Wait + Sync>(
     rt: &T,
     records: &[CellRecord],
-    workers: u64,
+    workers: Workers,
 ) -> Result<Vec<Reading>, ReportRunFault>
     requires few { length records.now ≤ 64 }
     requires tapes { All (λ r. IsTape (tape_of_record r) (reading_of_record r)) records.now }
-    requires some_workers { 0 < workers }
-    requires few_workers { workers ≤ 64 }
     ensures ok { IfOk result (λ readings. readings_of readings.items ≡ map reading_of_record records.now) }
     ensures err { IfErr result IsOfReport }
 {
     let mut readings = Vec::with_capacity(rt.alloc(), records.len())?;
     let mut left = records;
     while !left.is_empty() {
-        let (group, rest) = left.split_at(left.len().min(workers as usize));
+        let (group, rest) = left.split_at(left.len().min(workers.number as usize));
         read_group(rt, group, workers, &mut readings)?;
         left = rest;
     }
@@ -180,20 +175,18 @@ fn readings_by<T: AllocGlobal + Threads + Wait + Sync>(
 fn read_group<T: AllocGlobal + Threads + Sync>(
     rt: &T,
     records: &[CellRecord],
-    workers: u64,
+    workers: Workers,
     readings: &mut Vec<Reading>,
 ) -> Result<(), ReportRunFault>
     requires few { length records.now ≤ 64 }
     requires tapes { All (λ r. IsTape (tape_of_record r) (reading_of_record r)) records.now }
-    requires some_workers { 0 < workers }
-    requires few_workers { workers ≤ 64 }
     ensures ok { OnOk result (readings_of readings.new.items
         ≡ readings_of readings.old.items ++ map reading_of_record records.now) }
     ensures err { IfErr result IsOfReport }
 {
     // Octets are one tape at most.
     handset::tape_laws();
-    let tapes = compile_all(rt, rt.alloc(), records, workers, &Open)?;
+    let tapes = compile_all(rt, rt.alloc(), records, workers.number, &Open)?;
     for tape in &tapes {
         // The tape is whole, and memory doesn't fail to be read: only memory to read to can be refused.
         let Ok(reading) = read_tape(rt.alloc(), &mut Source::new(tape.bytes())) else {

@@ -5,6 +5,7 @@ ghost use Rattle.alert_book.specs.Book.{IsBook};
 ghost use Rattle.warnc_compile.specs.RunSteps.{IsFirstFault, IsOfRun};
 ghost use Rattle.warnc_compile.specs.declared.fault.RunFault.TheVariants as faults;
 
+use crate::counts::Sessions;
 use crate::fault::RunFault;
 use crate::session::serve;
 use alert_book::Book;
@@ -85,13 +86,14 @@ pub(crate) fn served<T: AllocGlobal + Threads + Wait + Sync, G: Gate>(
     rt: &T,
     book: &Book,
     desk: &Desk,
-    parts: u16,
+    sessions: Sessions,
     gate: &G,
 ) -> Result<Vec<Pass>, RunFault>
     requires { (input : List ℕ) × IsBook input book.now }
-    ensures ok { IfOk result (λ passes. vec_len passes ≡ parts) }
+    ensures ok { IfOk result (λ passes. vec_len passes ≡ sessions.number) }
     ensures err { IfErr result IsOfRun }
 {
+    let parts = sessions.number;
     let jobs = jobs_of(rt, desk, parts)?;
     let all = thread::map_vec(
         rt,

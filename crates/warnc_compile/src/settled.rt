@@ -1,10 +1,11 @@
 //! The end of a run at a desk: its settlement with the passes of the sessions.
 
-ghost use Rattle.std.specs.Prelude.{◌≡◌, ◌<◌, ◌≤◌, ℕ, List, length, IfErr, IfOk};
+ghost use Rattle.std.specs.Prelude.{◌≡◌, ◌≤◌, ℕ, List, length, IfErr, IfOk};
 ghost use Rattle.alert_book.specs.Book.{IsBook};
 ghost use Rattle.book_runs.specs.Live.{IsLiveRun};
 ghost use Rattle.warnc_compile.specs.RunSteps.{HaveRunLive, IsOfBook};
 
+use crate::counts::Sessions;
 use crate::fault::RunFault;
 use alert_book::Book;
 use bsc_table::CellRecord;
@@ -23,22 +24,19 @@ pub(crate) fn records_of(
     alloc: Global,
     book: &Book,
     desk: Desk,
-    parts: u16,
+    sessions: Sessions,
     passes: &[Pass],
 ) -> Result<Vec<CellRecord>, RunFault>
     requires book { (input : List ℕ) × IsBook input book.now }
     requires cells { desk.cells ≡ book.now.cells }
-    requires some { 0 < parts }
-    requires passes { parts ≤ length passes.now }
-    ensures ok { IfOk result (λ records. HaveRunLive book.now desk.slots parts records.items) }
-    ensures err { IfErr result (IsOfBook book.now desk.slots parts) }
+    requires passes { sessions.number ≤ length passes.now }
+    ensures ok { IfOk result (λ records. HaveRunLive book.now desk.slots sessions.number records.items) }
+    ensures err { IfErr result (IsOfBook book.now desk.slots sessions.number) }
 {
     // What the passes noted is what each cell holds, so the cells hold what the sessions asked.
     book_runs::session_laws();
     let closed = desk.close()?;
     let records = closed.settle(alloc, passes)?;
-    if let Err(fault) = check_sessions(alloc, book, parts, &records, passes) {
-        return Err(RunFault::Settle(fault));
-    }
+    check_sessions(alloc, book, sessions.number, &records, passes)?;
     Ok(records)
 }

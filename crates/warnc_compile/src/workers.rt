@@ -4,6 +4,7 @@ ghost use Rattle.std.specs.Prelude.{◌≡◌, ◌<◌, ◌≤◌, length, All, 
 ghost use Rattle.tickets.specs.Draws.{first_seat, IsSeatOf};
 ghost use Rattle.warnc_compile.specs.RunSteps.{IsOfRun};
 
+use crate::counts::Workers;
 use crate::fault::RunFault;
 use crate::sessions::{Ended, passes_of};
 use order_desk::{Desk, Gate, Pass};
@@ -20,21 +21,21 @@ struct Player {
     pass: Pass,
 }
 
-/// So many players, their seats split from the first.
+/// The players, their seats split from the first.
 fn players_of<T: AllocGlobal>(
     rt: &T,
     desk: &Desk,
     counter: &Counter,
     first: &mut Seat,
-    workers: u64,
+    workers: Workers,
 ) -> Result<Vec<Player>, RunFault>
     requires first { first.old ≡ first_seat counter.now }
-    requires few { workers ≤ 64 }
     ensures ok { IfOk result (λ players. All (λ player. IsSeatOf counter.now player.seat) players.items) }
     ensures err { IfErr result IsOfRun }
 {
-    let mut players = Vec::with_capacity(rt.alloc(), workers as usize)?;
-    for _ in 0..workers {
+    let count = workers.number;
+    let mut players = Vec::with_capacity(rt.alloc(), count as usize)?;
+    for _ in 0..count {
         let seat = first.split(counter);
         let pass = desk.pass();
         players.push(Player { seat, pass })?;
@@ -82,16 +83,15 @@ fn work<T: AllocGlobal + Wait, G: Gate>(
     Ended { pass, done }
 }
 
-/// Plays all cells of a desk to the ends of their runs, by so many workers, and returns their passes. What this leaves
-/// unplayed, the settlement plays.
+/// Has workers play all cells of a desk to the ends of their runs, and returns their passes. What this leaves unplayed,
+/// the settlement plays.
 pub(crate) fn played_out<T: AllocGlobal + Threads + Wait + Sync, G: Gate>(
     rt: &T,
     desk: &Desk,
-    workers: u64,
+    workers: Workers,
     gate: &G,
 ) -> Result<Vec<Pass>, RunFault>
     requires cells { length desk.now.cells ≤ 64 }
-    requires few { workers ≤ 64 }
     ensures { IfErr result IsOfRun }
 {
     let (counter, mut first) = Counter::new(rt.alloc(), desk.cells().len() as u64)?;

@@ -1,68 +1,13 @@
-use Rattle.std.proofs.Common.{◌<◌, ◌≤◌, ℕ, List, length, All, Err, ◌≡◌, refl, rules, sym, subst}
-use Rattle.std.proofs.KnownBytes.{Keeps-refl}
-use native.Mathlib.Omega.{arith}
-use Rattle.warnc_compile.specs.Compiled.{IsCompiled, ReadsBook}
-use Rattle.warnc_compile.specs.RunSteps.{AreTapesOf}
-use Rattle.warnc_compile.proofs.Written.{compiled, fault_of_run, joined, taken_of_run, tapes_have_octets, where_it_is}
+use Rattle.std.proofs.lemmas.Result.{IfErr-weaker, on_ok_weaker}
+use Rattle.warnc_compile.proofs.Written.{fault_by_one, makes_by_one}
 use Rattle.warnc_compile.proofs.compile.compile_stream.Goals as goal
 
-pub write_tapes-requires : goal.write_tapes-requires
-write_tapes-requires g c =
-    let are = c.in_ok-tapes.ensures.ok in
-    subst (λ (tapes : List (List ℕ)). All (λ tape. 0 < length tape) tapes) (sym c.deref.ensures.value)
-    (tapes_have_octets c.in_ok-tapes.tapes.items are.records are.made)
-
-pub returns-in-Ok-write_tapes-clause-ok : goal.returns-in-Ok-write_tapes-clause-ok
-returns-in-Ok-write_tapes-clause-ok g c =
-    let read = c.in-Ok.ensures.right in
-    let tapes = c.deref.result.now in
-    let few : c.args.slots ≤ 65535 = omega (arith, c.ranges.slots.fits) in record {
-      input = read.input;
-      output = joined tapes;
-      read = read.consumed;
-      ended = read.ended;
-      meant = compiled c.session_laws.ensures.one c.run_laws.ensures c.order_laws.ensures read.input c.in-Ok.book
-          c.args.slots tapes few read.meant
-          (subst (AreTapesOf c.in-Ok.book c.args.slots 1) (sym c.deref.ensures.value)
-          c.in_ok-tapes.ensures.ok);
-      appended = c.in-Ok-write_tapes.ensures.ok;
-    }
+pub returns-clause-ok : goal.returns-clause-ok
+returns-clause-ok g c =
+    on_ok_weaker c.live_stream.result (makes_by_one c.session_laws.ensures.one c.args.slots _ _ _ _)
+    c.live_stream.ensures.ok
 
 pub returns-clause-fault : goal.returns-clause-fault
 returns-clause-fault g c =
-    let read = c.in-Ok.ensures.right in
-    let tapes = c.deref.result.now in
-    let few : c.args.slots ≤ 65535 = omega (arith, c.ranges.slots.fits) in
-    let taken = taken_of_run c.session_laws.ensures.shown read.input c.in-Ok.book c.args.slots 1 tapes
-    c.in-Err-write_tapes.fault.written _ _ few read.meant
-    (subst (AreTapesOf c.in-Ok.book c.args.slots 1) (sym c.deref.ensures.value) c.in_ok-tapes.ensures.ok)
-    c.in-Err-write_tapes.ensures.err in record {
-      input = read.input;
-      output = joined tapes;
-      read = read.consumed;
-      ended = read.ended;
-      meant = compiled c.session_laws.ensures.one c.run_laws.ensures c.order_laws.ensures read.input c.in-Ok.book
-          c.args.slots tapes few read.meant
-          (subst (AreTapesOf c.in-Ok.book c.args.slots 1) (sym c.deref.ensures.value)
-          c.in_ok-tapes.ensures.ok);
-      whole = taken.whole;
-      under_way = taken.under_way;
-      some_left = taken.some_left;
-      front = taken.front;
-    }
-
-pub returns-in_err-tapes-clause-fault : goal.returns-in_err-tapes-clause-fault
-returns-in_err-tapes-clause-fault g c =
-    let read = c.in-Ok.ensures.right in
-    let whole : ReadsBook _ _ = record {
-      input = read.input;
-      book = c.in-Ok.book;
-      read = read.consumed;
-      ended = read.ended;
-      is_book = read.meant;
-    } in
-    let fault = fault_of_run c.args.slots 1 (IsCompiled c.args.slots) _ _ _ _ c.in-Ok.book c.in_err-tapes.field-0.0
-    whole refl
-    c.in_err-tapes.ensures.err (Keeps-refl _) in
-    let is : c.from_residual.result ≡ Err c.in_err-tapes.field-0.0 = search (rules, c.from_residual.ensures) in
-    where_it_is _ c.from_residual.result c.in_err-tapes.field-0.0 is fault
+    IfErr-weaker c.live_stream.result _ _ (fault_by_one c.session_laws.ensures.one c.args.slots _ _ _ _)
+    c.live_stream.ensures.fault

@@ -7,5 +7,5 @@ invariant-loop g l = record {
   of : IsSeatOf l.counter-2 l.first;
   spare : l.first.spare + l.counter ≡ 64;
   each : All (λ player. IsSeatOf l.counter-2 player.seat) l.players.items;
-  few : l.counter ≤ l.workers;
+  few : l.counter ≤ l.count;
 }
