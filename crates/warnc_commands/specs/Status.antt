@@ -56,9 +56,9 @@ abbrev pub IsNoBook : (input : List ℕ) → Type 0
 IsNoBook input = (max_input < length input)
     ⊎ ((f : BookFault) × IsWrong input f × (status_of_book_fault f ≡ 1))
 
--- or the input is a book, whose run, of so many slots and with so many sessions, the desk ends: it finds the book of
--- another cell in a lock, or isn't settled. What a lock of the desk holds is known by its type alone, so no contract
--- excludes it
+-- or the input is a book, whose run, of so many slots and with so many sessions, ends early: the desk finds the book of
+-- another cell in a lock, or isn't settled, or a tape isn't its record's. What a lock of the desk holds, and what a
+-- worker sends, is known by its type alone, so no contract excludes it
 abbrev pub IsNoRun : (slots parts : ℕ) (input : List ℕ) → Type 0
 IsNoRun slots parts input = IsNoBook input
     ⊎ ((book : Contents) × IsBook input book × ((fault : RunFault) × StopsRun book slots parts fault))

@@ -1,6 +1,6 @@
 //! The command line: which words are taken, and what they mean.
 
-ghost use Rattle.std.specs.Prelude.{◌≡◌, IfOk, IfSome, codes, map, slice_get};
+ghost use Rattle.std.specs.Prelude.{◌≡◌, ◌⊎◌, false, IfOk, IfSome, codes, map, slice_get};
 ghost use Rattle.warnc_commands.specs.CommandLine.{asks_for_text, begins_with, is_given, is_text_word, GivesNumber};
 ghost use Rattle.warnc_commands.specs.CommandLine.{GivesSlots, GivesThreads, GivesValue, IsPageOrder};
 ghost use Rattle.warnc_commands.specs.RunSteps.{IsOrdered};
@@ -9,6 +9,7 @@ use cbs_page::Serial;
 use clap::{Arg, Command, Error, value_parser};
 use std::alloc::{AllocError, Global};
 use std::convert::AsStr;
+use warnc_compile::{Sessions, Workers};
 
 /// The options of `page`: the language's word, the message identifier and the serial number.
 #[derive(Clone, Copy, Debug, PartialEq, Eq)]
@@ -35,24 +36,24 @@ pub enum Order<'a> {
     Compile {
         /// How many slots each cell's run has, at least 1.
         slots: u16,
-        /// How many workers there are, 1 to 64.
-        workers: u16,
+        /// How many workers play the cells.
+        workers: Workers,
     },
     /// `report`.
     Report {
         /// How many slots each cell's run has, at least 1.
         slots: u16,
-        /// How many workers there are, 1 to 64.
-        workers: u16,
+        /// How many workers play the cells and make their tapes.
+        workers: Workers,
     },
     /// `live`.
     Live {
         /// How many slots each cell's run has, at least 1.
         slots: u16,
-        /// How many sessions there are, 1 to 64.
-        sessions: u16,
-        /// How many workers there are, 1 to 64.
-        workers: u16,
+        /// How many sessions order side by side.
+        sessions: Sessions,
+        /// How many workers play the cells.
+        workers: Workers,
     },
 }
 
@@ -82,16 +83,16 @@ fn order_in<'a, S: AsStr>(words: &'a [S]) -> Option<Order<'a>>
         "read" => Some(Order::Read),
         "compile" => Some(Order::Compile {
             slots: slots_in(words)?,
-            workers: threads_in(words, "--workers")?,
+            workers: workers_in(words)?,
         }),
         "report" => Some(Order::Report {
             slots: slots_in(words)?,
-            workers: threads_in(words, "--workers")?,
+            workers: workers_in(words)?,
         }),
         "live" => Some(Order::Live {
             slots: slots_in(words)?,
-            sessions: threads_in(words, "--sessions")?,
-            workers: threads_in(words, "--workers")?,
+            sessions: sessions_in(words)?,
+            workers: workers_in(words)?,
         }),
         _ => None,
     }
@@ -123,18 +124,31 @@ fn slots_in<S: AsStr>(words: &[S]) -> Option<u16>
     Some(slots)
 }
 
-/// The number, 1 to 64, that the words give the option of this name; 1 if they give none.
-fn threads_in<S: AsStr>(words: &[S], name: &str) -> Option<u16>
-    ensures { IfSome result (GivesThreads (map S.text words.now) name.now) }
+/// The number of workers that the words give, 1 if they give none.
+fn workers_in<S: AsStr>(words: &[S]) -> Option<Workers>
+    ensures { IfSome result (λ workers.
+        GivesThreads (map S.text words.now) (codes "--workers") workers.number) }
+{
+    Workers::new(u64::from(number_or_one(words, "--workers")?))
+}
+
+/// The number of sessions that the words give, 1 if they give none.
+fn sessions_in<S: AsStr>(words: &[S]) -> Option<Sessions>
+    ensures { IfSome result (λ sessions.
+        GivesThreads (map S.text words.now) (codes "--sessions") sessions.number) }
+{
+    Sessions::new(number_or_one(words, "--sessions")?)
+}
+
+/// The number that the words give the option of this name; 1 if they give none.
+fn number_or_one<S: AsStr>(words: &[S], name: &str) -> Option<u16>
+    ensures { IfSome result (λ number. GivesNumber (map S.text words.now) name.now number
+        ⊎ ((is_given (map S.text words.now) name.now ≡ false) × (number ≡ 1))) }
 {
     if !is_given(words, name) {
         return Some(1);
     }
-    let number = number_of(words, name)?;
-    if number == 0 || number > 64 {
-        return None;
-    }
-    Some(number)
+    number_of(words, name)
 }
 
 /// Whether a word begins with the name of an option.

@@ -4,3 +4,4 @@
 
 mod command;
 pub mod run;
+pub mod status;

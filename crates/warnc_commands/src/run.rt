@@ -10,44 +10,24 @@ ghost use Rattle.warnc_compile.specs.Live.{IsLive};
 ghost use Rattle.warnc_compile.specs.Reported.{IsReported};
 ghost use Rattle.warnc_engine.specs.PageOutput.{IsPageOutput};
 ghost use Rattle.warnc_engine.specs.ReadOutput.{IsReadOutput};
-ghost use Rattle.warnc_commands.specs.RunSteps.{status_of_read_fault, status_of_report_fault, status_of_run_fault};
 ghost use Rattle.warnc_commands.specs.RunSteps.{IsRunBetween, IsStatusOfSink};
-ghost use Rattle.warnc_commands.specs.Status.{status_of_book_fault, status_of_page_fault, IsNoRun, IsNoTapes};
-ghost use Rattle.warnc_commands.specs.Status.{IsRefused, OneHasFailed, RefusesInput};
-ghost use Rattle.warnc_commands.specs.Status.{WritesSome, WroteWhatIsAsked};
+ghost use Rattle.warnc_commands.specs.Status.{IsNoRun, IsNoTapes, IsRefused, OneHasFailed, RefusesInput, WritesSome};
+ghost use Rattle.warnc_commands.specs.Status.{WroteWhatIsAsked};
 
 use crate::command::{Order, PageOptions, asks_for_text, order_of};
-use alert_book::{BookFault, BookFaultKind};
-use cbs_page::TextFault;
+use crate::status::{DEVICE, DONE, MEMORY, REFUSED_INPUT, USAGE, failed};
 use clap::Error;
 use clap::error::ErrorKind;
 use device_ends::{Sink, Source, write_all};
-use order_desk::{DeskFault, Open, SettleFault};
-use parallel_compile::CompileFault;
-use report::ReportFault;
+use order_desk::Open;
 use std::alloc::{AllocGlobal, Global};
 use std::convert::AsStr;
 use std::io::{Read, Write};
 use std::sync::Wait;
 use std::thread::Threads;
-use warnc_compile::{ReportRunFault, RunFault, compile_stream, live_stream, report_stream};
-use warnc_engine::page::{PageFault, page_stream};
-use warnc_engine::read::{ReadCommandFault, read_stream};
-
-/// All was done, or help was written.
-pub const DONE: u8 = 0;
-
-/// The input is refused.
-pub const REFUSED_INPUT: u8 = 1;
-
-/// The words are no command line.
-pub const USAGE: u8 = 2;
-
-/// A device failed.
-pub const DEVICE: u8 = 3;
-
-/// There was no memory.
-pub const MEMORY: u8 = 4;
+use warnc_compile::{Sessions, Workers, compile_stream, live_stream, report_stream};
+use warnc_engine::page::page_stream;
+use warnc_engine::read::read_stream;
 
 /// Runs the command that the words ask for (the first is the program's name), from a reader to a writer, and returns
 /// the status: 0 done, 1 refused input, 2 command line, 3 device, 4 memory. A fault is one line for `faults`, `warnc: `
@@ -145,22 +125,7 @@ fn run_page<R: Read, W: Write, F: Write>(
         options.serial,
     ) {
         Ok(()) => DONE,
-        Err(fault) => {
-            let _ = writeln!(faults, "warnc: {fault}");
-            status_of_page(fault)
-        }
-    }
-}
-
-/// The status of a fault of `page`.
-fn status_of_page(fault: PageFault) -> u8
-    ensures { result ≡ status_of_page_fault fault }
-{
-    match fault {
-        PageFault::TooLong | PageFault::NotUtf8 => REFUSED_INPUT,
-        PageFault::Text(TextFault::Refused) | PageFault::Refused => MEMORY,
-        PageFault::Text(_) => REFUSED_INPUT,
-        PageFault::ReadFailed | PageFault::WriteFailed => DEVICE,
+        Err(fault) => failed(&fault, faults),
     }
 }
 
@@ -180,21 +145,7 @@ fn run_read<R: Read, W: Write, F: Write>(
 {
     match read_stream(alloc, source, sink) {
         Ok(()) => DONE,
-        Err(fault) => {
-            let _ = writeln!(faults, "warnc: {fault}");
-            status_of_read(fault)
-        }
-    }
-}
-
-/// The status of a fault of `read`.
-fn status_of_read(fault: ReadCommandFault) -> u8
-    ensures { result ≡ status_of_read_fault fault }
-{
-    match fault {
-        ReadCommandFault::Short | ReadCommandFault::Long => REFUSED_INPUT,
-        ReadCommandFault::ReadFailed | ReadCommandFault::WriteFailed => DEVICE,
-        ReadCommandFault::Refused => MEMORY,
+        Err(fault) => failed(&fault, faults),
     }
 }
 
@@ -202,25 +153,20 @@ fn status_of_read(fault: ReadCommandFault) -> u8
 fn run_compile<T: AllocGlobal + Threads + Wait + Sync, R: Read, W: Write, F: Write>(
     rt: &T,
     slots: u16,
-    workers: u16,
+    workers: Workers,
     source: &mut Source<R>,
     sink: &mut Sink<W>,
     faults: &mut F,
 ) -> u8
-    requires some_workers { 0 < workers }
-    requires few_workers { workers ≤ 64 }
     ensures done { result ≡ DONE → WritesOutput (IsCompiled slots)
         (R.remaining (reader_of source.old)) (W.contents (writer_of sink.old)) (W.contents (writer_of sink.new)) }
     ensures any_device { IsRunBetween result source.new sink.old sink.new
         (W.contents (writer_of sink.old)) (W.contents (writer_of sink.new)) }
     ensures refused { result ≡ REFUSED_INPUT → IfSome (R.remaining (reader_of source.old)) (IsNoRun slots 1) }
 {
-    match compile_stream(rt, source, sink, slots, u64::from(workers)) {
+    match compile_stream(rt, source, sink, slots, workers.number) {
         Ok(()) => DONE,
-        Err(fault) => {
-            let _ = writeln!(faults, "warnc: {fault}");
-            status_of_run(fault)
-        }
+        Err(fault) => failed(&fault, faults),
     }
 }
 
@@ -228,29 +174,22 @@ fn run_compile<T: AllocGlobal + Threads + Wait + Sync, R: Read, W: Write, F: Wri
 fn run_live<T: AllocGlobal + Threads + Wait + Sync, R: Read, W: Write, F: Write>(
     rt: &T,
     slots: u16,
-    sessions: u16,
-    workers: u16,
+    sessions: Sessions,
+    workers: Workers,
     source: &mut Source<R>,
     sink: &mut Sink<W>,
     faults: &mut F,
 ) -> u8
-    requires some { 0 < sessions }
-    requires few { sessions ≤ 64 }
-    requires some_workers { 0 < workers }
-    requires few_workers { workers ≤ 64 }
-    ensures done { result ≡ DONE → WritesOutput (IsLive slots sessions)
+    ensures done { result ≡ DONE → WritesOutput (IsLive slots sessions.number)
         (R.remaining (reader_of source.old)) (W.contents (writer_of sink.old)) (W.contents (writer_of sink.new)) }
     ensures any_device { IsRunBetween result source.new sink.old sink.new
         (W.contents (writer_of sink.old)) (W.contents (writer_of sink.new)) }
     ensures refused { result ≡ REFUSED_INPUT → IfSome (R.remaining (reader_of source.old))
-        (IsNoRun slots sessions) }
+        (IsNoRun slots sessions.number) }
 {
-    match live_stream(rt, source, sink, slots, sessions, u64::from(workers), &Open) {
+    match live_stream(rt, source, sink, slots, sessions.number, workers.number, &Open) {
         Ok(()) => DONE,
-        Err(fault) => {
-            let _ = writeln!(faults, "warnc: {fault}");
-            status_of_run(fault)
-        }
+        Err(fault) => failed(&fault, faults),
     }
 }
 
@@ -258,13 +197,11 @@ fn run_live<T: AllocGlobal + Threads + Wait + Sync, R: Read, W: Write, F: Write>
 fn run_report<T: AllocGlobal + Threads + Wait + Sync, R: Read, W: Write, F: Write>(
     rt: &T,
     slots: u16,
-    workers: u16,
+    workers: Workers,
     source: &mut Source<R>,
     sink: &mut Sink<W>,
     faults: &mut F,
 ) -> u8
-    requires some_workers { 0 < workers }
-    requires few_workers { workers ≤ 64 }
     ensures done { result ≡ DONE → WritesOutput (IsReported slots)
         (R.remaining (reader_of source.old)) (W.contents (writer_of sink.old)) (W.contents (writer_of sink.new)) }
     ensures any_device { IsRunBetween result source.new sink.old sink.new
@@ -272,52 +209,9 @@ fn run_report<T: AllocGlobal + Threads + Wait + Sync, R: Read, W: Write, F: Writ
     ensures wrote { result ≡ DONE → WritesSome (W.contents (writer_of sink.old)) (W.contents (writer_of sink.new)) }
     ensures refused { result ≡ REFUSED_INPUT → IfSome (R.remaining (reader_of source.old)) (IsNoRun slots 1) }
 {
-    match report_stream(rt, source, sink, slots, u64::from(workers)) {
+    match report_stream(rt, source, sink, slots, workers.number) {
         Ok(()) => DONE,
-        Err(ReportRunFault::Run(fault)) => {
-            let _ = writeln!(faults, "warnc: {fault}");
-            status_of_run(fault)
-        }
-        Err(ReportRunFault::Report(fault)) => {
-            let _ = writeln!(faults, "warnc: {fault}");
-            status_of_report(fault)
-        }
-    }
-}
-
-/// The status of a fault of a report after its run.
-fn status_of_report(fault: ReportFault) -> u8
-    ensures { result ≡ status_of_report_fault fault }
-{
-    match fault {
-        ReportFault::Cells => REFUSED_INPUT,
-        ReportFault::WriteFailed => DEVICE,
-        ReportFault::Refused => MEMORY,
-    }
-}
-
-/// The status of a fault of a run, of `compile`, of `live` or of `report`.
-fn status_of_run(fault: RunFault) -> u8
-    ensures { result ≡ status_of_run_fault fault }
-{
-    match fault {
-        RunFault::Book(fault) => status_of_book(fault),
-        RunFault::Write(_) => DEVICE,
-        RunFault::Desk(DeskFault::Memory { .. }) => MEMORY,
-        RunFault::Settle(SettleFault::Refused) => MEMORY,
-        RunFault::Compile(CompileFault::Refused) | RunFault::Refused => MEMORY,
-        RunFault::Desk(_) | RunFault::Settle(_) | RunFault::Compile(_) => REFUSED_INPUT,
-    }
-}
-
-/// The status of a fault of a book.
-fn status_of_book(fault: BookFault) -> u8
-    ensures { result ≡ status_of_book_fault fault }
-{
-    match fault.kind {
-        BookFaultKind::ReadFailed if fault.row == 0 => DEVICE,
-        BookFaultKind::Refused | BookFaultKind::Text(TextFault::Refused) => MEMORY,
-        _ => REFUSED_INPUT,
+        Err(fault) => failed(&fault, faults),
     }
 }
 
