@@ -1,4 +1,4 @@
-//! Compiling with hardly any memory: each allocation is refused once, and nothing is written then.
+//! Compiling with hardly any memory: each allocation is refused, and nothing is written then.
 
 use crate::bench::Call;
 use crate::gate::Meeting;
@@ -19,8 +19,10 @@ use warnc_compile::RunFault;
 const BOOK: &str =
     "cell,1,1\nwrite,0,a,4370,0,1,en,2,2,0,1-1,One\nupdate,1,a,en,2,2,0,*,Two\nstop,2,a,1-1\n";
 
-/// How many octets each block of the memory has that is given back.
+/// How many octets each block of the memory has that is given back, and how many blocks there are: more than a run
+/// takes beside its threads.
 const BLOCK: usize = 512;
+const BLOCKS: u16 = 120;
 
 /// Whether a fault says that there was no memory.
 fn is_memory(fault: RunFault) -> bool {
@@ -51,17 +53,17 @@ fn left_by<T: AllocGlobal + Abort + Threads + Wait + Sync>(rt: &T, call: Call) -
     }
 }
 
-/// 400 blocks of memory.
+/// Blocks of memory.
 fn spare_blocks(alloc: Global) -> Result<Vec<Vec<u8>>, Fail> {
-    let mut spare = Vec::with_capacity(alloc, 400)?;
-    for _ in 0..400 {
+    let mut spare = Vec::with_capacity(alloc, usize::from(BLOCKS))?;
+    for _ in 0..BLOCKS {
         spare.push(Vec::with_capacity(alloc, BLOCK)?)?;
     }
     Ok(spare)
 }
 
-/// Makes a call again and again, with one block of memory more each time, until a tape is written. Before that more
-/// than six calls are refused memory.
+/// Makes a call again and again, with one block of memory more each time. Each is refused memory, at the latest that of
+/// a thread, which no block has room for. With ample memory a tape is written.
 fn expect_refusals<T: AllocGlobal + Abort + Threads + Wait + Sync>(
     rt: &T,
     verb: &str,
@@ -71,17 +73,17 @@ fn expect_refusals<T: AllocGlobal + Abort + Threads + Wait + Sync>(
     let mut spare = spare_blocks(rt.alloc())?;
     let mut taken = Vec::with_capacity(rt.alloc(), 100_000)?;
     take_all(rt.alloc(), &mut taken);
-    for refused in 0..400 {
-        if let Some(left) = left_by(rt, call) {
-            taken.clear();
-            assert_eq!(rt; left, 116);
-            assert!(rt; refused > 6);
-            return Ok(());
+    let mut refused = 0_u16;
+    for _ in 0..BLOCKS {
+        if left_by(rt, call).is_some() {
+            break;
         }
+        refused = refused.saturating_add(1);
         let _ = spare.pop();
     }
     taken.clear();
-    assert!(rt; false, "no tape with 200 KB");
+    assert_eq!(rt; refused, BLOCKS);
+    assert_eq!(rt; left_by(rt, call), Some(116));
     Ok(())
 }
 
