@@ -187,7 +187,15 @@ fn run_live<T: AllocGlobal + Threads + Wait + Sync, R: Read, W: Write, F: Write>
     ensures refused { result ≡ REFUSED_INPUT → IfSome (R.remaining (reader_of source.old))
         (IsNoRun slots sessions.number) }
 {
-    match live_stream(rt, source, sink, slots, sessions.number, workers.number, &Open) {
+    match live_stream(
+        rt,
+        source,
+        sink,
+        slots,
+        sessions.number,
+        workers.number,
+        &Open,
+    ) {
         Ok(()) => DONE,
         Err(fault) => failed(&fault, faults),
     }

@@ -19,9 +19,10 @@ use warnc_compile::RunFault;
 const BOOK: &str =
     "cell,1,1\nwrite,0,a,4370,0,1,en,2,2,0,1-1,One\nupdate,1,a,en,2,2,0,*,Two\nstop,2,a,1-1\n";
 
-/// How many octets each block of the memory has that is given back, and how many blocks there are: more than a run
-/// takes beside its threads.
+/// How many octets each block of the memory has that is given back.
 const BLOCK: usize = 512;
+
+/// How many blocks there are: more than a run takes beside its threads.
 const BLOCKS: u16 = 120;
 
 /// Whether a fault says that there was no memory.
