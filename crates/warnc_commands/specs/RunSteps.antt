@@ -17,8 +17,6 @@ use Rattle.parallel_compile.specs.declared.fault.CompileFault.{CompileFault}
 use Rattle.parallel_compile.specs.declared.fault.CompileFault.TheVariants as compile
 use Rattle.warnc_compile.specs.declared.fault.RunFault.{RunFault}
 use Rattle.warnc_compile.specs.declared.fault.RunFault.TheVariants as run
-use Rattle.warnc_compile.specs.declared.report_run.ReportRunFault.{ReportRunFault}
-use Rattle.warnc_compile.specs.declared.report_run.ReportRunFault.TheVariants as reports
 use Rattle.report.specs.declared.fault.ReportFault.{ReportFault}
 use Rattle.report.specs.declared.fault.ReportFault.TheVariants as report
 use Rattle.warnc_engine.specs.declared.read.ReadCommandFault.{ReadCommandFault}
@@ -69,11 +67,6 @@ abbrev pub status_of_report_fault : ReportFault → ℕ
 status_of_report_fault report.Cells = 1
 status_of_report_fault report.WriteFailed = 3
 status_of_report_fault report.Refused = 4
-
--- the status of a fault of `report`: that of the run's fault, or of the report's
-abbrev pub status_of_report_run : ReportRunFault → ℕ
-status_of_report_run (reports.Run f) = status_of_run_fault f
-status_of_report_run (reports.Report f) = status_of_report_fault f
 
 -- what a status says of a sink: `old` and `new` are the sink before and after, and `before` and `after` what its writer
 -- holds

@@ -25,7 +25,9 @@ use std::convert::AsStr;
 use std::io::{Read, Write};
 use std::sync::Wait;
 use std::thread::Threads;
-use warnc_compile::{Sessions, Workers, compile_stream, live_stream, report_stream};
+use warnc_compile::{
+    ReportRunFault, Sessions, Workers, compile_stream, live_stream, report_stream,
+};
 use warnc_engine::page::page_stream;
 use warnc_engine::read::read_stream;
 
@@ -219,7 +221,8 @@ fn run_report<T: AllocGlobal + Threads + Wait + Sync, R: Read, W: Write, F: Writ
 {
     match report_stream(rt, source, sink, slots, workers.number) {
         Ok(()) => DONE,
-        Err(fault) => failed(&fault, faults),
+        Err(ReportRunFault::Run(fault)) => failed(&fault, faults),
+        Err(ReportRunFault::Report(fault)) => failed(&fault, faults),
     }
 }
 

@@ -1,8 +1,7 @@
 //! The statuses of a run, and which fault ends one with which status.
 
 ghost use Rattle.std.specs.Prelude.{◌≡◌, ℕ};
-ghost use Rattle.warnc_commands.specs.RunSteps.{status_of_read_fault, status_of_report_fault, status_of_report_run};
-ghost use Rattle.warnc_commands.specs.RunSteps.{status_of_run_fault};
+ghost use Rattle.warnc_commands.specs.RunSteps.{status_of_read_fault, status_of_report_fault, status_of_run_fault};
 ghost use Rattle.warnc_commands.specs.Status.{status_of_book_fault, status_of_page_fault};
 
 use alert_book::{BookFault, BookFaultKind};
@@ -12,7 +11,7 @@ use parallel_compile::CompileFault;
 use report::ReportFault;
 use std::fmt::Display;
 use std::io::Write;
-use warnc_compile::{ReportRunFault, RunFault};
+use warnc_compile::RunFault;
 use warnc_engine::page::PageFault;
 use warnc_engine::read::ReadCommandFault;
 
@@ -90,15 +89,14 @@ impl Fault for RunFault {
     }
 }
 
-impl Fault for ReportRunFault {
-    ghost status_of = { status_of_report_run };
+impl Fault for ReportFault {
+    ghost status_of = { status_of_report_fault };
 
     fn status(&self) -> u8 {
         match *self {
-            ReportRunFault::Run(fault) => fault.status(),
-            ReportRunFault::Report(ReportFault::Cells) => REFUSED_INPUT,
-            ReportRunFault::Report(ReportFault::WriteFailed) => DEVICE,
-            ReportRunFault::Report(ReportFault::Refused) => MEMORY,
+            ReportFault::Cells => REFUSED_INPUT,
+            ReportFault::WriteFailed => DEVICE,
+            ReportFault::Refused => MEMORY,
         }
     }
 }
