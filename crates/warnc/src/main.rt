@@ -6,7 +6,7 @@ ghost use Rattle.std.specs.Prelude.{◌≡◌, ◌⊎◌, IfErr};
 use std::io::Write;
 use std::process::ExitCode;
 use std::{env, io};
-use warnc_commands::run::{MEMORY, USAGE, run};
+use warnc_cli::run::{MEMORY, USAGE, run};
 
 fn main(rt: HostRuntime) -> ExitCode {
     let status = match words_of(&rt) {

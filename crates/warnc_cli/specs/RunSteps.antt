@@ -1,0 +1,90 @@
+-- Steps of a run (own): what an order that was read is, and what a status says of the two ends. The contracts of
+-- private functions alone speak of it.
+use Rattle.std.specs.Prelude.{◌≡◌, ◌≢◌, ℕ, ◌≤◌, false, List, Option}
+use Rattle.std.specs.Io.KnownBytes.{Keeps}
+use Rattle.device_ends.specs.Sink.{sink_failed}
+use Rattle.device_ends.specs.declared.reading.Source.{Source}
+use Rattle.device_ends.specs.declared.writing.Sink.{Sink}
+use Rattle.warnc_cli.specs.CommandLine.{IsCompileOrder, IsLiveOrder, IsPageOrder, IsReadOrder, IsReportOrder}
+use Rattle.warnc_cli.specs.Status.{OneHasFailed, status_of_book_fault}
+use Rattle.warnc_cli.specs.declared.command.Order.{Order}
+use Rattle.warnc_cli.specs.declared.command.Order.TheVariants.{Compile, Live, Page, Read, Report}
+use Rattle.order_desk.specs.declared.fault.DeskFault.{DeskFault}
+use Rattle.order_desk.specs.declared.fault.DeskFault.TheVariants as desk
+use Rattle.order_desk.specs.declared.settle.SettleFault.{SettleFault}
+use Rattle.order_desk.specs.declared.settle.SettleFault.TheVariants as settle
+use Rattle.parallel_compile.specs.declared.fault.CompileFault.{CompileFault}
+use Rattle.parallel_compile.specs.declared.fault.CompileFault.TheVariants as compile
+use Rattle.warnc_run.specs.declared.fault.RunFault.{RunFault}
+use Rattle.warnc_run.specs.declared.fault.RunFault.TheVariants as run
+use Rattle.report.specs.declared.fault.ReportFault.{ReportFault}
+use Rattle.report.specs.declared.fault.ReportFault.TheVariants as report
+use Rattle.warnc_inspect.specs.declared.read.ReadCommandFault.{ReadCommandFault}
+use Rattle.warnc_inspect.specs.declared.read.ReadCommandFault.TheVariants as table
+
+-- the words ask for what `order` says
+abbrev pub IsOrdered : (words : List (List ℕ)) → Order → Type 0
+IsOrdered words (Page options) = IsPageOrder words options.language.now options.id options.serial
+IsOrdered words Read = IsReadOrder words
+IsOrdered words (Compile slots workers) = IsCompileOrder words slots workers.number
+IsOrdered words (Report slots workers) = IsReportOrder words slots workers.number
+IsOrdered words (Live slots sessions workers) = IsLiveOrder words slots sessions.number workers.number
+
+-- the status of a fault of `read`: 1 if the input is refused, 3 if a device failed, 4 if there was no memory
+abbrev pub status_of_read_fault : ReadCommandFault → ℕ
+status_of_read_fault table.Short = 1
+status_of_read_fault table.Long = 1
+status_of_read_fault table.ReadFailed = 3
+status_of_read_fault table.Refused = 4
+status_of_read_fault table.WriteFailed = 3
+
+-- the status of a fault of the desk and of its settlement: 4 if there was no memory, else 1
+abbrev pub status_of_desk_fault : DeskFault → ℕ
+status_of_desk_fault (desk.Memory done) = 4
+status_of_desk_fault other = 1
+
+abbrev pub status_of_settle_fault : SettleFault → ℕ
+status_of_settle_fault settle.Refused = 4
+status_of_settle_fault other = 1
+
+-- the status of a fault of workers: 4 if there was no memory, else 1
+abbrev pub status_of_compile_fault : CompileFault → ℕ
+status_of_compile_fault compile.Refused = 4
+status_of_compile_fault other = 1
+
+-- the status of a fault of a run: that of the book's fault, of the desk's, of the settlement's or of
+-- the workers', 3 if the writer failed, 4 if there was no memory
+abbrev pub status_of_run_fault : RunFault → ℕ
+status_of_run_fault (run.Book f) = status_of_book_fault f
+status_of_run_fault (run.Desk f) = status_of_desk_fault f
+status_of_run_fault (run.Settle f) = status_of_settle_fault f
+status_of_run_fault (run.Compile f) = status_of_compile_fault f
+status_of_run_fault (run.Write failed) = 3
+status_of_run_fault run.Refused = 4
+
+-- the status of a fault of a report after its run
+abbrev pub status_of_report_fault : ReportFault → ℕ
+status_of_report_fault report.Cells = 1
+status_of_report_fault report.WriteFailed = 3
+status_of_report_fault report.Refused = 4
+
+-- what a status says of a sink: `old` and `new` are the sink before and after, and `before` and `after` what its writer
+-- holds
+pub record IsStatusOfSink {W : Type 0} (status : ℕ) (old new : Sink W) (before after : Option (List ℕ)) : Type 0 where
+  -- there are five statuses
+  pub statuses : status ≤ 4
+  -- with 1, 2 and 4 nothing was
+  pub nothing_written : status ≢ 0 → status ≢ 3 → Keeps before after
+  -- and the sink is as it was
+  pub untouched : status ≢ 0 → status ≢ 3 → new ≡ old
+
+-- what the status of a command that was understood says of both ends. The source is that after the run
+pub record IsRunBetween {R W : Type 0} (status : ℕ) (source : Source R) (old new : Sink W)
+    (before after : Option (List ℕ)) : Type 0 where
+  pub sink : IsStatusOfSink status old new before after
+  -- it is no mistake of the words
+  pub understood : status ≢ 2
+  -- it is 3 only if one of the ends has failed
+  pub device : status ≡ 3 → OneHasFailed source new
+  -- and always if one has, if the sink had not failed before
+  pub failed : sink_failed old ≡ false → OneHasFailed source new → status ≡ 3

@@ -1,0 +1,165 @@
+-- The program's statuses. Own.
+use Rattle.std.specs.Prelude.{◌≡◌, ℕ, ◌<◌, ◌==◌, ◌⊎◌, true, if◌then◌else◌, List, length, Option, IfSome}
+use Rattle.std.specs.Io.KnownBytes.{Appends}
+use Rattle.device_ends.specs.Moves.{WritesOutput}
+use Rattle.device_ends.specs.Sink.{sink_failed}
+use Rattle.device_ends.specs.Source.{source_failed}
+use Rattle.device_ends.specs.declared.reading.Source.{Source}
+use Rattle.device_ends.specs.declared.writing.Sink.{Sink}
+use Rattle.handset.specs.Tape.{IsShort, IsLong}
+use Rattle.alert_book.specs.Book.{Contents, IsBook, IsWrong, max_input}
+use Rattle.alert_book.specs.declared.fault.BookFault.{BookFault}
+use Rattle.alert_book.specs.declared.fault.BookFaultKind.{BookFaultKind}
+use Rattle.alert_book.specs.declared.fault.BookFaultKind.TheVariants as kinds
+use Rattle.warnc_cli.specs.CommandLine.{asks_for_text, IsCompileOrder, IsLiveOrder, IsPageOrder, IsReadOrder}
+use Rattle.warnc_cli.specs.CommandLine.{IsReportOrder}
+use Rattle.warnc_run.specs.declared.fault.RunFault.{RunFault}
+use Rattle.warnc_run.specs.Compiled.{IsCompiled, StopsRun}
+use Rattle.warnc_run.specs.Live.{IsLive}
+use Rattle.warnc_run.specs.Reported.{IsReported}
+use Rattle.warnc_inspect.specs.PageOutput.{IsPageFault, IsPageOutput}
+use Rattle.warnc_inspect.specs.ReadOutput.{IsReadOutput}
+use Rattle.cbs_page.specs.declared.paging.TextFault.TheVariants as text
+use Rattle.warnc_inspect.specs.declared.page.PageFault.{PageFault}
+use Rattle.warnc_inspect.specs.declared.page.PageFault.TheVariants as fault
+
+-- 1 if the input is refused, 3 if a device failed, 4 if there was no memory
+abbrev pub status_of_page_fault : PageFault → ℕ
+status_of_page_fault fault.ReadFailed = 3
+status_of_page_fault fault.TooLong = 1
+status_of_page_fault fault.NotUtf8 = 1
+status_of_page_fault (fault.Text text.Refused) = 4
+status_of_page_fault (fault.Text _) = 1
+status_of_page_fault fault.Refused = 4
+status_of_page_fault fault.WriteFailed = 3
+
+-- the same of a fault of a book; the reader's fault names no row
+abbrev pub status_of_book_kind : (row : ℕ) → BookFaultKind → ℕ
+status_of_book_kind row kinds.ReadFailed = if row == 0 then 3 else 1
+status_of_book_kind row kinds.Refused = 4
+status_of_book_kind row (kinds.Text text.Refused) = 4
+status_of_book_kind row other = 1
+
+abbrev pub status_of_book_fault : BookFault → ℕ
+status_of_book_fault f = status_of_book_kind f.row f.kind
+
+-- the input is refused: a text of this language has a fault of status 1
+abbrev pub IsRefused : (language input : List ℕ) → Type 0
+IsRefused language input = (fault : PageFault) × IsPageFault language input fault × (status_of_page_fault fault ≡ 1)
+
+-- the input is refused: it is no whole tapes
+abbrev pub IsNoTapes : (input : List ℕ) → Type 0
+IsNoTapes input = IsShort input ⊎ IsLong input
+
+-- the input is refused: it has more octets than a book may have, or a row or a text of it has a fault of status 1
+abbrev pub IsNoBook : (input : List ℕ) → Type 0
+IsNoBook input = (max_input < length input)
+    ⊎ ((f : BookFault) × IsWrong input f × (status_of_book_fault f ≡ 1))
+
+-- or the input is a book, whose run, of so many slots and with so many sessions, ends early: the desk finds the book of
+-- another cell in a lock, or isn't settled, or a tape isn't its record's. What a lock of the desk holds, and what a
+-- worker sends, is known by its type alone, so no contract excludes it
+abbrev pub IsNoRun : (slots parts : ℕ) (input : List ℕ) → Type 0
+IsNoRun slots parts input = IsNoBook input
+    ⊎ ((book : Contents) × IsBook input book × ((fault : RunFault) × StopsRun book slots parts fault))
+
+-- something was written
+abbrev pub WritesSome : (old new : Option (List ℕ)) → Type 0
+WritesSome old new = (output : List ℕ) × (0 < length output) × Appends old new output
+
+-- What status 0 says: `input` is what the reader had left, if that is known, and `old` and `new` are what the writer
+-- held before and after.
+
+-- the words ask for help or for the version, and something was written
+pub record WroteText (words : List (List ℕ)) (old new : Option (List ℕ)) : Type 0 where
+  pub asked : asks_for_text words ≡ true
+  pub wrote : WritesSome old new
+
+-- the words ask for `page`, and what was written is what `page` makes of the input with the options that the words give
+pub record WrotePages (words : List (List ℕ)) (input old new : Option (List ℕ)) : Type 0 where
+  pub language : List ℕ
+  pub id : ℕ
+  pub serial : ℕ
+  pub asked : IsPageOrder words language id serial
+  pub wrote : WritesOutput (IsPageOutput language id serial) input old new
+
+-- the words ask for `read`, and what was written is the table of what the tapes show
+pub record WroteTable (words : List (List ℕ)) (input old new : Option (List ℕ)) : Type 0 where
+  pub asked : IsReadOrder words
+  pub wrote : WritesOutput IsReadOutput input old new
+
+-- the words ask for `compile`, and what was written is the tapes of the book's cells, in runs of as many slots as the
+-- words say, whatever the number of workers
+pub record WroteTapes (words : List (List ℕ)) (input old new : Option (List ℕ)) : Type 0 where
+  pub slots : ℕ
+  pub workers : ℕ
+  pub asked : IsCompileOrder words slots workers
+  pub wrote : WritesOutput (IsCompiled slots) input old new
+
+-- the words ask for `live`, and what was written is the tapes of the book's cells, in runs of as many slots and with as
+-- many sessions as the words say, whatever the number of workers
+pub record WroteLiveTapes (words : List (List ℕ)) (input old new : Option (List ℕ)) : Type 0 where
+  pub slots : ℕ
+  pub sessions : ℕ
+  pub workers : ℕ
+  pub asked : IsLiveOrder words slots sessions workers
+  pub wrote : WritesOutput (IsLive slots sessions) input old new
+
+-- the words ask for `report`, and what was written is the report of the book's cells, in runs of as many slots as the
+-- words say, whatever the number of workers
+pub record WroteReport (words : List (List ℕ)) (input old new : Option (List ℕ)) : Type 0 where
+  pub slots : ℕ
+  pub workers : ℕ
+  pub asked : IsReportOrder words slots workers
+  pub wrote : WritesOutput (IsReported slots) input old new
+
+abbrev pub WroteWhatIsAsked : (words : List (List ℕ)) (input old new : Option (List ℕ)) → Type 0
+WroteWhatIsAsked words input old new = WroteText words old new ⊎
+    (WrotePages words input old new ⊎ (WroteTable words input old new
+    ⊎ (WroteTapes words input old new ⊎ (WroteLiveTapes words input old new ⊎ WroteReport words input old new))))
+
+-- What status 1 says: the command that the words ask for refuses the input.
+
+-- the words ask for `page` in a language in which the input is no text that can be sent
+pub record RefusesText (words : List (List ℕ)) (input : Option (List ℕ)) : Type 0 where
+  pub language : List ℕ
+  pub id : ℕ
+  pub serial : ℕ
+  pub asked : IsPageOrder words language id serial
+  pub refused : IfSome input (IsRefused language)
+
+-- the words ask for `read`, and the input is no whole tapes
+pub record RefusesTapes (words : List (List ℕ)) (input : Option (List ℕ)) : Type 0 where
+  pub asked : IsReadOrder words
+  pub refused : IfSome input IsNoTapes
+
+-- the words ask for `compile`, and the input is no book or has no run
+pub record RefusesAlerts (words : List (List ℕ)) (input : Option (List ℕ)) : Type 0 where
+  pub slots : ℕ
+  pub workers : ℕ
+  pub asked : IsCompileOrder words slots workers
+  pub refused : IfSome input (IsNoRun slots 1)
+
+-- the words ask for `live`, and the input is no book or has no run
+pub record RefusesLiveAlerts (words : List (List ℕ)) (input : Option (List ℕ)) : Type 0 where
+  pub slots : ℕ
+  pub sessions : ℕ
+  pub workers : ℕ
+  pub asked : IsLiveOrder words slots sessions workers
+  pub refused : IfSome input (IsNoRun slots sessions)
+
+-- the words ask for `report`, and the input is no book or has no run
+pub record RefusesReportedAlerts (words : List (List ℕ)) (input : Option (List ℕ)) : Type 0 where
+  pub slots : ℕ
+  pub workers : ℕ
+  pub asked : IsReportOrder words slots workers
+  pub refused : IfSome input (IsNoRun slots 1)
+
+abbrev pub RefusesInput : (words : List (List ℕ)) (input : Option (List ℕ)) → Type 0
+RefusesInput words input =
+    RefusesText words input ⊎ (RefusesTapes words input ⊎ (RefusesAlerts words input
+    ⊎ (RefusesLiveAlerts words input ⊎ RefusesReportedAlerts words input)))
+
+-- one of the two ends has failed
+abbrev pub OneHasFailed : {R W : Type 0} → Source R → Sink W → Type 0
+OneHasFailed source sink = (source_failed source ≡ true) ⊎ (sink_failed sink ≡ true)

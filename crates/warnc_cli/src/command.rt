@@ -1,0 +1,339 @@
+//! The command line: which words are taken, and what they mean.
+
+ghost use Rattle.std.specs.Prelude.{◌≡◌, ◌⊎◌, false, IfOk, IfSome, codes, map, slice_get};
+ghost use Rattle.warnc_cli.specs.CommandLine.{asks_for_text, begins_with, is_given, is_text_word, GivesNumber};
+ghost use Rattle.warnc_cli.specs.CommandLine.{GivesSlots, GivesThreads, GivesValue, IsPageOrder};
+ghost use Rattle.warnc_cli.specs.RunSteps.{IsOrdered};
+
+use cbs_page::Serial;
+use clap::{Arg, Command, Error, value_parser};
+use std::alloc::{AllocError, Global};
+use std::convert::AsStr;
+use warnc_run::{Sessions, Workers};
+
+/// The options of `page`: the language's word, the message identifier and the serial number.
+#[derive(Clone, Copy, Debug, PartialEq, Eq)]
+pub struct PageOptions<'a> {
+    /// The word of the text's language.
+    pub language: &'a str,
+    /// The message identifier (3GPP TS 23.041, clause 9.4.1.2.2).
+    pub id: u16,
+    /// The serial number (3GPP TS 23.041, clause 9.4.1.2.1).
+    pub serial: Serial,
+}
+
+/// The version of the program, and on a line of its own what `rt version` says of the toolchain that proved it.
+const VERSION: &str = "0.1.0\nrattle-kit-13f logic dac8208d650f15bf";
+
+/// What the words ask for.
+#[derive(Clone, Copy, Debug, PartialEq, Eq)]
+pub enum Order<'a> {
+    /// `page`.
+    Page(PageOptions<'a>),
+    /// `read`.
+    Read,
+    /// `compile`.
+    Compile {
+        /// How many slots each cell's run has, at least 1.
+        slots: u16,
+        /// How many workers play the cells.
+        workers: Workers,
+    },
+    /// `report`.
+    Report {
+        /// How many slots each cell's run has, at least 1.
+        slots: u16,
+        /// How many workers play the cells and make their tapes.
+        workers: Workers,
+    },
+    /// `live`.
+    Live {
+        /// How many slots each cell's run has, at least 1.
+        slots: u16,
+        /// How many sessions order side by side.
+        sessions: Sessions,
+        /// How many workers play the cells.
+        workers: Workers,
+    },
+}
+
+/// What the words ask for, or the text that clap has for them: help, the version, or what is wrong with them. clap
+/// judges the words; what they give is then looked up in the words themselves, since the contracts of clap don't reach
+/// into a subcommand.
+///
+/// None never comes of words that clap takes.
+pub fn order_of<'a, S: AsStr>(alloc: Global, words: &'a [S]) -> Result<Option<Order<'a>>, Error>
+    ensures { IfOk result (λ order. IfSome order (IsOrdered (map S.text words.now))) }
+{
+    let command: Command<'a> = warnc(alloc)?;
+    let _matches = command.try_get_matches_from(words)?;
+    Ok(order_in(words))
+}
+
+/// What words ask for that clap has taken.
+fn order_in<'a, S: AsStr>(words: &'a [S]) -> Option<Order<'a>>
+    ensures { IfSome result (IsOrdered (map S.text words.now)) }
+{
+    let command = words.get(1)?;
+    match command.as_str() {
+        "page" => match page_options(words) {
+            Some(options) => Some(Order::Page(options)),
+            None => None,
+        },
+        "read" => Some(Order::Read),
+        "compile" => Some(Order::Compile {
+            slots: slots_in(words)?,
+            workers: workers_in(words)?,
+        }),
+        "report" => Some(Order::Report {
+            slots: slots_in(words)?,
+            workers: workers_in(words)?,
+        }),
+        "live" => Some(Order::Live {
+            slots: slots_in(words)?,
+            sessions: sessions_in(words)?,
+            workers: workers_in(words)?,
+        }),
+        _ => None,
+    }
+}
+
+/// The options that the words give `page`.
+fn page_options<'a, S: AsStr>(words: &'a [S]) -> Option<PageOptions<'a>>
+    requires { slice_get (map S.text words.now) 1 ≡ Some (codes "page") }
+    ensures { IfSome result (λ options.
+        IsPageOrder (map S.text words.now) options.language.now options.id options.serial) }
+{
+    let scope = u8::try_from(number_of(words, "--scope")?).ok()?;
+    let update = u8::try_from(number_of(words, "--update")?).ok()?;
+    Some(PageOptions {
+        language: value_of(words, "--lang")?,
+        id: number_of(words, "--id")?,
+        serial: Serial::new(scope, number_of(words, "--code")?, update)?,
+    })
+}
+
+/// The number of slots that the words give.
+fn slots_in<S: AsStr>(words: &[S]) -> Option<u16>
+    ensures { IfSome result (GivesSlots (map S.text words.now)) }
+{
+    let slots = number_of(words, "--slots")?;
+    if slots == 0 {
+        return None;
+    }
+    Some(slots)
+}
+
+/// The number of workers that the words give, 1 if they give none.
+fn workers_in<S: AsStr>(words: &[S]) -> Option<Workers>
+    ensures { IfSome result (λ workers.
+        GivesThreads (map S.text words.now) (codes "--workers") workers.number) }
+{
+    Workers::new(u64::from(number_or_one(words, "--workers")?))
+}
+
+/// The number of sessions that the words give, 1 if they give none.
+fn sessions_in<S: AsStr>(words: &[S]) -> Option<Sessions>
+    ensures { IfSome result (λ sessions.
+        GivesThreads (map S.text words.now) (codes "--sessions") sessions.number) }
+{
+    Sessions::new(number_or_one(words, "--sessions")?)
+}
+
+/// The number that the words give the option of this name; 1 if they give none.
+fn number_or_one<S: AsStr>(words: &[S], name: &str) -> Option<u16>
+    ensures { IfSome result (λ number. GivesNumber (map S.text words.now) name.now number
+        ⊎ ((is_given (map S.text words.now) name.now ≡ false) × (number ≡ 1))) }
+{
+    if !is_given(words, name) {
+        return Some(1);
+    }
+    number_of(words, name)
+}
+
+/// Whether a word begins with the name of an option.
+fn is_given<S: AsStr>(words: &[S], name: &str) -> bool
+    ensures { result ≡ is_given (map S.text words.now) name.now }
+{
+    for word in words {
+        if begins_with(word.as_str(), name) {
+            return true;
+        }
+    }
+    false
+}
+
+/// Whether a word begins with a name.
+fn begins_with(word: &str, name: &str) -> bool
+    ensures { result ≡ begins_with name.now word.now }
+{
+    word.starts_with(name)
+}
+
+/// The number that the words give the option of this name.
+fn number_of<S: AsStr>(words: &[S], name: &str) -> Option<u16>
+    ensures { IfSome result (GivesNumber (map S.text words.now) name.now) }
+{
+    value_of(words, name)?.parse().ok()
+}
+
+/// The value that the words give the option of this name: the word after its name, or what follows its name and `=` in
+/// one word.
+fn value_of<'a, S: AsStr>(words: &'a [S], name: &str) -> Option<&'a str>
+    ensures { IfSome result (λ value. GivesValue (map S.text words.now) name.now value.now) }
+{
+    for (place, word) in words.iter().enumerate() {
+        let word = word.as_str();
+        if word == name {
+            return Some(words.get(place + 1)?.as_str());
+        }
+        if let Some((front, value)) = word.split_once('=')
+            && front == name
+        {
+            return Some(value);
+        }
+    }
+    None
+}
+
+/// Whether the words ask for help or for the version.
+pub fn asks_for_text<S: AsStr>(words: &[S]) -> bool
+    ensures { result ≡ asks_for_text (map S.text words.now) }
+{
+    for word in words {
+        if is_text_word(word.as_str()) {
+            return true;
+        }
+    }
+    false
+}
+
+/// Whether a word asks for help or for the version.
+fn is_text_word(word: &str) -> bool
+    ensures { result ≡ is_text_word word.now }
+{
+    matches!(word, "help" | "--help" | "-h" | "--version" | "-V")
+}
+
+/// The program's command line.
+fn warnc<'a>(alloc: Global) -> Result<Command<'a>, AllocError> {
+    Command::new(alloc, "warnc")
+        .about(
+            "Compiles cell broadcast warnings to the blocks that cells send, and reads them as handsets do",
+        )
+        .version(VERSION)
+        .subcommand_required(true)
+        .arg_required_else_help(true)
+        .subcommand(page(alloc)?)?
+        .subcommand(compile(alloc)?)?
+        .subcommand(live(alloc)?)?
+        .subcommand(read(alloc))?
+        .subcommand(report(alloc)?)
+}
+
+/// The command line of `read`.
+fn read<'a>(alloc: Global) -> Command<'a> {
+    Command::new(alloc, "read").about(
+        "Reads tapes of blocks and writes a table of what a handset shows of them, as CSV",
+    )
+}
+
+/// The command line of `compile`.
+fn compile<'a>(alloc: Global) -> Result<Command<'a>, AllocError> {
+    Command::new(alloc, "compile")
+        .about("Reads a book of alerts, as CSV, and writes the tapes of its cells' runs")
+        .arg(slots(alloc))?
+        .arg(workers(alloc))
+}
+
+/// The command line of `report`.
+fn report<'a>(alloc: Global) -> Result<Command<'a>, AllocError> {
+    Command::new(alloc, "report")
+        .about(
+            "Reads a book of alerts, as CSV, and writes what became of each order in each cell, as CSV",
+        )
+        .arg(slots(alloc))?
+        .arg(workers(alloc))
+}
+
+/// The command line of `live`.
+fn live<'a>(alloc: Global) -> Result<Command<'a>, AllocError> {
+    let sessions = threads(
+        alloc,
+        "sessions",
+        "SESSIONS",
+        "How many sessions order side by side, 1 to 64; 1 if it isn't given",
+    );
+    Command::new(alloc, "live")
+        .about(
+            "Does what compile does, with the book's alerts shared by sessions that order side by side",
+        )
+        .arg(slots(alloc))?
+        .arg(sessions)?
+        .arg(workers(alloc))
+}
+
+/// The option of the number of workers.
+fn workers<'a>(alloc: Global) -> Arg<'a> {
+    threads(
+        alloc,
+        "workers",
+        "WORKERS",
+        "How many workers play cells and make tapes side by side, 1 to 64; 1 if it isn't given",
+    )
+}
+
+/// An option `--name` of a number of threads, which needn't be given.
+fn threads<'a>(alloc: Global, name: &'a str, value: &'a str, help: &'a str) -> Arg<'a> {
+    Arg::new(alloc, name)
+        .long(name)
+        .value_name(value)
+        .help(help)
+        .value_parser(value_parser!(u16).range(1..=64))
+}
+
+/// The option of the number of slots.
+fn slots<'a>(alloc: Global) -> Arg<'a> {
+    option(
+        alloc,
+        "slots",
+        "SLOTS",
+        "How many slots each cell's run has, 1 to 65535",
+    )
+    .value_parser(value_parser!(u16).range(1..=65535))
+}
+
+/// The command line of `page`.
+fn page<'a>(alloc: Global) -> Result<Command<'a>, AllocError> {
+    let languages =
+        "The text's language: de, en, it, fr, es, nl, sv, da, pt, fi, no, el, tr, hu, pl, und, cs, he, ar, ru or is";
+    let language = option(alloc, "lang", "LANGUAGE", languages);
+    let id = option(alloc, "id", "ID", "The message identifier, 0 to 65535").value_parser(
+        value_parser!(u16),
+    );
+    let scope = option(alloc, "scope", "SCOPE", "The geographical scope, 0 to 3").value_parser(
+        value_parser!(u8).range(0..=3),
+    );
+    let code = option(alloc, "code", "CODE", "The message code, 0 to 1023").value_parser(
+        value_parser!(u16).range(0..=1023),
+    );
+    let update = option(alloc, "update", "UPDATE", "The update number, 0 to 15").value_parser(
+        value_parser!(u8).range(0..=15),
+    );
+    Command::new(alloc, "page")
+        .about("Reads a text and writes the blocks of its pages, then what a handset shows of them")
+        .arg(language)?
+        .arg(id)?
+        .arg(scope)?
+        .arg(code)?
+        .arg(update)
+}
+
+/// A required option `--name`.
+fn option<'a>(alloc: Global, name: &'a str, value: &'a str, help: &'a str) -> Arg<'a> {
+    Arg::new(alloc, name)
+        .long(name)
+        .value_name(value)
+        .help(help)
+        .required(true)
+}

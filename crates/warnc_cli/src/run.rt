@@ -1,0 +1,263 @@
+//! One run of the program: words in, a status out.
+
+ghost use Rattle.std.specs.Prelude.{◌≡◌, ◌≢◌, ◌<◌, ◌≤◌, ◌⊎◌, ℕ, List, Some, codes, false, true, map, slice_get, IfSome};
+ghost use Rattle.std.specs.Io.KnownBytes.{Appends, Keeps};
+ghost use Rattle.device_ends.specs.Moves.{WritesOutput};
+ghost use Rattle.device_ends.specs.Sink.{sink_failed, writer_of};
+ghost use Rattle.device_ends.specs.Source.{reader_of, source_failed};
+ghost use Rattle.warnc_run.specs.Compiled.{IsCompiled};
+ghost use Rattle.warnc_run.specs.Live.{IsLive};
+ghost use Rattle.warnc_run.specs.Reported.{IsReported};
+ghost use Rattle.warnc_inspect.specs.PageOutput.{IsPageOutput};
+ghost use Rattle.warnc_inspect.specs.ReadOutput.{IsReadOutput};
+ghost use Rattle.warnc_cli.specs.RunSteps.{IsRunBetween, IsStatusOfSink};
+ghost use Rattle.warnc_cli.specs.Status.{IsNoRun, IsNoTapes, IsRefused, OneHasFailed, RefusesInput, WritesSome};
+ghost use Rattle.warnc_cli.specs.Status.{WroteWhatIsAsked};
+
+use crate::command::{Order, PageOptions, asks_for_text, order_of};
+use crate::status::{DEVICE, DONE, MEMORY, REFUSED_INPUT, USAGE, failed};
+use clap::Error;
+use clap::error::ErrorKind;
+use device_ends::{Sink, Source, write_all};
+use order_desk::Open;
+use std::alloc::{AllocGlobal, Global};
+use std::convert::AsStr;
+use std::io::{Read, Write};
+use std::sync::Wait;
+use std::thread::Threads;
+use warnc_inspect::page::page_stream;
+use warnc_inspect::read::read_stream;
+use warnc_run::{ReportRunFault, Sessions, Workers, compile_stream, live_stream, report_stream};
+
+/// Runs the command that the words ask for (the first is the program's name), from a reader to a writer, and returns
+/// the status: 0 done, 1 refused input, 2 command line, 3 device, 4 memory. A fault is one line for `faults`, `warnc: `
+/// and the text, or the text that clap has; what `faults` doesn't take changes no status. Help goes to the writer.
+///
+/// This wraps both ends, and is `run_between` on them: whose contract says what is written.
+pub fn run<T: AllocGlobal + Threads + Wait + Sync, S: AsStr, R: Read, W: Write, F: Write>(
+    rt: &T,
+    words: &[S],
+    reader: &mut R,
+    writer: &mut W,
+    faults: &mut F,
+) -> u8
+    ensures refused { result ≡ REFUSED_INPUT → RefusesInput (map S.text words.now) (R.remaining reader.old) }
+    ensures statuses { result ≤ 4 }
+{
+    let mut source = Source::new(reader);
+    let mut sink = Sink::new(writer);
+    run_between(rt, words, &mut source, &mut sink, faults)
+}
+
+/// The same, between two ends. With status 0 what the words ask for is written, with 1, 2 and 4 nothing is. That is one
+/// octet at least, but for `compile` and `live`: a book without cells has no tapes.
+pub fn run_between<T: AllocGlobal + Threads + Wait + Sync, S: AsStr, R: Read, W: Write, F: Write>(
+    rt: &T,
+    words: &[S],
+    source: &mut Source<R>,
+    sink: &mut Sink<W>,
+    faults: &mut F,
+) -> u8
+    ensures done { result ≡ DONE → WroteWhatIsAsked (map S.text words.now) (R.remaining (reader_of source.old))
+        (W.contents (writer_of sink.old)) (W.contents (writer_of sink.new)) }
+    ensures wrote { result ≡ DONE → slice_get (map S.text words.now) 1 ≢ Some (codes "compile")
+        → slice_get (map S.text words.now) 1 ≢ Some (codes "live")
+        → WritesSome (W.contents (writer_of sink.old)) (W.contents (writer_of sink.new)) }
+    ensures nothing_written { (result ≢ DONE) → (result ≢ DEVICE)
+        → Keeps (W.contents (writer_of sink.old)) (W.contents (writer_of sink.new)) }
+    ensures untouched { (result ≢ DONE) → (result ≢ DEVICE) → sink.new ≡ sink.old }
+    ensures refused { result ≡ REFUSED_INPUT
+        → RefusesInput (map S.text words.now) (R.remaining (reader_of source.old)) }
+    ensures device { result ≡ DEVICE → OneHasFailed source.new sink.new }
+    ensures unread { result ≡ USAGE → source.new ≡ source.old }
+    ensures failed { (source_failed source.old ≡ false) → (sink_failed sink.old ≡ false)
+        → OneHasFailed source.new sink.new → result ≡ DEVICE }
+    ensures statuses { result ≤ 4 }
+{
+    let alloc = rt.alloc();
+    match order_of(alloc, words) {
+        Ok(Some(order)) => match order {
+            Order::Page(options) => run_page(alloc, &options, source, sink, faults),
+            Order::Read => run_read(alloc, source, sink, faults),
+            Order::Compile { slots, workers } => {
+                run_compile(rt, slots, workers, source, sink, faults)
+            }
+            Order::Report { slots, workers } => {
+                run_report(rt, slots, workers, source, sink, faults)
+            }
+            Order::Live {
+                slots,
+                sessions,
+                workers,
+            } => run_live(rt, slots, sessions, workers, source, sink, faults),
+        },
+        Ok(None) => {
+            let _ = writeln!(faults, "warnc: no command");
+            USAGE
+        }
+        Err(error) => run_text(alloc, &error, asks_for_text(words), sink, faults),
+    }
+}
+
+/// Runs `page`, and returns the status.
+fn run_page<R: Read, W: Write, F: Write>(
+    alloc: Global,
+    options: &PageOptions,
+    source: &mut Source<R>,
+    sink: &mut Sink<W>,
+    faults: &mut F,
+) -> u8
+    ensures done { result ≡ DONE →
+        WritesOutput (IsPageOutput options.now.language.now options.now.id options.now.serial)
+        (R.remaining (reader_of source.old)) (W.contents (writer_of sink.old)) (W.contents (writer_of sink.new)) }
+    ensures any_device { IsRunBetween result source.new sink.old sink.new
+        (W.contents (writer_of sink.old)) (W.contents (writer_of sink.new)) }
+    ensures wrote { result ≡ DONE → WritesSome (W.contents (writer_of sink.old)) (W.contents (writer_of sink.new)) }
+    ensures refused { result ≡ REFUSED_INPUT → IfSome (R.remaining (reader_of source.old))
+        (IsRefused options.now.language.now) }
+{
+    match page_stream(
+        alloc,
+        source,
+        sink,
+        options.language,
+        options.id,
+        options.serial,
+    ) {
+        Ok(()) => DONE,
+        Err(fault) => failed(&fault, faults),
+    }
+}
+
+/// Runs `read`, and returns the status.
+fn run_read<R: Read, W: Write, F: Write>(
+    alloc: Global,
+    source: &mut Source<R>,
+    sink: &mut Sink<W>,
+    faults: &mut F,
+) -> u8
+    ensures done { result ≡ DONE → WritesOutput IsReadOutput
+        (R.remaining (reader_of source.old)) (W.contents (writer_of sink.old)) (W.contents (writer_of sink.new)) }
+    ensures any_device { IsRunBetween result source.new sink.old sink.new
+        (W.contents (writer_of sink.old)) (W.contents (writer_of sink.new)) }
+    ensures wrote { result ≡ DONE → WritesSome (W.contents (writer_of sink.old)) (W.contents (writer_of sink.new)) }
+    ensures refused { result ≡ REFUSED_INPUT → IfSome (R.remaining (reader_of source.old)) IsNoTapes }
+{
+    match read_stream(alloc, source, sink) {
+        Ok(()) => DONE,
+        Err(fault) => failed(&fault, faults),
+    }
+}
+
+/// Runs `compile`, and returns the status.
+fn run_compile<T: AllocGlobal + Threads + Wait + Sync, R: Read, W: Write, F: Write>(
+    rt: &T,
+    slots: u16,
+    workers: Workers,
+    source: &mut Source<R>,
+    sink: &mut Sink<W>,
+    faults: &mut F,
+) -> u8
+    ensures done { result ≡ DONE → WritesOutput (IsCompiled slots)
+        (R.remaining (reader_of source.old)) (W.contents (writer_of sink.old)) (W.contents (writer_of sink.new)) }
+    ensures any_device { IsRunBetween result source.new sink.old sink.new
+        (W.contents (writer_of sink.old)) (W.contents (writer_of sink.new)) }
+    ensures refused { result ≡ REFUSED_INPUT → IfSome (R.remaining (reader_of source.old)) (IsNoRun slots 1) }
+{
+    match compile_stream(rt, source, sink, slots, workers.number) {
+        Ok(()) => DONE,
+        Err(fault) => failed(&fault, faults),
+    }
+}
+
+/// Runs `live`, and returns the status.
+fn run_live<T: AllocGlobal + Threads + Wait + Sync, R: Read, W: Write, F: Write>(
+    rt: &T,
+    slots: u16,
+    sessions: Sessions,
+    workers: Workers,
+    source: &mut Source<R>,
+    sink: &mut Sink<W>,
+    faults: &mut F,
+) -> u8
+    ensures done { result ≡ DONE → WritesOutput (IsLive slots sessions.number)
+        (R.remaining (reader_of source.old)) (W.contents (writer_of sink.old)) (W.contents (writer_of sink.new)) }
+    ensures any_device { IsRunBetween result source.new sink.old sink.new
+        (W.contents (writer_of sink.old)) (W.contents (writer_of sink.new)) }
+    ensures refused { result ≡ REFUSED_INPUT → IfSome (R.remaining (reader_of source.old))
+        (IsNoRun slots sessions.number) }
+{
+    match live_stream(
+        rt,
+        source,
+        sink,
+        slots,
+        sessions.number,
+        workers.number,
+        &Open,
+    ) {
+        Ok(()) => DONE,
+        Err(fault) => failed(&fault, faults),
+    }
+}
+
+/// Runs `report`, and returns the status.
+fn run_report<T: AllocGlobal + Threads + Wait + Sync, R: Read, W: Write, F: Write>(
+    rt: &T,
+    slots: u16,
+    workers: Workers,
+    source: &mut Source<R>,
+    sink: &mut Sink<W>,
+    faults: &mut F,
+) -> u8
+    ensures done { result ≡ DONE → WritesOutput (IsReported slots)
+        (R.remaining (reader_of source.old)) (W.contents (writer_of sink.old)) (W.contents (writer_of sink.new)) }
+    ensures any_device { IsRunBetween result source.new sink.old sink.new
+        (W.contents (writer_of sink.old)) (W.contents (writer_of sink.new)) }
+    ensures wrote { result ≡ DONE → WritesSome (W.contents (writer_of sink.old)) (W.contents (writer_of sink.new)) }
+    ensures refused { result ≡ REFUSED_INPUT → IfSome (R.remaining (reader_of source.old)) (IsNoRun slots 1) }
+{
+    match report_stream(rt, source, sink, slots, workers.number) {
+        Ok(()) => DONE,
+        Err(ReportRunFault::Run(fault)) => failed(&fault, faults),
+        Err(ReportRunFault::Report(fault)) => failed(&fault, faults),
+    }
+}
+
+/// Reports what clap has to say of the words: help and the version go to the sink if the words ask for them, a mistake
+/// goes to `faults`.
+fn run_text<W: Write, F: Write>(
+    alloc: Global,
+    error: &Error,
+    is_asked: bool,
+    sink: &mut Sink<W>,
+    faults: &mut F,
+) -> u8
+    ensures sink { IsStatusOfSink result sink.old sink.new
+        (W.contents (writer_of sink.old)) (W.contents (writer_of sink.new)) }
+    ensures wrote { result ≡ DONE → WritesSome (W.contents (writer_of sink.old)) (W.contents (writer_of sink.new)) }
+    ensures asked { result ≡ DONE → is_asked ≡ true }
+    ensures not_refused { result ≢ REFUSED_INPUT }
+    ensures device { result ≡ DEVICE → sink_failed sink.new ≡ true }
+    ensures failed { (sink_failed sink.old ≡ false) → sink_failed sink.new ≡ true → result ≡ DEVICE }
+{
+    if error.kind() == ErrorKind::OutOfMemory {
+        let _ = writeln!(faults, "warnc: out of memory");
+        return MEMORY;
+    }
+    let Ok(text) = error.to_string(alloc) else {
+        let _ = writeln!(faults, "warnc: out of memory");
+        return MEMORY;
+    };
+    if error.use_stderr() || text.is_empty() || !is_asked {
+        let _ = write!(faults, "{text}");
+        return USAGE;
+    }
+    match write_all(sink, text.as_bytes()) {
+        Ok(()) => DONE,
+        Err(_) => {
+            let _ = writeln!(faults, "warnc: write failed");
+            DEVICE
+        }
+    }
+}

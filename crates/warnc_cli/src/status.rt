@@ -1,0 +1,113 @@
+//! The statuses of a run, and which fault ends one with which status.
+
+ghost use Rattle.std.specs.Prelude.{◌≡◌, ℕ};
+ghost use Rattle.warnc_cli.specs.RunSteps.{status_of_read_fault, status_of_report_fault, status_of_run_fault};
+ghost use Rattle.warnc_cli.specs.Status.{status_of_book_fault, status_of_page_fault};
+
+use alert_book::{BookFault, BookFaultKind};
+use cbs_page::TextFault;
+use order_desk::{DeskFault, SettleFault};
+use parallel_compile::CompileFault;
+use report::ReportFault;
+use std::fmt::Display;
+use std::io::Write;
+use warnc_inspect::page::PageFault;
+use warnc_inspect::read::ReadCommandFault;
+use warnc_run::RunFault;
+
+/// All was done, or help was written.
+pub const DONE: u8 = 0;
+
+/// The input is refused.
+pub const REFUSED_INPUT: u8 = 1;
+
+/// The words are no command line.
+pub const USAGE: u8 = 2;
+
+/// A device failed.
+pub const DEVICE: u8 = 3;
+
+/// There was no memory.
+pub const MEMORY: u8 = 4;
+
+/// A fault that ends a run: its text is the line that reports it.
+pub(crate) trait Fault: Display {
+    /// The status of each fault.
+    ghost status_of: { Self → ℕ };
+
+    /// The status of a run that ends with this fault.
+    fn status(&self) -> u8
+        ensures { result ≡ status_of self.now };
+}
+
+/// Reports the fault that ends a run by a line for `faults`, and returns the status of the run. What `faults` doesn't
+/// take changes nothing.
+pub(crate) fn failed<E: Fault, F: Write>(fault: &E, faults: &mut F) -> u8
+    ensures { result ≡ E.status_of fault.now }
+{
+    let _ = writeln!(faults, "warnc: {fault}");
+    fault.status()
+}
+
+impl Fault for PageFault {
+    ghost status_of = { status_of_page_fault };
+
+    fn status(&self) -> u8 {
+        match *self {
+            PageFault::TooLong | PageFault::NotUtf8 => REFUSED_INPUT,
+            PageFault::Text(TextFault::Refused) | PageFault::Refused => MEMORY,
+            PageFault::Text(_) => REFUSED_INPUT,
+            PageFault::ReadFailed | PageFault::WriteFailed => DEVICE,
+        }
+    }
+}
+
+impl Fault for ReadCommandFault {
+    ghost status_of = { status_of_read_fault };
+
+    fn status(&self) -> u8 {
+        match *self {
+            ReadCommandFault::Short | ReadCommandFault::Long => REFUSED_INPUT,
+            ReadCommandFault::ReadFailed | ReadCommandFault::WriteFailed => DEVICE,
+            ReadCommandFault::Refused => MEMORY,
+        }
+    }
+}
+
+impl Fault for RunFault {
+    ghost status_of = { status_of_run_fault };
+
+    fn status(&self) -> u8 {
+        match *self {
+            RunFault::Book(fault) => status_of_book(fault),
+            RunFault::Write(_) => DEVICE,
+            RunFault::Desk(DeskFault::Memory { .. }) => MEMORY,
+            RunFault::Settle(SettleFault::Refused) => MEMORY,
+            RunFault::Compile(CompileFault::Refused) | RunFault::Refused => MEMORY,
+            RunFault::Desk(_) | RunFault::Settle(_) | RunFault::Compile(_) => REFUSED_INPUT,
+        }
+    }
+}
+
+impl Fault for ReportFault {
+    ghost status_of = { status_of_report_fault };
+
+    fn status(&self) -> u8 {
+        match *self {
+            ReportFault::Cells => REFUSED_INPUT,
+            ReportFault::WriteFailed => DEVICE,
+            ReportFault::Refused => MEMORY,
+        }
+    }
+}
+
+/// The status of a fault of a book.
+fn status_of_book(fault: BookFault) -> u8
+    ensures { result ≡ status_of_book_fault fault }
+{
+    match fault.kind {
+        BookFaultKind::ReadFailed if fault.row == 0 => DEVICE,
+        BookFaultKind::Refused | BookFaultKind::Text(TextFault::Refused) => MEMORY,
+        _ => REFUSED_INPUT,
+    }
+}

@@ -1,0 +1,149 @@
+//! A bench on which the program runs between memory and memory.
+
+use crate::octets::{Sheet, Written};
+use device_ends::memory::MemoryReader;
+use std::alloc::Global;
+use std::sync::Wait;
+use std::test::Fail;
+use std::thread::Threads;
+use test_support::Words;
+use warnc_cli::run::run;
+
+/// How many octets a device moves a call, and after how many calls it fails.
+#[derive(Clone, Copy)]
+pub struct Pace {
+    pub octets: usize,
+    pub calls: Option<usize>,
+}
+
+/// A device that gives or takes so many octets a call, and doesn't fail.
+pub fn steady(octets: usize) -> Pace {
+    Pace {
+        octets,
+        calls: None,
+    }
+}
+
+/// What a run starts from, and what the last one wrote.
+#[derive(Drop)]
+pub struct Bench<'a> {
+    pub args: &'a str,
+    pub input: Sheet,
+    /// How many octets of the input the next run gets at most.
+    pub front: usize,
+    pub worked: Sheet,
+    pub reader: Pace,
+    pub writer: Pace,
+    pub faults_writer: Pace,
+    pub output: Written,
+    pub faults: Written,
+}
+
+impl<'a> Bench<'a> {
+    /// A bench with no words and no input.
+    pub fn new(alloc: Global) -> Bench<'a> {
+        Bench {
+            args: "",
+            input: Sheet::new(alloc),
+            front: usize::MAX,
+            worked: Sheet::new(alloc),
+            reader: steady(7),
+            writer: steady(11),
+            faults_writer: steady(64),
+            output: Written::new(alloc, steady(0)),
+            faults: Written::new(alloc, steady(0)),
+        }
+    }
+
+    /// How many octets of the last run weren't looked at.
+    pub fn unseen(&self) -> usize {
+        let output = self.output.left().len();
+        output.saturating_add(self.faults.left().len())
+    }
+
+    /// The command line.
+    pub fn words(&self, alloc: Global) -> Result<Vec<&'a str>, Fail> {
+        let mut words = Vec::new(alloc);
+        words.push("warnc")?;
+        for word in self.args.split_whitespace() {
+            words.push(word)?;
+        }
+        Ok(words)
+    }
+
+    /// Has steady devices again, and a new input and worked octets if lines name some.
+    pub fn renew(&mut self) {
+        self.front = usize::MAX;
+        self.reader = steady(7);
+        self.writer = steady(11);
+        self.faults_writer = steady(64);
+        self.input.is_used = true;
+        self.worked.is_used = true;
+    }
+}
+
+/// Runs the program, and returns the status.
+fn run_on<T: AllocGlobal + Threads + Wait + Sync>(rt: &T, words: &[&str], bench: &mut Bench) -> u8 {
+    let length = bench.front.min(bench.input.octets.len());
+    let input = &bench.input.octets[..length];
+    let mut reader = MemoryReader::new(input, bench.reader.octets.max(1), bench.reader.calls);
+    bench.output = Written::new(rt.alloc(), bench.writer);
+    bench.faults = Written::new(rt.alloc(), bench.faults_writer);
+    run(
+        rt,
+        words,
+        &mut reader,
+        &mut bench.output.writer,
+        &mut bench.faults.writer,
+    )
+}
+
+/// What a run comes to: its status; after `fails` also the line of faults, which is all that it wrote; after `usage`
+/// the word with which the faults begin, which are all that it wrote.
+fn told(alloc: Global, bench: &mut Bench, verb: &str, status: u8) -> Result<String, Fail> {
+    let faults = match verb {
+        "run" => return Ok(status.to_string(alloc)?),
+        "usage" => bench.faults.rest(alloc)?,
+        _ => bench.faults.line(alloc)?,
+    };
+    let unseen = bench.unseen();
+    if unseen > 0 {
+        return Ok(format!(in alloc; "{status} {faults}, and {unseen} octets")?);
+    }
+    if verb == "usage" {
+        return Ok(format!(in alloc; "{status} {}", Words::of(&faults).word())?);
+    }
+    Ok(format!(in alloc; "{status} {faults}")?)
+}
+
+/// Runs the program as a line says: `fronts` and `reads` for each of two numbers and those between, other verbs once.
+/// Returns what the runs come to, if that is the same for each.
+pub fn runs<T: AllocGlobal + Threads + Wait + Sync>(
+    rt: &T,
+    bench: &mut Bench,
+    verb: &str,
+    numbers: (u16, u16),
+) -> Result<String, Fail> {
+    let words = bench.words(rt.alloc())?;
+    let mut all = String::new(rt.alloc());
+    for number in numbers.0..=numbers.1 {
+        match verb {
+            "fronts" => bench.front = usize::from(number),
+            "reads" => {
+                bench.reader = Pace {
+                    octets: 1,
+                    calls: Some(usize::from(number)),
+                }
+            }
+            _ => {}
+        }
+        let status = run_on(rt, &words, bench);
+        let one = told(rt.alloc(), bench, verb, status)?;
+        if number > numbers.0 && one != all {
+            return Ok(one);
+        }
+        all = one;
+    }
+    bench.renew();
+    Ok(all)
+}

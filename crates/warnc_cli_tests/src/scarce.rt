@@ -1,0 +1,192 @@
+//! Runs of the program with hardly any memory: whatever is refused, the run ends with status 4 and writes nothing.
+
+use crate::bench::Bench;
+use crate::octets::part_of;
+use crate::rows::expect_rows;
+use device_ends::memory::MemoryReader;
+use std::alloc::Global;
+use std::sync::Wait;
+use std::test::Fail;
+use std::thread::Threads;
+use test_support::take_all;
+use warnc_cli::run::run;
+
+/// How many octets each block of the memory has that is given back.
+const BLOCK: usize = 512;
+
+/// What a run wrote, which took no memory for that.
+#[derive(Drop)]
+struct Slate {
+    status: u8,
+    output: [u8; 600],
+    output_left: usize,
+    faults: [u8; 600],
+    faults_left: usize,
+}
+
+impl Slate {
+    /// Nothing yet.
+    fn new() -> Slate {
+        Slate {
+            status: 0,
+            output: [0; 600],
+            output_left: 600,
+            faults: [0; 600],
+            faults_left: 600,
+        }
+    }
+
+    /// What went to the output.
+    fn output(&self) -> &[u8] {
+        &self.output[..600_usize.saturating_sub(self.output_left)]
+    }
+
+    /// Whether the run was refused memory, and said so, and wrote nothing.
+    fn is_out_of_memory(&self) -> bool {
+        let faults = &self.faults[..600_usize.saturating_sub(self.faults_left)];
+        self.status == 4
+            && self.output().is_empty()
+            && faults == b"warnc: out of memory\n".as_slice()
+    }
+
+    /// Runs the program.
+    fn run<T: AllocGlobal + Threads + Wait + Sync>(
+        &mut self,
+        rt: &T,
+        words: &[&str],
+        input: &[u8],
+    ) {
+        let mut reader = MemoryReader::new(input, 100, None);
+        let mut output = self.output.as_mut_slice();
+        let mut faults = self.faults.as_mut_slice();
+        self.status = run(rt, words, &mut reader, &mut output, &mut faults);
+        self.output_left = output.len();
+        self.faults_left = faults.len();
+    }
+}
+
+/// 400 blocks of memory.
+fn spare_blocks(alloc: Global) -> Result<Vec<Vec<u8>>, Fail> {
+    let mut spare = Vec::with_capacity(alloc, 400)?;
+    for _ in 0..400 {
+        spare.push(Vec::with_capacity(alloc, BLOCK)?)?;
+    }
+    Ok(spare)
+}
+
+/// Runs the program again and again, with one block of memory more each time, until it isn't refused memory any more.
+/// No block has room for a thread: what starts some is run with ample memory after that. Returns how often a run was
+/// refused memory.
+fn refusals<T: AllocGlobal + Threads + Wait + Sync>(
+    rt: &T,
+    words: &[&str],
+    input: &[u8],
+    slate: &mut Slate,
+) -> Result<u16, Fail> {
+    let mut spare = spare_blocks(rt.alloc())?;
+    let mut taken = Vec::with_capacity(rt.alloc(), 100_000)?;
+    take_all(rt.alloc(), &mut taken);
+    let mut refused = 0_u16;
+    for _ in 0..400 {
+        slate.run(rt, words, input);
+        if !slate.is_out_of_memory() {
+            return Ok(refused);
+        }
+        refused = refused.saturating_add(1);
+        let _ = spare.pop();
+    }
+    taken.clear();
+    slate.run(rt, words, input);
+    Ok(refused)
+}
+
+/// The status and the output of the run that wasn't refused memory, if at least four before it were.
+pub fn scarce<T: AllocGlobal + Threads + Wait + Sync>(
+    rt: &T,
+    bench: &mut Bench,
+) -> Result<String, Fail> {
+    let alloc = rt.alloc();
+    let words = bench.words(alloc)?;
+    let mut slate = Slate::new();
+    let refused = refusals(rt, &words, &bench.input.octets, &mut slate)?;
+    bench.renew();
+    if refused < 4 {
+        return Ok(format!(in alloc; "{refused} refusals")?);
+    }
+    let output = part_of(alloc, slate.output(), &bench.worked.octets)?;
+    Ok(format!(in alloc; "{} {output}", slate.status)?)
+}
+
+/// Whatever is refused, the run ends with status 4.
+const SCARCE: &str = "
+args page --lang en --id 4370 --scope 0 --code 1 --update 0
+in @
+worked 200010111201118046a3d168341a8d46a3d168341a8d46
+worked 21a3d168341a8d46a3d168341a8d46a3d168341a8d46a3
+worked 22d168341a8d46a3d168341a8d46a3d168341a8d46a3d1
+worked 3368341a8d46a3d168341a8d46a3d168341a8d46a3d100
+worked 4370 0010 @
+scarce -> 0 worked
+
+# a tape without slots
+args read
+in-hex 0001 0001 00000000
+worked lac,ci,id,serial,text
+scarce -> 0 worked
+
+args compile --slots 2
+in cell,1,1
+in write,0,a,4370,0,1,en,2,2,0,1-1,@
+worked-hex 0001 0001 00000002
+worked-hex 200010111201118046a3d168341a8d46a3d168341a8d46
+worked-hex 21a3d168341a8d46a3d168341a8d46a3d168341a8d46a3
+worked-hex 22d168341a8d46a3d168341a8d46a3d168341a8d46a3d1
+worked-hex 3368341a8d46a3d168341a8d46a3d168341a8d46a3d100
+worked-hex 2f2b2b2b2b2b2b2b2b2b2b2b2b2b2b2b2b2b2b2b2b2b2b
+worked-hex 2f2b2b2b2b2b2b2b2b2b2b2b2b2b2b2b2b2b2b2b2b2b2b
+worked-hex 2f2b2b2b2b2b2b2b2b2b2b2b2b2b2b2b2b2b2b2b2b2b2b
+worked-hex 2f2b2b2b2b2b2b2b2b2b2b2b2b2b2b2b2b2b2b2b2b2b2b
+scarce -> 0 worked
+";
+
+const LIVE: &str = "
+args live --slots 2 --sessions 2
+in cell,1,1
+in write,0,a,4370,0,1,en,2,2,0,1-1,@
+worked-hex 0001 0001 00000002
+worked-hex 200010111201118046a3d168341a8d46a3d168341a8d46
+worked-hex 21a3d168341a8d46a3d168341a8d46a3d168341a8d46a3
+worked-hex 22d168341a8d46a3d168341a8d46a3d168341a8d46a3d1
+worked-hex 3368341a8d46a3d168341a8d46a3d168341a8d46a3d100
+worked-hex 2f2b2b2b2b2b2b2b2b2b2b2b2b2b2b2b2b2b2b2b2b2b2b
+worked-hex 2f2b2b2b2b2b2b2b2b2b2b2b2b2b2b2b2b2b2b2b2b2b2b
+worked-hex 2f2b2b2b2b2b2b2b2b2b2b2b2b2b2b2b2b2b2b2b2b2b2b
+worked-hex 2f2b2b2b2b2b2b2b2b2b2b2b2b2b2b2b2b2b2b2b2b2b2b
+scarce -> 0 worked
+";
+
+const REPORT: &str = "
+args report --slots 2
+in cell,1,1
+in write,0,a,4370,0,1,en,2,2,0,1-1,@
+worked lac,ci,id,serial,start,end,completed,shown
+worked 1,1,4370,0010,0,2,1,yes
+scarce -> 0 worked
+";
+
+#[test]
+fn runs_without_memory_are_status_4(rt: HostRuntime) -> Result<(), Fail> {
+    expect_rows(&rt, SCARCE)
+}
+
+// Threads keep memory of a process, so what starts some has a process of its own.
+
+#[test]
+fn sessions_without_memory_are_status_4(rt: HostRuntime) -> Result<(), Fail> {
+    expect_rows(&rt, LIVE)
+}
+
+#[test]
+fn a_report_without_memory_is_status_4(rt: HostRuntime) -> Result<(), Fail> {
+    expect_rows(&rt, REPORT)
+}

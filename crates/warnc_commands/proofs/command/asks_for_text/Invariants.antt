@@ -1,7 +1,0 @@
-use Rattle.std.proofs.Common.{◌≡◌, drop, map}
-use Rattle.warnc_commands.specs.CommandLine.{asks_for_text}
-use Rattle.warnc_commands.proofs.command.asks_for_text.Given as goal
-
-abbrev pub invariant-loop-word : goal.invariant-loop-word
-invariant-loop-word g l =
-    asks_for_text (map g.S.AsStr.text l.words) ≡ asks_for_text (map g.S.AsStr.text (drop l.word-index l.words))

@@ -1,9 +1,0 @@
-use Rattle.std.proofs.Common.{ℕ, List, [], subst, sym, append-nil}
-use Rattle.warnc_engine.specs.ReadOutput.{header_row}
-use Rattle.warnc_engine.specs.ReadSteps.{IsTable}
-use Rattle.warnc_engine.proofs.table.Table.new.Goals as goal
-
-pub returns : goal.returns
-returns c =
-    subst (λ (xs : List ℕ). IsTable c.push_row.new.self xs) (sym (append-nil header_row))
-    (c.in_ok-push_row.ensures [] c.empty-table.ensures)

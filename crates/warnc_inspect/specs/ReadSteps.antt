@@ -1,0 +1,23 @@
+-- Steps of `read` (own): what a table holds as it is written, and as which fault a fault of tapes is reported. The
+-- contracts of private functions alone speak of it.
+use Rattle.std.specs.Prelude.{◌≡◌, ℕ, List, Some, false}
+use Rattle.csv.specs.Writing.{default_writer, fields_written, has_written, text_written, writer_setup}
+use Rattle.handset.specs.declared.tape.TapeFault.{TapeFault}
+use Rattle.handset.specs.declared.tape.TapeFault.TheVariants as tape
+use Rattle.warnc_inspect.specs.declared.read.ReadCommandFault.{ReadCommandFault}
+use Rattle.warnc_inspect.specs.declared.read.ReadCommandFault.TheVariants as fault
+use Rattle.warnc_inspect.specs.declared.table.Table.{Table}
+
+-- the table has these octets, and the last of its rows is ended
+pub record IsTable (table : Table) (octets : List ℕ) : Type 0 where
+  pub text : text_written (λ v. Some v.items) table.writer ≡ Some octets
+  pub setup : writer_setup table.writer ≡ default_writer
+  pub ended : fields_written table.writer ≡ 0
+  pub clean : has_written table.writer ≡ false
+
+-- the fault that a fault of tapes is reported as
+abbrev pub fault_of_tapes : TapeFault → ReadCommandFault
+fault_of_tapes tape.Short = fault.Short
+fault_of_tapes tape.Long = fault.Long
+fault_of_tapes tape.ReadFailed = fault.ReadFailed
+fault_of_tapes tape.Refused = fault.Refused

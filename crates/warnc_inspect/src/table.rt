@@ -1,0 +1,108 @@
+//! Tables as CSV, in memory.
+
+ghost use Rattle.std.specs.Prelude.{◌≡◌, ℕ, List, [], ◌∷◌, ◌++◌, length, map, IfOk, OnOk};
+ghost use Rattle.handset.specs.Keeping.{message_shown};
+ghost use Rattle.handset.specs.Tape.{reading_of};
+ghost use Rattle.warnc_inspect.specs.ReadOutput.{row, row_of_message};
+
+use csv::{Writer, WriterBuilder};
+use handset::{Reading, Shown, TakesReadings};
+use std::alloc::{AllocError, Global};
+
+/// A table of the messages that cells showed: the row of the columns' names, and a row for each message.
+#[derive(Drop)]
+pub struct Table {
+    alloc: Global,
+    writer: Writer<Vec<u8>>,
+}
+
+impl Table {
+    ghost use Rattle.std.specs.Prelude.{string_bytes};
+    ghost use Rattle.warnc_inspect.specs.ReadOutput.{reading_rows, table_of};
+    ghost use Rattle.warnc_inspect.specs.ReadSteps.{IsTable};
+
+    /// A table of no messages. The only error is that memory was refused.
+    pub fn new(alloc: Global) -> Result<Table, AllocError>
+        ensures { IfOk result (λ table. IsTable table (table_of [])) }
+    {
+        let mut table = Table::empty(alloc);
+        table.push_row(&[b"lac", b"ci", b"id", b"serial", b"text"])?;
+        Ok(table)
+    }
+
+    /// A table with no row.
+    fn empty(alloc: Global) -> Table
+        ensures { IsTable result [] }
+    {
+        Table {
+            alloc,
+            writer: WriterBuilder::new().from_writer(Vec::new(alloc)),
+        }
+    }
+
+    /// Appends the rows of a reading.
+    fn push_reading(&mut self, reading: &Reading) -> Result<(), AllocError>
+        ensures { OnOk result ((octets : List ℕ) → IsTable self.old octets →
+            IsTable self.new (octets ++ reading_rows (reading_of reading.now))) }
+    {
+        let lac = reading.cell.lac.to_string(self.alloc)?;
+        let ci = reading.cell.ci.to_string(self.alloc)?;
+        for message in &reading.shown {
+            self.push_message(&lac, &ci, message)?;
+        }
+        Ok(())
+    }
+
+    /// Appends the row of a message that a cell showed.
+    fn push_message<'a>(
+        &mut self,
+        lac: &'a str,
+        ci: &'a str,
+        message: &'a Shown,
+    ) -> Result<(), AllocError>
+        ensures { OnOk result ((octets : List ℕ) → IsTable self.old octets →
+            IsTable self.new (octets ++ row_of_message lac.now ci.now (message_shown message.now))) }
+    {
+        let id = message.id.to_string(self.alloc)?;
+        let serial = hex::encode(self.alloc, message.serial.number().to_be_bytes().as_slice())?;
+        self.push_row(&[
+            lac.as_bytes(),
+            ci.as_bytes(),
+            id.as_bytes(),
+            serial.as_bytes(),
+            message.text.as_bytes(),
+        ])
+    }
+
+    /// Appends a row. A writer to memory fails only if memory is refused.
+    fn push_row(&mut self, fields: &[&[u8]]) -> Result<(), AllocError>
+        ensures { OnOk result ((octets : List ℕ) → IsTable self.old octets →
+            IsTable self.new (octets ++ row (map (λ f. f.now) fields.now))) }
+    {
+        match self.writer.write_fields(fields) {
+            Ok(()) => Ok(()),
+            Err(_) => Err(AllocError),
+        }
+    }
+
+    /// The table's octets.
+    pub fn into_octets(self) -> Result<Vec<u8>, AllocError>
+        ensures { IfOk result (λ octets. (text : List ℕ) → IsTable self text → octets.items ≡ text) }
+    {
+        match self.writer.into_inner() {
+            Ok(octets) => Ok(octets),
+            Err(_) => Err(AllocError),
+        }
+    }
+}
+
+impl TakesReadings for Table {
+    ghost use Rattle.warnc_inspect.specs.ReadOutput.{table_of};
+    ghost use Rattle.warnc_inspect.specs.ReadSteps.{IsTable};
+
+    ghost HasTaken = { λ table readings. IsTable table (table_of readings) };
+
+    fn take(&mut self, reading: Reading) -> Result<(), AllocError> {
+        self.push_reading(&reading)
+    }
+}

@@ -1,0 +1,324 @@
+-- How tapes are written, and of which run they are.
+use Rattle.std.proofs.Common.{◌≡◌, ℕ, ◌<◌, ◌≤◌, List, [], ◌∷◌, ◌++◌, length, map, take, get_or, All}
+use Rattle.std.proofs.Common.{Option, Result, Err, IfErr, refl, sym, subst, ap, append-nil, append_assoc, ◌∙◌, suc}
+use Rattle.std.proofs.Common.{true, rules}
+use Rattle.std.proofs.Common.{◌⊎◌, inl, inr, ◌+◌, ◌*◌, zero}
+use native.Mathlib.Omega.{arith}
+use Rattle.std.proofs.KnownBytes.{Appends-trans}
+use Rattle.std.specs.Io.KnownBytes.{Appends, Keeps}
+use Rattle.std.specs.List.{flat_map}
+use Rattle.std.proofs.lemmas.List.{get_or_default, get_or_past, length-append, length-map, take-append-le, take_all}
+use Rattle.std.proofs.lemmas.List.Elements.{All-head, All-map, All-tail, All-weaker}
+use Rattle.std.proofs.Math.Nat.{mul-le-mul_left}
+use Rattle.std.proofs.lemmas.Bool.{cases_lt}
+use Rattle.std.proofs.Math.Seq.{take-append-add}
+use Rattle.std.specs.List.{AllByRecursion}
+use Rattle.handset.specs.Tape.{IsTape, TapeReading, slots_in}
+use Rattle.cbch_blocks.specs.RecordBlocks.{octets_of_blocks}
+use Rattle.book_runs.specs.Meant.{IsMeantIn}
+use Rattle.alert_book.specs.Book.{Contents, IsBook}
+use Rattle.cbsp_wire.specs.declared.message.Cell.{Cell}
+use Rattle.cbsp_wire.specs.Range.{cells_are_valid}
+use Rattle.bsc_table.specs.Record.{Record}
+use Rattle.cbch_blocks.specs.RecordBlocks.{tape_of_record}
+use Rattle.book_runs.specs.Live.{IsLiveRun, IsRunBy}
+use Rattle.book_runs.specs.LiveLaws.{LiveRunsAcceptWhatWasOrdered, LiveRunsShowTheBook, OneSessionIsARun}
+use Rattle.book_runs.specs.Ordered.{AreThoseStarted}
+use Rattle.book_runs.specs.Run.{Exchange}
+use Rattle.warnc_run.specs.declared.fault.RunFault.{RunFault}
+use Rattle.warnc_run.specs.declared.fault.RunFault.TheVariants as run
+use Rattle.parallel_compile.specs.declared.fault.CompileFault.TheVariants as compile
+use Rattle.warnc_run.specs.Compiled.{tape_size, IsCompiled, IsRunFault, IsSettleFault, Makes, ReadsBook}
+use Rattle.warnc_run.specs.Live.{IsLive}
+use Rattle.warnc_run.specs.RunSteps.{AreTapesOf, IsOfTapes, TakesFront}
+
+-- tapes, one after the other
+abbrev pub joined : List (List ℕ) → List ℕ
+joined tapes = flat_map (λ (tape : List ℕ). tape) tapes
+
+-- tapes of one size: whole ones and a front of the next are a front of all of them, joined
+front_is : (size : ℕ) (tapes : List (List ℕ)) (place written n : ℕ)
+    → All (λ tape. length tape ≡ size) tapes
+    → written ≤ size
+    → n ≡ size * place + written
+    → joined (take place tapes) ++ take written (get_or tapes place []) ≡ take n (joined tapes)
+front_is size [] place written n sizes fits is =
+    let none : List (List ℕ) = [] in
+    let nothing : List ℕ = [] in
+    ap (λ (front : List (List ℕ)). joined front ++ take written (get_or none place nothing))
+    (take_all place none (omega arith))
+    ∙ ap (take written) (get_or_past none place nothing (omega arith))
+    ∙ take_all written nothing (omega arith) ∙ sym (take_all n nothing (omega arith))
+front_is size (tape ∷ tapes) zero written n sizes fits is =
+    let long : length tape ≡ size = All-head (λ (t : List ℕ). length t ≡ size) tape tapes sizes in
+    let same : n ≡ written = omega (arith, is) in
+    sym (take-append-le written tape (joined tapes) (omega (arith, long, fits)))
+    ∙ ap (λ (m : ℕ). take m (tape ++ joined tapes)) (sym same)
+front_is size (tape ∷ tapes) (suc place) written n sizes fits is =
+    let long : length tape ≡ size = All-head (λ (t : List ℕ). length t ≡ size) tape tapes sizes in
+    let rest = All-tail (λ (t : List ℕ). length t ≡ size) tape tapes sizes in
+    let m = size * place + written in
+    let more : n ≡ length tape + m = omega (arith, is, long) in
+    append_assoc tape (joined (take place tapes)) (take written (get_or tapes place []))
+    ∙ ap (λ (octets : List ℕ). tape ++ octets) (front_is size tapes place written m rest fits refl)
+    ∙ sym (take-append-add tape (joined tapes) m)
+    ∙ ap (λ (k : ℕ). take k (tape ++ joined tapes)) (sym more)
+
+-- and how many octets they have
+joined_length : (size : ℕ) (tapes : List (List ℕ)) → All (λ tape. length tape ≡ size) tapes
+    → length (joined tapes) ≡ size * length tapes
+joined_length size [] sizes = omega arith
+joined_length size (tape ∷ tapes) sizes =
+    let long : length tape ≡ size = All-head (λ (t : List ℕ). length t ≡ size) tape tapes sizes in
+    let rest = joined_length size tapes (All-tail (λ (t : List ℕ). length t ≡ size) tape tapes sizes) in
+    let both = length-append tape (joined tapes) in
+    omega (arith, long, rest, both)
+
+-- what a writer took of tapes of one size
+pub record TakesFrontOf (size written : ℕ) (old new : Option (List ℕ)) (output : List ℕ) : Type 0 where
+  pub whole : ℕ
+  pub under_way : written < size
+  pub some_left : 0 < length output → size * whole + written < length output
+  pub front : Appends old new (take (size * whole + written) output)
+
+pub front_taken : (size : ℕ) (tapes : List (List ℕ)) (written : ℕ) (old new : Option (List ℕ))
+    → 0 < size
+    → All (λ tape. length tape ≡ size) tapes
+    → TakesFront tapes written old new
+    → TakesFrontOf size written old new (joined tapes)
+front_taken size tapes written old new some sizes taken =
+    by_place (cases_lt taken.place (length tapes))
+  where
+    inside : taken.place < length tapes → written < size
+    inside within =
+        let long : length (get_or tapes taken.place []) ≡ size = sizes taken.place [] within in
+        omega (arith, taken.less within, long)
+
+    room : taken.place < length tapes → size * taken.place + written < size * length tapes
+    room within =
+        let most : size * (taken.place + 1) ≤ size * length tapes = mul-le-mul_left size (omega (arith, within)) in
+        omega (arith, most, inside within)
+
+    front : written < size → Appends old new (take (size * taken.place + written) (joined tapes))
+    front less = subst (Appends old new)
+        (front_is size tapes taken.place written (size * taken.place + written) sizes (omega (arith, less)) refl)
+        taken.appended
+
+    by_place : (taken.place < length tapes) ⊎ (length tapes ≤ taken.place)
+        → TakesFrontOf size written old new (joined tapes)
+    by_place (inl within) = record {
+      whole = taken.place;
+      under_way = inside within;
+      some_left = λ _. omega (arith, room within, joined_length size tapes sizes);
+      front = front (inside within);
+    }
+    by_place (inr past) =
+        let less : written < size = omega (arith, taken.none past, some) in
+        let empty : length tapes ≡ 0 = none_left past in record {
+          whole = taken.place;
+          under_way = less;
+          some_left = λ there. absurd (omega (
+            arith,
+            there,
+            joined_length size tapes sizes,
+            nothing (length tapes) empty,
+          ));
+          front = front less;
+        }
+      where
+        none_left : length tapes ≤ taken.place → length tapes ≡ 0
+        none_left past = by_count (cases_lt 0 (length tapes))
+          where
+            by_count : (0 < length tapes) ⊎ (length tapes ≤ 0) → length tapes ≡ 0
+            by_count (inl there) = absurd (omega (arith, taken.within there, past))
+            by_count (inr none) = omega (arith, none)
+
+        nothing : (n : ℕ) → n ≡ 0 → size * n ≡ 0
+        nothing n is = ap (λ (k : ℕ). size * k) is ∙ (omega arith)
+
+-- after whole tapes a front of one more went out
+pub takes_front : (a b c : Option (List ℕ)) (tapes : List (List ℕ)) (i written : ℕ) (tape : List ℕ)
+    → i < length tapes
+    → tape ≡ get_or tapes i tape
+    → written < length tape
+    → Appends a b (joined (take i tapes))
+    → Appends b c (take written tape)
+    → TakesFront tapes written a c
+takes_front a b c tapes i written tape within is less before under_way =
+    let same : tape ≡ get_or tapes i [] = is ∙ get_or_default tapes i tape [] within in record {
+      place = i;
+      within = λ _. within;
+      less = λ _. subst (λ (t : List ℕ). written < length t) same less;
+      none = λ past. absurd (omega (arith, past, within));
+      appended = Appends-trans a b c (joined (take i tapes)) (take written (get_or tapes i [])) before
+          (subst (λ (t : List ℕ). Appends b c (take written t)) same under_way);
+    }
+
+-- the octets of blocks of 23 each
+blocks_size : (blocks : List (List ℕ)) → AllByRecursion (λ block. length block ≡ 23) blocks
+    → length (octets_of_blocks blocks) ≡ 23 * length blocks
+blocks_size [] each = refl
+blocks_size (block ∷ blocks) each =
+    let here : length block ≡ 23 = each.0 in
+    let rest = blocks_size blocks each.1 in
+    let both = length-append block (octets_of_blocks blocks) in
+    omega (arith, here, rest, both)
+
+-- a tape has the octets that its slots say
+tape_has_size : (octets : List ℕ) (reading : TapeReading) → IsTape octets reading
+    → length octets ≡ tape_size reading.slots
+tape_has_size octets reading tape =
+    let whole : length octets ≡ length (tape.header ++ octets_of_blocks tape.blocks) = ap length tape.joined in
+    let both = length-append tape.header (octets_of_blocks tape.blocks) in
+    let blocks = blocks_size tape.blocks tape.slots.each in
+    let slots : reading.slots ≡ slots_in tape.header = ap (λ (x : TapeReading). x.slots) tape.reading_is in
+    omega (arith, whole, both, blocks, tape.eight, tape.slots.four, slots)
+
+-- and so have the tapes of a run's records
+pub tapes_have_size : (book : Contents) (slots : ℕ) (records : List Record)
+    → All (IsMeantIn book) records
+    → All (λ r. r.slots ≡ slots) records
+    → All (λ tape. length tape ≡ tape_size slots) (map tape_of_record records)
+tapes_have_size book slots records meant runs =
+    All-map (λ (tape : List ℕ). length tape ≡ tape_size slots) tape_of_record records
+    (λ k d within. tape_has_size _ _ (meant k d within).tape ∙ ap tape_size (runs k d within))
+
+-- a fact of an error holds where that is the error
+pub where_it_is : {T E : Type 0} (P : E → Type 0) (r : Result T E) (e : E) → r ≡ Err e → P e → IfErr r P
+where_it_is P r e is holds = subst (λ x. IfErr x P) (sym is) holds
+
+-- tapes of records aren't empty
+pub tapes_have_octets : (tapes : List (List ℕ)) (records : List Record) → tapes ≡ map tape_of_record records
+    → All (λ tape. 0 < length tape) tapes
+tapes_have_octets tapes records made =
+    subst (All (λ (tape : List ℕ). 0 < length tape)) (sym made)
+    (All-map (λ (tape : List ℕ). 0 < length tape) tape_of_record records (λ k d within. omega arith))
+
+-- a book's cells are few, and so are their records
+pub records_are_few : (cells : List Cell) (records shown : List Record)
+    → cells_are_valid cells ≡ true
+    → map (λ (r : Record). r.cell) records ≡ cells
+    → shown ≡ records
+    → length shown ≤ 64
+records_are_few cells records shown valid are is =
+    let few : length cells ≤ 64 = search (rules, valid) in
+    subst (λ (n : ℕ). n ≤ 64)
+    (sym (ap length is ∙ sym (length-map records (λ (r : Record). r.cell)) ∙ ap length are)) few
+
+-- and joined they are the output
+pub joined_tapes : (records : List Record) → joined (map tape_of_record records) ≡ flat_map tape_of_record records
+joined_tapes [] = refl
+joined_tapes (r ∷ records) = ap (λ (rest : List ℕ). tape_of_record r ++ rest) (joined_tapes records)
+
+-- what has one element is that one
+pub only : {X : Type 0} (xs : List X) → length xs ≡ 1 → (x : X) × (xs ≡ x ∷ [])
+only [] count = absurd (omega (arith, count))
+only (x ∷ []) count = (x, refl)
+only (x ∷ (y ∷ rest)) count = absurd (omega (arith, count))
+
+-- a run of several sessions of the book whose octets were read is compiled to its tapes
+pub made_live : LiveRunsShowTheBook → LiveRunsAcceptWhatWasOrdered
+    → (input : List ℕ) (book : Contents) (slots parts : ℕ) (tapes : List (List ℕ))
+    → slots ≤ 65535
+    → IsBook input book
+    → AreTapesOf book slots parts tapes
+    → IsLive slots parts input (joined tapes)
+made_live law orders input book slots parts tapes few is_book are = record {
+  book = book;
+  is_book = is_book;
+  sessions = are.live.sessions;
+  parted = are.live.parted;
+  records = are.records;
+  run = are.live.run;
+  meant = law input book slots are.live.sessions are.records is_book few are.live.run;
+  accepted = orders input book slots are.live.sessions are.records is_book are.live.run;
+  written = ap joined are.made ∙ joined_tapes are.records;
+}
+
+-- what a writer that failed took of the tapes of a run
+pub taken_of_run : LiveRunsShowTheBook → (input : List ℕ) (book : Contents) (slots parts : ℕ) (tapes : List (List ℕ))
+    (written : ℕ) (old new : Option (List ℕ))
+    → slots ≤ 65535
+    → IsBook input book
+    → AreTapesOf book slots parts tapes
+    → TakesFront tapes written old new
+    → TakesFrontOf (tape_size slots) written old new (joined tapes)
+taken_of_run law input book slots parts tapes written old new few is_book are taken =
+    front_taken (tape_size slots) tapes written old new (omega arith)
+    (subst (All (λ (tape : List ℕ). length tape ≡ tape_size slots)) (sym are.made)
+    (tapes_have_size book slots are.records
+    (law input book slots are.live.sessions are.records is_book few are.live.run)
+    (All-weaker (IsRunBy slots are.live.sessions) (λ (r : Record). r.slots ≡ slots) (λ r run. run.run) are.records
+    are.live.run.each))) taken
+
+-- what one session makes of a book is what the book's session makes of it
+pub made_by_one : OneSessionIsARun → (slots : ℕ) (input output : List ℕ)
+    → IsLive slots 1 input output
+    → IsCompiled slots input output
+made_by_one one slots input output live =
+    let session = only live.sessions live.parted in record {
+      book = live.book;
+      is_book = live.is_book;
+      exchanges = session.0;
+      records = live.records;
+      run = one live.book slots session.0 live.records
+          (subst (λ (sessions : List (List Exchange)). IsLiveRun live.book slots sessions live.records) session.1
+          live.run);
+      meant = live.meant;
+      accepted = subst (λ (exchanges : List Exchange). All (AreThoseStarted live.book exchanges) live.records)
+          (ap (flat_map (λ (exchanges : List Exchange). exchanges)) session.1 ∙ append-nil session.0) live.accepted;
+      written = live.written;
+    }
+
+-- and so are the tapes that were written, and the front of them
+pub makes_by_one : OneSessionIsARun → (slots : ℕ) (first last old new : Option (List ℕ))
+    → Makes (IsLive slots 1) first last old new
+    → Makes (IsCompiled slots) first last old new
+makes_by_one one slots first last old new makes = record {
+  input = makes.input;
+  output = makes.output;
+  read = makes.read;
+  ended = makes.ended;
+  meant = made_by_one one slots makes.input makes.output makes.meant;
+  appended = makes.appended;
+}
+
+-- and the faults
+pub fault_by_one : OneSessionIsARun → (slots : ℕ) (first last old new : Option (List ℕ)) (fault : RunFault)
+    → IsRunFault slots 1 (IsLive slots 1) first last old new fault
+    → IsRunFault slots 1 (IsCompiled slots) first last old new fault
+fault_by_one one slots first last old new (run.Book f) is = is
+fault_by_one one slots first last old new (run.Desk f) is = is
+fault_by_one one slots first last old new (run.Settle f) is = is
+fault_by_one one slots first last old new (run.Compile f) is = is
+fault_by_one one slots first last old new run.Refused is = is
+fault_by_one one slots first last old new (run.Write failed) is = record {
+  input = is.input;
+  output = is.output;
+  read = is.read;
+  ended = is.ended;
+  meant = made_by_one one slots is.input is.output is.meant;
+  whole = is.whole;
+  under_way = is.under_way;
+  some_left = is.some_left;
+  front = is.front;
+}
+
+-- a fault of the run of a book whose octets were read, with nothing written
+pub fault_of_run : (slots parts : ℕ) (Means : (input output : List ℕ) → Type 0) (first last old new : Option (List ℕ))
+    (book : Contents) (fault : RunFault)
+    → (read : ReadsBook first last)
+    → read.book ≡ book
+    → IsOfTapes book slots parts fault
+    → Keeps old new
+    → IsRunFault slots parts Means first last old new fault
+fault_of_run slots parts Means first last old new book (run.Book f) read is of_book kept = absurd of_book
+fault_of_run slots parts Means first last old new book (run.Desk f) read is of_book kept = (of_book, read, kept)
+fault_of_run slots parts Means first last old new book (run.Settle f) read is of_book kept =
+    (read, subst (λ (b : Contents). IsSettleFault b slots parts f) (sym is) of_book, kept)
+fault_of_run slots parts Means first last old new book (run.Compile compile.Workers) read is of_book kept = (tt, kept)
+fault_of_run slots parts Means first last old new book (run.Compile compile.Refused) read is of_book kept = (read, kept)
+fault_of_run slots parts Means first last old new book (run.Compile (compile.Piece index)) read is of_book kept =
+    (read, kept)
+fault_of_run slots parts Means first last old new book (run.Write failed) read is of_book kept = absurd of_book
+fault_of_run slots parts Means first last old new book run.Refused read is of_book kept = kept

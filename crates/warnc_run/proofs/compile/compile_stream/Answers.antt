@@ -1,0 +1,13 @@
+use Rattle.std.proofs.lemmas.Result.{IfErr-weaker, on_ok_weaker}
+use Rattle.warnc_run.proofs.Written.{fault_by_one, makes_by_one}
+use Rattle.warnc_run.proofs.compile.compile_stream.Goals as goal
+
+pub returns-clause-ok : goal.returns-clause-ok
+returns-clause-ok g c =
+    on_ok_weaker c.live_stream.result (makes_by_one c.session_laws.ensures.one c.args.slots _ _ _ _)
+    c.live_stream.ensures.ok
+
+pub returns-clause-fault : goal.returns-clause-fault
+returns-clause-fault g c =
+    IfErr-weaker c.live_stream.result _ _ (fault_by_one c.session_laws.ensures.one c.args.slots _ _ _ _)
+    c.live_stream.ensures.fault

@@ -1,0 +1,69 @@
+use Rattle.std.proofs.Common.{◌<◌, ◌≤◌, ℕ, List, length, All, Err, ◌≡◌, refl, rules, sym, subst}
+use Rattle.std.proofs.KnownBytes.{Keeps-refl}
+use native.Mathlib.Omega.{arith}
+use Rattle.warnc_run.specs.Compiled.{ReadsBook}
+use Rattle.warnc_run.specs.Live.{IsLive}
+use Rattle.warnc_run.specs.RunSteps.{AreTapesOf}
+use Rattle.warnc_run.proofs.Written.{made_live, fault_of_run, joined, taken_of_run, tapes_have_octets, where_it_is}
+use Rattle.warnc_run.proofs.live.live_stream.Goals as goal
+
+pub write_tapes-requires : goal.write_tapes-requires
+write_tapes-requires g c =
+    let are = c.in_ok-tapes.ensures.ok in
+    subst (λ (tapes : List (List ℕ)). All (λ tape. 0 < length tape) tapes) (sym c.deref.ensures.value)
+    (tapes_have_octets c.in_ok-tapes.tapes.items are.records are.made)
+
+pub returns-in-Ok-write_tapes-clause-ok : goal.returns-in-Ok-write_tapes-clause-ok
+returns-in-Ok-write_tapes-clause-ok g c =
+    let read = c.in-Ok.ensures.right in
+    let tapes = c.deref.result.now in
+    let few : c.args.slots ≤ 65535 = omega (arith, c.ranges.slots.fits) in record {
+      input = read.input;
+      output = joined tapes;
+      read = read.consumed;
+      ended = read.ended;
+      meant = made_live c.session_laws.ensures.shown c.session_laws.ensures.accepted read.input c.in-Ok.book
+          c.args.slots c.args.sessions tapes few read.meant
+          (subst (AreTapesOf c.in-Ok.book c.args.slots c.args.sessions) (sym c.deref.ensures.value)
+          c.in_ok-tapes.ensures.ok);
+      appended = c.in-Ok-write_tapes.ensures.ok;
+    }
+
+pub returns-clause-fault : goal.returns-clause-fault
+returns-clause-fault g c =
+    let read = c.in-Ok.ensures.right in
+    let tapes = c.deref.result.now in
+    let few : c.args.slots ≤ 65535 = omega (arith, c.ranges.slots.fits) in
+    let taken = taken_of_run c.session_laws.ensures.shown read.input c.in-Ok.book c.args.slots c.args.sessions tapes
+    c.in-Err-write_tapes.fault.written _ _ few read.meant
+    (subst (AreTapesOf c.in-Ok.book c.args.slots c.args.sessions) (sym c.deref.ensures.value) c.in_ok-tapes.ensures.ok)
+    c.in-Err-write_tapes.ensures.err in record {
+      input = read.input;
+      output = joined tapes;
+      read = read.consumed;
+      ended = read.ended;
+      meant = made_live c.session_laws.ensures.shown c.session_laws.ensures.accepted read.input c.in-Ok.book
+          c.args.slots c.args.sessions tapes few read.meant
+          (subst (AreTapesOf c.in-Ok.book c.args.slots c.args.sessions) (sym c.deref.ensures.value)
+          c.in_ok-tapes.ensures.ok);
+      whole = taken.whole;
+      under_way = taken.under_way;
+      some_left = taken.some_left;
+      front = taken.front;
+    }
+
+pub returns-in_err-tapes-clause-fault : goal.returns-in_err-tapes-clause-fault
+returns-in_err-tapes-clause-fault g c =
+    let read = c.in-Ok.ensures.right in
+    let whole : ReadsBook _ _ = record {
+      input = read.input;
+      book = c.in-Ok.book;
+      read = read.consumed;
+      ended = read.ended;
+      is_book = read.meant;
+    } in
+    let fault = fault_of_run c.args.slots c.args.sessions (IsLive c.args.slots c.args.sessions) _ _ _ _ c.in-Ok.book
+    c.in_err-tapes.field-0.0 whole refl
+    c.in_err-tapes.ensures.err (Keeps-refl _) in
+    let is : c.from_residual.result ≡ Err c.in_err-tapes.field-0.0 = search (rules, c.from_residual.ensures) in
+    where_it_is _ c.from_residual.result c.in_err-tapes.field-0.0 is fault

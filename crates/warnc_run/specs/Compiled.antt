@@ -1,0 +1,135 @@
+-- What `warnc compile` makes of the octets that it reads: the tapes of the book's cells. Own.
+use Rattle.std.specs.Prelude.{◌≡◌, ◌≢◌, ⊤, ℕ, ◌+◌, ◌*◌, ◌<◌, ◌≤◌, List, length, take, Option, All}
+use Rattle.std.specs.Io.KnownBytes.{Appends, Consumes, IsAtEnd, Keeps}
+use Rattle.std.specs.List.{flat_map}
+use Rattle.device_ends.specs.Moves.{AppendsFront}
+use Rattle.alert_book.specs.Book.{Contents, IsBook, RefusesBook}
+use Rattle.bsc_table.specs.Record.{Record}
+use Rattle.order_desk.specs.declared.fault.DeskFault.{DeskFault}
+use Rattle.order_desk.specs.declared.fault.DeskFault.TheVariants as desk
+use Rattle.order_desk.specs.declared.note.Note.{Note}
+use Rattle.order_desk.specs.declared.settle.SettleFault.{SettleFault}
+use Rattle.order_desk.specs.declared.settle.SettleFault.TheVariants as settle
+use Rattle.order_desk.specs.Settled.{ClosedDesk, IsFault}
+use Rattle.cbch_blocks.specs.RecordBlocks.{tape_of_record}
+use Rattle.parallel_compile.specs.declared.fault.CompileFault.{CompileFault}
+use Rattle.parallel_compile.specs.declared.fault.CompileFault.TheVariants as compile
+use Rattle.warnc_run.specs.declared.fault.RunFault.{RunFault}
+use Rattle.warnc_run.specs.declared.fault.RunFault.TheVariants as fault
+use Rattle.book_runs.specs.Meant.{IsMeantIn}
+use Rattle.book_runs.specs.Ordered.{AreThoseStarted}
+use Rattle.book_runs.specs.Run.{Exchange, IsRun}
+
+-- what is written for the octets that were read: they are a book; its run gives each cell a record, which shows what
+-- the book means; each message that a cell accepted is one that an order of the book had it start, with that order's
+-- text, and no other order started one; and these are the tapes of the records, in the order of the book's cells, and
+-- nothing else
+pub record IsCompiled (slots : ℕ) (input output : List ℕ) : Type 0 where
+  pub book : Contents
+  pub is_book : IsBook input book
+  pub exchanges : List Exchange
+  pub records : List Record
+  pub run : IsRun book slots exchanges records
+  pub meant : All (IsMeantIn book) records
+  pub accepted : All (AreThoseStarted book exchanges) records
+  pub written : output ≡ flat_map tape_of_record records
+
+-- all of the octets were read, and the tapes that they mean were written: `first` and `last` are what the reader has
+-- left before and after, `old` and `new` what the writer holds
+pub record Makes (Means : (input output : List ℕ) → Type 0) (first last old new : Option (List ℕ)) : Type 0 where
+  pub input : List ℕ
+  pub output : List ℕ
+  pub read : Consumes first last input
+  pub ended : IsAtEnd last
+  pub meant : Means input output
+  pub appended : Appends old new output
+
+-- the same, but the writer took no more than a front of the tapes
+pub record MakesFront (Means : (input output : List ℕ) → Type 0) (first last old new : Option (List ℕ)) : Type 0
+  where
+    pub input : List ℕ
+    pub output : List ℕ
+    pub read : Consumes first last input
+    pub ended : IsAtEnd last
+    pub meant : Means input output
+    pub front : AppendsFront old new output
+
+-- how many octets a tape of so many slots has: a header of eight, and four blocks of 23 for each slot
+abbrev pub tape_size : (slots : ℕ) → ℕ
+tape_size slots = 8 + 92 * slots
+
+-- all of the octets were read. Of the tapes that they mean, of `size` octets each, the writer took some whole, and of
+-- the one under way the first `written` octets, and no more
+pub record MakesTapesFront (Means : (input output : List ℕ) → Type 0) (size written : ℕ)
+    (first last old new : Option (List ℕ)) : Type 0 where
+  pub input : List ℕ
+  pub output : List ℕ
+  pub read : Consumes first last input
+  pub ended : IsAtEnd last
+  pub meant : Means input output
+  pub whole : ℕ
+  pub under_way : written < size
+  pub some_left : 0 < length output → size * whole + written < length output
+  pub front : Appends old new (take (size * whole + written) output)
+
+-- all of the octets were read, and are a book
+pub record ReadsBook (first last : Option (List ℕ)) : Type 0 where
+  pub input : List ℕ
+  pub book : Contents
+  pub read : Consumes first last input
+  pub ended : IsAtEnd last
+  pub is_book : IsBook input book
+
+-- there are 1 to 64 workers
+abbrev pub AreWorkers : ℕ → Type 0
+AreWorkers workers = (0 < workers) × (workers ≤ 64)
+
+-- a fault of the writer
+abbrev pub IsWriteFault : RunFault → Type 0
+IsWriteFault (fault.Write failed) = ⊤
+IsWriteFault other = ⊥
+
+-- why workers made no tapes, of octets that the reader has left before and after: there can't be so many of them, or
+-- the octets are a book, and memory ran out, or the tape at a place isn't that of the cell's record
+abbrev pub IsCompileFault : (first last : Option (List ℕ)) → CompileFault → Type 0
+IsCompileFault first last compile.Workers = ⊤
+IsCompileFault first last compile.Refused = ReadsBook first last
+IsCompileFault first last (compile.Piece index) = ReadsBook first last
+
+-- a fault of the desk under an order of a session: it is out of memory, or finds the book of another cell in a lock
+abbrev pub IsDeskFault : DeskFault → Type 0
+IsDeskFault (desk.Memory done) = ⊤
+IsDeskFault desk.Unknown = ⊤
+IsDeskFault other = ⊥
+
+-- a fault of the settlement of a book's run with so many sessions: some notes of passes don't agree with what a closed
+-- desk of the book's cells holds, and this is the first thing that is wrong; or the pass of this part isn't that of the
+-- part's session, where their number stands for all later passes; or it is out of memory
+abbrev pub IsSettleFault : (book : Contents) (slots parts : ℕ) → SettleFault → Type 0
+IsSettleFault book slots parts (settle.Session part) = part ≤ parts
+IsSettleFault book slots parts other =
+    (closed : ClosedDesk) × (passes : List (List Note)) × (closed.cells ≡ book.cells) × (closed.slots ≡ slots)
+    × IsFault closed passes other
+
+-- the faults with which a run of a book can end for another reason than memory: no contract excludes them, since what a
+-- lock of the desk holds, and what a worker sends, is known by its type alone
+abbrev pub StopsRun : (book : Contents) (slots parts : ℕ) → RunFault → Type 0
+StopsRun book slots parts (fault.Desk f) = f ≡ desk.Unknown
+StopsRun book slots parts (fault.Settle f) = (f ≢ settle.Refused) × IsSettleFault book slots parts f
+StopsRun book slots parts (fault.Compile (compile.Piece index)) = ⊤
+StopsRun book slots parts other = ⊥
+
+-- why no tapes were made of a book, in runs of so many slots and with so many sessions: the fault is the book's; or the
+-- octets are a book, and the desk was out of memory or found the book of another cell, or wasn't settled; or it is the
+-- workers' fault; or memory ran out; and nothing is written. Or the writer failed with a front of the tapes
+abbrev pub IsRunFault : (slots parts : ℕ) (Means : (input output : List ℕ) → Type 0)
+    (first last old new : Option (List ℕ)) → RunFault → Type 0
+IsRunFault slots parts Means first last old new (fault.Book f) = RefusesBook first last f × Keeps old new
+IsRunFault slots parts Means first last old new (fault.Desk f) =
+    IsDeskFault f × ReadsBook first last × Keeps old new
+IsRunFault slots parts Means first last old new (fault.Settle f) =
+    (read : ReadsBook first last) × IsSettleFault read.book slots parts f × Keeps old new
+IsRunFault slots parts Means first last old new (fault.Compile f) = IsCompileFault first last f × Keeps old new
+IsRunFault slots parts Means first last old new fault.Refused = Keeps old new
+IsRunFault slots parts Means first last old new (fault.Write failed) =
+    MakesTapesFront Means (tape_size slots) failed.written first last old new

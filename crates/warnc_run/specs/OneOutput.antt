@@ -1,0 +1,26 @@
+-- What is written for a book is a function of its octets and of the number of slots (own).
+use Rattle.std.specs.Prelude.{◌≡◌, ℕ, List}
+use Rattle.warnc_run.specs.Compiled.{IsCompiled}
+use Rattle.warnc_run.specs.Live.{IsLive}
+use Rattle.warnc_run.specs.Reported.{IsReported}
+
+-- the tapes that are written for a book are the same whatever the number of workers, the machine and the day
+abbrev pub CompiledIsOne : Type 0
+CompiledIsOne = (slots : ℕ) (input output other : List ℕ)
+    → IsCompiled slots input output
+    → IsCompiled slots input other
+    → output ≡ other
+
+-- and so is the report
+abbrev pub ReportedIsOne : Type 0
+ReportedIsOne = (slots : ℕ) (input output other : List ℕ)
+    → IsReported slots input output
+    → IsReported slots input other
+    → output ≡ other
+
+-- with one session, `live` writes the tapes that `compile` writes
+abbrev pub LiveOfOneIsCompiled : Type 0
+LiveOfOneIsCompiled = (slots : ℕ) (input output other : List ℕ)
+    → IsLive slots 1 input output
+    → IsCompiled slots input other
+    → output ≡ other

@@ -1,0 +1,57 @@
+-- What `warnc report` makes of the octets that it reads: the report of the book's cells. Own.
+use Rattle.std.specs.Prelude.{◌≡◌, ⊤, ℕ, List, Option, All, map}
+use Rattle.std.specs.Io.KnownBytes.{Keeps}
+use Rattle.alert_book.specs.Book.{Contents, IsBook}
+use Rattle.bsc_table.specs.Record.{Record}
+use Rattle.cbch_blocks.specs.RecordBlocks.{blocks_of}
+use Rattle.handset.specs.Reception.{shown_in}
+use Rattle.handset.specs.Tape.{TapeReading}
+use Rattle.book_runs.specs.Meant.{IsMeantIn}
+use Rattle.book_runs.specs.Ordered.{AreThoseStarted}
+use Rattle.book_runs.specs.Run.{Exchange, IsRun}
+use Rattle.parallel_compile.specs.declared.fault.CompileFault.TheVariants as compile
+use Rattle.report.specs.ReportText.{report_text}
+use Rattle.report.specs.Rows.{rows_of}
+use Rattle.report.specs.declared.fault.ReportFault.TheVariants as report
+use Rattle.warnc_run.specs.declared.fault.RunFault.{RunFault}
+use Rattle.warnc_run.specs.declared.fault.RunFault.TheVariants as run
+use Rattle.warnc_run.specs.declared.report_run.ReportRunFault.{ReportRunFault}
+use Rattle.warnc_run.specs.declared.report_run.ReportRunFault.TheVariants as fault
+use Rattle.warnc_run.specs.Compiled.{IsRunFault, IsWriteFault, MakesFront, ReadsBook}
+
+-- what a handset shows that reads the blocks of a record, with the record's cell and slots
+abbrev pub reading_of_record : Record → TapeReading
+reading_of_record r = record { cell = r.cell; slots = r.slots; shown = shown_in (blocks_of r) }
+
+-- what is written for the octets that were read: they are a book; its run gives each cell a record, which shows what
+-- the book means; each message that a cell accepted is one that an order of the book had it start; and this is the
+-- report of the records and of what handsets read of their blocks, and nothing else
+pub record IsReported (slots : ℕ) (input output : List ℕ) : Type 0 where
+  pub book : Contents
+  pub is_book : IsBook input book
+  pub exchanges : List Exchange
+  pub records : List Record
+  pub run : IsRun book slots exchanges records
+  pub meant : All (IsMeantIn book) records
+  pub accepted : All (AreThoseStarted book exchanges) records
+  pub written : output ≡ report_text (rows_of records (map reading_of_record records))
+
+-- a fault of the writer
+abbrev pub IsReportWriteFault : ReportRunFault → Type 0
+IsReportWriteFault (fault.Report report.WriteFailed) = ⊤
+IsReportWriteFault other = ⊥
+
+-- a fault of the workers: the tape at a place isn't that of the cell's record
+abbrev pub IsPieceFault : RunFault → Type 0
+IsPieceFault (run.Compile (compile.Piece index)) = ⊤
+IsPieceFault other = ⊥
+
+-- why no report was made: a fault of the run, with nothing written; or memory ran out after it, with nothing written;
+-- or the writer failed with a front of the report. The cells never differ, and no tape is another record's
+abbrev pub IsReportRunFault : (slots : ℕ) (Means : (input output : List ℕ) → Type 0)
+    (first last old new : Option (List ℕ)) → ReportRunFault → Type 0
+IsReportRunFault slots Means first last old new (fault.Run f) =
+    (IsWriteFault f → ⊥) × (IsPieceFault f → ⊥) × IsRunFault slots 1 Means first last old new f
+IsReportRunFault slots Means first last old new (fault.Report report.Cells) = ⊥
+IsReportRunFault slots Means first last old new (fault.Report report.WriteFailed) = MakesFront Means first last old new
+IsReportRunFault slots Means first last old new (fault.Report report.Refused) = ReadsBook first last × Keeps old new

@@ -1,0 +1,84 @@
+-- Steps of a run (own). The contracts of private functions alone speak of them.
+use Rattle.std.specs.Prelude.{◌≡◌, ◌≢◌, ⊤, ℕ, ◌<◌, ◌≤◌, List, [], ◌∷◌, ◌++◌, length, map, take, slice_index_or, All}
+use Rattle.std.specs.Prelude.{Option, Result, Err, IsOk}
+use Rattle.std.specs.Io.KnownBytes.{Appends}
+use Rattle.std.specs.List.{flat_map}
+use Rattle.alert_book.specs.Book.{Contents}
+use Rattle.bsc_table.specs.Record.{Record}
+use Rattle.cbch_blocks.specs.RecordBlocks.{tape_of_record}
+use Rattle.book_runs.specs.Live.{IsLiveRun}
+use Rattle.book_runs.specs.Run.{Exchange}
+use Rattle.parallel_compile.specs.declared.fault.CompileFault.TheVariants as compile
+use Rattle.report.specs.Rows.{rows_of}
+use Rattle.report.specs.declared.row.Row.{Row}
+use Rattle.report.specs.declared.fault.ReportFault.TheVariants as report
+use Rattle.warnc_run.specs.Compiled.{IsDeskFault, IsSettleFault}
+use Rattle.warnc_run.specs.Reported.{reading_of_record}
+use Rattle.warnc_run.specs.declared.fault.RunFault.{RunFault}
+use Rattle.warnc_run.specs.declared.fault.RunFault.TheVariants as fault
+use Rattle.warnc_run.specs.declared.report_run.ReportRunFault.{ReportRunFault}
+use Rattle.warnc_run.specs.declared.report_run.ReportRunFault.TheVariants as reports
+
+-- a fault of threads at a desk: the desk's, only if it is out of memory or finds the book of another cell; or the
+-- workers', only if they are out of memory; or of memory
+abbrev pub IsOfRun : RunFault → Type 0
+IsOfRun (fault.Book f) = ⊥
+IsOfRun (fault.Write failed) = ⊥
+IsOfRun (fault.Settle f) = ⊥
+IsOfRun (fault.Desk f) = IsDeskFault f
+IsOfRun (fault.Compile f) = f ≡ compile.Refused
+IsOfRun fault.Refused = ⊤
+
+-- a fault of the run of a book with so many sessions: of its threads, or of its settlement
+abbrev pub IsOfBook : (book : Contents) (slots parts : ℕ) → RunFault → Type 0
+IsOfBook book slots parts (fault.Settle f) = IsSettleFault book slots parts f
+IsOfBook book slots parts other = IsOfRun other
+
+-- a fault of the tapes of such a run: of the run, or of the workers, but for their number
+abbrev pub IsOfTapes : (book : Contents) (slots parts : ℕ) → RunFault → Type 0
+IsOfTapes book slots parts (fault.Compile f) = f ≢ compile.Workers
+IsOfTapes book slots parts other = IsOfBook book slots parts other
+
+-- a thread has ended with this fault, and all before it had none
+pub record IsFirstFault (dones : List (Result ⊤ RunFault)) (fault : RunFault) : Type 0 where
+  pub before : List (Result ⊤ RunFault)
+  pub after : List (Result ⊤ RunFault)
+  pub split : dones ≡ before ++ Err fault ∷ after
+  pub none : All IsOk before
+
+-- the writer took the first of these tapes whole, and of the one at this place the first `written` octets, and no more
+pub record TakesFront (tapes : List (List ℕ)) (written : ℕ) (old new : Option (List ℕ)) : Type 0 where
+  pub place : ℕ
+  pub within : 0 < length tapes → place < length tapes
+  pub less : place < length tapes → written < length (slice_index_or tapes place [])
+  pub none : length tapes ≤ place → written ≡ 0
+  pub appended : Appends old new
+      (flat_map (λ (tape : List ℕ). tape) (take place tapes) ++ take written (slice_index_or tapes place []))
+
+-- a fault of the readings of tapes: of threads, or of memory
+abbrev pub IsOfReport : ReportRunFault → Type 0
+IsOfReport (reports.Run f) = IsOfRun f
+IsOfReport (reports.Report f) = f ≡ report.Refused
+
+-- a fault of the report of a book under way: of the book's run, or of memory
+abbrev pub IsOfBookReport : (book : Contents) (slots : ℕ) → ReportRunFault → Type 0
+IsOfBookReport book slots (reports.Run f) = IsOfBook book slots 1 f
+IsOfBookReport book slots (reports.Report f) = f ≡ report.Refused
+
+-- the records of a run of a book with a session for each part
+pub record HaveRunLive (book : Contents) (slots parts : ℕ) (records : List Record) : Type 0 where
+  pub sessions : List (List Exchange)
+  pub parted : length sessions ≡ parts
+  pub run : IsLiveRun book slots sessions records
+
+-- these are the tapes of such a run
+pub record AreTapesOf (book : Contents) (slots parts : ℕ) (tapes : List (List ℕ)) : Type 0 where
+  pub records : List Record
+  pub live : HaveRunLive book slots parts records
+  pub made : tapes ≡ map tape_of_record records
+
+-- these are the rows of the report of a run of one session
+pub record AreRowsOf (book : Contents) (slots : ℕ) (rows : List Row) : Type 0 where
+  pub records : List Record
+  pub live : HaveRunLive book slots 1 records
+  pub made : rows ≡ rows_of records (map reading_of_record records)

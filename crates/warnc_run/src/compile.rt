@@ -1,0 +1,55 @@
+//! The command `compile`: a book of alerts to the tapes of its cells.
+
+ghost use Rattle.std.specs.Prelude.{◌≡◌, ◌↔◌, IfErr, IsErrOf, OnOk};
+ghost use Rattle.device_ends.specs.Sink.{writer_of};
+ghost use Rattle.device_ends.specs.Source.{reader_of};
+ghost use Rattle.device_ends.specs.Stream.{IsStreamBetween};
+ghost use Rattle.alert_book.specs.Book.{unread};
+ghost use Rattle.parallel_compile.specs.declared.fault.CompileFault.TheVariants as compile;
+ghost use Rattle.warnc_run.specs.Compiled.{AreWorkers, IsCompiled, IsRunFault, IsWriteFault, Makes};
+ghost use Rattle.warnc_run.specs.declared.fault.RunFault.TheVariants as faults;
+
+use crate::fault::RunFault;
+use crate::live::live_stream;
+use device_ends::{Sink, Source};
+use order_desk::Open;
+use std::io::{Read, Write};
+use std::sync::Wait;
+use std::thread::Threads;
+
+/// Reads a book, and has the cells of a desk carry out what its one session orders, in runs of `slots` slots, as
+/// [`live_stream`](crate::live_stream) does with one session: `workers` workers, 1 to 64, play the cells.
+///
+/// What was written is what the book means (`IsCompiled`): there is one session, whose messages are those of the book's
+/// rows by the replies that it gets; each cell's log has what the messages order of it, in order, once each and nothing
+/// else, each at the least slot that is neither before its message's nor before the entry before it; and all else is as
+/// for several sessions.
+///
+/// # Errors
+///
+/// Returns the faults of [`live_stream`](crate::live_stream).
+pub fn compile_stream<T: AllocGlobal + Threads + Wait + Sync, R: Read, W: Write>(
+    rt: &T,
+    source: &mut Source<R>,
+    sink: &mut Sink<W>,
+    slots: u16,
+    workers: u64,
+) -> Result<(), RunFault>
+    ensures ok { OnOk result (Makes (IsCompiled slots) (R.remaining (reader_of source.old))
+        (R.remaining (reader_of source.new)) (W.contents (writer_of sink.old)) (W.contents (writer_of sink.new))) }
+    ensures fault { IfErr result (IsRunFault slots 1 (IsCompiled slots) (R.remaining (reader_of source.old))
+        (R.remaining (reader_of source.new)) (W.contents (writer_of sink.old)) (W.contents (writer_of sink.new))) }
+
+    // The number of workers is judged first, and nothing is done if it is wrong.
+    ensures workers { IsErrOf result (faults.Compile compile.Workers) ↔ (AreWorkers workers → ⊥) }
+    ensures untried { IsErrOf result (faults.Compile compile.Workers)
+        → (source.new ≡ source.old) × (sink.new ≡ sink.old) }
+
+    // At any reader and any writer.
+    ensures any_ends { AreWorkers workers → IsStreamBetween (faults.Book unread) IsWriteFault result source.old
+        source.new sink.old sink.new (W.contents (writer_of sink.old)) (W.contents (writer_of sink.new)) }
+{
+    // A run of one session is a run of the book.
+    book_runs::session_laws();
+    live_stream(rt, source, sink, slots, 1, workers, &Open)
+}

@@ -1,0 +1,30 @@
+//! The end of a run: its tapes are written.
+
+ghost use Rattle.std.specs.Prelude.{◌≡◌, ◌<◌, ℕ, List, length, true, is_err, All, IfErr, OnOk};
+ghost use Rattle.std.specs.Io.KnownBytes.{Appends};
+ghost use Rattle.std.specs.List.{flat_map};
+ghost use Rattle.device_ends.specs.Sink.{sink_failed, writer_of};
+ghost use Rattle.warnc_run.specs.RunSteps.{TakesFront};
+
+use cbch_blocks::{Tape, WriteFailed};
+use device_ends::Sink;
+use std::io::Write;
+
+/// Writes tapes, one after the other.
+pub(crate) fn write_tapes<W: Write>(tapes: &[Tape], sink: &mut Sink<W>) -> Result<(), WriteFailed>
+    requires { All (λ tape. 0 < length tape) tapes.now }
+    ensures ok { OnOk result (Appends (W.contents (writer_of sink.old))
+        (W.contents (writer_of sink.new)) (flat_map (λ (tape : List ℕ). tape) tapes.now)) }
+    ensures err { IfErr result (λ failed. TakesFront tapes.now failed.written (W.contents (writer_of sink.old))
+        (W.contents (writer_of sink.new))) }
+    ensures failed { sink_failed sink.new ≡ is_err result }
+    ensures failed_stays { sink_failed sink.old ≡ true → sink.new ≡ sink.old }
+{
+    if sink.failed() {
+        return Err(WriteFailed { written: 0 });
+    }
+    for tape in tapes {
+        tape.write_to(sink)?;
+    }
+    Ok(())
+}

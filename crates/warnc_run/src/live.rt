@@ -1,0 +1,89 @@
+//! The command `live`: a book of alerts, whose parts are ordered side by side, to the tapes of its cells.
+
+ghost use Rattle.std.specs.Prelude.{◌≡◌, ◌↔◌, ◌<◌, ◌≤◌, IfErr, IsErrOf, OnOk};
+ghost use Rattle.device_ends.specs.Sink.{writer_of};
+ghost use Rattle.device_ends.specs.Source.{reader_of};
+ghost use Rattle.device_ends.specs.Stream.{IsStreamBetween};
+ghost use Rattle.alert_book.specs.Book.{unread};
+ghost use Rattle.parallel_compile.specs.declared.fault.CompileFault.TheVariants as compile;
+ghost use Rattle.warnc_run.specs.Compiled.{AreWorkers, IsRunFault, IsWriteFault, Makes};
+ghost use Rattle.warnc_run.specs.Live.{IsLive};
+ghost use Rattle.warnc_run.specs.declared.fault.RunFault.TheVariants as faults;
+
+use crate::counts::{Sessions, Workers};
+use crate::fault::RunFault;
+use crate::finish::write_tapes;
+use crate::tapes::tapes_of_book;
+use alert_book::read_book;
+use device_ends::{Sink, Source};
+use order_desk::Gate;
+use parallel_compile::CompileFault;
+use std::io::{Read, Write};
+use std::sync::Wait;
+use std::thread::Threads;
+
+/// Reads a book, and has the cells of a desk carry out what the sessions of its parts order, in runs of `slots` slots:
+/// there are `sessions` of them, 1 to 64, each in a thread of its own with a pass of its own. Once they have ended,
+/// `workers` workers, 1 to 64, each with a pass of its own, play the cells to the ends of their runs and hand their
+/// pages on as they are played; the tapes are put together from them while the desk is open. Then the desk is settled
+/// with all passes, and the tapes are compared with the records of the cells, and written in the order of the book.
+/// Nothing is written before that. `gate` is called while a cell is held.
+///
+/// What was written is what the book means (`IsLive`): there is a session for each part, whose messages are those of
+/// the part's rows by the replies that it gets; each cell's log has what the sessions order of it, each session's in
+/// its order, once each and nothing else, each at the least slot that is neither before its message's nor before the
+/// entry before it; each answer is the one that the cell's log and air give; and a handset that reads the cell's tape
+/// is shown exactly the texts of the orders that the cell accepted and of which a broadcast is whole, once each, with
+/// their identifiers and serial numbers. Each completed number and each reported one is that of the whole broadcasts in
+/// the blocks. All this is so whichever session came first, and does not depend on the number of workers.
+///
+/// # Errors
+///
+/// Returns the book's fault, the desk's, the settlement's, the workers' or [`RunFault::Refused`] with nothing written,
+/// and [`RunFault::Write`] with some tapes written whole, and of the one under way as many octets as it names. What a
+/// lock of the desk holds is known by its type alone, and what a worker sends by the type of its messages, so no
+/// contract excludes [`RunFault::Desk`] with `Unknown`, [`RunFault::Settle`], and [`CompileFault::Piece`] for a tape
+/// that isn't its record's; the desk refuses no order for what it says. With no workers or over 64 it returns
+/// [`RunFault::Compile`] with [`CompileFault::Workers`], before anything is read. Of sessions that met a fault of the
+/// desk, the least one's is returned, unless memory runs out.
+pub fn live_stream<T: AllocGlobal + Threads + Wait + Sync, R: Read, W: Write, G: Gate>(
+    rt: &T,
+    source: &mut Source<R>,
+    sink: &mut Sink<W>,
+    slots: u16,
+    sessions: u16,
+    workers: u64,
+    gate: &G,
+) -> Result<(), RunFault>
+    requires some { 0 < sessions }
+    requires few { sessions ≤ 64 }
+    ensures ok { OnOk result (Makes (IsLive slots sessions) (R.remaining (reader_of source.old))
+        (R.remaining (reader_of source.new)) (W.contents (writer_of sink.old)) (W.contents (writer_of sink.new))) }
+    ensures fault { IfErr result (IsRunFault slots sessions (IsLive slots sessions) (R.remaining (reader_of source.old))
+        (R.remaining (reader_of source.new)) (W.contents (writer_of sink.old)) (W.contents (writer_of sink.new))) }
+
+    // The number of workers is judged first, and nothing is done if it is wrong.
+    ensures workers { IsErrOf result (faults.Compile compile.Workers) ↔ (AreWorkers workers → ⊥) }
+    ensures untried { IsErrOf result (faults.Compile compile.Workers)
+        → (source.new ≡ source.old) × (sink.new ≡ sink.old) }
+
+    // At any reader and any writer.
+    ensures any_ends { AreWorkers workers → IsStreamBetween (faults.Book unread) IsWriteFault result source.old
+        source.new sink.old sink.new (W.contents (writer_of sink.old)) (W.contents (writer_of sink.new)) }
+{
+    // A handset is shown what the book means, whatever the cells answered, and whichever session came first.
+    book_runs::session_laws();
+    let Some(workers) = Workers::new(workers) else {
+        return Err(RunFault::Compile(CompileFault::Workers));
+    };
+    let book = match read_book(rt, source) {
+        Ok(book) => book,
+        Err(fault) => return Err(RunFault::Book(fault)),
+    };
+    let sessions = Sessions { number: sessions };
+    let tapes = tapes_of_book(rt, &book, slots, sessions, workers, gate)?;
+    match write_tapes(&tapes, sink) {
+        Ok(()) => Ok(()),
+        Err(fault) => Err(RunFault::Write(fault)),
+    }
+}

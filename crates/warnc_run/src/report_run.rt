@@ -1,0 +1,198 @@
+//! The command `report`: a book of alerts to the report of its cells.
+
+ghost use Rattle.std.specs.Prelude.{◌≡◌, ◌↔◌, ◌≤◌, ◌++◌, ℕ, List, length, map, All, IfErr, IfOk, IsErrOf, OnOk};
+ghost use Rattle.device_ends.specs.Sink.{writer_of};
+ghost use Rattle.device_ends.specs.Source.{reader_of};
+ghost use Rattle.device_ends.specs.Stream.{IsStreamBetween};
+ghost use Rattle.alert_book.specs.Book.{unread, IsBook};
+ghost use Rattle.cbch_blocks.specs.RecordBlocks.{tape_of_record};
+ghost use Rattle.handset.specs.Tape.{readings_of, IsTape};
+ghost use Rattle.parallel_compile.specs.declared.fault.CompileFault.TheVariants as compile;
+ghost use Rattle.warnc_run.specs.Compiled.{AreWorkers, Makes};
+ghost use Rattle.warnc_run.specs.Reported.{reading_of_record, IsReported, IsReportRunFault, IsReportWriteFault};
+ghost use Rattle.warnc_run.specs.RunSteps.{AreRowsOf, IsOfBookReport, IsOfReport};
+ghost use Rattle.warnc_run.specs.declared.fault.RunFault.TheVariants as faults;
+ghost use Rattle.warnc_run.specs.declared.report_run.ReportRunFault.TheVariants as reports;
+
+use crate::counts::Workers;
+use crate::fault::RunFault;
+use crate::tapes::records_of_book;
+use alert_book::{Book, read_book};
+use bsc_table::CellRecord;
+use device_ends::{Sink, Source};
+use handset::{Reading, read_tape};
+use order_desk::Open;
+use parallel_compile::{CompileFault, compile_all};
+use report::{ReportFault, Row, rows, write_report};
+use std::alloc::{AllocError, AllocFailed};
+use std::io::{Read, Write};
+use std::sync::Wait;
+use std::thread::Threads;
+use thiserror::Error;
+
+/// Why the report of a book isn't written.
+#[derive(Clone, Copy, Debug, PartialEq, Eq, Error)]
+pub enum ReportRunFault {
+    /// There are no tapes of the book.
+    #[error("{0}")]
+    Run(RunFault),
+    /// There is no report of the tapes, or the writer failed.
+    #[error("{0}")]
+    Report(ReportFault),
+}
+
+impl From<RunFault> for ReportRunFault {
+    ghost from_gives = { λ run fault. fault ≡ reports.Run run };
+
+    fn from(fault: RunFault) -> ReportRunFault {
+        ReportRunFault::Run(fault)
+    }
+}
+
+impl From<CompileFault> for ReportRunFault {
+    ghost from_gives = { λ compile fault. fault ≡ reports.Run (faults.Compile compile) };
+
+    fn from(fault: CompileFault) -> ReportRunFault {
+        ReportRunFault::Run(RunFault::Compile(fault))
+    }
+}
+
+impl From<AllocError> for ReportRunFault {
+    ghost from_gives = { λ _ fault. fault ≡ reports.Run faults.Refused };
+
+    fn from(_error: AllocError) -> ReportRunFault {
+        ReportRunFault::Run(RunFault::Refused)
+    }
+}
+
+impl<T: Drop> From<AllocFailed<T>> for ReportRunFault {
+    ghost from_gives = { λ _ fault. fault ≡ reports.Run faults.Refused };
+
+    fn from(_error: AllocFailed<T>) -> ReportRunFault {
+        ReportRunFault::Run(RunFault::Refused)
+    }
+}
+
+/// Reads a book, has its one session order at a desk as [`compile_stream`](crate::compile_stream) does, makes the tapes
+/// of the settled desk's records, reads them as handsets do, and writes a report of what became of each order of each
+/// cell, as CSV. Nothing is written before all of it is made. `workers` workers, 1 to 64, play the cells and make the
+/// tapes. What is promised does not depend on their number.
+///
+/// What was written is the report of what the book means (`IsReported`): of each message that a cell accepted its start
+/// and end, how many of its broadcasts are whole in the blocks, and whether a handset that reads the cell's tape shows
+/// it; and of each order that a cell refused the cause.
+///
+/// # Errors
+///
+/// Returns the faults of [`compile_stream`](crate::compile_stream) but [`RunFault::Write`] and [`CompileFault::Piece`],
+/// with nothing written, and of the report [`ReportFault::Refused`] with nothing written and
+/// [`ReportFault::WriteFailed`] with a front of it.
+pub fn report_stream<T: AllocGlobal + Threads + Wait + Sync, R: Read, W: Write>(
+    rt: &T,
+    source: &mut Source<R>,
+    sink: &mut Sink<W>,
+    slots: u16,
+    workers: u64,
+) -> Result<(), ReportRunFault>
+    ensures ok { OnOk result (Makes (IsReported slots) (R.remaining (reader_of source.old))
+        (R.remaining (reader_of source.new)) (W.contents (writer_of sink.old)) (W.contents (writer_of sink.new))) }
+    ensures fault { IfErr result (IsReportRunFault slots (IsReported slots) (R.remaining (reader_of source.old))
+        (R.remaining (reader_of source.new)) (W.contents (writer_of sink.old)) (W.contents (writer_of sink.new))) }
+
+    // The number of workers is judged first, and nothing is done if it is wrong.
+    ensures workers { IsErrOf result (reports.Run (faults.Compile compile.Workers)) ↔ (AreWorkers workers → ⊥) }
+    ensures untried { IsErrOf result (reports.Run (faults.Compile compile.Workers))
+        → (source.new ≡ source.old) × (sink.new ≡ sink.old) }
+
+    // At any reader and any writer.
+    ensures any_ends { AreWorkers workers → IsStreamBetween (reports.Run (faults.Book unread)) IsReportWriteFault result
+        source.old source.new sink.old sink.new (W.contents (writer_of sink.old)) (W.contents (writer_of sink.new)) }
+{
+    // A handset is shown what the book means, whatever the cells answered.
+    book_runs::run_laws();
+    book_runs::order_laws();
+    book_runs::session_laws();
+    let Some(workers) = Workers::new(workers) else {
+        return Err(ReportRunFault::Run(RunFault::Compile(CompileFault::Workers)));
+    };
+    let book = match read_book(rt, source) {
+        Ok(book) => book,
+        Err(fault) => return Err(ReportRunFault::Run(RunFault::Book(fault))),
+    };
+    let rows = rows_of_book(rt, book, slots, workers)?;
+    match write_report(rt.alloc(), &rows, sink) {
+        Ok(()) => Ok(()),
+        Err(fault) => Err(ReportRunFault::Report(fault)),
+    }
+}
+
+/// The rows of the report of a book's run. The book goes before they are made.
+fn rows_of_book<T: AllocGlobal + Threads + Wait + Sync>(
+    rt: &T,
+    book: Book,
+    slots: u16,
+    workers: Workers,
+) -> Result<Vec<Row>, ReportRunFault>
+    requires book { (input : List ℕ) × IsBook input book }
+    ensures ok { IfOk result (λ rows. AreRowsOf book slots rows.items) }
+    ensures err { IfErr result (IsOfBookReport book slots) }
+{
+    // No book has over 64 cells, and each record gives a tape.
+    alert_book::book_laws();
+    book_runs::session_laws();
+    let records = records_of_book(rt, &book, slots, workers)?;
+    drop(book);
+    let readings = readings_by(rt, &records, workers)?;
+    match rows(rt.alloc(), &records, &readings) {
+        Ok(rows) => Ok(rows),
+        Err(fault) => Err(ReportRunFault::Report(fault)),
+    }
+}
+
+/// What handsets read of the tapes of records. As many tapes at a time are made as there are workers, and are read
+/// before the next ones are made, so that no more of them are held.
+fn readings_by<T: AllocGlobal + Threads + Wait + Sync>(
+    rt: &T,
+    records: &[CellRecord],
+    workers: Workers,
+) -> Result<Vec<Reading>, ReportRunFault>
+    requires few { length records.now ≤ 64 }
+    requires tapes { All (λ r. IsTape (tape_of_record r) (reading_of_record r)) records.now }
+    ensures ok { IfOk result (λ readings. readings_of readings.items ≡ map reading_of_record records.now) }
+    ensures err { IfErr result IsOfReport }
+{
+    let mut readings = Vec::with_capacity(rt.alloc(), records.len())?;
+    let mut left = records;
+    while !left.is_empty() {
+        let (group, rest) = left.split_at(left.len().min(workers.number as usize));
+        read_group(rt, group, workers, &mut readings)?;
+        left = rest;
+    }
+    Ok(readings)
+}
+
+/// Makes the tapes of some records, and appends what handsets read of them.
+fn read_group<T: AllocGlobal + Threads + Sync>(
+    rt: &T,
+    records: &[CellRecord],
+    workers: Workers,
+    readings: &mut Vec<Reading>,
+) -> Result<(), ReportRunFault>
+    requires few { length records.now ≤ 64 }
+    requires tapes { All (λ r. IsTape (tape_of_record r) (reading_of_record r)) records.now }
+    ensures ok { OnOk result (readings_of readings.new.items
+        ≡ readings_of readings.old.items ++ map reading_of_record records.now) }
+    ensures err { IfErr result IsOfReport }
+{
+    // Octets are one tape at most.
+    handset::tape_laws();
+    let tapes = compile_all(rt, rt.alloc(), records, workers.number, &Open)?;
+    for tape in &tapes {
+        // The tape is whole, and memory doesn't fail to be read: only memory to read to can be refused.
+        let Ok(reading) = read_tape(rt.alloc(), &mut Source::new(tape.bytes())) else {
+            return Err(ReportRunFault::Run(RunFault::Refused));
+        };
+        readings.push(reading)?;
+    }
+    Ok(())
+}

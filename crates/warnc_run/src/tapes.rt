@@ -1,0 +1,65 @@
+//! From a book to the tapes and to the records of its cells.
+
+ghost use Rattle.std.specs.Prelude.{ℕ, List, IfErr, IfOk};
+ghost use Rattle.alert_book.specs.Book.{IsBook};
+ghost use Rattle.warnc_run.specs.RunSteps.{AreTapesOf, HaveRunLive, IsOfBook, IsOfTapes};
+
+use crate::counts::{Sessions, Workers};
+use crate::fault::RunFault;
+use crate::sessions::served;
+use crate::settled::records_of;
+use crate::workers::played_out;
+use alert_book::Book;
+use bsc_table::CellRecord;
+use cbch_blocks::Tape;
+use order_desk::{Desk, Gate, Open};
+use parallel_compile::{check_streamed, stream_all};
+use std::alloc::AllocGlobal;
+use std::sync::Wait;
+use std::thread::Threads;
+
+/// The tapes of a book's cells after the sessions of its parts: workers play the cells and hand on their pages while
+/// the desk is open, and the tapes that these make are compared with the records of the settled desk.
+pub(crate) fn tapes_of_book<T: AllocGlobal + Threads + Wait + Sync, G: Gate>(
+    rt: &T,
+    book: &Book,
+    slots: u16,
+    sessions: Sessions,
+    workers: Workers,
+    gate: &G,
+) -> Result<Vec<Tape>, RunFault>
+    requires book { (input : List ℕ) × IsBook input book.now }
+    ensures ok { IfOk result (λ tapes. AreTapesOf book.now slots sessions.number tapes.items) }
+    ensures err { IfErr result (IsOfTapes book.now slots sessions.number) }
+{
+    // No book has a cell twice.
+    alert_book::book_laws();
+    let desk = Desk::open(rt.alloc(), book.cells(), slots)?;
+    let mut passes = served(rt, book, &desk, sessions, gate)?;
+    let (tapes, mut played) = stream_all(rt, rt.alloc(), &desk, workers.number, gate)?;
+    passes.append(&mut played)?;
+    let records = records_of(rt.alloc(), book, desk, sessions, &passes)?;
+    check_streamed(&tapes, &records)?;
+    Ok(tapes)
+}
+
+/// The records of a book's cells after its one session, played out by workers.
+pub(crate) fn records_of_book<T: AllocGlobal + Threads + Wait + Sync>(
+    rt: &T,
+    book: &Book,
+    slots: u16,
+    workers: Workers,
+) -> Result<Vec<CellRecord>, RunFault>
+    requires book { (input : List ℕ) × IsBook input book.now }
+    ensures ok { IfOk result (λ records. HaveRunLive book.now slots 1 records.items) }
+    ensures err { IfErr result (IsOfBook book.now slots 1) }
+{
+    // No book has a cell twice.
+    alert_book::book_laws();
+    let one = Sessions { number: 1 };
+    let desk = Desk::open(rt.alloc(), book.cells(), slots)?;
+    let mut passes = served(rt, book, &desk, one, &Open)?;
+    let mut played = played_out(rt, &desk, workers, &Open)?;
+    passes.append(&mut played)?;
+    records_of(rt.alloc(), book, desk, one, &passes)
+}
