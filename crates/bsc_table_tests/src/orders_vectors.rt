@@ -5,6 +5,7 @@ use cbsp_wire::read;
 use std::alloc::Global;
 use std::process::Abort;
 use std::test::Fail;
+use test_support::octets_of;
 
 /// In each line the octets of a message, and those of the cells that its order names, of location area and cell
 /// identity, or the cause for which it is refused.
@@ -123,7 +124,7 @@ const ORDERS_3: &str = "\
 /// Expects what a line says.
 fn expect_order(rt: &impl Abort, alloc: Global, line: &str) -> Result<(), Fail> {
     let (digits, expected) = line.split_once(' ').unwrap_or((line, ""));
-    let octets: Vec<u8> = hex::decode(alloc, digits)?;
+    let octets = octets_of(alloc, digits)?;
     let mut found = Vec::new(alloc);
     let order = orders_of(read(alloc, &octets)?);
     match &order {
@@ -135,7 +136,7 @@ fn expect_order(rt: &impl Abort, alloc: Global, line: &str) -> Result<(), Fail> 
         }
         Err(cause) => found.push(*cause)?,
     }
-    let wanted: Vec<u8> = hex::decode(alloc, expected)?;
+    let wanted = octets_of(alloc, expected)?;
     assert_eq!(rt; found.as_slice(), wanted.as_slice(), "{digits}");
     Ok(())
 }

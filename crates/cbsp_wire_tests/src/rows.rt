@@ -6,6 +6,7 @@ use cbsp_wire::{Cell, Count, Failure, Message, WireFault, read, write};
 use std::alloc::{AllocError, Global};
 use std::fmt::Write;
 use std::test::Fail;
+use test_support::digits_of;
 
 /// What any message may say, as a row lists it.
 #[derive(Clone, Copy)]
@@ -311,5 +312,5 @@ pub fn in_order(alloc: Global, octets: &[u8]) -> Result<String, Fail> {
 pub fn writes(alloc: Global, octets: &[u8]) -> Result<String, Fail> {
     let mut row = String::new(alloc);
     let written = said(alloc, octets, &mut row)?;
-    Ok(hex::encode(alloc, written.as_slice())?)
+    Ok(digits_of(alloc, written.as_slice())?)
 }

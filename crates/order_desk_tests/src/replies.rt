@@ -11,7 +11,7 @@ use cbsp_wire::{Cell, read};
 use order_desk::{cells_ok, reply_of};
 use std::alloc::Global;
 use std::test::Fail;
-use test_support::Words;
+use test_support::{Words, digits_of};
 
 /// Whether a command can get an answer.
 fn can_get(command: &Command, answer: Answer) -> bool
@@ -62,7 +62,7 @@ fn reply_text(alloc: Global, command: &Command, answers: &[(Cell, Answer)]) -> R
     requires answered { All (λ answer. IsAnswerTo command.now answer.1) answers.now }
 {
     let reply = reply_of(alloc, command, answers)?;
-    Ok(hex::encode(alloc, reply.as_slice())?)
+    Ok(digits_of(alloc, reply.as_slice())?)
 }
 
 /// The octets of the reply to a command, by the answer of its one cell, or by those of its two.

@@ -10,7 +10,7 @@ use std::fmt::{Debug, Display};
 use std::mem;
 use std::sync::Wait;
 use std::test::Fail;
-use test_support::Words;
+use test_support::{Words, digits_of};
 
 /// A desk, and the passes of its users.
 #[derive(Drop)]
@@ -79,7 +79,7 @@ fn ordered<T: AllocGlobal + Wait>(
     let at = words.number16()?;
     let octets = message_of(rt.alloc(), words)?;
     match desk.order(rt, rt.alloc(), pass, at, &octets, &Open) {
-        Ok(reply) => Ok(hex::encode(rt.alloc(), reply.as_slice())?),
+        Ok(reply) => Ok(digits_of(rt.alloc(), reply.as_slice())?),
         Err(fault) => told(rt.alloc(), &fault),
     }
 }

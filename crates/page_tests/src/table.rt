@@ -49,7 +49,7 @@ pub fn octets_of(alloc: Global, words: &str) -> Result<Vec<u8>, Fail> {
 
 /// Octets as hexadecimal digits.
 pub fn digits_of(alloc: Global, octets: &[u8]) -> Result<String, AllocError> {
-    hex::encode(alloc, octets)
+    test_support::digits_of(alloc, octets)
 }
 
 /// Whether what was found is what was wanted.

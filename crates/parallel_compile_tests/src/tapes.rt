@@ -17,7 +17,7 @@ use std::alloc::Global;
 use std::process::Abort;
 use std::test::Fail;
 use std::thread::Threads;
-use test_support::{Row, Words};
+use test_support::{Row, Words, digits_of};
 
 const PIECES: &str = "
 gather 2 1 0 -> 2 in order
@@ -181,7 +181,7 @@ fn header_text(alloc: Global, tape: &Tape) -> Result<String, Fail> {
     let Some((header, blocks)) = tape.bytes().split_at_checked(8) else {
         return Err(Fail::new("no header"));
     };
-    let header = hex::encode_upper(alloc, header)?;
+    let header = digits_of(alloc, header)?;
     let idle = idle_blocks(blocks)?;
     Ok(format!(in alloc; "{header} and {idle} idle")?)
 }

@@ -15,7 +15,7 @@ use std::process::Abort;
 use std::sync::Wait;
 use std::test::Fail;
 use std::thread::Threads;
-use test_support::{Row, Words, octets_of};
+use test_support::{Row, Words, digits_of, octets_of};
 
 /// Two alerts, each in a cell of its own.
 const APART: &str = "cell,1,1\ncell,1,2\n\
@@ -147,7 +147,7 @@ fn ordered<T: AllocGlobal + Wait>(
 ) -> Result<String, Fail> {
     let octets = octets_of(rt.alloc(), words.word())?;
     let reply = reply_to(rt, desk, pass, 0, &octets)?;
-    Ok(hex::encode(rt.alloc(), reply.as_slice())?)
+    Ok(digits_of(rt.alloc(), reply.as_slice())?)
 }
 
 /// Does with a pass what the words say.

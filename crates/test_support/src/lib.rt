@@ -2,9 +2,11 @@
 #![tactic(auto)]
 
 mod memory;
+mod octets;
 mod rows;
 mod words;
 
 pub use memory::{Scarce, take_all};
+pub use octets::{digits_of, octets_of};
 pub use rows::Row;
-pub use words::{Words, octets_of};
+pub use words::Words;

@@ -1,6 +1,5 @@
 //! The words of a row.
 
-use std::alloc::Global;
 use std::str::SplitWhitespace;
 use std::test::Fail;
 
@@ -37,9 +36,4 @@ impl<'a> Words<'a> {
     pub fn hex16(&mut self) -> Result<u16, Fail> {
         Ok(u16::from_str_radix(self.word(), 16)?)
     }
-}
-
-/// The octets that hexadecimal digits name.
-pub fn octets_of(alloc: Global, digits: &str) -> Result<Vec<u8>, Fail> {
-    Ok(hex::decode(alloc, digits)?)
 }

@@ -5,6 +5,7 @@ use device_ends::memory::MemoryReader;
 use handset::{Reading, Shown, read_tapes};
 use std::alloc::Global;
 use std::test::Fail;
+use test_support::digits_of;
 
 /// How much octets are of worked ones: `worked` if they are the same, `N of M` if they are the first N of M.
 pub fn part_of(alloc: Global, octets: &[u8], worked: &[u8]) -> Result<String, Fail> {
@@ -14,7 +15,7 @@ pub fn part_of(alloc: Global, octets: &[u8], worked: &[u8]) -> Result<String, Fa
     if worked.starts_with(octets) {
         return Ok(format!(in alloc; "{} of {}", octets.len(), worked.len())?);
     }
-    Ok(hex::encode(alloc, octets)?)
+    Ok(digits_of(alloc, octets)?)
 }
 
 /// The octets after the type in the first block of each slot of a tape: serial number and message identifier, or
@@ -29,7 +30,7 @@ pub fn aired(alloc: Global, tape: &[u8]) -> Result<String, Fail> {
         if !text.is_empty() {
             text.push(' ')?;
         }
-        text.push_str(&hex::encode(alloc, name)?)?;
+        text.push_str(&digits_of(alloc, name)?)?;
     }
     Ok(text)
 }
