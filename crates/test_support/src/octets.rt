@@ -1,5 +1,5 @@
-//! Octets as hexadecimal digits, both ways. The crate `hex` says much in its contracts, and the first use of that costs a
-//! crate of tests as much to prove as twenty of its functions.
+//! Octets as hexadecimal digits, both ways. The crate `hex` says much in its contracts, and the first use of that costs
+//! a crate of tests as much to prove as twenty of its functions.
 
 use std::alloc::{AllocError, Global};
 use std::test::Fail;

@@ -6,7 +6,8 @@ ghost use Rattle.std.specs.Prelude.{◌≡◌, ◌⊎◌, IfErr};
 use std::io::Write;
 use std::process::ExitCode;
 use std::{env, io};
-use warnc_cli::run::{MEMORY, USAGE, run};
+use warnc_cli::run::run;
+use warnc_cli::status::{MEMORY, USAGE};
 
 fn main(rt: HostRuntime) -> ExitCode {
     let status = match words_of(&rt) {
