@@ -3,7 +3,8 @@
 ghost use Rattle.std.specs.Prelude.{◌≡◌, ℕ, IfErr, IfOk, None, false, map, true};
 ghost use Rattle.order_desk.specs.SettleSteps.{IsFirstNot};
 ghost use Rattle.parallel_compile.specs.declared.fault.CompileFault.TheVariants as faults;
-ghost use Rattle.parallel_compile.specs.StreamSteps.{AreFillings, HasCome, HasPlace, IsCompleteAt, IsOfBoard, IsTaken};
+ghost use Rattle.parallel_compile.specs.StreamSteps.{AreFillings, HasCome, HasPlace, HaveCome, IsCompleteAt, IsOfBoard};
+ghost use Rattle.parallel_compile.specs.StreamSteps.{IsTaken};
 ghost use Rattle.parallel_compile.specs.Streamed.{AreTapesFor};
 
 use crate::fault::CompileFault;
@@ -95,6 +96,17 @@ impl Board {
     {
         if !fill(&mut self.fillings, cells, slots, numbered) {
             self.spoilt = lesser(self.spoilt, Some(numbered.number));
+        }
+    }
+
+    /// Puts pieces in their places, one after the other.
+    pub(crate) fn put_all(&mut self, desk: &Desk, pieces: &[Numbered])
+        requires { AreFillings desk.now self.old.fillings.items }
+        ensures stays { AreFillings desk.now self.new.fillings.items }
+        ensures come { HaveCome desk.now pieces.now self.old self.new }
+    {
+        for numbered in pieces {
+            self.put(desk.cells(), desk.slots(), numbered);
         }
     }
 

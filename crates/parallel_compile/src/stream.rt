@@ -9,7 +9,7 @@ ghost use Rattle.parallel_compile.specs.Streamed.{AreTapesFor, IsOfStream};
 
 use crate::board::{Board, Numbered};
 use crate::fault::CompileFault;
-use crate::player::{Ended, work};
+use crate::player::{Ended, work, work_alone};
 use crate::work::seats_of;
 use cbch_blocks::Tape;
 use crossbeam_channel::{Receiver, Sender, bounded};
@@ -30,7 +30,7 @@ fn start<'s, E, R: Threads + Wait + Sync, G: Gate>(
     counter: &'s Counter,
     mut seats: Vec<Seat>,
     gate: &'s G,
-    to: &Sender<Numbered>,
+    to: &Sender<Vec<Numbered>>,
 ) -> Result<Vec<JoinHandle<Ended>>, Vec<JoinHandle<Ended>>>
     requires seats { All (IsSeatOf counter.now) seats.items }
     requires limit { counter.now.limit ≡ length desk.now.cells }
@@ -58,16 +58,16 @@ fn start<'s, E, R: Threads + Wait + Sync, G: Gate>(
 }
 
 /// Puts the pieces that come on the board, until nobody can send any more. Drops the receiver.
-fn collect<R: Wait>(rt: &R, desk: &Desk, mut board: Board, from: Receiver<Numbered>) -> Board
+fn collect<R: Wait>(rt: &R, desk: &Desk, mut board: Board, from: Receiver<Vec<Numbered>>) -> Board
     requires { AreFillings desk.now board.fillings.items }
     ensures stays { AreFillings desk.now result.fillings.items }
     ensures came { (pieces : List Numbered) × HaveCome desk.now pieces board result }
 {
     for _ in rt.forever() {
-        let Ok(numbered) = from.recv(rt) else {
+        let Ok(pieces) = from.recv(rt) else {
             break;
         };
-        board.put(desk.cells(), desk.slots(), &numbered);
+        board.put_all(desk, &pieces);
     }
     board
 }
@@ -95,7 +95,7 @@ fn passes_of<R: Threads + Wait>(
 }
 
 /// Has a worker for each seat play the cells and send their pieces, which the calling thread puts on the board.
-fn stream<R: Threads + Wait + Sync, G: Gate>(
+fn stream_by_all<R: Threads + Wait + Sync, G: Gate>(
     rt: &R,
     alloc: Global,
     desk: &Desk,
@@ -143,11 +143,57 @@ fn stream<R: Threads + Wait + Sync, G: Gate>(
     )
 }
 
+/// Has one worker, in the calling thread, play the cells and put their pieces on the board.
+fn stream_by_one<R: Wait, G: Gate>(
+    rt: &R,
+    alloc: Global,
+    desk: &Desk,
+    mut board: Board,
+    gate: &G,
+) -> Result<(Board, Vec<Pass>), CompileFault>
+    requires { AreFillings desk.now board.fillings.items }
+    ensures board { IfOk result (λ r. AreFillings desk.now r.0.fillings.items) }
+    ensures passes { IfOk result (λ r. vec_len r.1 ≡ 1) }
+    ensures err { IfErr result (λ fault. fault ≡ faults.Refused) }
+{
+    let mut passes = Vec::with_capacity(alloc, 1)?;
+    let ended = work_alone(rt, alloc, desk, gate, &mut board);
+    if ended.refused {
+        return Err(CompileFault::Refused);
+    }
+    passes.push(ended.pass)?;
+    Ok((board, passes))
+}
+
+/// Has so many workers play the cells, and puts their pieces on the board.
+fn stream<R: Threads + Wait + Sync, G: Gate>(
+    rt: &R,
+    alloc: Global,
+    desk: &Desk,
+    workers: u64,
+    board: Board,
+    gate: &G,
+) -> Result<(Board, Vec<Pass>), CompileFault>
+    requires few { workers ≤ 64 }
+    requires board { AreFillings desk.now board.fillings.items }
+    ensures board { IfOk result (λ r. AreFillings desk.now r.0.fillings.items) }
+    ensures passes { IfOk result (λ r. vec_len r.1 ≡ workers) }
+    ensures err { IfErr result (λ fault. fault ≡ faults.Refused) }
+{
+    if workers == 1 {
+        return stream_by_one(rt, alloc, desk, board, gate);
+    }
+    let (counter, mut first) = Counter::new(alloc, desk.cells().len() as u64)?;
+    let seats = seats_of(alloc, &counter, &mut first, workers)?;
+    stream_by_all(rt, alloc, desk, &counter, seats, board, gate)
+}
+
 /// Plays the cells of a desk to the ends of their runs, by `workers` workers, 1 to 64. Returns the tapes of what the
-/// cells aired, in their order, and the workers' passes. The workers send the tapes in pieces of up to 64 slots, and
-/// the calling thread puts these together. No contract says that the tapes are those of the cells' records:
-/// [`check_streamed`](crate::check_streamed) compares them once the desk is settled. `gate` is called with a cell's
-/// place while its lock is held. After a fault the cells stay as far as they were played, and the passes are gone.
+/// cells aired, in their order, and the workers' passes. The workers take pieces of up to 64 slots, and the calling
+/// thread puts these together; if there is one worker, it is the calling thread. No contract says that the tapes are
+/// those of the cells' records: [`check_streamed`](crate::check_streamed) compares them once the desk is settled.
+/// `gate` is called with a cell's place while its lock is held. After a fault the cells stay as far as they were
+/// played, and the passes are gone.
 ///
 /// # Errors
 ///
@@ -170,9 +216,7 @@ pub fn stream_all<R: Threads + Wait + Sync, G: Gate>(
         return Err(CompileFault::Workers);
     }
     let board = Board::open(alloc, desk)?;
-    let (counter, mut first) = Counter::new(alloc, desk.cells().len() as u64)?;
-    let seats = seats_of(alloc, &counter, &mut first, workers)?;
-    let (board, passes) = stream(rt, alloc, desk, &counter, seats, board, gate)?;
+    let (board, passes) = stream(rt, alloc, desk, workers, board, gate)?;
     let tapes = board.tapes(alloc, desk)?;
     Ok((tapes, passes))
 }

@@ -82,6 +82,18 @@ fn two_hundred_streams_of_64_cells_end(rt: HostRuntime) -> Result<(), Fail> {
     Ok(())
 }
 
+/// A worker hands on up to 16 pieces at a time, which are 1,024 slots.
+#[test]
+fn runs_of_more_than_a_message_are_streamed_whole(rt: HostRuntime) -> Result<(), Fail> {
+    for slots in [1023, 1024, 1025, 2048, 4096] {
+        for workers in 1..=3 {
+            let (desk, pass) = ordered(&rt, slots, 0)?;
+            expect_streamed(&rt, desk, pass, workers)?;
+        }
+    }
+    Ok(())
+}
+
 /// Takes all memory once two workers are each inside a cell.
 #[derive(Drop)]
 struct Drought {

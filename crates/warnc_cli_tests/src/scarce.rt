@@ -75,8 +75,7 @@ fn spare_blocks(alloc: Global) -> Result<Vec<Vec<u8>>, Fail> {
 }
 
 /// Runs the program again and again, with one block of memory more each time, until it isn't refused memory any more.
-/// No block has room for a thread: what starts some is run with ample memory after that. Returns how often a run was
-/// refused memory.
+/// Returns how often it was.
 fn refusals<T: AllocGlobal + Threads + Wait + Sync>(
     rt: &T,
     words: &[&str],
@@ -90,13 +89,11 @@ fn refusals<T: AllocGlobal + Threads + Wait + Sync>(
     for _ in 0..400 {
         slate.run(rt, words, input);
         if !slate.is_out_of_memory() {
-            return Ok(refused);
+            break;
         }
         refused = refused.saturating_add(1);
         let _ = spare.pop();
     }
-    taken.clear();
-    slate.run(rt, words, input);
     Ok(refused)
 }
 

@@ -63,17 +63,13 @@ fn spare_blocks(alloc: Global) -> Result<Vec<Vec<u8>>, Fail> {
     Ok(spare)
 }
 
-/// Makes a call again and again, with one block of memory more each time. Each is refused memory, at the latest that of
-/// a thread, which no block has room for. With ample memory a tape is written.
-fn expect_refusals<T: AllocGlobal + Abort + Threads + Wait + Sync>(
+/// Makes a call again and again, with one block of memory more each time, until it isn't refused memory any more, and
+/// returns how often it was.
+fn refusals<T: AllocGlobal + Abort + Threads + Wait + Sync>(
     rt: &T,
-    verb: &str,
-    numbers: &str,
-) -> Result<(), Fail> {
-    let call = Call::of(verb, &mut Words::of(numbers))?;
-    let mut spare = spare_blocks(rt.alloc())?;
-    let mut taken = Vec::with_capacity(rt.alloc(), 100_000)?;
-    take_all(rt.alloc(), &mut taken);
+    call: Call,
+    spare: &mut Vec<Vec<u8>>,
+) -> u16 {
     let mut refused = 0_u16;
     for _ in 0..BLOCKS {
         if left_by(rt, call).is_some() {
@@ -82,18 +78,35 @@ fn expect_refusals<T: AllocGlobal + Abort + Threads + Wait + Sync>(
         refused = refused.saturating_add(1);
         let _ = spare.pop();
     }
+    refused
+}
+
+/// Makes a call with more and more memory. With few blocks it is refused; with all of them it is too if it starts
+/// workers, since no block has room for a thread. With ample memory a tape is written.
+fn expect_refusals<T: AllocGlobal + Abort + Threads + Wait + Sync>(
+    rt: &T,
+    verb: &str,
+    numbers: &str,
+    starts_workers: bool,
+) -> Result<(), Fail> {
+    let call = Call::of(verb, &mut Words::of(numbers))?;
+    let mut spare = spare_blocks(rt.alloc())?;
+    let mut taken = Vec::with_capacity(rt.alloc(), 100_000)?;
+    take_all(rt.alloc(), &mut taken);
+    let refused = refusals(rt, call, &mut spare);
     taken.clear();
-    assert_eq!(rt; refused, BLOCKS);
+    assert!(rt; refused > 6);
+    assert_eq!(rt; refused == BLOCKS, starts_workers);
     assert_eq!(rt; left_by(rt, call), Some(116));
     Ok(())
 }
 
 #[test]
 fn refused_memory_is_reported(rt: HostRuntime) -> Result<(), Fail> {
-    expect_refusals(&rt, "compile", "3 1")
+    expect_refusals(&rt, "compile", "3 1", false)
 }
 
 #[test]
 fn refused_memory_is_reported_by_live(rt: HostRuntime) -> Result<(), Fail> {
-    expect_refusals(&rt, "live", "3 2 2")
+    expect_refusals(&rt, "live", "3 2 2", true)
 }

@@ -1,7 +1,7 @@
 use Rattle.std.proofs.Common.{◌-◌, ◌<◌, sym, subst}
 use Rattle.tickets.specs.Draws.{SeatState}
 use Rattle.parallel_compile.proofs.Drawn.{above, fewer_left}
-use Rattle.parallel_compile.proofs.player.play_drawn.Goals as goal
+use Rattle.parallel_compile.proofs.player.send_drawn.Goals as goal
 
 pub loop-number-smaller : goal.loop-number-smaller
 loop-number-smaller g c =

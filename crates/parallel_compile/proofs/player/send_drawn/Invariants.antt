@@ -1,7 +1,7 @@
 use Rattle.std.proofs.Common.{◌-◌}
 use Rattle.tickets.specs.Draws.{IsSeatOf}
 use Rattle.parallel_compile.proofs.Drawn.{above}
-use Rattle.parallel_compile.proofs.player.play_drawn.Given as goal
+use Rattle.parallel_compile.proofs.player.send_drawn.Given as goal
 
 abbrev pub invariant-loop-number : goal.invariant-loop-number
 invariant-loop-number g l = IsSeatOf l.counter l.seat
