@@ -258,19 +258,23 @@ fn report<'a>(alloc: Global) -> Result<Command<'a>, AllocError> {
 
 /// The command line of `live`.
 fn live<'a>(alloc: Global) -> Result<Command<'a>, AllocError> {
-    let sessions = threads(
-        alloc,
-        "sessions",
-        "SESSIONS",
-        "How many sessions order side by side, 1 to 64; 1 if it isn't given",
-    );
     Command::new(alloc, "live")
         .about(
             "Does what compile does, with the book's alerts shared by sessions that order side by side",
         )
         .arg(slots(alloc))?
-        .arg(sessions)?
+        .arg(sessions(alloc))?
         .arg(workers(alloc))
+}
+
+/// The option of the number of sessions.
+fn sessions<'a>(alloc: Global) -> Arg<'a> {
+    threads(
+        alloc,
+        "sessions",
+        "SESSIONS",
+        "How many sessions order side by side, 1 to 64; 1 if it isn't given",
+    )
 }
 
 /// The option of the number of workers.
@@ -303,30 +307,51 @@ fn slots<'a>(alloc: Global) -> Arg<'a> {
     .value_parser(value_parser!(u16).range(1..=65535))
 }
 
+/// The option of the text's language.
+fn language<'a>(alloc: Global) -> Arg<'a> {
+    option(
+        alloc,
+        "lang",
+        "LANGUAGE",
+        "The text's language: de, en, it, fr, es, nl, sv, da, pt, fi, no, el, tr, hu, pl, und, cs, he, ar, ru or is",
+    )
+}
+
+/// The option of the message identifier.
+fn id<'a>(alloc: Global) -> Arg<'a> {
+    option(alloc, "id", "ID", "The message identifier, 0 to 65535").value_parser(value_parser!(u16))
+}
+
+/// The option of the geographical scope.
+fn scope<'a>(alloc: Global) -> Arg<'a> {
+    option(alloc, "scope", "SCOPE", "The geographical scope, 0 to 3").value_parser(value_parser!(
+        u8
+    ).range(0..=3))
+}
+
+/// The option of the message code.
+fn code<'a>(alloc: Global) -> Arg<'a> {
+    option(alloc, "code", "CODE", "The message code, 0 to 1023").value_parser(value_parser!(
+        u16
+    ).range(0..=1023))
+}
+
+/// The option of the update number.
+fn update<'a>(alloc: Global) -> Arg<'a> {
+    option(alloc, "update", "UPDATE", "The update number, 0 to 15").value_parser(value_parser!(
+        u8
+    ).range(0..=15))
+}
+
 /// The command line of `page`.
 fn page<'a>(alloc: Global) -> Result<Command<'a>, AllocError> {
-    let languages =
-        "The text's language: de, en, it, fr, es, nl, sv, da, pt, fi, no, el, tr, hu, pl, und, cs, he, ar, ru or is";
-    let language = option(alloc, "lang", "LANGUAGE", languages);
-    let id = option(alloc, "id", "ID", "The message identifier, 0 to 65535").value_parser(
-        value_parser!(u16),
-    );
-    let scope = option(alloc, "scope", "SCOPE", "The geographical scope, 0 to 3").value_parser(
-        value_parser!(u8).range(0..=3),
-    );
-    let code = option(alloc, "code", "CODE", "The message code, 0 to 1023").value_parser(
-        value_parser!(u16).range(0..=1023),
-    );
-    let update = option(alloc, "update", "UPDATE", "The update number, 0 to 15").value_parser(
-        value_parser!(u8).range(0..=15),
-    );
     Command::new(alloc, "page")
         .about("Reads a text and writes the blocks of its pages, then what a handset shows of them")
-        .arg(language)?
-        .arg(id)?
-        .arg(scope)?
-        .arg(code)?
-        .arg(update)
+        .arg(language(alloc))?
+        .arg(id(alloc))?
+        .arg(scope(alloc))?
+        .arg(code(alloc))?
+        .arg(update(alloc))
 }
 
 /// A required option `--name`.
