@@ -27,7 +27,18 @@ def copy_of(crate, room):
         skipped = ("out",) if other == crate else ("incremental",)
         folder = os.path.join(TOP, "crates", other)
         shutil.copytree(folder, os.path.join(room, "crates", other), ignore=shutil.ignore_patterns(*skipped))
-    return os.path.join(room, "crates", crate)
+    folder = os.path.join(room, "crates", crate)
+    begin_from_nothing(folder)
+    return folder
+
+
+def begin_from_nothing(folder):
+    """Keeps `rt` from beginning with what another checkout of this machine kept for the same text: it begins with what the crate's own
+    folder has, which is nothing, if no other has that text."""
+    os.makedirs(os.path.join(folder, "out", "incremental"))
+    root = next(it for it in ("lib.rt", "main.rt") if os.path.exists(os.path.join(folder, "src", it)))
+    with open(os.path.join(folder, "src", root), "a", encoding="utf-8") as text:
+        text.write(f"// measured at {time.time()}\n")
 
 
 def times_of(crate, words):
