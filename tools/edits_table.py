@@ -1,19 +1,104 @@
 #!/usr/bin/env python3
-"""Prints docs/edits.md: the wrong bodies that the prover has to refuse, by crate and function.
+"""Prints docs/edits.md: the wrong bodies that the prover has to refuse, by what they do, and by crate and function.
 
 Usage: edits_table.py            prints the document
        edits_table.py --check    fails if docs/edits.md says something else
 """
 import os
+import re
 import sys
 
 from more_edits import TOP, function_at, read_edit
+
+# The wrong bodies that warnc must not have: what each does, the edits that do so, and the tests that see it.
+WRONG = (
+    ("swaps the halves of the page parameter", "cbs_page/swaps_page_parameter", ""),
+    ("splits an escape pair over two pages", "cbs_page/splits_escape_pair", ""),
+    ("fills short pages with zero octets", "septets/fills_with_zero", ""),
+    ("shows a text at each repeat", "handset/shows_each_repeat", ""),
+    ("joins pages of two serial numbers", "handset/joins_two_serials", ""),
+    ("forgets a message's pages when another's come", "handset/forgets_other_message", ""),
+    ("reads tapes to readings that show nothing", "handset/reading_shows_nothing", ""),
+    ("counts a broadcast when its first page is aired", "scheduler/counts_first_page", ""),
+    ("airs the message with the least number first", "scheduler/least_log_number_first", ""),
+    ("airs background before what is pending", "scheduler/background_before_normal", ""),
+    ("reserves the old load alone for a message that takes over", "admission/reserves_only_old_load", ""),
+    ("airs nothing and counts 0", "bsc_table/airs_nothing", ""),
+    ("always finds no room", "bsc_table/always_no_room", ""),
+    ("never frees a load", "bsc_table/never_frees", ""),
+    ("frees a stopped message's load at once", "bsc_table/frees_load_at_once", ""),
+    ("stops the old message though its replacement is refused", "bsc_table/refused_replacement_stops", ""),
+    ("starts a replacement at once where it has to wait", "bsc_table/takes_over_at_once", ""),
+    ("keeps the last of two elements of one kind", "cbsp_wire/keeps_last_element", ""),
+    ("accepts octets after a message", "cbsp_wire/accepts_trailing", ""),
+    ("reports more octets as written than went out", "cbch_blocks/reports_more_written", ""),
+    ("has two seats draw one number", "tickets/draws_twice parallel_compile/draws_twice", "four_threads_draw_each_number_once"),
+    ("drops a piece", "parallel_compile/drops_a_piece", ""),
+    ("repeats a piece in place of another", "parallel_compile/one_repeats_the_first", ""),
+    ("takes a piece twice", "parallel_compile/collector_takes_a_double", ""),
+    ("replies to an order without an entry", "order_desk/answers_without_entry", ""),
+    ("invents an answer", "order_desk/invents_an_order", ""),
+    ("opens a desk whose cells are played out", "order_desk/desk_opens_played_out", ""),
+    ("plays a cell out before its orders", "order_desk/plays_out_before_orders", "books_give_the_tapes_that_they_mean"),
+    ("loses a write", "order_desk/loses_a_write", ""),
+    ("settles nothing", "order_desk/settle_always_strange", ""),
+    ("closes a desk with other books", "order_desk/close_leaves_out_a_book", "a_desk_is_settled_or_the_first_disagreement_is_told"),
+    ("notes slots without playing them", "order_desk/notes_without_playing", ""),
+    ("plays no slot", "bsc_table/plays_nothing", "plays_and_statuses_are_noted"),
+    ("sends an update to a cell that refused the write", "alert_book/updates_a_refused_cell", ""),
+    ("leaves out an order of a session, with honest notes", "session_check/leaves_out_an_order", ""),
+    ("invents an order of a session, with honest notes", "session_check/leaves_notes_over", ""),
+    ("writes some of the tapes alone", "warnc_run/leaves_half_of_the_tapes_out", ""),
+    ("holds all cells by one lock", "", "threads_are_in_two_cells_at_once an_order_holds_its_cell_and_no_other"),
+    ("lets workers or sessions work one after the other", "", "two_tapes_are_made_at_once threads_are_in_two_cells_at_once"),
+    ("always reports out of memory, or an unknown cell", "", "books_give_the_tapes_that_they_mean "
+     "an_order_is_carried_out_in_its_cells_from_its_slot_on"),
+    ("always reports a settlement that fails", "", "books_give_the_tapes_that_they_mean"),
+    ("has an end that fails of itself", "device_ends/source_is_born_failed device_ends/sink_is_born_failed",
+     "books_give_the_tapes_that_they_mean"),
+)
 
 HEAD = """# Wrong bodies that are refused
 
 Each edit turns the meaning of one function, and the prover has to refuse the crate with it. The gate tries those of
 `must-fail/`; `more-edits.sh` tries those of `more-edits/`. `tools/edits_table.py` writes this list from both folders.
+
+## What warnc must not do
+
+These wrong bodies were named before a line was written. Each is refused by the prover, or a test sees it.
+
+| A body that | Edits of it | Tests that see it |
+|---|---|---|
 """
+
+
+def path_of(edit):
+    """Returns where an edit is that is named by its crate and name, or None if it isn't there."""
+    crate, name = edit.split("/")
+    places = (os.path.join("crates", crate, folder, f"{name}.edit") for folder in ("must-fail", "more-edits"))
+    return next((it for it in places if os.path.exists(os.path.join(TOP, it))), None)
+
+
+def tests():
+    """Returns the names of all tests."""
+    found = set()
+    for crate in os.listdir(os.path.join(TOP, "crates")):
+        src = os.path.join(TOP, "crates", crate, "src")
+        for name in os.listdir(src) if crate.endswith("_tests") else ():
+            with open(os.path.join(src, name), encoding="utf-8") as it:
+                found.update(re.findall(r"#\[test\]\s*fn (\w+)", it.read()))
+    return found
+
+
+def wrong_bodies():
+    """Yields a row for each body that warnc must not have; stops if it names an edit or a test that isn't there."""
+    there = tests()
+    for body, edits, seen in WRONG:
+        lost = [it for it in edits.split() if not path_of(it)] + [it for it in seen.split() if it not in there]
+        if lost or not edits + seen:
+            sys.exit(f"tools/edits_table.py: '{body}': nothing is named {', '.join(lost)}")
+        cells = (", ".join(f"`{it}`" for it in names.split()) or "-" for names in (edits, seen))
+        yield f"| {body} | {' | '.join(cells)} |"
 
 
 def place_of(crate, path):
@@ -35,7 +120,7 @@ def rows_of(crate):
 
 
 def document():
-    lines = [HEAD]
+    lines = [HEAD + "\n".join(wrong_bodies()), ""]
     for name in sorted(os.listdir(os.path.join(TOP, "crates"))):
         rows = list(rows_of(os.path.join(TOP, "crates", name)))
         if rows:
