@@ -113,6 +113,59 @@ out -> lac,ci,id,serial,start,end,completed,shown
 out -> 1,1,1,0010,0,3,3,yes
 out -> 1,1,2,0020,1,1,0,refused 06
 
+# of two pages, the second alert is stopped after its first, so no phone shows it; the third finds no room yet
+in cell,1,1
+in write,0,a,1,0,1,en,2,2,0,*,A
+in write,0,b,2,0,2,ru,2,4,0,*,ЖЖЖЖЖЖЖЖЖЖЖЖЖЖЖЖЖЖЖЖЖЖЖЖЖЖЖЖЖЖЖЖЖЖЖЖЖЖЖЖЖЖ
+in stop,3,b,*
+in write,3,c,3,0,3,ru,2,4,0,*,ЖЖЖЖЖЖЖЖЖЖЖЖЖЖЖЖЖЖЖЖЖЖЖЖЖЖЖЖЖЖЖЖЖЖЖЖЖЖЖЖЖЖ
+in write,4,d,4,0,4,ru,2,4,0,*,ЖЖЖЖЖЖЖЖЖЖЖЖЖЖЖЖЖЖЖЖЖЖЖЖЖЖЖЖЖЖЖЖЖЖЖЖЖЖЖЖЖЖ
+args report --slots 8
+run -> 0
+out -> lac,ci,id,serial,start,end,completed,shown
+out -> 1,1,1,0010,0,8,4,yes
+out -> 1,1,2,0020,0,3,0,no
+out -> 1,1,3,0030,3,3,0,refused 06
+out -> 1,1,4,0040,4,8,1,yes
+
+# the first update waits for the end of the period, and is itself updated before: no phone shows it
+in cell,1,1
+in write,0,o,1,0,1,en,2,4,0,*,O
+in write,0,f,2,0,2,ru,2,4,0,*,ЖЖЖЖЖЖЖЖЖЖЖЖЖЖЖЖЖЖЖЖЖЖЖЖЖЖЖЖЖЖЖЖЖЖЖЖЖЖЖЖЖЖЖЖЖЖЖЖЖЖЖЖЖЖЖЖЖЖЖЖЖЖЖЖЖЖЖЖЖЖЖЖЖЖЖЖЖЖЖЖЖЖЖ
+in update,1,o,en,2,4,0,*,N
+in update,2,o,en,2,2,0,*,M
+in update,3,o,en,2,4,0,*,K
+run -> 0
+out -> lac,ci,id,serial,start,end,completed,shown
+out -> 1,1,1,0010,0,1,1,yes
+out -> 1,1,2,0020,0,8,2,yes
+out -> 1,1,1,0011,4,3,0,no
+out -> 1,1,1,0012,2,2,0,refused 06
+out -> 1,1,1,0013,4,8,1,yes
+
+# background is aired once the other alert is stopped
+in cell,1,1
+in write,0,f,1,0,1,en,2,1,0,*,F
+in write,0,b,2,0,2,ru,1,4,0,*,ЖЖЖЖЖЖЖЖЖЖЖЖЖЖЖЖЖЖЖЖЖЖЖЖЖЖЖЖЖЖЖЖЖЖЖЖЖЖЖЖЖЖ
+in stop,3,f,*
+run -> 0
+out -> lac,ci,id,serial,start,end,completed,shown
+out -> 1,1,1,0010,0,3,3,yes
+out -> 1,1,2,0020,0,8,1,yes
+
+# three alerts that take up all of a cell
+in cell,1,1
+in write,0,r,1,0,1,en,2,6,0,*,R
+in write,0,q,2,0,2,en,2,3,0,*,Q
+in write,0,p,3,0,3,en,2,2,0,*,P
+args report --slots 6
+run -> 0
+out -> lac,ci,id,serial,start,end,completed,shown
+out -> 1,1,1,0010,0,6,1,yes
+out -> 1,1,2,0020,0,6,2,yes
+out -> 1,1,3,0030,0,6,3,yes
+args report --slots 4
+
 # no orders: the names of the columns alone
 in-none
 run -> 0
