@@ -30,7 +30,8 @@ A finding is one of these:
 Memory is bounded by RLIMIT_AS. It is ample with 1 GiB and 80 MiB for each thread (a stack of 8 MiB, and 64 MiB that the
 C library sets aside for the thread's blocks). A tight bound lies up to 96 MiB above the least at which the program
 is loaded and `page` ends by itself; that is measured first. Below it the loader fails, not the program. The stack of
-the main thread counts too. The system sets 128 KiB of it aside; a run that needs more and can't have it gets SIGSEGV.
+the main thread counts too. The system sets 128 KiB of it aside; a run that needs more and can't have it gets SIGSEGV
+(docs/DECISIONS.md), and is tried again with 64 KiB more, where it has to have an answer.
 
 Devices that fail are a folder or a closed descriptor as input, /dev/full, a pipe that nobody reads or that is left
 after some octets, and a file under RLIMIT_FSIZE. SIGPIPE has its default as under a shell, since a pipe without reader
@@ -67,6 +68,8 @@ MEBI = 1 << 20
 BOUND = 20
 # how many slots all cells of a book have at most, so that an output stays below 20 MB
 MAX_SLOTS = 200_000
+# how much more memory a run gets whose stack found none
+STACK = 1 << 16
 # how many findings of one kind are kept
 KEPT = 5
 # how often a finding is tried again at most: the place of the stack is chance, and so is which session comes first
@@ -429,7 +432,10 @@ class Checked:
 
     def run(self, run):
         """Runs, judges the run by itself, and returns what came of it."""
-        ran = self.bench.run(run)
+        return self.judge(run, self.bench.run(run))
+
+    def judge(self, run, ran):
+        """Judges by itself a run of which this came, and returns what came of it."""
         self.found += [(run, ran, it) for it in faults_of(run, ran)]
         return ran
 
@@ -528,7 +534,12 @@ def check_tight(checked, case):
     one = checked.run(case.run)
     for spare in case.spares:
         other = case.run.but(spare=spare)
-        ran = checked.run(other)
+        ran = checked.bench.run(other)
+        if ran.status == -signal.SIGSEGV:
+            # The system couldn't make the stack larger, which no program can answer: with room for it there is an answer.
+            other = other.but(spare=spare + STACK)
+            ran = checked.bench.run(other)
+        checked.judge(other, ran)
         if ran.status != 4:
             same(checked, other, one, ran, "another answer with little memory")
 
