@@ -3,7 +3,8 @@
 
 The times are read from /proc while the gate runs, so nothing else of this repository should be checked beside it. The last column
 is a multiple of what the crate `septets` took in the same run, so that it can be compared between machines; docs/gate.md has the
-budget. With a file as argument, what the gate says goes there; else it goes to standard output.
+budget. With a file as argument, what the gate says goes there; else it goes to standard output. With names of crates behind it,
+these and those below them alone are proved and tried.
 """
 import os
 import subprocess
@@ -84,7 +85,7 @@ def table(seen):
 def main(words):
     began, seen = time.monotonic(), {}
     out = open(words[0], "w", encoding="utf-8") if words else None
-    gate = subprocess.Popen(["rt", "ci"], stdin=subprocess.DEVNULL, stdout=out, stderr=subprocess.STDOUT if out else None)
+    gate = subprocess.Popen(["rt", "ci", *words[1:]], stdin=subprocess.DEVNULL, stdout=out, stderr=subprocess.STDOUT if out else None)
     while gate.poll() is None:
         sample(seen, gate.pid)
         time.sleep(0.1)
