@@ -1,15 +1,17 @@
 #!/usr/bin/env python3
-"""Judges malformed messages, tapes and books by the documents alone, and prints tables of the answers.
+"""Judges malformed messages, tapes and books by the documents alone, and prints tables of the answers for tests.
 
-Usage: malformed.py messages|tapes|books              prints a table
+Usage: malformed.py messages|tapes|books              prints a table, as a module of Rattle
        malformed.py messages|tapes|books NAME PLACE   prints the answers behind one digest; PLACE is a place or `cuts`
        malformed.py --check PROGRAM [--every N] [messages|tapes|books ..]
                                                       compares each answer, or each N-th, with a program's
 
 It is a plain reading of docs/formats.md, and for alphabets and phones of docs/definitions.md. It is not made from the
-crates, so a test that compares both has two sources. Its tables are in tools/malformed/. A table has for each input a
-line `input NAME HEX`, then a line `PLACE DIGEST` for each place, then a line `cuts DIGEST`. Some inputs have lines for
-a few places alone, or for none.
+crates, so a test that compares both has two sources. The tables stand in the tests, as `malformed_table.rt` of
+cbsp_wire_tests, warnc_cli_tests and alert_book_tests; `./test` checks that they are what is printed here.
+
+A table has for each input a line `input NAME`, lines `and HEX` with its octets, then a line `PLACE DIGEST` for each
+place, then a line `cuts DIGEST`. Some inputs have lines for a few places alone, or for none.
 
 - Behind a PLACE (from 0) stand 255 answers: the octet there is changed to each other value, in rising order.
 - Behind `cuts` stand the answers to the fronts of 0, 1, .. octets. The last is the whole input.
@@ -35,6 +37,7 @@ import re
 import shlex
 import subprocess
 import sys
+import textwrap
 
 # --- Messages ---
 
@@ -596,11 +599,26 @@ def groups_of(octets, places):
 
 
 def table(kind):
+    """Yields the lines of a table; those of octets have at most 110 columns."""
     inputs, answer = TABLES[kind]
     for name, octets, places in inputs():
-        yield f"input {name} {octets.hex()}"
+        yield f"input {name}"
+        for digits in textwrap.wrap(octets.hex(), 106):
+            yield f"and {digits}"
         for word, group in groups_of(octets, places):
             yield f"{word} {digest([answer(it) for it in group])}"
+
+
+def print_module(kind):
+    print(f"//! Malformed {kind}, and digests of what comes of them by the documents.")
+    print("//!")
+    print(f"//! `tools/malformed.py {kind}` prints this file and says how it is read. Change it there alone.")
+    print()
+    print(f"/// A table of {kind}: octets, and for each of their places a digest of the answers where it is changed.")
+    print('pub const TABLE: &str = "')
+    for line in table(kind):
+        print(line)
+    print('";')
 
 
 def print_answers(kind, name, word):
@@ -678,8 +696,7 @@ def main(words):
             every, kinds = int(kinds[1]), kinds[2:]
         return 0 if all([check(program, every, it) for it in kinds or TABLES]) else 1
     if len(words) == 1 and words[0] in TABLES:
-        for line in table(words[0]):
-            print(line)
+        print_module(words[0])
         return 0
     if len(words) == 3 and words[0] in TABLES:
         print_answers(*words)

@@ -9,6 +9,10 @@ mod books_table;
 #[cfg(test)]
 mod long_books;
 #[cfg(test)]
+mod malformed;
+#[cfg(test)]
+mod malformed_table;
+#[cfg(test)]
 mod memory;
 #[cfg(test)]
 mod octets;

@@ -7,6 +7,10 @@ mod limits;
 #[cfg(test)]
 mod made;
 #[cfg(test)]
+mod malformed;
+#[cfg(test)]
+mod malformed_table;
+#[cfg(test)]
 mod messages;
 #[cfg(test)]
 mod octets;

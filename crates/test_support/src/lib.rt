@@ -1,11 +1,14 @@
-//! Help for crates of tests: tables of lines, and scarce memory. Nothing of the program uses it.
+//! Help for crates of tests: tables of lines, tables of malformed inputs, and scarce memory. Nothing of the program
+//! uses it.
 #![tactic(auto)]
 
+mod malformed;
 mod memory;
 mod octets;
 mod rows;
 mod words;
 
+pub use malformed::Malformed;
 pub use memory::{Scarce, take_all};
 pub use octets::{digits_of, octets_of};
 pub use rows::Row;

@@ -7,6 +7,10 @@ mod bench;
 #[cfg(test)]
 mod books;
 #[cfg(test)]
+mod malformed;
+#[cfg(test)]
+mod malformed_table;
+#[cfg(test)]
 mod octets;
 #[cfg(test)]
 mod page;

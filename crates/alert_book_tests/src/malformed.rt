@@ -1,0 +1,33 @@
+//! Malformed books: each front of some books, and each of their octets changed to each other value.
+
+use crate::malformed_table::TABLE;
+use crate::reading::outcome_of;
+use std::test::Fail;
+use std::thread::Threads;
+use test_support::Malformed;
+
+/// The answers to books: `A` for one that is accepted, else the line of its fault. A line feed ends each.
+fn answers_to<T: AllocGlobal + Threads + Sync>(rt: &T, inputs: &[Vec<u8>]) -> Result<String, Fail> {
+    let mut answers = String::new(rt.alloc());
+    for octets in inputs {
+        match outcome_of(rt, octets, 64, None).fault {
+            None => answers.push_str("A\n")?,
+            Some(fault) => writeln!(answers, "{fault}")?,
+        }
+    }
+    Ok(answers)
+}
+
+#[test]
+fn malformed_books_have_the_worked_answers(rt: HostRuntime) -> Result<(), Fail> {
+    let mut table = Malformed::new(rt.alloc());
+    for line in TABLE.split('\n') {
+        let inputs = table.inputs(rt.alloc(), line)?;
+        let answers = answers_to(&rt, &inputs)?;
+        table.compare(line, answers.as_bytes())?;
+    }
+    let (input, line) = table.first;
+    assert_eq!(rt; table.differing, 0, "{input}: {line}");
+    assert_eq!(rt; table.digests, 177);
+    Ok(())
+}
