@@ -33,6 +33,16 @@ p note 4 -> 1-1 entry 1 at 1: Replaced { slot: 2, completed: 1 }
 p note 5 -> 1-2 played 0..1
 p note 6 -> 1-2 entry 2 at 1: refused with cause 06
 p asks 1-2 4370 0010 -> Told { completed: 1, state: Standing }
+
+# So it is with two pages and a period of 2.
+desk 8 1-1,1-2
+p orders 0 write 4370 0010 normal 2 1-1,1-2 -> 020000120e1112030010040009010001000100010002
+p orders 0 write 4371 0020 normal 2 1-2 -> 0200000e0e11130300200400050100010002
+p orders 1 replace-by-two-pages 4370 0010 0011 normal 2 1-1,1-2 -> \
+    0300001d0e11120300110200100900060100010002060800080100010001000100
+p note 5 -> 1-2 played 0..1
+p note 6 -> 1-2 entry 2 at 1: refused with cause 06
+p asks 1-2 4370 0010 -> Told { completed: 1, state: Standing }
 ";
 
 #[test]
@@ -58,7 +68,7 @@ p note all -> 4 notes
 p note 0 -> 1-1 played 0..3
 p note 1 -> 1-1 entry 0 at 3: Started { slot: 3 }
 p note 2 -> 1-1 played 3..4
-p note 3 -> 1-1 entry 1 at 4: refused with cause 0A
+p note 3 -> 1-1 entry 1 at 4: refused with cause 0a
 
 desk 4 1-1
 p orders 0 write 4370 0010 normal 2 1-1 -> 0200000e0e11120300100400050100010001
@@ -77,9 +87,9 @@ p note 3 -> 1-1 entry 1 at 3: Started { slot: 3 }
 p note 4 -> 1-2 played 0..3
 p note 5 -> 1-2 entry 1 at 3: Started { slot: 3 }
 p note 6 -> 1-1 played 3..4
-p note 7 -> 1-1 entry 2 at 4: refused with cause 0A
+p note 7 -> 1-1 entry 2 at 4: refused with cause 0a
 p note 8 -> 1-2 played 3..4
-p note 9 -> 1-2 entry 2 at 4: refused with cause 0A
+p note 9 -> 1-2 entry 2 at 4: refused with cause 0a
 ";
 
 #[test]
@@ -137,6 +147,19 @@ p note 0 -> 1-1 played 0..2
 p note 1 -> 1-1 entry 0 at 2: Unknown
 p note 2 -> 1-1 played 2..4
 p note 3 -> 1-1 played 4..4
+
+# What was aired is taken out in pieces, which are no entries and aren't noted. What wasn't played isn't there.
+desk 8 1-1,1-2
+p orders 0 write 4370 0010 normal 2 1-2 -> 0200000e0e11120300100400050100010002
+p plays 1-2 3 -> 0..3
+piece 1-2 0 8 -> 1-2 from 0: 0010 - 0010
+piece 1-2 1 1 -> 1-2 from 1: -
+piece 1-2 3 8 -> 1-2 from 3:
+piece 1-1 0 8 -> 1-1 from 0:
+piece 9-9 0 8 -> Unknown: order was refused
+p note all -> 2 notes
+p asks 1-2 4370 0010 -> Told { completed: 2, state: Standing }
+p note 2 -> 1-2 entry 1 at 3: Told { completed: 2, state: Standing }
 
 # A play of no slots is at the clock.
 desk 4 1-1

@@ -7,7 +7,7 @@ use cbsp_wire::Cell;
 use order_desk::{Closed, Desk, Pass, cells_ok};
 use std::alloc::Global;
 use std::test::Fail;
-use test_support::Words;
+use test_support::{Drought, Words};
 
 /// Adds what slots have aired: entry and page of each, `-` for none.
 fn add_air(text: &mut String, air: &[Option<Aired>]) -> Result<(), Fail> {
@@ -54,9 +54,15 @@ fn closed_text(alloc: Global, closed: &Closed) -> Result<String, Fail> {
 }
 
 /// What a desk held, once it is closed.
-pub fn closed(alloc: Global, desk: Desk) -> Result<String, Fail> {
-    let closed = desk.close()?;
-    closed_text(alloc, &closed)
+pub fn closed(alloc: Global, run: &mut Run) -> Result<String, Fail> {
+    let desk = taken(alloc, &mut run.desk)?;
+    run.drought.begin(alloc);
+    let outcome = desk.close();
+    run.drought.end();
+    match outcome {
+        Ok(closed) => closed_text(alloc, &closed),
+        Err(fault) => shown(alloc, &fault),
+    }
 }
 
 /// What the records of a settlement say.
@@ -76,11 +82,19 @@ fn records_text(alloc: Global, records: &[CellRecord]) -> Result<String, Fail> {
 }
 
 /// What the settlement of a closed desk says.
-fn settlement_text(alloc: Global, closed: Closed, passes: &[Pass]) -> Result<String, Fail> {
+fn settlement_text(
+    alloc: Global,
+    closed: Closed,
+    passes: &[Pass],
+    drought: &mut Drought,
+) -> Result<String, Fail> {
     if closed.cells.len() != closed.books.len() || !cells_ok(&closed.cells) {
         return Err(Fail::new("the desk has other cells or books"));
     }
-    match closed.settle(alloc, passes) {
+    drought.begin(alloc);
+    let outcome = closed.settle(alloc, passes);
+    drought.end();
+    match outcome {
         Ok(records) => records_text(alloc, &records),
         Err(fault) => shown(alloc, &fault),
     }
@@ -104,19 +118,21 @@ fn named<'a>(passes: &'a [Pass], word: &str) -> Result<&'a [Pass], Fail> {
 
 /// What the settlement of a desk says. The word: the passes that it is settled with.
 pub fn settled(alloc: Global, run: &mut Run, words: &mut Words) -> Result<String, Fail> {
-    let closed = run.taken(alloc)?.close()?;
-    settlement_text(alloc, closed, named(&run.passes, words.word())?)
+    let passes = named(&run.passes, words.word())?;
+    let closed = taken(alloc, &mut run.desk)?.close()?;
+    settlement_text(alloc, closed, passes, &mut run.drought)
 }
 
 /// What the settlement of a desk says whose cells are exchanged, while its books stay. The words: the cells, and the
 /// passes that it is settled with.
 pub fn settled_as(alloc: Global, run: &mut Run, words: &mut Words) -> Result<String, Fail> {
     let cells = cells_of(alloc, words.word())?;
-    let Closed { slots, books, .. } = run.taken(alloc)?.close()?;
+    let passes = named(&run.passes, words.word())?;
+    let Closed { slots, books, .. } = taken(alloc, &mut run.desk)?.close()?;
     let exchanged = Closed {
         cells,
         slots,
         books,
     };
-    settlement_text(alloc, exchanged, named(&run.passes, words.word())?)
+    settlement_text(alloc, exchanged, passes, &mut run.drought)
 }

@@ -14,26 +14,13 @@ const PAGE: Content = Content {
 
 /// The cell of a word: location area code and cell identity, as `1-2`.
 pub fn cell_of(word: &str) -> Result<Cell, Fail> {
-    let mut cell = Cell { lac: 0, ci: 0 };
-    for octet in word.as_bytes() {
-        match *octet {
-            b'-' if cell.lac == 0 => {
-                cell = Cell {
-                    lac: cell.ci,
-                    ci: 0,
-                };
-            }
-            b'0'..=b'9' => {
-                let digit = u16::from(*octet - b'0');
-                cell.ci = cell.ci.saturating_mul(10).saturating_add(digit);
-            }
-            _ => return Err(Fail::new("no cell")),
-        }
+    match word.split_once('-') {
+        Some((lac, ci)) => Ok(Cell {
+            lac: lac.parse::<u16>()?,
+            ci: ci.parse::<u16>()?,
+        }),
+        None => Err(Fail::new("no cell")),
     }
-    if cell.lac == 0 {
-        return Err(Fail::new("no location area"));
-    }
-    Ok(cell)
 }
 
 /// The cells of a word: `1-1,1-2`.
@@ -59,9 +46,13 @@ fn written(alloc: Global, message: &Message) -> Result<Vec<u8>, Fail> {
     Ok(write(alloc, message)?)
 }
 
-/// The contents of one page.
-fn one_page(alloc: Global) -> Result<Contents, Fail> {
-    Ok(Contents::new(Vec::from_slice(alloc, [PAGE].as_slice())?)?)
+/// The contents of so many pages.
+fn pages_of(alloc: Global, count: u16) -> Result<Contents, Fail> {
+    let mut pages = Vec::new(alloc);
+    for _ in 0..count {
+        pages.push(PAGE)?;
+    }
+    Ok(Contents::new(pages)?)
 }
 
 /// The category of a word (3GPP TS 48.049, 8.2).
@@ -74,10 +65,11 @@ fn category_of(word: &str) -> Result<u8, Fail> {
     }
 }
 
-/// The octets of a WRITE-REPLACE of one page that is broadcast until it is stopped, and replaces the message of this
-/// serial number. The words: the serial number, the category, the period, and the cells.
+/// The octets of a WRITE-REPLACE of so many pages that is broadcast until it is stopped, and replaces the message of
+/// this serial number. The words: the serial number, the category, the period, and the cells.
 fn write_of(
     alloc: Global,
+    pages: u16,
     old_serial: Option<Serial>,
     id: u16,
     words: &mut Words,
@@ -96,7 +88,7 @@ fn write_of(
         period,
         broadcasts: 0,
         dcs: Dcs(0x01),
-        contents: one_page(alloc)?,
+        contents: pages_of(alloc, pages)?,
     };
     written(alloc, &message)
 }
@@ -115,19 +107,24 @@ fn kill_of(alloc: Global, words: &mut Words) -> Result<Vec<u8>, Fail> {
     written(alloc, &message)
 }
 
+/// The octets of a replacement of so many pages. The words: the identifier, the serial number of the replaced message,
+/// and what a write has.
+fn replacement_of(alloc: Global, pages: u16, words: &mut Words) -> Result<Vec<u8>, Fail> {
+    let id = words.number16()?;
+    let old_serial = Some(Serial::of(words.hex16()?));
+    write_of(alloc, pages, old_serial, id, words)
+}
+
 /// The octets of a message: `write ..`, `replace ..`, `kill ..`, or `octets` and their digits. The identifier comes
 /// first, and in a replacement the serial number of the replaced message after it.
 pub fn message_of(alloc: Global, words: &mut Words) -> Result<Vec<u8>, Fail> {
     match words.word() {
         "write" => {
             let id = words.number16()?;
-            write_of(alloc, None, id, words)
+            write_of(alloc, 1, None, id, words)
         }
-        "replace" => {
-            let id = words.number16()?;
-            let old_serial = Some(Serial::of(words.hex16()?));
-            write_of(alloc, old_serial, id, words)
-        }
+        "replace" => replacement_of(alloc, 1, words),
+        "replace-by-two-pages" => replacement_of(alloc, 2, words),
         "kill" => kill_of(alloc, words),
         "octets" => octets_of(alloc, words.word()),
         _ => Err(Fail::new("no such message")),

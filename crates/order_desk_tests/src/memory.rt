@@ -1,228 +1,83 @@
-//! Orders and settlements with hardly any memory: how far an order came is what its fault, its pass and the books say;
-//! a settlement is refused, or made.
+//! Calls with scarce memory: each is refused until it has what it needs, and then does what it would have done.
 
-use crate::lines::message_of;
-use crate::run::desk_of;
-use bsc_table::Answer;
-use order_desk::{Closed, Desk, DeskFault, Note, Open, Pass, SettleFault, cells_ok};
-use std::alloc::Global;
-use std::process::Abort;
-use std::sync::Wait;
+use crate::table::expect_rows;
 use std::test::Fail;
-use test_support::{Words, take_all};
 
-/// How many cells the desks have.
-const CELLS: u16 = 4;
+const CALLS: &str = "
+# A desk that isn't opened leaves the one before.
+desk 2 9-9
+scarce desk 4 1-1,1-2 -> refused;
+shows -> 4 slots, 1-1 1-2
 
-/// The slot of the orders.
-const AT: u16 = 2;
+# What is refused isn't noted, and leaves the clock and the log as they were.
+scarce p plays 1-1 2 -> refused; 0..2
+p note all -> 1 notes
+scarce p asks 1-1 4370 0001 -> refused; Unknown
+p note all -> 2 notes
+p note 1 -> 1-1 entry 0 at 2: Unknown
+q note all -> 0 notes
+scarce piece 1-1 0 4 -> refused; 1-1 from 0: - -
+p note all -> 2 notes
 
-/// How many octets each block of the memory has that is given back.
-const BLOCK: usize = 256;
+# The books are gone if the desk isn't closed, so it is made anew each time.
+desk 4 1-1,1-2; p plays 1-2 3; scarce close -> \
+    refused; 4 slots, 1-1 1-2; 1-1: log of 0, clock at 0, air; 1-2: log of 0, clock at 3, air - - -
 
-/// How many blocks there are for the orders.
-const BLOCKS: u16 = 200;
+scarce reply write 4370 0010 normal 2 1-1 started 0 -> refused; 0200000e0e11120300100400050100010001
+scarce reply kill 4370 0010 1-1,1-2 cause 02 stopped 258 -> \
+    refused; 0600001a0e11120200100900060100010001020800080100010002010200
+";
 
-/// The desks: their slots, and their cells.
-const DESK: &str = "4 1-1,1-2,1-3,1-4";
-
-/// An order of all these cells.
-const ORDER: &str = "write 4370 0010 normal 2 1-1,1-2,1-3,1-4";
-
-/// Blocks of memory that can be given back one by one.
-fn spare_blocks(alloc: Global, blocks: u16) -> Result<Vec<Vec<u8>>, Fail> {
-    let mut spare: Vec<Vec<u8>> = Vec::with_capacity(alloc, usize::from(blocks))?;
-    for _ in 0..blocks {
-        spare.push(Vec::with_capacity(alloc, BLOCK)?)?;
-    }
-    Ok(spare)
+#[test]
+fn a_call_is_refused_until_it_has_memory(rt: HostRuntime) -> Result<(), Fail> {
+    expect_rows(&rt, CALLS)
 }
 
-/// How many cells answered by the notes of a pass: one after the other, each played before if it was.
-fn answered_in<T: Abort>(rt: &T, pass: &Pass) -> u16 {
-    let mut done = 0_u16;
-    for note in pass.notes() {
-        let next = done.saturating_add(1);
-        match note {
-            Note::Played {
-                cell,
-                from: 0,
-                to: AT,
-            } => assert_eq!(rt; cell.ci, next),
-            Note::Event {
-                cell,
-                number: 0,
-                entry,
-            } => {
-                assert_eq!(rt; cell.ci, next);
-                assert_eq!(rt; entry.slot, AT);
-                assert_eq!(rt; entry.answer, Answer::Started { slot: AT });
-                done = next;
-            }
-            _ => assert!(rt; false, "another note"),
-        }
-    }
-    done
-}
+const ORDERS: &str = "
+# An order that had no answer is given once more, and has the reply that it would have had. Its cell was played once.
+desk 4 1-1,1-2
+scarce p orders 2 write 4370 0010 normal 2 1-1 -> refused; 0200000e0e11120300100400050100010001
+p note all -> 2 notes
+p note 0 -> 1-1 played 0..2
+p note 1 -> 1-1 entry 0 at 2: Started { slot: 2 }
+scarce q orders 3 replace 4370 0010 0011 normal 2 1-1 -> refused; \
+    020000140e11120300110200100800080100010001000100
+q note all -> 2 notes
+close -> 4 slots, 1-1 1-2; 1-1: log of 2, clock at 3, air - - 0.1; 1-2: log of 0, clock at 0, air
 
-/// How many cells an order answered before it was refused memory; None if it wasn't. Expects its pass to say the same.
-fn done_by<T: AllocGlobal + Wait + Abort>(rt: &T, desk: &Desk, octets: &[u8]) -> Option<u16> {
-    let mut pass = desk.pass();
-    match desk.order(rt, rt.alloc(), &mut pass, AT, octets, &Open) {
-        Err(DeskFault::Memory { done }) => {
-            assert_eq!(rt; answered_in(rt, &pass), done);
-            assert!(rt; done > 0 || pass.notes().len() < 2);
-            Some(done)
-        }
-        _ => None,
-    }
-}
+# Without any memory nothing is done, and the same order has its reply once there is memory.
+desk 4 1-1,1-2; scarce p orders 2 write 4370 0010 normal 2 1-1; p orders 2 write 4370 0010 normal 2 1-1 -> \
+    0200000e0e11120300100400050100010001
+p note all -> 2 notes
+close -> 4 slots, 1-1 1-2; 1-1: log of 1, clock at 2, air - -; 1-2: log of 0, clock at 0, air
 
-/// Orders with more and more memory until a cell has answered. Returns how often none had, and how many have then.
-fn attempts<T: AllocGlobal + Wait + Abort>(
-    rt: &T,
-    desk: &Desk,
-    octets: &[u8],
-    spare: &mut Vec<Vec<u8>>,
-) -> (u16, Option<u16>) {
-    for refused in 0..BLOCKS {
-        let done = done_by(rt, desk, octets);
-        if done != Some(0) {
-            return (refused, done);
-        }
-        let _ = spare.pop();
-    }
-    (0, None)
-}
+# Memory ends in the second cell: the first has its entry, and the second was played.
+desk 4 1-1,1-2,1-3; scarce p orders 2 write 4370 0010 normal 2 1-1,1-2,1-3 -> refused; Memory { done: 1 }: out of memory
+p note all -> 3 notes
+p note 0 -> 1-1 played 0..2
+p note 1 -> 1-1 entry 0 at 2: Started { slot: 2 }
+p note 2 -> 1-2 played 0..2
+settle p -> settled 1-1: 4 slots, air of 4, log of 1 1-2: 4 slots, air of 4, log of 0 1-3: 4 slots, air of 4, log of 0
 
-/// Orders with hardly any memory. Expects that more than four orders had no answer, and returns how many answers the
-/// one after them had.
-fn done_in_drought<T: AllocGlobal + Wait + Abort>(
-    rt: &T,
-    desk: &Desk,
-    octets: &[u8],
-) -> Result<Option<u16>, Fail> {
-    let mut spare = spare_blocks(rt.alloc(), BLOCKS)?;
-    let mut taken = Vec::with_capacity(rt.alloc(), 100_000)?;
-    take_all(rt.alloc(), &mut taken);
-    let (refused, done) = attempts(rt, desk, octets, &mut spare);
-    taken.clear();
-    assert!(rt; refused > 4);
-    Ok(done)
-}
-
-/// Expects books of which the first `done` have played and answered, and those after the next have not.
-fn expect_books<T: Abort>(rt: &T, closed: &Closed, done: u16) {
-    assert_eq!(rt; closed.books.len(), usize::from(CELLS));
-    for book in &closed.books {
-        let before = book.cell().ci <= done;
-        assert_eq!(rt; book.log().len(), usize::from(before));
-        if book.cell().ci != done.saturating_add(1) {
-            assert_eq!(rt; book.clock(), if before { AT } else { 0 });
-        }
-    }
-}
+desk 4 1-1,1-2,1-3,1-4; scarce p orders 2 write 4370 0010 normal 2 1-1,1-2,1-3,1-4 -> \
+    refused; Memory { done: 1 }: out of memory
+p note all -> 3 notes
+close -> 4 slots, 1-1 1-2 1-3 1-4; 1-1: log of 1, clock at 2, air - -; 1-2: log of 0, clock at 2, air - -; \
+    1-3: log of 0, clock at 0, air; 1-4: log of 0, clock at 0, air
+";
 
 #[test]
 fn an_order_stops_where_memory_ends(rt: HostRuntime) -> Result<(), Fail> {
-    let octets = message_of(rt.alloc(), &mut Words::of(ORDER))?;
-    let desk = desk_of(rt.alloc(), &mut Words::of(DESK))?;
-    match done_in_drought(&rt, &desk, &octets)? {
-        None => assert!(&rt; false, "no order was cut short"),
-        Some(done) => expect_books(&rt, &desk.close()?, done),
-    }
-    Ok(())
+    expect_rows(&rt, ORDERS)
 }
 
-/// How many desks are settled at most.
-const DESKS: u16 = 40;
-
-/// A closed desk whose cells have answered an order, and the pass that says so.
-fn answered<T: AllocGlobal + Wait>(rt: &T, octets: &[u8]) -> Result<(Closed, Pass), Fail> {
-    let desk = desk_of(rt.alloc(), &mut Words::of(DESK))?;
-    let mut pass = desk.pass();
-    let _ = desk.order(rt, rt.alloc(), &mut pass, AT, octets, &Open)?;
-    Ok((desk.close()?, pass))
-}
-
-/// Desks that answered an order, and as many passes.
-fn all_answered<T: AllocGlobal + Wait>(
-    rt: &T,
-    octets: &[u8],
-    desks: &mut Vec<Closed>,
-    passes: &mut Vec<Pass>,
-) -> Result<(), Fail> {
-    for _ in 0..DESKS {
-        let (desk, pass) = answered(rt, octets)?;
-        desks.push(desk)?;
-        passes.push(pass)?;
-    }
-    Ok(())
-}
-
-/// How many records a settlement gives; None if it was refused memory.
-fn records_of<T: AllocGlobal + Abort>(rt: &T, closed: Closed, passes: &[Pass]) -> Option<usize> {
-    if closed.cells.len() != closed.books.len() || !cells_ok(&closed.cells) {
-        assert!(rt; false, "the desk has other cells or books");
-        return None;
-    }
-    match closed.settle(rt.alloc(), passes) {
-        Ok(records) => Some(records.len()),
-        Err(fault) => {
-            assert_eq!(rt; fault, SettleFault::Refused);
-            None
-        }
-    }
-}
-
-/// Settles desks, each with one more block than the one before, until one has records. It returns how many were
-/// refused, and how many records there are.
-fn settlements<T: AllocGlobal + Abort>(
-    rt: &T,
-    desks: &mut Vec<Closed>,
-    passes: &[Pass],
-    taken: &mut Vec<Vec<u8>>,
-    spare: &mut Vec<Vec<u8>>,
-) -> (u16, Option<usize>) {
-    for refused in 0..DESKS {
-        let Some(desk) = desks.pop() else {
-            return (refused, None);
-        };
-        for _ in 0..refused {
-            let _ = spare.pop();
-        }
-        let records = records_of(rt, desk, passes);
-        if records.is_some() {
-            return (refused, records);
-        }
-        take_all(rt.alloc(), taken);
-    }
-    (DESKS, None)
-}
-
-/// Settles desks with hardly any memory. Expects that more than four are refused, and then that one has all records.
-fn expect_settled<T: AllocGlobal + Abort>(
-    rt: &T,
-    desks: &mut Vec<Closed>,
-    passes: &[Pass],
-) -> Result<(), Fail> {
-    let mut spare = spare_blocks(rt.alloc(), 800)?;
-    let mut taken = Vec::with_capacity(rt.alloc(), 200_000)?;
-    take_all(rt.alloc(), &mut taken);
-    let (refused, records) = settlements(rt, desks, passes, &mut taken, &mut spare);
-    taken.clear();
-    assert!(rt; refused > 4);
-    assert_eq!(rt; records, Some(usize::from(CELLS)));
-    Ok(())
-}
+const SETTLEMENTS: &str = "
+desk 4 1-1,1-2,1-3,1-4; p orders 2 write 4370 0010 normal 2 1-1,1-2,1-3,1-4; scarce settle p -> \
+    refused; settled 1-1: 4 slots, air of 4, log of 1 1-2: 4 slots, air of 4, log of 1 \
+    1-3: 4 slots, air of 4, log of 1 1-4: 4 slots, air of 4, log of 1
+";
 
 #[test]
 fn a_settlement_is_refused_where_memory_ends(rt: HostRuntime) -> Result<(), Fail> {
-    let octets = message_of(rt.alloc(), &mut Words::of(ORDER))?;
-    let mut desks = Vec::new(rt.alloc());
-    let mut passes = Vec::new(rt.alloc());
-    all_answered(&rt, &octets, &mut desks, &mut passes)?;
-    // the notes of each desk are those of the first one
-    passes.truncate(1);
-    expect_settled(&rt, &mut desks, &passes)
+    expect_rows(&rt, SETTLEMENTS)
 }

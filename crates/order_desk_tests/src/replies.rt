@@ -5,13 +5,14 @@ ghost use Rattle.cbsp_wire.specs.Range.{cells_are_valid};
 ghost use Rattle.order_desk.specs.Reply.{cells_answered, IsAnswerTo};
 
 use crate::lines::*;
+use crate::run::shown;
 use crate::table::expect_rows;
 use bsc_table::{Answer, Command, orders_of};
 use cbsp_wire::{Cell, read};
 use order_desk::{cells_ok, reply_of};
 use std::alloc::Global;
 use std::test::Fail;
-use test_support::{Words, digits_of};
+use test_support::{Drought, Words, digits_of};
 
 /// Whether a command can get an answer.
 fn can_get(command: &Command, answer: Answer) -> bool
@@ -38,7 +39,7 @@ fn answer_of(words: &mut Words) -> Result<Answer, Fail> {
             slot: words.number16()?,
         }),
         "replaced" => Ok(Answer::Replaced {
-            slot: words.number16()?.into(),
+            slot: u32::from(words.number16()?),
             completed: words.number16()?,
         }),
         "stopped" => Ok(Answer::Stopped {
@@ -56,18 +57,29 @@ fn answer_of(words: &mut Words) -> Result<Answer, Fail> {
 }
 
 /// The octets of the reply to a command, by the answers of its cells.
-fn reply_text(alloc: Global, command: &Command, answers: &[(Cell, Answer)]) -> Result<String, Fail>
+fn reply_text(
+    alloc: Global,
+    drought: &mut Drought,
+    command: &Command,
+    answers: &[(Cell, Answer)],
+) -> Result<String, Fail>
     requires some { 1 ≤ length answers.now }
     requires valid { cells_are_valid (cells_answered answers.now) ≡ true }
     requires answered { All (λ answer. IsAnswerTo command.now answer.1) answers.now }
 {
-    let reply = reply_of(alloc, command, answers)?;
-    Ok(digits_of(alloc, reply.as_slice())?)
+    drought.begin(alloc);
+    let outcome = reply_of(alloc, command, answers);
+    drought.end();
+    match outcome {
+        Ok(reply) => Ok(digits_of(alloc, reply.as_slice())?),
+        Err(fault) => shown(alloc, &fault),
+    }
 }
 
 /// The octets of the reply to a command, by the answer of its one cell, or by those of its two.
 fn reply_to(
     alloc: Global,
+    drought: &mut Drought,
     command: &Command,
     cells: &[Cell],
     words: &mut Words,
@@ -76,13 +88,14 @@ fn reply_to(
     match cells {
         [one] if can_get(command, first) && cells_ok(&[*one]) => reply_text(
             alloc,
+            drought,
             command,
             &[(*one, first)],
         ),
         [one, other] => {
             let second = answer_of(words)?;
             if can_get(command, first) && can_get(command, second) && cells_ok(&[*one, *other]) {
-                reply_text(alloc, command, &[(*one, first), (*other, second)])
+                reply_text(alloc, drought, command, &[(*one, first), (*other, second)])
             } else {
                 Err(Fail::new("the command can't get this answer"))
             }
@@ -92,11 +105,11 @@ fn reply_to(
 }
 
 /// The octets of the reply to an order, by the answers of its cells. The words: the order, and the answers.
-pub fn replied(alloc: Global, words: &mut Words) -> Result<String, Fail> {
+pub fn replied(alloc: Global, drought: &mut Drought, words: &mut Words) -> Result<String, Fail> {
     let octets = message_of(alloc, words)?;
     let message = read(alloc, &octets)?;
     match orders_of(message) {
-        Ok((cells, command)) => reply_to(alloc, &command, &cells, words),
+        Ok((cells, command)) => reply_to(alloc, drought, &command, &cells, words),
         Err(_) => Err(Fail::new("no order")),
     }
 }

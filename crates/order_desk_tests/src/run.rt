@@ -4,13 +4,13 @@ use crate::lines::*;
 use bsc_table::Answer;
 use cbs_page::Serial;
 use cbsp_wire::Cell;
-use order_desk::{Desk, DeskFault, Note, Open, Pass, cells_ok};
+use order_desk::{Desk, Note, Open, Pass, Piece, cells_ok};
 use std::alloc::Global;
 use std::fmt::{Debug, Display};
 use std::mem;
 use std::sync::Wait;
 use std::test::Fail;
-use test_support::{Words, digits_of};
+use test_support::{Drought, Words, digits_of};
 
 /// A desk, and the passes of its users.
 #[derive(Drop)]
@@ -19,21 +19,30 @@ pub struct Run {
     pub desk: Desk,
     /// The passes p, q and r.
     pub passes: Vec<Pass>,
+    /// Scarce memory for the calls of a row.
+    pub drought: Drought,
 }
 
-/// A desk of some cells.
-pub fn opened(alloc: Global, cells: &[Cell], slots: u16) -> Result<Desk, Fail> {
-    if !cells_ok(cells) {
-        return Err(Fail::new("these cells are of no desk"));
-    }
-    Ok(Desk::open(alloc, cells, slots)?)
+/// A desk without cells.
+fn no_desk(alloc: Global) -> Result<Desk, Fail> {
+    Ok(Desk::open(alloc, &[], 0)?)
 }
 
-/// A desk. The words: how many slots it has, and its cells.
-pub fn desk_of(alloc: Global, words: &mut Words) -> Result<Desk, Fail> {
+/// Opens a desk. The words: how many slots it has, and its cells.
+pub fn begin(alloc: Global, run: &mut Run, words: &mut Words) -> Result<String, Fail> {
     let slots = words.number16()?;
     let cells = cells_of(alloc, words.word())?;
-    opened(alloc, &cells, slots)
+    if !cells_ok(&cells) {
+        return Err(Fail::new("these cells are of no desk"));
+    }
+    run.drought.begin(alloc);
+    let outcome = Desk::open(alloc, &cells, slots);
+    run.drought.end();
+    match outcome {
+        Ok(desk) => run.desk = desk,
+        Err(fault) => return shown(alloc, &fault),
+    }
+    Ok(String::new(alloc))
 }
 
 /// Three passes without notes.
@@ -48,15 +57,20 @@ pub fn new_passes(alloc: Global, desk: &Desk) -> Result<Vec<Pass>, Fail> {
 impl Run {
     /// A run at a desk without cells.
     pub fn new(alloc: Global) -> Result<Run, Fail> {
-        let desk = opened(alloc, &[], 0)?;
+        let drought = Drought::new(alloc)?;
+        let desk = no_desk(alloc)?;
         let passes = new_passes(alloc, &desk)?;
-        Ok(Run { desk, passes })
+        Ok(Run {
+            desk,
+            passes,
+            drought,
+        })
     }
+}
 
-    /// The desk; one without cells takes its place.
-    pub fn taken(&mut self, alloc: Global) -> Result<Desk, Fail> {
-        Ok(mem::replace(&mut self.desk, opened(alloc, &[], 0)?))
-    }
+/// The desk; one without cells takes its place.
+pub fn taken(alloc: Global, desk: &mut Desk) -> Result<Desk, Fail> {
+    Ok(mem::replace(desk, no_desk(alloc)?))
 }
 
 /// A value by its names.
@@ -74,11 +88,15 @@ fn ordered<T: AllocGlobal + Wait>(
     rt: &T,
     desk: &Desk,
     pass: &mut Pass,
+    drought: &mut Drought,
     words: &mut Words,
 ) -> Result<String, Fail> {
     let at = words.number16()?;
     let octets = message_of(rt.alloc(), words)?;
-    match desk.order(rt, rt.alloc(), pass, at, &octets, &Open) {
+    drought.begin(rt.alloc());
+    let outcome = desk.order(rt, rt.alloc(), pass, at, &octets, &Open);
+    drought.end();
+    match outcome {
         Ok(reply) => Ok(digits_of(rt.alloc(), reply.as_slice())?),
         Err(fault) => told(rt.alloc(), &fault),
     }
@@ -89,11 +107,15 @@ fn played<T: AllocGlobal + Wait>(
     rt: &T,
     desk: &Desk,
     pass: &mut Pass,
+    drought: &mut Drought,
     words: &mut Words,
 ) -> Result<String, Fail> {
     let cell = cell_of(words.word())?;
     let slots = words.number16()?;
-    match desk.play(rt, rt.alloc(), pass, cell, slots, &Open) {
+    drought.begin(rt.alloc());
+    let outcome = desk.play(rt, rt.alloc(), pass, cell, slots, &Open);
+    drought.end();
+    match outcome {
         Ok(range) => shown(rt.alloc(), &(range.from..range.to)),
         Err(fault) => told(rt.alloc(), &fault),
     }
@@ -105,6 +127,7 @@ fn asked<T: AllocGlobal + Wait>(
     rt: &T,
     desk: &Desk,
     pass: &mut Pass,
+    drought: &mut Drought,
     times: u64,
     words: &mut Words,
 ) -> Result<String, Fail> {
@@ -112,7 +135,10 @@ fn asked<T: AllocGlobal + Wait>(
     let id = words.number16()?;
     let serial = Serial::of(words.hex16()?);
     for _ in 0..times {
-        match desk.status(rt, rt.alloc(), pass, cell, id, serial, &Open) {
+        drought.begin(rt.alloc());
+        let outcome = desk.status(rt, rt.alloc(), pass, cell, id, serial, &Open);
+        drought.end();
+        match outcome {
             Ok(None) => {}
             Ok(Some((completed, state))) => {
                 return shown(rt.alloc(), &Answer::Told { completed, state });
@@ -123,10 +149,47 @@ fn asked<T: AllocGlobal + Wait>(
     shown(rt.alloc(), &Answer::Unknown)
 }
 
+/// Takes out what a cell aired. The words: the cell, the first slot, and how many slots.
+pub fn taken_out<T: AllocGlobal + Wait>(
+    rt: &T,
+    run: &mut Run,
+    words: &mut Words,
+) -> Result<String, Fail> {
+    let cell = cell_of(words.word())?;
+    let from = words.number16()?;
+    let slots = words.number16()?;
+    if slots > 64 {
+        return Err(Fail::new("a piece has at most 64 slots"));
+    }
+    run.drought.begin(rt.alloc());
+    let outcome = run.desk.piece(rt, rt.alloc(), cell, from, slots, &Open);
+    run.drought.end();
+    match outcome {
+        Ok(piece) => piece_text(rt.alloc(), &piece),
+        Err(fault) => told(rt.alloc(), &fault),
+    }
+}
+
+/// What a piece says: its cell, its first slot, and the serial number of the page of each slot, `-` for none.
+fn piece_text(alloc: Global, piece: &Piece) -> Result<String, Fail> {
+    let Cell { lac, ci } = piece.cell;
+    let mut text = format!(in alloc; "{lac}-{ci} from {}:", piece.from)?;
+    for page in &piece.pages {
+        match page {
+            Some(octets) => write!(text, " {}", digits_of(alloc, &octets[..2])?)?,
+            None => text.push_str(" -")?,
+        }
+    }
+    Ok(text)
+}
+
 /// What an answer says.
 fn answer_text(alloc: Global, answer: Answer) -> Result<String, Fail> {
     match answer {
-        Answer::Cause(cause) => Ok(format!(in alloc; "refused with cause {cause:02X}")?),
+        Answer::Cause(cause) => {
+            let cause = digits_of(alloc, &[cause])?;
+            Ok(format!(in alloc; "refused with cause {cause}")?)
+        }
         _ => shown(alloc, &answer),
     }
 }
@@ -169,16 +232,21 @@ pub fn with_pass<T: AllocGlobal + Wait>(
     place: usize,
     words: &mut Words,
 ) -> Result<String, Fail> {
-    let Some(pass) = run.passes.get_mut(place) else {
+    let Run {
+        desk,
+        passes,
+        drought,
+    } = run;
+    let Some(pass) = passes.get_mut(place) else {
         return Err(Fail::new("no such pass"));
     };
     match words.word() {
-        "orders" => ordered(rt, &run.desk, pass, words),
-        "plays" => played(rt, &run.desk, pass, words),
-        "asks" => asked(rt, &run.desk, pass, 1, words),
+        "orders" => ordered(rt, desk, pass, drought, words),
+        "plays" => played(rt, desk, pass, drought, words),
+        "asks" => asked(rt, desk, pass, drought, 1, words),
         "asks-often" => {
             let times = words.number()?;
-            asked(rt, &run.desk, pass, times, words)
+            asked(rt, desk, pass, drought, times, words)
         }
         "note" => noted(rt.alloc(), pass, words),
         _ => Err(Fail::new("no such action of a pass")),

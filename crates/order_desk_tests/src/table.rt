@@ -4,36 +4,31 @@ use crate::ends::*;
 use crate::replies::*;
 use crate::run::*;
 use order_desk::DeskFault;
-use std::alloc::Global;
 use std::process::Abort;
 use std::sync::Wait;
 use std::test::Fail;
-use test_support::{Row, Words};
-
-/// Opens a desk.
-fn begin(alloc: Global, run: &mut Run, words: &mut Words) -> Result<String, Fail> {
-    run.desk = desk_of(alloc, words)?;
-    Ok(String::new(alloc))
-}
+use test_support::{Drought, Row, Words, after_refusals, is_refused};
 
 /// What comes of an action.
 fn carried_out<T: AllocGlobal + Wait>(
     rt: &T,
     run: &mut Run,
+    verb: &str,
     words: &mut Words,
 ) -> Result<String, Fail> {
     let alloc = rt.alloc();
-    match words.word() {
+    match verb {
         "desk" => {
             run.passes = new_passes(alloc, &run.desk)?;
             begin(alloc, run, words)
         }
         "next-desk" => begin(alloc, run, words),
         "shows" => desk_text(alloc, &run.desk),
-        "close" => closed(alloc, run.taken(alloc)?),
+        "close" => closed(alloc, run),
+        "piece" => taken_out(rt, run, words),
         "settle" => settled(alloc, run, words),
         "settle-as" => settled_as(alloc, run, words),
-        "reply" => replied(alloc, words),
+        "reply" => replied(alloc, &mut run.drought, words),
         "cells" => cells_text(alloc, words),
         "fault" => told(
             alloc,
@@ -48,6 +43,39 @@ fn carried_out<T: AllocGlobal + Wait>(
     }
 }
 
+/// Carries out the steps of a row, which `;` parts, and returns what comes of the last one. A step that begins with
+/// `scarce` has so many blocks of memory.
+fn steps_done<T: AllocGlobal + Wait + Abort>(
+    rt: &T,
+    run: &mut Run,
+    steps: &str,
+    blocks: u16,
+) -> Result<String, Fail> {
+    let mut found = String::new(rt.alloc());
+    for step in steps.split(';') {
+        let mut words = Words::of(step);
+        let verb = run.drought.verb(&mut words, blocks);
+        found = carried_out(rt, run, verb, &mut words)?;
+        assert_eq!(rt; words.word(), "", "words are left: {steps}");
+    }
+    Ok(found)
+}
+
+/// What comes of a row. If memory is refused, the row is carried out again, with one block more each time.
+fn outcome<T: AllocGlobal + Wait + Abort>(
+    rt: &T,
+    run: &mut Run,
+    steps: &str,
+) -> Result<String, Fail> {
+    for refused in 0..Drought::MOST {
+        let found = steps_done(rt, run, steps, refused)?;
+        if !is_refused(&found) {
+            return after_refusals(rt.alloc(), refused, found);
+        }
+    }
+    Ok(String::from_str(rt.alloc(), "refused to the end")?)
+}
+
 /// Expects what the rows of a table say, and returns how many there are.
 pub fn expect_each<T: AllocGlobal + Wait + Abort>(
     rt: &T,
@@ -57,10 +85,8 @@ pub fn expect_each<T: AllocGlobal + Wait + Abort>(
     let mut rows = 0_u64;
     for line in table.split('\n') {
         if let Some(row) = Row::of(line) {
-            let mut words = Words::of(row.action);
-            let found = carried_out(rt, run, &mut words)?;
-            assert_eq!(rt; found.as_str(), row.wanted, "{line}");
-            assert_eq!(rt; words.word(), "", "words are left: {line}");
+            let found = outcome(rt, run, row.action)?;
+            assert_eq!(rt; found.trim(), row.wanted, "{line}");
             rows = rows.saturating_add(1);
         }
     }

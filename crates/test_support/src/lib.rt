@@ -9,7 +9,7 @@ mod rows;
 mod words;
 
 pub use malformed::Malformed;
-pub use memory::{Scarce, take_all};
+pub use memory::{Drought, Scarce, after_refusals, is_refused, take_all};
 pub use octets::{digits_of, octets_of};
 pub use rows::Row;
 pub use words::Words;
