@@ -15,7 +15,7 @@ use std::process::Abort;
 use std::sync::Wait;
 use std::test::Fail;
 use std::thread::Threads;
-use test_support::{Row, Words, digits_of, octets_of};
+use test_support::{Drought, Row, Words, after_refusals, digits_of, is_refused, octets_of};
 
 /// Two alerts, each in a cell of its own.
 const APART: &str = "cell,1,1\ncell,1,2\n\
@@ -48,6 +48,8 @@ pub struct Run {
     pub passes: Vec<Pass>,
     /// How many parts the book has.
     pub parts: u16,
+    /// Scarce memory for the check of a row.
+    pub drought: Drought,
     ghost of_book: { desk.cells ≡ book.cells },
 }
 
@@ -72,6 +74,7 @@ fn new_passes(alloc: Global, desk: &Desk) -> Result<Vec<Pass>, Fail> {
 
 /// A run of a book.
 fn run_of(alloc: Global, book: Book, slots: u16, parts: u16) -> Result<Run, Fail> {
+    let drought = Drought::new(alloc)?;
     let desk = opened(alloc, &book, slots)?;
     let passes = new_passes(alloc, &desk)?;
     Ok(Run {
@@ -79,11 +82,12 @@ fn run_of(alloc: Global, book: Book, slots: u16, parts: u16) -> Result<Run, Fail
         desk,
         passes,
         parts,
+        drought,
     })
 }
 
 /// A run. The words: the book, how many slots its desk has, and its parts.
-pub fn begun<T: AllocGlobal + Threads + Sync>(rt: &T, words: &mut Words) -> Result<Run, Fail> {
+fn begun<T: AllocGlobal + Threads + Sync>(rt: &T, words: &mut Words) -> Result<Run, Fail> {
     let rows = rows_of(words.word())?;
     let slots = words.number16()?;
     let parts = words.number16()?;
@@ -181,7 +185,10 @@ fn checked_text(alloc: Global, run: &mut Run, words: &mut Words) -> Result<Strin
     let count = words.number16()?;
     let desk = run.taken(alloc)?;
     match run.passes.get(0..usize::from(count)) {
-        Some(passes) => shown(alloc, &checked(alloc, &run.book, run.parts, desk, passes)?),
+        Some(passes) => shown(
+            alloc,
+            &checked(alloc, &run.book, run.parts, desk, passes, &mut run.drought)?,
+        ),
         None => Err(Fail::new("there are three passes")),
     }
 }
@@ -190,11 +197,14 @@ fn checked_text(alloc: Global, run: &mut Run, words: &mut Words) -> Result<Strin
 fn carried_out<T: AllocGlobal + Threads + Wait + Sync>(
     rt: &T,
     run: &mut Run,
+    verb: &str,
     words: &mut Words,
 ) -> Result<String, Fail> {
-    match words.word() {
+    match verb {
         "book" => {
-            *run = begun(rt, words)?;
+            let mut begun = begun(rt, words)?;
+            mem::swap(&mut begun.drought, &mut run.drought);
+            *run = begun;
             Ok(String::new(rt.alloc()))
         }
         "p" => with_pass(rt, run, 0, words),
@@ -205,8 +215,41 @@ fn carried_out<T: AllocGlobal + Threads + Wait + Sync>(
     }
 }
 
+/// Carries out the steps of a row, which `;` parts, and returns what comes of the last one. A step that begins with
+/// `scarce` has so many blocks of memory.
+fn steps_done<T: AllocGlobal + Threads + Wait + Abort + Sync>(
+    rt: &T,
+    run: &mut Run,
+    steps: &str,
+    blocks: u16,
+) -> Result<String, Fail> {
+    let mut found = String::new(rt.alloc());
+    for step in steps.split(';') {
+        let mut words = Words::of(step);
+        let verb = run.drought.verb(&mut words, blocks);
+        found = carried_out(rt, run, verb, &mut words)?;
+        assert_eq!(rt; words.word(), "", "words are left: {steps}");
+    }
+    Ok(found)
+}
+
+/// What comes of a row. If memory is refused, the row is carried out again, with one block more each time.
+fn outcome<T: AllocGlobal + Threads + Wait + Abort + Sync>(
+    rt: &T,
+    run: &mut Run,
+    steps: &str,
+) -> Result<String, Fail> {
+    for refused in 0..Drought::MOST {
+        let found = steps_done(rt, run, steps, refused)?;
+        if !is_refused(&found) {
+            return after_refusals(rt.alloc(), refused, found);
+        }
+    }
+    Err(Fail::new("it is refused to the end"))
+}
+
 /// Expects what the rows of a table say, and that there are some.
-pub fn expect_each<T: AllocGlobal + Threads + Wait + Abort + Sync>(
+fn expect_each<T: AllocGlobal + Threads + Wait + Abort + Sync>(
     rt: &T,
     run: &mut Run,
     table: &str,
@@ -214,10 +257,8 @@ pub fn expect_each<T: AllocGlobal + Threads + Wait + Abort + Sync>(
     let mut rows = 0_u64;
     for line in table.split('\n') {
         if let Some(row) = Row::of(line) {
-            let mut words = Words::of(row.action);
-            let found = carried_out(rt, run, &mut words)?;
+            let found = outcome(rt, run, row.action)?;
             assert_eq!(rt; found.as_str(), row.wanted, "{line}");
-            assert_eq!(rt; words.word(), "", "words are left: {line}");
             rows = rows.saturating_add(1);
         }
     }

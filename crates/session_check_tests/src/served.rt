@@ -14,6 +14,7 @@ use std::alloc::Global;
 use std::sync::Wait;
 use std::test::Fail;
 use std::thread::Threads;
+use test_support::Drought;
 
 /// The book of these rows.
 pub fn book_of<T: AllocGlobal + Threads + Sync>(rt: &T, rows: &str) -> Result<Book, Fail> {
@@ -126,6 +127,25 @@ pub fn settled(alloc: Global, desk: Desk, passes: &[Pass]) -> Result<Vec<CellRec
     }
 }
 
+/// What the check says of the sessions of a book's parts, if memory is scarce for it.
+fn check_in(
+    alloc: Global,
+    drought: &mut Drought,
+    book: &Book,
+    parts: u16,
+    records: &[CellRecord],
+    passes: &[Pass],
+) -> Result<(), SettleFault>
+    requires parts { parts ≤ length passes.now }
+    requires cells { cells_of records.now ≡ book.now.cells }
+    requires agree { All (HasRightNumbers passes.now) records.now }
+{
+    drought.begin(alloc);
+    let outcome = check_sessions(alloc, book, parts, records, passes);
+    drought.end();
+    outcome
+}
+
 /// What the check says of the sessions of a book's parts, once their desk is settled with the passes.
 pub fn checked(
     alloc: Global,
@@ -133,6 +153,7 @@ pub fn checked(
     parts: u16,
     desk: Desk,
     passes: &[Pass],
+    drought: &mut Drought,
 ) -> Result<Result<(), SettleFault>, Fail>
     requires { desk.cells ≡ book.now.cells }
 {
@@ -140,5 +161,5 @@ pub fn checked(
         return Err(Fail::new("there are too few passes"));
     }
     let records = settled(alloc, desk, passes)?;
-    Ok(check_sessions(alloc, book, parts, &records, passes))
+    Ok(check_in(alloc, drought, book, parts, &records, passes))
 }
