@@ -1,4 +1,5 @@
 -- A cell's book: its decisions, and what its table, its plan and its budget hold of its history.
+pub mod Aired
 pub mod BudgetOfTable
 pub mod CommandOfMessage
 pub mod Decisions

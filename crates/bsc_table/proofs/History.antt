@@ -5,7 +5,6 @@ pub mod EntryNumbers
 pub mod HasEntry
 pub mod LegalIsSound
 pub mod LegalWithEntry
-pub mod LegalWithSlot
 pub mod NextEntry
 pub mod Pairs
 pub mod Promises

@@ -11,7 +11,8 @@ use Rattle.std.specs.Option.{option_map}
 use Rattle.admission.specs.Waiting.{behind_of}
 use Rattle.admission.specs.Table.{answer_of, answer_for, excess_over}
 use Rattle.scheduler.specs.Message.{ScheduledMessage, stopped_if}
-use Rattle.scheduler.specs.Air.{Air}
+use Rattle.scheduler.specs.Air.{Air, IsAirOf}
+use Rattle.scheduler.specs.Follows.{PlanState, Follows, next_slot}
 use Rattle.cbsp_wire.specs.declared.cause.TheConstants.{BSC_CAPACITY_EXCEEDED, CELL_MEMORY_EXCEEDED}
 use Rattle.bsc_table.specs.declared.command.Command.{Command}
 use Rattle.bsc_table.specs.declared.command.Command.TheVariants as commands
@@ -192,11 +193,15 @@ pub record IsLater (r : Record) (old : Accepted) (load : ℕ) (later : Option Fo
   pub fits : IfSome later (λ p. claimed_at (left_by r old) r.clock + p.excess ≤ SCALE)
   pub soon : IfSome later (λ p. p.start < LATEST_START)
 
--- a book after some of its slots were played: the clock is at the slot after them, and nothing but the air list has
--- changed, which is longer
-pub record IsGoneTo (slot : ℕ) (before after : Record) : Type 0 where
-  pub same_cell : after.cell ≡ before.cell
-  pub same_slots : after.slots ≡ before.slots
-  pub same_log : after.log ≡ before.log
-  pub clock_at : after.clock ≡ slot
-  pub more_air : (more : Air) × (after.air ≡ before.air ++ more)
+-- what a plan airs up to a slot: the air list is longer, and if the plan followed these messages and their air list by
+-- the air rule, so it does once those slots are aired
+pub record AreAired (slot : ℕ) (before after : PlanState) (air aired : Air) : Type 0 where
+  pub more_air : (more : Air) × (aired ≡ air ++ more)
+  pub asked : next_slot after ≡ slot
+  pub follows : (messages : List ScheduledMessage)
+      → Follows before messages air
+      → Follows after messages aired
+  pub by_rule : (messages : List ScheduledMessage)
+      → Follows before messages air
+      → IsAirOf messages air
+      → IsAirOf messages aired

@@ -6,6 +6,7 @@ ghost use Rattle.std.specs.Prelude.{vec_capacity};
 ghost use Rattle.std.specs.List.{All, Any, Contains, find};
 ghost use Rattle.std.specs.Option.{MatchOption, option_map};
 ghost use Rattle.scheduler.specs.Completed.{completed};
+ghost use Rattle.scheduler.specs.Follows.{next_slot};
 ghost use Rattle.bsc_table.specs.declared.entry.Answer.TheVariants as answers;
 ghost use Rattle.bsc_table.specs.declared.command.Command.TheVariants as commands;
 ghost use Rattle.cbsp_wire.specs.declared.cause.TheConstants.{BSC_MEMORY_EXCEEDED};
@@ -23,7 +24,7 @@ ghost use Rattle.bsc_table.specs.Transitions.{opened, entry_by, with_entry, answ
 ghost use Rattle.bsc_table.specs.Transitions.{Ask, IsStep, Play};
 ghost use Rattle.bsc_table.specs.Accepted.{accepted_of};
 ghost use Rattle.bsc_table.specs.Book.{air_pairs, reservation_for};
-ghost use Rattle.bsc_table.specs.BookSteps.{IsGoneTo, IsNotLive, IsLiveAs, IsLiveIn, IsNext, IsStop, IsStart};
+ghost use Rattle.bsc_table.specs.BookSteps.{AreAired, IsNotLive, IsLiveAs, IsLiveIn, IsNext, IsStop, IsStart};
 ghost use Rattle.bsc_table.specs.BookSteps.{IsReplacement, IsOffered, IsRoom, IsLater, Decides, DecidesWrites};
 ghost use Rattle.bsc_table.specs.BookSteps.{decided_answer, cause_of, left_by, place_of, HasRoomFor};
 ghost use Rattle.bsc_table.specs.Refusals.{is_accepting};
@@ -562,22 +563,11 @@ impl CellBook {
     fn play_up_to(&mut self, to: u16)
         requires ahead { self.old.clock ≤ to }
         requires within { to ≤ self.old.slots }
-        ensures { IsGoneTo to self.old self.new }
+        ensures { IsPlayedUpTo to self.old self.new }
     {
-        while self.clock() < to {
-            self.play_slot();
-        }
-    }
-
-    /// Plays the slot at which the clock stands.
-    fn play_slot(&mut self)
-        requires { self.old.clock < self.old.slots }
-        ensures { IsGoneTo (self.old.clock + 1) self.old self.new }
-    {
-        let used = self.plan.next(self.clock);
-        push_aired(&mut self.air, used);
-        self.clock += 1;
-        self.budget.pass_slot(self.clock);
+        air_slots(&mut self.plan, &mut self.air, self.clock, to);
+        self.clock = to;
+        self.budget.pass_slot(to);
     }
 }
 
@@ -641,4 +631,21 @@ fn push_aired(air: &mut Vec<Option<Aired>>, used: Option<(u16, u8)>)
         Some((entry, page)) => Some(Aired { entry, page }),
     };
     air.push_reserved(aired);
+}
+
+/// Adds what the slots from `from` up to, and without, `to` air by a plan, where there is room for it.
+fn air_slots(plan: &mut Plan, air: &mut Vec<Option<Aired>>, from: u16, to: u16)
+    requires asked { from ≡ next_slot plan.old }
+    requires ahead { from ≤ to }
+    requires places { vec_len air.old ≡ from }
+    requires room { to ≤ vec_capacity air.old }
+    ensures aired { AreAired to plan.old plan.new (air_pairs air.old.items) (air_pairs air.new.items) }
+    ensures places { vec_len air.new ≡ to }
+    ensures room { vec_capacity air.old ≤ vec_capacity air.new }
+{
+    let mut slot = from;
+    while slot < to {
+        push_aired(air, plan.next(slot));
+        slot += 1;
+    }
 }

@@ -1,6 +1,6 @@
 //! What a cell aired in some slots that follow each other.
 
-ghost use Rattle.std.specs.Prelude.{◌≡◌, ◌≤◌, [], vec_capacity};
+ghost use Rattle.std.specs.Prelude.{◌≡◌, ◌≤◌, [], Some, vec_capacity};
 ghost use Rattle.bsc_table.specs.Book.{aired_pair};
 ghost use Rattle.order_desk.specs.Pieces.{octets_aired, page_octets, pages_aired};
 
@@ -43,11 +43,10 @@ fn page_of(command: &Command, page: u8) -> Option<[u8; 88]>
     }
 }
 
-/// The octets of the page that a slot aired, by the cell's log; None for an idle slot.
-fn aired_page(log: &[Entry], used: Option<Aired>) -> Option<[u8; 88]>
-    ensures { result ≡ octets_aired log.now (aired_pair used) }
+/// The octets of the page that a slot aired, by the cell's log.
+fn aired_page(log: &[Entry], aired: Aired) -> Option<[u8; 88]>
+    ensures { result ≡ octets_aired log.now (aired_pair (Some aired)) }
 {
-    let aired = used?;
     let entry = log.get(aired.entry as usize)?;
     page_of(&entry.command, aired.page)
 }
@@ -62,6 +61,10 @@ pub(crate) fn put_pages(book: &CellBook, pages: &mut Vec<Option<[u8; 88]>>, from
     let air = book.air();
     let rest = &air[(from as usize).min(air.len())..];
     for used in &rest[..(k as usize).min(rest.len())] {
-        pages.push_reserved(aired_page(log, *used));
+        match used {
+            // most slots are idle, and what isn't there needn't be moved
+            None => pages.push_reserved(None),
+            Some(aired) => pages.push_reserved(aired_page(log, *aired)),
+        }
     }
 }

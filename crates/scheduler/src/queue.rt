@@ -273,37 +273,21 @@ fn place_of(nodes: &[Node], entry: u16) -> usize
     low
 }
 
-/// What `slot` airs: the next page of the message whose turn is the first.
-fn choice(nodes: &[Node], slot: u16) -> Option<(u16, u8)>
-    requires kept { AreKept slot nodes.now }
-    requires rising { AreRising nodes.now }
-    requires awake { slot < (ahead_at nodes.now 0).wake }
-    ensures { IsChoice (seen_in slot nodes.now) slot result }
-{
-    let entry = ahead_at(nodes, 0).first_entry()?;
-    let place = place_of(nodes, entry);
-    let first = nodes[place].kept.scheduled;
-    Some((entry, first.next_page()))
-}
-
-/// Goes past a slot and its use.
-fn pass(nodes: &mut [Node], slot: u16, used: Option<(u16, u8)>)
+/// What `slot` airs, the next page of the message whose turn is the first, and what is kept after the slot.
+fn air_first(nodes: &mut [Node], slot: u16) -> Option<(u16, u8)>
     requires within { slot < 65535 }
     requires kept { AreKept slot nodes.old }
     requires rising { AreRising nodes.old }
     requires awake { slot < (ahead_at nodes.old 0).wake }
-    requires chosen { IsChoice (seen_in slot nodes.old) slot used }
-    ensures seen { seen_in (slot + 1) nodes.new ≡ map (after_slot slot used) (seen_in slot nodes.old) }
+    ensures chosen { IsChoice (seen_in slot nodes.old) slot result }
+    ensures seen { seen_in (slot + 1) nodes.new ≡ map (after_slot slot result) (seen_in slot nodes.old) }
     ensures kept { AreKept (slot + 1) nodes.new }
 {
-    match used {
-        None => {}
-        Some((entry, _)) => {
-            let place = place_of(nodes, entry);
-            let kept = nodes[place].kept.aired();
-            change(nodes, place, kept);
-        }
-    }
+    let entry = ahead_at(nodes, 0).first_entry()?;
+    let place = place_of(nodes, entry);
+    let kept = nodes[place].kept;
+    change(nodes, place, kept.aired());
+    Some((entry, kept.scheduled.next_page()))
 }
 
 /// What `slot` airs, and what is kept after it. `listed` has room for a list of all places.
@@ -317,9 +301,7 @@ pub fn play(nodes: &mut [Node], listed: &mut [usize], slot: u16) -> Option<(u16,
     ensures kept { AreKept (slot + 1) nodes.new }
 {
     renew_all(nodes, listed, slot);
-    let used = choice(nodes, slot);
-    pass(nodes, slot, used);
-    used
+    air_first(nodes, slot)
 }
 
 /// Adds a message behind the others. After `Err` there is no room for it, and the places are as they were.

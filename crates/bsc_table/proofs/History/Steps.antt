@@ -81,7 +81,7 @@ air_played messages air more rule chosen = λ at within.
     ]
 
 -- slots that are played keep a legal history legal
-legal_played : (slot : ℕ) (before after : Record)
+pub legal_played : (slot : ℕ) (before after : Record)
     → before.clock ≤ slot
     → slot ≤ before.slots
     → IsLegal before
