@@ -1,3 +1,4 @@
 pub mod Tables
+pub mod OwnSeptets
 pub mod AlphabetLaws
 mod Worked

@@ -1,6 +1,7 @@
 //! The two tables, written once, and the three functions that read them.
 
-ghost use Rattle.std.specs.Prelude.{◌≡◌, IfSome};
+ghost use Rattle.std.specs.Prelude.{◌≡◌, ◌<◌, true, IfSome, Some};
+ghost use Rattle.gsm_alphabet.specs.declared.Code.TheVariants.{One};
 ghost use Rattle.gsm_alphabet.specs.Alphabet.{code_of, character_of_code, IsSeptetCode, main_character};
 ghost use Rattle.gsm_alphabet.specs.Alphabet.{extension_character};
 
@@ -68,7 +69,21 @@ pub fn encode_char(character: char) -> Option<Code>
     ensures decodes { IfSome result (λ code. character_of_code code ≡ character) }
     ensures fits { IfSome result IsSeptetCode }
 {
+    // Most characters of a text, which would else go through the whole `match`.
+    if is_own_septet(character) {
+        return Some(Code::One(character as u8));
+    }
     alphabet!(code_for, character)
+}
+
+/// Whether `character` is one whose septet is its own number, as it is for the letters, the digits and most signs of
+/// ASCII.
+#[tactic(auto)]
+fn is_own_septet(character: char) -> bool
+    ensures { result ≡ true → (character < 128) × (code_of character ≡ Some (One character))
+        × (main_character character ≡ character) }
+{
+    matches!(character, ' '..='#' | '%'..='?' | 'A'..='Z' | 'a'..='z')
 }
 
 /// The character that the septet `code` shows by itself. The escape 1B, which has none, shows a space, and so does a
