@@ -1,22 +1,26 @@
 //! Which messages of the warning centre are orders, and of what, as a table.
 
 use crate::told::cell_of;
-use bsc_table::{Category, Command, orders_of};
+use bsc_table::{Category, Command, Refused, orders_of};
 use cbs_page::{Content, Dcs, Serial};
 use cbsp_wire::{Cell, Cells, Contents, Counts, Message};
 use std::alloc::Global;
 use std::process::Abort;
 use std::test::Fail;
-use test_support::{Row, Words};
+use test_support::{Drought, Row, Words};
 
 /// `write CHANNEL CATEGORY` is a write to cells 1-2 and 1-1, `kill CHANNEL` a kill, and `killed CHANNEL` the reply to a
 /// kill; `-` is no channel or no category. What comes of it is the cells and the command, or the cause in hexadecimal.
+/// With `copy` before it the command is copied, and with `scarce copy` it is copied without any memory.
 const ORDERS: &str = "
 # A write is an order to its cells, in their order.
 write - - -> 1-2 1-1 write 4370 0011 for 0010 normal every 7 times 5 dcs 01 both pages
 copy write - - -> 1-2 1-1 write 4370 0011 for 0010 normal every 7 times 5 dcs 01 both pages
 # So is a kill.
 kill 0 -> 1-2 1-1 kill 4370 0010
+# A copy needs no memory: that of a write shares its pages.
+scarce copy write - - -> 1-2 1-1 write 4370 0011 for 0010 normal every 7 times 5 dcs 01 both pages
+scarce copy kill 0 -> 1-2 1-1 kill 4370 0010
 # A category is known by its value.
 write 0 0 -> 1-2 1-1 write 4370 0011 for 0010 high every 7 times 5 dcs 01 both pages
 write 0 2 -> 1-2 1-1 write 4370 0011 for 0010 normal every 7 times 5 dcs 01 both pages
@@ -170,12 +174,20 @@ fn order_told(alloc: Global, message: Message) -> Result<String, Fail> {
     }
 }
 
-/// The same, by a copy of the command.
-fn copy_told(alloc: Global, message: Message) -> Result<String, Fail> {
+/// A copy of a command, where memory can be scarce.
+fn copied_in(alloc: Global, drought: &mut Drought, command: &Command) -> Result<Command, Refused> {
+    drought.begin(alloc);
+    let outcome = command.copy(alloc);
+    drought.end();
+    outcome
+}
+
+/// The cells and the command of a message, by a copy of the command.
+fn copy_told(alloc: Global, drought: &mut Drought, message: Message) -> Result<String, Fail> {
     match orders_of(message) {
         Ok((cells, command)) => {
             let mut told = names_of(alloc, &cells)?;
-            let command = command.copy(alloc)?;
+            let command = copied_in(alloc, drought, &command)?;
             told.push_str(&command_told(alloc, &command)?)?;
             Ok(told)
         }
@@ -184,8 +196,7 @@ fn copy_told(alloc: Global, message: Message) -> Result<String, Fail> {
 }
 
 /// The message that words say.
-fn message_of(alloc: Global, words: &mut Words<'_>) -> Result<Message, Fail> {
-    let verb = words.word();
+fn message_of(alloc: Global, verb: &str, words: &mut Words<'_>) -> Result<Message, Fail> {
     let channel = element(words)?;
     let category = if verb == "write" {
         element(words)?
@@ -204,24 +215,29 @@ fn message_of(alloc: Global, words: &mut Words<'_>) -> Result<Message, Fail> {
 }
 
 /// What comes of a row's words.
-fn told_of(alloc: Global, action: &str) -> Result<String, Fail> {
-    match action.strip_prefix("copy ") {
-        Some(action) => copy_told(alloc, message_of(alloc, &mut Words::of(action))?),
-        None => order_told(alloc, message_of(alloc, &mut Words::of(action))?),
+fn told_of(alloc: Global, drought: &mut Drought, action: &str) -> Result<String, Fail> {
+    let mut words = Words::of(action);
+    match drought.verb(&mut words, 0) {
+        "copy" => {
+            let verb = words.word();
+            copy_told(alloc, drought, message_of(alloc, verb, &mut words)?)
+        }
+        verb => order_told(alloc, message_of(alloc, verb, &mut words)?),
     }
 }
 
 /// Expects what the rows of a table say.
 fn expect_rows(rt: &impl Abort, alloc: Global, table: &str) -> Result<(), Fail> {
+    let mut drought = Drought::new(alloc)?;
     let mut rows = 0_usize;
     for line in table.split('\n') {
         if let Some(row) = Row::of(line) {
-            let found = told_of(alloc, row.action)?;
+            let found = told_of(alloc, &mut drought, row.action)?;
             assert_eq!(rt; found.as_str(), row.wanted, "{line}");
             rows = rows.saturating_add(1);
         }
     }
-    assert_eq!(rt; rows, 12);
+    assert_eq!(rt; rows, 14);
     Ok(())
 }
 

@@ -330,6 +330,82 @@ book -> 1-1, 65535 slots, next is 65535
 aired -> 65535 slots
 ";
 
+/// Books that are opened, and commands that are answered, with scarce memory. The fifth entry of a log needs room, and
+/// so does the fifth message that is accepted.
+const SCARCE: &str = "
+# A book of some slots needs room for them, and one of none doesn't.
+scarce cell 1-2 100; book; play 3 -> refused; 1-2, 100 slots, next is 0; 0..3
+scarce cell 1-2 0; book; play 3 -> 1-2, 0 slots, next is 0; 0..0
+
+# A first message, and a fifth one.
+cell 1-1 4; scarce write 0001 every 2; play 4; status 0001; air; log -> \
+    refused; started at 0; 0..4; 2 standing; 0/1 - 0/1 -; 1 entries
+cell 1-1 8; write 0001 every 8; write 0002 every 8; write 0003 every 8; write 0004 every 8; play 2; \
+    scarce write 0005 high every 8 pages 2 times 1; play 6; status 0005; air; log -> \
+    refused; started at 0; started at 0; started at 0; started at 0; 0..2; started at 2; 2..8; 1 standing; \
+    0/1 1/1 2/1 3/1 4/1 4/2 - -; 5 entries
+
+# A replacement at the end of a period starts at once.
+cell 1-1 6; write 0001 every 6; write 0002 every 3; write 0003 every 2; write 0009 background every 6; play 3; \
+    scarce write 0004 for 0002 every 3; play 6; status 0002; status 0004; air; log -> \
+    refused; started at 0; started at 0; started at 0; started at 0; 0..3; replaced at 3, 1 completed; 3..6; \
+    1 stopped at 3; 1 standing; 2/1 1/1 2/1 0/1 2/1 4/1; 5 entries
+
+# One that waits for the end of a period.
+cell 1-1 8; write 0001 every 4; write 0002 every 4 pages 3; write 0008 background every 8; \
+    write 0009 background every 8; play 1; scarce write 0003 for 0001 every 4; play 7; status 0001; status 0003; \
+    status 0009; air; log -> \
+    refused; started at 0; started at 0; started at 0; started at 0; 0..1; replaced at 4, 1 completed; 1..8; \
+    1 stopped at 1; 1 standing; 0 standing; 0/1 1/1 1/2 1/3 1/1 1/2 1/3 4/1; 5 entries
+
+# The same where the log has room: a first room for a message, and those of a fifth message alone.
+cell 1-1 4; ask 0001; scarce write 0001 every 2; play 4; status 0001; air; log -> \
+    refused; unknown; started at 0; 0..4; 2 standing; 1/1 - 1/1 -; 2 entries
+cell 1-1 8; write 0001 every 8; write 0002 every 8; write 0003 every 8; write 0004 every 8; ask 0005; play 2; \
+    scarce write 0005 high every 8 pages 2 times 1; play 6; status 0005; air; log -> \
+    refused; started at 0; started at 0; started at 0; started at 0; unknown; 0..2; started at 2; 2..8; 1 standing; \
+    0/1 1/1 2/1 3/1 5/1 5/2 - -; 6 entries
+cell 1-1 6; write 0001 every 6; write 0002 every 3; write 0003 every 2; write 0009 background every 6; ask 0004; \
+    play 3; scarce write 0004 for 0002 every 3; play 6; status 0002; status 0004; air; log -> \
+    refused; started at 0; started at 0; started at 0; started at 0; unknown; 0..3; replaced at 3, 1 completed; 3..6; \
+    1 stopped at 3; 1 standing; 2/1 1/1 2/1 0/1 2/1 5/1; 6 entries
+cell 1-1 8; write 0001 every 4; write 0002 every 4 pages 3; write 0008 background every 8; \
+    write 0009 background every 8; ask 0003; play 1; scarce write 0003 for 0001 every 4; play 7; status 0001; \
+    status 0003; air; log -> \
+    refused; started at 0; started at 0; started at 0; started at 0; unknown; 0..1; replaced at 4, 1 completed; 1..8; \
+    1 stopped at 1; 1 standing; 0/1 1/1 1/2 1/3 1/1 1/2 1/3 5/1; 6 entries
+
+# A stop.
+cell 1-1 8; write 0001 every 2; write 0002 every 4 pages 2; ask 0001; ask 0003; play 3; scarce kill 0002; play 5; \
+    status 0002; air; log -> \
+    refused; started at 0; started at 0; 0 standing; unknown; 0..3; stopped, 0 completed; 3..8; 0 stopped at 3; \
+    0/1 1/1 0/1 - 0/1 - 0/1 -; 5 entries
+
+# A status, of no message and of one.
+cell 1-1 2; scarce ask 0001; log; entry 0 -> refused; unknown; 1 entries; at 0, unknown
+cell 1-1 4; write 0001 every 2; asks 3 0002; play 3; scarce ask 0001; log; entry 4 -> \
+    refused; started at 0; unknown; 0..3; 2 standing; 5 entries; at 3, 2 standing
+
+# Causes, which have an entry.
+cell 1-1 2; scarce kill 0001; entry 0 -> \
+    refused; refused: message reference not identified; at 0, refused: message reference not identified
+cell 1-1 2; scarce write 0002 for 0001 every 1 pages 3; log; status 0002 -> \
+    refused; refused: message reference not identified; 1 entries; unknown
+cell 1-1 2; write 0001 every 1; asks 3 0001; scarce write 0002 every 1024; play 2; status 0002; air; log -> \
+    refused; started at 0; 0 standing; refused: bsc capacity exceeded; 0..2; unknown; 0/1 0/1; 5 entries
+cell 1-1 0; scarce write 0001 every 1; entry 0 -> \
+    refused; refused: cell broadcast not operational; at 0, refused: cell broadcast not operational
+
+# A full log needs no memory to say so.
+cell 1-1 1; asks 4096 0001; scarce kill 0001; scarce ask 0001; scarce write 0001 every 1; log -> \
+    unknown; refused: bsc memory exceeded; refused: bsc memory exceeded; refused: bsc memory exceeded; 4096 entries
+";
+
+#[test]
+fn books_are_refused_until_there_is_memory(rt: HostRuntime) -> Result<(), Fail> {
+    expect_rows(&rt, rt.alloc(), SCARCE)
+}
+
 #[test]
 fn runs_air_what_was_worked_by_hand(rt: HostRuntime) -> Result<(), Fail> {
     expect_rows(&rt, rt.alloc(), AIRS)?;

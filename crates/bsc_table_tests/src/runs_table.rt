@@ -1,24 +1,108 @@
 //! What the rows of a table of runs mean: a cell, the commands that it is given, and what it airs. All messages have
-//! identifier 4370.
+//! identifier 4370. The steps of a row are parted by `;`, and what each says is wanted.
+//!
+//! The book of a step `scarce cell ..` is opened, and the commands of a step `scarce ..` are answered, with hardly any
+//! memory. If one is refused, the book has to say what it said before, and is asked once more with all memory; the
+//! steps have to say what they would have said. The row is then carried out again, with one block more, until nothing
+//! is refused: so it begins with a cell.
 
 ghost use Rattle.std.specs.Prelude.{◌≡◌, ℕ, ◌≤◌, IfOk, length, All};
 ghost use Rattle.bsc_table.specs.Orders.{IsWellFormed};
 
 use crate::told::{air_of, answer_of, cell_of, standing_of};
-use bsc_table::{Answer, Category, CellBook, CellRecord, Command};
+use bsc_table::{Answer, Category, CellBook, CellRecord, Command, Refused};
 use cbs_page::{Content, Dcs, Serial};
 use cbsp_wire::{Cell, Contents};
 use std::alloc::Global;
 use std::mem;
 use std::process::Abort;
 use std::test::Fail;
-use test_support::{Row, Words};
+use test_support::{Drought, Row, Words, after_refusals};
 
 /// A page.
 const PAGE: Content = Content {
     used: 1,
     octets: [0x0D; 82],
 };
+
+/// A run of a cell, and scarce memory for the commands of a step.
+#[derive(Drop)]
+struct Run {
+    book: CellBook,
+    drought: Drought,
+    /// Whether memory is scarce for the step under way.
+    is_scarce: bool,
+    /// Whether the row under way was refused memory.
+    is_refused: bool,
+}
+
+/// A book without slots.
+fn no_book(alloc: Global) -> Result<CellBook, Fail> {
+    Ok(CellBook::open(alloc, Cell { lac: 0, ci: 0 }, 0)?)
+}
+
+impl Run {
+    /// A run of no slots.
+    fn new(alloc: Global) -> Result<Run, Fail> {
+        let drought = Drought::new(alloc)?;
+        let book = no_book(alloc)?;
+        Ok(Run {
+            book,
+            drought,
+            is_scarce: false,
+            is_refused: false,
+        })
+    }
+}
+
+/// What a book says of its run, of its entries, and of the messages of the serial numbers 0000 to 000F.
+fn said_by(alloc: Global, book: &CellBook) -> Result<String, Fail> {
+    let mut text = book_told(alloc, book)?;
+    text.push_str(&air_of(alloc, book.air())?)?;
+    for place in 0..book.log().len() {
+        text.push_str(&entry(alloc, book, (place % 65536) as u16)?)?;
+    }
+    for serial in 0..16 {
+        text.push_str(&status(alloc, book, serial)?)?;
+    }
+    Ok(text)
+}
+
+/// The answer to a command. No clause says which: what `apply` says of a book is more than a table needs.
+fn ask(book: &mut CellBook, command: &Command) -> Answer
+    requires { IsWellFormed command.now }
+{
+    book.apply(command)
+}
+
+/// The answer to a command, where memory can be scarce.
+fn ask_in(alloc: Global, drought: &mut Drought, book: &mut CellBook, command: &Command) -> Answer
+    requires { IsWellFormed command.now }
+{
+    drought.begin(alloc);
+    let answer = ask(book, command);
+    drought.end();
+    answer
+}
+
+/// The answer to a command: if memory was refused to it, the answer to the same once more, with all memory.
+fn answered(alloc: Global, run: &mut Run, command: &Command) -> Result<Answer, Fail>
+    requires { IsWellFormed command.now }
+{
+    if !run.is_scarce {
+        return Ok(ask(&mut run.book, command));
+    }
+    let before = said_by(alloc, &run.book)?;
+    let answer = ask_in(alloc, &mut run.drought, &mut run.book, command);
+    if answer != Answer::Refused {
+        return Ok(answer);
+    }
+    run.is_refused = true;
+    if said_by(alloc, &run.book)? != before {
+        return Err(Fail::new("a refused command changes the book"));
+    }
+    Ok(ask(&mut run.book, command))
+}
 
 /// What a write asks for.
 #[derive(Clone, Copy)]
@@ -81,12 +165,7 @@ fn command_of(alloc: Global, wish: Wish, pages: &[Content]) -> Result<Command, F
 }
 
 /// The answer to a write with these pages.
-fn answer_to(
-    alloc: Global,
-    book: &mut CellBook,
-    wish: Wish,
-    pages: &[Content],
-) -> Result<Answer, Fail>
+fn answer_to(alloc: Global, run: &mut Run, wish: Wish, pages: &[Content]) -> Result<Answer, Fail>
     requires pages { 1 ≤ length pages.now }
     requires few { length pages.now ≤ 15 }
     requires used { All (λ c. c.used ≤ 82) pages.now }
@@ -95,30 +174,49 @@ fn answer_to(
     requires short { wish.period ≤ 1024 }
 {
     let command = command_of(alloc, wish, pages)?;
-    Ok(book.apply(&command))
+    answered(alloc, run, &command)
 }
 
 /// The answer to a write of one page, of two or of three.
-fn written(alloc: Global, book: &mut CellBook, wish: Wish) -> Result<Answer, Fail> {
+fn written(alloc: Global, run: &mut Run, wish: Wish) -> Result<Answer, Fail> {
     if wish.period < 1 || 1024 < wish.period {
         return Err(Fail::new("no such period"));
     }
     match wish.pages {
-        1 => answer_to(alloc, book, wish, [PAGE].as_slice()),
-        2 => answer_to(alloc, book, wish, [PAGE, PAGE].as_slice()),
-        3 => answer_to(alloc, book, wish, [PAGE, PAGE, PAGE].as_slice()),
+        1 => answer_to(alloc, run, wish, [PAGE].as_slice()),
+        2 => answer_to(alloc, run, wish, [PAGE, PAGE].as_slice()),
+        3 => answer_to(alloc, run, wish, [PAGE, PAGE, PAGE].as_slice()),
         _ => Err(Fail::new("no such number of pages")),
     }
 }
 
-/// `cell LAC-CI SLOTS`: the rows that follow are about a new run of this cell.
-fn cell(alloc: Global, book: &mut CellBook, words: &mut Words<'_>) -> Result<String, Fail> {
+/// A book of a cell, opened where memory can be scarce.
+fn open_in(
+    alloc: Global,
+    drought: &mut Drought,
+    cell: Cell,
+    slots: u16,
+) -> Result<CellBook, Refused> {
+    drought.begin(alloc);
+    let outcome = CellBook::open(alloc, cell, slots);
+    drought.end();
+    outcome
+}
+
+/// `cell LAC-CI SLOTS`: what follows is about a new run of this cell.
+fn cell(alloc: Global, run: &mut Run, words: &mut Words<'_>) -> Result<String, Fail> {
     let (lac, ci) = words.word().split_once('-').unwrap_or(("", ""));
     let cell = Cell {
         lac: lac.parse::<u16>()?,
         ci: ci.parse::<u16>()?,
     };
-    *book = CellBook::open(alloc, cell, words.number16()?)?;
+    let slots = words.number16()?;
+    if let Ok(book) = open_in(alloc, &mut run.drought, cell, slots) {
+        run.book = book;
+    } else {
+        run.is_refused = true;
+        run.book = CellBook::open(alloc, cell, slots)?;
+    }
     Ok(String::new(alloc))
 }
 
@@ -129,20 +227,20 @@ fn book_told(alloc: Global, book: &CellBook) -> Result<String, Fail> {
 }
 
 /// `write SERIAL for SERIAL CATEGORY every SLOTS times BROADCASTS pages NUMBER`: the answer to a write.
-fn write(alloc: Global, book: &mut CellBook, words: &mut Words<'_>) -> Result<String, Fail> {
+fn write(alloc: Global, run: &mut Run, words: &mut Words<'_>) -> Result<String, Fail> {
     let serial = words.hex16()?;
     let wish = wish_of(words, serial)?;
-    answer_of(alloc, written(alloc, book, wish)?)
+    answer_of(alloc, written(alloc, run, wish)?)
 }
 
 /// `writes NUMBER every SLOTS`: the answer to each of as many writes, with serial numbers from 0000 on.
-fn writes(alloc: Global, book: &mut CellBook, words: &mut Words<'_>) -> Result<String, Fail> {
+fn writes(alloc: Global, run: &mut Run, words: &mut Words<'_>) -> Result<String, Fail> {
     let number = words.number16()?;
     let mut wish = wish_of(words, 0)?;
-    let answer = written(alloc, book, wish)?;
+    let answer = written(alloc, run, wish)?;
     for serial in 1..number {
         wish.serial = serial;
-        if written(alloc, book, wish)? != answer {
+        if written(alloc, run, wish)? != answer {
             return Err(Fail::new("the answers differ"));
         }
     }
@@ -150,28 +248,24 @@ fn writes(alloc: Global, book: &mut CellBook, words: &mut Words<'_>) -> Result<S
 }
 
 /// The answer to a kill of the message of a serial number.
-fn killed(book: &mut CellBook, serial: u16) -> Answer {
-    book.apply(&Command::Kill {
-        id: 4370,
-        serial: Serial::of(serial),
-    })
+fn killed(alloc: Global, run: &mut Run, serial: u16) -> Result<Answer, Fail> {
+    let serial = Serial::of(serial);
+    answered(alloc, run, &Command::Kill { id: 4370, serial })
 }
 
 /// The answer to a status of it, as a command.
-fn asked(book: &mut CellBook, serial: u16) -> Answer {
-    book.apply(&Command::Status {
-        id: 4370,
-        serial: Serial::of(serial),
-    })
+fn asked(alloc: Global, run: &mut Run, serial: u16) -> Result<Answer, Fail> {
+    let serial = Serial::of(serial);
+    answered(alloc, run, &Command::Status { id: 4370, serial })
 }
 
 /// `asks NUMBER SERIAL`: the answer to each of as many statuses.
-fn asks(alloc: Global, book: &mut CellBook, words: &mut Words<'_>) -> Result<String, Fail> {
+fn asks(alloc: Global, run: &mut Run, words: &mut Words<'_>) -> Result<String, Fail> {
     let number = words.number16()?;
     let serial = words.hex16()?;
-    let answer = asked(book, serial);
+    let answer = asked(alloc, run, serial)?;
     for _ in 1..number {
-        if asked(book, serial) != answer {
+        if asked(alloc, run, serial)? != answer {
             return Err(Fail::new("the answers differ"));
         }
     }
@@ -214,57 +308,82 @@ fn record_told(alloc: Global, record: &CellRecord) -> Result<String, Fail> {
 
 /// `finish`: the record of the run, of which all slots have to be aired.
 fn finish(alloc: Global, book: &mut CellBook) -> Result<String, Fail> {
-    let next = CellBook::open(alloc, Cell { lac: 0, ci: 0 }, 0)?;
-    let over = mem::replace(book, next);
+    let over = mem::replace(book, no_book(alloc)?);
     if over.clock() != over.slots() {
         return Err(Fail::new("the run isn't over"));
     }
     record_told(alloc, &over.finish())
 }
 
-/// What comes of a word and those after it.
-fn done(alloc: Global, book: &mut CellBook, words: &mut Words<'_>) -> Result<String, Fail> {
-    match words.word() {
-        "cell" => cell(alloc, book, words),
-        "book" => book_told(alloc, book),
-        "write" => write(alloc, book, words),
-        "writes" => writes(alloc, book, words),
-        "kill" => answer_of(alloc, killed(book, words.hex16()?)),
-        "ask" => answer_of(alloc, asked(book, words.hex16()?)),
-        "asks" => asks(alloc, book, words),
-        "status" => status(alloc, book, words.hex16()?),
-        "play" => play(alloc, book, words.number16()?),
-        "air" => air_of(alloc, book.air()),
-        "aired" => Ok(format!(in alloc; "{} slots", book.air().len())?),
-        "log" => Ok(format!(in alloc; "{} entries", book.log().len())?),
-        "entry" => entry(alloc, book, words.number16()?),
-        "finish" => finish(alloc, book),
+/// What comes of a verb and the words after it.
+fn done(alloc: Global, run: &mut Run, verb: &str, words: &mut Words<'_>) -> Result<String, Fail> {
+    match verb {
+        "cell" => cell(alloc, run, words),
+        "book" => book_told(alloc, &run.book),
+        "write" => write(alloc, run, words),
+        "writes" => writes(alloc, run, words),
+        "kill" => answer_of(alloc, killed(alloc, run, words.hex16()?)?),
+        "ask" => answer_of(alloc, asked(alloc, run, words.hex16()?)?),
+        "asks" => asks(alloc, run, words),
+        "status" => status(alloc, &run.book, words.hex16()?),
+        "play" => play(alloc, &mut run.book, words.number16()?),
+        "air" => air_of(alloc, run.book.air()),
+        "aired" => Ok(format!(in alloc; "{} slots", run.book.air().len())?),
+        "log" => Ok(format!(in alloc; "{} entries", run.book.log().len())?),
+        "entry" => entry(alloc, &run.book, words.number16()?),
+        "finish" => finish(alloc, &mut run.book),
         _ => Err(Fail::new("no such action")),
     }
 }
 
-/// Expects what the row on the line of this number says.
-fn expect_row(
-    rt: &impl Abort,
-    alloc: Global,
-    book: &mut CellBook,
-    place: usize,
-    row: Row<'_>,
-) -> Result<(), Fail> {
-    let mut words = Words::of(row.action);
-    let found = done(alloc, book, &mut words)?;
-    assert_eq!(rt; found.as_str(), row.wanted, "line {place}: {}", row.action);
-    assert_eq!(rt; words.word(), "", "line {place}: {}", row.action);
-    Ok(())
+/// What comes of a step, for which so many blocks of memory are left if it is `scarce`. Its words are all read.
+fn step_done(alloc: Global, run: &mut Run, step: &str, blocks: u16) -> Result<String, Fail> {
+    let mut words = Words::of(step);
+    run.is_scarce = step.contains("scarce ");
+    let verb = run.drought.verb(&mut words, blocks);
+    let found = done(alloc, run, verb, &mut words)?;
+    if words.word().is_empty() {
+        return Ok(found);
+    }
+    Err(Fail::new("words are left over"))
+}
+
+/// What comes of the steps of a row.
+fn steps_done(alloc: Global, run: &mut Run, steps: &str, blocks: u16) -> Result<String, Fail> {
+    run.is_refused = false;
+    let mut all = String::new(alloc);
+    for step in steps.split(';') {
+        let found = step_done(alloc, run, step, blocks)?;
+        if !all.is_empty() {
+            all.push_str("; ")?;
+        }
+        all.push_str(&found)?;
+    }
+    Ok(all)
+}
+
+/// What comes of a row. If it is refused memory, it is carried out again, with one block more each time.
+fn outcome(alloc: Global, run: &mut Run, row: Row<'_>) -> Result<String, Fail> {
+    for refused in 0..Drought::MOST {
+        let found = steps_done(alloc, run, row.action, refused)?;
+        if !run.is_refused {
+            return after_refusals(alloc, refused, found);
+        }
+        if row.wanted.strip_prefix("refused; ") != Some(found.as_str()) {
+            return Ok(format!(in alloc; "refused, and then {found}")?);
+        }
+    }
+    Err(Fail::new("it is refused to the end"))
 }
 
 /// Expects what the rows of a table say.
 pub fn expect_rows(rt: &impl Abort, alloc: Global, table: &str) -> Result<(), Fail> {
-    let mut book = CellBook::open(alloc, Cell { lac: 0, ci: 0 }, 0)?;
+    let mut run = Run::new(alloc)?;
     let mut rows = 0_usize;
     for (place, line) in table.split('\n').enumerate() {
         if let Some(row) = Row::of(line) {
-            expect_row(rt, alloc, &mut book, place, row)?;
+            let found = outcome(alloc, &mut run, row)?;
+            assert_eq!(rt; found.as_str(), row.wanted, "line {place}: {}", row.action);
             rows = rows.saturating_add(1);
         }
     }

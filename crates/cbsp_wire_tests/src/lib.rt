@@ -1,5 +1,5 @@
-//! Tests of `cbsp_wire` on values from outside it, as tables of lines: worked messages, each refusal in its place, and
-//! both sides of each limit.
+//! Tests of `cbsp_wire` on values from outside it, as tables of lines: worked messages, each refusal in its place, both
+//! sides of each limit, and refused memory.
 #![tactic(auto)]
 
 #[cfg(test)]
@@ -10,6 +10,8 @@ mod made;
 mod malformed;
 #[cfg(test)]
 mod malformed_table;
+#[cfg(test)]
+mod memory;
 #[cfg(test)]
 mod messages;
 #[cfg(test)]

@@ -1,12 +1,12 @@
 //! Messages that are made for the writer.
 
-use crate::rows::fault_text;
+use crate::rows::{fault_text, read_in, written_in};
 use crate::table::{expect_rows, reading};
 use cbs_page::{Content, Dcs, Serial};
 use cbsp_wire::{Cell, Cells, Contents, Count, Counts, Failure, Failures, Message, write};
 use std::alloc::{AllocError, Global};
 use std::test::Fail;
-use test_support::Words;
+use test_support::{Drought, Words};
 
 /// So many cells, with cell identities from 0.
 fn cells(alloc: Global, count: u16) -> Result<Cells, AllocError> {
@@ -139,14 +139,29 @@ fn message_of(alloc: Global, words: &mut Words<'_>) -> Result<Message, Fail> {
     }
 }
 
-/// `make MESSAGE`: how many octets are written, and how they are read; or why none are.
-pub fn make(alloc: Global, words: &mut Words<'_>) -> Result<String, Fail> {
+/// `make MESSAGE`: how many octets are written, and how they are read; or why none are. Memory can be scarce for the
+/// writer.
+pub fn make(alloc: Global, drought: &mut Drought, words: &mut Words<'_>) -> Result<String, Fail> {
     let message = message_of(alloc, words)?;
     if !words.word().is_empty() {
         return Err(Fail::new("words are left over"));
     }
-    match write(alloc, &message) {
+    match written_in(alloc, drought, &message) {
         Ok(octets) => Ok(format!(in alloc; "{} octets {}", octets.len(), reading(alloc, &octets))?),
+        Err(fault) => Ok(String::from_str(alloc, fault_text(fault))?),
+    }
+}
+
+/// `remake MESSAGE`: how many octets are written, and whether what they are read as is written with the same ones; or
+/// why they are not read. Memory can be scarce for the reader.
+pub fn remake(alloc: Global, drought: &mut Drought, words: &mut Words<'_>) -> Result<String, Fail> {
+    let octets = write(alloc, &message_of(alloc, words)?)?;
+    match read_in(alloc, drought, &octets) {
+        Ok(message) => {
+            let is_same = write(alloc, &message)?.as_slice() == octets.as_slice();
+            let again = if is_same { "again" } else { "and others" };
+            Ok(format!(in alloc; "{} octets {again}", octets.len())?)
+        }
         Err(fault) => Ok(String::from_str(alloc, fault_text(fault))?),
     }
 }

@@ -6,7 +6,7 @@ use cbsp_wire::{Cell, Count, Failure, Message, WireFault, read, write};
 use std::alloc::{AllocError, Global};
 use std::fmt::Write;
 use std::test::Fail;
-use test_support::digits_of;
+use test_support::{Drought, digits_of};
 
 /// What any message may say, as a row lists it.
 #[derive(Clone, Copy)]
@@ -255,7 +255,7 @@ pub fn fault_text(fault: WireFault) -> &'static str {
         WireFault::Cause(0x04) => "cause 04",
         WireFault::Cause(0x05) => "cause 05",
         WireFault::Cause(_) => "another cause",
-        WireFault::Refused => "out of memory",
+        WireFault::Refused => "Refused",
     }
 }
 
@@ -308,9 +308,46 @@ pub fn in_order(alloc: Global, octets: &[u8]) -> Result<String, Fail> {
     Ok(row)
 }
 
-/// `writes OCTETS`: the octets that are written of what they say.
-pub fn writes(alloc: Global, octets: &[u8]) -> Result<String, Fail> {
+/// What octets are read as, where memory can be scarce.
+pub fn read_in(alloc: Global, drought: &mut Drought, octets: &[u8]) -> Result<Message, WireFault> {
+    drought.begin(alloc);
+    let outcome = read(alloc, octets);
+    drought.end();
+    outcome
+}
+
+/// The octets that are written of a message, where memory can be scarce.
+pub fn written_in(
+    alloc: Global,
+    drought: &mut Drought,
+    message: &Message,
+) -> Result<Vec<u8>, WireFault> {
+    drought.begin(alloc);
+    let outcome = write(alloc, message);
+    drought.end();
+    outcome
+}
+
+/// What a message says.
+fn message_text(alloc: Global, message: &Message) -> Result<String, AllocError> {
     let mut row = String::new(alloc);
-    let written = said(alloc, octets, &mut row)?;
-    Ok(digits_of(alloc, written.as_slice())?)
+    put_message(&mut row, message)?;
+    Ok(row)
+}
+
+/// `means OCTETS`: what they say, or why they are refused. Memory can be scarce for the reader.
+pub fn means(alloc: Global, drought: &mut Drought, octets: &[u8]) -> Result<String, Fail> {
+    match read_in(alloc, drought, octets) {
+        Ok(message) => Ok(message_text(alloc, &message)?),
+        Err(fault) => Ok(String::from_str(alloc, fault_text(fault))?),
+    }
+}
+
+/// `writes OCTETS`: the octets that are written of what they say. Memory can be scarce for the writer.
+pub fn writes(alloc: Global, drought: &mut Drought, octets: &[u8]) -> Result<String, Fail> {
+    let message = read(alloc, octets)?;
+    match written_in(alloc, drought, &message) {
+        Ok(written) => Ok(digits_of(alloc, written.as_slice())?),
+        Err(fault) => Ok(String::from_str(alloc, fault_text(fault))?),
+    }
 }

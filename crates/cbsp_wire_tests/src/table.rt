@@ -1,14 +1,17 @@
 //! How the lines of a table, `action -> wanted`, are carried out.
+//!
+//! `scarce ACTION -> refused; WANTED`: the action is refused with hardly any memory, with one block more each time,
+//! until it has enough. After each refusal it has all memory, and has to give what is wanted at once.
 
 use crate::limits::{coding, order};
-use crate::made::make;
+use crate::made::{make, remake};
 use crate::octets::{octets_in, set_octet};
-use crate::rows::{fault_text, fronts, in_order, says, writes};
+use crate::rows::{fault_text, fronts, in_order, means, says, writes};
 use cbsp_wire::read;
 use std::alloc::Global;
 use std::process::Abort;
 use std::test::Fail;
-use test_support::{Row, Words};
+use test_support::{Drought, Row, Words, after_refusals, is_refused};
 
 /// `read OCTETS`: why they are refused, or `read`.
 pub fn reading(alloc: Global, octets: &[u8]) -> &'static str {
@@ -19,35 +22,64 @@ pub fn reading(alloc: Global, octets: &[u8]) -> &'static str {
 }
 
 /// What comes of an action on octets.
-fn with_octets(alloc: Global, verb: &str, octets: &[u8]) -> Result<String, Fail> {
+fn with_octets(
+    alloc: Global,
+    drought: &mut Drought,
+    verb: &str,
+    octets: &[u8],
+) -> Result<String, Fail> {
     match verb {
         "read" => Ok(String::from_str(alloc, reading(alloc, octets))?),
         "fronts" => fronts(alloc, octets),
+        "means" => means(alloc, drought, octets),
         "says" => says(alloc, octets),
         "in_order" => in_order(alloc, octets),
-        "writes" => writes(alloc, octets),
+        "writes" => writes(alloc, drought, octets),
         _ => Ok(String::from_str(alloc, "no such action")?),
     }
 }
 
-/// What comes of an action. Its words are all read.
-fn carried_out(alloc: Global, action: &str) -> Result<String, Fail> {
+/// What comes of an action, for which so many blocks of memory are left if it is `scarce`. Its words are all read.
+fn carried_out(
+    alloc: Global,
+    drought: &mut Drought,
+    action: &str,
+    blocks: u16,
+) -> Result<String, Fail> {
     let mut words = Words::of(action);
-    match words.word() {
+    match drought.verb(&mut words, blocks) {
         "order" => order(alloc, &mut words),
         "coding" => coding(alloc, &mut words),
-        "make" => make(alloc, &mut words),
+        "make" => make(alloc, drought, &mut words),
+        "remake" => remake(alloc, drought, &mut words),
         "octet" => set_octet(alloc, &mut words),
-        verb => with_octets(alloc, verb, &octets_in(alloc, &mut words)?),
+        verb => with_octets(alloc, drought, verb, &octets_in(alloc, &mut words)?),
     }
+}
+
+/// What comes of a row. If memory is refused, the action has all memory, and then one block more than before.
+fn outcome(alloc: Global, drought: &mut Drought, row: Row) -> Result<String, Fail> {
+    let ample = row.action.strip_prefix("scarce ").unwrap_or(row.action);
+    for refused in 0..Drought::MOST {
+        let found = carried_out(alloc, drought, row.action, refused)?;
+        if !is_refused(&found) {
+            return after_refusals(alloc, refused, found);
+        }
+        let again = carried_out(alloc, drought, ample, 0)?;
+        if row.wanted.strip_prefix("refused; ") != Some(again.as_str()) {
+            return Ok(format!(in alloc; "refused, and then {again}")?);
+        }
+    }
+    Err(Fail::new("it is refused to the end"))
 }
 
 /// Expects what the lines of a table say, which are as many.
 pub fn expect_rows(rt: &impl Abort, alloc: Global, table: &str, count: u16) -> Result<(), Fail> {
+    let mut drought = Drought::new(alloc)?;
     let mut rows = 0_u16;
     for line in table.split('\n') {
         if let Some(row) = Row::of(line) {
-            let found = carried_out(alloc, row.action)?;
+            let found = outcome(alloc, &mut drought, row)?;
             assert_eq!(rt; found.as_str(), row.wanted, "{line}");
             rows = rows.saturating_add(1);
         }

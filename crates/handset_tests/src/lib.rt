@@ -1,5 +1,5 @@
 //! Tests of `handset` by its public calls, as tables of lines: blocks in many orders, tapes that are built octet by
-//! octet, and readers that fail.
+//! octet, readers that fail, and refused memory.
 #![tactic(auto)]
 
 #[cfg(test)]

@@ -6,14 +6,19 @@
 //! message 4370 whose content is this letter in UCS-2; `first` feeds the first of them alone. `pages` feeds such a
 //! page under each serial number from 0 and says whether each shows the same; `shown` says how many messages were
 //! shown, and `end` which, and goes on with a new handset.
+//!
+//! In a row of scarce memory the steps, which `;` parts, are carried out at a new handset, and each says what it does.
+//! The blocks of a step `scarce ..` are fed with hardly any memory. If one is refused, the messages that were shown
+//! have to be those of before, and it is fed with all memory; the steps have to say what they would have said. The row
+//! is then carried out anew, with one block of memory more, until nothing is refused.
 
 use crate::worked::{IDLE, WORKED};
-use handset::{Handset, Shown};
+use handset::{Handset, Refused, Shown};
 use std::alloc::Global;
 use std::mem;
 use std::process::Abort;
 use std::test::Fail;
-use test_support::{Row, Words};
+use test_support::{Drought, Row, Words, after_refusals};
 
 /// A message is shown once, at the last of four blocks in a row.
 const BLOCKS: &str = "
@@ -81,6 +86,34 @@ pages 100 48 22 b ab -> each
 shown -> 100
 ";
 
+/// Blocks that are fed with scarce memory.
+const SCARCE: &str = "
+# a message of one page, in septets and in UCS-2
+scarce feed @1 @2 @3 @4; shown -> refused; block 4: 4370 0010 @; 1
+scarce page 0010 48 11 a; end -> refused; block 4: 4370 0010 a; 4370 0010 a
+
+# each page of a message of two, with another message between
+scarce page 0010 48 22 b; page 0020 48 11 c; scarce page 0010 48 12 a; end -> \
+    refused; nothing; block 4: 4370 0020 c; block 4: 4370 0010 ab; 4370 0020 c, 4370 0010 ab
+
+# the last of five pages, the first four of which had room
+page 0010 48 15 a; page 0010 48 25 b; page 0010 48 35 c; page 0010 48 45 d; scarce page 0010 48 55 e; shown -> \
+    refused; nothing; nothing; nothing; nothing; block 4: 4370 0010 abcde; 1
+
+# many messages
+scarce pages 10 48 12 a nothing; scarce pages 10 48 22 b ab; shown -> refused; each; each; 10
+
+# Blocks that make no page whole need no memory; nor does a repeat of a message, or of a page of one that isn't whole.
+scarce feed idle @1 @2 @3 2f @4 -> nothing
+page 0010 48 11 a; scarce page 0010 48 11 b; shown -> block 4: 4370 0010 a; nothing; 1
+page 0010 48 12 a; scarce page 0010 48 12 c; page 0010 48 22 b -> nothing; nothing; block 4: 4370 0010 ab
+
+# Nor does a page that is passed over: without an alphabet, of a number over the total, of another total or coding.
+scarce page 0010 f0 11 a; scarce page 0010 48 32 b; page 0010 48 11 c -> nothing; nothing; block 4: 4370 0010 c
+page 0010 48 12 a; scarce page 0010 48 23 b; scarce page 0010 49 22 c; page 0010 48 22 d -> \
+    nothing; nothing; nothing; block 4: 4370 0010 ad
+";
+
 /// A handset, and what the blocks of a line showed.
 #[derive(Drop)]
 struct Phone {
@@ -88,6 +121,10 @@ struct Phone {
     handset: Handset,
     fed: u16,
     answer: String,
+    /// Scarce memory for the blocks of a step.
+    drought: Drought,
+    /// Whether a block was refused.
+    is_refused: bool,
 }
 
 /// A block of a type whose other octets are carriage returns.
@@ -138,21 +175,62 @@ fn push_message(alloc: Global, text: &mut String, message: &Shown) -> Result<(),
     Ok(())
 }
 
+/// The lines of messages.
+fn messages_text(alloc: Global, messages: &[Shown]) -> Result<String, Fail> {
+    let mut text = String::new(alloc);
+    for message in messages {
+        if !text.is_empty() {
+            text.push_str(", ")?;
+        }
+        push_message(alloc, &mut text, message)?;
+    }
+    Ok(text)
+}
+
+/// What a handset answers to a block, where memory can be scarce.
+fn answer_to(
+    alloc: Global,
+    drought: &mut Drought,
+    handset: &mut Handset,
+    block: &[u8; 23],
+) -> Result<Option<Shown>, Refused> {
+    drought.begin(alloc);
+    let outcome = handset.feed(block);
+    drought.end();
+    outcome
+}
+
 impl Phone {
     /// A handset that was fed nothing.
-    fn new(alloc: Global) -> Phone {
-        Phone {
+    fn new(alloc: Global) -> Result<Phone, Fail> {
+        let drought = Drought::new(alloc)?;
+        Ok(Phone {
             alloc,
             handset: Handset::new(alloc),
             fed: 0,
             answer: String::new(alloc),
+            drought,
+            is_refused: false,
+        })
+    }
+
+    /// Feeds a block, with all memory if it was refused before, and returns the message that it shows.
+    fn message_of(&mut self, block: &[u8; 23]) -> Result<Option<Shown>, Fail> {
+        let before = messages_text(self.alloc, self.handset.shown())?;
+        if let Ok(answer) = answer_to(self.alloc, &mut self.drought, &mut self.handset, block) {
+            return Ok(answer);
         }
+        self.is_refused = true;
+        if messages_text(self.alloc, self.handset.shown())? != before {
+            return Err(Fail::new("a refused block changes what was shown"));
+        }
+        Ok(self.handset.feed(block)?)
     }
 
     /// Feeds a block, and notes the message that it shows.
     fn feed(&mut self, block: &[u8; 23]) -> Result<(), Fail> {
         self.fed = self.fed.saturating_add(1);
-        if let Some(message) = self.handset.feed(block)? {
+        if let Some(message) = self.message_of(block)? {
             let place = format!(in self.alloc; "block {}: ", self.fed)?;
             self.answer.push_str(&place)?;
             push_message(self.alloc, &mut self.answer, &message)?;
@@ -213,19 +291,37 @@ impl Phone {
     /// Which messages were shown. A new handset takes the place of this one.
     fn end(&mut self) -> Result<String, Fail> {
         let handset = mem::replace(&mut self.handset, Handset::new(self.alloc));
-        let mut text = String::new(self.alloc);
-        for message in &handset.into_shown() {
-            if !text.is_empty() {
-                text.push_str(", ")?;
-            }
-            push_message(self.alloc, &mut text, message)?;
+        messages_text(self.alloc, &handset.into_shown())
+    }
+
+    /// What comes of an action, for whose blocks so much memory is left if it is `scarce`. Its words are all read.
+    fn carry_out(&mut self, action: &str, blocks: u16) -> Result<String, Fail> {
+        let mut words = Words::of(action);
+        let verb = self.drought.verb(&mut words, blocks);
+        let found = self.carried_out(verb, &mut words)?;
+        if words.word().is_empty() {
+            return Ok(found);
         }
-        Ok(text)
+        Err(Fail::new("words are left over"))
+    }
+
+    /// What comes of the steps of a row at a new handset.
+    fn steps(&mut self, steps: &str, blocks: u16) -> Result<String, Fail> {
+        self.handset = Handset::new(self.alloc);
+        self.is_refused = false;
+        let mut all = String::new(self.alloc);
+        for step in steps.split(';') {
+            if !all.is_empty() {
+                all.push_str("; ")?;
+            }
+            all.push_str(&self.carry_out(step, blocks)?)?;
+        }
+        Ok(all)
     }
 
     /// What comes of an action.
-    fn carry_out(&mut self, words: &mut Words) -> Result<String, Fail> {
-        match words.word() {
+    fn carried_out(&mut self, verb: &str, words: &mut Words) -> Result<String, Fail> {
+        match verb {
             "feed" => self.feed_all(words),
             "first" => {
                 let serial = words.hex16()?;
@@ -246,14 +342,41 @@ impl Phone {
 
 /// Expects what the rows of a table say of a new handset, and that there are so many rows.
 fn expect_rows(rt: &impl Abort, alloc: Global, table: &str, rows: u16) -> Result<(), Fail> {
-    let mut phone = Phone::new(alloc);
+    let mut phone = Phone::new(alloc)?;
     let mut count = 0_u16;
     for line in table.split('\n') {
         if let Some(row) = Row::of(line) {
-            let mut words = Words::of(row.action);
-            let found = phone.carry_out(&mut words)?;
+            let found = phone.carry_out(row.action, 0)?;
             assert_eq!(rt; found.as_str(), row.wanted, "{line}");
-            assert_eq!(rt; words.word(), "", "{line}");
+            count = count.saturating_add(1);
+        }
+    }
+    assert_eq!(rt; count, rows);
+    Ok(())
+}
+
+/// What comes of a row of scarce memory: it is carried out with one block more each time, until nothing is refused.
+fn outcome(alloc: Global, phone: &mut Phone, row: Row) -> Result<String, Fail> {
+    for refused in 0..Drought::MOST {
+        let found = phone.steps(row.action, refused)?;
+        if !phone.is_refused {
+            return after_refusals(alloc, refused, found);
+        }
+        if row.wanted.strip_prefix("refused; ") != Some(found.as_str()) {
+            return Ok(format!(in alloc; "refused, and then {found}")?);
+        }
+    }
+    Err(Fail::new("it is refused to the end"))
+}
+
+/// Expects what the rows of scarce memory say, and that there are so many.
+fn expect_refusals(rt: &impl Abort, alloc: Global, table: &str, rows: u16) -> Result<(), Fail> {
+    let mut phone = Phone::new(alloc)?;
+    let mut count = 0_u16;
+    for line in table.split('\n') {
+        if let Some(row) = Row::of(line) {
+            let found = outcome(alloc, &mut phone, row)?;
+            assert_eq!(rt; found.as_str(), row.wanted, "{line}");
             count = count.saturating_add(1);
         }
     }
@@ -274,4 +397,9 @@ fn pages_show_what_they_say(rt: HostRuntime) -> Result<(), Fail> {
 #[test]
 fn many_pages_and_messages_are_kept(rt: HostRuntime) -> Result<(), Fail> {
     expect_rows(&rt, rt.alloc(), MANY, 3)
+}
+
+#[test]
+fn blocks_are_refused_until_there_is_memory(rt: HostRuntime) -> Result<(), Fail> {
+    expect_refusals(&rt, rt.alloc(), SCARCE, 10)
 }

@@ -1,14 +1,19 @@
 //! Tapes that are built octet by octet, whole, cut short and made longer, and readers that fail.
 //!
 //! The octets are what these lines add: `hex DIGITS ..`; `tape N`, the tape of 192 octets of cell 1-1 with the worked
-//! page and an idle slot, with N in the header as the number of its slots; `page`, the worked page's blocks; `idle N`,
-//! the blocks of N idle slots. `repeat N` has them N times, and `new` begins anew.
+//! page and an idle slot, with N in the header as the number of its slots; `page`, the worked page's blocks, and
+//! `page 12` the same with page parameter 12; `idle N`, the blocks of N idle slots. `repeat N` has them N times, and
+//! `new` begins anew.
 //!
 //! `one` reads them as one tape, `all` as tapes: the answer has the cell, the number of slots and the messages of each,
 //! or the fault. `one N CALLS` and `all N CALLS` have a reader of N octets a call that fails after so many calls, and
 //! the answer says how many octets it still has. `after DIGITS` hands readings on to a list that has the reading of the
 //! tape of these digits. `fronts N M` reads each front of N to M octets both ways. `fails N CALLS` reads both ways with
 //! a reader of N octets a call that fails after 0 to CALLS calls, and once more after the fault.
+//!
+//! `scarce one` and `scarce all` read with hardly any memory, with one block more each time until it isn't refused.
+//! After each refusal the source must not have failed, and the octets are read by a source and into a list made anew,
+//! with all memory.
 
 use crate::worked::{IDLE, WORKED};
 use device_ends::Source;
@@ -17,7 +22,7 @@ use handset::{Reading, Refused, TapeFault, read_each, read_tape, read_tapes};
 use std::alloc::Global;
 use std::process::Abort;
 use std::test::Fail;
-use test_support::{Row, Words, octets_of};
+use test_support::{Drought, Row, Words, after_refusals, octets_of};
 
 const WHOLE: &str = "
 tape 2
@@ -116,6 +121,26 @@ hex 0001 0001 00010000 20
 all 1000 3 -> Long, 1 left
 ";
 
+/// Tapes that are read with scarce memory, of which 65,504 octets go to the blocks that are read at once.
+const SCARCE: &str = "
+# a message of two pages, with an idle slot between, and then another page
+hex 0001 0002 00000004
+page 12
+idle 1
+page 22
+page
+length -> 376
+scarce one -> refused; 1-2 4 slots: 4370 0010 @@
+scarce all -> refused; 1-2 4 slots: 4370 0010 @@
+
+# five of these tapes, and one that is cut short
+repeat 5
+scarce all -> refused; 1-2 4 slots: 4370 0010 @@; 1-2 4 slots: 4370 0010 @@; 1-2 4 slots: 4370 0010 @@; \
+    1-2 4 slots: 4370 0010 @@; 1-2 4 slots: 4370 0010 @@
+hex 0001
+scarce all -> refused; Short
+";
+
 /// A reader that gives many octets a call, and doesn't fail.
 const STEADY: (usize, Option<usize>) = (1000, None);
 
@@ -125,6 +150,15 @@ fn push_blocks(octets: &mut Vec<u8>, blocks: &[[u8; 23]; 4]) -> Result<(), Fail>
         octets.extend_from_slice(block)?;
     }
     Ok(())
+}
+
+/// Appends the worked page, with the page parameter that a word says, if there is one.
+fn push_page(octets: &mut Vec<u8>, parameter: &str) -> Result<(), Fail> {
+    let mut page = WORKED;
+    if !parameter.is_empty() {
+        page[0][6] = u8::from_str_radix(parameter, 16)?;
+    }
+    push_blocks(octets, &page)
 }
 
 /// Adds what a line says to the octets.
@@ -138,7 +172,7 @@ fn add(alloc: Global, octets: &mut Vec<u8>, verb: &str, words: &mut Words) -> Re
             push_blocks(octets, &WORKED)?;
             push_blocks(octets, &[IDLE; 4])?;
         }
-        "page" => push_blocks(octets, &WORKED)?,
+        "page" => push_page(octets, words.word())?,
         "idle" => {
             for _ in 0..words.number16()? {
                 push_blocks(octets, &[IDLE; 4])?;
@@ -168,6 +202,20 @@ fn add_hex(alloc: Global, octets: &mut Vec<u8>, words: &mut Words) -> Result<(),
 enum Kind {
     One,
     All,
+}
+
+/// Reads a source into a list, where memory can be scarce.
+fn read_in(
+    alloc: Global,
+    drought: &mut Drought,
+    kind: Kind,
+    source: &mut Source<&mut MemoryReader>,
+    readings: &mut Vec<Reading>,
+) -> Result<(), TapeFault> {
+    drought.begin(alloc);
+    let outcome = read(alloc, kind, source, readings);
+    drought.end();
+    outcome
 }
 
 /// Reads a source into a list.
@@ -218,6 +266,7 @@ fn answer(
 /// What these octets are read as. A reader that can fail is asked what it still has.
 fn read_octets(
     alloc: Global,
+    drought: &mut Drought,
     kind: Kind,
     octets: &[u8],
     pace: (usize, Option<usize>),
@@ -225,7 +274,7 @@ fn read_octets(
     let mut readings = Vec::new(alloc);
     let mut reader = MemoryReader::new(octets, pace.0.max(1), pace.1);
     let mut source = Source::new(&mut reader);
-    let result = read(alloc, kind, &mut source, &mut readings);
+    let result = read_in(alloc, drought, kind, &mut source, &mut readings);
     let is_failed = source.failed();
     let text = answer(alloc, result, &readings)?;
     match (pace.1, is_failed) {
@@ -273,10 +322,11 @@ fn fails(alloc: Global, octets: &[u8], words: &mut Words) -> Result<String, Fail
 /// Reads each front of so many octets, both ends included, and returns what all of them are read as.
 fn fronts(alloc: Global, octets: &[u8], words: &mut Words) -> Result<String, Fail> {
     let mut all = String::new(alloc);
+    let mut drought = Drought::new(alloc)?;
     for length in words.number16()?..=words.number16()? {
         let front = octets.get(..usize::from(length)).unwrap_or(octets);
-        let one = read_octets(alloc, Kind::One, front, STEADY)?;
-        let tapes = read_octets(alloc, Kind::All, front, STEADY)?;
+        let one = read_octets(alloc, &mut drought, Kind::One, front, STEADY)?;
+        let tapes = read_octets(alloc, &mut drought, Kind::All, front, STEADY)?;
         let both = format!(in alloc; "{one}, {tapes}")?;
         if !all.is_empty() && all != both {
             return Ok(format!(in alloc; "{both} at {length}")?);
@@ -315,11 +365,34 @@ fn text(alloc: Global, fault: &str) -> Result<String, Fail> {
     }
 }
 
-/// What comes of an action.
-fn carried_out(alloc: Global, octets: &mut Vec<u8>, words: &mut Words) -> Result<String, Fail> {
-    match words.word() {
-        "one" => read_octets(alloc, Kind::One, octets, pace_of(words)?),
-        "all" => read_octets(alloc, Kind::All, octets, pace_of(words)?),
+/// What comes of an action, for which so many blocks of memory are left if it is `scarce`. Its words are all read.
+fn carried_out(
+    alloc: Global,
+    drought: &mut Drought,
+    octets: &mut Vec<u8>,
+    action: &str,
+    blocks: u16,
+) -> Result<String, Fail> {
+    let mut words = Words::of(action);
+    let verb = drought.verb(&mut words, blocks);
+    let found = done(alloc, drought, octets, verb, &mut words)?;
+    if words.word().is_empty() {
+        return Ok(found);
+    }
+    Err(Fail::new("words are left over"))
+}
+
+/// What comes of a verb and the words after it.
+fn done(
+    alloc: Global,
+    drought: &mut Drought,
+    octets: &mut Vec<u8>,
+    verb: &str,
+    words: &mut Words,
+) -> Result<String, Fail> {
+    match verb {
+        "one" => read_octets(alloc, drought, Kind::One, octets, pace_of(words)?),
+        "all" => read_octets(alloc, drought, Kind::All, octets, pace_of(words)?),
         "length" => Ok(octets.len().to_string(alloc)?),
         "count" => count(alloc, octets),
         "fails" => fails(alloc, octets, words),
@@ -330,34 +403,59 @@ fn carried_out(alloc: Global, octets: &mut Vec<u8>, words: &mut Words) -> Result
     }
 }
 
-/// Expects what the rows of a table say.
-fn expect_rows(rt: &impl Abort, alloc: Global, table: &str) -> Result<(), Fail> {
+/// What comes of a row. If memory is refused, the action has all memory, and then one block more than before.
+fn outcome(
+    alloc: Global,
+    drought: &mut Drought,
+    octets: &mut Vec<u8>,
+    row: Row,
+) -> Result<String, Fail> {
+    let ample = row.action.strip_prefix("scarce ").unwrap_or(row.action);
+    for refused in 0..Drought::MOST {
+        let found = carried_out(alloc, drought, octets, row.action, refused)?;
+        if found.as_str() != "Refused" {
+            return after_refusals(alloc, refused, found);
+        }
+        let again = carried_out(alloc, drought, octets, ample, 0)?;
+        if row.wanted.strip_prefix("refused; ") != Some(again.as_str()) {
+            return Ok(format!(in alloc; "refused, and then {again}")?);
+        }
+    }
+    Err(Fail::new("it is refused to the end"))
+}
+
+/// Expects what the rows of a table say, which are so many at least.
+fn expect_rows(rt: &impl Abort, alloc: Global, table: &str, least: u16) -> Result<(), Fail> {
+    let mut drought = Drought::new(alloc)?;
     let mut octets = Vec::new(alloc);
     let mut rows = 0_u16;
     for line in table.split('\n') {
         if let Some(row) = Row::of(line) {
-            let mut words = Words::of(row.action);
-            let found = carried_out(alloc, &mut octets, &mut words)?;
+            let found = outcome(alloc, &mut drought, &mut octets, row)?;
             assert_eq!(rt; found.as_str(), row.wanted, "{line}");
-            assert_eq!(rt; words.word(), "", "{line}");
             rows = rows.saturating_add(1);
         }
     }
-    assert!(rt; rows > 10);
+    assert!(rt; rows >= least);
     Ok(())
 }
 
 #[test]
 fn tapes_are_read(rt: HostRuntime) -> Result<(), Fail> {
-    expect_rows(&rt, rt.alloc(), WHOLE)
+    expect_rows(&rt, rt.alloc(), WHOLE, 11)
 }
 
 #[test]
 fn short_and_long_tapes_have_faults(rt: HostRuntime) -> Result<(), Fail> {
-    expect_rows(&rt, rt.alloc(), FAULTS)
+    expect_rows(&rt, rt.alloc(), FAULTS, 11)
 }
 
 #[test]
 fn nothing_is_read_past_what_decides(rt: HostRuntime) -> Result<(), Fail> {
-    expect_rows(&rt, rt.alloc(), ENDS)
+    expect_rows(&rt, rt.alloc(), ENDS, 11)
+}
+
+#[test]
+fn tapes_are_refused_until_there_is_memory(rt: HostRuntime) -> Result<(), Fail> {
+    expect_rows(&rt, rt.alloc(), SCARCE, 11)
 }

@@ -11,14 +11,20 @@ use cbs_page::{
 use std::alloc::{AllocError, Global};
 use std::fmt::Write;
 use std::test::Fail;
-use test_support::Words;
+use test_support::{Drought, Words};
 
-/// What comes of an action on a page: on a text, which stands as it is, or on words, all of which are read.
-pub fn carried_out(alloc: Global, verb: &str, rest: &str) -> Result<String, Fail> {
+/// What comes of an action on a page: on a text, which stands as it is, or on words, all of which are read. Memory is
+/// scarce for the cutting of a text, and for the text that a page shows, if the line says so.
+pub fn carried_out(
+    alloc: Global,
+    drought: &mut Drought,
+    verb: &str,
+    rest: &str,
+) -> Result<String, Fail> {
     match verb {
-        "cut" => cut(alloc, rest),
+        "cut" => cut(alloc, drought, rest),
         "content" => content(alloc, rest),
-        "shown" => shown(alloc, rest),
+        "shown" => shown(alloc, drought, rest),
         "page" => page(alloc, rest),
         "view" => view(alloc, rest),
         _ => {
@@ -137,40 +143,56 @@ fn said_by(alloc: Global, view: &PageView) -> Result<String, AllocError> {
     )
 }
 
-/// The text that a page of one page shows.
-fn text_of(alloc: Global, dcs: Dcs, content: &[u8; 82]) -> Result<String, Fail> {
+/// The text that a page of one page shows, or the name of the fault.
+fn text_of(
+    alloc: Global,
+    drought: &mut Drought,
+    dcs: Dcs,
+    content: &[u8; 82],
+) -> Result<String, Fail> {
     let view = read_page(&page_bytes(1, Serial::of(1), dcs, 1, 1, content));
     if !view.readable() {
         return Err(Fail::new("not readable"));
     }
-    Ok(page_text(alloc, &view)?)
+    drought.begin(alloc);
+    let outcome = page_text(alloc, &view);
+    drought.end();
+    match outcome {
+        Ok(text) => Ok(text),
+        Err(fault) => Ok(format!(in alloc; "{fault:?}")?),
+    }
 }
 
 /// `shown DCS CONTENT`: the text that a page with this data coding and content shows.
-fn shown(alloc: Global, rest: &str) -> Result<String, Fail> {
+fn shown(alloc: Global, drought: &mut Drought, rest: &str) -> Result<String, Fail> {
     let (dcs, digits) = rest.split_once(' ').unwrap_or((rest, ""));
     let given = octets_of(alloc, digits)?;
     text_of(
         alloc,
+        drought,
         Dcs(u8::from_str_radix(dcs, 16)?),
         &content_of(&given)?,
     )
 }
 
-/// The text that the pages of a message show, joined.
+/// The text that the pages of a message show, joined. No memory is scarce for it.
 fn text_of_pages(alloc: Global, paged: &Paged) -> Result<String, Fail> {
     let mut text = String::new(alloc);
+    let mut drought = Drought::new(alloc)?;
     for content in &paged.pages {
-        text.push_str(&text_of(alloc, paged.dcs, &content.octets)?)?;
+        text.push_str(&text_of(alloc, &mut drought, paged.dcs, &content.octets)?)?;
     }
     Ok(text)
 }
 
 /// `cut LANGUAGE TEXT`: the data coding of the pages and the octets used of each, or the fault. The pages show the text
 /// again.
-fn cut(alloc: Global, rest: &str) -> Result<String, Fail> {
+fn cut(alloc: Global, drought: &mut Drought, rest: &str) -> Result<String, Fail> {
     let (language, text) = rest.split_once(' ').unwrap_or((rest, ""));
-    match paginate(alloc, text, language) {
+    drought.begin(alloc);
+    let outcome = paginate(alloc, text, language);
+    drought.end();
+    match outcome {
         Ok(paged) => pages_of(alloc, &paged, text),
         Err(fault) => Ok(format!(in alloc; "{fault:?}")?),
     }

@@ -144,3 +144,31 @@ fault -> out of memory
 fn texts_are_cut_into_pages_and_shown(rt: HostRuntime) -> Result<(), Fail> {
     expect_rows(&rt, rt.alloc(), TEXTS, 48)
 }
+
+/// Texts that are cut, and pages that are shown, with scarce memory.
+const SCARCE: &str = "
+# One page, several, and the most, in septets and in UCS-2.
+scarce cut en a -> refused; dcs 01 used 1
+scarce cut en <200*a> -> refused; dcs 01 used 82 82 13
+scarce cut en <92*a>€ -> refused; dcs 01 used 81 2
+scarce cut en <1395*a> -> refused; dcs 01 used<15* 82>
+scarce cut ru Я -> refused; dcs 48 used 2
+scarce cut ru <83*Я> -> refused; dcs 48 used 82 82 2
+scarce cut ru <615*Я> -> refused; dcs 48 used<15* 82>
+# A text that isn't sent needs no memory to be told so.
+scarce cut xx <200*a> -> BadLanguage
+scarce cut en -> Empty
+scarce cut en <200*a><000D> -> BadCharacter { place: 200 }
+scarce cut en <1396*a> -> TooManyPages
+scarce cut ru <616*Я> -> TooManyPages
+# A page of 93 times @ in septets, and of 41 times the letter 042F.
+scarce shown 00 <82*00> -> refused; <93*@>
+scarce shown 48 <41*042f> -> refused; <41*Я>
+# A page that is all filling shows no text, which needs no memory.
+scarce shown 48 <41*000d> ->
+";
+
+#[test]
+fn texts_and_pages_are_refused_until_they_have_memory(rt: HostRuntime) -> Result<(), Fail> {
+    expect_rows(&rt, rt.alloc(), SCARCE, 15)
+}

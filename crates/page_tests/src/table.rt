@@ -2,12 +2,15 @@
 //!
 //! `action -> wanted`: what an action gives is wanted behind the arrow, with `..` in place of what may stand before or
 //! after it. On both sides `<000D>` is the character of this code point, and `<37*000d>` stands for `000d` 37 times.
+//!
+//! `scarce ACTION -> refused; WANTED`: the action is refused with hardly any memory, with one block more each time,
+//! until it has enough. After each refusal it has all memory, and has to give what is wanted at once.
 
 use crate::{codes, pages};
 use std::alloc::{AllocError, Global};
 use std::process::Abort;
 use std::test::Fail;
-use test_support::Row;
+use test_support::{Drought, Row, Words, after_refusals, is_refused};
 
 /// Puts what stands between `<` and `>` for something.
 fn put_sign(text: &mut String, sign: &str) -> Result<(), Fail> {
@@ -64,7 +67,7 @@ fn agree(found: &str, wanted: &str) -> bool {
 }
 
 /// What comes of an action.
-fn carried_out(alloc: Global, action: &str) -> Result<String, Fail> {
+fn carried_out(alloc: Global, drought: &mut Drought, action: &str) -> Result<String, Fail> {
     let (verb, rest) = action.split_once(' ').unwrap_or((action, ""));
     match verb {
         "codes" => codes::codes_of(alloc, rest),
@@ -74,31 +77,56 @@ fn carried_out(alloc: Global, action: &str) -> Result<String, Fail> {
         "unit" => codes::unit(alloc, rest),
         "units" => codes::units(alloc, rest),
         "characters" => codes::characters(alloc, rest),
-        _ => pages::carried_out(alloc, verb, rest),
+        _ => pages::carried_out(alloc, drought, verb, rest),
     }
+}
+
+/// What comes of an action that may be `scarce`. `wanted` is what has to come of it after each refusal.
+fn outcome(
+    alloc: Global,
+    drought: &mut Drought,
+    action: &str,
+    wanted: &str,
+) -> Result<String, Fail> {
+    let step = action.strip_prefix("scarce ").unwrap_or(action);
+    for refused in 0..Drought::MOST {
+        let _ = drought.verb(&mut Words::of(action), refused);
+        let found = carried_out(alloc, drought, step)?;
+        if !is_refused(&found) {
+            return after_refusals(alloc, refused, found);
+        }
+        let _ = drought.verb(&mut Words::of(step), 0);
+        let again = carried_out(alloc, drought, step)?;
+        if wanted.strip_prefix("refused; ") != Some(again.as_str()) {
+            return Ok(format!(in alloc; "refused, and then {again}")?);
+        }
+    }
+    Err(Fail::new("it is refused to the end"))
 }
 
 /// Expects of a line what it says, with both sides written out.
 fn expect_row(
     rt: &impl Abort,
     alloc: Global,
+    drought: &mut Drought,
     line: &str,
     action: &str,
     wanted: &str,
 ) -> Result<(), Fail> {
-    let found = carried_out(alloc, action)?;
+    let found = outcome(alloc, drought, action, wanted)?;
     assert!(rt; agree(&found, wanted), "{line} but {found}");
     Ok(())
 }
 
 /// Expects what the lines of a table say, which are as many.
 pub fn expect_rows(rt: &impl Abort, alloc: Global, table: &str, count: u16) -> Result<(), Fail> {
+    let mut drought = Drought::new(alloc)?;
     let mut rows = 0_u16;
     for line in table.split('\n') {
         if let Some(row) = Row::of(line) {
             let action = written_out(alloc, row.action)?;
             let wanted = written_out(alloc, row.wanted)?;
-            expect_row(rt, alloc, line, &action, &wanted)?;
+            expect_row(rt, alloc, &mut drought, line, &action, &wanted)?;
             rows = rows.saturating_add(1);
         }
     }

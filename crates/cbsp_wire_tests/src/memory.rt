@@ -1,0 +1,90 @@
+//! Messages that are read and written with scarce memory: a message is refused until there is enough, and a fault needs
+//! none.
+
+use crate::table::expect_rows;
+use std::test::Fail;
+
+/// Octets that are read.
+const READ: &str = "
+# A kill in nine cells, for which the list of cells grows twice.
+scarce means 0400002e 0e1112 020010 04002501000100010001000200010003000100040001000500010006000100070001000800010009 \
+    -> refused; kill id=4370 new=- old=0010 failures=- completed=- cells=1-1,1-2,1-3,1-4,1-5,1-6,1-7,1-8,1-9 channel=-
+# Nine completed broadcasts.
+scarce means 05000049 0e1112 020010 0800400100010001000200000100020002000001000300020000010004000200000100050002000001\
+    0006000200000100070002000001000800020000010009000200 \
+    -> refused; kill-done id=4370 new=- old=0010 failures=- completed=1-1:2:0,1-2:2:0,1-3:2:0,1-4:2:0,1-5:2:0,1-6:2:0,\
+    1-7:2:0,1-8:2:0,1-9:2:0 cells=- channel=-
+# Nine failures, nine completed broadcasts and nine cells.
+scarce means 030000ad 0e1112 030011 020010 090036010001000106010001000206010001000306010001000406010001000506010001000\
+    606010001000706010001000806010001000906080040010001000100020000010002000200000100030002000001000400020000010005000\
+    200000100060002000001000700020000010008000200000100090002000400250100010001000100020001000300010004000100050001000\
+    6000100070001000800010009 \
+    -> refused; write-failed id=4370 new=0011 old=0010 failures=1-1:06,1-2:06,1-3:06,1-4:06,1-5:06,1-6:06,1-7:06,\
+    1-8:06,1-9:06 completed=1-1:2:0,1-2:2:0,1-3:2:0,1-4:2:0,1-5:2:0,1-6:2:0,1-7:2:0,1-8:2:0,1-9:2:0 \
+    cells=1-1,1-2,1-3,1-4,1-5,1-6,1-7,1-8,1-9 channel=-
+# Two pages with the text `@`.
+scarce means 010000c2 0e1112 030010 0400050100010001 0502 060002 070000 1302 0c01 \
+    2*01018046a3d168341a8d46a3d168341a8d46a3d168341a8d46a3d168341a8d46a3d168341a8d46a3d168341a8d46a3d168341a8d46a3d168\
+    341a8d46a3d168341a8d46a3d168341a8d46a3d168341a8d46a3d100 \
+    -> refused; write id=4370 new=0010 old=- failures=- completed=- cells=1-1 channel=- category=2 period=2 \
+    broadcasts=0 dcs=01 contents=1:8046a3d168341a8d46a3d168341a8d46a3d168341a8d46a3d168341a8d46a3d168341a8d46a3d168\
+    341a8d46a3d168341a8d46a3d168341a8d46a3d168341a8d46a3d168341a8d46a3d168341a8d46a3d100,\
+    1:8046a3d168341a8d46a3d168341a8d46a3d168341a8d46a3d168341a8d46a3d168341a8d46a3d168341a8d46a3d168341a8d46a3d1683\
+    41a8d46a3d168341a8d46a3d168341a8d46a3d168341a8d46a3d100
+# As many items as there can be in each list, and as many pages.
+scarce remake write-failed 64 -> refused; 1114 octets again
+scarce remake write 64 15 82 -> refused; 1547 octets again
+# No octets, a front, a type that there isn't, and an octet behind.
+scarce means -> truncated
+scarce means 0400002e 0e1112 020010 040025010001000100010002000100030001000400010005000100060001000700010008 \
+    -> truncated
+scarce means 07000000 -> cause 04
+scarce means 0400002e 0e1112 020010 04002501000100010001000200010003000100040001000500010006000100070001000800010009 \
+    00 \
+    -> trailing octets
+# Of nine cells: without a serial number, with an element of another message, and with the eighth cell twice.
+scarce means 0400002b 0e1112 04002501000100010001000200010003000100040001000500010006000100070001000800010009 \
+    -> cause 05
+scarce means 04000031 0e1112 020010 04002501000100010001000200010003000100040001000500010006000100070001000800010009 \
+    030010 \
+    -> cause 00
+scarce means 0400002e 0e1112 020010 04002501000100010001000200010003000100040001000500010006000100070001000800010008 \
+    -> cause 01
+";
+
+#[test]
+fn messages_are_read_once_there_is_memory(rt: HostRuntime) -> Result<(), Fail> {
+    expect_rows(&rt, rt.alloc(), READ, 13)
+}
+
+/// Messages that are written.
+const WRITTEN: &str = "
+# A kill in one cell and in nine, and an order of two pages.
+scarce writes 0400000e 0e1112 0400050100010001 020010 -> refused; 0400000e0e11120200100400050100010001
+scarce writes 0400002e 0e1112 020010 04002501000100010001000200010003000100040001000500010006000100070001000800010009 \
+    -> refused; 0400002e0e111202001004002501000100010001000200010003000100040001000500010006000100070001000800010009
+scarce writes 010000c2 0e1112 030010 0400050100010001 0502 060002 070000 1302 0c01 \
+    2*01018046a3d168341a8d46a3d168341a8d46a3d168341a8d46a3d168341a8d46a3d168341a8d46a3d168341a8d46a3d168341a8d46a3d168\
+    341a8d46a3d168341a8d46a3d168341a8d46a3d168341a8d46a3d100 \
+    -> refused; 010000c20e11120300100400050100010001050206000207000013020c0101018046a3d168341a8d46a3d168341a8d46a3d1683\
+    41a8d46a3d168341a8d46a3d168341a8d46a3d168341a8d46a3d168341a8d46a3d168341a8d46a3d168341a8d46a3d168341a8d46a3d168\
+    341a8d46a3d10001018046a3d168341a8d46a3d168341a8d46a3d168341a8d46a3d168341a8d46a3d168341a8d46a3d168341a8d46a3d16\
+    8341a8d46a3d168341a8d46a3d168341a8d46a3d168341a8d46a3d168341a8d46a3d100
+# As many items as there can be in each list, and as many pages.
+scarce make write-failed 64 -> refused; 1114 octets read
+scarce make write 64 15 82 -> refused; 1547 octets read
+# Messages that no octets mean: without contents, with a sixteenth one, with a page of 83 octets, without cells,
+# with a 65th one, without failures, and with a channel that there isn't.
+scarce make write 1 0 82 -> cause 01
+scarce make write 1 16 82 -> cause 01
+scarce make write 1 1 83 -> cause 01
+scarce make kill 0 -> cause 01
+scarce make kill 65 -> cause 01
+scarce make kill-failed -> cause 01
+scarce make kill-done -> cause 01
+";
+
+#[test]
+fn messages_are_written_once_there_is_memory(rt: HostRuntime) -> Result<(), Fail> {
+    expect_rows(&rt, rt.alloc(), WRITTEN, 12)
+}
