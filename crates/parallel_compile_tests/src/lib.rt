@@ -1,16 +1,20 @@
-//! Tests of `parallel_compile` by its public calls, so that it isn't proved twice: pieces in and out of order, tapes by
-//! several workers and tapes that are streamed as tables of lines, workers at the gate, and refused memory.
+//! Tests of `parallel_compile` by its public calls, so that it isn't proved twice, as tables of lines: pieces in and
+//! out of order, tapes by several workers and tapes that are streamed, workers at the gate, and refused memory.
 #![tactic(auto)]
 
 #[cfg(test)]
-mod memory;
+mod beside;
 #[cfg(test)]
-mod open_desk;
+mod desks;
+#[cfg(test)]
+mod gate;
+#[cfg(test)]
+mod memory;
 #[cfg(test)]
 mod records;
 #[cfg(test)]
 mod streams;
 #[cfg(test)]
-mod tapes;
+mod table;
 #[cfg(test)]
-mod workers;
+mod tapes;

@@ -9,6 +9,7 @@ use cbsp_wire::{Cell, Contents};
 use std::alloc::Global;
 use std::process::Abort;
 use std::test::Fail;
+use test_support::Words;
 
 /// The record of a run, once all its slots are played.
 fn played_out(mut book: CellBook) -> CellRecord {
@@ -17,12 +18,12 @@ fn played_out(mut book: CellBook) -> CellRecord {
 }
 
 /// The record of a run of a cell of location area 1 in which nothing is asked.
-pub fn idle(alloc: Global, ci: u16, slots: u16) -> Result<CellRecord, Fail> {
+fn idle(alloc: Global, ci: u16, slots: u16) -> Result<CellRecord, Fail> {
     Ok(played_out(CellBook::open(alloc, Cell { lac: 1, ci }, slots)?))
 }
 
 /// The record of five slots of cell 1-3, which airs one page in every second slot.
-pub fn airing(rt: &impl Abort, alloc: Global) -> Result<CellRecord, Fail> {
+fn airing(rt: &impl Abort, alloc: Global) -> Result<CellRecord, Fail> {
     let page = Content {
         used: 82,
         octets: [0xA1; 82],
@@ -45,4 +46,30 @@ pub fn airing(rt: &impl Abort, alloc: Global) -> Result<CellRecord, Fail> {
 /// The tape of an idle cell of two slots.
 pub fn tape_with(alloc: Global, ci: u16) -> Result<Tape, Fail> {
     Ok(tape_of(alloc, &idle(alloc, ci, 2)?)?)
+}
+
+/// The record that a word names.
+fn record_of(rt: &impl Abort, alloc: Global, word: &str) -> Result<CellRecord, Fail> {
+    match word.split_once('/') {
+        Some((ci, slots)) => idle(alloc, ci.parse::<u16>()?, slots.parse::<u16>()?),
+        None if word == "airing" => airing(rt, alloc),
+        None => Err(Fail::new("no such record")),
+    }
+}
+
+/// The records that the words name that are left, at most eight.
+pub fn records_of(
+    rt: &impl Abort,
+    alloc: Global,
+    words: &mut Words,
+) -> Result<Vec<CellRecord>, Fail> {
+    let mut records = Vec::new(alloc);
+    for _ in 0..8 {
+        let word = words.word();
+        if word.is_empty() {
+            break;
+        }
+        records.push(record_of(rt, alloc, word)?)?;
+    }
+    Ok(records)
 }

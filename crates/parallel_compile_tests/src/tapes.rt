@@ -1,67 +1,15 @@
-//! Tapes out of pieces, and by several workers, as tables of lines:
-//!
-//! ```text
-//! gather N NUMBERS              N tapes are gathered from pieces with these numbers; that of number i is of cell 1-i
-//! compile WORKERS RECORDS       so many workers make the records' tapes: how many, if they are as by one thread
-//! header WORKERS RECORDS        the tapes' headers, and how many idle blocks follow
-//! text FAULT                    a fault's text
-//!   CI/SLOTS, airing            a record: of a cell 1-CI in which nothing is asked, of one that airs a page
-//! ```
+//! Tapes out of pieces, and tapes of records, by one thread or by several.
 
-use crate::records::{airing, idle, tape_with};
+use crate::records::{records_of, tape_with};
+use crate::table::Stage;
 use bsc_table::CellRecord;
 use cbch_blocks::Tape;
-use order_desk::Open;
 use parallel_compile::{CompileFault, compile_all, compile_one, gather};
 use std::alloc::Global;
 use std::process::Abort;
 use std::test::Fail;
 use std::thread::Threads;
-use test_support::{Row, Words, digits_of};
-
-const PIECES: &str = "
-gather 2 1 0 -> 2 in order
-gather 5 3 0 4 1 2 -> 5 in order
-gather 0 -> 0 in order
-
-# the least number that is missing, given twice or out of range is at fault
-gather 2 0 0 -> Piece { index: 0 }
-gather 2 1 -> Piece { index: 0 }
-gather 2 -> Piece { index: 0 }
-gather 2 0 1 2 -> Piece { index: 2 }
-gather 2 9 7 1 0 -> Piece { index: 7 }
-gather 3 2 2 0 9 -> Piece { index: 1 }
-gather 3 2 1 0 1 2 -> Piece { index: 1 }
-gather 0 4 4 -> Piece { index: 4 }
-
-text piece -> piece failed
-text workers -> piece failed
-text refused -> out of memory
-";
-
-const WORKERS: &str = "
-# any number of workers makes the same
-compile 1 1/4 2/0 airing -> 3 as by one
-compile 2 1/4 2/0 airing -> 3 as by one
-compile 3 1/4 2/0 airing -> 3 as by one
-compile 4 1/4 2/0 airing -> 3 as by one
-compile 5 1/4 2/0 airing -> 3 as by one
-compile 6 1/4 2/0 airing -> 3 as by one
-compile 7 1/4 2/0 airing -> 3 as by one
-compile 8 1/4 2/0 airing -> 3 as by one
-compile 64 1/4 2/0 airing -> 3 as by one
-
-# no records have no tapes
-compile 3 -> 0 as by one
-
-# workers are 1 to 64
-compile 0 1/1 -> Workers
-compile 65 1/1 -> Workers
-compile 18446744073709551615 1/1 -> Workers
-
-# idle cells air nothing: a header with the cell and the slots, and four blocks a slot
-header 2 1/3 2/3 -> 0001000100000003 and 12 idle, 0001000200000003 and 12 idle
-";
+use test_support::{Words, digits_of};
 
 /// Whether tapes have these octets, and there are as many.
 pub fn is_same(tapes: &[Tape], wanted: &[Tape]) -> bool {
@@ -99,10 +47,24 @@ fn are_in_order(alloc: Global, tapes: &[Tape]) -> Result<bool, Fail> {
     Ok(true)
 }
 
+/// Gathers pieces.
+fn gathered_of(
+    alloc: Global,
+    stage: &mut Stage,
+    count: u16,
+    pieces: Vec<(u64, Tape)>,
+) -> Result<Vec<Tape>, CompileFault> {
+    stage.begin(alloc);
+    let outcome = gather(alloc, usize::from(count), pieces);
+    stage.end();
+    outcome
+}
+
 /// How many tapes are gathered, and whether they are in order.
-fn gathered(alloc: Global, words: &mut Words) -> Result<String, Fail> {
+pub fn gathered(alloc: Global, stage: &mut Stage, words: &mut Words) -> Result<String, Fail> {
     let count = words.number16()?;
-    match gather(alloc, usize::from(count), pieces_of(alloc, words)?) {
+    let pieces = pieces_of(alloc, words)?;
+    match gathered_of(alloc, stage, count, pieces) {
         Ok(tapes) if are_in_order(alloc, &tapes)? => {
             Ok(format!(in alloc; "{} in order", tapes.len())?)
         }
@@ -111,55 +73,66 @@ fn gathered(alloc: Global, words: &mut Words) -> Result<String, Fail> {
     }
 }
 
-/// The record that a word names.
-pub fn record_of(rt: &impl Abort, alloc: Global, word: &str) -> Result<CellRecord, Fail> {
-    match word.split_once('/') {
-        Some((ci, slots)) => idle(alloc, ci.parse::<u16>()?, slots.parse::<u16>()?),
-        None if word == "airing" => airing(rt, alloc),
-        None => Err(Fail::new("no such record")),
-    }
+/// The tapes of records by one thread.
+pub fn by_one(alloc: Global, records: &[CellRecord]) -> Result<Vec<Tape>, CompileFault> {
+    compile_one(alloc, records)
 }
 
-/// The records that the words name that are left, at most eight.
-fn records_of(rt: &impl Abort, alloc: Global, words: &mut Words) -> Result<Vec<CellRecord>, Fail> {
-    let mut records = Vec::new(alloc);
-    for _ in 0..8 {
-        let word = words.word();
-        if word.is_empty() {
-            break;
-        }
-        records.push(record_of(rt, alloc, word)?)?;
-    }
-    Ok(records)
+/// The same on a stage.
+fn made_by_one(
+    alloc: Global,
+    stage: &mut Stage,
+    records: &[CellRecord],
+) -> Result<Vec<Tape>, CompileFault> {
+    stage.begin(alloc);
+    let outcome = by_one(alloc, records);
+    stage.end();
+    outcome
 }
 
-/// The tapes that so many workers make.
+/// The tapes of at most 64 records by so many workers.
 fn made_by<T: AllocGlobal + Threads + Sync>(
     rt: &T,
+    stage: &mut Stage,
     workers: u64,
     records: &[CellRecord],
-) -> Result<Result<Vec<Tape>, CompileFault>, Fail> {
+) -> Result<Vec<Tape>, CompileFault> {
     if records.len() > 64 {
-        return Err(Fail::new("too many records"));
+        return Ok(Vec::new(rt.alloc()));
     }
-    Ok(compile_all(rt, rt.alloc(), records, workers, &Open))
+    stage.begin(rt.alloc());
+    let outcome = compile_all(rt, rt.alloc(), records, workers, &stage.gate);
+    stage.end();
+    outcome
 }
 
-/// How many tapes workers make, which have to be those that one thread makes.
-fn compiled<T: AllocGlobal + Threads + Abort + Sync>(
-    rt: &T,
-    words: &mut Words,
+/// How many tapes are made, which have to be those that one thread makes with all memory.
+fn as_by_one(
+    alloc: Global,
+    outcome: Result<Vec<Tape>, CompileFault>,
+    wanted: &[Tape],
 ) -> Result<String, Fail> {
-    let alloc = rt.alloc();
-    let workers = words.number()?;
-    let records = records_of(rt, alloc, words)?;
-    match made_by(rt, workers, &records)? {
-        Ok(tapes) if is_same(&tapes, &compile_one(alloc, &records)?) => {
-            Ok(format!(in alloc; "{} as by one", tapes.len())?)
-        }
+    match outcome {
+        Ok(tapes) if is_same(&tapes, wanted) => Ok(format!(in alloc; "{} as by one", tapes.len())?),
         Ok(_) => Err(Fail::new("one thread makes other tapes")),
         Err(fault) => Ok(format!(in alloc; "{fault:?}")?),
     }
+}
+
+/// What comes of workers, or of the call that takes none, `one`, that make tapes.
+pub fn compiled<T: AllocGlobal + Threads + Abort + Sync>(
+    rt: &T,
+    stage: &mut Stage,
+    words: &mut Words,
+) -> Result<String, Fail> {
+    let alloc = rt.alloc();
+    let workers = words.word();
+    let records = records_of(rt, alloc, words)?;
+    let outcome = match workers {
+        "one" => made_by_one(alloc, stage, &records),
+        count => made_by(rt, stage, count.parse::<u64>()?, &records),
+    };
+    as_by_one(alloc, outcome, &by_one(alloc, &records)?)
 }
 
 /// How many idle blocks these octets are.
@@ -187,13 +160,14 @@ fn header_text(alloc: Global, tape: &Tape) -> Result<String, Fail> {
 }
 
 /// The headers of the tapes that workers make, and how many idle blocks follow.
-fn headers<T: AllocGlobal + Threads + Abort + Sync>(
+pub fn headers<T: AllocGlobal + Threads + Abort + Sync>(
     rt: &T,
+    stage: &mut Stage,
     words: &mut Words,
 ) -> Result<String, Fail> {
     let workers = words.number()?;
     let records = records_of(rt, rt.alloc(), words)?;
-    let tapes = made_by(rt, workers, &records)??;
+    let tapes = made_by(rt, stage, workers, &records)?;
     let mut text = String::new(rt.alloc());
     for tape in &tapes {
         if !text.is_empty() {
@@ -205,7 +179,7 @@ fn headers<T: AllocGlobal + Threads + Abort + Sync>(
 }
 
 /// A fault's text.
-fn text_of(alloc: Global, words: &mut Words) -> Result<String, Fail> {
+pub fn text_of(alloc: Global, words: &mut Words) -> Result<String, Fail> {
     let fault = match words.word() {
         "piece" => CompileFault::Piece { index: 7 },
         "workers" => CompileFault::Workers,
@@ -213,44 +187,4 @@ fn text_of(alloc: Global, words: &mut Words) -> Result<String, Fail> {
         _ => return Err(Fail::new("no such fault")),
     };
     Ok(format!(in alloc; "{fault}")?)
-}
-
-/// What comes of an action.
-fn carried_out<T: AllocGlobal + Threads + Abort + Sync>(
-    rt: &T,
-    words: &mut Words,
-) -> Result<String, Fail> {
-    match words.word() {
-        "gather" => gathered(rt.alloc(), words),
-        "compile" => compiled(rt, words),
-        "header" => headers(rt, words),
-        "text" => text_of(rt.alloc(), words),
-        _ => Err(Fail::new("no such action")),
-    }
-}
-
-/// Expects what the rows of a table say.
-fn expect_rows<T: AllocGlobal + Threads + Abort + Sync>(rt: &T, table: &str) -> Result<(), Fail> {
-    let mut rows = 0_usize;
-    for line in table.split('\n') {
-        if let Some(row) = Row::of(line) {
-            let mut words = Words::of(row.action);
-            let found = carried_out(rt, &mut words)?;
-            assert_eq!(rt; found.as_str(), row.wanted, "{line}");
-            assert_eq!(rt; words.word(), "", "{line}");
-            rows = rows.saturating_add(1);
-        }
-    }
-    assert!(rt; rows > 0);
-    Ok(())
-}
-
-#[test]
-fn pieces_are_put_in_order(rt: HostRuntime) -> Result<(), Fail> {
-    expect_rows(&rt, PIECES)
-}
-
-#[test]
-fn any_number_of_workers_makes_the_same(rt: HostRuntime) -> Result<(), Fail> {
-    expect_rows(&rt, WORKERS)
 }

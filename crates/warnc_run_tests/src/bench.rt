@@ -1,6 +1,6 @@
 //! A bench on which books are compiled between memory and memory.
 
-use crate::gate::Meeting;
+use crate::gate::{Crossing, Manner};
 use device_ends::memory::{MemoryReader, MemoryWriter};
 use device_ends::{Sink, Source, write_all};
 use std::alloc::Global;
@@ -8,22 +8,22 @@ use std::io::Write;
 use std::sync::Wait;
 use std::test::Fail;
 use std::thread::Threads;
-use test_support::Words;
+use test_support::{Drought, Words};
 use warnc_run::{RunFault, compile_stream, live_stream};
 
 /// What is called, and with which numbers.
 #[derive(Clone, Copy)]
 pub struct Call {
-    pub is_live: bool,
-    pub waits: bool,
-    pub slots: u16,
-    pub sessions: u16,
-    pub workers: u64,
+    is_live: bool,
+    manner: Manner,
+    slots: u16,
+    sessions: u16,
+    workers: u64,
 }
 
 impl Call {
-    /// The call of a word and its numbers: `compile SLOTS WORKERS`, `live SLOTS SESSIONS WORKERS`, or `meet` with the
-    /// numbers of `live`, where threads wait for each other in two cells.
+    /// The call of a word and its numbers: `compile SLOTS WORKERS`, `live SLOTS SESSIONS WORKERS`, or `meet` or
+    /// `starve` with the numbers of `live`.
     pub fn of(verb: &str, words: &mut Words) -> Result<Call, Fail> {
         let is_live = verb != "compile";
         let slots = words.number16()?;
@@ -32,9 +32,14 @@ impl Call {
         if sessions == 0 || sessions > 64 {
             return Err(Fail::new("the number of sessions"));
         }
+        let manner = match verb {
+            "meet" => Manner::Meet,
+            "starve" => Manner::Starve,
+            _ => Manner::Pass,
+        };
         Ok(Call {
             is_live,
-            waits: verb == "meet",
+            manner,
             slots,
             sessions,
             workers,
@@ -42,12 +47,12 @@ impl Call {
     }
 
     /// Makes the call.
-    pub fn made<T: AllocGlobal + Threads + Wait + Sync, W: Write>(
+    fn made<T: AllocGlobal + Threads + Wait + Sync, W: Write>(
         self,
         rt: &T,
         source: &mut Source<&mut MemoryReader>,
         sink: &mut Sink<&mut W>,
-        gate: &Meeting,
+        gate: &Crossing,
     ) -> Result<(), RunFault> {
         if !self.is_live {
             return compile_stream(rt, source, sink, self.slots, self.workers);
@@ -84,12 +89,13 @@ pub struct Bench {
     pub written: Vec<u8>,
     /// Whether no line said yet what was written.
     pub is_unseen: bool,
+    pub drought: Drought,
 }
 
 impl Bench {
     /// A bench without a book.
-    pub fn new(alloc: Global) -> Bench {
-        Bench {
+    pub fn new(alloc: Global) -> Result<Bench, Fail> {
+        Ok(Bench {
             book: Vec::new(alloc),
             is_book_used: false,
             reader: STEADY,
@@ -98,7 +104,8 @@ impl Bench {
             worked: Vec::new(alloc),
             written: Vec::new(alloc),
             is_unseen: false,
-        }
+            drought: Drought::new(alloc)?,
+        })
     }
 
     /// Has steady devices again, and a new book if lines name one.
@@ -120,12 +127,12 @@ struct Said {
 }
 
 /// Makes a call.
-fn said_by<T: AllocGlobal + Threads + Wait + Sync>(
+fn said_by<T: AllocGlobal + Threads + Wait + Sync, W: Write>(
     rt: &T,
     bench: &Bench,
     call: Call,
-    gate: &Meeting,
-    writer: &mut MemoryWriter,
+    gate: &Crossing,
+    writer: &mut W,
 ) -> Said {
     let per_call = bench.reader.octets.max(1);
     let mut reader = MemoryReader::new(&bench.book, per_call, bench.reader.calls);
@@ -135,6 +142,7 @@ fn said_by<T: AllocGlobal + Threads + Wait + Sync>(
         let _ = write_all(&mut sink, b"-");
     }
     let result = call.made(rt, &mut source, &mut sink, gate);
+    gate.give_back();
     Said {
         result,
         is_source_failed: source.failed(),
@@ -142,37 +150,70 @@ fn said_by<T: AllocGlobal + Threads + Wait + Sync>(
     }
 }
 
-/// What a call comes to: `done` or its fault, which end has failed, and whether threads met at the gate.
-fn answer(alloc: Global, said: Said, waits: bool, is_held: bool) -> Result<String, Fail> {
+/// Makes a call with all memory.
+fn said_with_memory<T: AllocGlobal + Threads + Wait + Sync>(
+    rt: &T,
+    bench: &mut Bench,
+    call: Call,
+    gate: &Crossing,
+) -> Result<Said, Fail> {
+    let mut writer = MemoryWriter::new(rt.alloc(), bench.writer.octets, bench.writer.calls);
+    let said = said_by(rt, bench, call, gate, &mut writer);
+    bench.written.clear();
+    bench.written.extend_from_slice(writer.contents())?;
+    Ok(said)
+}
+
+/// How many octets a call with scarce memory can write: what it writes takes room that there was before.
+const ROOM: usize = 4000;
+
+/// Makes a call with scarce memory.
+fn said_in_drought<T: AllocGlobal + Threads + Wait + Sync>(
+    rt: &T,
+    bench: &mut Bench,
+    call: Call,
+    gate: &Crossing,
+) -> Result<Said, Fail> {
+    let mut room = vec![in rt.alloc(); 0_u8; ROOM]?;
+    let mut left = room.as_mut_slice();
+    bench.drought.begin(rt.alloc());
+    let said = said_by(rt, bench, call, gate, &mut left);
+    bench.drought.end();
+    let written = ROOM.saturating_sub(left.len());
+    room.truncate(written);
+    bench.written = room;
+    Ok(said)
+}
+
+/// What a call comes to: `done` or its fault, and which end has failed.
+fn answer(alloc: Global, said: Said) -> Result<String, Fail> {
     let ends = match (said.is_source_failed, said.is_sink_failed) {
         (false, false) => "",
         (true, false) => ", source failed",
         (false, true) => ", sink failed",
         (true, true) => ", both ends failed",
     };
-    let met = match (waits, is_held) {
-        (false, _) => "",
-        (true, true) => ", in both cells at once",
-        (true, false) => ", not in both cells at once",
-    };
     match said.result {
-        Ok(()) => Ok(format!(in alloc; "done{ends}{met}")?),
-        Err(fault) => Ok(format!(in alloc; "{fault:?}{ends}{met}")?),
+        Ok(()) => Ok(format!(in alloc; "done{ends}")?),
+        Err(fault) => Ok(format!(in alloc; "{fault:?}{ends}")?),
     }
 }
 
-/// Makes a call, and says what it comes to.
+/// Makes a call, and says what it comes to, and what happened at its gate.
 pub fn make_call<T: AllocGlobal + Threads + Wait + Sync>(
     rt: &T,
     bench: &mut Bench,
     call: Call,
+    is_scarce: bool,
 ) -> Result<String, Fail> {
-    let alloc = rt.alloc();
-    let gate = Meeting::new(call.waits);
-    let mut writer = MemoryWriter::new(alloc, bench.writer.octets, bench.writer.calls);
-    let said = said_by(rt, bench, call, &gate, &mut writer);
-    bench.written.clear();
-    bench.written.extend_from_slice(writer.contents())?;
+    let gate = Crossing::new(rt.alloc(), call.manner)?;
+    let said = if is_scarce {
+        said_in_drought(rt, bench, call, &gate)?
+    } else {
+        said_with_memory(rt, bench, call, &gate)?
+    };
     bench.renew();
-    answer(alloc, said, call.waits, gate.is_held())
+    let mut text = answer(rt.alloc(), said)?;
+    text.push_str(gate.told())?;
+    Ok(text)
 }

@@ -1,50 +1,107 @@
-//! A gate at which two threads can meet, each in a cell of its own.
+//! A gate at which two threads can meet, each in a cell of its own, and lose all memory.
 
 use order_desk::Gate;
+use std::alloc::Global;
+use std::sync::Mutex;
 use std::sync::atomic::{AtomicU64, Ordering};
+use std::test::Fail;
 use std::thread;
+use test_support::take_all;
 
-/// Lets threads pass; or whoever is first in one of two cells stays there until the other is entered.
-#[derive(Drop)]
-pub struct Meeting {
-    waits: bool,
-    entered: [AtomicU64; 2],
-    gave_up: AtomicU64,
+/// What a gate does with whoever enters.
+#[derive(Clone, Copy, PartialEq, Eq)]
+pub enum Manner {
+    /// Lets them pass.
+    Pass,
+    /// Whoever is first in one of two cells stays there until the other is entered.
+    Meet,
+    /// So too; then one of both takes all memory, and the other leaves some turns later.
+    Starve,
 }
 
-impl Meeting {
-    /// A gate at which threads wait for each other, or pass.
-    pub fn new(waits: bool) -> Meeting {
-        Meeting {
-            waits,
+/// How many blocks of memory a gate can hold.
+const BLOCKS: usize = 100_000;
+
+/// A gate, and what happened at it.
+#[derive(Drop)]
+pub struct Crossing {
+    manner: Manner,
+    alloc: Global,
+    entered: [AtomicU64; 2],
+    left: AtomicU64,
+    gave_up: AtomicU64,
+    taken: Mutex<Vec<Vec<u8>>>,
+    blocks: AtomicU64,
+}
+
+impl Crossing {
+    /// A gate at which nobody has been.
+    pub fn new(alloc: Global, manner: Manner) -> Result<Crossing, Fail> {
+        let blocks = if manner == Manner::Starve { BLOCKS } else { 0 };
+        Ok(Crossing {
+            manner,
+            alloc,
             entered: [AtomicU64::new(0), AtomicU64::new(0)],
+            left: AtomicU64::new(0),
             gave_up: AtomicU64::new(0),
-        }
+            taken: Mutex::new(Vec::with_capacity(alloc, blocks)?),
+            blocks: AtomicU64::new(0),
+        })
     }
 
-    /// Whether the gate was asked in both cells, and nobody waited in vain.
-    pub fn is_held(&self) -> bool {
-        let [first, second] = &self.entered;
-        let is_first = first.load(Ordering::SeqCst) == 1;
-        let is_second = second.load(Ordering::SeqCst) == 1;
-        is_first && is_second && self.gave_up.load(Ordering::SeqCst) == 0
-    }
-
-    /// Waits for a cell to be entered, for a million turns at most.
-    fn wait_for(&self, cell: &AtomicU64) {
+    /// Waits until a number isn't 0, for a million turns at most.
+    fn wait_for(&self, number: &AtomicU64) {
         for _ in 0..1_000_000_u32 {
-            if cell.load(Ordering::SeqCst) == 1 {
+            if number.load(Ordering::SeqCst) > 0 {
                 return;
             }
             thread::yield_now();
         }
         self.gave_up.store(1, Ordering::SeqCst);
     }
+
+    /// Takes all memory, unless another thread has taken it or is about to.
+    fn take(&self) {
+        if let Some(mut taken) = self.taken.try_lock() {
+            if taken.is_empty() {
+                take_all(self.alloc, &mut taken);
+                self.blocks.store(taken.len() as u64, Ordering::SeqCst);
+                return;
+            }
+        }
+        self.wait_for(&self.blocks);
+        for _ in 0..1000_u16 {
+            thread::yield_now();
+        }
+    }
+
+    /// Gives the memory back.
+    pub fn give_back(&self) {
+        if let Some(mut taken) = self.taken.try_lock() {
+            taken.clear();
+        }
+    }
+
+    /// What happened at the gate.
+    pub fn told(&self) -> &'static str {
+        let [first, second] = &self.entered;
+        let first = first.load(Ordering::SeqCst);
+        let second = second.load(Ordering::SeqCst);
+        let has_met = first > 0 && second > 0 && self.gave_up.load(Ordering::SeqCst) == 0;
+        let all = first.saturating_add(second);
+        match self.manner {
+            Manner::Pass => "",
+            _ if !has_met => ", not in both cells at once",
+            _ if self.left.load(Ordering::SeqCst) < all => ", somebody is in a cell",
+            Manner::Starve if self.blocks.load(Ordering::SeqCst) == 0 => ", with memory",
+            _ => ", in both cells at once",
+        }
+    }
 }
 
-impl Gate for Meeting {
+impl Gate for Crossing {
     fn inside(&self, place: u16) {
-        if !self.waits {
+        if self.manner == Manner::Pass {
             return;
         }
         let [first, second] = &self.entered;
@@ -53,7 +110,11 @@ impl Gate for Meeting {
         } else {
             (second, first)
         };
-        own.store(1, Ordering::SeqCst);
+        own.fetch_add(1, Ordering::SeqCst);
         self.wait_for(other);
+        if self.manner == Manner::Starve && self.blocks.load(Ordering::SeqCst) == 0 {
+            self.take();
+        }
+        self.left.fetch_add(1, Ordering::SeqCst);
     }
 }

@@ -14,6 +14,10 @@
 //!
 //! - `compile SLOTS WORKERS -> done`, or the fault; `live SLOTS SESSIONS WORKERS -> done`;
 //! - `meet SLOTS SESSIONS WORKERS -> done, in both cells at once`: threads wait for each other in two cells;
+//! - `starve SLOTS SESSIONS WORKERS`: so too; then one of them takes all memory, and gives it back when the call has
+//!   ended;
+//! - `scarce CALL -> refused; ..`: the call has no memory, then more and more until it isn't refused. It writes nothing
+//!   before.
 //!
 //! What a call wrote, of which a line has to speak before the next call:
 //!
@@ -31,7 +35,7 @@ use std::process::Abort;
 use std::sync::Wait;
 use std::test::Fail;
 use std::thread::Threads;
-use test_support::{Row, Words, octets_of};
+use test_support::{Drought, Row, Words, after_refusals, is_refused, octets_of};
 
 /// The pace that the next two words say.
 fn pace_of(words: &mut Words) -> Result<Pace, Fail> {
@@ -90,26 +94,48 @@ fn read_back(
     }
 }
 
-/// What comes of an action.
+/// What comes of a line of the book.
+fn line_added(alloc: Global, bench: &mut Bench, line: &str, end: &str) -> Result<String, Fail> {
+    add_line(bench, line)?;
+    add_line(bench, end)?;
+    Ok(String::new(alloc))
+}
+
+/// What comes of a call. The words: its numbers.
+fn called<T: AllocGlobal + Threads + Wait + Sync>(
+    rt: &T,
+    bench: &mut Bench,
+    verb: &str,
+    words: &mut Words,
+    is_scarce: bool,
+) -> Result<String, Fail> {
+    if bench.is_unseen {
+        return Ok(String::from_str(rt.alloc(), "no line said what the last call wrote")?);
+    }
+    let call = Call::of(verb, words)?;
+    make_call(rt, bench, call, is_scarce)
+}
+
+/// What comes of an action, whose call has so many blocks of memory if that is scarce.
 fn carried_out<T: AllocGlobal + Threads + Wait + Sync>(
     rt: &T,
     bench: &mut Bench,
     action: &str,
+    blocks: u16,
 ) -> Result<String, Fail> {
     let alloc = rt.alloc();
     if let Some(line) = action.strip_prefix("in ") {
-        add_line(bench, line)?;
-        add_line(bench, "\n")?;
-        return Ok(String::new(alloc));
+        return line_added(alloc, bench, line, "\n");
     }
     if let Some(line) = action.strip_prefix("last ") {
-        add_line(bench, line)?;
-        return Ok(String::new(alloc));
+        return line_added(alloc, bench, line, "");
     }
     let mut words = Words::of(action);
-    let verb = words.word();
+    let verb = bench.drought.verb(&mut words, blocks);
     let answer = match verb {
-        "compile" | "live" | "meet" => called(rt, bench, verb, &mut words)?,
+        "compile" | "live" | "meet" | "starve" => {
+            called(rt, bench, verb, &mut words, is_scarce(action))?
+        }
         "all" | "aired" | "cells" | "shown" => read_back(alloc, bench, verb, &mut words)?,
         _ => set(alloc, bench, verb, &mut words)?,
     };
@@ -119,18 +145,30 @@ fn carried_out<T: AllocGlobal + Threads + Wait + Sync>(
     Ok(String::from_str(alloc, "words are left over")?)
 }
 
-/// What comes of a call.
-fn called<T: AllocGlobal + Threads + Wait + Sync>(
+/// Whether an action's call has scarce memory.
+fn is_scarce(action: &str) -> bool {
+    action.starts_with("scarce ")
+}
+
+/// Whether an answer is that memory was refused, and that no end has failed.
+fn is_memory(answer: &str) -> bool {
+    let is_refused = is_refused(answer) || answer.starts_with("Desk(Memory {");
+    is_refused && !answer.contains("failed")
+}
+
+/// What comes of an action. If memory is scarce, it is carried out again until that isn't refused.
+fn outcome<T: AllocGlobal + Threads + Wait + Sync>(
     rt: &T,
     bench: &mut Bench,
-    verb: &str,
-    words: &mut Words,
+    action: &str,
 ) -> Result<String, Fail> {
-    if bench.is_unseen {
-        return Ok(String::from_str(rt.alloc(), "no line said what the last call wrote")?);
+    for refused in 0..Drought::MOST {
+        let found = carried_out(rt, bench, action, refused)?;
+        if !is_scarce(action) || !is_memory(&found) {
+            return after_refusals(rt.alloc(), refused, found);
+        }
     }
-    let called = Call::of(verb, words)?;
-    make_call(rt, bench, called)
+    Ok(String::from_str(rt.alloc(), "refused to the end")?)
 }
 
 /// Expects what the rows of a table say.
@@ -138,11 +176,11 @@ pub fn expect_rows<T: AllocGlobal + Abort + Threads + Wait + Sync>(
     rt: &T,
     table: &str,
 ) -> Result<(), Fail> {
-    let mut bench = Bench::new(rt.alloc());
+    let mut bench = Bench::new(rt.alloc())?;
     let mut rows = 0_u32;
     for line in table.split('\n') {
         if let Some(row) = Row::of(line) {
-            let found = carried_out(rt, &mut bench, row.action)?;
+            let found = outcome(rt, &mut bench, row.action)?;
             let is_wanted = row
                 .wanted
                 .split(" or ")

@@ -1,112 +1,95 @@
-//! Compiling with hardly any memory: each allocation is refused, and nothing is written then.
+//! Runs with scarce memory: each growth is refused, and nothing is written then.
 
-use crate::bench::Call;
-use crate::gate::Meeting;
-use alert_book::{BookFault, BookFaultKind};
-use device_ends::memory::MemoryReader;
-use device_ends::{Sink, Source};
-use order_desk::{DeskFault, SettleFault};
-use parallel_compile::CompileFault;
-use std::alloc::Global;
-use std::process::Abort;
-use std::sync::Wait;
+use crate::rows::expect_rows;
 use std::test::Fail;
-use std::thread::Threads;
-use test_support::{Words, take_all};
-use warnc_run::RunFault;
 
-/// A book of each verb.
-const BOOK: &str =
-    "cell,1,1\nwrite,0,a,4370,0,1,en,2,2,0,1-1,One\nupdate,1,a,en,2,2,0,*,Two\nstop,2,a,1-1\n";
+/// An alert of each verb in a cell, and then two cells and texts of two pages.
+const COMPILE: &str = "
+in cell,1,1
+in write,0,a,4370,0,1,en,2,2,0,1-1,One
+in update,1,a,en,2,2,0,*,Two
+in stop,2,a,1-1
+scarce compile 3 1 -> refused; done
+cells -> 1-1
+shown 1 -> 4370 0010 One, 4370 0011 Two
 
-/// How many octets each block of the memory has that is given back.
-const BLOCK: usize = 512;
+in cell,1,1
+in cell,1,2
+in write,0,a,4370,0,1,ru,2,4,0,*,ЖЖЖЖЖЖЖЖЖЖЖЖЖЖЖЖЖЖЖЖЖЖЖЖЖЖЖЖЖЖЖЖЖЖЖЖЖЖЖЖЖЖ
+in write,0,b,4371,0,2,en,2,4,0,1-2 1-1,aaaaaaaaaaaaaaaaaaaaaaaaaaaaaaaaaaaaaaaaaaaaaaaaaaaaaaaaaaaaaaaaaaaaaaaaaaaaa\
+    aaaaaaaaaaaaaaaaa
+in update,4,a,ru,2,4,0,1-1,ЖЖЖЖЖЖЖЖЖЖЖЖЖЖЖЖЖЖЖЖЖЖЖЖЖЖЖЖЖЖЖЖЖЖЖЖЖЖЖЖЖЯ
+in stop,4,b,1-2
+in update,6,b,en,2,4,0,1-1,aaaaaaaaaaaaaaaaaaaaaaaaaaaaaaaaaaaaaaaaaaaaaaaaaaaaaaaaaaaaaaaaaaaaaaaaaaaaaaaaaaaaaaaaa\
+    aaaab
+scarce compile 12 1 -> refused; done
+cells -> 1-1 1-2
+shown 1 -> 4370 0010 ЖЖЖЖЖЖЖЖЖЖЖЖЖЖЖЖЖЖЖЖЖЖЖЖЖЖЖЖЖЖЖЖЖЖЖЖЖЖЖЖЖЖ, \
+    4371 0020 aaaaaaaaaaaaaaaaaaaaaaaaaaaaaaaaaaaaaaaaaaaaaaaaaaaaaaaaaaaaaaaaaaaaaaaaaaaaaaaaaaaaaaaaaaaaaa, \
+    4370 0011 ЖЖЖЖЖЖЖЖЖЖЖЖЖЖЖЖЖЖЖЖЖЖЖЖЖЖЖЖЖЖЖЖЖЖЖЖЖЖЖЖЖЯ, \
+    4371 0021 aaaaaaaaaaaaaaaaaaaaaaaaaaaaaaaaaaaaaaaaaaaaaaaaaaaaaaaaaaaaaaaaaaaaaaaaaaaaaaaaaaaaaaaaaaaaab
+shown 2 -> 4370 0010 ЖЖЖЖЖЖЖЖЖЖЖЖЖЖЖЖЖЖЖЖЖЖЖЖЖЖЖЖЖЖЖЖЖЖЖЖЖЖЖЖЖЖ, \
+    4371 0020 aaaaaaaaaaaaaaaaaaaaaaaaaaaaaaaaaaaaaaaaaaaaaaaaaaaaaaaaaaaaaaaaaaaaaaaaaaaaaaaaaaaaaaaaaaaaaa
+";
 
-/// How many blocks there are: more than a run takes beside its threads.
-const BLOCKS: u16 = 120;
+/// So too for two sessions. With so little memory no thread can be made: a session works in the calling thread, and
+/// several workers are refused whatever else they have.
+const LIVE: &str = "
+in cell,1,1
+in cell,1,2
+in write,0,a,4370,0,1,ru,2,4,0,1-1,ЖЖЖЖЖЖЖЖЖЖЖЖЖЖЖЖЖЖЖЖЖЖЖЖЖЖЖЖЖЖЖЖЖЖЖЖЖЖЖЖЖЖ
+in write,0,b,4371,0,2,en,2,4,0,1-2,aaaaaaaaaaaaaaaaaaaaaaaaaaaaaaaaaaaaaaaaaaaaaaaaaaaaaaaaaaaaaaaaaaaaaaaaaaaaaaaaa\
+    aaaaaaaaaaaaa
+in update,4,a,ru,2,4,0,*,ЖЖЖЖЖЖЖЖЖЖЖЖЖЖЖЖЖЖЖЖЖЖЖЖЖЖЖЖЖЖЖЖЖЖЖЖЖЖЖЖЖЯ
+in stop,4,b,1-2
+scarce live 8 2 1 -> refused; done
+cells -> 1-1 1-2
+shown 1 -> 4370 0010 ЖЖЖЖЖЖЖЖЖЖЖЖЖЖЖЖЖЖЖЖЖЖЖЖЖЖЖЖЖЖЖЖЖЖЖЖЖЖЖЖЖЖ, 4370 0011 ЖЖЖЖЖЖЖЖЖЖЖЖЖЖЖЖЖЖЖЖЖЖЖЖЖЖЖЖЖЖЖЖЖЖЖЖЖЖЖЖЖЯ
+shown 2 -> 4371 0020 aaaaaaaaaaaaaaaaaaaaaaaaaaaaaaaaaaaaaaaaaaaaaaaaaaaaaaaaaaaaaaaaaaaaaaaaaaaaaaaaaaaaaaaaaaaaaa
+keep
+scarce live 8 2 2 -> refused to the end
+all -> 0 of 1488
+live 8 2 2 -> done
+all -> worked
+";
 
-/// Whether a fault says that there was no memory.
-fn is_memory(fault: RunFault) -> bool {
-    match fault {
-        RunFault::Book(BookFault { row, kind }) => row == 0 && kind == BookFaultKind::Refused,
-        RunFault::Desk(DeskFault::Memory { .. }) => true,
-        RunFault::Settle(SettleFault::Refused) | RunFault::Refused => true,
-        RunFault::Compile(CompileFault::Refused) => true,
-        _ => false,
-    }
-}
+/// Two sessions are each in a cell when memory ends: the one has no entry then, and if memory runs out for the passes
+/// of both, too, that is told. Then workers find none, of whom no session is in a cell.
+const STARVED: &str = "
+in cell,1,1
+in cell,1,2
+in write,0,a,4370,0,1,en,2,2,0,1-1,@
+in write,0,b,4371,0,2,en,2,2,0,1-2,Two
+compile 2 1 -> done
+keep
+starve 2 2 1 -> Desk(Memory { done: 0 }), in both cells at once or Refused, in both cells at once
+all -> 0 of 384
+live 2 2 1 -> done
+all -> worked
 
-/// Makes a call on 400 octets, and returns how many of them it leaves. None if it was refused memory, and left all.
-fn left_by<T: AllocGlobal + Abort + Threads + Wait + Sync>(rt: &T, call: Call) -> Option<usize> {
-    let mut out = [0; 400];
-    let mut left = out.as_mut_slice();
-    let mut reader = MemoryReader::new(BOOK.as_bytes(), 100, None);
-    let gate = Meeting::new(false);
-    let mut source = Source::new(&mut reader);
-    let result = call.made(rt, &mut source, &mut Sink::new(&mut left), &gate);
-    match result {
-        Ok(()) => Some(left.len()),
-        Err(fault) => {
-            assert!(rt; is_memory(fault));
-            assert_eq!(rt; left.len(), 400);
-            None
-        }
-    }
-}
-
-/// Blocks of memory.
-fn spare_blocks(alloc: Global) -> Result<Vec<Vec<u8>>, Fail> {
-    let mut spare = Vec::with_capacity(alloc, usize::from(BLOCKS))?;
-    for _ in 0..BLOCKS {
-        spare.push(Vec::with_capacity(alloc, BLOCK)?)?;
-    }
-    Ok(spare)
-}
-
-/// Makes a call again and again, with one block of memory more each time, until it isn't refused memory any more, and
-/// returns how often it was.
-fn refusals<T: AllocGlobal + Abort + Threads + Wait + Sync>(
-    rt: &T,
-    call: Call,
-    spare: &mut Vec<Vec<u8>>,
-) -> u16 {
-    let mut refused = 0_u16;
-    for _ in 0..BLOCKS {
-        if left_by(rt, call).is_some() {
-            break;
-        }
-        refused = refused.saturating_add(1);
-        let _ = spare.pop();
-    }
-    refused
-}
-
-/// Makes a call with more and more memory. With few blocks it is refused; with all of them it is too if it starts
-/// workers, since no block has room for a thread. With ample memory a tape is written.
-fn expect_refusals<T: AllocGlobal + Abort + Threads + Wait + Sync>(
-    rt: &T,
-    verb: &str,
-    numbers: &str,
-    starts_workers: bool,
-) -> Result<(), Fail> {
-    let call = Call::of(verb, &mut Words::of(numbers))?;
-    let mut spare = spare_blocks(rt.alloc())?;
-    let mut taken = Vec::with_capacity(rt.alloc(), 100_000)?;
-    take_all(rt.alloc(), &mut taken);
-    let refused = refusals(rt, call, &mut spare);
-    taken.clear();
-    assert!(rt; refused > 6);
-    assert_eq!(rt; refused == BLOCKS, starts_workers);
-    assert_eq!(rt; left_by(rt, call), Some(116));
-    Ok(())
-}
+in cell,1,1
+in cell,1,2
+compile 100 1 -> done
+keep
+starve 100 1 2 -> Compile(Refused), in both cells at once
+all -> 0 of 18416
+live 100 1 2 -> done
+all -> worked
+";
 
 #[test]
 fn refused_memory_is_reported(rt: HostRuntime) -> Result<(), Fail> {
-    expect_refusals(&rt, "compile", "3 1", false)
+    expect_rows(&rt, COMPILE)
 }
+
+// Threads keep memory of a process, so what starts some has a process of its own.
 
 #[test]
 fn refused_memory_is_reported_by_live(rt: HostRuntime) -> Result<(), Fail> {
-    expect_refusals(&rt, "live", "3 2 2", true)
+    expect_rows(&rt, LIVE)
+}
+
+#[test]
+fn threads_that_find_no_memory_are_reported(rt: HostRuntime) -> Result<(), Fail> {
+    expect_rows(&rt, STARVED)
 }
