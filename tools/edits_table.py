@@ -1,8 +1,9 @@
 #!/usr/bin/env python3
-"""Prints docs/edits.md: the wrong bodies that the prover has to refuse, by what they do, and by crate and function.
+"""Prints docs/edits.md: the wrong bodies that the prover has to refuse, by what they do.
 
 Usage: edits_table.py            prints the document
-       edits_table.py --check    fails if docs/edits.md says something else
+       edits_table.py --all      prints after it each edit, by crate and function
+       edits_table.py --check    fails if docs/edits.md isn't the document
 """
 import os
 import re
@@ -61,9 +62,8 @@ WRONG = (
 HEAD = """# Wrong bodies that are refused
 
 Each edit turns the meaning of one function, and the prover has to refuse the crate with it. The gate tries those of
-`must-fail/`; `more-edits.sh` tries those of `more-edits/`. `tools/edits_table.py` writes this list from both folders.
-
-## What warnc must not do
+`must-fail/`; `more-edits.sh` tries those of `more-edits/`. `tools/edits_table.py` writes this page, and with `--all`
+a list of all edits by crate and function.
 
 These wrong bodies were named before a line was written. Each is refused by the prover, or a test sees it.
 
@@ -120,17 +120,23 @@ def rows_of(crate):
 
 
 def document():
-    lines = [HEAD + "\n".join(wrong_bodies()), ""]
+    return HEAD + "\n".join(wrong_bodies()) + "\n"
+
+
+def all_edits():
+    lines = []
     for name in sorted(os.listdir(os.path.join(TOP, "crates"))):
         rows = list(rows_of(os.path.join(TOP, "crates", name)))
         if rows:
-            lines += [f"## {name}", "", "| Edit | What it changes | Tried by |", "|---|---|---|", *rows, ""]
+            lines += ["", f"## {name}", "", "| Edit | What it changes | Tried by |", "|---|---|---|", *rows]
     return "\n".join(lines)
 
 
 def main():
     if sys.argv[1:] != ["--check"]:
         print(document(), end="")
+        if sys.argv[1:] == ["--all"]:
+            print(all_edits())
         return 0
     with open(os.path.join(TOP, "docs", "edits.md"), encoding="utf-8") as it:
         if it.read() == document():
