@@ -51,7 +51,7 @@ WRONG = (
     ("invents an order of a session, with honest notes", "session_check/leaves_notes_over", ""),
     ("writes some of the tapes alone", "warnc_run/leaves_half_of_the_tapes_out", ""),
     ("holds all cells by one lock", "", "threads_are_in_two_cells_at_once an_order_holds_its_cell_and_no_other"),
-    ("lets workers or sessions work one after the other", "", "two_tapes_are_made_at_once threads_are_in_two_cells_at_once"),
+    ("lets workers or sessions work one after the other", "", "workers_that_find_no_memory_are_refused_once_all_have_ended threads_are_in_two_cells_at_once"),
     ("always reports out of memory, or an unknown cell", "", "books_give_the_tapes_that_they_mean "
      "an_order_is_carried_out_in_its_cells_from_its_slot_on"),
     ("always reports a settlement that fails", "", "books_give_the_tapes_that_they_mean"),

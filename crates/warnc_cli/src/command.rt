@@ -233,15 +233,16 @@ fn warnc<'a>(alloc: Global) -> Result<Command<'a>, AllocError> {
 
 /// The command line of `read`.
 fn read<'a>(alloc: Global) -> Command<'a> {
-    Command::new(alloc, "read").about(
-        "Reads tapes of blocks and writes a table of what a handset shows of them, as CSV",
-    )
+    Command::new(alloc, "read")
+        .about("Reads tapes of blocks and writes a table of what a handset shows of them, as CSV")
+        .after_help("Example: warnc read < tapes")
 }
 
 /// The command line of `compile`.
 fn compile<'a>(alloc: Global) -> Result<Command<'a>, AllocError> {
     Command::new(alloc, "compile")
         .about("Reads a book of alerts, as CSV, and writes the tapes of its cells' runs")
+        .after_help("Example: warnc compile --slots 4096 --workers 4 < book.csv > tapes")
         .arg(slots(alloc))?
         .arg(workers(alloc))
 }
@@ -252,6 +253,7 @@ fn report<'a>(alloc: Global) -> Result<Command<'a>, AllocError> {
         .about(
             "Reads a book of alerts, as CSV, and writes what became of each order in each cell, as CSV",
         )
+        .after_help("Example: warnc report --slots 4096 < book.csv")
         .arg(slots(alloc))?
         .arg(workers(alloc))
 }
@@ -262,6 +264,7 @@ fn live<'a>(alloc: Global) -> Result<Command<'a>, AllocError> {
         .about(
             "Does what compile does, with the book's alerts shared by sessions that order side by side",
         )
+        .after_help("Example: warnc live --slots 4096 --sessions 4 --workers 4 < book.csv > tapes")
         .arg(slots(alloc))?
         .arg(sessions(alloc))?
         .arg(workers(alloc))
@@ -347,6 +350,9 @@ fn update<'a>(alloc: Global) -> Arg<'a> {
 fn page<'a>(alloc: Global) -> Result<Command<'a>, AllocError> {
     Command::new(alloc, "page")
         .about("Reads a text and writes the blocks of its pages, then what a handset shows of them")
+        .after_help(
+            "Example: echo 'Move now' | warnc page --lang en --id 4370 --scope 0 --code 1 --update 0",
+        )
         .arg(language(alloc))?
         .arg(id(alloc))?
         .arg(scope(alloc))?

@@ -29,8 +29,11 @@ pub AreAired-next : (slot : ℕ) (before plan after : PlanState) (air aired : Ai
     → Follows after messages (so_far ++ used ∷ []))
     → AreAired (slot + 1) before after air (aired ++ used ∷ [])
 AreAired-next slot before plan after air aired used so_far asked chosen follows = record {
-  more_air = (so_far.more_air.0 ++ used ∷ [], ap (λ (l : Air). l ++ used ∷ []) so_far.more_air.1
-      ∙ append_assoc air so_far.more_air.0 (used ∷ []));
+  more_air = (
+    so_far.more_air.0 ++ used ∷ [],
+    ap (λ (l : Air). l ++ used ∷ []) so_far.more_air.1
+        ∙ append_assoc air so_far.more_air.0 (used ∷ []),
+  );
   asked = asked;
   follows = λ messages from. follows messages aired (so_far.follows messages from);
   by_rule = λ messages from rule.

@@ -6,12 +6,12 @@ use Rattle.bsc_table.proofs.Cell.Aired.{AreAired-none, AreAired-next}
 use Rattle.bsc_table.proofs.book.air_slots.Goals as goal
 
 pub loop-slot-init : goal.loop-slot-init
-loop-slot-init c =
-    ( AreAired-none c.args.plan.now c.args.from (air_pairs c.args.air.now.items) c.requires.asked
-    , c.requires.places
-    , omega arith
-    , c.requires.ahead
-    )
+loop-slot-init c = (
+  AreAired-none c.args.plan.now c.args.from (air_pairs c.args.air.now.items) c.requires.asked,
+  c.requires.places,
+  omega arith,
+  c.requires.ahead,
+)
 
 pub next-requires-clause-at_next : goal.next-requires-clause-at_next
 next-requires-clause-at_next c = sym c.loop-slot.invariant.0.asked
@@ -24,13 +24,13 @@ pub loop-slot-preserved : goal.loop-slot-preserved
 loop-slot-preserved c =
     let aired : Air = air_pairs c.loop-slot.air.items in
     let Aired : Air → Type 0 = λ more. AreAired (c.loop-slot.slot + 1) c.args.plan.now c.next.new.self
-    (air_pairs c.args.air.now.items) more in
-    ( subst Aired (sym c.push_aired.ensures.aired) (AreAired-next c.loop-slot.slot c.args.plan.now c.loop-slot.plan
-    c.next.new.self (air_pairs c.args.air.now.items) aired c.next.result c.loop-slot.invariant.0
-    c.next.ensures.asked c.next.ensures.chosen c.next.ensures.follows)
-    , c.push_aired.ensures.places ∙ ap (λ (n : ℕ). n + 1) c.loop-slot.invariant.1
-    , omega (arith, c.loop-slot.invariant.2, c.push_aired.ensures.room)
-    , omega (arith, c.loop-slot-test.true)
+    (air_pairs c.args.air.now.items) more in (
+      subst Aired (sym c.push_aired.ensures.aired) (AreAired-next c.loop-slot.slot c.args.plan.now c.loop-slot.plan
+          c.next.new.self (air_pairs c.args.air.now.items) aired c.next.result c.loop-slot.invariant.0
+          c.next.ensures.asked c.next.ensures.chosen c.next.ensures.follows),
+      c.push_aired.ensures.places ∙ ap (λ (n : ℕ). n + 1) c.loop-slot.invariant.1,
+      omega (arith, c.loop-slot.invariant.2, c.push_aired.ensures.room),
+      omega (arith, c.loop-slot-test.true),
     )
 
 pub returns-clause-aired : goal.returns-clause-aired

@@ -1,4 +1,5 @@
-use Rattle.std.proofs.Common.{◌==◌, ◌%◌, Some, None, if◌then◌else◌, ap, sym, subst, ◌∙◌, ℕ, Option, ◌≡◌, ◌+◌, arith, map}
+use Rattle.std.proofs.Common.{◌==◌, ◌%◌, Some, None, if◌then◌else◌, ap, sym, subst}
+use Rattle.std.proofs.Common.{◌∙◌, ℕ, Option, ◌≡◌, ◌+◌, arith, map}
 use Rattle.scheduler.specs.declared.turn.Ahead.{Ahead}
 use Rattle.scheduler.specs.PlanSteps.{IsChoice, after_slot}
 use Rattle.scheduler.specs.QueueSteps.{no_turn, seen, seen_in}
@@ -89,7 +90,8 @@ returns-clause-kept c =
     blank c.requires.kept c.requires.rising c.requires.awake (returns-clause-chosen c) c.place_of-place.ensures in
     record {
       right = rw (c.change.ensures.kept, c.aired.ensures) (right_after_used c.args.slot c.args.nodes.now
-          (c.in_ok-entry.entry, c.next_page.result) c.place_of-place.result blank c.requires.kept c.requires.awake used);
+          (c.in_ok-entry.entry, c.next_page.result) c.place_of-place.result
+          blank c.requires.kept c.requires.awake used);
       turns = rw (c.change.ensures.kept, c.aired.ensures) (turns_aired c.args.nodes.now c.place_of-place.result
           used.within c.requires.kept.turns);
       tree = c.change.ensures.tree;
