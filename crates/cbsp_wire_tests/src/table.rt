@@ -73,14 +73,20 @@ fn outcome(alloc: Global, drought: &mut Drought, row: Row) -> Result<String, Fai
     Err(Fail::new("it is refused to the end"))
 }
 
+/// Expects what a row says.
+fn expect_row(rt: &impl Abort, alloc: Global, drought: &mut Drought, row: Row) -> Result<(), Fail> {
+    let found = outcome(alloc, drought, row)?;
+    assert_eq!(rt; found.as_str(), row.wanted, "{}", row.action);
+    Ok(())
+}
+
 /// Expects what the lines of a table say, which are as many.
 pub fn expect_rows(rt: &impl Abort, alloc: Global, table: &str, count: u16) -> Result<(), Fail> {
     let mut drought = Drought::new(alloc)?;
     let mut rows = 0_u16;
     for line in table.split('\n') {
         if let Some(row) = Row::of(line) {
-            let found = outcome(alloc, &mut drought, row)?;
-            assert_eq!(rt; found.as_str(), row.wanted, "{line}");
+            expect_row(rt, alloc, &mut drought, row)?;
             rows = rows.saturating_add(1);
         }
     }
