@@ -148,7 +148,9 @@ fn octets_made(
     words: &mut Words<'_>,
 ) -> Result<Result<Vec<u8>, WireFault>, Fail> {
     let message = message_of(alloc, words)?;
-    Ok(written_in(alloc, drought, &message))
+    let written = written_in(alloc, drought, &message);
+    drop(message);
+    Ok(written)
 }
 
 /// `make MESSAGE`: how many octets are written, and how they are read; or why none are. Memory can be scarce for the
@@ -170,7 +172,9 @@ fn octets_of_words(
     words: &mut Words<'_>,
 ) -> Result<Result<Vec<u8>, WireFault>, Fail> {
     let message = message_of(alloc, words)?;
-    Ok(write(alloc, &message))
+    let written = write(alloc, &message);
+    drop(message);
+    Ok(written)
 }
 
 /// The octets that are written of what others are read as, if any are. Memory can be scarce for the reader.
@@ -180,7 +184,9 @@ fn remade(
     octets: &[u8],
 ) -> Result<Option<Vec<u8>>, WireFault> {
     let message = read_in(alloc, drought, octets)?;
-    Ok(write(alloc, &message).ok())
+    let written = write(alloc, &message);
+    drop(message);
+    Ok(written.ok())
 }
 
 /// Whether the same octets are written again.

@@ -8,7 +8,10 @@ use test_support::{Malformed, digits_of};
 
 /// The octets to which what others mean is written back.
 pub fn written_back(alloc: Global, octets: &[u8]) -> Result<Vec<u8>, WireFault> {
-    write(alloc, &read(alloc, octets)?)
+    let message = read(alloc, octets)?;
+    let written = write(alloc, &message);
+    drop(message);
+    written
 }
 
 /// What a fault is called.

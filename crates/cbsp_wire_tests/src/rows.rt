@@ -265,7 +265,9 @@ fn put_read(
     row: &mut String,
 ) -> Result<Result<(), AllocError>, WireFault> {
     let message = read(alloc, octets)?;
-    Ok(put_message(row, &message))
+    let put = put_message(row, &message);
+    drop(message);
+    Ok(put)
 }
 
 /// What octets say, and the octets that are written of it.
@@ -344,7 +346,9 @@ fn meant(
     row: &mut String,
 ) -> Result<Result<(), AllocError>, WireFault> {
     let message = read_in(alloc, drought, octets)?;
-    Ok(put_message(row, &message))
+    let put = put_message(row, &message);
+    drop(message);
+    Ok(put)
 }
 
 /// `means OCTETS`: what they say, or why they are refused. Memory can be scarce for the reader.
@@ -364,7 +368,9 @@ fn rewritten_in(
     octets: &[u8],
 ) -> Result<Result<Vec<u8>, WireFault>, WireFault> {
     let message = read(alloc, octets)?;
-    Ok(written_in(alloc, drought, &message))
+    let written = written_in(alloc, drought, &message);
+    drop(message);
+    Ok(written)
 }
 
 /// `writes OCTETS`: the octets that are written of what they say. Memory can be scarce for the writer.
