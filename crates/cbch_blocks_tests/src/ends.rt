@@ -11,25 +11,64 @@ use std::process::Abort;
 use std::test::Fail;
 use test_support::take_all;
 
+/// What came of a tape that was written to a writer that fails.
+#[derive(Clone, Copy)]
+struct Attempt {
+    first: Result<(), WriteFailed>,
+    /// The answer to a second write, after a fault.
+    second: Result<(), WriteFailed>,
+    /// Whether the sink has failed.
+    is_failed: bool,
+    /// How many octets the writer took, if they are the front of the tape's.
+    front: Option<usize>,
+}
+
 /// Writes a tape to a writer that takes so many octets a call and fails after so many calls.
-fn expect_front(rt: &impl Abort, alloc: Global, tape: &Tape, per_call: usize, calls: usize) {
+fn attempt_of(alloc: Global, tape: &Tape, per_call: usize, calls: usize) -> Attempt {
     let mut writer = MemoryWriter::new(alloc, per_call, Some(calls));
     let mut sink = Sink::new(&mut writer);
-    let octets = tape.bytes();
-    let out = per_call.saturating_mul(calls).min(octets.len());
-    let answer = tape.write_to(&mut sink);
-    if out == octets.len() {
-        assert_eq!(rt; answer, Ok(()), "{per_call} {calls}");
-        assert!(rt; !sink.failed());
-    } else {
-        let fault = WriteFailed {
-            written: out as u64,
-        };
-        assert_eq!(rt; answer, Err(fault), "{per_call} {calls}");
-        assert_eq!(rt; tape.write_to(&mut sink), Err(WriteFailed { written: 0 }));
-        assert!(rt; sink.failed());
+    let first = tape.write_to(&mut sink);
+    let second = match first {
+        Ok(()) => Ok(()),
+        Err(_) => tape.write_to(&mut sink),
+    };
+    let is_failed = sink.failed();
+    let taken = writer.contents();
+    let is_front = tape.bytes().starts_with(taken);
+    Attempt {
+        first,
+        second,
+        is_failed,
+        front: if is_front { Some(taken.len()) } else { None },
     }
-    assert_eq!(rt; writer.contents(), &octets[..out], "{per_call} {calls}");
+}
+
+/// Whether an answer is that so many octets were written before the fault.
+fn is_fault(answer: Result<(), WriteFailed>, written: usize) -> bool {
+    match answer {
+        Ok(()) => false,
+        Err(fault) => fault.written == written as u64,
+    }
+}
+
+/// Whether an attempt is one at which the writer took so many of the octets, and the sink said so.
+fn is_right(attempt: Attempt, taken: usize, octets: usize) -> bool {
+    if attempt.front != Some(taken) {
+        return false;
+    }
+    if taken == octets {
+        attempt.first.is_ok() && !attempt.is_failed
+    } else {
+        is_fault(attempt.first, taken) && is_fault(attempt.second, 0) && attempt.is_failed
+    }
+}
+
+/// Expects that a writer which takes so many octets a call and fails after so many calls has the tape's front.
+fn expect_front(rt: &impl Abort, alloc: Global, tape: &Tape, per_call: usize, calls: usize) {
+    let octets = tape.bytes().len();
+    let taken = per_call.saturating_mul(calls).min(octets);
+    let attempt = attempt_of(alloc, tape, per_call, calls);
+    assert!(rt; is_right(attempt, taken, octets), "{per_call} {calls}");
 }
 
 #[test]

@@ -2,8 +2,10 @@
 
 use crate::blocks::{BLOCKS, NOTHING};
 use crate::records::{one_write, silent, tape_from, two_writes};
+use cbch_blocks::Tape;
 use cbsp_wire::Cell;
 use std::alloc::{AllocError, Global};
+use std::process::Abort;
 use std::test::Fail;
 
 /// Octets of a header and blocks, one after another.
@@ -26,6 +28,12 @@ fn blocks_of(front: &[u8; 6], octet: u8) -> [[u8; 23]; 4] {
     blocks
 }
 
+/// Expects that a tape has these octets, which are so many.
+fn expect_octets(rt: &impl Abort, tape: &Tape, length: usize, wanted: &[u8]) {
+    assert_eq!(rt; tape.bytes().len(), length);
+    assert!(rt; tape.bytes() == wanted);
+}
+
 #[test]
 fn a_page_in_every_second_slot(rt: HostRuntime) -> Result<(), Fail> {
     let tape = tape_from(rt.alloc(), one_write(&rt, rt.alloc())?)?;
@@ -33,8 +41,7 @@ fn a_page_in_every_second_slot(rt: HostRuntime) -> Result<(), Fail> {
     for _ in 0..4 {
         wanted.extend_from_slice(&NOTHING)?;
     }
-    assert_eq!(rt; tape.bytes().len(), 192);
-    assert_eq!(rt; tape.bytes(), wanted.as_slice());
+    expect_octets(&rt, &tape, 192, &wanted);
     Ok(())
 }
 
@@ -44,8 +51,7 @@ fn cells_that_air_nothing(rt: HostRuntime) -> Result<(), Fail> {
         let tape = tape_from(rt.alloc(), silent(rt.alloc(), Cell { lac: 1, ci }, 3)?)?;
         let header = [0, 1, 0, ci as u8, 0, 0, 0, 3];
         let wanted = joined(rt.alloc(), &header, [NOTHING; 12].as_slice())?;
-        assert_eq!(rt; tape.bytes().len(), 284);
-        assert_eq!(rt; tape.bytes(), wanted.as_slice());
+        expect_octets(&rt, &tape, 284, &wanted);
     }
     Ok(())
 }
@@ -62,14 +68,14 @@ fn pages_of_two_messages_in_turn(rt: HostRuntime) -> Result<(), Fail> {
             wanted.extend_from_slice(block)?;
         }
     }
-    assert_eq!(rt; tape.bytes(), wanted.as_slice());
+    expect_octets(&rt, &tape, 376, &wanted);
     Ok(())
 }
 
 #[test]
 fn a_run_of_no_slots_is_a_header(rt: HostRuntime) -> Result<(), Fail> {
     let tape = tape_from(rt.alloc(), silent(rt.alloc(), Cell { lac: 1, ci: 1 }, 0)?)?;
-    assert_eq!(rt; tape.bytes(), [0, 1, 0, 1, 0, 0, 0, 0].as_slice());
+    expect_octets(&rt, &tape, 8, [0, 1, 0, 1, 0, 0, 0, 0].as_slice());
     Ok(())
 }
 
