@@ -146,6 +146,53 @@ fn plays_told(alloc: Global, passes: &[Pass], verb: &str) -> Result<String, Allo
     format!(in alloc; "1-1:{one}; 1-2:{two}")
 }
 
+/// What workers streamed: which slots they play in each cell, if the tapes are those of the settled desk.
+fn stream_told<T: AllocGlobal + Abort>(
+    rt: &T,
+    desk: Desk,
+    pass: Pass,
+    made: (Vec<Tape>, Vec<Pass>),
+    verb: &str,
+) -> Result<String, Fail> {
+    let (tapes, passes) = made;
+    let told = plays_told(rt.alloc(), &passes, verb);
+    expect_settled(rt, desk, pass, passes, &tapes)?;
+    Ok(told?)
+}
+
+/// Why a stream was refused, after which the desk gives its tapes.
+fn fault_told<T: AllocGlobal + Threads + Wait + Abort + Sync>(
+    rt: &T,
+    desk: &Desk,
+    fault: CompileFault,
+) -> Result<String, Fail> {
+    expect_whole(rt, desk)?;
+    Ok(format!(in rt.alloc(); "{fault:?}")?)
+}
+
+/// Has workers stream a desk of so many slots that was ordered, once its second cell was played up to a slot.
+fn streamed_by<T: AllocGlobal + Threads + Wait + Abort + Sync>(
+    rt: &T,
+    stage: &mut Stage,
+    workers: u64,
+    run: (u16, u16),
+    verb: &str,
+) -> Result<String, Fail> {
+    let (desk, pass) = ordered(rt, run.0, run.1)?;
+    match stream(rt, stage, &desk, workers) {
+        Ok(made) => {
+            assert_eq!(rt; made.1.len() as u64, workers);
+            stream_told(rt, desk, pass, made, verb)
+        }
+        Err(fault) => {
+            let told = fault_told(rt, &desk, fault);
+            drop(desk);
+            drop(pass);
+            told
+        }
+    }
+}
+
 /// Has workers stream a desk that was ordered. Returns which slots they play in each cell, or their fault, after which
 /// the desk gives its tapes; after `whole` how many times they play.
 pub fn streamed<T: AllocGlobal + Threads + Wait + Abort + Sync>(
@@ -155,23 +202,8 @@ pub fn streamed<T: AllocGlobal + Threads + Wait + Abort + Sync>(
     words: &mut Words,
 ) -> Result<String, Fail> {
     let workers = words.number()?;
-    let (slots, clock) = (words.number16()?, words.number16()?);
-    let (desk, pass) = ordered(rt, slots, clock)?;
-    match stream(rt, stage, &desk, workers) {
-        Ok((tapes, passes)) => {
-            assert_eq!(rt; passes.len() as u64, workers);
-            let told = plays_told(rt.alloc(), &passes, verb);
-            expect_settled(rt, desk, pass, passes, &tapes)?;
-            Ok(told?)
-        }
-        Err(fault) => {
-            let whole = expect_whole(rt, &desk);
-            drop(desk);
-            drop(pass);
-            whole?;
-            Ok(format!(in rt.alloc(); "{fault:?}")?)
-        }
-    }
+    let run = (words.number16()?, words.number16()?);
+    streamed_by(rt, stage, workers, run, verb)
 }
 
 /// Has workers stream a desk of so many cells in which nothing was ordered.

@@ -31,6 +31,7 @@ use crate::gate::{Crossing, Manner};
 use crate::streams::*;
 use crate::tapes::*;
 use std::alloc::Global;
+use std::mem;
 use std::process::Abort;
 use std::sync::Wait;
 use std::test::Fail;
@@ -51,6 +52,13 @@ impl Stage {
             drought: Drought::new(alloc)?,
             gate: Crossing::new(alloc, Manner::Pass)?,
         })
+    }
+
+    /// Has a new gate.
+    fn set_gate(&mut self, alloc: Global, manner: Manner) -> Result<(), Fail> {
+        let gate = Crossing::new(alloc, manner)?;
+        drop(mem::replace(&mut self.gate, gate));
+        Ok(())
     }
 
     /// Right before the call.
@@ -98,7 +106,7 @@ fn attempt<T: AllocGlobal + Threads + Wait + Abort + Sync>(
     if manner != Manner::Pass {
         verb = words.word();
     }
-    stage.gate = Crossing::new(rt.alloc(), manner)?;
+    stage.set_gate(rt.alloc(), manner)?;
     let mut found = carried_out(rt, stage, verb, &mut words)?;
     found.push_str(&stage.gate.told(rt.alloc())?)?;
     assert_eq!(rt; words.word(), "", "words are left: {action}");
