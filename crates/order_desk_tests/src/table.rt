@@ -57,7 +57,7 @@ fn carried_out<T: AllocGlobal + Wait>(
 }
 
 /// What comes of a step. If it begins with `scarce`, it has so many blocks of memory.
-fn step_done<T: AllocGlobal + Wait + Abort>(
+fn step_done<T: AllocGlobal + Wait>(
     rt: &T,
     run: &mut Run,
     step: &str,
@@ -66,12 +66,14 @@ fn step_done<T: AllocGlobal + Wait + Abort>(
     let mut words = Words::of(step);
     let verb = run.drought.verb(&mut words, blocks);
     let found = carried_out(rt, run, verb, &mut words)?;
-    assert_eq!(rt; words.word(), "", "words are left: {step}");
-    Ok(found)
+    if words.word().is_empty() {
+        return Ok(found);
+    }
+    Err(Fail::new("words are left over"))
 }
 
 /// Carries out the steps of a row, which `;` parts, and returns what comes of the last one.
-fn steps_done<T: AllocGlobal + Wait + Abort>(
+fn steps_done<T: AllocGlobal + Wait>(
     rt: &T,
     run: &mut Run,
     steps: &str,
@@ -85,11 +87,7 @@ fn steps_done<T: AllocGlobal + Wait + Abort>(
 }
 
 /// What comes of a row. If memory is refused, the row is carried out again, with one block more each time.
-fn outcome<T: AllocGlobal + Wait + Abort>(
-    rt: &T,
-    run: &mut Run,
-    steps: &str,
-) -> Result<String, Fail> {
+fn outcome<T: AllocGlobal + Wait>(rt: &T, run: &mut Run, steps: &str) -> Result<String, Fail> {
     for refused in 0..Drought::MOST {
         let found = steps_done(rt, run, steps, refused)?;
         if !is_refused(&found) {
