@@ -109,8 +109,10 @@ fn attempt<T: AllocGlobal + Threads + Wait + Abort + Sync>(
     stage.set_gate(rt.alloc(), manner)?;
     let mut found = carried_out(rt, stage, verb, &mut words)?;
     found.push_str(&stage.gate.told(rt.alloc())?)?;
-    assert_eq!(rt; words.word(), "", "words are left: {action}");
-    Ok(found)
+    if words.word().is_empty() {
+        return Ok(found);
+    }
+    Err(Fail::new("words are left over"))
 }
 
 /// What comes of an action. If it is scarce, it is carried out again until memory isn't refused.
