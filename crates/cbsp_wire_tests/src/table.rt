@@ -60,6 +60,14 @@ fn carried_out(
     }
 }
 
+/// Whether a text is what a row wants after a refusal.
+fn is_wanted(row: Row, found: &str) -> bool {
+    match row.wanted.strip_prefix("refused; ") {
+        Some(wanted) => wanted == found,
+        None => false,
+    }
+}
+
 /// What comes of a row. If memory is refused, the action has all memory, and then one block more than before.
 fn outcome(alloc: Global, drought: &mut Drought, row: Row) -> Result<String, Fail> {
     let ample = row.action.strip_prefix("scarce ").unwrap_or(row.action);
@@ -69,7 +77,7 @@ fn outcome(alloc: Global, drought: &mut Drought, row: Row) -> Result<String, Fai
             return after_refusals(alloc, refused, found);
         }
         let again = carried_out(alloc, drought, ample, 0)?;
-        if row.wanted.strip_prefix("refused; ") != Some(again.as_str()) {
+        if !is_wanted(row, &again) {
             return Ok(format!(in alloc; "refused, and then {again}")?);
         }
     }

@@ -22,6 +22,7 @@ fn octets_are_appended_where_there_is_room(rt: HostRuntime) -> Result<(), Fail> 
         channel: None,
     };
     write_in(&message, &mut out);
+    drop(message);
     let expected = [
         0xFF, 0x02, 0x00, 0x00, 0x06, 0x0E, 0x11, 0x12, 0x03, 0x00, 0x10,
     ];

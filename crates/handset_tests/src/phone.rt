@@ -350,6 +350,14 @@ impl Phone {
     }
 }
 
+/// Whether a text is what a row wants after a refusal.
+fn is_wanted(row: Row, found: &str) -> bool {
+    match row.wanted.strip_prefix("refused; ") {
+        Some(wanted) => wanted == found,
+        None => false,
+    }
+}
+
 /// What comes of a row of scarce memory: it is carried out with one block more each time, until nothing is refused.
 fn outcome(alloc: Global, phone: &mut Phone, row: Row) -> Result<String, Fail> {
     for refused in 0..Drought::MOST {
@@ -357,7 +365,7 @@ fn outcome(alloc: Global, phone: &mut Phone, row: Row) -> Result<String, Fail> {
         if !phone.is_refused {
             return after_refusals(alloc, refused, found);
         }
-        if row.wanted.strip_prefix("refused; ") != Some(found.as_str()) {
+        if !is_wanted(row, &found) {
             return Ok(format!(in alloc; "refused, and then {found}")?);
         }
     }
@@ -371,6 +379,14 @@ enum Memory {
     Scarce,
 }
 
+/// What comes of a row.
+fn found_of(alloc: Global, phone: &mut Phone, row: Row, memory: Memory) -> Result<String, Fail> {
+    match memory {
+        Memory::Ample => phone.carry_out(row.action, 0),
+        Memory::Scarce => outcome(alloc, phone, row),
+    }
+}
+
 /// Expects what a row says.
 fn expect_row(
     rt: &impl Abort,
@@ -379,10 +395,7 @@ fn expect_row(
     row: Row,
     memory: Memory,
 ) -> Result<(), Fail> {
-    let found = match memory {
-        Memory::Ample => phone.carry_out(row.action, 0)?,
-        Memory::Scarce => outcome(alloc, phone, row)?,
-    };
+    let found = found_of(alloc, phone, row, memory)?;
     assert_eq!(rt; found.as_str(), row.wanted, "{}", row.action);
     Ok(())
 }

@@ -468,6 +468,14 @@ fn done(
     }
 }
 
+/// Whether a text is what a row wants after a refusal.
+fn is_wanted(row: Row, found: &str) -> bool {
+    match row.wanted.strip_prefix("refused; ") {
+        Some(wanted) => wanted == found,
+        None => false,
+    }
+}
+
 /// What comes of a row. If memory is refused, the action has all memory, and then one block more than before.
 fn outcome(
     alloc: Global,
@@ -482,7 +490,7 @@ fn outcome(
             return after_refusals(alloc, refused, found);
         }
         let again = carried_out(alloc, drought, octets, ample, 0)?;
-        if row.wanted.strip_prefix("refused; ") != Some(again.as_str()) {
+        if !is_wanted(row, &again) {
             return Ok(format!(in alloc; "refused, and then {again}")?);
         }
     }
