@@ -72,18 +72,41 @@ fn new_passes(alloc: Global, desk: &Desk) -> Result<Vec<Pass>, Fail> {
     Ok(passes)
 }
 
+/// What a run has beside its book and its desk.
+fn parts_of(alloc: Global, desk: &Desk) -> Result<(Vec<Pass>, Drought), Fail> {
+    let passes = new_passes(alloc, desk)?;
+    Ok((passes, Drought::new(alloc)?))
+}
+
+/// A run of a book at a desk of its cells.
+fn run_at(alloc: Global, book: Book, desk: Desk, parts: u16) -> Result<Run, Fail>
+    requires { desk.cells ≡ book.cells }
+{
+    match parts_of(alloc, &desk) {
+        Ok((passes, drought)) => Ok(Run {
+            book,
+            desk,
+            passes,
+            parts,
+            drought,
+        }),
+        Err(fail) => {
+            drop(desk);
+            drop(book);
+            Err(fail)
+        }
+    }
+}
+
 /// A run of a book.
 fn run_of(alloc: Global, book: Book, slots: u16, parts: u16) -> Result<Run, Fail> {
-    let drought = Drought::new(alloc)?;
-    let desk = opened(alloc, &book, slots)?;
-    let passes = new_passes(alloc, &desk)?;
-    Ok(Run {
-        book,
-        desk,
-        passes,
-        parts,
-        drought,
-    })
+    match opened(alloc, &book, slots) {
+        Ok(desk) => run_at(alloc, book, desk, parts),
+        Err(fail) => {
+            drop(book);
+            Err(fail)
+        }
+    }
 }
 
 /// A run. The words: the book, how many slots its desk has, and its parts.
@@ -189,8 +212,23 @@ fn checked_text(alloc: Global, run: &mut Run, words: &mut Words) -> Result<Strin
             alloc,
             &checked(alloc, &run.book, run.parts, desk, passes, &mut run.drought)?,
         ),
-        None => Err(Fail::new("there are three passes")),
+        None => {
+            drop(desk);
+            Err(Fail::new("there are three passes"))
+        }
     }
+}
+
+/// Begins another run in the place of this one, with its scarce memory. The words: those of a run.
+fn begin<T: AllocGlobal + Threads + Sync>(
+    rt: &T,
+    run: &mut Run,
+    words: &mut Words,
+) -> Result<String, Fail> {
+    let mut begun = begun(rt, words)?;
+    mem::swap(&mut begun.drought, &mut run.drought);
+    drop(mem::replace(run, begun));
+    Ok(String::new(rt.alloc()))
 }
 
 /// What comes of an action.
@@ -201,12 +239,7 @@ fn carried_out<T: AllocGlobal + Threads + Wait + Sync>(
     words: &mut Words,
 ) -> Result<String, Fail> {
     match verb {
-        "book" => {
-            let mut begun = begun(rt, words)?;
-            mem::swap(&mut begun.drought, &mut run.drought);
-            *run = begun;
-            Ok(String::new(rt.alloc()))
-        }
+        "book" => begin(rt, run, words),
         "p" => with_pass(rt, run, 0, words),
         "q" => with_pass(rt, run, 1, words),
         "r" => with_pass(rt, run, 2, words),
@@ -215,9 +248,24 @@ fn carried_out<T: AllocGlobal + Threads + Wait + Sync>(
     }
 }
 
-/// Carries out the steps of a row, which `;` parts, and returns what comes of the last one. A step that begins with
-/// `scarce` has so many blocks of memory.
-fn steps_done<T: AllocGlobal + Threads + Wait + Abort + Sync>(
+/// What comes of a step. If it begins with `scarce`, it has so many blocks of memory.
+fn step_done<T: AllocGlobal + Threads + Wait + Sync>(
+    rt: &T,
+    run: &mut Run,
+    step: &str,
+    blocks: u16,
+) -> Result<String, Fail> {
+    let mut words = Words::of(step);
+    let verb = run.drought.verb(&mut words, blocks);
+    let found = carried_out(rt, run, verb, &mut words)?;
+    if words.word().is_empty() {
+        return Ok(found);
+    }
+    Err(Fail::new("words are left over"))
+}
+
+/// Carries out the steps of a row, which `;` parts, and returns what comes of the last one.
+fn steps_done<T: AllocGlobal + Threads + Wait + Sync>(
     rt: &T,
     run: &mut Run,
     steps: &str,
@@ -225,16 +273,13 @@ fn steps_done<T: AllocGlobal + Threads + Wait + Abort + Sync>(
 ) -> Result<String, Fail> {
     let mut found = String::new(rt.alloc());
     for step in steps.split(';') {
-        let mut words = Words::of(step);
-        let verb = run.drought.verb(&mut words, blocks);
-        found = carried_out(rt, run, verb, &mut words)?;
-        assert_eq!(rt; words.word(), "", "words are left: {steps}");
+        found = step_done(rt, run, step, blocks)?;
     }
     Ok(found)
 }
 
 /// What comes of a row. If memory is refused, the row is carried out again, with one block more each time.
-fn outcome<T: AllocGlobal + Threads + Wait + Abort + Sync>(
+fn outcome<T: AllocGlobal + Threads + Wait + Sync>(
     rt: &T,
     run: &mut Run,
     steps: &str,
@@ -248,6 +293,17 @@ fn outcome<T: AllocGlobal + Threads + Wait + Abort + Sync>(
     Err(Fail::new("it is refused to the end"))
 }
 
+/// Expects what a row says.
+fn expect_row<T: AllocGlobal + Threads + Wait + Abort + Sync>(
+    rt: &T,
+    run: &mut Run,
+    row: Row,
+) -> Result<(), Fail> {
+    let found = outcome(rt, run, row.action)?;
+    assert_eq!(rt; found.as_str(), row.wanted, "{}", row.action);
+    Ok(())
+}
+
 /// Expects what the rows of a table say, and that there are some.
 fn expect_each<T: AllocGlobal + Threads + Wait + Abort + Sync>(
     rt: &T,
@@ -257,8 +313,7 @@ fn expect_each<T: AllocGlobal + Threads + Wait + Abort + Sync>(
     let mut rows = 0_u64;
     for line in table.split('\n') {
         if let Some(row) = Row::of(line) {
-            let found = outcome(rt, run, row.action)?;
-            assert_eq!(rt; found.as_str(), row.wanted, "{line}");
+            expect_row(rt, run, row)?;
             rows = rows.saturating_add(1);
         }
     }
@@ -272,5 +327,7 @@ pub fn expect_rows<T: AllocGlobal + Threads + Wait + Abort + Sync>(
     table: &str,
 ) -> Result<(), Fail> {
     let mut run = begun(rt, &mut Words::of("apart 2 2"))?;
-    expect_each(rt, &mut run, table)
+    let result = expect_each(rt, &mut run, table);
+    drop(run);
+    result
 }

@@ -109,7 +109,9 @@ pub fn served<T: AllocGlobal + Wait>(
         return Err(Fail::new("there is no such part"));
     }
     let mut session = Session::new(rt.alloc(), book, part, parts)?;
-    serve(rt, &mut session, desk, pass, late)
+    let messages = serve(rt, &mut session, desk, pass, late);
+    drop(session);
+    messages
 }
 
 /// The records of a desk that is settled with passes.
@@ -158,6 +160,7 @@ pub fn checked(
     requires { desk.cells ≡ book.now.cells }
 {
     if passes.len() < usize::from(parts) {
+        drop(desk);
         return Err(Fail::new("there are too few passes"));
     }
     let records = settled(alloc, desk, passes)?;
