@@ -1,12 +1,15 @@
 #!/usr/bin/env python3
 """Proves crates from nothing, with one job, and prints the functions and tests whose check took longest.
 
-A crate is proved in a copy, so its out/ stays as it is and nothing is left behind. The first function of a crate has the reading
-of the libraries in it, and is printed apart. The seconds are those of a clock: nothing else should run on that processor.
+A crate is proved in a copy, so its out/ stays as it is and nothing is left behind. `rt` says when a function is proved, which isn't
+where the time went: a part of its check may come long before, among those of its callees. So the times are those between the files of
+checked modules that the check leaves, each of which names its function. What passes before the first file is the reading of the
+libraries. The seconds are those of a clock: nothing else should run on that processor.
 
 Usage: slow_functions.py [--most N] [--test] CRATE..     with --test the crate's tests are proved too
 """
 import argparse
+import collections
 import os
 import re
 import shutil
@@ -16,7 +19,7 @@ import tempfile
 import time
 
 TOP = os.path.dirname(os.path.dirname(os.path.realpath(__file__)))
-CHECKED = re.compile(r"checked (\S+), \d+ of \d+")
+MODULE = re.compile(r"Rattle-\w+-(?:proofs|specs)\.(?:contracts\.|declared\.)?(.+)\.[^.]+")
 
 
 def copy_of(crate, room):
@@ -41,18 +44,31 @@ def begin_from_nothing(folder):
         text.write(f"// measured at {time.time()}\n")
 
 
+def checked_at(folder):
+    """Returns when each file of a checked module was written, and the function, or the type, that it belongs to."""
+    found = []
+    for place, _, files in os.walk(os.path.join(folder, "out", "incremental")):
+        for file in files:
+            named = MODULE.fullmatch(file.removesuffix(".oantt").removesuffix(".decls"))
+            found.append((os.stat(os.path.join(place, file)).st_mtime, named[1] if named else "other modules"))
+    return sorted(found)
+
+
 def times_of(crate, words):
-    """Returns the seconds of each function of a crate in the order in which they were checked, and whether it is proved."""
+    """Returns the seconds of each function of a crate, those before the first one, and whether the crate is proved."""
     with tempfile.TemporaryDirectory(prefix="slow-functions-") as room:
         folder = copy_of(crate, room)
-        command, found, since = ["rt", "check", "--jobs", "1", *words], [], time.monotonic()
-        with subprocess.Popen(command, cwd=folder, stdout=subprocess.PIPE, stderr=subprocess.STDOUT, text=True) as run:
-            for line in run.stdout:
-                now, named = time.monotonic(), CHECKED.search(line)
-                if named:
-                    found.append((now - since, named[1]))
-                    since = now
-        return found, run.returncode == 0
+        began, found = time.time(), collections.Counter()
+        with open(os.path.join(room, "log"), "w", encoding="utf-8") as log:
+            run = subprocess.run(["rt", "check", "--jobs", "1", *words], cwd=folder, stdout=log, stderr=log, check=False)
+        last = before = 0
+        for at, name in checked_at(folder):
+            if last:
+                found[name] += at - last
+            else:
+                before = at - began
+            last = at
+        return found, before, run.returncode == 0
 
 
 def main():
@@ -62,12 +78,11 @@ def main():
     parser.add_argument("crates", nargs="+", metavar="CRATE")
     given, all_proved = parser.parse_args(), True
     for crate in given.crates:
-        found, proved = times_of(crate, ["--test"] * given.test)
+        found, before, proved = times_of(crate, ["--test"] * given.test)
         all_proved &= proved
-        print(f"{crate}: {sum(it for it, _ in found):.1f} s, {len(found)} functions{'' if proved else ', NOT PROVED'}")
-        for seconds, name in found[:1]:
-            print(f"{seconds:8.1f}  {name} (first)")
-        for seconds, name in sorted(found[1:], reverse=True)[: given.most]:
+        print(f"{crate}: {sum(found.values()) + before:.1f} s, {len(found)} functions and types{'' if proved else ', NOT PROVED'}")
+        print(f"{before:8.1f}  before the first")
+        for name, seconds in found.most_common(given.most):
             print(f"{seconds:8.1f}  {name}", flush=True)
     return 0 if all_proved else 1
 

@@ -4,7 +4,8 @@ use crate::told::cell_of;
 use bsc_table::{Category, Command, Refused, orders_of};
 use cbs_page::{Content, Dcs, Serial};
 use cbsp_wire::{Cell, Cells, Contents, Counts, Message};
-use std::alloc::Global;
+use std::alloc::{AllocError, Global};
+use std::fmt::Write;
 use std::process::Abort;
 use std::test::Fail;
 use test_support::{Drought, Row, Words};
@@ -58,8 +59,12 @@ fn element(words: &mut Words<'_>) -> Result<Option<u8>, Fail> {
 }
 
 /// A message to write two pages.
-fn write(alloc: Global, channel: Option<u8>, category: Option<u8>) -> Result<Message, Fail> {
-    let pages = Vec::from_slice(alloc, [PAGE, PAGE].as_slice())?;
+fn message_to_write(
+    alloc: Global,
+    channel: Option<u8>,
+    category: Option<u8>,
+) -> Result<Message, Fail> {
+    let contents = Contents::new(Vec::from_slice(alloc, [PAGE, PAGE].as_slice())?)?;
     Ok(Message::Write {
         id: 4370,
         new_serial: Serial::of(0x0011),
@@ -70,12 +75,12 @@ fn write(alloc: Global, channel: Option<u8>, category: Option<u8>) -> Result<Mes
         period: 7,
         broadcasts: 5,
         dcs: Dcs(0x01),
-        contents: Contents::new(pages)?,
+        contents,
     })
 }
 
 /// A message to kill.
-fn kill(alloc: Global, channel: Option<u8>) -> Result<Message, Fail> {
+fn message_to_kill(alloc: Global, channel: Option<u8>) -> Result<Message, Fail> {
     Ok(Message::Kill {
         id: 4370,
         old_serial: Serial::of(0x0010),
@@ -85,7 +90,7 @@ fn kill(alloc: Global, channel: Option<u8>) -> Result<Message, Fail> {
 }
 
 /// The reply to it.
-fn killed(alloc: Global, channel: Option<u8>) -> Result<Message, Fail> {
+fn reply_to_kill(alloc: Global, channel: Option<u8>) -> Result<Message, Fail> {
     Ok(Message::KillDone {
         id: 4370,
         old_serial: Serial::of(0x0010),
@@ -123,8 +128,28 @@ fn replaced(serial: Option<Serial>) -> u16 {
     }
 }
 
+/// What a command does, and to which message.
+fn named(alloc: Global, verb: &str, id: u16, serial: Serial) -> Result<String, AllocError> {
+    format!(in alloc; "{verb} {id} {:04X}", serial.number())
+}
+
+/// Puts the serial number of the message that a write replaces.
+fn put_old(told: &mut String, replaces: Option<Serial>) -> Result<(), AllocError> {
+    write!(told, " for {:04X}", replaced(replaces))
+}
+
+/// Puts how often a write asks for a broadcast.
+fn put_pace(told: &mut String, period: u16, broadcasts: u16) -> Result<(), AllocError> {
+    write!(told, " every {period} times {broadcasts}")
+}
+
+/// Puts the pages of a write.
+fn put_pages(told: &mut String, dcs: Dcs, contents: &Contents) -> Result<(), AllocError> {
+    write!(told, " dcs {:02X} {}", dcs.0, pages_told(contents))
+}
+
 /// What a command asks for.
-fn command_told(alloc: Global, command: &Command) -> Result<String, Fail> {
+fn command_told(alloc: Global, command: &Command) -> Result<String, AllocError> {
     match command {
         Command::Write {
             id,
@@ -136,19 +161,16 @@ fn command_told(alloc: Global, command: &Command) -> Result<String, Fail> {
             dcs,
             contents,
         } => {
-            let (serial, old) = (serial.number(), replaced(*replaces));
-            let category = name_of(*category);
-            let pages = pages_told(contents);
-            let of = format!(in alloc; "write {id} {serial:04X} for {old:04X} {category}")?;
-            let when = format!(in alloc; "every {period} times {broadcasts}")?;
-            Ok(format!(in alloc; "{of} {when} dcs {:02X} {pages}", dcs.0)?)
+            let mut told = named(alloc, "write", *id, *serial)?;
+            put_old(&mut told, *replaces)?;
+            told.push(' ')?;
+            told.push_str(name_of(*category))?;
+            put_pace(&mut told, *period, *broadcasts)?;
+            put_pages(&mut told, *dcs, contents)?;
+            Ok(told)
         }
-        Command::Kill { id, serial } => {
-            Ok(format!(in alloc; "kill {id} {:04X}", serial.number())?)
-        }
-        Command::Status { id, serial } => {
-            Ok(format!(in alloc; "status {id} {:04X}", serial.number())?)
-        }
+        Command::Kill { id, serial } => named(alloc, "kill", *id, *serial),
+        Command::Status { id, serial } => named(alloc, "status", *id, *serial),
     }
 }
 
@@ -162,13 +184,20 @@ fn names_of(alloc: Global, cells: &[Cell]) -> Result<String, Fail> {
     Ok(names)
 }
 
+/// The cells and the command of an order.
+fn order_text(alloc: Global, cells: &[Cell], command: &Command) -> Result<String, Fail> {
+    let mut told = names_of(alloc, cells)?;
+    told.push_str(&command_told(alloc, command)?)?;
+    Ok(told)
+}
+
 /// The cells and the command of a message, or the cause for which it is refused.
 fn order_told(alloc: Global, message: Message) -> Result<String, Fail> {
     match orders_of(message) {
         Ok((cells, command)) => {
-            let mut told = names_of(alloc, &cells)?;
-            told.push_str(&command_told(alloc, &command)?)?;
-            Ok(told)
+            let text = order_text(alloc, &cells, &command);
+            drop(command);
+            text
         }
         Err(cause) => Ok(format!(in alloc; "cause {cause:02X}")?),
     }
@@ -182,16 +211,28 @@ fn copied_in(alloc: Global, drought: &mut Drought, command: &Command) -> Result<
     outcome
 }
 
+/// The cells of an order, and a copy of its command.
+fn copy_text(
+    alloc: Global,
+    drought: &mut Drought,
+    cells: &[Cell],
+    command: &Command,
+) -> Result<Result<String, Fail>, Refused> {
+    let copy = copied_in(alloc, drought, command)?;
+    let text = order_text(alloc, cells, &copy);
+    drop(copy);
+    Ok(text)
+}
+
 /// The cells and the command of a message, by a copy of the command.
 fn copy_told(alloc: Global, drought: &mut Drought, message: Message) -> Result<String, Fail> {
     match orders_of(message) {
         Ok((cells, command)) => {
-            let mut told = names_of(alloc, &cells)?;
-            let command = copied_in(alloc, drought, &command)?;
-            told.push_str(&command_told(alloc, &command)?)?;
-            Ok(told)
+            let text = copy_text(alloc, drought, &cells, &command);
+            drop(command);
+            text?
         }
-        Err(_) => Err(Fail::new("no order")),
+        Err(_cause) => Err(Fail::new("no order")),
     }
 }
 
@@ -207,9 +248,9 @@ fn message_of(alloc: Global, verb: &str, words: &mut Words<'_>) -> Result<Messag
         return Err(Fail::new("words are left over"));
     }
     match verb {
-        "write" => write(alloc, channel, category),
-        "kill" => kill(alloc, channel),
-        "killed" => killed(alloc, channel),
+        "write" => message_to_write(alloc, channel, category),
+        "kill" => message_to_kill(alloc, channel),
+        "killed" => reply_to_kill(alloc, channel),
         _ => Err(Fail::new("no such message")),
     }
 }
@@ -226,18 +267,36 @@ fn told_of(alloc: Global, drought: &mut Drought, action: &str) -> Result<String,
     }
 }
 
-/// Expects what the rows of a table say.
-fn expect_rows(rt: &impl Abort, alloc: Global, table: &str) -> Result<(), Fail> {
-    let mut drought = Drought::new(alloc)?;
-    let mut rows = 0_usize;
+/// Expects what a row says.
+fn expect_row(rt: &impl Abort, alloc: Global, drought: &mut Drought, row: Row) -> Result<(), Fail> {
+    let found = told_of(alloc, drought, row.action)?;
+    assert_eq!(rt; found.as_str(), row.wanted, "{}", row.action);
+    Ok(())
+}
+
+/// Expects what the rows of a table say, and returns how many there are.
+fn expect_each(
+    rt: &impl Abort,
+    alloc: Global,
+    drought: &mut Drought,
+    table: &str,
+) -> Result<u16, Fail> {
+    let mut rows = 0_u16;
     for line in table.split('\n') {
         if let Some(row) = Row::of(line) {
-            let found = told_of(alloc, &mut drought, row.action)?;
-            assert_eq!(rt; found.as_str(), row.wanted, "{line}");
+            expect_row(rt, alloc, drought, row)?;
             rows = rows.saturating_add(1);
         }
     }
-    assert_eq!(rt; rows, 14);
+    Ok(rows)
+}
+
+/// Expects what the rows of a table say.
+fn expect_rows(rt: &impl Abort, alloc: Global, table: &str) -> Result<(), Fail> {
+    let mut drought = Drought::new(alloc)?;
+    let rows = expect_each(rt, alloc, &mut drought, table);
+    drop(drought);
+    assert_eq!(rt; rows?, 14);
     Ok(())
 }
 

@@ -1,8 +1,8 @@
 //! What the orders of messages from outside are. Independent readers of the format agree on each row.
 
 use bsc_table::orders_of;
-use cbsp_wire::read;
-use std::alloc::Global;
+use cbsp_wire::{Cell, Message, WireFault, read};
+use std::alloc::{AllocError, Global};
 use std::process::Abort;
 use std::test::Fail;
 use test_support::octets_of;
@@ -121,21 +121,37 @@ const ORDERS_3: &str = "\
     02aed401000100034480010400110100010001000000020000000300010004 04\n\
     03000021040009010001000100000002038d2909000c0100000001060100000002030e8034 04";
 
+/// The octets of cells, of location area and cell identity.
+fn octets_of_cells(alloc: Global, cells: &[Cell]) -> Result<Vec<u8>, AllocError> {
+    let mut octets = Vec::new(alloc);
+    for cell in cells {
+        octets.extend_from_slice(&cell.lac.to_be_bytes())?;
+        octets.extend_from_slice(&cell.ci.to_be_bytes())?;
+    }
+    Ok(octets)
+}
+
+/// The octets of the cells that a message's order names, or the cause for which it is refused.
+fn order_of(alloc: Global, message: Message) -> Result<Vec<u8>, AllocError> {
+    match orders_of(message) {
+        Ok((cells, command)) => {
+            drop(command);
+            octets_of_cells(alloc, &cells)
+        }
+        Err(cause) => Vec::from_slice(alloc, [cause].as_slice()),
+    }
+}
+
+/// The same of a message's octets.
+fn order_in(alloc: Global, octets: &[u8]) -> Result<Result<Vec<u8>, AllocError>, WireFault> {
+    let message = read(alloc, octets)?;
+    Ok(order_of(alloc, message))
+}
+
 /// Expects what a line says.
 fn expect_order(rt: &impl Abort, alloc: Global, line: &str) -> Result<(), Fail> {
     let (digits, expected) = line.split_once(' ').unwrap_or((line, ""));
-    let octets = octets_of(alloc, digits)?;
-    let mut found = Vec::new(alloc);
-    let order = orders_of(read(alloc, &octets)?);
-    match &order {
-        Ok((cells, _)) => {
-            for cell in cells {
-                found.extend_from_slice(&cell.lac.to_be_bytes())?;
-                found.extend_from_slice(&cell.ci.to_be_bytes())?;
-            }
-        }
-        Err(cause) => found.push(*cause)?,
-    }
+    let found = order_in(alloc, &octets_of(alloc, digits)?)??;
     let wanted = octets_of(alloc, expected)?;
     assert_eq!(rt; found.as_slice(), wanted.as_slice(), "{digits}");
     Ok(())

@@ -203,6 +203,18 @@ fn open_in(
     outcome
 }
 
+/// Begins a run of a cell, where memory can be scarce.
+fn open_scarcely(alloc: Global, run: &mut Run, cell: Cell, slots: u16) -> Result<(), Refused> {
+    run.book = open_in(alloc, &mut run.drought, cell, slots)?;
+    Ok(())
+}
+
+/// Begins a run of a cell, with all memory.
+fn open_amply(alloc: Global, run: &mut Run, cell: Cell, slots: u16) -> Result<(), Refused> {
+    run.book = CellBook::open(alloc, cell, slots)?;
+    Ok(())
+}
+
 /// `cell LAC-CI SLOTS`: what follows is about a new run of this cell.
 fn cell(alloc: Global, run: &mut Run, words: &mut Words<'_>) -> Result<String, Fail> {
     let (lac, ci) = words.word().split_once('-').unwrap_or(("", ""));
@@ -211,11 +223,9 @@ fn cell(alloc: Global, run: &mut Run, words: &mut Words<'_>) -> Result<String, F
         ci: ci.parse::<u16>()?,
     };
     let slots = words.number16()?;
-    if let Ok(book) = open_in(alloc, &mut run.drought, cell, slots) {
-        run.book = book;
-    } else {
+    if open_scarcely(alloc, run, cell, slots).is_err() {
         run.is_refused = true;
-        run.book = CellBook::open(alloc, cell, slots)?;
+        open_amply(alloc, run, cell, slots)?;
     }
     Ok(String::new(alloc))
 }
@@ -310,29 +320,40 @@ fn record_told(alloc: Global, record: &CellRecord) -> Result<String, Fail> {
 fn finish(alloc: Global, book: &mut CellBook) -> Result<String, Fail> {
     let over = mem::replace(book, no_book(alloc)?);
     if over.clock() != over.slots() {
+        drop(over);
         return Err(Fail::new("the run isn't over"));
     }
-    record_told(alloc, &over.finish())
+    let record = over.finish();
+    let told = record_told(alloc, &record);
+    drop(record);
+    told
+}
+
+/// What is seen of a book.
+fn seen(alloc: Global, book: &CellBook, verb: &str, words: &mut Words<'_>) -> Result<String, Fail> {
+    match verb {
+        "book" => book_told(alloc, book),
+        "status" => status(alloc, book, words.hex16()?),
+        "air" => air_of(alloc, book.air()),
+        "aired" => Ok(format!(in alloc; "{} slots", book.air().len())?),
+        "log" => Ok(format!(in alloc; "{} entries", book.log().len())?),
+        "entry" => entry(alloc, book, words.number16()?),
+        _ => Err(Fail::new("no such action")),
+    }
 }
 
 /// What comes of a verb and the words after it.
 fn done(alloc: Global, run: &mut Run, verb: &str, words: &mut Words<'_>) -> Result<String, Fail> {
     match verb {
         "cell" => cell(alloc, run, words),
-        "book" => book_told(alloc, &run.book),
         "write" => write(alloc, run, words),
         "writes" => writes(alloc, run, words),
         "kill" => answer_of(alloc, killed(alloc, run, words.hex16()?)?),
         "ask" => answer_of(alloc, asked(alloc, run, words.hex16()?)?),
         "asks" => asks(alloc, run, words),
-        "status" => status(alloc, &run.book, words.hex16()?),
         "play" => play(alloc, &mut run.book, words.number16()?),
-        "air" => air_of(alloc, run.book.air()),
-        "aired" => Ok(format!(in alloc; "{} slots", run.book.air().len())?),
-        "log" => Ok(format!(in alloc; "{} entries", run.book.log().len())?),
-        "entry" => entry(alloc, &run.book, words.number16()?),
         "finish" => finish(alloc, &mut run.book),
-        _ => Err(Fail::new("no such action")),
+        _ => seen(alloc, &run.book, verb, words),
     }
 }
 
@@ -376,17 +397,30 @@ fn outcome(alloc: Global, run: &mut Run, row: Row<'_>) -> Result<String, Fail> {
     Err(Fail::new("it is refused to the end"))
 }
 
-/// Expects what the rows of a table say.
-pub fn expect_rows(rt: &impl Abort, alloc: Global, table: &str) -> Result<(), Fail> {
-    let mut run = Run::new(alloc)?;
-    let mut rows = 0_usize;
-    for (place, line) in table.split('\n').enumerate() {
+/// Expects what a row says.
+fn expect_row(rt: &impl Abort, alloc: Global, run: &mut Run, row: Row<'_>) -> Result<(), Fail> {
+    let found = outcome(alloc, run, row)?;
+    assert_eq!(rt; found.as_str(), row.wanted, "{}", row.action);
+    Ok(())
+}
+
+/// Expects what the rows of a table say, and returns how many there are.
+fn expect_each(rt: &impl Abort, alloc: Global, run: &mut Run, table: &str) -> Result<u16, Fail> {
+    let mut rows = 0_u16;
+    for line in table.split('\n') {
         if let Some(row) = Row::of(line) {
-            let found = outcome(alloc, &mut run, row)?;
-            assert_eq!(rt; found.as_str(), row.wanted, "line {place}: {}", row.action);
+            expect_row(rt, alloc, run, row)?;
             rows = rows.saturating_add(1);
         }
     }
-    assert!(rt; rows > 0, "a table without a row");
+    Ok(rows)
+}
+
+/// Expects what the rows of a table say.
+pub fn expect_rows(rt: &impl Abort, alloc: Global, table: &str) -> Result<(), Fail> {
+    let mut run = Run::new(alloc)?;
+    let rows = expect_each(rt, alloc, &mut run, table);
+    drop(run);
+    assert!(rt; rows? > 0, "a table without a row");
     Ok(())
 }

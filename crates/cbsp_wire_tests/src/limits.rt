@@ -1,5 +1,6 @@
 //! Both sides of each limit of an order to write.
 
+use crate::octets::put_new;
 use crate::table::{expect_rows, reading};
 use cbs_page::Dcs;
 use std::alloc::{AllocError, Global};
@@ -101,18 +102,23 @@ pub fn order(alloc: Global, words: &mut Words<'_>) -> Result<String, Fail> {
     Ok(String::from_str(alloc, reading(alloc, &octets))?)
 }
 
-/// `coding FIRST LAST`: the same of each of these data codings, where only one that is read has an alphabet.
+/// Why a right order with a data coding is refused, or `read`, where only one that is read has an alphabet.
+fn reading_with(alloc: Global, dcs: u8) -> Result<&'static str, AllocError> {
+    let octets = octets_of_order(alloc, OrderToWrite { dcs, ..RIGHT })?;
+    let found = reading(alloc, &octets);
+    if Dcs(dcs).alphabet().is_some() == (found == "read") {
+        Ok(found)
+    } else {
+        Ok("against its alphabet")
+    }
+}
+
+/// `coding FIRST LAST`: the same of each of these data codings.
 pub fn coding(alloc: Global, words: &mut Words<'_>) -> Result<String, Fail> {
     let (first, last) = (words.hex16()?, words.hex16()?);
     let mut said = String::new(alloc);
     for value in first..=last {
-        let dcs = (value % 256) as u8;
-        let octets = octets_of_order(alloc, OrderToWrite { dcs, ..RIGHT })?;
-        let found = reading(alloc, &octets);
-        crate::octets::put_new(&mut said, found)?;
-        if Dcs(dcs).alphabet().is_some() != (found == "read") {
-            said.push_str(", against its alphabet")?;
-        }
+        put_new(&mut said, reading_with(alloc, (value % 256) as u8)?)?;
     }
     Ok(said)
 }

@@ -3,7 +3,9 @@
 use crate::rows::{fault_text, read_in, written_in};
 use crate::table::{expect_rows, reading};
 use cbs_page::{Content, Dcs, Serial};
-use cbsp_wire::{Cell, Cells, Contents, Count, Counts, Failure, Failures, Message, write};
+use cbsp_wire::{
+    Cell, Cells, Contents, Count, Counts, Failure, Failures, Message, WireFault, write,
+};
 use std::alloc::{AllocError, Global};
 use std::test::Fail;
 use test_support::{Drought, Words};
@@ -139,27 +141,69 @@ fn message_of(alloc: Global, words: &mut Words<'_>) -> Result<Message, Fail> {
     }
 }
 
+/// The octets of the message that words say, or why none are written. Memory can be scarce for the writer.
+fn octets_made(
+    alloc: Global,
+    drought: &mut Drought,
+    words: &mut Words<'_>,
+) -> Result<Result<Vec<u8>, WireFault>, Fail> {
+    let message = message_of(alloc, words)?;
+    let written = written_in(alloc, drought, &message);
+    drop(message);
+    Ok(written)
+}
+
 /// `make MESSAGE`: how many octets are written, and how they are read; or why none are. Memory can be scarce for the
 /// writer.
 pub fn make(alloc: Global, drought: &mut Drought, words: &mut Words<'_>) -> Result<String, Fail> {
-    let message = message_of(alloc, words)?;
+    let made = octets_made(alloc, drought, words)?;
     if !words.word().is_empty() {
         return Err(Fail::new("words are left over"));
     }
-    match written_in(alloc, drought, &message) {
+    match made {
         Ok(octets) => Ok(format!(in alloc; "{} octets {}", octets.len(), reading(alloc, &octets))?),
         Err(fault) => Ok(String::from_str(alloc, fault_text(fault))?),
+    }
+}
+
+/// The octets of the message that words say, with all memory.
+fn octets_of_words(
+    alloc: Global,
+    words: &mut Words<'_>,
+) -> Result<Result<Vec<u8>, WireFault>, Fail> {
+    let message = message_of(alloc, words)?;
+    let written = write(alloc, &message);
+    drop(message);
+    Ok(written)
+}
+
+/// The octets that are written of what others are read as, if any are. Memory can be scarce for the reader.
+fn remade(
+    alloc: Global,
+    drought: &mut Drought,
+    octets: &[u8],
+) -> Result<Option<Vec<u8>>, WireFault> {
+    let message = read_in(alloc, drought, octets)?;
+    let written = write(alloc, &message);
+    drop(message);
+    Ok(written.ok())
+}
+
+/// Whether the same octets are written again.
+fn again_or_not(octets: &[u8], written: &Option<Vec<u8>>) -> &'static str {
+    match written {
+        Some(written) if written.as_slice() == octets => "again",
+        _ => "and others",
     }
 }
 
 /// `remake MESSAGE`: how many octets are written, and whether what they are read as is written with the same ones; or
 /// why they are not read. Memory can be scarce for the reader.
 pub fn remake(alloc: Global, drought: &mut Drought, words: &mut Words<'_>) -> Result<String, Fail> {
-    let octets = write(alloc, &message_of(alloc, words)?)?;
-    match read_in(alloc, drought, &octets) {
-        Ok(message) => {
-            let is_same = write(alloc, &message)?.as_slice() == octets.as_slice();
-            let again = if is_same { "again" } else { "and others" };
+    let octets = octets_of_words(alloc, words)??;
+    match remade(alloc, drought, &octets) {
+        Ok(written) => {
+            let again = again_or_not(&octets, &written);
             Ok(format!(in alloc; "{} octets {again}", octets.len())?)
         }
         Err(fault) => Ok(String::from_str(alloc, fault_text(fault))?),

@@ -7,8 +7,11 @@ use std::test::Fail;
 use test_support::{Malformed, digits_of};
 
 /// The octets to which what others mean is written back.
-fn written_back(alloc: Global, octets: &[u8]) -> Result<Vec<u8>, WireFault> {
-    write(alloc, &read(alloc, octets)?)
+pub fn written_back(alloc: Global, octets: &[u8]) -> Result<Vec<u8>, WireFault> {
+    let message = read(alloc, octets)?;
+    let written = write(alloc, &message);
+    drop(message);
+    written
 }
 
 /// What a fault is called.
@@ -47,14 +50,25 @@ fn answers_to(alloc: Global, inputs: &[Vec<u8>]) -> Result<Vec<u8>, AllocError> 
     Ok(answers)
 }
 
+/// Reads a line, and compares what it says with the answers to its inputs.
+fn compare<'a>(alloc: Global, table: &mut Malformed<'a>, line: &'a str) -> Result<(), Fail> {
+    let inputs = table.inputs(alloc, line)?;
+    let answers = answers_to(alloc, &inputs)?;
+    table.compare(line, &answers)
+}
+
+/// The table once all its lines are read.
+fn table_read(alloc: Global) -> Result<Malformed<'static>, Fail> {
+    let mut table = Malformed::new(alloc);
+    for line in TABLE.split('\n') {
+        compare(alloc, &mut table, line)?;
+    }
+    Ok(table)
+}
+
 #[test]
 fn malformed_messages_have_the_worked_answers(rt: HostRuntime) -> Result<(), Fail> {
-    let mut table = Malformed::new(rt.alloc());
-    for line in TABLE.split('\n') {
-        let inputs = table.inputs(rt.alloc(), line)?;
-        let answers = answers_to(rt.alloc(), &inputs)?;
-        table.compare(line, &answers)?;
-    }
+    let table = table_read(rt.alloc())?;
     let (input, line) = table.first;
     assert_eq!(rt; table.differing, 0, "{input}: {line}");
     assert_eq!(rt; table.digests, 269);

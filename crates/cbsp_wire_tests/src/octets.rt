@@ -27,19 +27,22 @@ pub fn octets_in(alloc: Global, words: &mut Words<'_>) -> Result<Vec<u8>, Fail> 
     octets_of(alloc, &digits)
 }
 
+/// Sets the octet at a place.
+fn set_at(octets: &mut [u8], place: usize, value: u8) {
+    if let Some(octet) = octets.get_mut(place) {
+        *octet = value;
+    }
+}
+
 /// `octet PLACE FIRST LAST OCTETS`: why the octets are refused with each octet from the first to the last at this
 /// place.
 pub fn set_octet(alloc: Global, words: &mut Words<'_>) -> Result<String, Fail> {
-    let place = words.number()?;
+    let place = usize::from(words.number16()?);
     let (first, last) = (words.hex16()?, words.hex16()?);
     let mut octets = octets_in(alloc, words)?;
     let mut said = String::new(alloc);
     for value in first..=last {
-        for (at, octet) in octets.iter_mut().enumerate() {
-            if at as u64 == place {
-                *octet = (value % 256) as u8;
-            }
-        }
+        set_at(&mut octets, place, (value % 256) as u8);
         put_new(&mut said, reading(alloc, &octets))?;
     }
     Ok(said)

@@ -1,5 +1,6 @@
 //! What a message says, as a line of a table lists it, and what is written of it.
 
+use crate::malformed::written_back;
 use crate::table::reading;
 use cbs_page::{Content, Serial};
 use cbsp_wire::{Cell, Count, Failure, Message, WireFault, read, write};
@@ -21,19 +22,19 @@ struct Columns<'a> {
     channel: Option<u8>,
 }
 
-/// Puts a serial number, or `-` for none.
-fn put_serial(row: &mut String, serial: Option<Serial>) -> Result<(), AllocError> {
+/// Puts a serial number under its name, or `-` for none.
+fn put_serial(row: &mut String, name: &str, serial: Option<Serial>) -> Result<(), AllocError> {
     match serial {
-        Some(serial) => write!(row, "{:04x}", serial.number()),
-        None => row.push_str("-"),
+        Some(serial) => write!(row, " {name}={:04x}", serial.number()),
+        None => write!(row, " {name}=-"),
     }
 }
 
-/// Puts an octet as a decimal number, or `-` for none.
-fn put_octet(row: &mut String, octet: Option<u8>) -> Result<(), AllocError> {
+/// Puts an octet under its name, as a decimal number, or `-` for none.
+fn put_octet(row: &mut String, name: &str, octet: Option<u8>) -> Result<(), AllocError> {
     match octet {
-        Some(octet) => write!(row, "{octet}"),
-        None => row.push_str("-"),
+        Some(octet) => write!(row, " {name}={octet}"),
+        None => write!(row, " {name}=-"),
     }
 }
 
@@ -57,6 +58,7 @@ fn put_none(row: &mut String, length: usize) -> Result<(), AllocError> {
 
 /// Puts the failures.
 fn put_failures(row: &mut String, failures: &[Failure]) -> Result<(), AllocError> {
+    row.push_str(" failures=")?;
     for (place, failure) in failures.iter().enumerate() {
         let Failure { cell, cause } = *failure;
         put_comma(row, place)?;
@@ -67,6 +69,7 @@ fn put_failures(row: &mut String, failures: &[Failure]) -> Result<(), AllocError
 
 /// Puts the completed broadcasts.
 fn put_completed(row: &mut String, completed: &[Count]) -> Result<(), AllocError> {
+    row.push_str(" completed=")?;
     for (place, count) in completed.iter().enumerate() {
         let Count { cell, number, info } = *count;
         put_comma(row, place)?;
@@ -77,6 +80,7 @@ fn put_completed(row: &mut String, completed: &[Count]) -> Result<(), AllocError
 
 /// Puts the cells.
 fn put_cells(row: &mut String, cells: &[Cell]) -> Result<(), AllocError> {
+    row.push_str(" cells=")?;
     for (place, cell) in cells.iter().enumerate() {
         let Cell { lac, ci } = *cell;
         put_comma(row, place)?;
@@ -87,6 +91,7 @@ fn put_cells(row: &mut String, cells: &[Cell]) -> Result<(), AllocError> {
 
 /// Puts the contents.
 fn put_contents(row: &mut String, contents: &[Content]) -> Result<(), AllocError> {
+    row.push_str(" contents=")?;
     for (place, content) in contents.iter().enumerate() {
         put_comma(row, place)?;
         write!(row, "{}:", content.used)?;
@@ -207,18 +212,13 @@ fn columns_of(message: &Message) -> Columns<'_> {
 fn put_columns(row: &mut String, columns: Columns<'_>) -> Result<(), AllocError> {
     row.push_str(columns.kind)?;
     let id = columns.id;
-    write!(row, " id={id} new=")?;
-    put_serial(row, columns.new)?;
-    row.push_str(" old=")?;
-    put_serial(row, columns.old)?;
-    row.push_str(" failures=")?;
+    write!(row, " id={id}")?;
+    put_serial(row, "new", columns.new)?;
+    put_serial(row, "old", columns.old)?;
     put_failures(row, columns.failures)?;
-    row.push_str(" completed=")?;
     put_completed(row, columns.completed)?;
-    row.push_str(" cells=")?;
     put_cells(row, columns.cells)?;
-    row.push_str(" channel=")?;
-    put_octet(row, columns.channel)
+    put_octet(row, "channel", columns.channel)
 }
 
 /// Puts what a message says.
@@ -235,11 +235,10 @@ fn put_message(row: &mut String, message: &Message) -> Result<(), AllocError> {
     else {
         return Ok(());
     };
-    row.push_str(" category=")?;
-    put_octet(row, *category)?;
+    put_octet(row, "category", *category)?;
     write!(
         row,
-        " period={period} broadcasts={broadcasts} dcs={:02x} contents=",
+        " period={period} broadcasts={broadcasts} dcs={:02x}",
         dcs.0
     )?;
     put_contents(row, contents.as_slice())
@@ -259,11 +258,22 @@ pub fn fault_text(fault: WireFault) -> &'static str {
     }
 }
 
+/// Puts what octets say.
+fn put_read(
+    alloc: Global,
+    octets: &[u8],
+    row: &mut String,
+) -> Result<Result<(), AllocError>, WireFault> {
+    let message = read(alloc, octets)?;
+    let put = put_message(row, &message);
+    drop(message);
+    Ok(put)
+}
+
 /// What octets say, and the octets that are written of it.
 fn said(alloc: Global, octets: &[u8], row: &mut String) -> Result<Vec<u8>, Fail> {
-    let message = read(alloc, octets)?;
-    put_message(row, &message)?;
-    Ok(write(alloc, &message)?)
+    put_read(alloc, octets, row)??;
+    Ok(written_back(alloc, octets)?)
 }
 
 /// `fronts OCTETS`: how many of their fronts are truncated.
@@ -328,25 +338,44 @@ pub fn written_in(
     outcome
 }
 
-/// What a message says.
-fn message_text(alloc: Global, message: &Message) -> Result<String, AllocError> {
-    let mut row = String::new(alloc);
-    put_message(&mut row, message)?;
-    Ok(row)
+/// What octets say, or why they are refused. Memory can be scarce for the reader.
+fn meant(
+    alloc: Global,
+    drought: &mut Drought,
+    octets: &[u8],
+    row: &mut String,
+) -> Result<Result<(), AllocError>, WireFault> {
+    let message = read_in(alloc, drought, octets)?;
+    let put = put_message(row, &message);
+    drop(message);
+    Ok(put)
 }
 
 /// `means OCTETS`: what they say, or why they are refused. Memory can be scarce for the reader.
 pub fn means(alloc: Global, drought: &mut Drought, octets: &[u8]) -> Result<String, Fail> {
-    match read_in(alloc, drought, octets) {
-        Ok(message) => Ok(message_text(alloc, &message)?),
-        Err(fault) => Ok(String::from_str(alloc, fault_text(fault))?),
+    let mut row = String::new(alloc);
+    match meant(alloc, drought, octets, &mut row) {
+        Ok(put) => put?,
+        Err(fault) => row.push_str(fault_text(fault))?,
     }
+    Ok(row)
+}
+
+/// The octets that are written of what others say, where memory can be scarce for the writer.
+fn rewritten_in(
+    alloc: Global,
+    drought: &mut Drought,
+    octets: &[u8],
+) -> Result<Result<Vec<u8>, WireFault>, WireFault> {
+    let message = read(alloc, octets)?;
+    let written = written_in(alloc, drought, &message);
+    drop(message);
+    Ok(written)
 }
 
 /// `writes OCTETS`: the octets that are written of what they say. Memory can be scarce for the writer.
 pub fn writes(alloc: Global, drought: &mut Drought, octets: &[u8]) -> Result<String, Fail> {
-    let message = read(alloc, octets)?;
-    match written_in(alloc, drought, &message) {
+    match rewritten_in(alloc, drought, octets)? {
         Ok(written) => Ok(digits_of(alloc, written.as_slice())?),
         Err(fault) => Ok(String::from_str(alloc, fault_text(fault))?),
     }

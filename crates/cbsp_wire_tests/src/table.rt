@@ -16,7 +16,10 @@ use test_support::{Drought, Row, Words, after_refusals, is_refused};
 /// `read OCTETS`: why they are refused, or `read`.
 pub fn reading(alloc: Global, octets: &[u8]) -> &'static str {
     match read(alloc, octets) {
-        Ok(_message) => "read",
+        Ok(message) => {
+            drop(message);
+            "read"
+        }
         Err(fault) => fault_text(fault),
     }
 }
@@ -73,17 +76,35 @@ fn outcome(alloc: Global, drought: &mut Drought, row: Row) -> Result<String, Fai
     Err(Fail::new("it is refused to the end"))
 }
 
-/// Expects what the lines of a table say, which are as many.
-pub fn expect_rows(rt: &impl Abort, alloc: Global, table: &str, count: u16) -> Result<(), Fail> {
-    let mut drought = Drought::new(alloc)?;
+/// Expects what a row says.
+fn expect_row(rt: &impl Abort, alloc: Global, drought: &mut Drought, row: Row) -> Result<(), Fail> {
+    let found = outcome(alloc, drought, row)?;
+    assert_eq!(rt; found.as_str(), row.wanted, "{}", row.action);
+    Ok(())
+}
+
+/// Expects what the lines of a table say, and returns how many do.
+fn expect_each(
+    rt: &impl Abort,
+    alloc: Global,
+    drought: &mut Drought,
+    table: &str,
+) -> Result<u16, Fail> {
     let mut rows = 0_u16;
     for line in table.split('\n') {
         if let Some(row) = Row::of(line) {
-            let found = outcome(alloc, &mut drought, row)?;
-            assert_eq!(rt; found.as_str(), row.wanted, "{line}");
+            expect_row(rt, alloc, drought, row)?;
             rows = rows.saturating_add(1);
         }
     }
-    assert_eq!(rt; rows, count);
+    Ok(rows)
+}
+
+/// Expects what the lines of a table say, which are as many.
+pub fn expect_rows(rt: &impl Abort, alloc: Global, table: &str, count: u16) -> Result<(), Fail> {
+    let mut drought = Drought::new(alloc)?;
+    let rows = expect_each(rt, alloc, &mut drought, table);
+    drop(drought);
+    assert_eq!(rt; rows?, count);
     Ok(())
 }

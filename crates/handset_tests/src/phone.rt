@@ -197,6 +197,14 @@ fn messages_text(alloc: Global, messages: &[Shown]) -> Result<String, Fail> {
     Ok(text)
 }
 
+/// What the blocks of a page have to show that are to show this text, or nothing.
+fn wanted_of(alloc: Global, serial: u16, text: &str) -> Result<String, Fail> {
+    if text == "nothing" {
+        return Ok(String::from_str(alloc, text)?);
+    }
+    Ok(format!(in alloc; "block 4: 4370 {serial:04x} {text}")?)
+}
+
 /// What a handset answers to a block, where memory can be scarce.
 fn answer_to(
     alloc: Global,
@@ -241,11 +249,18 @@ impl Phone {
     fn feed(&mut self, block: &[u8; 23]) -> Result<(), Fail> {
         self.fed = self.fed.saturating_add(1);
         if let Some(message) = self.message_of(block)? {
-            let place = format!(in self.alloc; "block {}: ", self.fed)?;
-            self.answer.push_str(&place)?;
-            push_message(self.alloc, &mut self.answer, &message)?;
+            let noted = self.note(&message);
+            drop(message);
+            return noted;
         }
         Ok(())
+    }
+
+    /// Notes a message that the block shows that was fed last.
+    fn note(&mut self, message: &Shown) -> Result<(), Fail> {
+        let place = format!(in self.alloc; "block {}: ", self.fed)?;
+        self.answer.push_str(&place)?;
+        push_message(self.alloc, &mut self.answer, message)
     }
 
     /// What was noted since the last answer.
@@ -285,13 +300,8 @@ impl Phone {
         let text = words.word();
         for serial in 0..count {
             let answer = self.page(&numbered(first, serial))?;
-            let shown = format!(in self.alloc; "block 4: 4370 {serial:04x} {text}")?;
-            let wanted = if text == "nothing" {
-                text
-            } else {
-                shown.as_str()
-            };
-            if answer.as_str() != wanted {
+            let wanted = wanted_of(self.alloc, serial, text)?;
+            if answer.as_str() != wanted.as_str() {
                 return Ok(answer);
             }
         }
@@ -350,21 +360,6 @@ impl Phone {
     }
 }
 
-/// Expects what the rows of a table say of a new handset, and that there are so many rows.
-fn expect_rows(rt: &impl Abort, alloc: Global, table: &str, rows: u16) -> Result<(), Fail> {
-    let mut phone = Phone::new(alloc)?;
-    let mut count = 0_u16;
-    for line in table.split('\n') {
-        if let Some(row) = Row::of(line) {
-            let found = phone.carry_out(row.action, 0)?;
-            assert_eq!(rt; found.as_str(), row.wanted, "{line}");
-            count = count.saturating_add(1);
-        }
-    }
-    assert_eq!(rt; count, rows);
-    Ok(())
-}
-
 /// What comes of a row of scarce memory: it is carried out with one block more each time, until nothing is refused.
 fn outcome(alloc: Global, phone: &mut Phone, row: Row) -> Result<String, Fail> {
     for refused in 0..Drought::MOST {
@@ -379,37 +374,78 @@ fn outcome(alloc: Global, phone: &mut Phone, row: Row) -> Result<String, Fail> {
     Err(Fail::new("it is refused to the end"))
 }
 
-/// Expects what the rows of scarce memory say, and that there are so many.
-fn expect_refusals(rt: &impl Abort, alloc: Global, table: &str, rows: u16) -> Result<(), Fail> {
-    let mut phone = Phone::new(alloc)?;
+/// Whether a table's rows are carried out with scarce memory.
+#[derive(Clone, Copy)]
+enum Memory {
+    Ample,
+    Scarce,
+}
+
+/// Expects what a row says.
+fn expect_row(
+    rt: &impl Abort,
+    alloc: Global,
+    phone: &mut Phone,
+    row: Row,
+    memory: Memory,
+) -> Result<(), Fail> {
+    let found = match memory {
+        Memory::Ample => phone.carry_out(row.action, 0)?,
+        Memory::Scarce => outcome(alloc, phone, row)?,
+    };
+    assert_eq!(rt; found.as_str(), row.wanted, "{}", row.action);
+    Ok(())
+}
+
+/// Expects what the rows of a table say, and returns how many there are.
+fn expect_each(
+    rt: &impl Abort,
+    alloc: Global,
+    phone: &mut Phone,
+    table: &str,
+    memory: Memory,
+) -> Result<u16, Fail> {
     let mut count = 0_u16;
     for line in table.split('\n') {
         if let Some(row) = Row::of(line) {
-            let found = outcome(alloc, &mut phone, row)?;
-            assert_eq!(rt; found.as_str(), row.wanted, "{line}");
+            expect_row(rt, alloc, phone, row, memory)?;
             count = count.saturating_add(1);
         }
     }
-    assert_eq!(rt; count, rows);
+    Ok(count)
+}
+
+/// Expects what the rows of a table say of a new handset, and that there are so many rows.
+fn expect_rows(
+    rt: &impl Abort,
+    alloc: Global,
+    table: &str,
+    rows: u16,
+    memory: Memory,
+) -> Result<(), Fail> {
+    let mut phone = Phone::new(alloc)?;
+    let count = expect_each(rt, alloc, &mut phone, table, memory);
+    drop(phone);
+    assert_eq!(rt; count?, rows);
     Ok(())
 }
 
 #[test]
 fn a_message_is_shown_once_at_its_last_block(rt: HostRuntime) -> Result<(), Fail> {
-    expect_rows(&rt, rt.alloc(), BLOCKS, 12)
+    expect_rows(&rt, rt.alloc(), BLOCKS, 12, Memory::Ample)
 }
 
 #[test]
 fn pages_show_what_they_say(rt: HostRuntime) -> Result<(), Fail> {
-    expect_rows(&rt, rt.alloc(), PAGES, 32)
+    expect_rows(&rt, rt.alloc(), PAGES, 32, Memory::Ample)
 }
 
 #[test]
 fn many_pages_and_messages_are_kept(rt: HostRuntime) -> Result<(), Fail> {
-    expect_rows(&rt, rt.alloc(), MANY, 3)
+    expect_rows(&rt, rt.alloc(), MANY, 3, Memory::Ample)
 }
 
 #[test]
 fn blocks_are_refused_until_there_is_memory(rt: HostRuntime) -> Result<(), Fail> {
-    expect_refusals(&rt, rt.alloc(), SCARCE, 10)
+    expect_rows(&rt, rt.alloc(), SCARCE, 10, Memory::Scarce)
 }

@@ -18,8 +18,8 @@
 use crate::worked::{IDLE, WORKED};
 use device_ends::Source;
 use device_ends::memory::MemoryReader;
-use handset::{Reading, Refused, TapeFault, read_each, read_tape, read_tapes};
-use std::alloc::Global;
+use handset::{Reading, Refused, Shown, TapeFault, read_each, read_tape, read_tapes};
+use std::alloc::{AllocError, Global};
 use std::process::Abort;
 use std::test::Fail;
 use test_support::{Drought, Row, Words, after_refusals, octets_of};
@@ -161,29 +161,40 @@ fn push_page(octets: &mut Vec<u8>, parameter: &str) -> Result<(), Fail> {
     push_blocks(octets, &page)
 }
 
+/// Appends the tape of cell 1-1 that airs the worked page in the first of two slots, and says how many it has.
+fn push_tape(octets: &mut Vec<u8>, slots: u16) -> Result<(), Fail> {
+    octets.extend_from_slice(&[0x00, 0x01, 0x00, 0x01, 0x00, 0x00])?;
+    octets.extend_from_slice(&slots.to_be_bytes())?;
+    push_blocks(octets, &WORKED)?;
+    push_blocks(octets, &[IDLE; 4])
+}
+
+/// Appends idle slots.
+fn push_idle(octets: &mut Vec<u8>, slots: u16) -> Result<(), Fail> {
+    for _ in 0..slots {
+        push_blocks(octets, &[IDLE; 4])?;
+    }
+    Ok(())
+}
+
+/// Has the octets so many times.
+fn repeat(alloc: Global, octets: &mut Vec<u8>, times: u16) -> Result<(), Fail> {
+    let once = Vec::from_slice(alloc, octets)?;
+    for _ in 1..times {
+        octets.extend_from_slice(&once)?;
+    }
+    Ok(())
+}
+
 /// Adds what a line says to the octets.
 fn add(alloc: Global, octets: &mut Vec<u8>, verb: &str, words: &mut Words) -> Result<String, Fail> {
     match verb {
         "new" => octets.clear(),
         "hex" => add_hex(alloc, octets, words)?,
-        "tape" => {
-            octets.extend_from_slice(&[0x00, 0x01, 0x00, 0x01, 0x00, 0x00])?;
-            octets.extend_from_slice(&words.number16()?.to_be_bytes())?;
-            push_blocks(octets, &WORKED)?;
-            push_blocks(octets, &[IDLE; 4])?;
-        }
+        "tape" => push_tape(octets, words.number16()?)?,
         "page" => push_page(octets, words.word())?,
-        "idle" => {
-            for _ in 0..words.number16()? {
-                push_blocks(octets, &[IDLE; 4])?;
-            }
-        }
-        "repeat" => {
-            let once = Vec::from_slice(alloc, octets)?;
-            for _ in 1..words.number16()? {
-                octets.extend_from_slice(&once)?;
-            }
-        }
+        "idle" => push_idle(octets, words.number16()?)?,
+        "repeat" => repeat(alloc, octets, words.number16()?)?,
         _ => return Ok(String::from_str(alloc, "no such action")?),
     }
     Ok(String::new(alloc))
@@ -218,6 +229,30 @@ fn read_in(
     outcome
 }
 
+/// Reads a source of one tape into a list.
+fn read_one(
+    alloc: Global,
+    source: &mut Source<&mut MemoryReader>,
+    readings: &mut Vec<Reading>,
+) -> Result<(), TapeFault> {
+    let reading = read_tape(alloc, source)?;
+    match readings.push(reading) {
+        Ok(()) => Ok(()),
+        Err(_) => Err(TapeFault::Refused),
+    }
+}
+
+/// Reads a source of tapes into a list.
+fn read_all(
+    alloc: Global,
+    source: &mut Source<&mut MemoryReader>,
+    readings: &mut Vec<Reading>,
+) -> Result<(), TapeFault> {
+    let mut read = read_tapes(alloc, source)?;
+    readings.append(&mut read)?;
+    Ok(())
+}
+
 /// Reads a source into a list.
 fn read(
     alloc: Global,
@@ -226,16 +261,25 @@ fn read(
     readings: &mut Vec<Reading>,
 ) -> Result<(), TapeFault> {
     match kind {
-        Kind::One => {
-            let reading = read_tape(alloc, source)?;
-            if readings.push(reading).is_err() {
-                return Err(TapeFault::Refused);
-            }
-        }
-        Kind::All => {
-            let mut read = read_tapes(alloc, source)?;
-            readings.append(&mut read)?;
-        }
+        Kind::One => read_one(alloc, source, readings),
+        Kind::All => read_all(alloc, source, readings),
+    }
+}
+
+/// Puts a message that was shown.
+fn put_shown(alloc: Global, text: &mut String, shown: &Shown) -> Result<(), AllocError> {
+    let serial = shown.serial.number();
+    text.push_str(&format!(in alloc; ": {} {serial:04x} {}", shown.id, shown.text)?)
+}
+
+/// Puts a reading.
+fn put_reading(alloc: Global, text: &mut String, reading: &Reading) -> Result<(), AllocError> {
+    let between = if text.is_empty() { "" } else { "; " };
+    let cell = reading.cell;
+    let line = format!(in alloc; "{between}{}-{} {} slots", cell.lac, cell.ci, reading.slots)?;
+    text.push_str(&line)?;
+    for shown in &reading.shown {
+        put_shown(alloc, text, shown)?;
     }
     Ok(())
 }
@@ -245,22 +289,27 @@ fn answer(
     alloc: Global,
     read: Result<(), TapeFault>,
     readings: &[Reading],
-) -> Result<String, Fail> {
-    let mut text = String::new(alloc);
+) -> Result<String, AllocError> {
     if let Err(fault) = read {
-        return Ok(format!(in alloc; "{fault:?}")?);
+        return format!(in alloc; "{fault:?}");
     }
+    let mut text = String::new(alloc);
     for reading in readings {
-        let between = if text.is_empty() { "" } else { "; " };
-        let cell = reading.cell;
-        let line = format!(in alloc; "{between}{}-{} {} slots", cell.lac, cell.ci, reading.slots)?;
-        text.push_str(&line)?;
-        for shown in &reading.shown {
-            let serial = shown.serial.number();
-            text.push_str(&format!(in alloc; ": {} {serial:04x} {}", shown.id, shown.text)?)?;
-        }
+        put_reading(alloc, &mut text, reading)?;
     }
     Ok(text)
+}
+
+/// What a source is read as.
+fn read_text(
+    alloc: Global,
+    drought: &mut Drought,
+    kind: Kind,
+    source: &mut Source<&mut MemoryReader>,
+) -> Result<String, AllocError> {
+    let mut readings = Vec::new(alloc);
+    let result = read_in(alloc, drought, kind, source, &mut readings);
+    answer(alloc, result, &readings)
 }
 
 /// What these octets are read as. A reader that can fail is asked what it still has.
@@ -271,13 +320,10 @@ fn read_octets(
     octets: &[u8],
     pace: (usize, Option<usize>),
 ) -> Result<String, Fail> {
-    let mut readings = Vec::new(alloc);
     let mut reader = MemoryReader::new(octets, pace.0.max(1), pace.1);
     let mut source = Source::new(&mut reader);
-    let result = read_in(alloc, drought, kind, &mut source, &mut readings);
-    let is_failed = source.failed();
-    let text = answer(alloc, result, &readings)?;
-    match (pace.1, is_failed) {
+    let text = read_text(alloc, drought, kind, &mut source)?;
+    match (pace.1, source.failed()) {
         (None, false) => Ok(text),
         (_, false) => Ok(format!(in alloc; "{text}, {} left", reader.rest().len())?),
         (_, true) => Ok(format!(in alloc; "{text}, source failed")?),
@@ -293,19 +339,20 @@ fn pace_of(words: &mut Words) -> Result<(usize, Option<usize>), Fail> {
     Ok((word.parse::<usize>()?, Some(usize::from(words.number16()?))))
 }
 
-/// Whether both ways to read fail, and fail again, with a reader that fails after so many calls.
-fn fails_at(alloc: Global, octets: &[u8], per_call: usize, calls: usize) -> bool {
+/// Whether a way to read fails, and fails again, with a reader that fails after so many calls.
+fn fails_twice(alloc: Global, kind: Kind, octets: &[u8], per_call: usize, calls: usize) -> bool {
     let mut readings = Vec::new(alloc);
-    for kind in [Kind::One, Kind::All] {
-        let mut reader = MemoryReader::new(octets, per_call.max(1), Some(calls));
-        let mut source = Source::new(&mut reader);
-        let first = read(alloc, kind, &mut source, &mut readings);
-        let second = read(alloc, kind, &mut source, &mut readings);
-        if first != Err(TapeFault::ReadFailed) || second != Err(TapeFault::ReadFailed) {
-            return false;
-        }
-    }
-    true
+    let mut reader = MemoryReader::new(octets, per_call.max(1), Some(calls));
+    let mut source = Source::new(&mut reader);
+    let first = read(alloc, kind, &mut source, &mut readings);
+    let second = read(alloc, kind, &mut source, &mut readings);
+    matches!(first, Err(TapeFault::ReadFailed)) && matches!(second, Err(TapeFault::ReadFailed))
+}
+
+/// Whether both ways to read do.
+fn fails_at(alloc: Global, octets: &[u8], per_call: usize, calls: usize) -> bool {
+    fails_twice(alloc, Kind::One, octets, per_call, calls)
+        && fails_twice(alloc, Kind::All, octets, per_call, calls)
 }
 
 /// Reads again and again with readers that fail.
@@ -319,15 +366,24 @@ fn fails(alloc: Global, octets: &[u8], words: &mut Words) -> Result<String, Fail
     Ok(String::from_str(alloc, "each")?)
 }
 
+/// What octets are read as in both ways.
+fn both_ways(alloc: Global, drought: &mut Drought, octets: &[u8]) -> Result<String, Fail> {
+    let one = read_octets(alloc, drought, Kind::One, octets, STEADY)?;
+    let tapes = read_octets(alloc, drought, Kind::All, octets, STEADY)?;
+    Ok(format!(in alloc; "{one}, {tapes}")?)
+}
+
 /// Reads each front of so many octets, both ends included, and returns what all of them are read as.
-fn fronts(alloc: Global, octets: &[u8], words: &mut Words) -> Result<String, Fail> {
+fn fronts(
+    alloc: Global,
+    drought: &mut Drought,
+    octets: &[u8],
+    words: &mut Words,
+) -> Result<String, Fail> {
     let mut all = String::new(alloc);
-    let mut drought = Drought::new(alloc)?;
     for length in words.number16()?..=words.number16()? {
         let front = octets.get(..usize::from(length)).unwrap_or(octets);
-        let one = read_octets(alloc, &mut drought, Kind::One, front, STEADY)?;
-        let tapes = read_octets(alloc, &mut drought, Kind::All, front, STEADY)?;
-        let both = format!(in alloc; "{one}, {tapes}")?;
+        let both = both_ways(alloc, drought, front)?;
         if !all.is_empty() && all != both {
             return Ok(format!(in alloc; "{both} at {length}")?);
         }
@@ -336,20 +392,29 @@ fn fronts(alloc: Global, octets: &[u8], words: &mut Words) -> Result<String, Fai
     Ok(all)
 }
 
+/// The readings of octets.
+fn readings_of(alloc: Global, octets: &[u8]) -> Result<Vec<Reading>, TapeFault> {
+    let mut reader = MemoryReader::new(octets, 1000, None);
+    read_tapes(alloc, &mut Source::new(&mut reader))
+}
+
+/// Hands the readings of octets on to a list.
+fn hand_on(alloc: Global, octets: &[u8], readings: &mut Vec<Reading>) -> Result<(), TapeFault> {
+    let mut reader = MemoryReader::new(octets, 1000, None);
+    read_each(alloc, &mut Source::new(&mut reader), readings)
+}
+
 /// What a list has after the octets' readings were handed on to it. Before it has the reading of a tape of its own.
 fn after(alloc: Global, octets: &[u8], words: &mut Words) -> Result<String, Fail> {
     let first = octets_of(alloc, words.word())?;
-    let mut reader = MemoryReader::new(&first, 1000, None);
-    let mut readings = read_tapes(alloc, &mut Source::new(&mut reader))?;
-    let mut reader = MemoryReader::new(octets, 1000, None);
-    let result = read_each(alloc, &mut Source::new(&mut reader), &mut readings);
-    answer(alloc, result, &readings)
+    let mut readings = readings_of(alloc, &first)?;
+    let result = hand_on(alloc, octets, &mut readings);
+    Ok(answer(alloc, result, &readings)?)
 }
 
 /// How many tapes the octets are.
 fn count(alloc: Global, octets: &[u8]) -> Result<String, Fail> {
-    let mut reader = MemoryReader::new(octets, 1000, None);
-    let readings = read_tapes(alloc, &mut Source::new(&mut reader))?;
+    let readings = readings_of(alloc, octets)?;
     Ok(readings.len().to_string(alloc)?)
 }
 
@@ -396,7 +461,7 @@ fn done(
         "length" => Ok(octets.len().to_string(alloc)?),
         "count" => count(alloc, octets),
         "fails" => fails(alloc, octets, words),
-        "fronts" => fronts(alloc, octets, words),
+        "fronts" => fronts(alloc, drought, octets, words),
         "after" => after(alloc, octets, words),
         "text" => text(alloc, words.word()),
         verb => add(alloc, octets, verb, words),
@@ -424,19 +489,43 @@ fn outcome(
     Err(Fail::new("it is refused to the end"))
 }
 
-/// Expects what the rows of a table say, which are so many at least.
-fn expect_rows(rt: &impl Abort, alloc: Global, table: &str, least: u16) -> Result<(), Fail> {
-    let mut drought = Drought::new(alloc)?;
+/// Expects what a row says.
+fn expect_row(
+    rt: &impl Abort,
+    alloc: Global,
+    drought: &mut Drought,
+    octets: &mut Vec<u8>,
+    row: Row,
+) -> Result<(), Fail> {
+    let found = outcome(alloc, drought, octets, row)?;
+    assert_eq!(rt; found.as_str(), row.wanted, "{}", row.action);
+    Ok(())
+}
+
+/// Expects what the rows of a table say, and returns how many there are.
+fn expect_each(
+    rt: &impl Abort,
+    alloc: Global,
+    drought: &mut Drought,
+    table: &str,
+) -> Result<u16, Fail> {
     let mut octets = Vec::new(alloc);
     let mut rows = 0_u16;
     for line in table.split('\n') {
         if let Some(row) = Row::of(line) {
-            let found = outcome(alloc, &mut drought, &mut octets, row)?;
-            assert_eq!(rt; found.as_str(), row.wanted, "{line}");
+            expect_row(rt, alloc, drought, &mut octets, row)?;
             rows = rows.saturating_add(1);
         }
     }
-    assert!(rt; rows >= least);
+    Ok(rows)
+}
+
+/// Expects what the rows of a table say, which are so many at least.
+fn expect_rows(rt: &impl Abort, alloc: Global, table: &str, least: u16) -> Result<(), Fail> {
+    let mut drought = Drought::new(alloc)?;
+    let rows = expect_each(rt, alloc, &mut drought, table);
+    drop(drought);
+    assert!(rt; rows? >= least);
     Ok(())
 }
 

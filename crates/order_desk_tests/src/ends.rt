@@ -2,7 +2,7 @@
 
 use crate::lines::*;
 use crate::run::*;
-use bsc_table::{Aired, CellRecord};
+use bsc_table::{Aired, CellBook, CellRecord};
 use cbsp_wire::Cell;
 use order_desk::{Closed, Desk, Pass, cells_ok};
 use std::alloc::Global;
@@ -35,20 +35,25 @@ pub fn desk_text(alloc: Global, desk: &Desk) -> Result<String, Fail> {
     Ok(text)
 }
 
+/// Adds a book: its cell, its clock, how many entries there are, and what was aired.
+fn add_book(text: &mut String, book: &CellBook) -> Result<(), Fail> {
+    let Cell { lac, ci } = book.cell();
+    let entries = book.log().len();
+    write!(
+        text,
+        "; {lac}-{ci}: log of {entries}, clock at {}, air",
+        book.clock()
+    )?;
+    add_air(text, book.air())
+}
+
 /// What a closed desk held: its slots, its cells, and of each book the cell, the clock, how many entries there are, and
 /// what was aired.
 fn closed_text(alloc: Global, closed: &Closed) -> Result<String, Fail> {
     let mut text = format!(in alloc; "{} slots,", closed.slots)?;
     add_cells(&mut text, &closed.cells)?;
     for book in &closed.books {
-        let Cell { lac, ci } = book.cell();
-        let entries = book.log().len();
-        write!(
-            text,
-            "; {lac}-{ci}: log of {entries}, clock at {}, air",
-            book.clock()
-        )?;
-        add_air(&mut text, book.air())?;
+        add_book(&mut text, book)?;
     }
     Ok(text)
 }
@@ -60,7 +65,11 @@ pub fn closed(alloc: Global, run: &mut Run) -> Result<String, Fail> {
     let outcome = desk.close();
     run.drought.end();
     match outcome {
-        Ok(closed) => closed_text(alloc, &closed),
+        Ok(closed) => {
+            let text = closed_text(alloc, &closed);
+            drop(closed);
+            text
+        }
         Err(fault) => shown(alloc, &fault),
     }
 }
@@ -89,6 +98,7 @@ fn settlement_text(
     drought: &mut Drought,
 ) -> Result<String, Fail> {
     if closed.cells.len() != closed.books.len() || !cells_ok(&closed.cells) {
+        drop(closed);
         return Err(Fail::new("the desk has other cells or books"));
     }
     drought.begin(alloc);

@@ -42,8 +42,10 @@ pub fn many_cells(alloc: Global, count: u16) -> Result<Vec<Cell>, Fail> {
 }
 
 /// The octets of a message.
-fn written(alloc: Global, message: &Message) -> Result<Vec<u8>, Fail> {
-    Ok(write(alloc, message)?)
+fn written(alloc: Global, message: Message) -> Result<Vec<u8>, Fail> {
+    let octets = write(alloc, &message);
+    drop(message);
+    Ok(octets?)
 }
 
 /// The contents of so many pages.
@@ -78,6 +80,7 @@ fn write_of(
     let category = Some(category_of(words.word())?);
     let period = words.number16()?;
     let list = cells_of(alloc, words.word())?;
+    let contents = pages_of(alloc, pages)?;
     let message = Message::Write {
         id,
         new_serial,
@@ -88,9 +91,9 @@ fn write_of(
         period,
         broadcasts: 0,
         dcs: Dcs(0x01),
-        contents: pages_of(alloc, pages)?,
+        contents,
     };
-    written(alloc, &message)
+    written(alloc, message)
 }
 
 /// The octets of a KILL. The words: the identifier, the serial number, and the cells.
@@ -104,7 +107,7 @@ fn kill_of(alloc: Global, words: &mut Words) -> Result<Vec<u8>, Fail> {
         cells: Cells { list },
         channel: None,
     };
-    written(alloc, &message)
+    written(alloc, message)
 }
 
 /// The octets of a replacement of so many pages. The words: the identifier, the serial number of the replaced message,

@@ -206,13 +206,23 @@ r note 0 -> 1-1 entry 1 at 0: Started { slot: 0 }
 settle p,q,r -> settled 1-1: 4 slots, air of 4, log of 3 1-2: 4 slots, air of 4, log of 1
 ";
 
+/// Expects that the orders meet, and what the rows say that come afterwards; returns how many there are.
+fn expect_meeting<T: AllocGlobal + Threads + Wait + Abort + Sync>(
+    rt: &T,
+    run: &mut Run,
+    orders: &[Vec<u8>],
+) -> Result<u64, Fail> {
+    let _ = expect_each(rt, run, DESK)?;
+    expect_met(rt, run, orders);
+    expect_each(rt, run, AFTERWARDS)
+}
+
 #[test]
 fn an_order_holds_its_cell_and_no_other(rt: HostRuntime) -> Result<(), Fail> {
     let orders = three_orders(rt.alloc())?;
     let mut run = Run::new(rt.alloc())?;
-    let _ = expect_each(&rt, &mut run, DESK)?;
-    expect_met(&rt, &mut run, &orders);
-    let rows = expect_each(&rt, &mut run, AFTERWARDS)?;
-    assert_eq!(&rt; rows, 9);
+    let rows = expect_meeting(&rt, &mut run, &orders);
+    drop(run);
+    assert_eq!(&rt; rows?, 9);
     Ok(())
 }

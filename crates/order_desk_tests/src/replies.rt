@@ -109,8 +109,12 @@ pub fn replied(alloc: Global, drought: &mut Drought, words: &mut Words) -> Resul
     let octets = message_of(alloc, words)?;
     let message = read(alloc, &octets)?;
     match orders_of(message) {
-        Ok((cells, command)) => reply_to(alloc, drought, &command, &cells, words),
-        Err(_) => Err(Fail::new("no order")),
+        Ok((cells, command)) => {
+            let text = reply_to(alloc, drought, &command, &cells, words);
+            drop(command);
+            text
+        }
+        Err(_cause) => Err(Fail::new("no order")),
     }
 }
 

@@ -1,10 +1,10 @@
 //! A desk with three passes, and what its calls answer.
 
 use crate::lines::*;
-use bsc_table::Answer;
+use bsc_table::{Answer, State};
 use cbs_page::Serial;
 use cbsp_wire::Cell;
-use order_desk::{Desk, Note, Open, Pass, Piece, cells_ok};
+use order_desk::{Desk, DeskFault, Note, Open, Pass, Piece, cells_ok};
 use std::alloc::Global;
 use std::fmt::{Debug, Display};
 use std::mem;
@@ -39,10 +39,12 @@ pub fn begin(alloc: Global, run: &mut Run, words: &mut Words) -> Result<String, 
     let outcome = Desk::open(alloc, &cells, slots);
     run.drought.end();
     match outcome {
-        Ok(desk) => run.desk = desk,
-        Err(fault) => return shown(alloc, &fault),
+        Ok(desk) => {
+            drop(mem::replace(&mut run.desk, desk));
+            Ok(String::new(alloc))
+        }
+        Err(fault) => shown(alloc, &fault),
     }
-    Ok(String::new(alloc))
 }
 
 /// Three passes without notes.
@@ -54,17 +56,27 @@ pub fn new_passes(alloc: Global, desk: &Desk) -> Result<Vec<Pass>, Fail> {
     Ok(passes)
 }
 
+/// What a run has beside its desk.
+fn parts_of(alloc: Global, desk: &Desk) -> Result<(Vec<Pass>, Drought), Fail> {
+    let passes = new_passes(alloc, desk)?;
+    Ok((passes, Drought::new(alloc)?))
+}
+
 impl Run {
     /// A run at a desk without cells.
     pub fn new(alloc: Global) -> Result<Run, Fail> {
-        let drought = Drought::new(alloc)?;
         let desk = no_desk(alloc)?;
-        let passes = new_passes(alloc, &desk)?;
-        Ok(Run {
-            desk,
-            passes,
-            drought,
-        })
+        match parts_of(alloc, &desk) {
+            Ok((passes, drought)) => Ok(Run {
+                desk,
+                passes,
+                drought,
+            }),
+            Err(fail) => {
+                drop(desk);
+                Err(fail)
+            }
+        }
     }
 }
 
@@ -83,6 +95,21 @@ pub fn told<F: Debug + Display>(alloc: Global, fault: &F) -> Result<String, Fail
     Ok(format!(in alloc; "{fault:?}: {fault}")?)
 }
 
+/// Has an order carried out, where memory can be scarce.
+fn order_in<T: AllocGlobal + Wait>(
+    rt: &T,
+    desk: &Desk,
+    pass: &mut Pass,
+    drought: &mut Drought,
+    at: u16,
+    octets: &[u8],
+) -> Result<Vec<u8>, DeskFault> {
+    drought.begin(rt.alloc());
+    let outcome = desk.order(rt, rt.alloc(), pass, at, octets, &Open);
+    drought.end();
+    outcome
+}
+
 /// Orders, and answers the reply, or why there is none. The words: the slot, and a message.
 fn ordered<T: AllocGlobal + Wait>(
     rt: &T,
@@ -93,10 +120,7 @@ fn ordered<T: AllocGlobal + Wait>(
 ) -> Result<String, Fail> {
     let at = words.number16()?;
     let octets = message_of(rt.alloc(), words)?;
-    drought.begin(rt.alloc());
-    let outcome = desk.order(rt, rt.alloc(), pass, at, &octets, &Open);
-    drought.end();
-    match outcome {
+    match order_in(rt, desk, pass, drought, at, &octets) {
         Ok(reply) => Ok(digits_of(rt.alloc(), reply.as_slice())?),
         Err(fault) => told(rt.alloc(), &fault),
     }
@@ -121,6 +145,21 @@ fn played<T: AllocGlobal + Wait>(
     }
 }
 
+/// Asks for a status, where memory can be scarce.
+fn status_in<T: AllocGlobal + Wait>(
+    rt: &T,
+    desk: &Desk,
+    pass: &mut Pass,
+    drought: &mut Drought,
+    message: (Cell, u16, Serial),
+) -> Result<Option<(u16, State)>, DeskFault> {
+    let (cell, id, serial) = message;
+    drought.begin(rt.alloc());
+    let outcome = desk.status(rt, rt.alloc(), pass, cell, id, serial, &Open);
+    drought.end();
+    outcome
+}
+
 /// Asks for a status, and if that is of an unknown message, once more until it has asked `times` times. The words: the
 /// cell, the identifier, and the serial number.
 fn asked<T: AllocGlobal + Wait>(
@@ -135,10 +174,7 @@ fn asked<T: AllocGlobal + Wait>(
     let id = words.number16()?;
     let serial = Serial::of(words.hex16()?);
     for _ in 0..times {
-        drought.begin(rt.alloc());
-        let outcome = desk.status(rt, rt.alloc(), pass, cell, id, serial, &Open);
-        drought.end();
-        match outcome {
+        match status_in(rt, desk, pass, drought, (cell, id, serial)) {
             Ok(None) => {}
             Ok(Some((completed, state))) => {
                 return shown(rt.alloc(), &Answer::Told { completed, state });
@@ -165,7 +201,11 @@ pub fn taken_out<T: AllocGlobal + Wait>(
     let outcome = run.desk.piece(rt, rt.alloc(), cell, from, slots, &Open);
     run.drought.end();
     match outcome {
-        Ok(piece) => piece_text(rt.alloc(), &piece),
+        Ok(piece) => {
+            let text = piece_text(rt.alloc(), &piece);
+            drop(piece);
+            text
+        }
         Err(fault) => told(rt.alloc(), &fault),
     }
 }

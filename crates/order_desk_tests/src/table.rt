@@ -76,6 +76,13 @@ fn outcome<T: AllocGlobal + Wait + Abort>(
     Ok(String::from_str(rt.alloc(), "refused to the end")?)
 }
 
+/// Expects what a row says.
+fn expect_row<T: AllocGlobal + Wait + Abort>(rt: &T, run: &mut Run, row: Row) -> Result<(), Fail> {
+    let found = outcome(rt, run, row.action)?;
+    assert_eq!(rt; found.trim(), row.wanted, "{}", row.action);
+    Ok(())
+}
+
 /// Expects what the rows of a table say, and returns how many there are.
 pub fn expect_each<T: AllocGlobal + Wait + Abort>(
     rt: &T,
@@ -85,8 +92,7 @@ pub fn expect_each<T: AllocGlobal + Wait + Abort>(
     let mut rows = 0_u64;
     for line in table.split('\n') {
         if let Some(row) = Row::of(line) {
-            let found = outcome(rt, run, row.action)?;
-            assert_eq!(rt; found.trim(), row.wanted, "{line}");
+            expect_row(rt, run, row)?;
             rows = rows.saturating_add(1);
         }
     }
@@ -96,7 +102,8 @@ pub fn expect_each<T: AllocGlobal + Wait + Abort>(
 /// Expects what the rows of a table say, and that there are some.
 pub fn expect_rows<T: AllocGlobal + Wait + Abort>(rt: &T, table: &str) -> Result<(), Fail> {
     let mut run = Run::new(rt.alloc())?;
-    let rows = expect_each(rt, &mut run, table)?;
-    assert!(rt; rows > 0);
+    let rows = expect_each(rt, &mut run, table);
+    drop(run);
+    assert!(rt; rows? > 0);
     Ok(())
 }

@@ -2,6 +2,8 @@
 
 use crate::desks::*;
 use crate::gate::{Crossing, Manner};
+use crate::streams::records_with;
+use bsc_table::CellRecord;
 use order_desk::{Desk, Pass};
 use std::process::Abort;
 use std::sync::Wait;
@@ -31,16 +33,24 @@ fn expect_both<T: AllocGlobal + Threads + Wait + Abort + Sync>(
     assert_eq!(rt; (taken, replied), (true, true));
 }
 
-#[test]
-fn a_session_orders_while_a_piece_of_another_cell_is_taken(rt: HostRuntime) -> Result<(), Fail> {
+/// The records of a desk at which both was done, each at the gate.
+fn settled_at<T: AllocGlobal + Threads + Wait + Abort + Sync>(
+    rt: &T,
+    gate: &Crossing,
+) -> Result<Vec<CellRecord>, Fail> {
+    let octets = order_of(rt.alloc(), FRONT_OF_SECOND)?;
     let desk = desk_of(rt.alloc(), 2, 10)?;
     let mut pass = desk.pass();
-    let octets = order_of(rt.alloc(), FRONT_OF_SECOND)?;
+    expect_both(rt, &desk, &mut pass, &octets, gate);
+    records_with(rt.alloc(), desk, Vec::new(rt.alloc()), pass)
+}
+
+#[test]
+fn a_session_orders_while_a_piece_of_another_cell_is_taken(rt: HostRuntime) -> Result<(), Fail> {
     let gate = Crossing::new(rt.alloc(), Manner::Meet)?;
-    expect_both(&rt, &desk, &mut pass, &octets, &gate);
+    let records = settled_at(&rt, &gate)?;
     let told = gate.told(rt.alloc())?;
     assert_eq!(&rt; told.as_str(), ", in both at once");
-    let records = settled(rt.alloc(), desk, [pass].as_slice())?;
     let entries = records.iter().map(|record| record.log().len());
     assert!(&rt; entries.eq([0, 1]));
     Ok(())

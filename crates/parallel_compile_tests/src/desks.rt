@@ -76,12 +76,14 @@ pub fn ordered<T: AllocGlobal + Wait>(
     slots: u16,
     clock: u16,
 ) -> Result<(Desk, Pass), Fail> {
+    let octets = order_of(rt.alloc(), FRONT)?;
     let desk = desk_of(rt.alloc(), 2, slots)?;
     let mut pass = desk.pass();
-    let octets = order_of(rt.alloc(), FRONT)?;
     if order(rt, &desk, &mut pass, &octets, &Open) && play(rt, &desk, &mut pass, clock) {
         return Ok((desk, pass));
     }
+    drop(desk);
+    drop(pass);
     Err(Fail::new("the page isn't ordered, or the cell not played"))
 }
 
@@ -92,6 +94,7 @@ pub fn settled(alloc: Global, desk: Desk, passes: &[Pass]) -> Result<Vec<CellRec
         Err(fault) => return Err(Fail::new(fault)),
     };
     if closed.cells.len() != closed.books.len() || !cells_ok(&closed.cells) {
+        drop(closed);
         return Err(Fail::new("the desk has other cells or books"));
     }
     match closed.settle(alloc, passes) {

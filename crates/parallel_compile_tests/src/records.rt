@@ -6,7 +6,7 @@ use bsc_table::{Answer, Category, CellBook, CellRecord, Command};
 use cbch_blocks::{Tape, tape_of};
 use cbs_page::{Content, Dcs, Serial};
 use cbsp_wire::{Cell, Contents};
-use std::alloc::Global;
+use std::alloc::{AllocError, Global};
 use std::process::Abort;
 use std::test::Fail;
 use test_support::Words;
@@ -22,12 +22,13 @@ fn idle(alloc: Global, ci: u16, slots: u16) -> Result<CellRecord, Fail> {
     Ok(played_out(CellBook::open(alloc, Cell { lac: 1, ci }, slots)?))
 }
 
-/// The record of five slots of cell 1-3, which airs one page in every second slot.
-fn airing(rt: &impl Abort, alloc: Global) -> Result<CellRecord, Fail> {
+/// The answer to an order to air one page in every second slot.
+fn answer_to_page(alloc: Global, book: &mut CellBook) -> Result<Answer, AllocError> {
     let page = Content {
         used: 82,
         octets: [0xA1; 82],
     };
+    let contents = Contents::new(Vec::from_slice(alloc, [page].as_slice())?)?;
     let write = Command::Write {
         id: 4370,
         serial: Serial::of(0x0010),
@@ -36,10 +37,19 @@ fn airing(rt: &impl Abort, alloc: Global) -> Result<CellRecord, Fail> {
         period: 2,
         broadcasts: 0,
         dcs: Dcs(0x01),
-        contents: Contents::new(Vec::from_slice(alloc, [page].as_slice())?)?,
+        contents,
     };
+    let answer = book.apply(&write);
+    drop(write);
+    Ok(answer)
+}
+
+/// The record of five slots of cell 1-3, which airs one page in every second slot.
+fn airing(rt: &impl Abort, alloc: Global) -> Result<CellRecord, Fail> {
     let mut book = CellBook::open(alloc, Cell { lac: 1, ci: 3 }, 5)?;
-    assert_eq!(rt; book.apply(&write), Answer::Started { slot: 0 });
+    let answer = answer_to_page(alloc, &mut book);
+    let is_started = matches!(answer, Ok(Answer::Started { slot: 0 }));
+    assert!(rt; is_started);
     Ok(played_out(book))
 }
 

@@ -9,6 +9,7 @@ use cbsp_wire::Cell;
 use order_desk::{Desk, Gate, Note, Open, Pass, Piece};
 use parallel_compile::{CompileFault, check_streamed, stream_all};
 use std::alloc::{AllocError, Global};
+use std::fmt::Write;
 use std::process::Abort;
 use std::sync::Wait;
 use std::test::Fail;
@@ -38,16 +39,20 @@ fn stream<T: AllocGlobal + Threads + Wait + Sync>(
     outcome
 }
 
+/// Puts the slots of a cell that a note says were played.
+fn put_play(text: &mut String, note: &Note, ci: u16) -> Result<(), AllocError> {
+    match note {
+        Note::Played { cell, from, to } if *cell == cell_of(ci) => write!(text, " {from}..{to}"),
+        _ => Ok(()),
+    }
+}
+
 /// The slots of a cell that passes have noted as played, in their order.
 fn plays_of(alloc: Global, passes: &[Pass], ci: u16) -> Result<String, AllocError> {
     let mut text = String::new(alloc);
     for pass in passes {
         for note in pass.notes() {
-            if let Note::Played { cell, from, to } = note {
-                if *cell == cell_of(ci) {
-                    text.push_str(&format!(in alloc; " {from}..{to}")?)?;
-                }
-            }
+            put_play(&mut text, note, ci)?;
         }
     }
     Ok(text)
@@ -59,14 +64,17 @@ fn check(tapes: &[Tape], records: &[CellRecord]) -> Result<(), CompileFault> {
 }
 
 /// The records of a desk that is settled with the passes of workers and the one of what was done before.
-fn records_with(
+pub fn records_with(
     alloc: Global,
     desk: Desk,
     passes: Vec<Pass>,
     pass: Pass,
 ) -> Result<Vec<CellRecord>, Fail> {
     let mut passes = passes;
-    passes.push(pass)?;
+    if passes.push(pass).is_err() {
+        drop(desk);
+        return Err(Fail::new("out of memory"));
+    }
     settled(alloc, desk, &passes)
 }
 
@@ -81,17 +89,61 @@ fn expect_checked<T: AllocGlobal + Abort>(
     Ok(())
 }
 
+/// Expects that tapes are those of the records of the desk, settled with these passes.
+fn expect_settled<T: AllocGlobal + Abort>(
+    rt: &T,
+    desk: Desk,
+    pass: Pass,
+    passes: Vec<Pass>,
+    tapes: &[Tape],
+) -> Result<(), Fail> {
+    let records = records_with(rt.alloc(), desk, passes, pass)?;
+    expect_checked(rt, tapes, &records)
+}
+
+/// The tapes that one worker streams, which makes no thread.
+fn streamed_alone<T: AllocGlobal + Threads + Wait + Sync>(
+    rt: &T,
+    desk: &Desk,
+) -> Result<Vec<Tape>, CompileFault> {
+    let (tapes, passes) = stream_at(rt, desk, 1, &Open)?;
+    drop(passes);
+    Ok(tapes)
+}
+
+/// The same of a desk that was ordered anew.
+fn streamed_anew<T: AllocGlobal + Threads + Wait + Sync>(
+    rt: &T,
+    slots: u16,
+) -> Result<Result<Vec<Tape>, CompileFault>, Fail> {
+    let (desk, pass) = ordered(rt, slots, 0)?;
+    let tapes = streamed_alone(rt, &desk);
+    drop(desk);
+    drop(pass);
+    Ok(tapes)
+}
+
 /// Expects that a desk, whose cells a stream that was refused may have played in part, gives the tapes of a desk that
-/// was ordered anew. One worker makes them, so that no thread is made.
+/// was ordered anew.
 fn expect_whole<T: AllocGlobal + Threads + Wait + Abort + Sync>(
     rt: &T,
     desk: &Desk,
 ) -> Result<(), Fail> {
-    let (anew, _) = ordered(rt, desk.slots(), 0)?;
-    let (wanted, _) = stream_at(rt, &anew, 1, &Open)?;
-    let (tapes, _) = stream_at(rt, desk, 1, &Open)?;
+    let wanted = streamed_anew(rt, desk.slots())??;
+    let tapes = streamed_alone(rt, desk)?;
     assert!(rt; is_same(&tapes, &wanted));
     Ok(())
+}
+
+/// Which slots workers play in each cell; after `whole` how many times they play.
+fn plays_told(alloc: Global, passes: &[Pass], verb: &str) -> Result<String, AllocError> {
+    let one = plays_of(alloc, passes, 1)?;
+    if verb == "whole" {
+        let plays = one.split_whitespace().count();
+        return format!(in alloc; "{plays} pieces of 1-1");
+    }
+    let two = plays_of(alloc, passes, 2)?;
+    format!(in alloc; "1-1:{one}; 1-2:{two}")
 }
 
 /// Has workers stream a desk that was ordered. Returns which slots they play in each cell, or their fault, after which
@@ -102,46 +154,58 @@ pub fn streamed<T: AllocGlobal + Threads + Wait + Abort + Sync>(
     verb: &str,
     words: &mut Words,
 ) -> Result<String, Fail> {
-    let alloc = rt.alloc();
     let workers = words.number()?;
-    let (desk, pass) = ordered(rt, words.number16()?, words.number16()?)?;
+    let (slots, clock) = (words.number16()?, words.number16()?);
+    let (desk, pass) = ordered(rt, slots, clock)?;
     match stream(rt, stage, &desk, workers) {
         Ok((tapes, passes)) => {
             assert_eq!(rt; passes.len() as u64, workers);
-            let one = plays_of(alloc, &passes, 1)?;
-            let two = plays_of(alloc, &passes, 2)?;
-            let records = records_with(alloc, desk, passes, pass)?;
-            expect_checked(rt, &tapes, &records)?;
-            if verb == "whole" {
-                let plays = one.split_whitespace().count();
-                return Ok(format!(in alloc; "{plays} pieces of 1-1")?);
-            }
-            Ok(format!(in alloc; "1-1:{one}; 1-2:{two}")?)
+            let told = plays_told(rt.alloc(), &passes, verb);
+            expect_settled(rt, desk, pass, passes, &tapes)?;
+            Ok(told?)
         }
         Err(fault) => {
-            expect_whole(rt, &desk)?;
-            Ok(format!(in alloc; "{fault:?}")?)
+            let whole = expect_whole(rt, &desk);
+            drop(desk);
+            drop(pass);
+            whole?;
+            Ok(format!(in rt.alloc(); "{fault:?}")?)
         }
     }
 }
 
-/// Has workers stream a desk in which nothing was ordered, anew so many times. Returns how often it was streamed.
+/// Has workers stream a desk of so many cells in which nothing was ordered.
+fn streamed_once<T: AllocGlobal + Threads + Wait + Abort + Sync>(
+    rt: &T,
+    stage: &mut Stage,
+    workers: u64,
+    cells: u16,
+    slots: u16,
+) -> Result<(), Fail> {
+    let desk = desk_of(rt.alloc(), cells, slots)?;
+    let pass = desk.pass();
+    match stream(rt, stage, &desk, workers) {
+        Ok((tapes, passes)) => expect_settled(rt, desk, pass, passes, &tapes),
+        Err(fault) => {
+            drop(desk);
+            drop(pass);
+            Err(Fail::new(fault))
+        }
+    }
+}
+
+/// Has workers stream such a desk, anew so many times. Returns how often it was streamed.
 pub fn streamed_often<T: AllocGlobal + Threads + Wait + Abort + Sync>(
     rt: &T,
     stage: &mut Stage,
     words: &mut Words,
 ) -> Result<String, Fail> {
-    let alloc = rt.alloc();
     let (workers, cells) = (words.number()?, words.number16()?);
     let (slots, times) = (words.number16()?, words.number16()?);
     for _ in 0..times {
-        let desk = desk_of(alloc, cells, slots)?;
-        let pass = desk.pass();
-        let (tapes, passes) = stream(rt, stage, &desk, workers)?;
-        let records = records_with(alloc, desk, passes, pass)?;
-        expect_checked(rt, &tapes, &records)?;
+        streamed_once(rt, stage, workers, cells, slots)?;
     }
-    Ok(format!(in alloc; "{times} times")?)
+    Ok(format!(in rt.alloc(); "{times} times")?)
 }
 
 /// The tapes of 100 slots that two workers stream, and the records of the settled desk.
@@ -150,9 +214,17 @@ fn made<T: AllocGlobal + Threads + Wait + Sync>(
     stage: &mut Stage,
 ) -> Result<(Vec<Tape>, Vec<CellRecord>), Fail> {
     let (desk, pass) = ordered(rt, 100, 0)?;
-    let (tapes, passes) = stream(rt, stage, &desk, 2)?;
-    let records = records_with(rt.alloc(), desk, passes, pass)?;
-    Ok((tapes, records))
+    match stream(rt, stage, &desk, 2) {
+        Ok((tapes, passes)) => {
+            let records = records_with(rt.alloc(), desk, passes, pass)?;
+            Ok((tapes, records))
+        }
+        Err(fault) => {
+            drop(desk);
+            drop(pass);
+            Err(Fail::new(fault))
+        }
+    }
 }
 
 /// The page with an octet changed, unless the word is no number of one.
@@ -178,6 +250,24 @@ fn set(tapes: &mut [Tape], words: &mut Words) -> Result<(), Fail> {
     Ok(())
 }
 
+/// Leaves some of the tapes and of the records, has both tapes in the other order, or sets a slot.
+fn change(
+    tapes: &mut Vec<Tape>,
+    records: &mut Vec<CellRecord>,
+    verb: &str,
+    words: &mut Words,
+) -> Result<(), Fail> {
+    match verb {
+        "set" => set(tapes, words)?,
+        "exchange" => tapes.reverse(),
+        _ => {
+            tapes.truncate(usize::from(words.number16()?));
+            records.truncate(usize::from(words.number16()?));
+        }
+    }
+    Ok(())
+}
+
 /// What comes of the check of streamed tapes: of some of them by some of the records, of both in the other order, or
 /// once a slot is set.
 pub fn checked<T: AllocGlobal + Threads + Wait + Sync>(
@@ -187,14 +277,7 @@ pub fn checked<T: AllocGlobal + Threads + Wait + Sync>(
     words: &mut Words,
 ) -> Result<String, Fail> {
     let (mut tapes, mut records) = made(rt, stage)?;
-    match verb {
-        "set" => set(&mut tapes, words)?,
-        "exchange" => tapes.reverse(),
-        _ => {
-            tapes.truncate(usize::from(words.number16()?));
-            records.truncate(usize::from(words.number16()?));
-        }
-    }
+    change(&mut tapes, &mut records, verb, words)?;
     let outcome = check(&tapes, &records);
     Ok(format!(in rt.alloc(); "{outcome:?}")?)
 }
@@ -218,20 +301,32 @@ fn piece_text(alloc: Global, piece: &Piece) -> Result<String, AllocError> {
     Ok(text)
 }
 
+/// A piece of a cell.
+fn piece_told<T: AllocGlobal + Wait>(
+    rt: &T,
+    desk: &Desk,
+    ci: u16,
+    from: u16,
+    slots: u16,
+) -> Result<String, AllocError> {
+    if slots > 64 {
+        return String::from_str(rt.alloc(), "too many slots");
+    }
+    match desk.piece(rt, rt.alloc(), cell_of(ci), from, slots, &Open) {
+        Ok(piece) => {
+            let text = piece_text(rt.alloc(), &piece);
+            drop(piece);
+            text
+        }
+        Err(fault) => format!(in rt.alloc(); "{fault:?}"),
+    }
+}
+
 /// A piece of a cell. It leaves no entry: the desk is settled with the pass of what was done before.
 pub fn taken<T: AllocGlobal + Wait>(rt: &T, words: &mut Words) -> Result<String, Fail> {
-    let alloc = rt.alloc();
+    let (ci, from, slots) = (words.number16()?, words.number16()?, words.number16()?);
     let (desk, pass) = ordered(rt, 100, 70)?;
-    let cell = cell_of(words.number16()?);
-    let from = words.number16()?;
-    let k = words.number16()?;
-    if k > 64 {
-        return Err(Fail::new("too many slots"));
-    }
-    let text = match desk.piece(rt, alloc, cell, from, k, &Open) {
-        Ok(piece) => piece_text(alloc, &piece)?,
-        Err(fault) => format!(in alloc; "{fault:?}")?,
-    };
-    settled(alloc, desk, [pass].as_slice())?;
-    Ok(text)
+    let text = piece_told(rt, &desk, ci, from, slots);
+    records_with(rt.alloc(), desk, Vec::new(rt.alloc()), pass)?;
+    Ok(text?)
 }

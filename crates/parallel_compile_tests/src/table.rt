@@ -121,21 +121,42 @@ fn outcome<T: AllocGlobal + Threads + Wait + Abort + Sync>(
     Ok(String::from_str(rt.alloc(), "refused to the end")?)
 }
 
+/// Expects what a row says.
+fn expect_row<T: AllocGlobal + Threads + Wait + Abort + Sync>(
+    rt: &T,
+    stage: &mut Stage,
+    row: Row,
+) -> Result<(), Fail> {
+    let found = outcome(rt, stage, row.action)?;
+    assert_eq!(rt; found.trim(), row.wanted, "{}", row.action);
+    Ok(())
+}
+
+/// Expects what the rows of a table say, and returns how many there are.
+fn expect_each<T: AllocGlobal + Threads + Wait + Abort + Sync>(
+    rt: &T,
+    stage: &mut Stage,
+    table: &str,
+) -> Result<u16, Fail> {
+    let mut rows = 0_u16;
+    for line in table.split('\n') {
+        if let Some(row) = Row::of(line) {
+            expect_row(rt, stage, row)?;
+            rows = rows.saturating_add(1);
+        }
+    }
+    Ok(rows)
+}
+
 /// Expects what the rows of a table say.
 pub fn expect_rows<T: AllocGlobal + Threads + Wait + Abort + Sync>(
     rt: &T,
     table: &str,
 ) -> Result<(), Fail> {
     let mut stage = Stage::new(rt.alloc())?;
-    let mut rows = 0_usize;
-    for line in table.split('\n') {
-        if let Some(row) = Row::of(line) {
-            let found = outcome(rt, &mut stage, row.action)?;
-            assert_eq!(rt; found.trim(), row.wanted, "{line}");
-            rows = rows.saturating_add(1);
-        }
-    }
-    assert!(rt; rows > 0);
+    let rows = expect_each(rt, &mut stage, table);
+    drop(stage);
+    assert!(rt; rows? > 0);
     Ok(())
 }
 

@@ -60,15 +60,20 @@ fn gathered_of(
     outcome
 }
 
+/// How many tapes there are, which have to be in order.
+fn in_order_text(alloc: Global, tapes: &[Tape]) -> Result<String, Fail> {
+    if are_in_order(alloc, tapes)? {
+        return Ok(format!(in alloc; "{} in order", tapes.len())?);
+    }
+    Err(Fail::new("the tapes are of other cells"))
+}
+
 /// How many tapes are gathered, and whether they are in order.
 pub fn gathered(alloc: Global, stage: &mut Stage, words: &mut Words) -> Result<String, Fail> {
     let count = words.number16()?;
     let pieces = pieces_of(alloc, words)?;
     match gathered_of(alloc, stage, count, pieces) {
-        Ok(tapes) if are_in_order(alloc, &tapes)? => {
-            Ok(format!(in alloc; "{} in order", tapes.len())?)
-        }
-        Ok(_) => Err(Fail::new("the tapes are of other cells")),
+        Ok(tapes) => in_order_text(alloc, &tapes),
         Err(fault) => Ok(format!(in alloc; "{fault:?}")?),
     }
 }
@@ -159,6 +164,18 @@ fn header_text(alloc: Global, tape: &Tape) -> Result<String, Fail> {
     Ok(format!(in alloc; "{header} and {idle} idle")?)
 }
 
+/// The headers of tapes, and how many idle blocks follow.
+fn headers_text(alloc: Global, tapes: &[Tape]) -> Result<String, Fail> {
+    let mut text = String::new(alloc);
+    for tape in tapes {
+        if !text.is_empty() {
+            text.push_str(", ")?;
+        }
+        text.push_str(&header_text(alloc, tape)?)?;
+    }
+    Ok(text)
+}
+
 /// The headers of the tapes that workers make, and how many idle blocks follow.
 pub fn headers<T: AllocGlobal + Threads + Abort + Sync>(
     rt: &T,
@@ -168,14 +185,7 @@ pub fn headers<T: AllocGlobal + Threads + Abort + Sync>(
     let workers = words.number()?;
     let records = records_of(rt, rt.alloc(), words)?;
     let tapes = made_by(rt, stage, workers, &records)?;
-    let mut text = String::new(rt.alloc());
-    for tape in &tapes {
-        if !text.is_empty() {
-            text.push_str(", ")?;
-        }
-        text.push_str(&header_text(rt.alloc(), tape)?)?;
-    }
-    Ok(text)
+    headers_text(rt.alloc(), &tapes)
 }
 
 /// A fault's text.

@@ -199,6 +199,21 @@ fn answer(alloc: Global, said: Said) -> Result<String, Fail> {
     }
 }
 
+/// Makes a call with as much memory as it is to have.
+fn said_at<T: AllocGlobal + Threads + Wait + Sync>(
+    rt: &T,
+    bench: &mut Bench,
+    call: Call,
+    gate: &Crossing,
+    is_scarce: bool,
+) -> Result<Said, Fail> {
+    if is_scarce {
+        said_in_drought(rt, bench, call, gate)
+    } else {
+        said_with_memory(rt, bench, call, gate)
+    }
+}
+
 /// Makes a call, and says what it comes to, and what happened at its gate.
 pub fn make_call<T: AllocGlobal + Threads + Wait + Sync>(
     rt: &T,
@@ -207,13 +222,11 @@ pub fn make_call<T: AllocGlobal + Threads + Wait + Sync>(
     is_scarce: bool,
 ) -> Result<String, Fail> {
     let gate = Crossing::new(rt.alloc(), call.manner)?;
-    let said = if is_scarce {
-        said_in_drought(rt, bench, call, &gate)?
-    } else {
-        said_with_memory(rt, bench, call, &gate)?
-    };
+    let said = said_at(rt, bench, call, &gate, is_scarce);
+    let told = gate.told();
+    drop(gate);
+    let mut text = answer(rt.alloc(), said?)?;
     bench.renew();
-    let mut text = answer(rt.alloc(), said)?;
-    text.push_str(gate.told())?;
+    text.push_str(told)?;
     Ok(text)
 }

@@ -116,6 +116,21 @@ fn called<T: AllocGlobal + Threads + Wait + Sync>(
     make_call(rt, bench, call, is_scarce)
 }
 
+/// What comes of a verb and the words after it.
+fn done<T: AllocGlobal + Threads + Wait + Sync>(
+    rt: &T,
+    bench: &mut Bench,
+    verb: &str,
+    words: &mut Words,
+    is_scarce: bool,
+) -> Result<String, Fail> {
+    match verb {
+        "compile" | "live" | "meet" | "starve" => called(rt, bench, verb, words, is_scarce),
+        "all" | "aired" | "cells" | "shown" => read_back(rt.alloc(), bench, verb, words),
+        _ => set(rt.alloc(), bench, verb, words),
+    }
+}
+
 /// What comes of an action, whose call has so many blocks of memory if that is scarce.
 fn carried_out<T: AllocGlobal + Threads + Wait + Sync>(
     rt: &T,
@@ -123,26 +138,19 @@ fn carried_out<T: AllocGlobal + Threads + Wait + Sync>(
     action: &str,
     blocks: u16,
 ) -> Result<String, Fail> {
-    let alloc = rt.alloc();
     if let Some(line) = action.strip_prefix("in ") {
-        return line_added(alloc, bench, line, "\n");
+        return line_added(rt.alloc(), bench, line, "\n");
     }
     if let Some(line) = action.strip_prefix("last ") {
-        return line_added(alloc, bench, line, "");
+        return line_added(rt.alloc(), bench, line, "");
     }
     let mut words = Words::of(action);
     let verb = bench.drought.verb(&mut words, blocks);
-    let answer = match verb {
-        "compile" | "live" | "meet" | "starve" => {
-            called(rt, bench, verb, &mut words, is_scarce(action))?
-        }
-        "all" | "aired" | "cells" | "shown" => read_back(alloc, bench, verb, &mut words)?,
-        _ => set(alloc, bench, verb, &mut words)?,
-    };
+    let found = done(rt, bench, verb, &mut words, is_scarce(action))?;
     if words.word().is_empty() {
-        return Ok(answer);
+        return Ok(found);
     }
-    Ok(String::from_str(alloc, "words are left over")?)
+    Ok(String::from_str(rt.alloc(), "words are left over")?)
 }
 
 /// Whether an action's call has scarce memory.
@@ -171,25 +179,48 @@ fn outcome<T: AllocGlobal + Threads + Wait + Sync>(
     Ok(String::from_str(rt.alloc(), "refused to the end")?)
 }
 
+/// Whether an answer is one of those that a row wants.
+fn is_wanted(wanted: &str, found: &str) -> bool {
+    wanted.split(" or ").any(|one| one == found)
+}
+
+/// Expects what a row says.
+fn expect_row<T: AllocGlobal + Abort + Threads + Wait + Sync>(
+    rt: &T,
+    bench: &mut Bench,
+    row: Row,
+) -> Result<(), Fail> {
+    let found = outcome(rt, bench, row.action)?;
+    assert!(rt; is_wanted(row.wanted, &found), "{}: {found}", row.action);
+    Ok(())
+}
+
+/// Expects what the rows of a table say, and returns how many there are.
+fn expect_each<T: AllocGlobal + Abort + Threads + Wait + Sync>(
+    rt: &T,
+    bench: &mut Bench,
+    table: &str,
+) -> Result<u16, Fail> {
+    let mut rows = 0_u16;
+    for line in table.split('\n') {
+        if let Some(row) = Row::of(line) {
+            expect_row(rt, bench, row)?;
+            rows = rows.saturating_add(1);
+        }
+    }
+    Ok(rows)
+}
+
 /// Expects what the rows of a table say.
 pub fn expect_rows<T: AllocGlobal + Abort + Threads + Wait + Sync>(
     rt: &T,
     table: &str,
 ) -> Result<(), Fail> {
     let mut bench = Bench::new(rt.alloc())?;
-    let mut rows = 0_u32;
-    for line in table.split('\n') {
-        if let Some(row) = Row::of(line) {
-            let found = outcome(rt, &mut bench, row.action)?;
-            let is_wanted = row
-                .wanted
-                .split(" or ")
-                .any(|wanted| wanted == found.as_str());
-            assert!(rt; is_wanted, "{line}: {found}");
-            rows = rows.saturating_add(1);
-        }
-    }
-    assert!(rt; rows > 0);
-    assert!(rt; !bench.is_unseen);
+    let rows = expect_each(rt, &mut bench, table);
+    let is_unseen = bench.is_unseen;
+    drop(bench);
+    assert!(rt; rows? > 0);
+    assert!(rt; !is_unseen);
     Ok(())
 }

@@ -3,7 +3,7 @@
 use device_ends::Source;
 use device_ends::memory::MemoryReader;
 use handset::{Reading, Shown, read_tapes};
-use std::alloc::Global;
+use std::alloc::{AllocError, Global};
 use std::test::Fail;
 use test_support::digits_of;
 
@@ -54,14 +54,29 @@ fn push_message(alloc: Global, text: &mut String, message: &Shown) -> Result<(),
     Ok(())
 }
 
-/// The cells whose tapes these are.
-pub fn cells(alloc: Global, tapes: &[u8]) -> Result<String, Fail> {
-    let mut text = String::new(alloc);
-    for reading in &readings_of(alloc, tapes)? {
+/// Adds the cells of readings.
+fn push_cells(alloc: Global, text: &mut String, readings: &[Reading]) -> Result<(), AllocError> {
+    for reading in readings {
         let cell = reading.cell;
         text.push_str(&format!(in alloc; "{}-{} ", cell.lac, cell.ci)?)?;
     }
+    Ok(())
+}
+
+/// The cells whose tapes these are.
+pub fn cells(alloc: Global, tapes: &[u8]) -> Result<String, Fail> {
+    let mut text = String::new(alloc);
+    let readings = readings_of(alloc, tapes)?;
+    push_cells(alloc, &mut text, &readings)?;
     Ok(String::from_str(alloc, text.trim_end())?)
+}
+
+/// Adds messages.
+fn push_messages(alloc: Global, text: &mut String, messages: &[Shown]) -> Result<(), Fail> {
+    for message in messages {
+        push_message(alloc, text, message)?;
+    }
+    Ok(())
 }
 
 /// The messages that a handset shows of the tape of this place, from 1.
@@ -69,9 +84,7 @@ pub fn shown(alloc: Global, tapes: &[u8], place: u16) -> Result<String, Fail> {
     let mut text = String::new(alloc);
     let readings = readings_of(alloc, tapes)?;
     if let Some(reading) = readings.get(usize::from(place).saturating_sub(1)) {
-        for message in &reading.shown {
-            push_message(alloc, &mut text, message)?;
-        }
+        push_messages(alloc, &mut text, &reading.shown)?;
     }
     Ok(text)
 }
