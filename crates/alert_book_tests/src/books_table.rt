@@ -129,10 +129,24 @@ fn carry_out<T: AllocGlobal + Threads + Sync>(
     match verb {
         "cells_of" | "sent" | "session" => {
             let book = book_of(rt, &octets, given.most)?;
-            tell_book(rt.alloc(), told, verb, rest, &book)
+            let result = tell_book(rt.alloc(), told, verb, rest, &book);
+            drop(book);
+            result
         }
         _ => tell(told, verb, outcome_of(rt, &octets, given.most, calls)),
     }
+}
+
+/// Expects what a row says.
+fn expect_row<T: AllocGlobal + Abort + Threads + Sync>(
+    rt: &T,
+    given: &mut Given,
+    row: Row,
+) -> Result<(), Fail> {
+    let mut told = String::new(rt.alloc());
+    carry_out(rt, &mut told, given, row.action)?;
+    assert_eq!(rt; told.as_str(), row.wanted, "{}", row.action);
+    Ok(())
 }
 
 /// Expects what the rows of a table say.
@@ -144,13 +158,10 @@ pub fn expect_rows<T: AllocGlobal + Abort + Threads + Sync>(
         before: Vec::new(rt.alloc()),
         most: 4096,
     };
-    let mut told = String::new(rt.alloc());
     let mut rows = 0_usize;
     for line in table.split('\n') {
         if let Some(row) = Row::of(line) {
-            told.clear();
-            carry_out(rt, &mut told, &mut given, row.action)?;
-            assert_eq!(rt; told.as_str(), row.wanted, "{line}");
+            expect_row(rt, &mut given, row)?;
             rows = rows.saturating_add(1);
         }
     }

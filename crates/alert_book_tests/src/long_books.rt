@@ -2,7 +2,7 @@
 
 use crate::books_table::expect_rows;
 use crate::reading::book_of;
-use alert_book::Session;
+use alert_book::{Book, Session};
 use std::alloc::Global;
 use std::process::Abort;
 use std::test::Fail;
@@ -108,11 +108,20 @@ fn next_octets(alloc: Global, session: &mut Session<'_>) -> Result<Vec<u8>, Fail
     }
 }
 
+/// The octets of the first message of a session of a book.
+fn first_of(alloc: Global, book: &Book) -> Result<Vec<u8>, Fail> {
+    let mut session = Session::new(alloc, book, 0, 1)?;
+    let octets = next_octets(alloc, &mut session);
+    drop(session);
+    octets
+}
+
 /// The octets of the first message of a book.
 fn first_octets<T: AllocGlobal + Threads + Sync>(rt: &T, book: &str) -> Result<Vec<u8>, Fail> {
     let book = book_of(rt, book.as_bytes(), 64)?;
-    let mut session = Session::new(rt.alloc(), &book, 0, 1)?;
-    next_octets(rt.alloc(), &mut session)
+    let octets = first_of(rt.alloc(), &book);
+    drop(book);
+    octets
 }
 
 /// Expects that a session's next message is the one that the row of this number has alone.
@@ -141,11 +150,23 @@ fn expect_messages<T: AllocGlobal + Abort + Threads + Sync>(
     Ok(())
 }
 
+/// Expects the same of the long book.
+fn expect_session<T: AllocGlobal + Abort + Threads + Sync>(
+    rt: &T,
+    book: &Book,
+) -> Result<(), Fail> {
+    let mut session = Session::new(rt.alloc(), book, 0, 1)?;
+    let result = expect_messages(rt, &mut session);
+    drop(session);
+    result
+}
+
 #[test]
 fn many_texts_are_packed_as_each_alone(rt: HostRuntime) -> Result<(), Fail> {
     let book = book_of(&rt, long_book(rt.alloc(), 2, END, "")?.as_bytes(), 64)?;
-    let mut session = Session::new(rt.alloc(), &book, 0, 1)?;
-    expect_messages(&rt, &mut session)
+    let result = expect_session(&rt, &book);
+    drop(book);
+    result
 }
 
 #[test]

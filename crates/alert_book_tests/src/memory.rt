@@ -22,14 +22,35 @@ const BLOCKS: u16 = 400;
 /// How many octets each of them has.
 const BLOCK: usize = 512;
 
-/// What a book says if memory is refused.
-const REFUSED: BookFault = BookFault {
-    row: 0,
-    kind: BookFaultKind::Refused,
-};
+/// Reads a book of one cell without memory, and again and again with one block more, until it is read. Returns how
+/// often it is refused.
+fn refusals_of<T: AllocGlobal + Abort + Threads + Sync>(
+    rt: &T,
+    book: &[u8],
+    scarce: &mut Scarce,
+) -> Result<u16, Fail> {
+    for refused in 0..BLOCKS {
+        let outcome = outcome_of(rt, book, 100, None);
+        if outcome.fault.is_none() {
+            scarce.give_all();
+            assert_eq!(rt; outcome.cells, 1);
+            return Ok(refused);
+        }
+        let is_refused = matches!(
+            outcome.fault,
+            Some(BookFault {
+                row: 0,
+                kind: BookFaultKind::Refused
+            })
+        );
+        assert!(rt; is_refused);
+        scarce.give_block();
+    }
+    scarce.give_all();
+    Err(Fail::new("no book is read with 200 KB"))
+}
 
-/// Reads a book of one cell without memory, and again and again with one block more, until it is read. Expects that it
-/// is refused more often than this number.
+/// Expects that a book of one cell is refused more often than this number, and then read.
 fn expect_refusals<T: AllocGlobal + Abort + Threads + Sync>(
     rt: &T,
     book: &[u8],
@@ -37,19 +58,10 @@ fn expect_refusals<T: AllocGlobal + Abort + Threads + Sync>(
 ) -> Result<(), Fail> {
     let mut scarce = Scarce::new(rt.alloc(), BLOCKS, BLOCK)?;
     scarce.take(rt.alloc());
-    for refused in 0..BLOCKS {
-        let outcome = outcome_of(rt, book, 100, None);
-        if outcome.fault.is_none() {
-            scarce.give_all();
-            assert_eq!(rt; outcome.cells, 1);
-            assert!(rt; refused > least);
-            return Ok(());
-        }
-        assert_eq!(rt; outcome.fault, Some(REFUSED));
-        scarce.give_block();
-    }
-    scarce.give_all();
-    Err(Fail::new("no book is read with 200 KB"))
+    let refused = refusals_of(rt, book, &mut scarce);
+    drop(scarce);
+    assert!(rt; refused? > least);
+    Ok(())
 }
 
 #[test]
@@ -139,15 +151,29 @@ fn replies(alloc: Global) -> Result<Vec<Vec<u8>>, Fail> {
     Ok(replies)
 }
 
+/// Runs a session of a book.
+fn run_session<T: AllocGlobal + Abort>(
+    rt: &T,
+    book: &Book,
+    replies: &[Vec<u8>],
+    scarce: &mut Scarce,
+    given: &mut Given,
+) -> Result<(), Fail> {
+    let mut session = Session::new(rt.alloc(), book, 0, 1)?;
+    run(rt, &mut session, replies, scarce, given);
+    drop(session);
+    Ok(())
+}
+
 /// What a session of a book gives without memory.
 fn given_without_memory<T: AllocGlobal + Abort>(rt: &T, book: &Book) -> Result<Given, Fail> {
     let replies = replies(rt.alloc())?;
-    let mut scarce = Scarce::new(rt.alloc(), BLOCKS, BLOCK)?;
     let mut given = Vec::with_capacity(rt.alloc(), NUMBER)?;
+    let mut scarce = Scarce::new(rt.alloc(), BLOCKS, BLOCK)?;
     scarce.take(rt.alloc());
-    let mut session = Session::new(rt.alloc(), book, 0, 1)?;
-    run(rt, &mut session, &replies, &mut scarce, &mut given);
-    scarce.give_all();
+    let result = run_session(rt, book, &replies, &mut scarce, &mut given);
+    drop(scarce);
+    result?;
     Ok(given)
 }
 
@@ -172,7 +198,8 @@ fn names_of(alloc: Global, given: &Given) -> Result<String, Fail> {
 #[test]
 fn a_session_without_memory_stands_where_it_stood(rt: HostRuntime) -> Result<(), Fail> {
     let book = book_of(&rt, BOOK.as_bytes(), 64)?;
-    let given = given_without_memory(&rt, &book)?;
-    assert_eq!(rt; names_of(rt.alloc(), &given)?.as_str(), REQUESTS);
+    let given = given_without_memory(&rt, &book);
+    drop(book);
+    assert_eq!(rt; names_of(rt.alloc(), &given?)?.as_str(), REQUESTS);
     Ok(())
 }

@@ -29,7 +29,11 @@ pub fn outcome_of<T: AllocGlobal + Threads + Sync>(
     let mut reader = MemoryReader::new(octets, most.max(1), calls);
     let mut source = Source::new(&mut reader);
     let (cells, fault) = match read_book(rt, &mut source) {
-        Ok(book) => (book.cells().len(), None),
+        Ok(book) => {
+            let cells = book.cells().len();
+            drop(book);
+            (cells, None)
+        }
         Err(fault) => (0, Some(fault)),
     };
     let failed = source.failed();

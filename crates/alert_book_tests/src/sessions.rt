@@ -129,7 +129,9 @@ pub fn tell_session(
         return Err(Fail::new("no such part"));
     }
     let mut session = Session::new(alloc, book, part, parts)?;
-    tell_steps(alloc, told, &mut session, words)
+    let result = tell_steps(alloc, told, &mut session, words);
+    drop(session);
+    result
 }
 
 #[test]

@@ -1,7 +1,7 @@
 //! Tapes that are opened and set slot by slot.
 
 use crate::blocks::{BLOCKS, NOTHING, PAGE};
-use crate::records::{one_write, silent, two_writes};
+use crate::records::{one_write, silent, tape_from, two_writes};
 use bsc_table::CellRecord;
 use cbch_blocks::{Tape, tape_of};
 use cbsp_wire::Cell;
@@ -67,15 +67,23 @@ fn a_slot_is_set_and_no_other(rt: HostRuntime) -> Result<(), Fail> {
     Ok(())
 }
 
+/// Whether a tape is that of a run in which nothing is asked.
+fn is_of_silent(alloc: Global, tape: &Tape, cell: Cell, slots: u16) -> Result<bool, Fail> {
+    let run = silent(alloc, cell, slots)?;
+    let is_of = tape.is_of(&run);
+    drop(run);
+    Ok(is_of)
+}
+
 #[test]
 fn an_open_tape_is_that_of_a_silent_run(rt: HostRuntime) -> Result<(), Fail> {
     for slots in [0, 1, 3, 258] {
         let tape = Tape::open(rt.alloc(), CELL, slots)?;
-        let run = silent(rt.alloc(), CELL, slots)?;
-        assert_eq!(rt; tape.bytes(), tape_of(rt.alloc(), &run)?.bytes());
-        assert!(rt; tape.is_of(&run));
-        assert!(rt; !tape.is_of(&silent(rt.alloc(), Cell { lac: 1, ci: 2 }, slots)?));
-        assert!(rt; !tape.is_of(&silent(rt.alloc(), CELL, slots + 1)?));
+        let made = tape_from(rt.alloc(), silent(rt.alloc(), CELL, slots)?)?;
+        assert_eq!(rt; tape.bytes(), made.bytes());
+        assert!(rt; is_of_silent(rt.alloc(), &tape, CELL, slots)?);
+        assert!(rt; !is_of_silent(rt.alloc(), &tape, Cell { lac: 1, ci: 2 }, slots)?);
+        assert!(rt; !is_of_silent(rt.alloc(), &tape, CELL, slots + 1)?);
     }
     Ok(())
 }
@@ -89,24 +97,50 @@ fn is_of_with(alloc: Global, slot: u16, place: usize, run: &CellRecord) -> Resul
     Ok(tape.is_of(run))
 }
 
-#[test]
-fn each_octet_of_a_page_counts(rt: HostRuntime) -> Result<(), Fail> {
-    let run = one_write(&rt, rt.alloc())?;
-    assert!(rt; is_of_with(rt.alloc(), 0, 88, &run)?);
-    assert!(rt; !is_of_with(rt.alloc(), 1, 88, &run)?);
+/// Expects that the worked page alone is that of a record.
+fn expect_each_octet(rt: &impl Abort, alloc: Global, run: &CellRecord) -> Result<(), Fail> {
+    assert!(rt; is_of_with(alloc, 0, 88, run)?);
+    assert!(rt; !is_of_with(alloc, 1, 88, run)?);
     for place in 0..88 {
-        assert!(rt; !is_of_with(rt.alloc(), 0, place, &run)?, "octet {place}");
+        assert!(rt; !is_of_with(alloc, 0, place, run)?, "octet {place}");
     }
     Ok(())
 }
 
 #[test]
+fn each_octet_of_a_page_counts(rt: HostRuntime) -> Result<(), Fail> {
+    let run = one_write(&rt, rt.alloc())?;
+    let result = expect_each_octet(&rt, rt.alloc(), &run);
+    drop(run);
+    result
+}
+
+/// Expects that the tapes of two records are of these alone.
+fn expect_apart(
+    rt: &impl Abort,
+    alloc: Global,
+    run: &CellRecord,
+    other: &CellRecord,
+) -> Result<(), Fail> {
+    let tape = tape_of(alloc, run)?;
+    assert!(rt; tape.is_of(run));
+    assert!(rt; !tape.is_of(other));
+    assert!(rt; !tape_of(alloc, other)?.is_of(run));
+    Ok(())
+}
+
+/// Expects that of a record and that of a silent run.
+fn expect_not_silent(rt: &impl Abort, alloc: Global, run: &CellRecord) -> Result<(), Fail> {
+    let other = silent(alloc, CELL, 4)?;
+    let result = expect_apart(rt, alloc, run, &other);
+    drop(other);
+    result
+}
+
+#[test]
 fn a_tape_is_of_its_record_alone(rt: HostRuntime) -> Result<(), Fail> {
     let run = two_writes(&rt, rt.alloc())?;
-    let other = silent(rt.alloc(), CELL, 4)?;
-    let tape = tape_of(rt.alloc(), &run)?;
-    assert!(rt; tape.is_of(&run));
-    assert!(rt; !tape.is_of(&other));
-    assert!(rt; !tape_of(rt.alloc(), &other)?.is_of(&run));
-    Ok(())
+    let result = expect_not_silent(&rt, rt.alloc(), &run);
+    drop(run);
+    result
 }

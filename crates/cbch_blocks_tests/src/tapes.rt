@@ -1,8 +1,7 @@
 //! Worked tapes.
 
 use crate::blocks::{BLOCKS, NOTHING};
-use crate::records::{one_write, silent, two_writes};
-use cbch_blocks::tape_of;
+use crate::records::{one_write, silent, tape_from, two_writes};
 use cbsp_wire::Cell;
 use std::alloc::{AllocError, Global};
 use std::test::Fail;
@@ -29,7 +28,7 @@ fn blocks_of(front: &[u8; 6], octet: u8) -> [[u8; 23]; 4] {
 
 #[test]
 fn a_page_in_every_second_slot(rt: HostRuntime) -> Result<(), Fail> {
-    let tape = tape_of(rt.alloc(), &one_write(&rt, rt.alloc())?)?;
+    let tape = tape_from(rt.alloc(), one_write(&rt, rt.alloc())?)?;
     let mut wanted = joined(rt.alloc(), &[0, 1, 0, 1, 0, 0, 0, 2], BLOCKS.as_slice())?;
     for _ in 0..4 {
         wanted.extend_from_slice(&NOTHING)?;
@@ -42,7 +41,7 @@ fn a_page_in_every_second_slot(rt: HostRuntime) -> Result<(), Fail> {
 #[test]
 fn cells_that_air_nothing(rt: HostRuntime) -> Result<(), Fail> {
     for ci in [1, 2] {
-        let tape = tape_of(rt.alloc(), &silent(rt.alloc(), Cell { lac: 1, ci }, 3)?)?;
+        let tape = tape_from(rt.alloc(), silent(rt.alloc(), Cell { lac: 1, ci }, 3)?)?;
         let header = [0, 1, 0, ci as u8, 0, 0, 0, 3];
         let wanted = joined(rt.alloc(), &header, [NOTHING; 12].as_slice())?;
         assert_eq!(rt; tape.bytes().len(), 284);
@@ -53,7 +52,7 @@ fn cells_that_air_nothing(rt: HostRuntime) -> Result<(), Fail> {
 
 #[test]
 fn pages_of_two_messages_in_turn(rt: HostRuntime) -> Result<(), Fail> {
-    let tape = tape_of(rt.alloc(), &two_writes(&rt, rt.alloc())?)?;
+    let tape = tape_from(rt.alloc(), two_writes(&rt, rt.alloc())?)?;
     let first = blocks_of(&[0x00, 0x01, 0x11, 0x12, 0x01, 0x11], 0xA1);
     let second = blocks_of(&[0x00, 0x02, 0x11, 0x12, 0x01, 0x12], 0xB1);
     let third = blocks_of(&[0x00, 0x02, 0x11, 0x12, 0x01, 0x22], 0xB2);
@@ -69,7 +68,7 @@ fn pages_of_two_messages_in_turn(rt: HostRuntime) -> Result<(), Fail> {
 
 #[test]
 fn a_run_of_no_slots_is_a_header(rt: HostRuntime) -> Result<(), Fail> {
-    let tape = tape_of(rt.alloc(), &silent(rt.alloc(), Cell { lac: 1, ci: 1 }, 0)?)?;
+    let tape = tape_from(rt.alloc(), silent(rt.alloc(), Cell { lac: 1, ci: 1 }, 0)?)?;
     assert_eq!(rt; tape.bytes(), [0, 1, 0, 1, 0, 0, 0, 0].as_slice());
     Ok(())
 }
@@ -80,7 +79,7 @@ fn high_octets_come_first(rt: HostRuntime) -> Result<(), Fail> {
         lac: 0x1234,
         ci: 0xFEDC,
     };
-    let tape = tape_of(rt.alloc(), &silent(rt.alloc(), cell, 258)?)?;
+    let tape = tape_from(rt.alloc(), silent(rt.alloc(), cell, 258)?)?;
     assert_eq!(rt; tape.bytes().len(), 23_744);
     assert_eq!(rt;
         &tape.bytes()[..8],

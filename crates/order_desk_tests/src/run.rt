@@ -1,11 +1,11 @@
 //! A desk with three passes, and what its calls answer.
 
 use crate::lines::*;
-use bsc_table::{Answer, State};
+use bsc_table::{Answer, Entry, State};
 use cbs_page::Serial;
 use cbsp_wire::Cell;
 use order_desk::{Desk, DeskFault, Note, Open, Pass, Piece, cells_ok};
-use std::alloc::Global;
+use std::alloc::{AllocError, Global};
 use std::fmt::{Debug, Display};
 use std::mem;
 use std::sync::Wait;
@@ -185,15 +185,14 @@ fn asked<T: AllocGlobal + Wait>(
     shown(rt.alloc(), &Answer::Unknown)
 }
 
-/// Takes out what a cell aired. The words: the cell, the first slot, and how many slots.
-pub fn taken_out<T: AllocGlobal + Wait>(
+/// A piece of what a cell aired, at most 64 slots, which is taken out where memory can be scarce.
+fn piece_told<T: AllocGlobal + Wait>(
     rt: &T,
     run: &mut Run,
-    words: &mut Words,
+    cell: Cell,
+    from: u16,
+    slots: u16,
 ) -> Result<String, Fail> {
-    let cell = cell_of(words.word())?;
-    let from = words.number16()?;
-    let slots = words.number16()?;
     if slots > 64 {
         return Err(Fail::new("a piece has at most 64 slots"));
     }
@@ -204,21 +203,37 @@ pub fn taken_out<T: AllocGlobal + Wait>(
         Ok(piece) => {
             let text = piece_text(rt.alloc(), &piece);
             drop(piece);
-            text
+            Ok(text?)
         }
         Err(fault) => told(rt.alloc(), &fault),
     }
 }
 
+/// Takes out what a cell aired. The words: the cell, the first slot, and how many slots.
+pub fn taken_out<T: AllocGlobal + Wait>(
+    rt: &T,
+    run: &mut Run,
+    words: &mut Words,
+) -> Result<String, Fail> {
+    let cell = cell_of(words.word())?;
+    let (from, slots) = (words.number16()?, words.number16()?);
+    piece_told(rt, run, cell, from, slots)
+}
+
+/// Puts the serial number of the page of a slot, `-` for none.
+fn put_page(alloc: Global, text: &mut String, page: &Option<[u8; 88]>) -> Result<(), AllocError> {
+    match page {
+        Some(octets) => write!(text, " {}", digits_of(alloc, &octets[..2])?),
+        None => text.push_str(" -"),
+    }
+}
+
 /// What a piece says: its cell, its first slot, and the serial number of the page of each slot, `-` for none.
-fn piece_text(alloc: Global, piece: &Piece) -> Result<String, Fail> {
+fn piece_text(alloc: Global, piece: &Piece) -> Result<String, AllocError> {
     let Cell { lac, ci } = piece.cell;
     let mut text = format!(in alloc; "{lac}-{ci} from {}:", piece.from)?;
     for page in &piece.pages {
-        match page {
-            Some(octets) => write!(text, " {}", digits_of(alloc, &octets[..2])?)?,
-            None => text.push_str(" -")?,
-        }
+        put_page(alloc, &mut text, page)?;
     }
     Ok(text)
 }
@@ -234,6 +249,18 @@ fn answer_text(alloc: Global, answer: Answer) -> Result<String, Fail> {
     }
 }
 
+/// What the note of an entry says.
+fn event_text(alloc: Global, cell: Cell, number: u16, entry: &Entry) -> Result<String, Fail> {
+    let answer = answer_text(alloc, entry.answer)?;
+    let Cell { lac, ci } = cell;
+    Ok(format!(in alloc; "{lac}-{ci} entry {number} at {}: {answer}", entry.slot)?)
+}
+
+/// What the note of a play says.
+fn play_text(alloc: Global, cell: Cell, from: u16, to: u16) -> Result<String, Fail> {
+    Ok(format!(in alloc; "{}-{} played {from}..{to}", cell.lac, cell.ci)?)
+}
+
 /// What a note says.
 fn note_text(alloc: Global, note: &Note) -> Result<String, Fail> {
     match note {
@@ -241,14 +268,8 @@ fn note_text(alloc: Global, note: &Note) -> Result<String, Fail> {
             cell,
             number,
             entry,
-        } => {
-            let answer = answer_text(alloc, entry.answer)?;
-            let Cell { lac, ci } = *cell;
-            Ok(format!(in alloc; "{lac}-{ci} entry {number} at {}: {answer}", entry.slot)?)
-        }
-        Note::Played { cell, from, to } => {
-            Ok(format!(in alloc; "{}-{} played {from}..{to}", cell.lac, cell.ci)?)
-        }
+        } => event_text(alloc, *cell, *number, entry),
+        Note::Played { cell, from, to } => play_text(alloc, *cell, *from, *to),
         Note::Full { cell } => Ok(format!(in alloc; "{}-{} full", cell.lac, cell.ci)?),
     }
 }

@@ -4,10 +4,39 @@ use crate::ends::*;
 use crate::replies::*;
 use crate::run::*;
 use order_desk::DeskFault;
+use std::alloc::Global;
 use std::process::Abort;
 use std::sync::Wait;
 use std::test::Fail;
 use test_support::{Drought, Row, Words, after_refusals, is_refused};
+
+/// What comes of an action at a desk as a whole.
+fn at_desk<T: AllocGlobal + Wait>(
+    rt: &T,
+    run: &mut Run,
+    verb: &str,
+    words: &mut Words,
+) -> Result<String, Fail> {
+    match verb {
+        "desk" => {
+            run.passes = new_passes(rt.alloc(), &run.desk)?;
+            begin(rt.alloc(), run, words)
+        }
+        "next-desk" => begin(rt.alloc(), run, words),
+        "shows" => desk_text(rt.alloc(), &run.desk),
+        "close" => closed(rt.alloc(), run),
+        "piece" => taken_out(rt, run, words),
+        "settle" => settled(rt.alloc(), run, words),
+        "settle-as" => settled_as(rt.alloc(), run, words),
+        _ => Err(Fail::new("no such action")),
+    }
+}
+
+/// A fault of an order that memory ended, by its name and its text. The word: how many answers there are.
+fn memory_told(alloc: Global, words: &mut Words) -> Result<String, Fail> {
+    let done = words.number16()?;
+    told(alloc, &DeskFault::Memory { done })
+}
 
 /// What comes of an action.
 fn carried_out<T: AllocGlobal + Wait>(
@@ -16,35 +45,32 @@ fn carried_out<T: AllocGlobal + Wait>(
     verb: &str,
     words: &mut Words,
 ) -> Result<String, Fail> {
-    let alloc = rt.alloc();
     match verb {
-        "desk" => {
-            run.passes = new_passes(alloc, &run.desk)?;
-            begin(alloc, run, words)
-        }
-        "next-desk" => begin(alloc, run, words),
-        "shows" => desk_text(alloc, &run.desk),
-        "close" => closed(alloc, run),
-        "piece" => taken_out(rt, run, words),
-        "settle" => settled(alloc, run, words),
-        "settle-as" => settled_as(alloc, run, words),
-        "reply" => replied(alloc, &mut run.drought, words),
-        "cells" => cells_text(alloc, words),
-        "fault" => told(
-            alloc,
-            &DeskFault::Memory {
-                done: words.number16()?,
-            },
-        ),
         "p" => with_pass(rt, run, 0, words),
         "q" => with_pass(rt, run, 1, words),
         "r" => with_pass(rt, run, 2, words),
-        _ => Err(Fail::new("no such action")),
+        "reply" => replied(rt.alloc(), &mut run.drought, words),
+        "cells" => cells_text(rt.alloc(), words),
+        "fault" => memory_told(rt.alloc(), words),
+        _ => at_desk(rt, run, verb, words),
     }
 }
 
-/// Carries out the steps of a row, which `;` parts, and returns what comes of the last one. A step that begins with
-/// `scarce` has so many blocks of memory.
+/// What comes of a step. If it begins with `scarce`, it has so many blocks of memory.
+fn step_done<T: AllocGlobal + Wait + Abort>(
+    rt: &T,
+    run: &mut Run,
+    step: &str,
+    blocks: u16,
+) -> Result<String, Fail> {
+    let mut words = Words::of(step);
+    let verb = run.drought.verb(&mut words, blocks);
+    let found = carried_out(rt, run, verb, &mut words)?;
+    assert_eq!(rt; words.word(), "", "words are left: {step}");
+    Ok(found)
+}
+
+/// Carries out the steps of a row, which `;` parts, and returns what comes of the last one.
 fn steps_done<T: AllocGlobal + Wait + Abort>(
     rt: &T,
     run: &mut Run,
@@ -53,10 +79,7 @@ fn steps_done<T: AllocGlobal + Wait + Abort>(
 ) -> Result<String, Fail> {
     let mut found = String::new(rt.alloc());
     for step in steps.split(';') {
-        let mut words = Words::of(step);
-        let verb = run.drought.verb(&mut words, blocks);
-        found = carried_out(rt, run, verb, &mut words)?;
-        assert_eq!(rt; words.word(), "", "words are left: {steps}");
+        found = step_done(rt, run, step, blocks)?;
     }
     Ok(found)
 }

@@ -21,7 +21,7 @@ use cbs_page::{Content, Dcs, Serial};
 use cbsp_wire::{Cell, Contents};
 use device_ends::memory::{MemoryReader, MemoryWriter};
 use device_ends::{Sink, Source};
-use handset::{Handset, Reading, TapeFault, read_tape};
+use handset::{Handset, Reading, Refused, TapeFault, read_tape};
 use report::{ReportFault, Row as ReportRow, rows, write_report};
 use std::alloc::Global;
 use std::process::Abort;
@@ -145,21 +145,39 @@ fn read_one(alloc: Global, source: &mut Source<&mut MemoryReader>) -> Result<Rea
     read_tape(alloc, source)
 }
 
+/// The identifier and the serial number of the message that a handset shows at a block.
+fn shown_by(handset: &mut Handset, block: &[u8; 23]) -> Result<Option<(u16, u16)>, Refused> {
+    match handset.feed(block)? {
+        Some(shown) => {
+            let message = (shown.id, shown.serial.number());
+            drop(shown);
+            Ok(Some(message))
+        }
+        None => Ok(None),
+    }
+}
+
 /// Which messages a handset shows of a tape, each behind the slot whose last block shows it.
-fn heard(alloc: Global, octets: &[u8]) -> Result<String, Fail> {
-    let mut handset = Handset::new(alloc);
+fn heard_by(alloc: Global, handset: &mut Handset, octets: &[u8]) -> Result<String, Fail> {
     let mut text = String::new(alloc);
     let (blocks, _) = octets.get(8..).ok_or("no header")?.as_chunks::<23>();
     for (place, block) in blocks.iter().enumerate() {
-        if let Some(shown) = handset.feed(block)? {
+        if let Some((id, serial)) = shown_by(handset, block)? {
             let (slot, last) = (place / 4, place % 4 + 1);
-            let (id, serial) = (shown.id, shown.serial.number());
             let line = format!(in alloc; "block {last} of slot {slot}: {id} {serial:04x}, ")?;
             text.push_str(&line)?;
         }
     }
     text.push_str("no more")?;
     Ok(text)
+}
+
+/// The same of a new handset.
+fn heard(alloc: Global, octets: &[u8]) -> Result<String, Fail> {
+    let mut handset = Handset::new(alloc);
+    let text = heard_by(alloc, &mut handset, octets);
+    drop(handset);
+    text
 }
 
 /// Writes a report, again if that failed, and says what the faults are.
@@ -198,7 +216,8 @@ impl Books {
     fn open(&mut self, words: &mut Words) -> Result<(), Fail> {
         let ci = words.number16()?;
         let slots = words.number16()?;
-        self.open = Some(CellBook::open(self.alloc, Cell { lac: 1, ci }, slots)?);
+        let book = CellBook::open(self.alloc, Cell { lac: 1, ci }, slots)?;
+        drop(self.open.replace(book));
         Ok(())
     }
 
@@ -310,8 +329,7 @@ impl Books {
         let (mut starts, mut refusals) = (0_u16, 0_u16);
         for id in 0..messages {
             let first = self.fill_one(id, id < started)?;
-            let serial = Serial::of(3);
-            let second = self.answer(&Command::Kill { id, serial })?;
+            let second = self.stop(id, 3)?;
             for answer in [first, second] {
                 match answer {
                     Answer::Started { slot: 0 } => starts = starts.saturating_add(1),
@@ -323,11 +341,19 @@ impl Books {
         Ok(format!(in self.alloc; "{starts} started, {refusals} cause 02")?)
     }
 
+    /// The answer to the stop of a message.
+    fn stop(&mut self, id: u16, serial: u16) -> Result<Answer, Fail> {
+        let serial = Serial::of(serial);
+        let command = Command::Kill { id, serial };
+        let answer = self.answer(&command);
+        drop(command);
+        answer
+    }
+
     /// The answer to a write of a message of one page, or to the stop of one that doesn't stand.
     fn fill_one(&mut self, id: u16, starts: bool) -> Result<Answer, Fail> {
         if !starts {
-            let serial = Serial::of(2);
-            return self.answer(&Command::Kill { id, serial });
+            return self.stop(id, 2);
         }
         let wish = Wish {
             id,
@@ -336,7 +362,9 @@ impl Books {
             broadcasts: 0,
         };
         let command = write_of(self.alloc, wish, 1, 60)?;
-        self.answer(&command)
+        let answer = self.answer(&command);
+        drop(command);
+        answer
     }
 
     /// Changes runs and readings; false if the action isn't one that does.
@@ -368,7 +396,9 @@ impl Books {
         match action {
             "write" | "kill" | "status" => {
                 let command = command(self.alloc, action, words)?;
-                text_of(self.alloc, self.answer(&command)?)
+                let answer = self.answer(&command);
+                drop(command);
+                text_of(self.alloc, answer?)
             }
             "play" => self.play(words.number16()?),
             "heard" => self.heard(),
@@ -394,19 +424,38 @@ fn texts(alloc: Global) -> Result<String, Fail> {
     Ok(format!(in alloc; "{cells}, {write}, {memory}")?)
 }
 
-/// Expects what the rows of a table say of no books, and that there are so many rows. Returns the books.
-pub fn expect_rows(rt: &impl Abort, alloc: Global, table: &str, rows: u16) -> Result<Books, Fail> {
-    let mut books = Books::new(alloc);
+/// Expects what a row says.
+fn expect_row(rt: &impl Abort, books: &mut Books, row: Row) -> Result<(), Fail> {
+    let mut words = Words::of(row.action);
+    let found = books.carry_out(&mut words)?;
+    assert_eq!(rt; found.as_str(), row.wanted, "{}", row.action);
+    assert_eq!(rt; words.word(), "", "{}", row.action);
+    Ok(())
+}
+
+/// Expects what the rows of a table say, and returns how many there are.
+fn expect_each(rt: &impl Abort, books: &mut Books, table: &str) -> Result<u16, Fail> {
     let mut count = 0_u16;
     for line in table.split('\n') {
         if let Some(row) = Row::of(line) {
-            let mut words = Words::of(row.action);
-            let found = books.carry_out(&mut words)?;
-            assert_eq!(rt; found.as_str(), row.wanted, "{line}");
-            assert_eq!(rt; words.word(), "", "{line}");
+            expect_row(rt, books, row)?;
             count = count.saturating_add(1);
         }
     }
-    assert_eq!(rt; count, rows);
-    Ok(books)
+    Ok(count)
+}
+
+/// Expects what the rows of a table say of no books, and that there are so many rows. Returns the books.
+pub fn expect_rows(rt: &impl Abort, alloc: Global, table: &str, rows: u16) -> Result<Books, Fail> {
+    let mut books = Books::new(alloc);
+    match expect_each(rt, &mut books, table) {
+        Ok(count) => {
+            assert_eq!(rt; count, rows);
+            Ok(books)
+        }
+        Err(fail) => {
+            drop(books);
+            Err(fail)
+        }
+    }
 }

@@ -67,12 +67,13 @@ fn refusals(
 
 #[test]
 fn refused_memory_is_reported(rt: HostRuntime) -> Result<(), Fail> {
-    let books = expect_rows(&rt, rt.alloc(), TWO_CELLS, 12)?;
     let mut spare = spare_blocks(rt.alloc())?;
     let mut taken = Vec::with_capacity(rt.alloc(), 100_000)?;
+    let books = expect_rows(&rt, rt.alloc(), TWO_CELLS, 12)?;
     take_all(rt.alloc(), &mut taken);
     let refused = refusals(&rt, rt.alloc(), &books.runs, &books.readings, &mut spare);
     taken.clear();
+    drop(books);
     assert!(rt; refused > 3);
     Ok(())
 }

@@ -246,24 +246,24 @@ line -> 1,1,0,0001,0,65535,1093,yes
 
 #[test]
 fn the_report_of_two_cells_goes_out_whole_or_in_front(rt: HostRuntime) -> Result<(), Fail> {
-    let _ = expect_rows(&rt, rt.alloc(), TWO_CELLS_REPORTED, 64)?;
+    drop(expect_rows(&rt, rt.alloc(), TWO_CELLS_REPORTED, 64)?);
     Ok(())
 }
 
 #[test]
 fn rows_say_what_became_of_each_order_of_a_cell(rt: HostRuntime) -> Result<(), Fail> {
-    let _ = expect_rows(&rt, rt.alloc(), ONE_CELL, 87)?;
+    drop(expect_rows(&rt, rt.alloc(), ONE_CELL, 87)?);
     Ok(())
 }
 
 #[test]
 fn a_handset_shows_each_message_of_a_run_once(rt: HostRuntime) -> Result<(), Fail> {
-    let _ = expect_rows(&rt, rt.alloc(), HEARD, 24)?;
+    drop(expect_rows(&rt, rt.alloc(), HEARD, 24)?);
     Ok(())
 }
 
 #[test]
 fn a_log_may_be_full_and_a_run_long(rt: HostRuntime) -> Result<(), Fail> {
-    let _ = expect_rows(&rt, rt.alloc(), LONG, 7)?;
+    drop(expect_rows(&rt, rt.alloc(), LONG, 7)?);
     Ok(())
 }
