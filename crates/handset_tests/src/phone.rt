@@ -77,6 +77,16 @@ page 0070 48 33 R -> nothing
 page 0070 48 13 S -> block 4: 4370 0070 SPQ
 page 0070 48 13 T -> nothing
 shown -> 8
+
+# a message of one page in three slots, then the other's first page twice and its second, and idle slots
+page 0080 48 11 U -> block 4: 4370 0080 U
+page 0080 48 11 U -> nothing
+page 0080 48 11 U -> nothing
+page 0090 48 12 V -> nothing
+page 0090 48 12 V -> nothing
+page 0090 48 22 W -> block 4: 4370 0090 VW
+feed idle idle idle idle idle idle idle idle -> nothing
+shown -> 10
 ";
 
 /// Neither pages nor messages are forgotten, however many.
@@ -440,7 +450,7 @@ fn a_message_is_shown_once_at_its_last_block(rt: HostRuntime) -> Result<(), Fail
 
 #[test]
 fn pages_show_what_they_say(rt: HostRuntime) -> Result<(), Fail> {
-    expect_rows(&rt, rt.alloc(), PAGES, 24, Memory::Ample)
+    expect_rows(&rt, rt.alloc(), PAGES, 32, Memory::Ample)
 }
 
 #[test]

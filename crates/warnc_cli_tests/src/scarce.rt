@@ -75,7 +75,7 @@ fn spare_blocks(alloc: Global) -> Result<Vec<Vec<u8>>, Fail> {
 }
 
 /// Runs the program again and again, with one block of memory more each time, until it isn't refused memory any more.
-/// Returns how often it was.
+/// Returns how often it was. Blocks give no thread its stack, so what needs threads has all memory in the end.
 fn refusals<T: AllocGlobal + Threads + Wait + Sync>(
     rt: &T,
     words: &[&str],
@@ -89,11 +89,13 @@ fn refusals<T: AllocGlobal + Threads + Wait + Sync>(
     for _ in 0..400 {
         slate.run(rt, words, input);
         if !slate.is_out_of_memory() {
-            break;
+            return Ok(refused);
         }
         refused = refused.saturating_add(1);
         let _ = spare.pop();
     }
+    taken.clear();
+    slate.run(rt, words, input);
     Ok(refused)
 }
 
@@ -171,6 +173,42 @@ worked 1,1,4370,0010,0,2,1,yes
 scarce -> 0 worked
 ";
 
+/// Two cells, two pages, two sessions and two workers. The tapes are those of a program that isn't ours.
+const TWO: &str = "
+args compile --slots 2 --workers 2
+in cell,1,1
+in cell,1,2
+in write,0,a,4370,0,1,ru,2,2,0,1-1 1-2,Река поднимается! Идите сейчас же в школу.
+worked-hex 0001 0001 00000002
+worked-hex 2000101112481204200435043a04300020043f043e0434
+worked-hex 21043d0438043c0430043504420441044f002100200418
+worked-hex 2204340438044204350020044104350439044704300441
+worked-hex 330020043604350020043200200448043a043e043b0443
+worked-hex 20001011124822002e000d000d000d000d000d000d000d
+worked-hex 21000d000d000d000d000d000d000d000d000d000d000d
+worked-hex 22000d000d000d000d000d000d000d000d000d000d000d
+worked-hex 33000d000d000d000d000d000d000d000d000d000d000d
+worked-hex 0001 0002 00000002
+worked-hex 2000101112481204200435043a04300020043f043e0434
+worked-hex 21043d0438043c0430043504420441044f002100200418
+worked-hex 2204340438044204350020044104350439044704300441
+worked-hex 330020043604350020043200200448043a043e043b0443
+worked-hex 20001011124822002e000d000d000d000d000d000d000d
+worked-hex 21000d000d000d000d000d000d000d000d000d000d000d
+worked-hex 22000d000d000d000d000d000d000d000d000d000d000d
+worked-hex 33000d000d000d000d000d000d000d000d000d000d000d
+scarce -> 0 worked
+args live --slots 2 --sessions 2 --workers 2
+scarce -> 0 worked
+
+args read
+in-worked
+worked lac,ci,id,serial,text
+worked 1,1,4370,0010,Река поднимается! Идите сейчас же в школу.
+worked 1,2,4370,0010,Река поднимается! Идите сейчас же в школу.
+scarce -> 0 worked
+";
+
 #[test]
 fn runs_without_memory_are_status_4(rt: HostRuntime) -> Result<(), Fail> {
     expect_rows(&rt, SCARCE)
@@ -186,4 +224,9 @@ fn sessions_without_memory_are_status_4(rt: HostRuntime) -> Result<(), Fail> {
 #[test]
 fn a_report_without_memory_is_status_4(rt: HostRuntime) -> Result<(), Fail> {
     expect_rows(&rt, REPORT)
+}
+
+#[test]
+fn two_of_each_without_memory_are_status_4(rt: HostRuntime) -> Result<(), Fail> {
+    expect_rows(&rt, TWO)
 }

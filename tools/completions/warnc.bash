@@ -1,0 +1,37 @@
+# Completes the words of warnc in bash. To install it, source it in ~/.bashrc.
+# tools/command_line.py compares the commands and options here with crates/warnc_cli/src/command.rt.
+
+_warnc() {
+    local word=${COMP_WORDS[COMP_CWORD]} before=${COMP_WORDS[COMP_CWORD - 1]} words=
+    # bash takes `--lang=de` for three words
+    if [ "$word" = "=" ]; then
+        word=
+    elif [ "$before" = "=" ]; then
+        before=${COMP_WORDS[COMP_CWORD - 2]}
+    fi
+    if [ "$COMP_CWORD" -eq 1 ]; then
+        words="compile live read report page help -h --help -V --version"
+    else
+        case $before in
+        --lang) words="de en it fr es nl sv da pt fi no el tr hu pl und cs he ar ru is" ;;
+        --scope) words="0 1 2 3" ;;
+        --update) words="0 1 2 3 4 5 6 7 8 9 10 11 12 13 14 15" ;;
+        --*)
+            # any other option takes a number, which nobody can guess
+            ;;
+        *)
+            case ${COMP_WORDS[1]} in
+            compile) words="--slots --workers -h --help" ;;
+            live) words="--slots --sessions --workers -h --help" ;;
+            read) words="-h --help" ;;
+            report) words="--slots --workers -h --help" ;;
+            page) words="--lang --id --scope --code --update -h --help" ;;
+            help) words="compile live read report page" ;;
+            esac
+            ;;
+        esac
+    fi
+    COMPREPLY=($(compgen -W "$words" -- "$word"))
+}
+
+complete -F _warnc warnc
