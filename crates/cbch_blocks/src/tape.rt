@@ -14,27 +14,19 @@ use crate::slot::{put_page, strip_slot};
 use bsc_table::CellRecord;
 use cbsp_wire::Cell;
 use device_ends::{Sink, write_front};
-use std::alloc::{AllocError, Global};
+use std::alloc::Global;
 use std::io::Write;
 use std::marker::Model;
 use thiserror::Error;
+
+/// Out of memory.
+pub use std::alloc::AllocError as Refused;
 
 /// How many octets the header of a tape has.
 const HEADER: usize = 8;
 
 /// How many octets the blocks of a slot have.
 const SLOT: usize = 92;
-
-/// Memory was refused.
-#[derive(Clone, Copy, Debug, PartialEq, Eq, Error)]
-#[error("out of memory")]
-pub struct Refused;
-
-impl From<AllocError> for Refused {
-    fn from(_error: AllocError) -> Refused {
-        Refused
-    }
-}
 
 /// A tape could not be written whole.
 #[derive(Clone, Copy, Debug, PartialEq, Eq, Error)]

@@ -86,14 +86,6 @@ impl From<AllocError> for TapeFault {
     }
 }
 
-impl From<crate::Refused> for TapeFault {
-    ghost from_gives = { λ _ fault. fault ≡ Refused };
-
-    fn from(_error: crate::Refused) -> TapeFault {
-        TapeFault::Refused
-    }
-}
-
 /// Reads one tape, after which the input is to end.
 ///
 /// Returns [`TapeFault::Short`] if the input ends before its tape does, [`TapeFault::Long`] if it goes on after the

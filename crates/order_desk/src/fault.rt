@@ -47,10 +47,3 @@ impl<T: Drop> From<AllocFailed<T>> for DeskFault {
     }
 }
 
-impl From<bsc_table::Refused> for DeskFault {
-    ghost from_gives = { λ _ fault. fault ≡ Memory 0 };
-
-    fn from(_refused: bsc_table::Refused) -> DeskFault {
-        DeskFault::Memory { done: 0 }
-    }
-}

@@ -1,7 +1,7 @@
 //! The plan of a cell.
 
 ghost use Rattle.std.specs.Prelude.{◌≡◌, ◌≢◌, ℕ, ◌+◌, ◌<◌, ◌≤◌, ◌==◌, true, MatchBool, List, [], ◌∷◌, ◌++◌, length};
-ghost use Rattle.std.specs.Prelude.{map, codes, Some, All, AllPairs, Any, OnOk, OnErr};
+ghost use Rattle.std.specs.Prelude.{map, Some, All, AllPairs, Any, OnOk, OnErr};
 ghost use Rattle.std.specs.Option.{ForSome};
 ghost use Rattle.scheduler.specs.Message.{ScheduledMessage, stopped_at};
 ghost use Rattle.scheduler.specs.Air.{Air, airs, layer_of, class_of, IsChosen};
@@ -10,8 +10,10 @@ ghost use Rattle.scheduler.specs.Follows.{Follows, next_slot, messages_of, messa
 
 use crate::queue::{Node, are_below, completed_of, has_entry, has_standing, play, push, stop_at};
 use std::alloc::Global;
-use std::fmt;
 use std::marker::Model;
+
+/// Out of memory.
+pub use std::alloc::AllocError as Refused;
 
 /// Before which others the pages of a message are aired.
 #[derive(Clone, Copy, Debug, PartialEq, Eq)]
@@ -63,20 +65,6 @@ pub struct Item {
     /// Before which others its pages are aired.
     pub rank: Rank,
 }
-
-/// Out of memory: the plan is as it was.
-#[derive(Clone, Copy, Debug, PartialEq, Eq)]
-pub struct Refused;
-
-impl fmt::Display for Refused {
-    ghost output = { λ _. Some (codes "out of memory") };
-
-    fn fmt<W: fmt::Write>(&self, f: &mut fmt::Formatter<W>) -> fmt::Result {
-        f.write_str("out of memory")
-    }
-}
-
-impl std::error::Error for Refused {}
 
 /// The schedule of a cell: it is told of the messages, and asked for each slot in order.
 ///

@@ -9,13 +9,13 @@ ghost use Rattle.book_runs.specs.Sessions.{IsSessionOf};
 ghost use Rattle.session_check.specs.NotedSteps.{AreStanding, cells_of, commands_in};
 ghost use Rattle.session_check.specs.ReplaySteps.{IsNoTurn, IsTurnNoted};
 
-use crate::answers::{Refused, answers_in};
+use crate::answers::answers_in;
 use crate::notes::are_of_plays;
 use alert_book::{Book, Session};
 use bsc_table::{CellRecord, Command, orders_of};
 use cbsp_wire::{Cell, WireFault, read};
 use order_desk::{Note, reply_of};
-use std::alloc::Global;
+use std::alloc::{AllocError as Refused, Global};
 
 /// The cells that a message names, and the command to them; None if its octets are no order.
 fn order_in(alloc: Global, octets: &[u8]) -> Result<Option<(Vec<Cell>, Command)>, Refused>

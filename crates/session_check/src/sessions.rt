@@ -6,13 +6,12 @@ ghost use Rattle.book_runs.specs.Sessions.{AreSessions, IsRightPass};
 ghost use Rattle.session_check.specs.Checked.{HasRightNumbers, IsFirstWrongPass};
 ghost use Rattle.session_check.specs.NotedSteps.{cells_of};
 
-use crate::answers::Refused;
 use crate::notes::are_of_plays;
 use crate::session::is_session;
 use alert_book::Book;
 use bsc_table::CellRecord;
 use order_desk::{Pass, SettleFault};
-use std::alloc::Global;
+use std::alloc::{AllocError as Refused, Global};
 
 /// Whether the pass of a place is right: that of the session of this part, or, after the parts, one without notes of
 /// commands.

@@ -17,20 +17,11 @@ ghost use Rattle.tickets.specs.Draws.{
 
 use crate::view::{BothParts, Draw, Draws, OnePart, View};
 use atomic_table::{Seat as Token, Table};
-use std::alloc::{AllocError, Global};
+use std::alloc::Global;
 use std::marker::Model;
-use thiserror::Error;
 
-/// There was no memory.
-#[derive(Clone, Copy, Debug, PartialEq, Eq, Error)]
-#[error("out of memory")]
-pub struct Refused;
-
-impl From<AllocError> for Refused {
-    fn from(_error: AllocError) -> Refused {
-        Refused
-    }
-}
+/// Out of memory.
+pub use std::alloc::AllocError as Refused;
 
 /// Hands out the numbers below its limit.
 #[derive(Drop)]

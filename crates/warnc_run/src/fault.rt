@@ -49,35 +49,11 @@ impl<T: Drop> From<AllocFailed<T>> for RunFault {
     }
 }
 
-impl From<alert_book::Refused> for RunFault {
-    ghost from_gives = { λ _ fault. fault ≡ faults.Refused };
-
-    fn from(_error: alert_book::Refused) -> RunFault {
-        RunFault::Refused
-    }
-}
-
 impl From<DeskFault> for RunFault {
     ghost from_gives = { λ desk fault. fault ≡ faults.Desk desk };
 
     fn from(fault: DeskFault) -> RunFault {
         RunFault::Desk(fault)
-    }
-}
-
-impl From<bsc_table::Refused> for RunFault {
-    ghost from_gives = { λ _ fault. fault ≡ faults.Refused };
-
-    fn from(_error: bsc_table::Refused) -> RunFault {
-        RunFault::Refused
-    }
-}
-
-impl From<tickets::Refused> for RunFault {
-    ghost from_gives = { λ _ fault. fault ≡ faults.Refused };
-
-    fn from(_error: tickets::Refused) -> RunFault {
-        RunFault::Refused
     }
 }
 
