@@ -4,6 +4,7 @@ ghost use Rattle.std.specs.Prelude.{◌≡◌, ◌↔◌, ◌+◌, ◌*◌, ◌<
 ghost use Rattle.std.specs.Prelude.{OnOk};
 ghost use Rattle.std.specs.Io.KnownBytes.{Appends};
 ghost use Rattle.device_ends.specs.Sink.{sink_failed, writer_of};
+ghost use Rattle.device_ends.specs.Stream.{Writes};
 ghost use Rattle.cbch_blocks.specs.Blocks.{blocks_of_page};
 ghost use Rattle.cbch_blocks.specs.RecordBlocks.{tape_header, tape_of_record};
 ghost use Rattle.cbch_blocks.specs.Slots.{silent_record, with_slot};
@@ -123,8 +124,8 @@ impl Tape {
     pub fn write_to<W: Write>(&self, sink: &mut Sink<W>) -> Result<(), WriteFailed>
         ensures ok { OnOk result (Appends (W.contents (writer_of sink.old))
             (W.contents (writer_of sink.new)) self.now) }
-        ensures err { IfErr result (λ fault. Appends (W.contents (writer_of sink.old))
-            (W.contents (writer_of sink.new)) (take fault.written self.now)) }
+        ensures err { IfErr result (λ fault. Writes W.contents (λ old new.
+            Appends old new (take fault.written self.now)) sink.old sink.new) }
 
         // At any writer.
         ensures front { IfErr result (λ fault. 0 < length self.now → fault.written < length self.now) }

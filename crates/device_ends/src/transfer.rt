@@ -7,6 +7,7 @@ ghost use Rattle.device_ends.specs.Moves.{AppendsFront, ConsumesSome, ReadsUpTo}
 ghost use Rattle.device_ends.specs.ReadFault.{reports_device};
 ghost use Rattle.device_ends.specs.Sink.{sink_failed, writer_of};
 ghost use Rattle.device_ends.specs.Source.{reader_of, source_failed};
+ghost use Rattle.device_ends.specs.Stream.{Reads};
 ghost use Rattle.device_ends.specs.TransferSteps.{Moved};
 
 use crate::fault::ReadFault;
@@ -60,8 +61,8 @@ pub fn read_up_to<R: Read>(
     limit: usize,
 ) -> Result<Vec<u8>, ReadFault>
     requires { limit < usize.MAX }
-    ensures reads { IfOk result (λ octets. ReadsUpTo (R.remaining (reader_of source.old))
-        (R.remaining (reader_of source.new)) octets.items limit) }
+    ensures reads { IfOk result (λ octets. Reads R.remaining (λ old new. ReadsUpTo old new octets.items limit)
+        source.old source.new) }
     ensures value { IfOk result (λ octets. IfSome (R.remaining (reader_of source.old))
         (λ left. octets.items ≡ take (limit + 1) left)) }
     ensures err { OnErr result (ConsumesSome (R.remaining (reader_of source.old))

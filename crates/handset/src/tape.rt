@@ -8,6 +8,7 @@ ghost use Rattle.std.specs.Prelude.{IfOk, IfSome, IfNone, OnOk, vec_len, [], ◌
 ghost use Rattle.std.specs.Io.KnownBytes.{Consumes, IsAtEnd};
 ghost use Rattle.std.specs.Option.{option_to_list};
 ghost use Rattle.device_ends.specs.Source.{reader_of, source_failed};
+ghost use Rattle.device_ends.specs.Stream.{Reads};
 ghost use Rattle.handset.specs.Reception.{shown_in};
 ghost use Rattle.handset.specs.Keeping.{HasRead, messages_of};
 ghost use Rattle.handset.specs.Tape.{TapeReading, cell_in, slots_in, max_slots, max_tapes, reading_of, readings_of};
@@ -93,15 +94,15 @@ impl From<AllocError> for TapeFault {
 /// earlier, and [`TapeFault::Refused`] if memory runs out. Of a long input no more is read than the header that says
 /// too many slots, or one octet after the tape.
 pub fn read_tape<R: Read>(alloc: Global, source: &mut Source<R>) -> Result<Reading, TapeFault>
-    ensures reading { IfOk result (λ reading. IfSome (R.remaining (reader_of source.old)) (λ input.
+    ensures ok { IfOk result (λ reading. IfSome (R.remaining (reader_of source.old)) (λ input.
         IsTape input (reading_of reading))) }
     ensures fault { IfErr result (λ fault. IfSome (R.remaining (reader_of source.old)) (λ input.
         IsTapeFault input fault)) }
 
     // How far the source was read: to its end, or as the fault says and no further.
     ensures whole { OnOk result (IsAtEnd (R.remaining (reader_of source.new))) }
-    ensures extent { IfErr result (λ fault. StopsAt 1 (R.remaining (reader_of source.old))
-        (R.remaining (reader_of source.new)) fault) }
+    ensures extent { IfErr result (λ fault. Reads R.remaining (λ old new. StopsAt 1 old new fault)
+        source.old source.new) }
 
     // At any reader.
     ensures tape { IfOk result (λ reading. (octets : List ℕ) × IsTape octets (reading_of reading)) }
@@ -128,15 +129,15 @@ pub fn read_tape<R: Read>(alloc: Global, source: &mut Source<R>) -> Result<Readi
 /// [`read_tape`]: an input is short if it ends inside one of its tapes, and long if it goes on after the 64th or has
 /// a header of too many slots.
 pub fn read_tapes<R: Read>(alloc: Global, source: &mut Source<R>) -> Result<Vec<Reading>, TapeFault>
-    ensures readings { IfOk result (λ readings. IfSome (R.remaining (reader_of source.old)) (λ input.
-        AreTapes input (readings_of readings.items))) }
+    ensures ok { IfOk result (λ tapes. IfSome (R.remaining (reader_of source.old)) (λ input.
+        AreTapes input (readings_of tapes.items))) }
     ensures fault { IfErr result (λ fault. IfSome (R.remaining (reader_of source.old)) (λ input.
         IsTapesFault input fault)) }
 
     // How far the source was read: to its end, or as the fault says and no further.
     ensures whole { OnOk result (IsAtEnd (R.remaining (reader_of source.new))) }
-    ensures extent { IfErr result (λ fault. StopsAt max_tapes (R.remaining (reader_of source.old))
-        (R.remaining (reader_of source.new)) fault) }
+    ensures extent { IfErr result (λ fault. Reads R.remaining (λ old new. StopsAt max_tapes old new fault)
+        source.old source.new) }
 
     // At any reader.
     ensures tapes { IfOk result (λ readings. (octets : List ℕ) × AreTapes octets (readings_of readings.items)) }
@@ -183,8 +184,8 @@ pub fn read_each<R: Read, T: TakesReadings>(
 
     // How far the source was read: to its end, or as the fault says and no further.
     ensures whole { OnOk result (IsAtEnd (R.remaining (reader_of source.new))) }
-    ensures extent { IfErr result (λ fault. StopsAt max_tapes (R.remaining (reader_of source.old))
-        (R.remaining (reader_of source.new)) fault) }
+    ensures extent { IfErr result (λ fault. Reads R.remaining (λ old new. StopsAt max_tapes old new fault)
+        source.old source.new) }
 
     // At any reader.
     ensures failed { source_failed source.new ≡ reports_read_failed result }

@@ -55,6 +55,14 @@ AreAnswered desk at command (first ∷ later) notes =
     (own rest : List Note) × (notes ≡ own ++ rest)
     × IsAnswered desk at command first.0 first.1 own × AreAnswered desk at command later rest
 
+-- what a call adds to the notes of its pass
+abbrev pub AddsNotes : (old new : List Note) → (List Note → Type 0) → Type 0
+AddsNotes old new Are = (added : List Note) × Are added × (new ≡ old ++ added)
+
+-- a call adds one note
+abbrev pub AddsNote : (old new : List Note) → (Note → Type 0) → Type 0
+AddsNote old new Is = (note : Note) × Is note × (new ≡ old ++ note ∷ [])
+
 -- octets are a message that orders a command of these cells
 pub record IsOrderOf (octets : List ℕ) (cells : List Cell) (command : Command) : Type 0 where
   pub message : Message

@@ -76,7 +76,7 @@ impl Stops {
 }
 
 /// The slot at which the message of each write was stopped, if it was, by the write's place in the log.
-pub fn stops_of(alloc: Global, log: &[Entry]) -> Result<Vec<Option<u16>>, AllocError>
+pub(crate) fn stops_of(alloc: Global, log: &[Entry]) -> Result<Vec<Option<u16>>, AllocError>
     ensures places { IfOk result (λ stops. length stops.items ≡ length log.now) }
     ensures each { IfOk result (λ stops. (place : ℕ) → place < length log.now
         → slice_index_or stops.items place None ≡ stop_at log.now place) }

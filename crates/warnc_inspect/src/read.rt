@@ -1,12 +1,11 @@
 //! The command `read`: tapes to a table of what a handset shows of them.
 
-ghost use Rattle.std.specs.Prelude.{◌≡◌, IfErr, IfSome, OnOk};
+ghost use Rattle.std.specs.Prelude.{◌≡◌, IfErr, OnOk};
 ghost use Rattle.std.specs.Io.KnownBytes.{IsAtEnd};
 ghost use Rattle.device_ends.specs.Moves.{WritesOutput};
-ghost use Rattle.device_ends.specs.Sink.{writer_of};
 ghost use Rattle.device_ends.specs.Source.{reader_of};
-ghost use Rattle.device_ends.specs.Stream.{IsStreamBetween};
-ghost use Rattle.warnc_inspect.specs.ReadOutput.{IsReadOutput, IsReadFault, IsReadTo};
+ghost use Rattle.device_ends.specs.Stream.{Between, FaultOfInput, IsStreamBetween};
+ghost use Rattle.warnc_inspect.specs.ReadOutput.{IsReadOutput, IsReadFault, IsReadTo, IsReadWriteFault};
 ghost use Rattle.warnc_inspect.specs.ReadSteps.{fault_of_tapes};
 
 use crate::table::Table;
@@ -45,19 +44,17 @@ pub fn read_stream<R: Read, W: Write>(
     sink: &mut Sink<W>,
 ) -> Result<(), ReadCommandFault>
     // What was written is the table of what the tapes show, at any reader of some tapes.
-    ensures ok { OnOk result (WritesOutput IsReadOutput (R.remaining (reader_of source.old))
-        (W.contents (writer_of sink.old)) (W.contents (writer_of sink.new))) }
-    ensures fault { IfErr result (λ fault. IfSome (R.remaining (reader_of source.old)) (λ input.
-        IsReadFault input (W.contents (writer_of sink.old)) (W.contents (writer_of sink.new)) fault)) }
+    ensures ok { OnOk result (Between R.remaining W.contents (λ first last. WritesOutput IsReadOutput first) source.old
+        source.new sink.old sink.new) }
+    ensures err { IfErr result (FaultOfInput R.remaining W.contents IsReadFault source.old sink.old sink.new) }
 
     // How far the source was read: to its end, or as the fault says and no further.
     ensures whole { OnOk result (IsAtEnd (R.remaining (reader_of source.new))) }
     ensures extent { IfErr result (IsReadTo (R.remaining (reader_of source.old)) (R.remaining (reader_of source.new))) }
 
     // At any reader and any writer.
-    ensures any_device { IsStreamBetween ReadCommandFault.ReadFailed (λ fault. fault ≡ ReadCommandFault.WriteFailed)
-        result source.old source.new sink.old sink.new (W.contents (writer_of sink.old))
-        (W.contents (writer_of sink.new)) }
+    ensures any_ends { IsStreamBetween ReadCommandFault.ReadFailed IsReadWriteFault result W.contents source.old
+        source.new sink.old sink.new }
 {
     if source.failed() {
         return Err(ReadCommandFault::ReadFailed);
