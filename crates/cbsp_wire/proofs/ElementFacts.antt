@@ -22,7 +22,8 @@ use Rattle.cbsp_wire.specs.Range.{cells_of_failures}
 use Rattle.cbsp_wire.specs.Valid.{IsListBody, AreLists, AreCells, IsPageCount, AreValid, HasMandatory, AreValidElements}
 use Rattle.cbsp_wire.proofs.Tests.{and_parts, and_both, not_true}
 use Rattle.cbsp_wire.proofs.Facts.{each_from, each_passes, given_from, given_passes, there_if_mandatory}
-use Rattle.cbsp_wire.proofs.Facts.{mandatory_passes, once_from, once_passes, distinct_from, distinct_passes, not_false}
+use Rattle.cbsp_wire.proofs.CellLists.{distinct_from, distinct_passes}
+use Rattle.cbsp_wire.proofs.Facts.{mandatory_passes, once_from, once_passes, not_false}
 use Rattle.cbsp_wire.proofs.Ranges.{ranges_from, values_from}
 
 some_from : (o : List ℕ) → is_nothing o ≡ false → o ≢ []

@@ -4,6 +4,7 @@ pub mod WalkLaws
 pub mod MeaningLaws
 pub mod Tests
 pub mod Facts
+pub mod CellLists
 pub mod Ranges
 pub mod Rising
 pub mod ElementFacts

@@ -3,6 +3,7 @@ pub mod Table
 pub mod Walk
 pub mod Value
 pub mod Range
+pub mod CellLists
 pub mod Same
 pub mod Valid
 pub mod Refusals

@@ -9,6 +9,7 @@ ghost use Rattle.cbsp_wire.specs.Range.{values_are_valid, is_full};
 ghost use Rattle.cbsp_wire.specs.Range.{is_writable};
 ghost use Rattle.cbsp_wire.specs.Value as values;
 
+use crate::cursor::Items;
 use crate::elements::presence;
 use crate::iei;
 use crate::lists::cells_are_valid;
@@ -352,9 +353,9 @@ fn numbers_are_valid(fields: &Fields<'_>) -> bool
 fn all_cells_are_valid(fields: &Fields<'_>) -> bool
     ensures { result ≡ all_cells_are_valid fields.now }
 {
-    cells_are_valid(fields.cells)
-        && cells_are_valid(fields.completed)
-        && cells_are_valid(fields.failures)
+    cells_are_valid(Items::new(fields.cells))
+        && cells_are_valid(Items::new(fields.completed))
+        && cells_are_valid(Items::new(fields.failures))
 }
 
 /// Whether all values are in their ranges.

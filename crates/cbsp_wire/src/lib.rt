@@ -6,6 +6,8 @@
 #![tactic(auto)]
 
 pub mod cause;
+pub mod cells;
+mod cursor;
 mod elements;
 pub mod fault;
 mod fields;

@@ -1,13 +1,14 @@
-//! The lists of a message, as octets and as items: each item names a cell, and a list names at most 64, none twice.
+//! The lists of a message: each item names a cell, and a list names at most 64, none twice.
 
-ghost use Rattle.std.specs.Prelude.{◌≡◌, ◌<◌, length, map, nat_le};
-ghost use Rattle.std.specs.List.{list_any};
+ghost use Rattle.std.specs.Prelude.{◌≡◌, ◌<◌, length, nat_le};
 ghost use Rattle.cbsp_wire.specs.Value.{cell_at, items_of};
-ghost use Rattle.cbsp_wire.specs.Range.{is_cell, are_distinct, cells_are_valid, items_are_whole};
+ghost use Rattle.cbsp_wire.specs.CellLists.{contains};
+ghost use Rattle.cbsp_wire.specs.Range.{are_distinct, cells_are_valid, items_are_whole};
 ghost use Rattle.cbsp_wire.specs.Range.{failures_are_by_lac_and_ci, is_by_lac_and_ci, is_list_body};
 ghost use Rattle.cbsp_wire.specs.Rising.{is_after, are_rising, are_rising_after};
 
-use crate::item::{Discriminator, ListItem};
+use crate::cursor::Cursor;
+use crate::item::Discriminator;
 use crate::message::Cell;
 
 /// The cell that four octets are, the high ones first.
@@ -20,14 +21,13 @@ pub(crate) fn cell_of(a: u8, b: u8, c: u8, d: u8) -> Cell
     }
 }
 
-/// Whether items name the cell.
-fn has_cell<T: ListItem>(items: &[T], cell: Cell) -> bool
-    ensures { result ≡ list_any (is_cell cell) (map T.cell_of items.now) }
+/// Whether a list names the cell.
+fn has_cell<C: Cursor>(list: C, cell: Cell) -> bool
+    ensures { result ≡ contains (C.cells list) cell }
 {
-    let mut left = items;
-    'search: while let [item, rest @ ..] = left {
-        let other = item.cell();
-        if cell.lac == other.lac && cell.ci == other.ci {
+    let mut left = list;
+    while let Some((other, rest)) = left.first() {
+        if cell == other {
             return true;
         }
         left = rest;
@@ -43,14 +43,13 @@ fn is_after(last: Cell, cell: Cell) -> bool
         < u32::from(cell.lac) * 0x1_0000 + u32::from(cell.ci)
 }
 
-/// Whether the cells of items rise, from the one after this.
-fn are_rising_after<T: ListItem>(first: Cell, items: &[T]) -> bool
-    ensures { result ≡ are_rising_after first (map T.cell_of items.now) }
+/// Whether the cells of a list rise, from the one after this.
+fn are_rising_after<C: Cursor>(first: Cell, list: C) -> bool
+    ensures { result ≡ are_rising_after first (C.cells list) }
 {
     let mut last = first;
-    let mut left = items;
-    'search: while let [item, rest @ ..] = left {
-        let cell = item.cell();
+    let mut left = list;
+    while let Some((cell, rest)) = left.first() {
         if !is_after(last, cell) {
             return false;
         }
@@ -60,100 +59,30 @@ fn are_rising_after<T: ListItem>(first: Cell, items: &[T]) -> bool
     true
 }
 
-/// Whether the cells of items rise.
-fn are_rising<T: ListItem>(items: &[T]) -> bool
-    ensures { result ≡ are_rising (map T.cell_of items.now) }
+/// Whether the cells of a list rise.
+fn are_rising<C: Cursor>(list: C) -> bool
+    ensures { result ≡ are_rising (C.cells list) }
 {
-    match items {
-        [item, rest @ ..] => are_rising_after(item.cell(), rest),
-        _ => true,
-    }
-}
-
-/// Whether items name no cell twice. Most lists rise, which takes one look at each item.
-fn are_distinct<T: ListItem>(items: &[T]) -> bool
-    ensures { result ≡ are_distinct (map T.cell_of items.now) }
-{
-    are_rising(items) || none_stands_twice(items)
-}
-
-/// Whether items name no cell twice, by a look at each two of them.
-fn none_stands_twice<T: ListItem>(items: &[T]) -> bool
-    ensures { result ≡ are_distinct (map T.cell_of items.now) }
-{
-    let mut left = items;
-    'search: while let [item, rest @ ..] = left {
-        if has_cell(rest, item.cell()) {
-            return false;
-        }
-        left = rest;
-    }
-    true
-}
-
-/// Whether a list may have these items: at most 64, and none names the cell of another.
-pub(crate) fn cells_are_valid<T: ListItem>(items: &[T]) -> bool
-    ensures { result ≡ cells_are_valid (map T.cell_of items.now) }
-{
-    items.len() <= 64 && are_distinct(items)
-}
-
-/// Whether the items that octets are name the cell.
-fn octets_have_cell<T: ListItem>(octets: &[u8], cell: Cell) -> bool
-    ensures { result ≡ list_any (is_cell cell) (map T.cell_of (T.items_in octets.now)) }
-{
-    let mut left = octets;
-    'search: while let Some((item, rest)) = T::first_of(left) {
-        let other = item.cell();
-        if cell.lac == other.lac && cell.ci == other.ci {
-            return true;
-        }
-        left = rest;
-    }
-    false
-}
-
-/// Whether the cells of the items that octets are rise, from the one after this.
-fn octets_are_rising_after<T: ListItem>(first: Cell, octets: &[u8]) -> bool
-    ensures { result ≡ are_rising_after first (map T.cell_of (T.items_in octets.now)) }
-{
-    let mut last = first;
-    let mut left = octets;
-    'search: while let Some((item, rest)) = T::first_of(left) {
-        let cell = item.cell();
-        if !is_after(last, cell) {
-            return false;
-        }
-        last = cell;
-        left = rest;
-    }
-    true
-}
-
-/// Whether the cells of the items that octets are rise.
-fn octets_are_rising<T: ListItem>(octets: &[u8]) -> bool
-    ensures { result ≡ are_rising (map T.cell_of (T.items_in octets.now)) }
-{
-    match T::first_of(octets) {
-        Some((item, rest)) => octets_are_rising_after::<T>(item.cell(), rest),
+    match list.first() {
+        Some((cell, rest)) => are_rising_after(cell, rest),
         None => true,
     }
 }
 
-/// Whether the items that octets are name no cell twice.
-fn octets_are_distinct<T: ListItem>(octets: &[u8]) -> bool
-    ensures { result ≡ are_distinct (map T.cell_of (T.items_in octets.now)) }
+/// Whether a list names no cell twice. Most lists rise, which takes one look at each item.
+pub(crate) fn are_distinct<C: Cursor>(list: C) -> bool
+    ensures { result ≡ are_distinct (C.cells list) }
 {
-    octets_are_rising::<T>(octets) || no_octets_stand_twice::<T>(octets)
+    are_rising(list) || are_pairwise_distinct(list)
 }
 
-/// Whether the items that octets are name no cell twice, by a look at each two of them.
-fn no_octets_stand_twice<T: ListItem>(octets: &[u8]) -> bool
-    ensures { result ≡ are_distinct (map T.cell_of (T.items_in octets.now)) }
+/// Whether a list names no cell twice, by a look at each two of its items.
+fn are_pairwise_distinct<C: Cursor>(list: C) -> bool
+    ensures { result ≡ are_distinct (C.cells list) }
 {
-    let mut left = octets;
-    'search: while let Some((item, rest)) = T::first_of(left) {
-        if octets_have_cell::<T>(rest, item.cell()) {
+    let mut left = list;
+    while let Some((cell, rest)) = left.first() {
+        if has_cell(rest, cell) {
             return false;
         }
         left = rest;
@@ -161,26 +90,26 @@ fn no_octets_stand_twice<T: ListItem>(octets: &[u8]) -> bool
     true
 }
 
-/// Whether octets are at most 64 items.
-fn octets_are_few<T: ListItem>(octets: &[u8]) -> bool
-    ensures { result ≡ nat_le (length (T.items_in octets.now)) 64 }
+/// Whether a list has at most 64 items.
+fn are_few<C: Cursor>(list: C) -> bool
+    ensures { result ≡ nat_le (length (C.cells list)) 64 }
 {
-    let mut left = octets;
-    'turn: for _ in 0..64u8 {
-        match T::first_of(left) {
+    let mut left = list;
+    for _ in 0..64u8 {
+        match left.first() {
             Some((_, rest)) => left = rest,
             None => return true,
         }
     }
-    T::first_of(left).is_none()
+    left.first().is_none()
 }
 
-/// Whether a list may have the items that octets are: at most 64, and none names the cell of another. The octets are
+/// Whether a list may be a message's: it names at most 64 cells, and none twice. Of a list that is read the octets are
 /// looked at themselves, so that no memory is taken before all faults have been looked for.
-pub(crate) fn octet_cells_are_valid<T: ListItem>(octets: &[u8]) -> bool
-    ensures { result ≡ cells_are_valid (map T.cell_of (T.items_in octets.now)) }
+pub(crate) fn cells_are_valid<C: Cursor>(list: C) -> bool
+    ensures { result ≡ cells_are_valid (C.cells list) }
 {
-    octets_are_few::<T>(octets) && octets_are_distinct::<T>(octets)
+    are_few(list) && are_distinct(list)
 }
 
 /// The octets of a list's items, after its length and the one discriminator, if all items share one.

@@ -13,10 +13,11 @@ ghost use Rattle.cbsp_wire.specs.Range.{elements_are_valid};
 ghost use Rattle.cbsp_wire.specs.Value.{u8_value, contents_of, fields_in, first_items};
 ghost use Rattle.cbsp_wire.specs.declared.iei.TheConstants.{MESSAGE_CONTENT, NUMBER_OF_PAGES};
 
+use crate::cursor::Octets;
 use crate::elements::{NUMBERS, find, first_octet, presence};
 use crate::iei;
 use crate::item::ListItem;
-use crate::lists::{is_list_body, items_of, octet_cells_are_valid};
+use crate::lists::{cells_are_valid, is_list_body, items_of};
 use crate::message::{Cell, Count, Failure};
 use crate::message_type::{MessageType, Presence};
 use crate::value::{u8_value, u16_value};
@@ -180,7 +181,7 @@ fn list_cells_are_valid<T: ListItem>(message_type: MessageType, element: u8, oct
 {
     match find(message_type, element, octets) {
         None => true,
-        Some((body, _)) => octet_cells_are_valid::<T>(items_of(T::DISCRIMINATOR, body)),
+        Some((body, _)) => cells_are_valid(Octets::<T>::new(items_of(T::DISCRIMINATOR, body))),
     }
 }
 

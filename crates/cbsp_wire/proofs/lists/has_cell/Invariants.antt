@@ -1,12 +1,9 @@
-use Rattle.std.proofs.Common.{◌≡◌, length, map}
-use Rattle.std.specs.List.{list_any}
-use Rattle.cbsp_wire.specs.Range.{is_cell}
+use Rattle.std.proofs.Common.{◌≡◌, length}
+use Rattle.cbsp_wire.specs.CellLists.{contains}
 use Rattle.cbsp_wire.proofs.lists.has_cell.Given as goal
 
-abbrev pub invariant-search : goal.invariant-search
-invariant-search g l =
-    list_any (is_cell l.cell) (map g.T.ListItem.cell_of l.left)
-    ≡ list_any (is_cell l.cell) (map g.T.ListItem.cell_of l.items)
+abbrev pub invariant-loop-other : goal.invariant-loop-other
+invariant-loop-other g l = contains (g.C.Cursor.cells l.left) l.cell ≡ contains (g.C.Cursor.cells l.fn.list) l.cell
 
-abbrev pub decreases-search : goal.decreases-search
-decreases-search g l = length l.left
+abbrev pub decreases-loop-other : goal.decreases-loop-other
+decreases-loop-other g l = length (g.C.Cursor.cells l.left)
