@@ -104,6 +104,10 @@ impl Budget {
     }
 
     /// Whether `load` could be reserved now, as if the entry `leaving` were gone. It changes nothing.
+    ///
+    /// # Errors
+    ///
+    /// `NoRoom` if it couldn't.
     pub fn fits(&self, load: u64, leaving: Option<u16>) -> Result<(), NoRoom>
         ensures { result ≡ answer_for (remaining_without leaving self.now) load }
     {
@@ -119,6 +123,10 @@ impl Budget {
     /// Whether `load` could wait now behind the entry `behind`, as if the entry `leaving` were gone: whether there is
     /// room for what it has over the load of `behind`. It changes nothing. The entry `behind` is reserved and has
     /// started.
+    ///
+    /// # Errors
+    ///
+    /// `NoRoom` if it couldn't.
     pub fn fits_behind(&self, load: u64, behind: u16, leaving: Option<u16>) -> Result<(), NoRoom>
         requires { Any (λ h. (h.entry ≡ behind) × (h.waits ≡ None)) self.now }
         ensures { result ≡ answer_for (remaining_without leaving self.now) (excess_over behind load self.now) }
@@ -128,6 +136,10 @@ impl Budget {
     }
 
     /// Reserves `load` for `entry` up to, and without, the slot `until`. The entry is not reserved yet.
+    ///
+    /// # Errors
+    ///
+    /// `NoRoom` if there is no room for it; nothing changes then.
     pub fn reserve(&mut self, entry: u16, load: u64, until: Option<u32>) -> Result<(), NoRoom>
         requires { All (λ h. h.entry ≢ entry) self.old }
         ensures answer { result ≡ answer_for self.old load }
@@ -149,6 +161,10 @@ impl Budget {
     ///
     /// The entry is not reserved yet. The entry `behind` is reserved, has started and ends at `start`, and no entry
     /// waits behind it.
+    ///
+    /// # Errors
+    ///
+    /// `NoRoom` if there is no room for it; nothing changes then.
     pub fn reserve_behind(
         &mut self,
         entry: u16,

@@ -146,7 +146,7 @@ unread = fault_at 0 fault.ReadFailed
 abbrev pub too_long : BookFault
 too_long = fault_at 0 fault.TooManyRows
 
--- why octets within the bound are no book, want of memory aside: a row's fault, or else a text's
+-- why octets within the bound are no book, out of memory aside: a row's fault, or else a text's
 abbrev pub IsWrong : List ℕ → BookFault → Type 0
 IsWrong input f = (length input ≤ max_input) × (IsRowFault input f ⊎ HasTextFault input f)
 

@@ -171,11 +171,14 @@ fn book_of<T: AllocGlobal + Threads + Sync>(rt: &T, octets: &[u8]) -> Result<Boo
     })
 }
 
-/// Reads a book to its end, or answers its first fault. Faults of rows come before those of texts, and want of memory
-/// may come at any point. The texts are packed side by side, in as many threads as there are processors.
+/// Reads a book to its end. The texts are packed side by side, in as many threads as there are processors.
 ///
-/// `cell,1,1` and then `write,0,a,4370,0,1,en,2,2,0,*,One` is a book of one cell and one order; `cell,1` alone answers
-/// `BookFault { row: 1, kind: BookFaultKind::Columns }`. docs/formats.md has all verbs and columns.
+/// `cell,1,1` and then `write,0,a,4370,0,1,en,2,2,0,*,One` is a book of one cell and one order; `cell,1` alone has
+/// the fault `BookFault { row: 1, kind: BookFaultKind::Columns }`. docs/formats.md has all verbs and columns.
+///
+/// # Errors
+///
+/// The first fault of the book: those of rows come before those of texts, and out of memory may come at any point.
 pub fn read_book<T: AllocGlobal + Threads + Sync, R: Read>(
     rt: &T,
     source: &mut Source<R>,

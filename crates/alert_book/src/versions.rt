@@ -46,7 +46,11 @@ impl Versions {
         }
     }
 
-    /// Makes a place for the version of an alert in a cell. Nothing else changes, also if memory is refused.
+    /// Makes a place for the version of an alert in a cell. Nothing else changes.
+    ///
+    /// # Errors
+    ///
+    /// `Refused` if out of memory; nothing changes then.
     pub fn make_place(&mut self, number: u16, cell: Cell) -> Result<(), Refused>
         ensures keeps { KeepsVersions self.old self.new }
         ensures made { OnOk result (has_place self.new number cell ≡ true) }

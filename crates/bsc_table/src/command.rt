@@ -90,7 +90,7 @@ impl Command {
     ///
     /// # Errors
     ///
-    /// `Refused` for want of memory, which a write alone takes.
+    /// `Refused` if out of memory, which a write alone takes.
     pub fn copy(&self, alloc: Global) -> Result<Command, Refused>
         ensures copied { IfOk result (λ command. command ≡ self.now) }
         ensures refused { IfErr result (λ refused. IsWrite self.now) }

@@ -159,7 +159,7 @@ fn header_of(cell: Cell, slots: u16) -> [u8; HEADER]
 ///
 /// # Errors
 ///
-/// Returns [`Refused`] if memory was refused.
+/// Returns [`Refused`] if out of memory.
 pub fn tape_of(alloc: Global, run: &CellRecord) -> Result<Tape, Refused>
     ensures { IfOk result (λ tape. tape ≡ tape_of_record run.now) }
 {

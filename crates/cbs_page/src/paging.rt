@@ -50,14 +50,17 @@ pub enum TextFault {
     /// The text needs more than 15 pages.
     #[error("too many pages")]
     TooManyPages,
-    /// There was no memory for the pages.
+    /// Out of memory.
     #[error("out of memory")]
     Refused,
 }
 
 /// The pages of a text in a language. The text is GSM 7-bit if that alphabet has each of its characters, with the
-/// language's data coding value, and UCS-2 otherwise. The error is the first of `TextFault` that applies, with out of
-/// memory last.
+/// language's data coding value, and UCS-2 otherwise.
+///
+/// # Errors
+///
+/// The first of [`TextFault`] that applies, with out of memory last.
 pub fn paginate(alloc: Global, text: &str, language: &str) -> Result<Paged, TextFault>
     ensures sent { IfOk result (IsPagedText language.now (chars text.now)) }
     ensures shown { IfOk result (λ paged. ShowsText (chars text.now) paged) }

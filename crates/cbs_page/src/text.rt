@@ -30,8 +30,11 @@ const CR: u8 = 0x0D;
 const CR_UNIT: u16 = 0x000D;
 
 /// The text that a readable page shows: the carriage returns at its end are dropped first, then the rest is decoded. A
-/// surrogate unit shows U+FFFD, and an escape alone at the end shows a space. The only error is that memory was
-/// refused.
+/// surrogate unit shows U+FFFD, and an escape alone at the end shows a space.
+///
+/// # Errors
+///
+/// `Refused` if out of memory.
 pub fn page_text(alloc: Global, view: &PageView) -> Result<String, Refused>
     requires { IsTrue (is_readable view.now) }
     ensures { IfOk result (λ text. string_bytes text ≡ encode_utf8_all (text_of_page view.now)) }

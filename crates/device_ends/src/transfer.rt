@@ -37,7 +37,11 @@ pub fn write_front<W: Write>(sink: &mut Sink<W>, octets: &[u8]) -> usize
     out
 }
 
-/// Writes all octets. Returns [`Failed`] if the sink has failed, and then a front of them is out.
+/// Writes all octets.
+///
+/// # Errors
+///
+/// [`Failed`] if the sink has failed; then a front of them is out.
 pub fn write_all<W: Write>(sink: &mut Sink<W>, octets: &[u8]) -> Result<(), Failed>
     ensures ok { OnOk result (Appends (W.contents (writer_of sink.old))
         (W.contents (writer_of sink.new)) octets.now) }
@@ -53,8 +57,10 @@ pub fn write_all<W: Write>(sink: &mut Sink<W>, octets: &[u8]) -> Result<(), Fail
 /// Reads to the end, but stops once it has `limit + 1` octets: so the input was longer than `limit`
 /// exactly if more than `limit` octets are returned.
 ///
-/// Returns [`ReadFault::Device`] exactly if the source has failed, and [`ReadFault::Refused`]
-/// if memory was refused. After either, at most `limit` octets were read and are gone.
+/// # Errors
+///
+/// [`ReadFault::Device`] exactly if the source has failed, and [`ReadFault::Refused`] if out of memory. After either, at
+/// most `limit` octets were read and are gone.
 pub fn read_up_to<R: Read>(
     source: &mut Source<R>,
     alloc: Global,

@@ -10,6 +10,10 @@ use device_ends::{Failed, Source};
 use std::io::Read;
 
 /// Reads onto the front of a buffer until it is full or the input ends, and returns how many octets these are.
+///
+/// # Errors
+///
+/// `Failed` if the reader fails, now or earlier.
 pub fn read_front<R: Read>(source: &mut Source<R>, buffer: &mut [u8]) -> Result<usize, Failed>
     requires { source_failed source.old ≡ false }
     ensures bound { IfOk result (λ count. count ≤ length buffer.old) }

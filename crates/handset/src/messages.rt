@@ -104,7 +104,11 @@ fn is_complete(pages: &[PageView], last: &PageView) -> bool
     total != 0
 }
 
-/// The message of the last page, if it has all its pages with this one. The only error is that memory was refused.
+/// The message of the last page, if it has all its pages with this one.
+///
+/// # Errors
+///
+/// `Refused` if out of memory.
 pub fn message_if_complete(
     alloc: Global,
     pages: &[PageView],

@@ -65,7 +65,7 @@ pub enum TapeFault {
     /// The reader failed.
     #[error("read failed")]
     ReadFailed,
-    /// There was no memory.
+    /// Out of memory.
     #[error("out of memory")]
     Refused,
 }
@@ -89,9 +89,11 @@ impl From<AllocError> for TapeFault {
 
 /// Reads one tape, after which the input is to end.
 ///
-/// Returns [`TapeFault::Short`] if the input ends before its tape does, [`TapeFault::Long`] if it goes on after the
+/// # Errors
+///
+/// [`TapeFault::Short`] if the input ends before its tape does, [`TapeFault::Long`] if it goes on after the
 /// tape or the header says more than 65,535 slots, [`TapeFault::ReadFailed`] exactly if the source has failed, now or
-/// earlier, and [`TapeFault::Refused`] if memory runs out. Of a long input no more is read than the header that says
+/// earlier, and [`TapeFault::Refused`] if out of memory. Of a long input no more is read than the header that says
 /// too many slots, or one octet after the tape.
 pub fn read_tape<R: Read>(alloc: Global, source: &mut Source<R>) -> Result<Reading, TapeFault>
     ensures ok { IfOk result (λ reading. IfSome (R.remaining (reader_of source.old)) (λ input.
@@ -125,9 +127,12 @@ pub fn read_tape<R: Read>(alloc: Global, source: &mut Source<R>) -> Result<Readi
     }
 }
 
-/// Reads tapes up to the end of the input, at most 64; an input of no octets has none. Returns the faults of
-/// [`read_tape`]: an input is short if it ends inside one of its tapes, and long if it goes on after the 64th or has
-/// a header of too many slots.
+/// Reads tapes up to the end of the input, at most 64; an input of no octets has none.
+///
+/// # Errors
+///
+/// Those of [`read_tape`]: an input is short if it ends inside one of its tapes, and long if it goes on after the 64th
+/// or has a header of too many slots.
 pub fn read_tapes<R: Read>(alloc: Global, source: &mut Source<R>) -> Result<Vec<Reading>, TapeFault>
     ensures ok { IfOk result (λ tapes. IfSome (R.remaining (reader_of source.old)) (λ input.
         AreTapes input (readings_of tapes.items))) }
@@ -154,7 +159,7 @@ pub trait TakesReadings {
     /// It has taken these readings, in order.
     ghost HasTaken: { Self → List TapeReading → Type 0 };
 
-    /// Takes the next reading. The only error is that memory was refused.
+    /// Takes the next reading. The only error is out of memory.
     fn take(&mut self, reading: Reading) -> Result<(), AllocError>
         ensures { OnOk result ((before : List TapeReading) → HasTaken self.old before →
             HasTaken self.new (before ++ reading_of reading ∷ [])) };

@@ -22,7 +22,7 @@ pub enum DeskFault {
     /// The cell's log has 4,096 entries.
     #[error("order was refused")]
     Full,
-    /// There was no memory.
+    /// Out of memory.
     #[error("out of memory")]
     Memory {
         /// How many cells of an order's list were answered, those that aren't of the desk among them. Of the next one

@@ -14,7 +14,7 @@ use device_ends::{Failed, Sink, write_all};
 use std::alloc::{AllocError, Global};
 use std::io::Write;
 
-/// The text of a report of these rows. The only error is that memory was refused.
+/// The text of a report of these rows. The only error is out of memory.
 fn text_of(alloc: Global, rows: &[Row]) -> Result<Vec<u8>, AllocError>
     ensures { IfOk result (λ octets. octets.items ≡ report_text rows.now) }
 {
@@ -31,7 +31,7 @@ fn text_of(alloc: Global, rows: &[Row]) -> Result<Vec<u8>, AllocError>
 /// # Errors
 ///
 /// Returns [`ReportFault::WriteFailed`] exactly if the sink has failed, now or earlier, after which a front of the
-/// text may be out, and [`ReportFault::Refused`] if memory was refused, after which nothing is.
+/// text may be out, and [`ReportFault::Refused`] if out of memory, after which nothing is.
 pub fn write_report<W: Write>(
     alloc: Global,
     rows: &[Row],

@@ -63,7 +63,7 @@ impl Stops {
         }
     }
 
-    /// Adds an entry that comes before the others. The only error is that memory was refused.
+    /// Adds an entry that comes before the others. The only error is out of memory.
     fn add(&mut self, entry: &Entry) -> Result<(), AllocFailed<((u16, u16), u16)>>
         ensures { OnOk result ((later : List Entry) → AreStops self.old later
             → AreStops self.new (entry.now ∷ later)) }

@@ -107,8 +107,11 @@ impl Plan {
     }
 
     /// Adds a message, that stands from the slot that is asked next, or from a later one. Its number is above those
-    /// of the messages added before, and it has a page or more and a period of 1 slot or more. After `Err` the plan
-    /// is unchanged.
+    /// of the messages added before, and it has a page or more and a period of 1 slot or more.
+    ///
+    /// # Errors
+    ///
+    /// `Refused` if out of memory; the plan is unchanged then.
     pub fn add(&mut self, item: Item) -> Result<(), Refused>
         requires rising { All (λ m. m.entry < item.entry) (messages_of self.old) }
         requires from_next { next_slot self.old ≤ item.start }

@@ -23,7 +23,7 @@ fn order_in(alloc: Global, octets: &[u8]) -> Result<Option<(Vec<Cell>, Command)>
     ensures none { IfOk result (λ found. IfNone found ((cells : List Cell) (command : Command)
         → IsOrderOf octets.now cells command → ⊥)) }
 {
-    // What octets mean is one message, and it is read unless memory runs out.
+    // What octets mean is one message, and it is read unless out of memory.
     cbsp_wire::meaning_law();
     let message = match read(alloc, octets) {
         Ok(message) => message,

@@ -46,7 +46,7 @@ fn is_right(
 /// # Errors
 ///
 /// - [`SettleFault::Session`] with the least part whose pass isn't right, `parts` for a pass after them.
-/// - [`SettleFault::Refused`], at any point, if memory runs out.
+/// - [`SettleFault::Refused`], at any point, if out of memory.
 pub fn check_sessions(
     alloc: Global,
     book: &Book,

@@ -71,7 +71,11 @@ impl Model for Seat {
 
 impl Counter {
     /// A counter of the numbers below `count`, which is at most 65,535, and its first seat, which may be split 64
-    /// times. `Refused` if memory is refused.
+    /// times.
+    ///
+    /// # Errors
+    ///
+    /// `Refused` if out of memory.
     pub fn new(alloc: Global, count: u64) -> Result<(Counter, Seat), Refused>
         requires { count < 65536 }
         ensures { IfOk result (λ made. (made.0.limit ≡ count) × (made.1 ≡ first_seat made.0)) }

@@ -30,7 +30,7 @@ IsOrdered words (Compile slots workers) = IsCompileOrder words slots workers.num
 IsOrdered words (Report slots workers) = IsReportOrder words slots workers.number
 IsOrdered words (Live slots sessions workers) = IsLiveOrder words slots sessions.number workers.number
 
--- the status of a fault of `read`: 1 if the input is refused, 3 if a device failed, 4 if there was no memory
+-- the status of a fault of `read`: 1 if the input is refused, 3 if a device failed, 4 if out of memory
 abbrev pub status_of_read_fault : ReadCommandFault → ℕ
 status_of_read_fault table.Short = 1
 status_of_read_fault table.Long = 1
@@ -38,7 +38,7 @@ status_of_read_fault table.ReadFailed = 3
 status_of_read_fault table.Refused = 4
 status_of_read_fault table.WriteFailed = 3
 
--- the status of a fault of the desk and of its settlement: 4 if there was no memory, else 1
+-- the status of a fault of the desk and of its settlement: 4 if out of memory, else 1
 abbrev pub status_of_desk_fault : DeskFault → ℕ
 status_of_desk_fault (desk.Memory done) = 4
 status_of_desk_fault other = 1
@@ -47,13 +47,13 @@ abbrev pub status_of_settle_fault : SettleFault → ℕ
 status_of_settle_fault settle.Refused = 4
 status_of_settle_fault other = 1
 
--- the status of a fault of workers: 4 if there was no memory, else 1
+-- the status of a fault of workers: 4 if out of memory, else 1
 abbrev pub status_of_compile_fault : CompileFault → ℕ
 status_of_compile_fault compile.Refused = 4
 status_of_compile_fault other = 1
 
 -- the status of a fault of a run: that of the book's fault, of the desk's, of the settlement's or of
--- the workers', 3 if the writer failed, 4 if there was no memory
+-- the workers', 3 if the writer failed, 4 if out of memory
 abbrev pub status_of_run_fault : RunFault → ℕ
 status_of_run_fault (run.Book f) = status_of_book_fault f
 status_of_run_fault (run.Desk f) = status_of_desk_fault f

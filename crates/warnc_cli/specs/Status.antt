@@ -23,7 +23,7 @@ use Rattle.cbs_page.specs.declared.paging.TextFault.TheVariants as text
 use Rattle.warnc_inspect.specs.declared.page.PageFault.{PageFault}
 use Rattle.warnc_inspect.specs.declared.page.PageFault.TheVariants as fault
 
--- 1 if the input is refused, 3 if a device failed, 4 if there was no memory
+-- 1 if the input is refused, 3 if a device failed, 4 if out of memory
 abbrev pub status_of_page_fault : PageFault → ℕ
 status_of_page_fault fault.ReadFailed = 3
 status_of_page_fault fault.TooLong = 1

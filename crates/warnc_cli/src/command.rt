@@ -57,11 +57,12 @@ pub enum Order<'a> {
     },
 }
 
-/// What the words ask for, or the text that clap has for them: help, the version, or what is wrong with them. clap
-/// judges the words; what they give is then looked up in the words themselves, since the contracts of clap don't reach
-/// into a subcommand.
+/// What the words ask for. clap judges the words; what they give is then looked up in the words themselves, since the
+/// contracts of clap don't reach into a subcommand. None never comes of words that clap takes.
 ///
-/// None never comes of words that clap takes.
+/// # Errors
+///
+/// The text that clap has for the words: help, the version, or what is wrong with them.
 pub fn order_of<'a, S: AsStr>(alloc: Global, words: &'a [S]) -> Result<Option<Order<'a>>, Error>
     ensures { IfOk result (λ order. IfSome order (IsOrdered (map S.text words.now))) }
 {

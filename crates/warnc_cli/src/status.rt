@@ -27,7 +27,7 @@ pub const USAGE: u8 = 2;
 /// A device failed.
 pub const DEVICE: u8 = 3;
 
-/// There was no memory.
+/// Out of memory.
 pub const MEMORY: u8 = 4;
 
 /// A fault that ends a run: its text is the line that reports it.

@@ -36,7 +36,7 @@ pub enum PageFault {
     /// The text can't be sent.
     #[error("{0}")]
     Text(TextFault),
-    /// There was no memory.
+    /// Out of memory.
     #[error("out of memory")]
     Refused,
     /// The writer failed. Some of the output may be out.
@@ -46,6 +46,10 @@ pub enum PageFault {
 
 /// Reads one text, and writes the blocks of its pages, a line each, and then what a handset shows of these blocks. One
 /// LF at the end of the input isn't part of the text. Nothing is written before all of the output is made.
+///
+/// # Errors
+///
+/// The first [`PageFault`] that applies, with nothing written but after `WriteFailed`.
 pub fn page_stream<R: Read, W: Write>(
     alloc: Global,
     source: &mut Source<R>,

@@ -27,7 +27,7 @@ pub enum ReadCommandFault {
     /// The reader failed.
     #[error("read failed")]
     ReadFailed,
-    /// There was no memory.
+    /// Out of memory.
     #[error("out of memory")]
     Refused,
     /// The writer failed. Some of the table may be out.
@@ -38,6 +38,10 @@ pub enum ReadCommandFault {
 /// Reads 0 to 64 tapes up to the end of the input, and writes a table of the messages that they show, as CSV: a row of
 /// the columns' names, and then a row for each message, tapes in order, messages in the order in which they are shown.
 /// Nothing is written before the last tape is read and the table is made; of the tapes no more is kept than their rows.
+///
+/// # Errors
+///
+/// The first [`ReadCommandFault`] that applies, with nothing written but after `WriteFailed`.
 pub fn read_stream<R: Read, W: Write>(
     alloc: Global,
     source: &mut Source<R>,

@@ -22,13 +22,13 @@ pub enum RunFault {
     /// What the passes note isn't what the cells hold, or isn't what the sessions ordered.
     #[error("{0}")]
     Settle(SettleFault),
-    /// The number of workers isn't one that there can be, or they had no memory.
+    /// The number of workers isn't one that there can be, or they were out of memory.
     #[error("{0}")]
     Compile(CompileFault),
     /// The writer failed. Some tapes are out whole, and of the one under way as many octets as the fault names.
     #[error("{0}")]
     Write(WriteFailed),
-    /// There was no memory.
+    /// Out of memory.
     #[error("out of memory")]
     Refused,
 }

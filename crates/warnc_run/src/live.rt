@@ -42,7 +42,7 @@ use std::thread::Threads;
 /// contract excludes [`RunFault::Desk`] with `Unknown`, [`RunFault::Settle`], and [`CompileFault::Piece`] for a tape
 /// that isn't its record's; the desk refuses no order for what it says. With no workers or over 64 it returns
 /// [`RunFault::Compile`] with [`CompileFault::Workers`], before anything is read. Of sessions that met a fault of the
-/// desk, the least one's is returned, unless memory runs out.
+/// desk, the least one's is returned, unless out of memory.
 pub fn live_stream<T: AllocGlobal + Threads + Wait + Sync, R: Read, W: Write, G: Gate>(
     rt: &T,
     source: &mut Source<R>,
