@@ -59,8 +59,8 @@ pub fn write_all<W: Write>(sink: &mut Sink<W>, octets: &[u8]) -> Result<(), Fail
 ///
 /// # Errors
 ///
-/// [`ReadFault::Device`] exactly if the source has failed, and [`ReadFault::Refused`] if out of memory. After either, at
-/// most `limit` octets were read and are gone.
+/// [`ReadFault::Device`] exactly if the source has failed, and [`ReadFault::Refused`] if out of memory. After either,
+/// at most `limit` octets were read and are gone.
 pub fn read_up_to<R: Read>(
     source: &mut Source<R>,
     alloc: Global,
