@@ -131,13 +131,13 @@ shown 01 c14da3d168341a<10*8d46a3d168341a>8d46a3d100 -> A<0020>
 shown 40 9bf246b1093684<10*8d46a3d168341a>8d46a3d100 -> €<000A>A<000D>B
 # A surrogate, and a carriage return in the middle.
 shown 48 d83d000d0041<38*000d> -> <FFFD><000D>A
-# What faults are called, and then want of memory for a page that is shown.
+# What faults are called, and then out of memory for a page that is shown.
 fault BadLanguage -> unknown language
 fault Empty -> text is empty
 fault BadCharacter 12 -> bad character at 12
 fault TooManyPages -> too many pages
 fault Refused -> out of memory
-fault -> out of memory
+fault -> memory allocation failed
 ";
 
 #[test]
