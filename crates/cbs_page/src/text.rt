@@ -88,7 +88,7 @@ fn are_plain(septets: &[u8]) -> bool
 }
 
 /// Whether a septet is one of those that show the characters of their own numbers.
-fn is_plain(septet: u8) -> bool
+pub fn is_plain(septet: u8) -> bool
     ensures { result ≡ is_plain septet }
 {
     (septet < 128)
