@@ -20,4 +20,3 @@ mod OneAlert
 mod LastAccepted
 mod TurnsReplace
 pub mod Writable
-mod NearCells

@@ -1,21 +1,14 @@
 //! The cells that a row is for.
 
 ghost use Rattle.std.specs.Prelude.{◌≡◌, ◌≢◌, Ok, Err, Some, None, IfErr, IfOk};
-ghost use Rattle.std.specs.List.{list_all, list_any};
-ghost use Rattle.cbsp_wire.specs.Range.{is_cell, are_distinct};
+ghost use Rattle.std.specs.List.{list_all};
 ghost use Rattle.alert_book.specs.Cells.{all_of, cell_named, cells_listed, cells_of_field, is_among, judged};
 
 use crate::fault::RowFault;
 use crate::number::number_within;
+use cbsp_wire::cells::are_distinct;
 use cbsp_wire::{Cell, Cells};
 use std::alloc::{AllocError, Global};
-
-/// Whether two cells are one.
-pub(crate) fn is_cell(cell: Cell, other: Cell) -> bool
-    ensures { result ≡ is_cell cell other }
-{
-    cell.lac == other.lac && cell.ci == other.ci
-}
 
 /// The cells of a list.
 pub(crate) fn list_of(cells: &Cells) -> &[Cell]
@@ -28,40 +21,7 @@ pub(crate) fn list_of(cells: &Cells) -> &[Cell]
 pub(crate) fn is_among(declared: &[Cell], cell: Cell) -> bool
     ensures { result ≡ is_among declared.now cell }
 {
-    declared.iter().any(|other| is_cell(*other, cell))
-}
-
-/// Whether a cell stands in a list.
-pub(crate) fn stands_in(cell: Cell, cells: &[Cell]) -> bool
-    ensures { result ≡ list_any (is_cell cell) cells.now }
-{
-    cells.iter().any(|other| is_cell(cell, *other))
-}
-
-/// Whether a cell stands in a list, in which it is looked for at a place first: lists of the cells that were asked, and
-/// of those that accepted, have mostly the same order.
-#[tactic(auto, using(crate::proofs::NearCells::found_near))]
-pub(crate) fn stands_near(cell: Cell, cells: &[Cell], place: usize) -> bool
-    ensures { result ≡ list_any (is_cell cell) cells.now }
-{
-    match cells.get(place) {
-        Some(other) if is_cell(cell, *other) => true,
-        _ => stands_in(cell, cells),
-    }
-}
-
-/// Whether no cell stands twice in a list.
-fn are_distinct(cells: &[Cell]) -> bool
-    ensures { result ≡ are_distinct cells.now }
-{
-    let mut left = cells;
-    while let Some((first, rest)) = left.split_first() {
-        if stands_in(*first, rest) {
-            return false;
-        }
-        left = rest;
-    }
-    true
+    declared.contains(&cell)
 }
 
 /// The cell that a text names, if it names one.

@@ -2,14 +2,13 @@
 
 ghost use Rattle.std.specs.Prelude.{◌≡◌, [], find, IfOk};
 ghost use Rattle.std.specs.Option.{option_copied};
-ghost use Rattle.cbsp_wire.specs.Range.{is_cell};
 ghost use Rattle.alert_book.specs.Session.{accepting, cells_asked, cells_counted, is_kill_of, is_write_of, outcome_of};
 ghost use Rattle.alert_book.specs.Session.{is_reply_to, outcome_said, refuses, same_serial, version_by, version_said};
 ghost use Rattle.alert_book.specs.Session.{version_after, after_refusal};
 
-use crate::cells::{is_cell, stands_near};
 use crate::request::{Refused, Request};
 use cbs_page::Serial;
+use cbsp_wire::cells::contains_near;
 use cbsp_wire::{Cell, Cells, Count, Counts, Failure, Failures, Message, cause};
 use std::alloc::Global;
 
@@ -208,7 +207,7 @@ fn after_refusal(cause: u8, before: Option<u8>) -> Option<u8>
 fn refuses(cell: Cell, failure: &Failure) -> bool
     ensures { result ≡ refuses cell failure.now }
 {
-    is_cell(cell, failure.cell)
+    cell == failure.cell
 }
 
 /// The refusal of a cell, if it refused.
@@ -230,7 +229,7 @@ pub(crate) fn version_said(
 {
     match refusal_of(&outcome.refused.list, cell) {
         Some(failure) => after_refusal(failure.cause, before),
-        None if stands_near(cell, &outcome.accepted.list, place) => request.version,
+        None if contains_near(&outcome.accepted.list, cell, place) => request.version,
         None => before,
     }
 }
@@ -248,7 +247,7 @@ pub(crate) fn version_after(
     ensures { result
         ≡ version_after request.now outcome.now (cells_asked request.now.message) number cell before }
 {
-    if request.number == number && stands_near(cell, cells_asked(&request.message), place) {
+    if request.number == number && contains_near(cells_asked(&request.message), cell, place) {
         version_said(request, outcome, cell, place, before)
     } else {
         before

@@ -76,12 +76,16 @@ contains_is cells cell = (λ found. Contains-from_any same_cell cell cells found
 pub distinct_is : (cells : List Cell) → IsTrue (are_distinct cells) ↔ AreDistinct cells
 distinct_is cells = (distinct_from cells, distinct_passes cells)
 
+-- a cell that stands at a place is itself there, whatever stands for those past the end
+pub itself_at : (cells : List Cell) (cell : Cell) (place : ℕ) (default : Cell) → slice_get cells place ≡ Some cell
+    → is_cell cell (get_or cells place default) ≡ true
+itself_at cells cell place default at = rw (get_or_from_slice_get cells place cell default at) (is_itself cell)
+
 -- a list that has a cell at a place has it
-pub found_near : (cells : List Cell) (cell : Cell) (place : ℕ) → slice_get cells place ≡ Some cell →
-    contains cells cell ≡ true
-found_near cells cell place at =
-    list_any_at (is_cell cell) cells place cell (slice_get_within cells place cell at)
-    (rw (get_or_from_slice_get cells place cell cell at) (is_itself cell))
+pub found_near : (cells : List Cell) (cell : Cell) (place : ℕ) → slice_get cells place ≡ Some cell
+    → contains cells cell ≡ true
+found_near cells cell place at = list_any_at (is_cell cell) cells place cell
+    (slice_get_within cells place cell at) (itself_at cells cell place cell at)
 
 -- a cell's least place has it
 pub at_place : (cells : List Cell) (cell : Cell) (place : ℕ) → least_place cells cell ≡ Some place
@@ -120,3 +124,15 @@ not_there cells cell none there =
     let found = (contains_is cells cell).1 there in
     let missed = absent cells cell none in
     cc
+
+-- a list in which a cell has a place has it
+pub found_by_place : (cells : List Cell) (cell : Cell) (place : ℕ) → least_place cells cell ≡ Some place
+    → contains cells cell ≡ true
+found_by_place cells cell place found =
+    let at = position-Some (is_cell cell) cells place cell found in
+    list_any_at (is_cell cell) cells place cell at.0 at.1
+
+-- a cell's least place is one of the list's
+pub place_within : (cells : List Cell) (cell : Cell) (place : ℕ) → least_place cells cell ≡ Some place
+    → place < length cells
+place_within cells cell place found = (position-Some (is_cell cell) cells place cell found).0
