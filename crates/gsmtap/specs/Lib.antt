@@ -1,0 +1,3 @@
+pub mod Packet
+pub mod Capture
+pub mod CaptureSteps
