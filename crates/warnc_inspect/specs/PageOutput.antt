@@ -87,5 +87,5 @@ IsStreamFault language id serial input old new fault.WriteFailed =
     (output : List ℕ) × IsPageOutput language id serial input output × AppendsFront old new output
 
 -- the fault of a failed writer
-abbrev pub IsWriteFault : PageFault → Type 0
-IsWriteFault f = f ≡ fault.WriteFailed
+abbrev pub IsPageWriteFault : PageFault → Type 0
+IsPageWriteFault f = f ≡ fault.WriteFailed

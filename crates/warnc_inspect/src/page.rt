@@ -7,7 +7,7 @@ ghost use Rattle.device_ends.specs.Source.{reader_of};
 ghost use Rattle.device_ends.specs.Stream.{Between, FaultOfInput, IsStreamBetween};
 ghost use Rattle.handset.specs.Keeping.{HasRead, message_shown, messages_of};
 ghost use Rattle.warnc_inspect.specs.PageOutput.{without_final_lf, blocks_of_message, block_line, message_line};
-ghost use Rattle.warnc_inspect.specs.PageOutput.{lines_of, IsPageOutput, IsPageFault, IsStreamFault, IsWriteFault};
+ghost use Rattle.warnc_inspect.specs.PageOutput.{lines_of, IsPageOutput, IsPageFault, IsStreamFault, IsPageWriteFault};
 
 use cbch_blocks::cut;
 use cbs_page::{Paged, Serial, TextFault, page_bytes, paginate};
@@ -69,7 +69,7 @@ pub fn page_stream<R: Read, W: Write>(
         (MAX_INPUT + 1) }
 
     // At any reader and any writer.
-    ensures any_ends { IsStreamBetween PageFault.ReadFailed IsWriteFault result W.contents source.old source.new
+    ensures any_ends { IsStreamBetween PageFault.ReadFailed IsPageWriteFault result W.contents source.old source.new
         sink.old sink.new }
 {
     let input = match read_up_to(source, alloc, MAX_INPUT) {

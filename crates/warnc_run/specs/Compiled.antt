@@ -142,7 +142,7 @@ abbrev pub IsCompileRunFault : (slots : ℕ) → (first last old new : Option (L
 IsCompileRunFault slots first last old new f = IsRunFault slots 1 (IsCompiled slots) first last old new f
 
 -- what is so of a run at any reader and any writer
-abbrev pub IsRunBetween : {R W : Type 0} → Result (Unit {0}) RunFault → (held : W → Option (List ℕ))
+abbrev pub IsRunAtEnds : {R W : Type 0} → Result (Unit {0}) RunFault → (held : W → Option (List ℕ))
     → (first last : Source R) → (old new : Sink W) → Type 0
-IsRunBetween result held first last old new =
+IsRunAtEnds result held first last old new =
     IsStreamBetween (fault.Book unread) IsWriteFault result held first last old new

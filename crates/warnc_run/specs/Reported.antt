@@ -63,7 +63,7 @@ abbrev pub IsReportFault : (slots : ℕ) → (first last old new : Option (List 
 IsReportFault slots first last old new f = IsReportRunFault slots (IsReported slots) first last old new f
 
 -- what is so of a report at any reader and any writer
-abbrev pub IsReportBetween : {R W : Type 0} → Result (Unit {0}) ReportRunFault → (held : W → Option (List ℕ))
+abbrev pub IsReportAtEnds : {R W : Type 0} → Result (Unit {0}) ReportRunFault → (held : W → Option (List ℕ))
     → (first last : Source R) → (old new : Sink W) → Type 0
-IsReportBetween result held first last old new =
+IsReportAtEnds result held first last old new =
     IsStreamBetween (fault.Run (run.Book unread)) IsReportWriteFault result held first last old new

@@ -3,7 +3,7 @@
 ghost use Rattle.std.specs.Prelude.{◌≡◌, ◌↔◌, IfErr, IsErrOf, OnOk};
 ghost use Rattle.device_ends.specs.Stream.{Between, FaultBetween};
 ghost use Rattle.parallel_compile.specs.declared.fault.CompileFault.TheVariants as compile;
-ghost use Rattle.warnc_run.specs.Compiled.{AreWorkers, IsCompileRunFault, IsCompiled, IsRunBetween, Makes};
+ghost use Rattle.warnc_run.specs.Compiled.{AreWorkers, IsCompileRunFault, IsCompiled, IsRunAtEnds, Makes};
 ghost use Rattle.warnc_run.specs.declared.fault.RunFault.TheVariants as faults;
 
 use crate::fault::RunFault;
@@ -44,7 +44,7 @@ pub fn compile_stream<T: AllocGlobal + Threads + Wait + Sync, R: Read, W: Write>
 
     // At any reader and any writer.
     ensures any_ends { AreWorkers workers
-        → IsRunBetween result W.contents source.old source.new sink.old sink.new }
+        → IsRunAtEnds result W.contents source.old source.new sink.old sink.new }
 {
     // A run of one session is a run of the book.
     book_runs::session_laws();

@@ -3,7 +3,7 @@
 ghost use Rattle.std.specs.Prelude.{◌≡◌, ◌↔◌, ◌<◌, ◌≤◌, IfErr, IsErrOf, OnOk};
 ghost use Rattle.device_ends.specs.Stream.{Between, FaultBetween};
 ghost use Rattle.parallel_compile.specs.declared.fault.CompileFault.TheVariants as compile;
-ghost use Rattle.warnc_run.specs.Compiled.{AreWorkers, IsRunBetween, Makes};
+ghost use Rattle.warnc_run.specs.Compiled.{AreWorkers, IsRunAtEnds, Makes};
 ghost use Rattle.warnc_run.specs.Live.{IsLive, IsLiveFault};
 ghost use Rattle.warnc_run.specs.declared.fault.RunFault.TheVariants as faults;
 
@@ -66,7 +66,7 @@ pub fn live_stream<T: AllocGlobal + Threads + Wait + Sync, R: Read, W: Write, G:
 
     // At any reader and any writer.
     ensures any_ends { AreWorkers workers
-        → IsRunBetween result W.contents source.old source.new sink.old sink.new }
+        → IsRunAtEnds result W.contents source.old source.new sink.old sink.new }
 {
     // A handset is shown what the book means, whatever the cells answered, and whichever session came first.
     book_runs::session_laws();

@@ -7,7 +7,7 @@ ghost use Rattle.cbch_blocks.specs.RecordBlocks.{tape_of_record};
 ghost use Rattle.handset.specs.Tape.{readings_of, IsTape};
 ghost use Rattle.parallel_compile.specs.declared.fault.CompileFault.TheVariants as compile;
 ghost use Rattle.warnc_run.specs.Compiled.{AreWorkers, Makes};
-ghost use Rattle.warnc_run.specs.Reported.{reading_of_record, IsReportBetween, IsReportFault, IsReported};
+ghost use Rattle.warnc_run.specs.Reported.{reading_of_record, IsReportAtEnds, IsReportFault, IsReported};
 ghost use Rattle.warnc_run.specs.RunSteps.{AreRowsOf, IsOfBookReport, IsOfReport};
 ghost use Rattle.warnc_run.specs.declared.fault.RunFault.TheVariants as faults;
 ghost use Rattle.warnc_run.specs.declared.report_run.ReportRunFault.TheVariants as reports;
@@ -104,7 +104,7 @@ pub fn report_stream<T: AllocGlobal + Threads + Wait + Sync, R: Read, W: Write>(
 
     // At any reader and any writer.
     ensures any_ends { AreWorkers workers
-        → IsReportBetween result W.contents source.old source.new sink.old sink.new }
+        → IsReportAtEnds result W.contents source.old source.new sink.old sink.new }
 {
     // A handset is shown what the book means, whatever the cells answered.
     book_runs::run_laws();
