@@ -9,7 +9,7 @@ use Rattle.order_desk.specs.declared.note.Note.{Note}
 use Rattle.order_desk.specs.Desk.{IsAtMostPlayed, IsHeld, Line, has_cell}
 use Rattle.order_desk.specs.DeskSteps.{CanBeDone, cell_of}
 use Rattle.order_desk.specs.Notes.{IsPlayedFor, IsRunOf}
-use Rattle.order_desk.proofs.Places.{stands_there}
+use Rattle.cbsp_wire.proofs.CellLists.{found_near}
 
 -- a run that goes on from another is of the same cell
 pub run_on : (cell : Cell) (slots : ℕ) (before after : Record)
@@ -25,7 +25,7 @@ run_on cell slots before after held left = record {
 -- a cell that has a place at the desk is of the desk
 pub has_placed : (desk : Line) (cell : Cell) (place : ℕ) → slice_get desk.cells place ≡ Some cell
     → has_cell desk cell ≡ true
-has_placed desk cell place at = stands_there desk.cells cell place at
+has_placed desk cell place at = found_near desk.cells cell place at
 
 -- an errand that was given up after a play
 pub given_up : (desk : Line) (at : ℕ) (errand : Errand) (cell : Cell) (place : ℕ) (command : Command)

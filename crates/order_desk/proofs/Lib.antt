@@ -1,7 +1,6 @@
 pub mod Writable
 pub mod GivenAnswers
 pub mod Pieces
-pub mod Places
 pub mod Holding
 pub mod Orders
 pub mod Errands

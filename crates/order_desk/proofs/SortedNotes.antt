@@ -17,7 +17,7 @@ use Rattle.order_desk.specs.declared.note.Note.{Note}
 use Rattle.bsc_table.specs.Record.{Record}
 use Rattle.order_desk.specs.Settled.{IsBookOf, cell_of}
 use Rattle.order_desk.specs.SettleSteps.{AreSorted, IsOfCell, is_note_of, own_notes}
-use Rattle.order_desk.proofs.Places.{itself_at, same_cell}
+use Rattle.cbsp_wire.proofs.CellLists.{itself_at, same_cell}
 use Rattle.order_desk.proofs.OwnNotes.{filter_with, filter_without}
 
 -- the items up to and with the next one

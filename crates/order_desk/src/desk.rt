@@ -10,7 +10,6 @@ ghost use Rattle.order_desk.specs.Desk.{IsRefusedStatus, IsTold, has_cell};
 ghost use Rattle.order_desk.specs.DeskSteps.{AreDone, AreHalted, CanBeDone, IsDone, IsHalted};
 ghost use Rattle.order_desk.specs.Pieces.{IsPieceOf, IsRefusedPiece};
 
-use crate::cells::place_of;
 use crate::closed::Closed;
 use crate::errand::Errand;
 use crate::fault::DeskFault;
@@ -22,6 +21,7 @@ use crate::piece::{Piece, put_pages};
 use crate::reply::reply_in;
 use bsc_table::{Answer, CellBook, Refused, SlotRange, State};
 use cbs_page::Serial;
+use cbsp_wire::cells::find;
 use cbsp_wire::{Cell, cause};
 use std::alloc::Global;
 use std::marker::Model;
@@ -159,12 +159,12 @@ impl Desk {
     }
 
     /// The place of a cell, if it is of the desk.
-    #[tactic(auto, using(crate::proofs::Places::there, crate::proofs::Places::within, crate::proofs::Places::absent))]
+    #[tactic(auto, using(cbsp_wire::proofs::CellLists::absent, cbsp_wire::proofs::CellLists::found_by_place, cbsp_wire::proofs::CellLists::place_within,))]
     fn place_of(&self, cell: Cell) -> Option<usize>
         ensures own { IfSome result (λ place. (place < length self.now.cells) × (has_cell self.now cell ≡ true)) }
         ensures foreign { IfNone result (has_cell self.now cell ≡ false) }
     {
-        place_of(&self.cells, cell)
+        find(&self.cells, cell)
     }
 
     /// Does an errand of an order in its cell.

@@ -3,10 +3,10 @@
 ghost use Rattle.std.specs.Prelude.{◌≡◌, map, All, IfOk, IfErr};
 ghost use Rattle.order_desk.specs.DeskSteps.{IsErrand, cell_of, place_of};
 
-use crate::cells::place_near;
 use crate::fault::DeskFault;
 use bsc_table::{Command, Refused};
 use cbsp_wire::Cell;
+use cbsp_wire::cells::find_near;
 use std::alloc::Global;
 
 /// What an order has to do in a cell of its list.
@@ -60,7 +60,7 @@ fn errand_to(
     ensures cell { IfOk result (λ errand. cell_of errand ≡ cell) }
     ensures errand { IfOk result (IsErrand own.now command.now) }
 {
-    match place_near(own, near, cell) {
+    match find_near(own, cell, near) {
         None => Ok(Errand::Foreign { cell }),
         Some(place) => Ok(Errand::Own {
             cell,

@@ -10,7 +10,6 @@ ghost use Rattle.order_desk.specs.Agreement.{AreInPlaceAt};
 ghost use Rattle.order_desk.specs.SettleSteps.{HasWalked, IsFirstNot, IsNext, lesser, note_of};
 
 use crate::brief::Brief;
-use crate::cells::is_cell;
 use crate::own::Own;
 use bsc_table::Entry;
 use cbsp_wire::Cell;
@@ -97,14 +96,14 @@ impl Walk {
                 number,
                 entry,
             } => {
-                if is_cell(cell, *of) {
+                if cell == *of {
                     self.past_entry(log, *number, entry)
                 } else {
                     self
                 }
             }
             Brief::Played { cell: of, to, .. } => {
-                if is_cell(cell, *of) {
+                if cell == *of {
                     self.past_range(*to)
                 } else {
                     self

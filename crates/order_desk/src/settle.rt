@@ -14,7 +14,6 @@ ghost use Rattle.order_desk.specs.Settled.{IsSettled, ClosedDesk, cell_of, is_of
 ghost use Rattle.order_desk.specs.SettleSteps.{IsFirstJudged, IsFirstNot, IsForeignIn, IsOfCell, IsStrangeBy, note_of};
 
 use crate::brief::Brief;
-use crate::cells::{is_cell, place_near};
 use crate::closed::Closed;
 use crate::note::{Note, Pass};
 use crate::own::Own;
@@ -23,6 +22,7 @@ use crate::sorted::{cell_of, sorted_notes};
 use crate::times::{Kind, least_not_once};
 use bsc_table::{CellBook, CellRecord, Entry};
 use cbsp_wire::Cell;
+use cbsp_wire::cells::find_near;
 use std::alloc::{AllocError, AllocFailed, Global};
 use thiserror::Error;
 
@@ -93,7 +93,7 @@ fn foreign_in(cells: &[Cell], notes: &[Note]) -> Option<(Cell, u16)>
     let mut near = 0;
     for note in notes {
         let cell = cell_of(note);
-        match place_near(cells, near, cell) {
+        match find_near(cells, cell, near) {
             Some(place) => near = place,
             None => return Some((cell, number_of(note))),
         }
@@ -119,7 +119,7 @@ fn is_full(cell: Cell, note: &Brief) -> bool
     ensures { result ≡ is_full_of cell (note_of note.now) }
 {
     match note {
-        Brief::Full { cell: of } => is_cell(cell, *of),
+        Brief::Full { cell: of } => cell == *of,
         _ => false,
     }
 }
@@ -129,7 +129,7 @@ fn is_ended(cell: Cell, slot: u16, note: &Brief) -> bool
     ensures { result ≡ is_ended cell slot (note_of note.now) }
 {
     match note {
-        Brief::Played { cell: of, to, .. } if is_cell(cell, *of) => *to <= slot,
+        Brief::Played { cell: of, to, .. } if cell == *of => *to <= slot,
         _ => true,
     }
 }
@@ -246,7 +246,7 @@ fn judge(alloc: Global, book: &CellBook, passes: &[Own]) -> Result<(), SettleFau
 fn is_book_of(slots: u16, cell: Cell, book: &CellBook) -> bool
     ensures { IsTrue result ↔ IsBookOf slots cell book.now }
 {
-    is_cell(book.cell(), cell) && book.slots() == slots
+    book.cell() == cell && book.slots() == slots
 }
 
 /// The cell of the first book that isn't its own, or isn't of a run of so many slots.

@@ -7,10 +7,10 @@ ghost use Rattle.order_desk.specs.declared.note.Note.{Note};
 ghost use Rattle.order_desk.specs.Settled.{cell_of};
 ghost use Rattle.order_desk.specs.SettleSteps.{AreSorted};
 
-use crate::cells::place_near;
 use crate::note::{Note, Pass};
 use crate::own::CellNotes;
 use cbsp_wire::Cell;
+use cbsp_wire::cells::find_near;
 use std::alloc::{AllocError, Global};
 
 /// The cell of a note.
@@ -61,7 +61,7 @@ fn put<'a>(
         → AreSorted cells.now (before ++ given ∷ []) sorted.old
         → AreSorted cells.now (before ++ (given ++ note.now ∷ []) ∷ []) sorted.new }
 {
-    match place_near(cells, near, cell_of(note)) {
+    match find_near(cells, cell_of(note), near) {
         Some(place) => {
             sorted[place].add(note)?;
             Ok(place)

@@ -7,7 +7,6 @@ ghost use Rattle.order_desk.specs.Agreement.{all_notes};
 ghost use Rattle.order_desk.specs.SettleSteps.{AreTimes, IsFirstNot, note_of, stands_for};
 
 use crate::brief::Brief;
-use crate::cells::is_cell;
 use crate::own::Own;
 use cbsp_wire::Cell;
 use std::alloc::{AllocError, Global};
@@ -43,11 +42,11 @@ fn span_of(kind: Kind, cell: Cell, note: &Brief) -> Span
                 number,
                 ..
             },
-        ) if is_cell(cell, *of) => Span {
+        ) if cell == *of => Span {
             from: usize::from(*number),
             to: usize::from(*number) + 1,
         },
-        (Kind::Slots, Brief::Played { cell: of, from, to }) if is_cell(cell, *of) => Span {
+        (Kind::Slots, Brief::Played { cell: of, from, to }) if cell == *of => Span {
             from: usize::from(*from),
             to: usize::from(*to),
         },

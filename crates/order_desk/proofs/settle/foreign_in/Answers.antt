@@ -6,7 +6,7 @@ use Rattle.cbsp_wire.specs.declared.message.Cell.{Cell}
 use Rattle.cbsp_wire.specs.Range.{is_cell}
 use Rattle.order_desk.specs.declared.note.Note.{Note}
 use Rattle.order_desk.specs.Settled.{is_of}
-use Rattle.order_desk.proofs.Places.{stands_there}
+use Rattle.cbsp_wire.proofs.CellLists.{found_near}
 use Rattle.order_desk.proofs.Walked.{all_with}
 use Rattle.order_desk.proofs.settle.foreign_in.Goals as goal
 
@@ -26,7 +26,7 @@ returns-in-None c =
     sym (take-append-drop c.loop-note.note-index c.args.notes.now) ∙ ap (λ (xs : List Note). before ++ xs) rest in
     let foreign : is_of c.args.cells.now c.note-item.result ≡ false =
     ap (λ (of : Cell). list_any (is_cell of) c.args.cells.now) (sym c.cell_of-cell.ensures)
-    ∙ c.in-None.ensures.absent in (
+    ∙ c.in-None.ensures.value in (
       before,
       c.note-item.result,
       after,
@@ -46,7 +46,7 @@ loop-note-preserved c =
     (take_more c.args.notes.now c.loop-note.note-index c.note-item.result c.loop-note-test.true) in
     let own : is_of c.args.cells.now c.note-item.result ≡ true =
     ap (λ (of : Cell). list_any (is_cell of) c.args.cells.now) (sym c.cell_of-cell.ensures)
-    ∙ stands_there c.args.cells.now c.cell_of-cell.result c.in-Some.place c.in-Some.ensures.there in
+    ∙ found_near c.args.cells.now c.cell_of-cell.result c.in-Some.place c.in-Some.ensures.there in
     subst (All (λ n. is_of c.args.cells.now n ≡ true)) (sym more)
     (all_with (λ n. is_of c.args.cells.now n ≡ true) before c.note-item.result c.loop-note.invariant own)
 

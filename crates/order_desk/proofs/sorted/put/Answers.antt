@@ -24,4 +24,4 @@ pub returns-in-None-clause-ok : goal.returns-in-None-clause-ok
 returns-in-None-clause-ok c = λ _ before given are.
     sorted_other c.args.cells.now before given c.args.note.now c.args.sorted.now
     (subst (λ (cell : Cell). list_any (is_cell cell) c.args.cells.now ≡ false) c.cell_of.ensures
-    c.in-None.ensures.absent) are
+    c.in-None.ensures.value) are

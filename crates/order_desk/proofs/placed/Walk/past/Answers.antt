@@ -7,35 +7,35 @@ use Rattle.order_desk.proofs.Walked.{walked_foreign_entry, walked_foreign_range,
 use Rattle.order_desk.proofs.placed.Walk.past.Goals as goal
 
 -- src/placed.rt:82:5
-pub returns-then-is_cell : goal.returns-then-is_cell
-returns-then-is_cell c = λ before has.
+pub returns-then-eq : goal.returns-then-eq
+returns-then-eq c = λ before has.
     subst (λ (note : Brief). HasWalked c.args.cell c.args.log.now (before ++ note_of note ∷ []) c.past_entry.result)
     (sym c.in-Event.is) (walked_entry c.args.cell c.in-Event.of c.args.log.now before c.in-Event.number
-    c.in-Event.entry.now c.args.self c.past_entry.result (sym c.is_cell.ensures ∙ c.if-is_cell.true)
+    c.in-Event.entry.now c.args.self c.past_entry.result (sym c.eq.ensures ∙ c.if-eq.true)
     c.past_entry.ensures.floor c.past_entry.ensures.reached c.past_entry.ensures.least has)
 
 -- src/placed.rt:82:5
-pub returns-else-is_cell : goal.returns-else-is_cell
-returns-else-is_cell c = λ before has.
+pub returns-else-eq : goal.returns-else-eq
+returns-else-eq c = λ before has.
     subst (λ (note : Brief). HasWalked c.args.cell c.args.log.now (before ++ note_of note ∷ []) c.args.self)
     (sym c.in-Event.is) (walked_foreign_entry c.args.cell c.in-Event.of c.args.log.now before c.in-Event.number
-    c.in-Event.entry.now c.args.self (sym c.is_cell.ensures ∙ c.if-is_cell.false) has)
+    c.in-Event.entry.now c.args.self (sym c.eq.ensures ∙ c.if-eq.false) has)
 
 -- src/placed.rt:82:5
-pub returns-then-is_cell-2 : goal.returns-then-is_cell-2
-returns-then-is_cell-2 c = λ before has.
+pub returns-then-eq-2 : goal.returns-then-eq-2
+returns-then-eq-2 c = λ before has.
     subst (λ (note : Brief). HasWalked c.args.cell c.args.log.now (before ++ note_of note ∷ []) c.past_range.result)
     (sym c.in-Played.is) (walked_range c.args.cell c.in-Played.of c.args.log.now before c.in-Played.from c.in-Played.to
-    c.args.self c.past_range.result (sym c.is_cell-in-Played.ensures ∙ c.if-is_cell-2.true)
+    c.args.self c.past_range.result (sym c.eq-in-Played.ensures ∙ c.if-eq-2.true)
     (ap (λ (w : Walk). w.floor) c.past_range.ensures) (ap (λ (w : Walk). w.reached) c.past_range.ensures)
     (ap (λ (w : Walk). w.least) c.past_range.ensures) has)
 
 -- src/placed.rt:82:5
-pub returns-else-is_cell-2 : goal.returns-else-is_cell-2
-returns-else-is_cell-2 c = λ before has.
+pub returns-else-eq-2 : goal.returns-else-eq-2
+returns-else-eq-2 c = λ before has.
     subst (λ (note : Brief). HasWalked c.args.cell c.args.log.now (before ++ note_of note ∷ []) c.args.self)
     (sym c.in-Played.is) (walked_foreign_range c.args.cell c.in-Played.of c.args.log.now before c.in-Played.from
-    c.in-Played.to c.args.self (sym c.is_cell-in-Played.ensures ∙ c.if-is_cell-2.false) has)
+    c.in-Played.to c.args.self (sym c.eq-in-Played.ensures ∙ c.if-eq-2.false) has)
 
 -- src/placed.rt:82:5
 pub returns-in-Full : goal.returns-in-Full
