@@ -1,5 +1,5 @@
 -- What `warnc pcap` makes of the octets that it reads: the capture of the tapes that they are. Own.
-use Rattle.std.specs.Prelude.{ℕ, List, Option}
+use Rattle.std.specs.Prelude.{◌≡◌, ℕ, List, Option}
 use Rattle.std.specs.Io.KnownBytes.{Keeps}
 use Rattle.device_ends.specs.Moves.{AppendsFront}
 use Rattle.handset.specs.Tape.{IsShort, IsLong}
@@ -25,3 +25,7 @@ abbrev pub fault_of_capture : CaptureFault → PcapFault
 fault_of_capture capture.Short = fault.Short
 fault_of_capture capture.Long = fault.Long
 fault_of_capture capture.Refused = fault.Refused
+
+-- the fault of a failed writer
+abbrev pub IsPcapWriteFault : PcapFault → Type 0
+IsPcapWriteFault f = f ≡ fault.WriteFailed

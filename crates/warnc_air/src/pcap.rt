@@ -1,12 +1,11 @@
 //! The command `pcap`: tapes to their capture.
 
-ghost use Rattle.std.specs.Prelude.{◌≡◌, ◌+◌, IfErr, IfSome, OnOk};
+ghost use Rattle.std.specs.Prelude.{◌≡◌, ◌+◌, IfErr, OnOk};
 ghost use Rattle.device_ends.specs.Moves.{ConsumesSome, WritesOutput};
-ghost use Rattle.device_ends.specs.Sink.{writer_of};
 ghost use Rattle.device_ends.specs.Source.{reader_of};
-ghost use Rattle.device_ends.specs.Stream.{IsStreamBetween};
+ghost use Rattle.device_ends.specs.Stream.{Between, FaultOfInput, IsStreamBetween};
 ghost use Rattle.gsmtap.specs.Capture.{IsCapture};
-ghost use Rattle.warnc_air.specs.PcapOutput.{IsPcapFault, fault_of_capture};
+ghost use Rattle.warnc_air.specs.PcapOutput.{IsPcapFault, IsPcapWriteFault, fault_of_capture};
 
 use device_ends::{Failed, ReadFault, Sink, Source, read_up_to, write_all};
 use gsmtap::{CaptureFault, Settings, capture_of};
@@ -46,18 +45,18 @@ pub fn pcap_stream<R: Read, W: Write>(
     settings: Settings,
 ) -> Result<(), PcapFault>
     // What was written is the capture of the tapes that were read, at any reader of some tapes.
-    ensures ok { OnOk result (WritesOutput (IsCapture settings) (R.remaining (reader_of source.old))
-        (W.contents (writer_of sink.old)) (W.contents (writer_of sink.new))) }
-    ensures fault { IfErr result (λ fault. IfSome (R.remaining (reader_of source.old)) (λ input.
-        IsPcapFault settings input (W.contents (writer_of sink.old)) (W.contents (writer_of sink.new)) fault)) }
+    ensures ok { OnOk result (Between R.remaining W.contents (λ first last. WritesOutput (IsCapture settings) first)
+        source.old source.new sink.old sink.new) }
+    ensures err { IfErr result (FaultOfInput R.remaining W.contents (IsPcapFault settings) source.old sink.old
+        sink.new) }
 
     // One octet past the bound is read at most.
     ensures reads { ConsumesSome (R.remaining (reader_of source.old)) (R.remaining (reader_of source.new))
         (MAX_INPUT + 1) }
 
     // At any reader and any writer.
-    ensures any_device { IsStreamBetween PcapFault.ReadFailed (λ fault. fault ≡ PcapFault.WriteFailed) result source.old
-        source.new sink.old sink.new (W.contents (writer_of sink.old)) (W.contents (writer_of sink.new)) }
+    ensures any_ends { IsStreamBetween PcapFault.ReadFailed IsPcapWriteFault result W.contents source.old source.new
+        sink.old sink.new }
 {
     let input = match read_up_to(source, alloc, MAX_INPUT) {
         Ok(input) => input,
