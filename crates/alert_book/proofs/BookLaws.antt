@@ -77,7 +77,7 @@ kind_is_read fault.Refused h = cc
 after_row-read : (row : ℕ) (before : Rows) (meant : Result Row RowFault) (next : Rows → Result Rows BookFault)
     (f : BookFault) → ((rows : Rows) → next rows ≡ Err f → f ≢ unread) → after_row row before meant next ≡ Err f →
     f ≢ unread
-after_row-read row before (Ok meant) next f later h = later (with_row before meant) h
+after_row-read row before (Ok meant) next f later h failed = later (with_row before meant) h failed
 after_row-read row before (Err bad) next f later h failed =
     let told : fault_at row (kind_of bad) ≡ f = cc in
     kind_is_read bad (ap (λ (b : BookFault). b.kind) (told ∙ failed))
