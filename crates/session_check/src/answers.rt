@@ -47,20 +47,13 @@ impl From<bsc_table::Refused> for Refused {
     }
 }
 
-/// Whether two cells are one.
-fn is_cell(one: Cell, other: Cell) -> bool
-    ensures { result ≡ is_cell one other }
-{
-    one.lac == other.lac && one.ci == other.ci
-}
-
 /// The record of a cell, if it is of the run.
 fn record_of(records: &[CellRecord], cell: Cell) -> Option<&CellRecord>
     ensures none { IfNone result (is_among (cells_of records.now) cell ≡ false) }
     ensures some { IfSome result (λ found. IsRecordOf records.now cell found.now) }
 {
     for record in records {
-        if is_cell(cell, record.cell()) {
+        if cell == record.cell() {
             return Some(record);
         }
     }
@@ -127,7 +120,7 @@ fn answer_noted(
             number,
             entry,
         } => {
-            if is_cell(cell, *of) && is_entry_of(history, at, command, *number, entry) {
+            if cell == *of && is_entry_of(history, at, command, *number, entry) {
                 Some(entry.answer)
             } else {
                 None
@@ -135,7 +128,7 @@ fn answer_noted(
         }
         Note::Played { .. } => None,
         Note::Full { cell: of } => {
-            if is_cell(cell, *of) {
+            if cell == *of {
                 Some(Answer::Cause(cause::BSC_MEMORY_EXCEEDED))
             } else {
                 None
