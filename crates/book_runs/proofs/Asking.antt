@@ -29,7 +29,7 @@ use Rattle.bsc_table.specs.declared.entry.Answer.{Answer}
 use Rattle.bsc_table.specs.Orders.{category_of, if_basic_channel, if_category_known, is_basic, order_of}
 use Rattle.order_desk.specs.Reply.{cells_answered}
 use Rattle.book_runs.specs.Run.{Exchange, IsExchange, asked_in, asked_of, asked_with}
-use Rattle.book_runs.proofs.Cells.{same_cell}
+use Rattle.cbsp_wire.proofs.CellLists.{same_cell}
 
 -- an order is of the cells that its message asks
 of_channel : (channel : Option ℕ) (cells named : List Cell) (command asked : Command)

@@ -9,7 +9,7 @@ use Rattle.cbsp_wire.specs.Range.{is_cell}
 use Rattle.bsc_table.specs.declared.entry.Answer.{Answer}
 use Rattle.book_runs.specs.Run.{Asked, Exchange, asked_in, asked_of, asked_with, is_among}
 use Rattle.book_runs.specs.Sessions.{asks_in, asks_of}
-use Rattle.book_runs.proofs.Cells.{same_cell}
+use Rattle.cbsp_wire.proofs.CellLists.{same_cell}
 use Rattle.book_runs.proofs.Noted.{asks_of_cell}
 
 -- what is asked of a cell of the run, of all that its cells are asked

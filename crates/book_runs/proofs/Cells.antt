@@ -1,24 +1,15 @@
--- Tests of cells: a cell is itself, and of distinct cells' records the first of a cell is the only one.
-use Rattle.std.proofs.Common.{◌≡◌, ℕ, true, false, cond, not, List, [], ◌∷◌, map, eqb, eqb-true, refl, ap, subst}
+-- Tests of cells: of distinct cells' records the first of a cell is the only one.
+use Rattle.std.proofs.Common.{◌≡◌, ℕ, true, false, cond, not, List, [], ◌∷◌, map, ap, subst}
 use Rattle.std.proofs.Common.{sym, ◌∙◌, inl, inr}
 use Rattle.std.specs.List.{All, list_any}
-use Rattle.std.proofs.lemmas.Bool.{and_from, and_parts, both_ways, cases_Bool, eq-eqb, not-true, or_parts}
+use Rattle.std.proofs.lemmas.Bool.{and_parts, both_ways, cases_Bool, not-true, or_parts}
 use Rattle.std.proofs.lemmas.List.Elements.{All-cons, All-nil, All-weaker}
 use Rattle.cbsp_wire.specs.declared.message.Cell.{Cell}
 use Rattle.cbsp_wire.specs.Range.{are_distinct, is_cell}
+use Rattle.cbsp_wire.proofs.CellLists.{is_itself, same_cell}
 use Rattle.bsc_table.specs.Record.{Record}
 use Rattle.book_runs.specs.Run.{slot_of}
 use Rattle.book_runs.specs.Sessions.{slot_before, slot_in}
-
--- the test of two cells is equality
-pub same_cell : (a b : Cell) → is_cell a b ≡ true → a ≡ b
-same_cell a b same =
-    let parts = and_parts _ _ same in
-    ap (λ x. record { lac = x; ci = a.ci }) (eqb-true a.lac b.lac parts.0)
-    ∙ ap (λ x. record { lac = b.lac; ci = x }) (eqb-true a.ci b.ci parts.1)
-
-pub is_itself : (c : Cell) → is_cell c c ≡ true
-is_itself c = and_from (eqb c.lac c.lac) (eqb c.ci c.ci) (eq-eqb c.lac c.lac refl) (eq-eqb c.ci c.ci refl)
 
 -- two cells that differ do so the other way round
 other_way : (a b : Cell) → is_cell a b ≡ false → is_cell b a ≡ false

@@ -12,7 +12,7 @@ use Rattle.order_desk.specs.declared.note.Note.TheVariants as notes
 use Rattle.order_desk.specs.Agreement.{is_full_of}
 use Rattle.book_runs.specs.Run.{Asked}
 use Rattle.book_runs.specs.Sessions.{IsNoteOf, slot_in}
-use Rattle.book_runs.proofs.Cells.{same_cell}
+use Rattle.cbsp_wire.proofs.CellLists.{same_cell}
 use Rattle.book_runs.proofs.Events.{events_of}
 
 -- what a cell was asked, each with the number that its note has

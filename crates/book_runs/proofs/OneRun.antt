@@ -27,7 +27,7 @@ use Rattle.order_desk.specs.Reply.{cells_answered, reply_message}
 use Rattle.book_runs.specs.OneRun.{RunsAreOne}
 use Rattle.book_runs.specs.Run.{Asked, Exchange, IsExchange, IsRun, IsRunOf, asked_in, asked_of, entries_for, is_among}
 use Rattle.book_runs.specs.Run.{slot_of}
-use Rattle.book_runs.proofs.Cells.{is_itself, same_cell}
+use Rattle.cbsp_wire.proofs.CellLists.{is_itself, same_cell}
 use Rattle.book_runs.proofs.Laws.{OneRunLaws}
 use Rattle.book_runs.proofs.OneAnswer.{answer_after, answer_is, messages_rise}
 use Rattle.book_runs.proofs.SameBook.{same_turns}

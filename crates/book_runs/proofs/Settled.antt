@@ -21,7 +21,8 @@ use Rattle.book_runs.specs.LiveLaws.{SettledSessionsAreRuns}
 use Rattle.book_runs.specs.Run.{Exchange, entries_for, is_among}
 use Rattle.book_runs.specs.Sessions.{AreSessions, IsNoteOf, IsSessionOf, asks_of, is_of_command}
 use Rattle.book_runs.proofs.Asking.{asked_few}
-use Rattle.book_runs.proofs.Cells.{have_slots, is_itself}
+use Rattle.cbsp_wire.proofs.CellLists.{is_itself}
+use Rattle.book_runs.proofs.Cells.{have_slots}
 use Rattle.book_runs.proofs.InOrder.{asked_in_order}
 use Rattle.book_runs.proofs.Laws.{BookLaws}
 use Rattle.book_runs.proofs.Parts.{Service}

@@ -1,6 +1,6 @@
 -- The record of a cell among the records of a run, and what a note of the cell says by it.
 use Rattle.std.proofs.Common.{◌≡◌, ℕ, Bool, true, false, cond, ◌||◌, List, [], ◌∷◌, ◌++◌, All, refl, sym, subst, ap}
-use Rattle.std.proofs.Common.{◌∙◌, eqb, rules}
+use Rattle.std.proofs.Common.{◌∙◌}
 use Rattle.std.specs.List.{AllByRecursion}
 use Rattle.std.proofs.lemmas.List.Elements.{recursion_from_All}
 use Rattle.cbsp_wire.specs.declared.message.Cell.{Cell}
@@ -14,13 +14,6 @@ use Rattle.order_desk.specs.declared.note.Note.TheVariants as notes
 use Rattle.book_runs.specs.Run.{is_among, slot_of}
 use Rattle.book_runs.specs.Sessions.{IsNoteOf, slot_before, slot_in}
 use Rattle.session_check.specs.NotedSteps.{IsRecordOf, NotesAnswer, asked_at, cells_of}
-
-eqb-same : (n : ℕ) → eqb n n ≡ true
-eqb-same n = search (rules)
-
--- a cell is itself
-pub is_itself : (c : Cell) → is_cell c c ≡ true
-is_itself c = rw (eqb-same c.lac, eqb-same c.ci) refl
 
 -- what holds of each record holds of one of them
 at_split : (P : Record → Type 0) (before after : List Record) (r : Record) → AllByRecursion P (before ++ r ∷ after)

@@ -19,13 +19,12 @@ use Rattle.order_desk.specs.declared.note.Note.{Note}
 use Rattle.order_desk.specs.declared.note.Note.TheVariants as notes
 use Rattle.order_desk.specs.Reply.{IsAnswerTo}
 use Rattle.order_desk.specs.ReplyLaws.{CellsAnswerTheirCommands, IsOrdered}
-use Rattle.order_desk.proofs.Places.{same_cell}
+use Rattle.cbsp_wire.proofs.CellLists.{is_itself, same_cell}
 use Rattle.book_runs.specs.Run.{is_among}
 use Rattle.book_runs.specs.Sessions.{is_of_command}
 use Rattle.session_check.specs.Checked.{HasRightNumbers}
 use Rattle.session_check.specs.NotedSteps.{AreAnswersNoted, AreStanding, IsAnswerNoted, StandsIn, cells_of}
 use Rattle.session_check.specs.NotedSteps.{commands_in}
-use Rattle.session_check.proofs.Found.{is_itself}
 
 -- a note that is in its place stands in the log
 in_place_stands : (r : Record) (before : List Note) (note : Note)

@@ -19,20 +19,13 @@ use cbsp_wire::{Cell, cause};
 use order_desk::Note;
 use std::alloc::{AllocError as Refused, Global};
 
-/// Whether two cells are one.
-fn is_cell(one: Cell, other: Cell) -> bool
-    ensures { result ≡ is_cell one other }
-{
-    one.lac == other.lac && one.ci == other.ci
-}
-
 /// The record of a cell, if it is of the run.
 fn record_of(records: &[CellRecord], cell: Cell) -> Option<&CellRecord>
     ensures none { IfNone result (is_among (cells_of records.now) cell ≡ false) }
     ensures some { IfSome result (λ found. IsRecordOf records.now cell found.now) }
 {
     for record in records {
-        if is_cell(cell, record.cell()) {
+        if cell == record.cell() {
             return Some(record);
         }
     }
@@ -99,7 +92,7 @@ fn answer_noted(
             number,
             entry,
         } => {
-            if is_cell(cell, *of) && is_entry_of(history, at, command, *number, entry) {
+            if cell == *of && is_entry_of(history, at, command, *number, entry) {
                 Some(entry.answer)
             } else {
                 None
@@ -107,7 +100,7 @@ fn answer_noted(
         }
         Note::Played { .. } => None,
         Note::Full { cell: of } => {
-            if is_cell(cell, *of) {
+            if cell == *of {
                 Some(Answer::Cause(cause::BSC_MEMORY_EXCEEDED))
             } else {
                 None

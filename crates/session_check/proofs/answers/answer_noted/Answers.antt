@@ -5,7 +5,7 @@ use Rattle.bsc_table.specs.declared.command.Command.{Command}
 use Rattle.order_desk.specs.declared.note.Note.{Note}
 use Rattle.order_desk.specs.Reply.{IsAnswerTo}
 use Rattle.order_desk.specs.ReplyLaws.{IsOrdered}
-use Rattle.order_desk.proofs.Places.{same_cell}
+use Rattle.cbsp_wire.proofs.CellLists.{same_cell}
 use Rattle.session_check.specs.NotedSteps.{StandsIn}
 use Rattle.session_check.proofs.Standing.{answer_fits}
 use Rattle.session_check.proofs.answers.answer_noted.Goals as goal
@@ -14,7 +14,7 @@ pub returns-then-is_entry_of-clause-fit : goal.returns-then-is_entry_of-clause-f
 returns-then-is_entry_of-clause-fit c =
     let r = c.args.history.now in
     let entry = c.in-Event.entry in
-    let same = same_cell c.args.cell c.in-Event.of (sym c.is_cell.ensures ∙ c.if-is_cell.true) in
+    let same = same_cell c.args.cell c.in-Event.of (sym c.eq.ensures ∙ c.if-eq.true) in
     let own : is_cell c.in-Event.of r.cell ≡ true =
     subst (λ (cell : Cell). is_cell cell r.cell ≡ true) same c.requires.own in
     let stands = subst (λ (note : Note). StandsIn note r) c.in-Event.is c.requires.stands own in

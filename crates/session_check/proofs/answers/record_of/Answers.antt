@@ -6,8 +6,8 @@ use Rattle.bsc_table.specs.Record.{Record}
 use Rattle.session_check.proofs.Found.{among_none}
 use Rattle.session_check.proofs.answers.record_of.Goals as goal
 
-pub returns-then-is_cell-clause-some : goal.returns-then-is_cell-clause-some
-returns-then-is_cell-clause-some c =
+pub returns-then-eq-clause-some : goal.returns-then-eq-clause-some
+returns-then-eq-clause-some c =
     let records : List Record = c.args.records.now in
     let place = c.loop-record.record-index in
     let before : List Record = take place records in
@@ -20,7 +20,7 @@ returns-then-is_cell-clause-some c =
       after = after;
       split = sym (take-append-drop place records) ∙ ap (λ (rs : List Record). before ++ rs) rest;
       others = c.loop-record.invariant;
-      own = ap (is_cell c.args.cell) (sym c.cell.ensures) ∙ (sym c.is_cell.ensures ∙ c.if-is_cell.true);
+      own = ap (is_cell c.args.cell) (sym c.cell.ensures) ∙ (sym c.eq.ensures ∙ c.if-eq.true);
     }
 
 pub loop-record-preserved : goal.loop-record-preserved
@@ -35,7 +35,7 @@ loop-record-preserved c =
     (take_more records place r c.loop-record-test.true) in
     subst (All other) (sym more)
     (All-push other before r c.loop-record.invariant
-    (ap (is_cell c.args.cell) (sym c.cell.ensures) ∙ (sym c.is_cell.ensures ∙ c.if-is_cell.false)))
+    (ap (is_cell c.args.cell) (sym c.cell.ensures) ∙ (sym c.eq.ensures ∙ c.if-eq.false)))
 
 pub returns-clause-none : goal.returns-clause-none
 returns-clause-none c =
