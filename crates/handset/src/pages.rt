@@ -73,7 +73,8 @@ impl Pages {
             pages.push(*page)?;
             return Ok(());
         }
-        let mut pages = Vec::new(self.alloc);
+        // most messages come whole, so their pages never move
+        let mut pages = Vec::with_capacity(self.alloc, usize::from(page.total))?;
         pages.push(*page)?;
         self.by_name.insert(name, pages)?;
         Ok(())
