@@ -1,6 +1,7 @@
 -- The rows of a book, read one after the other.
 use Rattle.std.proofs.Common.{◌≡◌, ◌≢◌, ◌⊎◌, ◌≤◌, ◌+◌, ◌∙◌, ap, sym, ℕ, List, [], ◌∷◌, ◌++◌, Ok, Err, Result, nat_lt}
-use Rattle.std.proofs.Common.{length, length-append, refl, inl, inr, append_assoc, append-nil, arith, rules}
+use Rattle.std.proofs.Common.{length, length-append, refl, inl, inr, append_assoc, append-nil, arith, rules, subst, tt}
+use Rattle.std.specs.Prelude.{IfErr}
 use Rattle.std.proofs.lemmas.Bool.{cases_Bool}
 use Rattle.csv.specs.Reading.{Reached, default_config, strip_bom}
 use Rattle.csv.specs.declared.parser.State.{State}
@@ -93,3 +94,8 @@ pub row_fault_is_read : (input : List ℕ) (f : BookFault) → (f ≡ refused) �
 row_fault_is_read input f (inl none) failed =
     let e = ap (λ (b : BookFault). b.kind) (sym none ∙ failed) in cc
 row_fault_is_read input f (inr wrong) failed = rows_read-read 1 (rows_with [] []) wrong.records f wrong.wrong failed
+
+pub unread_where : {A : Type 0} (result : Result A BookFault) (f : BookFault) → result ≡ Err f → f ≢ unread →
+    IfErr result (λ fault. fault ≢ unread)
+unread_where (Ok x) f is told = tt
+unread_where (Err fault) f is told = let same : f ≡ fault = cc in subst (λ (g : BookFault). g ≢ unread) same told
