@@ -1,6 +1,6 @@
 -- The rows of a book, read one after the other.
 use Rattle.std.proofs.Common.{◌≡◌, ◌≢◌, ◌⊎◌, ◌≤◌, ◌+◌, ◌∙◌, ap, sym, ℕ, List, [], ◌∷◌, ◌++◌, Ok, Err, Result, nat_lt}
-use Rattle.std.proofs.Common.{length, length-append, refl, inl, inr, append_assoc, append-nil, arith, rules, subst, tt}
+use Rattle.std.proofs.Common.{length, length-append, refl, inl, inr, append_assoc, append-nil, arith, rules, subst}
 use Rattle.std.specs.Prelude.{IfErr}
 use Rattle.std.proofs.lemmas.Bool.{cases_Bool}
 use Rattle.csv.specs.Reading.{Reached, default_config, strip_bom}
