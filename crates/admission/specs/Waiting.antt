@@ -1,9 +1,14 @@
 -- Reservations of a budget that wait behind others (own): what each reservation holds, now and at a slot.
 use Rattle.std.specs.Prelude.{◌≡◌, ℕ, ◌+◌, ◌≤◌, nat_lt, if◌then◌else◌, Option, Some, None}
+use Rattle.std.specs.Prelude.{All, Any, Bool, List, MatchBool}
 use Rattle.std.specs.Option.{option_map}
 use Rattle.admission.specs.declared.budget.Held.{Held}
 use Rattle.admission.specs.declared.budget.Waits.{Waits}
 use Rattle.admission.specs.Reservation.{is_before_end}
+
+-- the answer says whether one of the list is so: yes if one is, and no if none is
+abbrev pub IsWhether : {X : Type 0} → Bool → (X → Type 0) → List X → Type 0
+IsWhether answer P xs = MatchBool answer (Any P xs) (All (λ x. ¬ P x) xs)
 
 -- the entry behind which a reservation waits, if it waits
 abbrev pub behind_of : Held → Option ℕ

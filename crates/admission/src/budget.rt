@@ -7,7 +7,7 @@ ghost use Rattle.admission.specs.Table.{answer_for, answer_of, remaining_without
 ghost use Rattle.admission.specs.Table.{ends_if, passed, IsAdmitted};
 ghost use Rattle.std.specs.List.{list_all};
 ghost use Rattle.admission.specs.TableSteps.{HasPlace, stays_at};
-ghost use Rattle.admission.specs.Waiting.{behind_of, held_now, held_at, waits_at, started_at};
+ghost use Rattle.admission.specs.Waiting.{IsWhether, behind_of, held_now, held_at, waits_at, started_at};
 ghost use Rattle.admission.specs.Reservation.{is_before_end};
 
 use crate::measure::SCALE;
@@ -234,16 +234,14 @@ impl Budget {
 
     /// Whether a load is reserved for `entry`, as `reserve` and `release_at` ask.
     pub fn is_reserved(&self, entry: u16) -> bool
-        ensures { MatchBool result (Any (λ h. h.entry ≡ entry) self.now)
-            (All (λ h. h.entry ≢ entry) self.now) }
+        ensures { IsWhether result (λ h. h.entry ≡ entry) self.now }
     {
         self.table.iter().any(|held| held.entry == entry)
     }
 
     /// Whether a load is reserved for `entry` and has started, as `fits_behind` asks of the one behind which to wait.
     pub fn has_started(&self, entry: u16) -> bool
-        ensures { MatchBool result (Any (λ h. (h.entry ≡ entry) × (h.waits ≡ None)) self.now)
-            (All (λ h. ¬ ((h.entry ≡ entry) × (h.waits ≡ None))) self.now) }
+        ensures { IsWhether result (λ h. (h.entry ≡ entry) × (h.waits ≡ None)) self.now }
     {
         self.table
             .iter()
@@ -253,8 +251,7 @@ impl Budget {
     /// Whether a load is reserved for `entry`, has started and ends at `slot`, as `reserve_behind` asks of the one
     /// behind which to wait.
     pub fn hands_over_at(&self, entry: u16, slot: u32) -> bool
-        ensures { MatchBool result (Any (λ h. (h.entry ≡ entry) × (h.waits ≡ None) × (h.end ≡ Some slot)) self.now)
-            (All (λ h. ¬ ((h.entry ≡ entry) × (h.waits ≡ None) × (h.end ≡ Some slot))) self.now) }
+        ensures { IsWhether result (λ h. (h.entry ≡ entry) × (h.waits ≡ None) × (h.end ≡ Some slot)) self.now }
     {
         self.table.iter().any(|held| held.entry == entry
             && held.waits.is_none()
@@ -263,8 +260,7 @@ impl Budget {
 
     /// Whether an entry waits behind `entry`, as `reserve_behind` and `release_at` ask.
     pub fn is_awaited(&self, entry: u16) -> bool
-        ensures { MatchBool result (Any (λ h. behind_of h ≡ Some entry) self.now)
-            (All (λ h. behind_of h ≢ Some entry) self.now) }
+        ensures { IsWhether result (λ h. behind_of h ≡ Some entry) self.now }
     {
         self.table.iter().any(|held| is_behind(held.waits, entry))
     }

@@ -2,7 +2,6 @@
 pub mod AddedClaims
 pub mod Ahead
 pub mod Claims
-pub mod MatchedSums
 pub mod NeverRises
 pub mod StopKeepsRoom
 pub mod StoppedClaims

@@ -1,7 +1,8 @@
 -- What the tests of cells and of their lists say.
-use Rattle.std.proofs.Common.{◌≡◌, ◌≢◌, ℕ, ◌<◌, ◌≤◌, Bool, true, false, eqb, eq-eqb, cond, ltb, get_or, List, [], ◌∷◌, length}
+use Rattle.std.proofs.Common.{◌≡◌, ◌≢◌, ℕ, ◌<◌, ◌≤◌, Bool, true, false, eqb, eq-eqb, cond, ltb, get_or, List, [], ◌∷◌}
+use Rattle.std.proofs.Common.{length}
 use Rattle.std.proofs.Common.{zero, suc, Some, None, refl, sym, ap, ◌∙◌, subst, rules, slice_get, arith}
-use Rattle.std.specs.Prelude.{◌↔◌, ◌||◌, IsTrue, not}
+use Rattle.std.specs.Prelude.{◌↔◌, ◌||◌, IfNone, IfSome, IsTrue, Option, not}
 use Rattle.std.specs.List.{All, AllPairs, Contains, list_any, position_or_len}
 use Rattle.std.proofs.lemmas.Bool.{eqb-true, false_from_ne_true, ltb-false}
 use Rattle.std.proofs.lemmas.List.Elements.{All-cons, All-from_get_or}
@@ -119,20 +120,18 @@ absent cells cell none =
         lesser i first (length cells) within past
 
 -- nor is the cell one of its cells
-pub not_there : (cells : List Cell) (cell : Cell) → least_place cells cell ≡ None → Contains cells cell → ⊥
-not_there cells cell none there =
+pub not_there : (cells : List Cell) (cell : Cell) (place : Option ℕ) → place ≡ least_place cells cell
+    → IfNone place (Contains cells cell → ⊥)
+not_there cells cell None none = λ there.
     let found = (contains_is cells cell).1 there in
-    let missed = absent cells cell none in
+    let missed = absent cells cell (sym none) in
     cc
+not_there cells cell (Some place) found = tt
 
--- a list in which a cell has a place has it
-pub found_by_place : (cells : List Cell) (cell : Cell) (place : ℕ) → least_place cells cell ≡ Some place
-    → contains cells cell ≡ true
-found_by_place cells cell place found =
-    let at = position-Some (is_cell cell) cells place cell found in
-    list_any_at (is_cell cell) cells place cell at.0 at.1
-
--- a cell's least place is one of the list's
-pub place_within : (cells : List Cell) (cell : Cell) (place : ℕ) → least_place cells cell ≡ Some place
-    → place < length cells
-place_within cells cell place found = (position-Some (is_cell cell) cells place cell found).0
+-- a cell's least place is one of the list's, which has the cell
+pub there_within : (cells : List Cell) (cell : Cell) (place : Option ℕ) → place ≡ least_place cells cell
+    → IfSome place (λ k. (k < length cells) × (contains cells cell ≡ true))
+there_within cells cell None none = tt
+there_within cells cell (Some place) found =
+    let at = position-Some (is_cell cell) cells place cell (sym found) in
+    (at.0, list_any_at (is_cell cell) cells place cell at.0 at.1)

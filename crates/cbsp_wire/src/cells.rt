@@ -48,7 +48,7 @@ pub fn find(cells: &[Cell], cell: Cell) -> Option<usize>
 
 /// A place at which a list has the cell, from 0. It looks at a place and at the one after it first: orders mostly name
 /// the cells in the desk's order, and so do the notes of them.
-#[tactic(auto, using(crate::proofs::CellLists::at_place, crate::proofs::CellLists::absent, crate::proofs::CellLists::not_there))]
+#[tactic(auto, using(crate::proofs::CellLists::at_place, crate::proofs::CellLists::absent))]
 pub fn find_near(cells: &[Cell], cell: Cell, place: usize) -> Option<usize>
     ensures there { IfSome result (λ found. slice_get cells.now found ≡ Some cell) }
     ensures absent { IfNone result (¬ Contains cells.now cell) }

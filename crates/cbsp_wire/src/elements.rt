@@ -11,7 +11,7 @@ use crate::message_type::{MessageType, Presence};
 
 /// Why no more elements are taken.
 #[derive(Clone, Copy, Debug, PartialEq, Eq)]
-pub enum WalkEnd {
+pub(crate) enum WalkEnd {
     /// The octets are at their end.
     Complete,
     /// The next element isn't of this message.

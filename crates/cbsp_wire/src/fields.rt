@@ -21,33 +21,33 @@ use std::marker::Model;
 
 /// The fields that a message has, `None` or no items if its type has no such field.
 #[derive(Drop)]
-pub struct Fields<'a> {
+pub(crate) struct Fields<'a> {
     /// The message identifier.
-    pub id: Option<u16>,
+    pub(crate) id: Option<u16>,
     /// The new serial number.
-    pub new_serial: Option<u16>,
+    pub(crate) new_serial: Option<u16>,
     /// The old serial number.
-    pub old_serial: Option<u16>,
+    pub(crate) old_serial: Option<u16>,
     /// The failures.
-    pub failures: &'a [Failure],
+    pub(crate) failures: &'a [Failure],
     /// The completed broadcasts.
-    pub completed: &'a [Count],
+    pub(crate) completed: &'a [Count],
     /// The cells.
-    pub cells: &'a [Cell],
+    pub(crate) cells: &'a [Cell],
     /// The channel indicator.
-    pub channel: Option<u8>,
+    pub(crate) channel: Option<u8>,
     /// The category.
-    pub category: Option<u8>,
+    pub(crate) category: Option<u8>,
     /// The repetition period.
-    pub period: Option<u16>,
+    pub(crate) period: Option<u16>,
     /// The broadcasts requested.
-    pub broadcasts: Option<u16>,
+    pub(crate) broadcasts: Option<u16>,
     /// The number of pages.
-    pub pages: Option<usize>,
+    pub(crate) pages: Option<usize>,
     /// The data coding.
-    pub dcs: Option<u8>,
+    pub(crate) dcs: Option<u8>,
     /// The contents.
-    pub contents: &'a [Content],
+    pub(crate) contents: &'a [Content],
 }
 
 impl<'a> Model for Fields<'a> {

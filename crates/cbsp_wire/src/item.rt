@@ -19,7 +19,7 @@ use std::alloc::{AllocError, Global};
 
 /// How often a list has its discriminator, 1, which says that a cell is named by LAC and CI.
 #[derive(Clone, Copy, Debug, PartialEq, Eq)]
-pub enum Discriminator {
+pub(crate) enum Discriminator {
     /// Once, before all items.
     Once,
     /// In each item, as its first octet.
@@ -28,7 +28,7 @@ pub enum Discriminator {
 
 /// An item of a list: a cell of 4 octets (LAC and CI, two each), a completed broadcast of 7 (the cell, the number in
 /// two, the information), a failure of 6 (its discriminator, the cell, the cause); the high octets come first.
-pub trait ListItem: Copy {
+pub(crate) trait ListItem: Copy {
     /// The octets of an item.
     ghost octets_of: { Self → List ℕ };
 

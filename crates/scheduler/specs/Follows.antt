@@ -1,5 +1,5 @@
 -- What a plan stands for: its messages, with their air list (own). How it keeps them is its own.
-use Rattle.std.specs.Prelude.{◌≡◌, ℕ, None, List, length, map, All}
+use Rattle.std.specs.Prelude.{◌≡◌, ◌≢◌, ℕ, None, List, length, map, All}
 use Rattle.scheduler.specs.declared.plan.Item.{Item}
 use Rattle.scheduler.specs.declared.scheduled.Scheduled.{Scheduled}
 use Rattle.scheduler.specs.Message.{ScheduledMessage, release, broadcast_at}
@@ -48,3 +48,19 @@ pub record Follows (plan : PlanState) (messages : List ScheduledMessage) (air : 
   pub same_messages : messages_of plan ≡ messages
   pub asked : next_slot plan ≡ length air
   pub counted : All (λ t. Counts t air) plan.scheduled
+
+-- this holds of each history that the plan follows
+abbrev pub ForHistories : PlanState → (List ScheduledMessage → Air → Type 0) → Type 0
+ForHistories plan P = (messages : List ScheduledMessage) (air : Air) → Follows plan messages air → P messages air
+
+-- the message of this entry was added, and hasn't been stopped
+abbrev pub IsStanding : ℕ → ScheduledMessage → Type 0
+IsStanding entry m = (m.entry ≡ entry) × (m.stop ≡ None)
+
+-- if the message is of this entry, it has been stopped
+abbrev pub HasStop : ℕ → ScheduledMessage → Type 0
+HasStop entry m = m.entry ≡ entry → m.stop ≢ None
+
+-- if the message is of this entry, so many of its broadcasts are completed before the slot
+abbrev pub HasCompleted : ℕ → ℕ → Air → ℕ → ScheduledMessage → Type 0
+HasCompleted entry count air slot m = m.entry ≡ entry → count ≡ completed m air slot

@@ -1,12 +1,12 @@
 //! The plan of a cell.
 
-ghost use Rattle.std.specs.Prelude.{◌≡◌, ◌≢◌, ℕ, ◌+◌, ◌<◌, ◌≤◌, ◌==◌, true, MatchBool, List, [], ◌∷◌, ◌++◌, length};
-ghost use Rattle.std.specs.Prelude.{map, Some, All, AllPairs, Any, OnOk, OnErr};
+ghost use Rattle.std.specs.Prelude.{◌≡◌, ◌≢◌, ◌+◌, ◌<◌, ◌≤◌, MatchBool, [], ◌∷◌, ◌++◌, length, Some, All, Any, OnOk};
+ghost use Rattle.std.specs.Prelude.{OnErr};
 ghost use Rattle.std.specs.Option.{ForSome};
-ghost use Rattle.scheduler.specs.Message.{ScheduledMessage, stopped_at};
-ghost use Rattle.scheduler.specs.Air.{Air, airs, layer_of, class_of, IsChosen};
-ghost use Rattle.scheduler.specs.Completed.{completed};
-ghost use Rattle.scheduler.specs.Follows.{Follows, next_slot, messages_of, message_of, message_from};
+ghost use Rattle.scheduler.specs.Message.{stopped_at};
+ghost use Rattle.scheduler.specs.Air.{layer_of, class_of, IsChosen};
+ghost use Rattle.scheduler.specs.Follows.{Follows, ForHistories, HasCompleted, IsStanding, HasStop, next_slot};
+ghost use Rattle.scheduler.specs.Follows.{messages_of, message_of, message_from};
 
 use crate::queue::{Node, are_below, completed_of, has_entry, has_standing, play, push, stop_at};
 use std::alloc::Global;
@@ -117,9 +117,8 @@ impl Plan {
         requires from_next { next_slot self.old ≤ item.start }
         requires some_pages { 0 < item.pages }
         requires some_period { 0 < item.period }
-        ensures follows { OnOk result ((messages : List ScheduledMessage) (air : Air)
-            → Follows self.old messages air
-            → Follows self.new (messages ++ message_from item ∷ []) air) }
+        ensures follows { OnOk result (ForHistories self.old (λ messages air.
+            Follows self.new (messages ++ message_from item ∷ []) air)) }
         ensures messages { OnOk result (messages_of self.new ≡ messages_of self.old ++ message_from item ∷ []) }
         ensures asked { next_slot self.new ≡ next_slot self.old }
         ensures refused { OnErr result (self.new ≡ self.old) }
@@ -135,12 +134,8 @@ impl Plan {
     pub fn next(&mut self, slot: u16) -> Option<(u16, u8)>
         requires at_next { slot ≡ next_slot self.old }
         requires within { slot < 65535 }
-        ensures chosen { (messages : List ScheduledMessage) (air : Air)
-            → Follows self.old messages air
-            → IsChosen messages air slot result }
-        ensures follows { (messages : List ScheduledMessage) (air : Air)
-            → Follows self.old messages air
-            → Follows self.new messages (air ++ result ∷ []) }
+        ensures chosen { ForHistories self.old (λ messages air. IsChosen messages air slot result) }
+        ensures follows { ForHistories self.old (λ messages air. Follows self.new messages (air ++ result ∷ [])) }
         ensures messages { messages_of self.new ≡ messages_of self.old }
         ensures asked { next_slot self.new ≡ slot + 1 }
     {
@@ -152,14 +147,12 @@ impl Plan {
     /// Stops the message of `entry` before `slot`, which is asked next, and reports how many of its broadcasts were
     /// completed. It was added, and not stopped before.
     pub fn stop(&mut self, entry: u16, slot: u16) -> u16
-        requires standing { Any (λ m. (m.entry ≡ entry) × (m.stop ≡ None)) (messages_of self.old) }
+        requires standing { Any (IsStanding entry) (messages_of self.old) }
         requires at_next { slot ≡ next_slot self.old }
-        ensures completed { (messages : List ScheduledMessage) (air : Air)
-            → Follows self.old messages air
-            → All (λ m. m.entry ≡ entry → result ≡ completed m air slot) messages }
-        ensures follows { (messages : List ScheduledMessage) (air : Air)
-            → Follows self.old messages air
-            → Follows self.new (stopped_at entry slot messages) air }
+        ensures completed { ForHistories self.old (λ messages air.
+            All (HasCompleted entry result air slot) messages) }
+        ensures follows { ForHistories self.old (λ messages air.
+            Follows self.new (stopped_at entry slot messages) air) }
         ensures messages { messages_of self.new ≡ stopped_at entry slot (messages_of self.old) }
         ensures asked { next_slot self.new ≡ slot }
     {
@@ -171,9 +164,8 @@ impl Plan {
     /// How many broadcasts of the message of `entry` were completed in the slots that were asked. It was added.
     pub fn done(&self, entry: u16) -> u16
         requires { Any (λ m. m.entry ≡ entry) (messages_of self.now) }
-        ensures { (messages : List ScheduledMessage) (air : Air)
-            → Follows self.now messages air
-            → All (λ m. m.entry ≡ entry → result ≡ completed m air (length air)) messages }
+        ensures { ForHistories self.now (λ messages air.
+            All (HasCompleted entry result air (length air)) messages) }
     {
         completed_of(self.nodes.as_slice(), entry)
     }
@@ -206,8 +198,8 @@ impl Plan {
     /// Whether the message of `entry` was added, and not stopped, as `stop` asks.
     pub fn is_standing(&self, entry: u16) -> bool
         ensures { MatchBool result
-            (Any (λ m. (m.entry ≡ entry) × (m.stop ≡ None)) (messages_of self.now))
-            (All (λ m. m.entry ≡ entry → m.stop ≢ None) (messages_of self.now)) }
+            (Any (IsStanding entry) (messages_of self.now))
+            (All (HasStop entry) (messages_of self.now)) }
     {
         has_standing(self.nodes.as_slice(), entry)
     }

@@ -12,7 +12,8 @@ use Rattle.scheduler.specs.Message.{is_before_stop}
 use Rattle.scheduler.proofs.Lists.{count_below_more}
 use Rattle.scheduler.proofs.Message.{has_broadcast-says, has_broadcast-from, is_before_stop-says, is_before_stop-from}
 use Rattle.bsc_table.specs.Guarantee.{is_inside, DemandIsNoMoreThanTheSlots}
-use Rattle.bsc_table.proofs.Load.Sums.{total, total-le, sum_by-plus, sum_by-times, sum_by-le_all}
+use Rattle.admission.proofs.Matched.{sum_by-plus, sum_by-le_all}
+use Rattle.bsc_table.proofs.Load.Sums.{total, total-le, sum_by-times}
 use Rattle.bsc_table.proofs.Load.Reservations.{load_at, reserved_over, loads_grow, fits_by_message}
 
 -- a count by a longer range is no less

@@ -12,7 +12,8 @@ use Rattle.scheduler.specs.Air.{Air, airs, pages_aired, IsPending}
 use Rattle.scheduler.proofs.Rule.{pages_aired-at_most}
 use Rattle.bsc_table.specs.Guarantee.{LoadsFit, IsUncut, AirsOneWithin, AdmittedLoadIsAGuarantee}
 use Rattle.bsc_table.specs.Guarantee.{AdmittedBroadcastsAreCompleted}
-use Rattle.bsc_table.proofs.Load.Sums.{total, total-at_least, sum_by-plus, exchange, sum_by-le_more}
+use Rattle.admission.proofs.Matched.{sum_by-plus}
+use Rattle.bsc_table.proofs.Load.Sums.{total, total-at_least, exchange, sum_by-le_more}
 use Rattle.bsc_table.proofs.Load.Broadcasts.{uses, pages_before, before_stop-up_to}
 use Rattle.bsc_table.proofs.Load.OwnBroadcasts.{IsServed, AiredInside, aired_inside, aired_short}
 use Rattle.scheduler.proofs.Lists.{rising-same}

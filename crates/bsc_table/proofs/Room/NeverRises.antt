@@ -7,11 +7,10 @@ use Rattle.std.specs.List.{All, AllPairs}
 use Rattle.std.proofs.lemmas.Bool.{cases_Bool, cases_lt, and_parts, and_from, ltb-true, lt-ltb, eqb-true, eq-eqb}
 use Rattle.std.proofs.lemmas.Bool.{false≢true}
 use Rattle.admission.specs.Reservation.{IsBeforeEnd, is_before_end}
+use Rattle.admission.proofs.Matched.{matched, sum_by-member, sum_by-plus, sum_by-same}
 use Rattle.admission.proofs.Reservations.{is_before_end-says, is_before_end-from}
 use Rattle.bsc_table.specs.Claim.{Claim, is_claimed_at, claim_at, end_of, own_load, IsWaiting}
 use Rattle.bsc_table.specs.Room.{HandsOver, AreInOrder, ReservedNeverRises}
-use Rattle.bsc_table.proofs.Load.Sums.{sum_by-plus}
-use Rattle.bsc_table.proofs.Room.MatchedSums.{matched, sum_by-member, sum_by-same}
 use Rattle.bsc_table.proofs.Room.Claims.{is_claimed_at-says, IsBeforeEnd-sooner, claim_at-reserved, claim_at-free}
 use Rattle.bsc_table.proofs.Room.Claims.{share_at-waiting, share_at-started, claim_at-after}
 

@@ -7,12 +7,12 @@ use Rattle.std.proofs.lemmas.Bool.{cases_Bool, cases_eq, or_cases, and_parts, lt
 use Rattle.std.proofs.lemmas.Bool.{false≢true}
 use Rattle.std.proofs.lemmas.List.Sums.{sum_by-cons}
 use Rattle.admission.specs.Reservation.{IsBeforeEnd, natural_end, end_of_stopped, end_of_reservation}
+use Rattle.admission.proofs.Matched.{sum_by-le_all}
 use Rattle.admission.proofs.Reservations.{end_of_stopped-no_later, end_of_stopped-early}
 use Rattle.scheduler.specs.Message.{ScheduledMessage, stopped_if}
 use Rattle.bsc_table.specs.Claim.{Claim, is_claimed_at, claim_at, end_of, IsWaiting, stop_claim, stop_claims}
 use Rattle.bsc_table.specs.Record.{is_live}
 use Rattle.bsc_table.specs.Room.{AreInOrder, ClaimsFit}
-use Rattle.bsc_table.proofs.Load.Sums.{sum_by-le_all}
 use Rattle.bsc_table.proofs.Room.Claims.{is_claimed_at-says, IsBeforeEnd-sooner, claim_at-reserved, claim_at-free}
 
 -- later on, claims stay in order
