@@ -46,4 +46,3 @@ impl<T: Drop> From<AllocFailed<T>> for DeskFault {
         DeskFault::Memory { done: 0 }
     }
 }
-
