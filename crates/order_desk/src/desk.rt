@@ -159,7 +159,7 @@ impl Desk {
     }
 
     /// The place of a cell, if it is of the desk.
-    #[tactic(auto, using(cbsp_wire::proofs::CellLists::absent, cbsp_wire::proofs::CellLists::found_by_place, cbsp_wire::proofs::CellLists::place_within,))]
+    #[tactic(auto, using(cbsp_wire::proofs::CellLists::absent))]
     fn place_of(&self, cell: Cell) -> Option<usize>
         ensures own { IfSome result (λ place. (place < length self.now.cells) × (has_cell self.now cell ≡ true)) }
         ensures foreign { IfNone result (has_cell self.now cell ≡ false) }

@@ -3,7 +3,6 @@
 ghost use Rattle.std.specs.Prelude.{◌≡◌, ◌⊎◌, ◌↔◌, ℕ, ◌+◌, Some, None, List, [], ◌∷◌, ◌++◌, All, IsTrue, max, true};
 ghost use Rattle.std.specs.List.{slice_get};
 ghost use Rattle.cbsp_wire.specs.declared.message.Cell.{Cell};
-ghost use Rattle.cbsp_wire.specs.Range.{is_cell};
 ghost use Rattle.bsc_table.specs.declared.entry.Entry.{Entry};
 ghost use Rattle.order_desk.specs.declared.note.Note.{Note};
 ghost use Rattle.order_desk.specs.Agreement.{AreInPlaceAt};
@@ -18,11 +17,11 @@ use cbsp_wire::Cell;
 #[derive(Clone, Copy)]
 pub(crate) struct Walk {
     /// The least bound above each number that was noted so far.
-    pub floor: u32,
+    pub(crate) floor: u32,
     /// The latest end of a range of played slots.
-    pub reached: u16,
+    pub(crate) reached: u16,
     /// The least number of which a noted entry isn't in its place.
-    pub least: Option<u16>,
+    pub(crate) least: Option<u16>,
 }
 
 /// The lesser of two numbers, as far as there are any.
