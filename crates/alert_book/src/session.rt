@@ -15,7 +15,7 @@ ghost use Rattle.cbsp_wire.specs.declared.message.Message.{Message};
 use crate::believed::Believed;
 use crate::book::Book;
 use crate::order::Order;
-use crate::outcome::{Outcome, cells_asked, outcome_of, version_said};
+use crate::outcome::{Outcome, cells_asked, outcome_of};
 use crate::request::{Refused, Request, requests_of};
 use crate::versions::Versions;
 use cbs_page::Paged;
@@ -267,9 +267,7 @@ fn keep(versions: &mut Versions, sent: &Option<Request>, outcome: &Option<Outcom
         return;
     };
     for (place, cell) in cells_asked(&request.message).iter().enumerate() {
-        let before = versions.version(request.number, *cell);
-        let version = version_said(request, outcome, *cell, place, before);
-        versions.set(request.number, *cell, version);
+        versions.set_said(request, outcome, *cell, place);
     }
 }
 
