@@ -32,3 +32,7 @@ fault_of_kind why other = fault.Air why
 
 abbrev pub fault_of_air : AirFault → TapeCommandFault
 fault_of_air why = fault_of_kind why why.kind
+
+-- the fault of a failed writer
+abbrev pub IsTapeWriteFault : TapeCommandFault → Type 0
+IsTapeWriteFault f = f ≡ fault.WriteFailed

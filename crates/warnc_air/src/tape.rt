@@ -1,12 +1,11 @@
 //! The command `tape`: a capture file to a tape.
 
-ghost use Rattle.std.specs.Prelude.{◌≡◌, ◌+◌, IfErr, IfSome, OnOk};
+ghost use Rattle.std.specs.Prelude.{◌≡◌, ◌+◌, IfErr, OnOk};
 ghost use Rattle.device_ends.specs.Moves.{ConsumesSome, WritesOutput};
-ghost use Rattle.device_ends.specs.Sink.{writer_of};
 ghost use Rattle.device_ends.specs.Source.{reader_of};
-ghost use Rattle.device_ends.specs.Stream.{IsStreamBetween};
+ghost use Rattle.device_ends.specs.Stream.{Between, FaultOfInput, IsStreamBetween};
 ghost use Rattle.gsmtap.specs.TapeOfCapture.{IsTapeOfCapture};
-ghost use Rattle.warnc_air.specs.TapeOutput.{IsTapeCommandFault, fault_of_air};
+ghost use Rattle.warnc_air.specs.TapeOutput.{IsTapeCommandFault, IsTapeWriteFault, fault_of_air};
 
 use device_ends::{Failed, ReadFault, Sink, Source, read_up_to, write_all};
 use gsmtap::{AirFault, AirFaultKind, Wanted, tape_of_capture};
@@ -29,7 +28,7 @@ pub enum TapeCommandFault {
     /// The file or a packet of it is at fault.
     #[error("{0}")]
     Air(AirFault),
-    /// There was no memory.
+    /// Out of memory.
     #[error("out of memory")]
     Refused,
     /// The writer failed. Some of the tape may be out.
@@ -45,20 +44,18 @@ pub fn tape_stream<R: Read, W: Write>(
     wanted: &Wanted,
 ) -> Result<(), TapeCommandFault>
     // What was written is the tape of the file that was read, at any reader of some file.
-    ensures ok { OnOk result (WritesOutput (IsTapeOfCapture wanted.now) (R.remaining (reader_of source.old))
-        (W.contents (writer_of sink.old)) (W.contents (writer_of sink.new))) }
-    ensures fault { IfErr result (λ fault. IfSome (R.remaining (reader_of source.old)) (λ input.
-        IsTapeCommandFault wanted.now input (W.contents (writer_of sink.old)) (W.contents (writer_of sink.new))
-        fault)) }
+    ensures ok { OnOk result (Between R.remaining W.contents (λ first last.
+        WritesOutput (IsTapeOfCapture wanted.now) first) source.old source.new sink.old sink.new) }
+    ensures err { IfErr result (FaultOfInput R.remaining W.contents (IsTapeCommandFault wanted.now) source.old sink.old
+        sink.new) }
 
     // One octet past the bound is read at most.
     ensures reads { ConsumesSome (R.remaining (reader_of source.old)) (R.remaining (reader_of source.new))
         (MAX_INPUT + 1) }
 
     // At any reader and any writer.
-    ensures any_device { IsStreamBetween TapeCommandFault.ReadFailed (λ fault. fault ≡ TapeCommandFault.WriteFailed)
-        result source.old source.new sink.old sink.new (W.contents (writer_of sink.old))
-        (W.contents (writer_of sink.new)) }
+    ensures any_ends { IsStreamBetween TapeCommandFault.ReadFailed IsTapeWriteFault result W.contents source.old
+        source.new sink.old sink.new }
 {
     let input = match read_up_to(source, alloc, MAX_INPUT) {
         Ok(input) => input,
