@@ -106,7 +106,7 @@ impl<T: Drop> From<AllocFailed<T>> for RowFault {
     }
 }
 
-/// Why a book is refused, and its row, from 1. The row is 0 if the reader failed, memory was refused, or the book has
+/// Why a book is refused, and its row, from 1. The row is 0 if the reader failed, it is out of memory, or the book has
 /// too many octets.
 #[derive(Clone, Copy, Debug, PartialEq, Eq)]
 pub struct BookFault {

@@ -49,7 +49,7 @@ pub enum CaptureFault {
     /// The input goes on after the 64th tape, or a tape says that it has more than 65,535 slots.
     #[error("tape is long")]
     Long,
-    /// There was no memory.
+    /// Out of memory.
     #[error("out of memory")]
     Refused,
 }
@@ -69,7 +69,7 @@ impl From<AllocError> for CaptureFault {
 /// # Errors
 ///
 /// Returns [`CaptureFault::Short`] if the input ends inside a tape, [`CaptureFault::Long`] if it goes on after the 64th
-/// or a header says more than 65,535 slots, and [`CaptureFault::Refused`] if memory was refused.
+/// or a header says more than 65,535 slots, and [`CaptureFault::Refused`] if out of memory.
 pub fn capture_of(alloc: Global, input: &[u8], settings: Settings) -> Result<Vec<u8>, CaptureFault>
     ensures capture { IfOk result (λ output. IsCapture settings input.now output.items) }
     ensures fault { IfErr result (IsCaptureFault input.now) }

@@ -25,7 +25,7 @@ pub enum AirFaultKind {
     /// A block is more than a slot before the one before it, or before the first slot.
     #[error("steps back")]
     StepsBack,
-    /// There was no memory.
+    /// Out of memory.
     #[error("out of memory")]
     Refused,
 }

@@ -48,7 +48,7 @@ pub struct Place {
     pub block: u8,
 }
 
-/// Appends a block as a packet. The only error is that memory was refused, and then a part of the packet may be there.
+/// Appends a block as a packet. The only error is out of memory, and then a part of the packet may be there.
 #[tactic(auto, unfolding(crate::specs::Packet::packet))]
 pub fn push_packet(
     output: &mut Vec<u8>,

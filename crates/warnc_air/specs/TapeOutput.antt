@@ -1,5 +1,5 @@
 -- What `warnc tape` makes of the octets that it reads: the tape of the capture file that they are. Own.
-use Rattle.std.specs.Prelude.{◌≢◌, ℕ, ◌<◌, ◌≤◌, List, length, Option}
+use Rattle.std.specs.Prelude.{◌≡◌, ◌≢◌, ℕ, ◌<◌, ◌≤◌, List, length, Option}
 use Rattle.std.specs.Io.KnownBytes.{Keeps}
 use Rattle.device_ends.specs.Moves.{AppendsFront}
 use Rattle.gsmtap.specs.TapeOfCapture.{IsAirFault, IsTapeOfCapture}

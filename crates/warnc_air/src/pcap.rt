@@ -28,7 +28,7 @@ pub enum PcapFault {
     /// The reader failed.
     #[error("read failed")]
     ReadFailed,
-    /// There was no memory.
+    /// Out of memory.
     #[error("out of memory")]
     Refused,
     /// The writer failed. Some of the capture may be out.
