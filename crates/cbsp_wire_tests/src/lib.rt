@@ -1,7 +1,9 @@
 //! Tests of `cbsp_wire` on values from outside it, as tables of lines: worked messages, each refusal in its place, both
-//! sides of each limit, and refused memory.
+//! sides of each limit, lists of cells, and refused memory.
 #![tactic(auto)]
 
+#[cfg(test)]
+mod cells;
 #[cfg(test)]
 mod limits;
 #[cfg(test)]

@@ -3,6 +3,7 @@
 //! `scarce ACTION -> refused; WANTED`: the action is refused with hardly any memory, with one block more each time,
 //! until it has enough. After each refusal it has all memory, and has to give what is wanted at once.
 
+use crate::cells::{contains_near_row, contains_row, distinct_row, find_near_row, find_row};
 use crate::limits::{coding, order};
 use crate::made::{make, remake};
 use crate::octets::{octets_in, set_octet};
@@ -56,6 +57,11 @@ fn carried_out(
         "make" => make(alloc, drought, &mut words),
         "remake" => remake(alloc, drought, &mut words),
         "octet" => set_octet(alloc, &mut words),
+        "contains" => contains_row(alloc, &mut words),
+        "contains_near" => contains_near_row(alloc, &mut words),
+        "find" => find_row(alloc, &mut words),
+        "find_near" => find_near_row(alloc, &mut words),
+        "distinct" => distinct_row(alloc, &mut words),
         verb => with_octets(alloc, drought, verb, &octets_in(alloc, &mut words)?),
     }
 }
