@@ -3,6 +3,7 @@
 -- known.
 use Rattle.std.specs.Prelude.{◌≡◌, ◌↔◌, ℕ, List, Option, Result, false, true, IfErr, IfSome, IsErrOf, IsTrue, OnOk}
 use Rattle.std.specs.Io.KnownBytes.{Keeps}
+use Rattle.device_ends.specs.Moves.{WritesOutput}
 use Rattle.device_ends.specs.Sink.{sink_failed, writer_of}
 use Rattle.device_ends.specs.Source.{reader_of, source_failed}
 use Rattle.device_ends.specs.declared.reading.Source.{Source}
@@ -31,6 +32,12 @@ abbrev pub FaultBetween : {R W F : Type 0} → (left : R → Option (List ℕ)) 
     → (first last : Source R) → (old new : Sink W) → F → Type 0
 FaultBetween left held Moves first last old new fault =
     Moves (left (reader_of first)) (left (reader_of last)) (held (writer_of old)) (held (writer_of new)) fault
+
+-- the output of what the reader had left was written
+abbrev pub OutputOfInput : {R W : Type 0} → (left : R → Option (List ℕ)) → (held : W → Option (List ℕ))
+    → (IsOutput : List ℕ → List ℕ → Type 0) → Source R → (old new : Sink W) → Type 0
+OutputOfInput left held IsOutput first old new =
+    WritesOutput IsOutput (left (reader_of first)) (held (writer_of old)) (held (writer_of new))
 
 -- a fault by the octets that the reader had left, if they are known
 abbrev pub FaultOfInput : {R W F : Type 0} → (left : R → Option (List ℕ)) → (held : W → Option (List ℕ))

@@ -307,7 +307,7 @@ fn air_first(nodes: &mut [Node], slot: u16) -> Option<(u16, u8)>
 }
 
 /// What `slot` airs, and what is kept after it. `listed` has room for a list of all places.
-pub fn play(nodes: &mut [Node], listed: &mut [usize], slot: u16) -> Option<(u16, u8)>
+pub(crate) fn play(nodes: &mut [Node], listed: &mut [usize], slot: u16) -> Option<(u16, u8)>
     requires within { slot < 65535 }
     requires room { length nodes.old ≤ length listed.old }
     requires kept { AreKept slot nodes.old }
@@ -321,7 +321,7 @@ pub fn play(nodes: &mut [Node], listed: &mut [usize], slot: u16) -> Option<(u16,
 }
 
 /// Adds a message behind the others. After `Err` there is no room for it, and the places are as they were.
-pub fn push(nodes: &mut Vec<Node>, item: Item) -> Result<(), Refused>
+pub(crate) fn push(nodes: &mut Vec<Node>, item: Item) -> Result<(), Refused>
     requires { IsTree nodes.old.items }
     ensures kept { OnOk result (kept_in nodes.new.items ≡ kept_in nodes.old.items ++ kept_new item ∷ []) }
     ensures tree { IsTree nodes.new.items }
@@ -354,7 +354,7 @@ fn find(nodes: &[Node], entry: u16) -> Option<usize>
 }
 
 /// Stops the message of `entry` before `slot`.
-pub fn stop_at(nodes: &mut [Node], entry: u16, slot: u16)
+pub(crate) fn stop_at(nodes: &mut [Node], entry: u16, slot: u16)
     requires kept { AreKept slot nodes.old }
     requires rising { AreRising nodes.old }
     ensures seen { seen_in slot nodes.new ≡ map (λ t. scheduled_stopped (t.item.entry == entry) slot t)
@@ -371,7 +371,7 @@ pub fn stop_at(nodes: &mut [Node], entry: u16, slot: u16)
 }
 
 /// How many broadcasts of the message of `entry` are kept as completed.
-pub fn completed_of(nodes: &[Node], entry: u16) -> u16
+pub(crate) fn completed_of(nodes: &[Node], entry: u16) -> u16
     requires { AreRising nodes.now }
     ensures { (slot : ℕ) → All (λ t. t.item.entry ≡ entry → result ≡ t.completed) (seen_in slot nodes.now) }
 {
@@ -382,7 +382,7 @@ pub fn completed_of(nodes: &[Node], entry: u16) -> u16
 }
 
 /// Whether all numbers of what is kept are below `entry`.
-pub fn are_below(nodes: &[Node], entry: u16) -> bool
+pub(crate) fn are_below(nodes: &[Node], entry: u16) -> bool
     requires { AreRising nodes.now }
     ensures { (slot : ℕ) → MatchBool result (All (λ t. t.item.entry < entry) (seen_in slot nodes.now))
         (Any (λ t. entry ≤ t.item.entry) (seen_in slot nodes.now)) }
@@ -391,7 +391,7 @@ pub fn are_below(nodes: &[Node], entry: u16) -> bool
 }
 
 /// Whether a message of `entry` is kept.
-pub fn has_entry(nodes: &[Node], entry: u16) -> bool
+pub(crate) fn has_entry(nodes: &[Node], entry: u16) -> bool
     requires { AreRising nodes.now }
     ensures { (slot : ℕ) → MatchBool result (Any (λ t. t.item.entry ≡ entry) (seen_in slot nodes.now))
         (All (λ t. t.item.entry ≢ entry) (seen_in slot nodes.now)) }
@@ -403,7 +403,7 @@ pub fn has_entry(nodes: &[Node], entry: u16) -> bool
 }
 
 /// Whether a message of `entry` is kept that was not stopped.
-pub fn has_standing(nodes: &[Node], entry: u16) -> bool
+pub(crate) fn has_standing(nodes: &[Node], entry: u16) -> bool
     requires { AreRising nodes.now }
     ensures { (slot : ℕ) → MatchBool result
         (Any (λ t. (t.item.entry ≡ entry) × (t.stop ≡ None)) (seen_in slot nodes.now))

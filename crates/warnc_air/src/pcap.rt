@@ -1,9 +1,9 @@
 //! The command `pcap`: tapes to their capture.
 
 ghost use Rattle.std.specs.Prelude.{◌≡◌, ◌+◌, IfErr, OnOk};
-ghost use Rattle.device_ends.specs.Moves.{ConsumesSome, WritesOutput};
+ghost use Rattle.device_ends.specs.Moves.{ConsumesSome};
 ghost use Rattle.device_ends.specs.Source.{reader_of};
-ghost use Rattle.device_ends.specs.Stream.{Between, FaultOfInput, IsStreamBetween};
+ghost use Rattle.device_ends.specs.Stream.{FaultOfInput, IsStreamBetween, OutputOfInput};
 ghost use Rattle.gsmtap.specs.Capture.{IsCapture};
 ghost use Rattle.warnc_air.specs.PcapOutput.{IsPcapFault, IsPcapWriteFault, fault_of_capture};
 
@@ -45,8 +45,7 @@ pub fn pcap_stream<R: Read, W: Write>(
     settings: Settings,
 ) -> Result<(), PcapFault>
     // What was written is the capture of the tapes that were read, at any reader of some tapes.
-    ensures ok { OnOk result (Between R.remaining W.contents (λ first last. WritesOutput (IsCapture settings) first)
-        source.old source.new sink.old sink.new) }
+    ensures ok { OnOk result (OutputOfInput R.remaining W.contents (IsCapture settings) source.old sink.old sink.new) }
     ensures err { IfErr result (FaultOfInput R.remaining W.contents (IsPcapFault settings) source.old sink.old
         sink.new) }
 

@@ -1,9 +1,9 @@
 //! The command `tape`: a capture file to a tape.
 
 ghost use Rattle.std.specs.Prelude.{◌≡◌, ◌+◌, IfErr, OnOk};
-ghost use Rattle.device_ends.specs.Moves.{ConsumesSome, WritesOutput};
+ghost use Rattle.device_ends.specs.Moves.{ConsumesSome};
 ghost use Rattle.device_ends.specs.Source.{reader_of};
-ghost use Rattle.device_ends.specs.Stream.{Between, FaultOfInput, IsStreamBetween};
+ghost use Rattle.device_ends.specs.Stream.{FaultOfInput, IsStreamBetween, OutputOfInput};
 ghost use Rattle.gsmtap.specs.TapeOfCapture.{IsTapeOfCapture};
 ghost use Rattle.warnc_air.specs.TapeOutput.{IsTapeCommandFault, IsTapeWriteFault, fault_of_air};
 
@@ -44,8 +44,8 @@ pub fn tape_stream<R: Read, W: Write>(
     wanted: &Wanted,
 ) -> Result<(), TapeCommandFault>
     // What was written is the tape of the file that was read, at any reader of some file.
-    ensures ok { OnOk result (Between R.remaining W.contents (λ first last.
-        WritesOutput (IsTapeOfCapture wanted.now) first) source.old source.new sink.old sink.new) }
+    ensures ok { OnOk result (OutputOfInput R.remaining W.contents (IsTapeOfCapture wanted.now) source.old
+        sink.old sink.new) }
     ensures err { IfErr result (FaultOfInput R.remaining W.contents (IsTapeCommandFault wanted.now) source.old sink.old
         sink.new) }
 

@@ -2,9 +2,9 @@
 
 ghost use Rattle.std.specs.Prelude.{◌≡◌, ◌≤◌, ◌+◌, ◌++◌, length, string_bytes, IfErr, IfOk, OnOk};
 ghost use Rattle.std.specs.List.{flat_map};
-ghost use Rattle.device_ends.specs.Moves.{ConsumesSome, WritesOutput};
+ghost use Rattle.device_ends.specs.Moves.{ConsumesSome};
 ghost use Rattle.device_ends.specs.Source.{reader_of};
-ghost use Rattle.device_ends.specs.Stream.{Between, FaultOfInput, IsStreamBetween};
+ghost use Rattle.device_ends.specs.Stream.{FaultOfInput, IsStreamBetween, OutputOfInput};
 ghost use Rattle.handset.specs.Keeping.{HasRead, message_shown, messages_of};
 ghost use Rattle.warnc_inspect.specs.PageOutput.{without_final_lf, blocks_of_message, block_line, message_line};
 ghost use Rattle.warnc_inspect.specs.PageOutput.{lines_of, IsPageOutput, IsPageFault, IsStreamFault, IsPageWriteFault};
@@ -59,8 +59,8 @@ pub fn page_stream<R: Read, W: Write>(
     serial: Serial,
 ) -> Result<(), PageFault>
     // What was written is what the definitions make of the octets that were read, at any reader of some octets.
-    ensures ok { OnOk result (Between R.remaining W.contents (λ first last.
-        WritesOutput (IsPageOutput language.now id serial) first) source.old source.new sink.old sink.new) }
+    ensures ok { OnOk result (OutputOfInput R.remaining W.contents (IsPageOutput language.now id serial) source.old
+        sink.old sink.new) }
     ensures err { IfErr result (FaultOfInput R.remaining W.contents (IsStreamFault language.now id serial) source.old
         sink.old sink.new) }
 

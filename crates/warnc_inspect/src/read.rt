@@ -2,9 +2,8 @@
 
 ghost use Rattle.std.specs.Prelude.{◌≡◌, IfErr, OnOk};
 ghost use Rattle.std.specs.Io.KnownBytes.{IsAtEnd};
-ghost use Rattle.device_ends.specs.Moves.{WritesOutput};
 ghost use Rattle.device_ends.specs.Source.{reader_of};
-ghost use Rattle.device_ends.specs.Stream.{Between, FaultOfInput, IsStreamBetween};
+ghost use Rattle.device_ends.specs.Stream.{FaultOfInput, IsStreamBetween, OutputOfInput};
 ghost use Rattle.warnc_inspect.specs.ReadOutput.{IsReadOutput, IsReadFault, IsReadTo, IsReadWriteFault};
 ghost use Rattle.warnc_inspect.specs.ReadSteps.{fault_of_tapes};
 
@@ -48,8 +47,7 @@ pub fn read_stream<R: Read, W: Write>(
     sink: &mut Sink<W>,
 ) -> Result<(), ReadCommandFault>
     // What was written is the table of what the tapes show, at any reader of some tapes.
-    ensures ok { OnOk result (Between R.remaining W.contents (λ first last. WritesOutput IsReadOutput first) source.old
-        source.new sink.old sink.new) }
+    ensures ok { OnOk result (OutputOfInput R.remaining W.contents IsReadOutput source.old sink.old sink.new) }
     ensures err { IfErr result (FaultOfInput R.remaining W.contents IsReadFault source.old sink.old sink.new) }
 
     // How far the source was read: to its end, or as the fault says and no further.
