@@ -20,6 +20,9 @@ use crate::turn::Ahead;
 /// How many places are below one.
 const BELOW: usize = 8;
 
+/// How many places at the end are looked at first for a message.
+const NEAR: usize = 16;
+
 /// A message, with what is ahead of it and of the places below it.
 #[derive(Clone, Copy)]
 pub struct Node {
@@ -271,12 +274,28 @@ fn renew_all(nodes: &mut [Node], listed: &mut [usize], slot: u16)
     renew_listed(nodes, listed, count, slot);
 }
 
+/// A place up to which all messages have lesser numbers than `entry`: one near the end, if that can be seen there, since
+/// most of those that are looked for were added of late; else the first.
+fn near_end(nodes: &[Node], entry: u16) -> usize
+    requires { AreRising nodes.now }
+    ensures within { result ≤ length nodes.now }
+    ensures before { (k : ℕ) (d : Node) → k < result
+        → (slice_index_or nodes.now k d).kept.scheduled.item.entry < entry }
+{
+    let near = nodes.len().saturating_sub(NEAR);
+    if near > 0 && nodes[near - 1].kept.scheduled.item.entry < entry {
+        near
+    } else {
+        0
+    }
+}
+
 /// The place of the message of `entry`, where there is one: those before it have lesser numbers.
 fn place_of(nodes: &[Node], entry: u16) -> usize
     requires { AreRising nodes.now }
     ensures { IsPlaceOf entry nodes.now result }
 {
-    let mut low = 0;
+    let mut low = near_end(nodes, entry);
     let mut high = nodes.len();
     while low < high {
         let middle = low + (high - low) / 2;
