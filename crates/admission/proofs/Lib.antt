@@ -6,3 +6,4 @@ mod Scale
 pub mod Tables
 mod Worked
 pub mod Unchanged
+pub mod Passing

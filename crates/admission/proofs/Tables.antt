@@ -212,6 +212,13 @@ IsAdmitted-passed slot table admitted =
           v w (still slot (get_or table i d).waits v first).0 (still slot (get_or table j d).waits w second).0));
     }
 
+-- so it does where it is written over in its front
+pub IsAdmitted-kept : (slot count : ℕ) (table written : List Held) → length written ≡ length table
+    → take count written ≡ passed slot table → IsAdmitted table
+    → IsAdmitted (take count (refill (length table) table written))
+IsAdmitted-kept slot count table written long is h =
+    rw (refill-whole table written long, is) (IsAdmitted-passed slot table h)
+
 -- the load that is found for an entry is that of its reservation
 pub load_for-is : (entry : ℕ) (table : List Held) (g : Held) → AllPairs (λ a b. a.entry ≢ b.entry) table
     → Contains table g → g.entry ≡ entry → load_for entry table ≡ g.load

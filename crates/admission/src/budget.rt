@@ -1,12 +1,12 @@
 //! The table of the loads that are reserved in a cell.
 
-ghost use Rattle.std.specs.Prelude.{◌≡◌, ◌≢◌, ℕ, ◌==◌, ◌≤◌, Some, None, List, [], length, ◌∷◌, ◌++◌, sum_by, All, Any};
+ghost use Rattle.std.specs.Prelude.{◌≡◌, ◌≢◌, ℕ, ◌==◌, ◌≤◌, Some, None, List, [], length, ◌∷◌, ◌++◌, sum_by, take, All, Any};
 ghost use Rattle.std.specs.Prelude.{OnOk, OnErr, MatchBool};
 ghost use Rattle.std.specs.Option.{option_map};
 ghost use Rattle.admission.specs.Table.{answer_for, answer_of, remaining_without, load_for, excess_over, ends_at};
 ghost use Rattle.admission.specs.Table.{ends_if, passed, IsAdmitted};
 ghost use Rattle.std.specs.List.{list_all};
-ghost use Rattle.admission.specs.TableSteps.{HasPlace, stays_at};
+ghost use Rattle.admission.specs.TableSteps.{HasPlace, goes_on, stays_at};
 ghost use Rattle.admission.specs.Waiting.{IsWhether, behind_of, held_now, held_at, waits_at, started_at};
 ghost use Rattle.admission.specs.Reservation.{is_before_end};
 
@@ -104,6 +104,10 @@ impl Budget {
     }
 
     /// Whether `load` could be reserved now, as if the entry `leaving` were gone. It changes nothing.
+    ///
+    /// # Errors
+    ///
+    /// `NoRoom` if it couldn't.
     pub fn fits(&self, load: u64, leaving: Option<u16>) -> Result<(), NoRoom>
         ensures { result ≡ answer_for (remaining_without leaving self.now) load }
     {
@@ -119,6 +123,10 @@ impl Budget {
     /// Whether `load` could wait now behind the entry `behind`, as if the entry `leaving` were gone: whether there is
     /// room for what it has over the load of `behind`. It changes nothing. The entry `behind` is reserved and has
     /// started.
+    ///
+    /// # Errors
+    ///
+    /// `NoRoom` if it couldn't.
     pub fn fits_behind(&self, load: u64, behind: u16, leaving: Option<u16>) -> Result<(), NoRoom>
         requires { Any (λ h. (h.entry ≡ behind) × (h.waits ≡ None)) self.now }
         ensures { result ≡ answer_for (remaining_without leaving self.now) (excess_over behind load self.now) }
@@ -128,6 +136,10 @@ impl Budget {
     }
 
     /// Reserves `load` for `entry` up to, and without, the slot `until`. The entry is not reserved yet.
+    ///
+    /// # Errors
+    ///
+    /// `NoRoom` if there is no room for it; nothing changes then.
     pub fn reserve(&mut self, entry: u16, load: u64, until: Option<u32>) -> Result<(), NoRoom>
         requires { All (λ h. h.entry ≢ entry) self.old }
         ensures answer { result ≡ answer_for self.old load }
@@ -149,6 +161,10 @@ impl Budget {
     ///
     /// The entry is not reserved yet. The entry `behind` is reserved, has started and ends at `start`, and no entry
     /// waits behind it.
+    ///
+    /// # Errors
+    ///
+    /// `NoRoom` if there is no room for it; nothing changes then.
     pub fn reserve_behind(
         &mut self,
         entry: u16,
@@ -198,9 +214,10 @@ impl Budget {
     pub fn pass_slot(&mut self, slot: u16)
         ensures { self.new ≡ passed slot self.old }
     {
-        // At most slots nothing ends, and making the table anew costs more than all else that a slot does.
+        // At most slots nothing ends or starts, and then the table isn't written.
         if !passes_unchanged(self.table.as_slice(), slot) {
-            self.table = remaining_at(self.table.as_slice(), slot);
+            let remaining = keep_remaining(self.table.as_mut_slice(), slot);
+            self.table.truncate(remaining);
         }
     }
 
@@ -366,27 +383,38 @@ fn ended(held: Held, entry: u16, slot: u32) -> Held
     }
 }
 
-/// Whether no reservation of a table waits or has ended by `slot`.
+/// Whether no reservation of a table has ended by `slot`, or starts.
 fn passes_unchanged(table: &[Held], slot: u16) -> bool
     ensures { result ≡ list_all (stays_at slot) table.now }
 {
-    table
-        .iter()
-        .all(|held| held.waits.is_none() && is_counted(held.end, slot))
+    table.iter().all(|held| is_counted(held.end, slot) && goes_on(held.waits, slot))
 }
 
-/// The reservations of a table that are still counted at `slot`, as they are there.
-fn remaining_at(table: &[Held], slot: u16) -> ArrayVec<Held, 64>
-    requires { length table.now ≤ 64 }
-    ensures { result.items ≡ passed slot table.now }
+/// Whether what is waited for, if anything is, is waited for at `slot` too.
+fn goes_on(waits: Option<Waits>, slot: u16) -> bool
+    ensures { result ≡ goes_on slot waits }
 {
-    let mut remaining: ArrayVec<Held, 64> = ArrayVec::new();
-    for held in table {
+    match waits {
+        None => true,
+        Some(waits) => u32::from(slot) < waits.start,
+    }
+}
+
+/// Puts the reservations of a table that are still counted at `slot`, as they are there, in front, and says how many
+/// they are.
+fn keep_remaining(table: &mut [Held], slot: u16) -> usize
+    ensures within { result ≤ length table.old }
+    ensures remaining { take result table.new ≡ passed slot table.old }
+{
+    let mut kept = 0;
+    for place in 0..table.len() {
+        let held = table[place];
         if is_counted(held.end, slot) {
-            remaining.push(started(*held, slot));
+            table[kept] = started(held, slot);
+            kept += 1;
         }
     }
-    remaining
+    kept
 }
 
 /// A reservation as it is at `slot`: it waits no more, where it starts by then.

@@ -156,3 +156,33 @@ fn reports_the_table_before_the_load(rt: HostRuntime) {
     );
     assert_eq!(rt; budget.reserved(), 64_000);
 }
+
+#[test]
+fn keeps_what_is_left_as_slots_pass(rt: HostRuntime) {
+    let mut budget = Budget::new();
+    assert_eq!(rt; reserved(&mut budget, 0, QUARTER, Some(3)), Some(Ok(())));
+    assert_eq!(rt; reserved(&mut budget, 1, QUARTER, Some(5)), Some(Ok(())));
+    assert_eq!(rt; reserved(&mut budget, 2, HALF, None), Some(Ok(())));
+    assert_eq!(rt;
+        reserved_behind(&mut budget, 3, QUARTER, 1, 5),
+        Some(Ok(()))
+    );
+    budget.pass_slot(2);
+    assert_eq!(rt; budget.reserved(), SCALE);
+
+    // The first one ends, and the last goes on waiting.
+    budget.pass_slot(3);
+    assert!(rt; !budget.is_reserved(0));
+    assert!(rt; budget.is_awaited(1));
+    assert!(rt; budget.has_started(2));
+    assert!(rt; !budget.has_started(3));
+    assert_eq!(rt; budget.reserved(), HALF + QUARTER);
+
+    // The one in front ends, and the last starts.
+    budget.pass_slot(5);
+    assert!(rt; !budget.is_reserved(1));
+    assert!(rt; !budget.is_awaited(1));
+    assert!(rt; budget.has_started(2));
+    assert!(rt; budget.has_started(3));
+    assert_eq!(rt; budget.reserved(), HALF + QUARTER);
+}

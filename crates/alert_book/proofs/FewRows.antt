@@ -9,8 +9,8 @@ use Rattle.std.proofs.lemmas.List.Folds.{list_any-append}
 use Rattle.cbsp_wire.specs.declared.message.Cell.{Cell}
 use Rattle.cbsp_wire.specs.Range.{are_distinct, cells_are_valid, is_cell}
 use Rattle.alert_book.specs.declared.fault.BookFault.{BookFault}
-use Rattle.alert_book.specs.declared.fault.BookFaultKind.{BookFaultKind}
-use Rattle.alert_book.specs.declared.fault.BookFaultKind.TheVariants as fault
+use Rattle.alert_book.specs.declared.fault.RowFault.{RowFault}
+use Rattle.alert_book.specs.declared.fault.RowFault.TheVariants as fault
 use Rattle.alert_book.specs.declared.order.Order.{Order}
 use Rattle.alert_book.specs.declared.row.Row.{Row}
 use Rattle.alert_book.specs.declared.row.Row.TheVariants as rows
@@ -71,10 +71,10 @@ rows_are_few input book is =
     (omega arith, omega arith) is.rows.meant).1.1
 
 -- what declares no cell
-abbrev NeverDeclares : Result Row BookFaultKind → Type 0
+abbrev NeverDeclares : Result Row RowFault → Type 0
 NeverDeclares r = (cell : Cell) → r ≡ Ok (rows.Declare cell) → ⊥
 
-right_never : {A : Type 0} (r : Result A BookFaultKind) (next : A → Result Row BookFaultKind) →
+right_never : {A : Type 0} (r : Result A RowFault) (next : A → Result Row RowFault) →
     ((value : A) → NeverDeclares (next value)) → NeverDeclares (if_right r next)
 right_never (Ok value) next never cell is = never value cell is
 right_never (Err kind) next never cell is = cc
@@ -82,7 +82,7 @@ right_never (Err kind) next never cell is = cc
 gives_never : (order : Order) → NeverDeclares (Ok (rows.Give order))
 gives_never order cell is = cc
 
-fault_never : (kind : BookFaultKind) → NeverDeclares (Err kind)
+fault_never : (kind : RowFault) → NeverDeclares (Err kind)
 fault_never kind cell is = cc
 
 write_never : (row : ℕ) (declared : List Cell) (orders : List Order) (fields : List (List ℕ)) →
@@ -100,7 +100,7 @@ stop_never row declared orders fields =
     right_never (known_name orders (column fields 2)) _ (λ first.
     right_never (cells_of_field declared (column fields 3)) _ (λ cells. gives_never _)))
 
-either_never : (test : Bool) (a b : Result Row BookFaultKind) → NeverDeclares a → NeverDeclares b →
+either_never : (test : Bool) (a b : Result Row RowFault) → NeverDeclares a → NeverDeclares b →
     NeverDeclares (cond test a b)
 either_never true a b first second = first
 either_never false a b first second = second
@@ -118,13 +118,13 @@ IsNew : List Cell → Cell → Type 0
 IsNew declared cell = (nat_le 64 (length declared) ≡ false) × (is_among declared cell ≡ false)
 
 -- what declares such a cell alone
-abbrev DeclaresNew : List Cell → Result Row BookFaultKind → Type 0
+abbrev DeclaresNew : List Cell → Result Row RowFault → Type 0
 DeclaresNew declared r = (cell : Cell) → r ≡ Ok (rows.Declare cell) → IsNew declared cell
 
-never_new : (declared : List Cell) (r : Result Row BookFaultKind) → NeverDeclares r → DeclaresNew declared r
+never_new : (declared : List Cell) (r : Result Row RowFault) → NeverDeclares r → DeclaresNew declared r
 never_new declared r never cell is = absurd (never cell is)
 
-same_cell : (r : Result Row BookFaultKind) (a b : Cell) → r ≡ Ok (rows.Declare a) → r ≡ Ok (rows.Declare b) → a ≡ b
+same_cell : (r : Result Row RowFault) (a b : Cell) → r ≡ Ok (rows.Declare a) → r ≡ Ok (rows.Declare b) → a ≡ b
 same_cell r a b one other = cc
 
 cell_is_new : (declared : List Cell) (few : nat_le 64 (length declared) ≡ false) (cell : Cell) →
@@ -137,12 +137,12 @@ cell_is_new declared few cell made is = elim (cases_Bool (is_among declared cell
       (few, subst (λ (c : Cell). is_among declared c ≡ false) same new)
 ]
 
-right_new : {A : Type 0} (declared : List Cell) (r : Result A BookFaultKind) (next : A → Result Row BookFaultKind) →
+right_new : {A : Type 0} (declared : List Cell) (r : Result A RowFault) (next : A → Result Row RowFault) →
     ((value : A) → DeclaresNew declared (next value)) → DeclaresNew declared (if_right r next)
 right_new declared (Ok value) next new cell is = new value cell is
 right_new declared (Err kind) next new cell is = absurd (cc is)
 
-either_new : (declared : List Cell) (test : Bool) (a b : Result Row BookFaultKind) → DeclaresNew declared a →
+either_new : (declared : List Cell) (test : Bool) (a b : Result Row RowFault) → DeclaresNew declared a →
     DeclaresNew declared b → DeclaresNew declared (cond test a b)
 either_new declared true a b first second = first
 either_new declared false a b first second = second

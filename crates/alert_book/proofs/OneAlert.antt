@@ -7,8 +7,8 @@ use Rattle.std.specs.Option.{ok_or}
 use Rattle.std.proofs.lemmas.List.Elements.{All-contains, All-nil, All-push, All-weaker, Contains-push_cases}
 use Rattle.std.proofs.lemmas.List.Sums.{sum_by_push}
 use Rattle.cbsp_wire.specs.declared.message.Cell.{Cell}
-use Rattle.alert_book.specs.declared.fault.BookFaultKind.{BookFaultKind}
-use Rattle.alert_book.specs.declared.fault.BookFaultKind.TheVariants as fault
+use Rattle.alert_book.specs.declared.fault.RowFault.{RowFault}
+use Rattle.alert_book.specs.declared.fault.RowFault.TheVariants as fault
 use Rattle.alert_book.specs.declared.order.Action.TheVariants as action
 use Rattle.alert_book.specs.declared.order.Order.{Order}
 use Rattle.alert_book.specs.declared.row.Row.{Row}
@@ -42,18 +42,18 @@ abbrev IsNextRow : List Order → Row → Type 0
 IsNextRow orders (rows.Declare cell) = Unit {0}
 IsNextRow orders (rows.Give order) = IsNext orders order
 
-same_row : (r : Result Row BookFaultKind) (a b : Row) → r ≡ Ok a → r ≡ Ok b → a ≡ b
+same_row : (r : Result Row RowFault) (a b : Row) → r ≡ Ok a → r ≡ Ok b → a ≡ b
 same_row r a b one other = cc
 
-given_next : (orders : List Order) (order : Order) (r : Result Row BookFaultKind) → IsNext orders order
+given_next : (orders : List Order) (order : Order) (r : Result Row RowFault) → IsNext orders order
     → r ≡ Ok (rows.Give order) → (meant : Row) → r ≡ Ok meant → IsNextRow orders meant
 given_next orders order r next is meant same =
     subst (IsNextRow orders) (same_row r (rows.Give order) meant is same) next
 
-fault_next : (orders : List Order) (kind : BookFaultKind) (meant : Row) → Err kind ≡ Ok meant → IsNextRow orders meant
+fault_next : (orders : List Order) (kind : RowFault) (meant : Row) → Err kind ≡ Ok meant → IsNextRow orders meant
 fault_next orders kind meant is = absurd (cc is)
 
-either_next : (orders : List Order) (test : Bool) (a b : Result Row BookFaultKind)
+either_next : (orders : List Order) (test : Bool) (a b : Result Row RowFault)
     → ((meant : Row) → a ≡ Ok meant → IsNextRow orders meant) → ((meant : Row) → b ≡ Ok meant → IsNextRow orders meant)
     → (meant : Row) → cond test a b ≡ Ok meant → IsNextRow orders meant
 either_next orders true a b first second = first
@@ -81,7 +81,7 @@ found_there {X = X} test (y ∷ xs) x is = by_test (test y) (found_there test xs
     by_test true rest found = (0, omega arith, same found)
     by_test false rest found = later (rest found)
 
-same_known : (r : Result Order BookFaultKind) (a b : Order) → r ≡ Ok a → r ≡ Ok b → a ≡ b
+same_known : (r : Result Order RowFault) (a b : Order) → r ≡ Ok a → r ≡ Ok b → a ≡ b
 same_known r a b one other = cc
 
 known_there : (orders : List Order) (name : List ℕ) (first : Order) → known_name orders name ≡ Ok first

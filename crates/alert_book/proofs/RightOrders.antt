@@ -11,8 +11,8 @@ use Rattle.std.proofs.lemmas.List.Elements.{All-nil, All-push}
 use Rattle.std.proofs.lemmas.List.Filters.{length-filter_both}
 use Rattle.cbsp_wire.specs.declared.message.Cell.{Cell}
 use Rattle.cbsp_wire.specs.Range.{are_distinct, cells_are_valid, is_cell, is_nothing, is_period}
-use Rattle.alert_book.specs.declared.fault.BookFaultKind.{BookFaultKind}
-use Rattle.alert_book.specs.declared.fault.BookFaultKind.TheVariants as fault
+use Rattle.alert_book.specs.declared.fault.RowFault.{RowFault}
+use Rattle.alert_book.specs.declared.fault.RowFault.TheVariants as fault
 use Rattle.alert_book.specs.declared.order.Action.{Action}
 use Rattle.alert_book.specs.declared.order.Action.TheVariants as action
 use Rattle.alert_book.specs.declared.order.Order.{Order}
@@ -135,7 +135,7 @@ listed_some part (octet ∷ text) cells is = elim (cases_Bool (is_space octet)) 
 ]
 
 -- the cells of a field may be asked where those declared are valid
-same_cells : (r : Result (List Cell) BookFaultKind) (a b : List Cell) → r ≡ Ok a → r ≡ Ok b → a ≡ b
+same_cells : (r : Result (List Cell) RowFault) (a b : List Cell) → r ≡ Ok a → r ≡ Ok b → a ≡ b
 same_cells r a b one other = cc
 
 all_asked : (declared cells : List Cell) → cells_are_valid declared ≡ true → all_of declared ≡ Ok cells →
@@ -203,13 +203,13 @@ pub record IsRight (sending : Sending) : Type 0 where
   pub period : is_period sending.period ≡ true
   pub cells : AreAsked sending.cells
 
-pub right_gives : {A B : Type 0} (P : B → Type 0) (r : Result A BookFaultKind) (next : A → Result B BookFaultKind) →
+pub right_gives : {A B : Type 0} (P : B → Type 0) (r : Result A RowFault) (next : A → Result B RowFault) →
     ((value : A) → r ≡ Ok value → (made : B) → next value ≡ Ok made → P made) →
     (made : B) → if_right r next ≡ Ok made → P made
 right_gives {A} {B} P (Ok value) next gives made is = gives value refl made is
 right_gives {A} {B} P (Err kind) next gives made is = absurd (cc is)
 
-same_sending : (r : Result Sending BookFaultKind) (a b : Sending) → r ≡ Ok a → r ≡ Ok b → a ≡ b
+same_sending : (r : Result Sending RowFault) (a b : Sending) → r ≡ Ok a → r ≡ Ok b → a ≡ b
 same_sending r a b one other = cc
 
 -- what a row has cells send is
@@ -240,18 +240,18 @@ abbrev IsRightRow : Row → Type 0
 IsRightRow (rows.Declare cell) = Unit {0}
 IsRightRow (rows.Give order) = IsRightAction order.action
 
-same_row : (r : Result Row BookFaultKind) (a b : Row) → r ≡ Ok a → r ≡ Ok b → a ≡ b
+same_row : (r : Result Row RowFault) (a b : Row) → r ≡ Ok a → r ≡ Ok b → a ≡ b
 same_row r a b one other = cc
 
-given_right : (order : Order) (r : Result Row BookFaultKind) → IsRightAction order.action → r ≡ Ok (rows.Give order) →
+given_right : (order : Order) (r : Result Row RowFault) → IsRightAction order.action → r ≡ Ok (rows.Give order) →
     (meant : Row) → r ≡ Ok meant → IsRightRow meant
 given_right order r right is meant same =
     subst IsRightRow (same_row r (rows.Give order) meant is same) right
 
-fault_right : (kind : BookFaultKind) (meant : Row) → Err kind ≡ Ok meant → IsRightRow meant
+fault_right : (kind : RowFault) (meant : Row) → Err kind ≡ Ok meant → IsRightRow meant
 fault_right kind meant is = absurd (cc is)
 
-either_right : (test : Bool) (a b : Result Row BookFaultKind) → ((meant : Row) → a ≡ Ok meant → IsRightRow meant) →
+either_right : (test : Bool) (a b : Result Row RowFault) → ((meant : Row) → a ≡ Ok meant → IsRightRow meant) →
     ((meant : Row) → b ≡ Ok meant → IsRightRow meant) → (meant : Row) → cond test a b ≡ Ok meant → IsRightRow meant
 either_right true a b first second = first
 either_right false a b first second = second

@@ -9,8 +9,8 @@ use Rattle.std.proofs.lemmas.Str.{IsUtf8-from_is_utf8, IsUtf8-nil}
 use Rattle.std.proofs.lemmas.List.Elements.{All-nil, All-push}
 use Rattle.csv.specs.Records.{field_at}
 use Rattle.cbsp_wire.specs.declared.message.Cell.{Cell}
-use Rattle.alert_book.specs.declared.fault.BookFaultKind.{BookFaultKind}
-use Rattle.alert_book.specs.declared.fault.BookFaultKind.TheVariants as fault
+use Rattle.alert_book.specs.declared.fault.RowFault.{RowFault}
+use Rattle.alert_book.specs.declared.fault.RowFault.TheVariants as fault
 use Rattle.alert_book.specs.declared.order.Action.TheVariants as action
 use Rattle.alert_book.specs.declared.order.Alert.{Alert}
 use Rattle.alert_book.specs.declared.order.Order.{Order}
@@ -38,24 +38,24 @@ column_is_text (f ∷ fs) (suc place) texts =
     column_is_text fs place (and_parts (is_utf8 f) (list_all is_utf8 fs) texts).1
 
 -- what a field's value leads to
-abbrev IfOk : {A : Type 0} → (A → Type 0) → Result A BookFaultKind → Type 0
+abbrev IfOk : {A : Type 0} → (A → Type 0) → Result A RowFault → Type 0
 IfOk P (Ok value) = P value
 IfOk P (Err kind) = ⊤
 
-if_right-ok : {A B : Type 0} (P : B → Type 0) (field : Result A BookFaultKind) (next : A → Result B BookFaultKind)
+if_right-ok : {A B : Type 0} (P : B → Type 0) (field : Result A RowFault) (next : A → Result B RowFault)
     → ((value : A) → IfOk P (next value)) → IfOk P (if_right field next)
 if_right-ok P (Ok value) next each = each value
 if_right-ok P (Err kind) next each = tt
 
 -- and what it leads to with what is known of it
-if_right-known : {A B : Type 0} (P : B → Type 0) (Q : A → Type 0) (field : Result A BookFaultKind)
-    (next : A → Result B BookFaultKind) → IfOk Q field → ((value : A) → Q value → IfOk P (next value))
+if_right-known : {A B : Type 0} (P : B → Type 0) (Q : A → Type 0) (field : Result A RowFault)
+    (next : A → Result B RowFault) → IfOk Q field → ((value : A) → Q value → IfOk P (next value))
     → IfOk P (if_right field next)
 if_right-known P Q (Ok value) next known each = each value known
 if_right-known P Q (Err kind) next known each = tt
 
 -- a test that leads to a fault
-fault-ok : {A : Type 0} (P : A → Type 0) (test : Bool) (kind : BookFaultKind) (else : Result A BookFaultKind)
+fault-ok : {A : Type 0} (P : A → Type 0) (test : Bool) (kind : RowFault) (else : Result A RowFault)
     → IfOk P else → IfOk P (cond test (Err kind) else)
 fault-ok P true kind else ok = tt
 fault-ok P false kind else ok = ok
@@ -108,7 +108,7 @@ cell_row_has declared fields =
 write_row_has : (row : ℕ) (declared : List Cell) (orders : List Order) (fields : List (List ℕ))
     → are_texts fields ≡ true → IfOk RowHasText (write_row row declared orders fields)
 write_row_has row declared orders fields texts =
-    let given : ℕ → List ℕ → Alert → Sending → Result Row BookFaultKind = λ at name alert sending.
+    let given : ℕ → List ℕ → Alert → Sending → Result Row RowFault = λ at name alert sending.
     Ok (rows.Give (order_with row at name (count_by is_write orders) alert (action.Write sending))) in
     if_right-ok RowHasText (number 0 65535 (column fields 1))
     (λ at. if_right (new_name orders (column fields 2)) (λ name. if_right (alert_at fields 3) (λ alert.
@@ -124,7 +124,7 @@ update_row_has : (row : ℕ) (declared : List Cell) (orders : List Order) (field
     → are_texts fields ≡ true → IfOk RowHasText (update_row row declared orders fields)
 update_row_has row declared orders fields texts =
     let earlier : ℕ = count_by (is_update_of (column fields 2)) orders in
-    let given : ℕ → Order → Sending → Result Row BookFaultKind = λ at first sending.
+    let given : ℕ → Order → Sending → Result Row RowFault = λ at first sending.
     update_with row at (column fields 2) first earlier sending in
     if_right-ok RowHasText (number 0 65535 (column fields 1))
     (λ at. if_right (known_name orders (column fields 2)) (λ first.
@@ -141,7 +141,7 @@ update_row_has row declared orders fields texts =
 stop_row_has : (row : ℕ) (declared : List Cell) (orders : List Order) (fields : List (List ℕ))
     → IfOk RowHasText (stop_row row declared orders fields)
 stop_row_has row declared orders fields =
-    let given : ℕ → Order → List Cell → Result Row BookFaultKind = λ at first cells.
+    let given : ℕ → Order → List Cell → Result Row RowFault = λ at first cells.
     Ok (rows.Give (order_with row at (column fields 2) first.number first.alert (action.Stop cells))) in
     if_right-ok RowHasText (number 0 65535 (column fields 1))
     (λ at. if_right (known_name orders (column fields 2)) (λ first.
@@ -166,7 +166,7 @@ row_after_verb_has (Some verb) row declared orders fields texts =
     by_columns (length fields == columns_of verb) (row_of_verb verb row declared orders fields)
     (row_of_verb_has verb row declared orders fields texts)
   where
-    by_columns : (test : Bool) (right : Result Row BookFaultKind) → IfOk RowHasText right
+    by_columns : (test : Bool) (right : Result Row RowFault) → IfOk RowHasText right
         → IfOk RowHasText (cond test right (Err fault.Columns))
     by_columns true right ok = ok
     by_columns false right ok = tt
@@ -199,7 +199,7 @@ rows_have (fields ∷ more) row before after all read =
     by_row (row_of row before.cells before.orders fields) (row_has row before.cells before.orders fields)
     (λ next. rows_have more (row + 1) next after) read
   where
-    by_row : (meant : Result Row BookFaultKind) → IfOk RowHasText meant
+    by_row : (meant : Result Row RowFault) → IfOk RowHasText meant
         → ((next : Rows) → All HasUtf8Text next.orders → rows_read (row + 1) next more ≡ Ok after
         → All HasUtf8Text after.orders)
         → after_row row before meant (λ next. rows_read (row + 1) next more) ≡ Ok after

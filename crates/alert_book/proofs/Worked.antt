@@ -5,6 +5,7 @@ use Rattle.std.specs.Str.{chars, is_utf8}
 use Rattle.csv.specs.Records.{field_at}
 use Rattle.cbsp_wire.specs.declared.message.Cell.{Cell}
 use Rattle.alert_book.specs.declared.fault.BookFaultKind.TheVariants as fault
+use Rattle.alert_book.specs.declared.fault.RowFault.TheVariants as row_fault
 use Rattle.alert_book.specs.Number.{number_within}
 use Rattle.alert_book.specs.Cells.{cell_named, cell_with, cells_listed, cells_of_field}
 use Rattle.alert_book.specs.declared.order.Action.TheVariants as action
@@ -50,7 +51,7 @@ category_background = refl
 category_normal : category (codes "2") ≡ Ok 2
 category_normal = refl
 
-category_of_none : category (codes "3") ≡ Err fault.Number
+category_of_none : category (codes "3") ≡ Err row_fault.Number
 category_of_none = refl
 
 -- cells: a LAC, a dash, a CI, and one space between two
@@ -79,19 +80,19 @@ the_cells = cell_with 1 1 ∷ cell_with 1 2 ∷ []
 field_all : cells_of_field the_cells (codes "*") ≡ Ok the_cells
 field_all = refl
 
-field_none_declared : cells_of_field [] (codes "*") ≡ Err fault.UnknownCell
+field_none_declared : cells_of_field [] (codes "*") ≡ Err row_fault.UnknownCell
 field_none_declared = refl
 
-field_unknown : cells_of_field the_cells (codes "1-3") ≡ Err fault.UnknownCell
+field_unknown : cells_of_field the_cells (codes "1-3") ≡ Err row_fault.UnknownCell
 field_unknown = refl
 
-field_twice : cells_of_field the_cells (codes "1-1 01-1") ≡ Err fault.TwiceNamed
+field_twice : cells_of_field the_cells (codes "1-1 01-1") ≡ Err row_fault.TwiceNamed
 field_twice = refl
 
-field_form_first : cells_of_field the_cells (codes "1-3 1-1 1-1 x") ≡ Err fault.Number
+field_form_first : cells_of_field the_cells (codes "1-3 1-1 1-1 x") ≡ Err row_fault.Number
 field_form_first = refl
 
-field_unknown_first : cells_of_field the_cells (codes "1-1 1-1 1-3") ≡ Err fault.UnknownCell
+field_unknown_first : cells_of_field the_cells (codes "1-1 1-1 1-3") ≡ Err row_fault.UnknownCell
 field_unknown_first = refl
 
 field_in_its_order : cells_of_field the_cells (codes "1-2 1-1") ≡ Ok (cell_with 1 2 ∷ cell_with 1 1 ∷ [])

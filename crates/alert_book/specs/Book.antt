@@ -15,6 +15,8 @@ use Rattle.cbsp_wire.specs.declared.message.Cell.{Cell}
 use Rattle.alert_book.specs.declared.fault.BookFault.{BookFault}
 use Rattle.alert_book.specs.declared.fault.BookFaultKind.{BookFaultKind}
 use Rattle.alert_book.specs.declared.fault.BookFaultKind.TheVariants as fault
+use Rattle.alert_book.specs.declared.fault.RowFault.{RowFault}
+use Rattle.alert_book.specs.declared.fault.RowFault.TheVariants as row_fault
 use Rattle.alert_book.specs.declared.order.Action.{Action}
 use Rattle.alert_book.specs.declared.order.Action.TheVariants as action
 use Rattle.alert_book.specs.declared.order.Order.{Order}
@@ -42,10 +44,22 @@ with_row before (rows.Give order) = rows_with before.cells (before.orders ++ ord
 abbrev pub fault_at : ℕ → BookFaultKind → BookFault
 fault_at row kind = record { row = row; kind = kind }
 
+-- what is told of a row's fault
+abbrev pub kind_of : RowFault → BookFaultKind
+kind_of row_fault.Columns = fault.Columns
+kind_of row_fault.Verb = fault.Verb
+kind_of row_fault.Number = fault.Number
+kind_of row_fault.UnknownCell = fault.UnknownCell
+kind_of row_fault.TwiceNamed = fault.TwiceNamed
+kind_of row_fault.UnknownName = fault.UnknownName
+kind_of row_fault.TooManyUpdates = fault.TooManyUpdates
+kind_of row_fault.TooManyRows = fault.TooManyRows
+kind_of row_fault.Refused = fault.Refused
+
 -- what comes of the rows after a row that is right; a wrong one's fault is the book's
-abbrev pub after_row : ℕ → Rows → Result Row BookFaultKind → (Rows → Result Rows BookFault) → Result Rows BookFault
+abbrev pub after_row : ℕ → Rows → Result Row RowFault → (Rows → Result Rows BookFault) → Result Rows BookFault
 after_row row before (Ok meant) next = next (with_row before meant)
-after_row row before (Err kind) next = Err (fault_at row kind)
+after_row row before (Err fault) next = Err (fault_at row (kind_of fault))
 
 -- what the rows from this number on mean after those before them, or the fault of the first that is wrong
 abbrev pub rows_read : ℕ → Rows → List (List (List ℕ)) → Result Rows BookFault
@@ -132,7 +146,7 @@ unread = fault_at 0 fault.ReadFailed
 abbrev pub too_long : BookFault
 too_long = fault_at 0 fault.TooManyRows
 
--- why octets within the bound are no book, want of memory aside: a row's fault, or else a text's
+-- why octets within the bound are no book, out of memory aside: a row's fault, or else a text's
 abbrev pub IsWrong : List ℕ → BookFault → Type 0
 IsWrong input f = (length input ≤ max_input) × (IsRowFault input f ⊎ HasTextFault input f)
 

@@ -5,8 +5,8 @@ use Rattle.std.specs.List.{before_first, after_first, list_all, list_any}
 use Rattle.std.specs.Str.{bytes_eq}
 use Rattle.cbsp_wire.specs.declared.message.Cell.{Cell}
 use Rattle.cbsp_wire.specs.Range.{is_cell, are_distinct}
-use Rattle.alert_book.specs.declared.fault.BookFaultKind.{BookFaultKind}
-use Rattle.alert_book.specs.declared.fault.BookFaultKind.TheVariants as fault
+use Rattle.alert_book.specs.declared.fault.RowFault.{RowFault}
+use Rattle.alert_book.specs.declared.fault.RowFault.TheVariants as fault
 use Rattle.alert_book.specs.Number.{number_within}
 
 abbrev pub cell_with : (lac ci : ℕ) → Cell
@@ -57,17 +57,17 @@ abbrev pub is_among : List Cell → Cell → Bool
 is_among declared cell = list_any (λ c. is_cell c cell) declared
 
 -- cells that a row lists: the first of these faults that applies
-abbrev pub judged : List Cell → Option (List Cell) → Result (List Cell) BookFaultKind
+abbrev pub judged : List Cell → Option (List Cell) → Result (List Cell) RowFault
 judged declared None = Err fault.Number
 judged declared (Some cells) =
     if list_all (is_among declared) cells then (if are_distinct cells then Ok cells else Err fault.TwiceNamed)
     else Err fault.UnknownCell
 
-abbrev pub all_of : List Cell → Result (List Cell) BookFaultKind
+abbrev pub all_of : List Cell → Result (List Cell) RowFault
 all_of [] = Err fault.UnknownCell
 all_of (cell ∷ cells) = Ok (cell ∷ cells)
 
 -- the cells of a row's field, where earlier rows declare these
-abbrev pub cells_of_field : List Cell → List ℕ → Result (List Cell) BookFaultKind
+abbrev pub cells_of_field : List Cell → List ℕ → Result (List Cell) RowFault
 cells_of_field declared field =
     if bytes_eq field (codes "*") then all_of declared else judged declared (cells_listed field)

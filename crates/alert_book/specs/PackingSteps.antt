@@ -20,7 +20,7 @@ pub record HasBadText (order : Order) (f : BookFault) : Type 0 where
   pub told : why ≢ text.Refused
   pub named : f ≡ fault_at order.row (fault.Text why)
 
--- the pages of the order's text, or its fault, or that there was no memory for them
+-- the pages of the order's text, or its fault, or out of memory
 abbrev pub IsPacked : Order → Result (Option Paged) BookFault → Type 0
 IsPacked order (Ok paged) = ArePagesOf (sending_of order.action) paged
 IsPacked order (Err f) = (f ≡ refused) ⊎ HasBadText order f

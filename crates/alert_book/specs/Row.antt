@@ -3,8 +3,8 @@ use Rattle.std.specs.Prelude.{ℕ, ◌+◌, ◌==◌, ◌&&◌, not, nat_le, nat
 use Rattle.std.specs.Prelude.{None, List, length, count_by, codes, Result, Ok, Err}
 use Rattle.std.specs.Str.{bytes_eq}
 use Rattle.cbsp_wire.specs.declared.message.Cell.{Cell}
-use Rattle.alert_book.specs.declared.fault.BookFaultKind.{BookFaultKind}
-use Rattle.alert_book.specs.declared.fault.BookFaultKind.TheVariants as fault
+use Rattle.alert_book.specs.declared.fault.RowFault.{RowFault}
+use Rattle.alert_book.specs.declared.fault.RowFault.TheVariants as fault
 use Rattle.alert_book.specs.declared.order.Action.{Action}
 use Rattle.alert_book.specs.declared.order.Action.TheVariants as action
 use Rattle.alert_book.specs.declared.order.Alert.{Alert}
@@ -66,11 +66,11 @@ order_with row at name number alert action =
     record { row = row; at = at; name = name; number = number; alert = alert; action = action }
 
 -- a cell that no earlier row declares
-abbrev pub new_cell : List Cell → Cell → Result Row BookFaultKind
+abbrev pub new_cell : List Cell → Cell → Result Row RowFault
 new_cell declared cell = if is_among declared cell then Err fault.TwiceNamed else Ok (rows.Declare cell)
 
 -- `cell`, LAC, CI
-abbrev pub cell_row : List Cell → List (List ℕ) → Result Row BookFaultKind
+abbrev pub cell_row : List Cell → List (List ℕ) → Result Row RowFault
 cell_row declared fields =
     if nat_le max_cells (length declared) then Err fault.TooManyRows
     else
@@ -79,7 +79,7 @@ cell_row declared fields =
     new_cell declared (cell_with lac ci)))
 
 -- `write`, AT, NAME, ID, SCOPE, CODE, LANG, CATEGORY, PERIOD, BROADCASTS, CELLS, TEXT
-abbrev pub write_row : (row : ℕ) → List Cell → List Order → List (List ℕ) → Result Row BookFaultKind
+abbrev pub write_row : (row : ℕ) → List Cell → List Order → List (List ℕ) → Result Row RowFault
 write_row row declared orders fields =
     if_right (number 0 65535 (column fields 1)) (λ at.
     if_right (new_name orders (column fields 2)) (λ name.
@@ -88,13 +88,13 @@ write_row row declared orders fields =
     Ok (rows.Give (order_with row at name (count_by is_write orders) alert (action.Write sending)))))))
 
 -- an update of a name with this first order, where it isn't one too many
-abbrev pub update_with : (row at : ℕ) → List ℕ → Order → (earlier : ℕ) → Sending → Result Row BookFaultKind
+abbrev pub update_with : (row at : ℕ) → List ℕ → Order → (earlier : ℕ) → Sending → Result Row RowFault
 update_with row at name first earlier sending =
     if nat_le max_updates earlier then Err fault.TooManyUpdates
     else Ok (rows.Give (order_with row at name first.number first.alert (action.Update (earlier + 1) sending)))
 
 -- `update`, AT, NAME, LANG, CATEGORY, PERIOD, BROADCASTS, CELLS, TEXT
-abbrev pub update_row : (row : ℕ) → List Cell → List Order → List (List ℕ) → Result Row BookFaultKind
+abbrev pub update_row : (row : ℕ) → List Cell → List Order → List (List ℕ) → Result Row RowFault
 update_row row declared orders fields =
     if_right (number 0 65535 (column fields 1)) (λ at.
     if_right (known_name orders (column fields 2)) (λ first.
@@ -102,26 +102,26 @@ update_row row declared orders fields =
     update_with row at (column fields 2) first (count_by (is_update_of (column fields 2)) orders) sending)))
 
 -- `stop`, AT, NAME, CELLS
-abbrev pub stop_row : (row : ℕ) → List Cell → List Order → List (List ℕ) → Result Row BookFaultKind
+abbrev pub stop_row : (row : ℕ) → List Cell → List Order → List (List ℕ) → Result Row RowFault
 stop_row row declared orders fields =
     if_right (number 0 65535 (column fields 1)) (λ at.
     if_right (known_name orders (column fields 2)) (λ first.
     if_right (cells_of_field declared (column fields 3)) (λ cells.
     Ok (rows.Give (order_with row at (column fields 2) first.number first.alert (action.Stop cells))))))
 
-abbrev pub row_of_verb : Verb → (row : ℕ) → List Cell → List Order → List (List ℕ) → Result Row BookFaultKind
+abbrev pub row_of_verb : Verb → (row : ℕ) → List Cell → List Order → List (List ℕ) → Result Row RowFault
 row_of_verb verbs.Cell row declared orders fields = cell_row declared fields
 row_of_verb verbs.Write row declared orders fields = write_row row declared orders fields
 row_of_verb verbs.Update row declared orders fields = update_row row declared orders fields
 row_of_verb verbs.Stop row declared orders fields = stop_row row declared orders fields
 
-abbrev pub row_after_verb : Option Verb → (row : ℕ) → List Cell → List Order → List (List ℕ) → Result Row BookFaultKind
+abbrev pub row_after_verb : Option Verb → (row : ℕ) → List Cell → List Order → List (List ℕ) → Result Row RowFault
 row_after_verb None row declared orders fields = Err fault.Verb
 row_after_verb (Some verb) row declared orders fields =
     if length fields == columns_of verb then row_of_verb verb row declared orders fields else Err fault.Columns
 
 -- what the row of this number means, where the rows before it declare these cells and give these orders
-abbrev pub row_of : (row : ℕ) → List Cell → List Order → List (List ℕ) → Result Row BookFaultKind
+abbrev pub row_of : (row : ℕ) → List Cell → List Order → List (List ℕ) → Result Row RowFault
 row_of row declared orders fields =
     if nat_lt max_rows row then Err fault.TooManyRows
     else if not (are_texts fields) then Err fault.Columns

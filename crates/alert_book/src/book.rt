@@ -3,11 +3,11 @@
 ghost use Rattle.std.specs.Prelude.{◌≡◌, ◌≢◌, ◌⊎◌, ◌↔◌, ◌+◌, ◌≤◌, Some, None, false, true, length, IfErr, IfOk};
 ghost use Rattle.std.specs.Prelude.{All, IsErrOf, IsTrue, OnErr, OnOk};
 ghost use Rattle.device_ends.specs.Source.{reader_of, source_failed};
-ghost use Rattle.alert_book.specs.Book.{fault_at, refused, unread, AreRowsOf, IsBook, IsRowFault, IsWrong};
+ghost use Rattle.alert_book.specs.Book.{fault_at, kind_of, refused, unread, AreRowsOf, IsBook, IsRowFault, IsWrong};
 ghost use Rattle.alert_book.specs.Book.{ReadsBook, RefusesBook};
 ghost use Rattle.alert_book.specs.SendableSteps.{IsSendable};
 
-use crate::fault::{BookFault, BookFaultKind, fault_of_book};
+use crate::fault::{BookFault, BookFaultKind, RowFault, fault_of_book};
 use crate::order::Order;
 use crate::packing::all_pages;
 use crate::row::{Row, row_of};
@@ -99,14 +99,13 @@ impl Known {
     ghost use Rattle.alert_book.specs.declared.row.Row.{Row};
 
     /// Reads the row of this number.
-    fn read(&mut self, alloc: Global, row: u16, fields: ByteRecord) -> Result<(), BookFaultKind>
+    fn read(&mut self, alloc: Global, row: u16, fields: ByteRecord) -> Result<(), RowFault>
         requires { length self.old.orders ≤ 4096 }
-        ensures right { OnOk result ((meant : Row) ×
+        ensures ok { OnOk result ((meant : Row) ×
             (row_of row self.old.cells self.old.orders (fields_of fields) ≡ Ok meant)
             × (self.new ≡ with_row self.old meant)) }
-        ensures wrong { IfErr result (λ kind. kind ≢ BookFaultKind.Refused →
-            row_of row self.old.cells self.old.orders (fields_of fields) ≡ Err kind) }
-        ensures unread { IfErr result (λ kind. kind ≢ BookFaultKind.ReadFailed) }
+        ensures err { IfErr result (λ fault. fault ≢ RowFault.Refused →
+            row_of row self.old.cells self.old.orders (fields_of fields) ≡ Err fault) }
     {
         match row_of(alloc, row, &self.cells, &self.orders, fields)? {
             Row::Declare(cell) => self.cells.push(cell)?,
@@ -116,21 +115,23 @@ impl Known {
     }
 }
 
-/// The fault of a book whose row of this number is wrong.
-fn row_fault(row: u16, kind: BookFaultKind) -> BookFault
-    ensures { (result ≡ refused) ⊎ ((kind ≢ BookFaultKind.Refused) × (result ≡ fault_at row kind)) }
+/// The fault of a book whose row of this number has one.
+fn fault_of_row(row: u16, fault: RowFault) -> BookFault
+    ensures { (result ≡ refused) ⊎ ((fault ≢ RowFault.Refused) × (result ≡ fault_at row (kind_of fault))) }
 {
-    match kind {
-        BookFaultKind::Refused => fault_of_book(BookFaultKind::Refused),
-        _ => BookFault { row, kind },
+    match fault {
+        RowFault::Refused => fault_of_book(BookFaultKind::Refused),
+        _ => BookFault {
+            row,
+            kind: fault.kind(),
+        },
     }
 }
 
 /// The rows of a book's octets.
 fn known_of(alloc: Global, octets: &[u8]) -> Result<Known, BookFault>
-    ensures right { IfOk result (λ known. AreRowsOf octets.now known) }
-    ensures wrong { IfErr result (λ fault. (fault ≡ refused) ⊎ IsRowFault octets.now fault) }
-    ensures unread { IfErr result (λ fault. fault ≢ unread) }
+    ensures ok { IfOk result (λ known. AreRowsOf octets.now known) }
+    ensures err { IfErr result (λ fault. (fault ≡ refused) ⊎ IsRowFault octets.now fault) }
 {
     let mut known = Known {
         cells: Vec::new(alloc),
@@ -148,7 +149,7 @@ fn known_of(alloc: Global, octets: &[u8]) -> Result<Known, BookFault>
         row += 1;
         match known.read(alloc, row, fields) {
             Ok(()) => {}
-            Err(kind) => return Err(row_fault(row, kind)),
+            Err(fault) => return Err(fault_of_row(row, fault)),
         }
     }
     Ok(known)
@@ -157,8 +158,8 @@ fn known_of(alloc: Global, octets: &[u8]) -> Result<Known, BookFault>
 /// The book that octets are, if they are one.
 fn book_of<T: AllocGlobal + Threads + Sync>(rt: &T, octets: &[u8]) -> Result<Book, BookFault>
     requires { length octets.now ≤ 16777216 }
-    ensures right { IfOk result (λ book. IsBook octets.now book) }
-    ensures wrong { IfErr result (λ fault. (fault ≡ refused) ⊎ IsWrong octets.now fault) }
+    ensures ok { IfOk result (λ book. IsBook octets.now book) }
+    ensures err { IfErr result (λ fault. (fault ≡ refused) ⊎ IsWrong octets.now fault) }
     ensures unread { IfErr result (λ fault. fault ≢ unread) }
 {
     let known = known_of(rt.alloc(), octets)?;
@@ -170,18 +171,21 @@ fn book_of<T: AllocGlobal + Threads + Sync>(rt: &T, octets: &[u8]) -> Result<Boo
     })
 }
 
-/// Reads a book to its end, or answers its first fault. Faults of rows come before those of texts, and want of memory
-/// may come at any point. The texts are packed side by side, in as many threads as there are processors.
+/// Reads a book to its end. The texts are packed side by side, in as many threads as there are processors.
 ///
-/// `cell,1,1` and then `write,0,a,4370,0,1,en,2,2,0,*,One` is a book of one cell and one order; `cell,1` alone answers
-/// `BookFault { row: 1, kind: BookFaultKind::Columns }`. docs/formats.md has all verbs and columns.
+/// `cell,1,1` and then `write,0,a,4370,0,1,en,2,2,0,*,One` is a book of one cell and one order; `cell,1` alone has
+/// the fault `BookFault { row: 1, kind: BookFaultKind::Columns }`. docs/formats.md has all verbs and columns.
+///
+/// # Errors
+///
+/// The first fault of the book: those of rows come before those of texts, and out of memory may come at any point.
 pub fn read_book<T: AllocGlobal + Threads + Sync, R: Read>(
     rt: &T,
     source: &mut Source<R>,
 ) -> Result<Book, BookFault>
-    ensures right { IfOk result (λ book.
+    ensures ok { IfOk result (λ book.
         ReadsBook (R.remaining (reader_of source.old)) (R.remaining (reader_of source.new)) book) }
-    ensures wrong { IfErr result (λ fault.
+    ensures err { IfErr result (λ fault.
         RefusesBook (R.remaining (reader_of source.old)) (R.remaining (reader_of source.new)) fault) }
 
     // The device, at any reader.

@@ -4,7 +4,7 @@ ghost use Rattle.std.specs.Prelude.{◌≡◌, ◌≢◌, Ok, Err, Some, None, I
 ghost use Rattle.std.specs.List.{list_all};
 ghost use Rattle.alert_book.specs.Cells.{all_of, cell_named, cells_listed, cells_of_field, is_among, judged};
 
-use crate::fault::BookFaultKind;
+use crate::fault::RowFault;
 use crate::number::number_within;
 use cbsp_wire::cells::are_distinct;
 use cbsp_wire::{Cell, Cells};
@@ -59,35 +59,33 @@ pub(crate) fn cells_of_field(
     alloc: Global,
     declared: &[Cell],
     field: &str,
-) -> Result<Cells, BookFaultKind>
-    ensures right { IfOk result (λ cells. cells_of_field declared.now field.now ≡ Ok cells) }
-    ensures wrong { IfErr result (λ kind. kind ≢ BookFaultKind.Refused →
-        cells_of_field declared.now field.now ≡ Err kind) }
-    ensures unread { IfErr result (λ kind. kind ≢ BookFaultKind.ReadFailed) }
+) -> Result<Cells, RowFault>
+    ensures ok { IfOk result (λ cells. cells_of_field declared.now field.now ≡ Ok cells) }
+    ensures err { IfErr result (λ fault. fault ≢ RowFault.Refused →
+        cells_of_field declared.now field.now ≡ Err fault) }
 {
     if field == "*" {
         return all_of(alloc, declared);
     }
     let Some(cells) = cells_listed(alloc, field)? else {
-        return Err(BookFaultKind::Number);
+        return Err(RowFault::Number);
     };
     if !are_declared(declared, &cells.list) {
-        return Err(BookFaultKind::UnknownCell);
+        return Err(RowFault::UnknownCell);
     }
     if !are_distinct(&cells.list) {
-        return Err(BookFaultKind::TwiceNamed);
+        return Err(RowFault::TwiceNamed);
     }
     Ok(cells)
 }
 
 /// All cells that are declared, if there are any.
-fn all_of(alloc: Global, declared: &[Cell]) -> Result<Cells, BookFaultKind>
-    ensures right { IfOk result (λ cells. all_of declared.now ≡ Ok cells) }
-    ensures wrong { IfErr result (λ kind. kind ≢ BookFaultKind.Refused → all_of declared.now ≡ Err kind) }
-    ensures unread { IfErr result (λ kind. kind ≢ BookFaultKind.ReadFailed) }
+fn all_of(alloc: Global, declared: &[Cell]) -> Result<Cells, RowFault>
+    ensures ok { IfOk result (λ cells. all_of declared.now ≡ Ok cells) }
+    ensures err { IfErr result (λ fault. fault ≢ RowFault.Refused → all_of declared.now ≡ Err fault) }
 {
     if declared.is_empty() {
-        return Err(BookFaultKind::UnknownCell);
+        return Err(RowFault::UnknownCell);
     }
     let list = Vec::from_slice(alloc, declared)?;
     Ok(Cells { list })

@@ -1,8 +1,8 @@
 //! Why a book is refused.
 
 ghost use Rattle.std.specs.Prelude.{◌≡◌};
-ghost use Rattle.alert_book.specs.Book.{fault_at};
-ghost use Rattle.alert_book.specs.declared.fault.BookFaultKind.TheVariants.{Refused};
+ghost use Rattle.alert_book.specs.Book.{fault_at, kind_of};
+ghost use Rattle.alert_book.specs.declared.fault.RowFault.TheVariants.{Refused};
 
 use cbs_page::TextFault;
 use std::alloc::{AllocError, AllocFailed};
@@ -42,28 +42,71 @@ pub enum BookFaultKind {
     /// The reader failed.
     #[error("read failed")]
     ReadFailed,
-    /// There was no memory.
+    /// Out of memory.
     #[error("out of memory")]
     Refused,
 }
 
-impl From<AllocError> for BookFaultKind {
-    ghost from_gives = { λ _ kind. kind ≡ Refused };
+/// Why a row isn't taken: what is wrong with its fields, or out of memory. Its octets were read before, and its text is
+/// judged later.
+#[derive(Clone, Copy, Debug, PartialEq, Eq)]
+pub enum RowFault {
+    /// See [`BookFaultKind::Columns`]; so are the others.
+    Columns,
+    /// The verb.
+    Verb,
+    /// A number, or the form of a list of cells.
+    Number,
+    /// A cell that isn't declared.
+    UnknownCell,
+    /// A cell or a name that was given before.
+    TwiceNamed,
+    /// No name, or an unknown one.
+    UnknownName,
+    /// The sixteenth update of a name.
+    TooManyUpdates,
+    /// A row, or a cell, too many.
+    TooManyRows,
+    /// Out of memory.
+    Refused,
+}
 
-    fn from(_refused: AllocError) -> BookFaultKind {
-        BookFaultKind::Refused
+impl RowFault {
+    /// What is told of it.
+    pub(crate) fn kind(self) -> BookFaultKind
+        ensures { result ≡ kind_of self }
+    {
+        match self {
+            RowFault::Columns => BookFaultKind::Columns,
+            RowFault::Verb => BookFaultKind::Verb,
+            RowFault::Number => BookFaultKind::Number,
+            RowFault::UnknownCell => BookFaultKind::UnknownCell,
+            RowFault::TwiceNamed => BookFaultKind::TwiceNamed,
+            RowFault::UnknownName => BookFaultKind::UnknownName,
+            RowFault::TooManyUpdates => BookFaultKind::TooManyUpdates,
+            RowFault::TooManyRows => BookFaultKind::TooManyRows,
+            RowFault::Refused => BookFaultKind::Refused,
+        }
     }
 }
 
-impl<T: Drop> From<AllocFailed<T>> for BookFaultKind {
-    ghost from_gives = { λ _ kind. kind ≡ Refused };
+impl From<AllocError> for RowFault {
+    ghost from_gives = { λ _ fault. fault ≡ Refused };
 
-    fn from(_refused: AllocFailed<T>) -> BookFaultKind {
-        BookFaultKind::Refused
+    fn from(_refused: AllocError) -> RowFault {
+        RowFault::Refused
     }
 }
 
-/// Why a book is refused, and its row, from 1. The row is 0 if the reader failed, memory was refused, or the book has
+impl<T: Drop> From<AllocFailed<T>> for RowFault {
+    ghost from_gives = { λ _ fault. fault ≡ Refused };
+
+    fn from(_refused: AllocFailed<T>) -> RowFault {
+        RowFault::Refused
+    }
+}
+
+/// Why a book is refused, and its row, from 1. The row is 0 if the reader failed, it is out of memory, or the book has
 /// too many octets.
 #[derive(Clone, Copy, Debug, PartialEq, Eq)]
 pub struct BookFault {

@@ -8,7 +8,7 @@ ghost use Rattle.alert_book.specs.Fields.{new_name, number, sending_at};
 ghost use Rattle.alert_book.specs.SendableSteps.{HasSerials, IsSendable};
 
 use crate::cells::cells_of_field;
-use crate::fault::BookFaultKind;
+use crate::fault::RowFault;
 use crate::number::number_within;
 use crate::order::{Alert, Order, Sending, Text};
 use cbsp_wire::Cell;
@@ -16,14 +16,14 @@ use csv::{ByteRecord, StringRecord};
 use std::alloc::{AllocError, Global};
 
 /// The record as text, if each field is UTF-8.
-pub(crate) fn texts_of(fields: ByteRecord) -> Result<StringRecord, BookFaultKind>
+pub(crate) fn texts_of(fields: ByteRecord) -> Result<StringRecord, RowFault>
     ensures same { IfOk result (λ texts. fields_of texts ≡ fields_of fields) }
-    ensures right { IfOk result (λ texts. are_texts (fields_of fields) ≡ true) }
-    ensures wrong { IfErr result (λ kind. (kind ≡ BookFaultKind.Columns) × (are_texts (fields_of fields) ≡ false)) }
+    ensures ok { IfOk result (λ texts. are_texts (fields_of fields) ≡ true) }
+    ensures err { IfErr result (λ fault. (fault ≡ RowFault.Columns) × (are_texts (fields_of fields) ≡ false)) }
 {
     match StringRecord::from_byte_record(fields) {
         Ok(texts) => Ok(texts),
-        Err(_) => Err(BookFaultKind::Columns),
+        Err(_) => Err(RowFault::Columns),
     }
 }
 
@@ -46,21 +46,19 @@ pub(crate) fn copy_of(alloc: Global, field: &str) -> Result<Text, AllocError>
 }
 
 /// The number in a field, if it is in this range.
-pub(crate) fn number(field: &str, least: u16, most: u16) -> Result<u16, BookFaultKind>
+pub(crate) fn number(field: &str, least: u16, most: u16) -> Result<u16, RowFault>
     ensures value { result ≡ number least most field.now }
     ensures range { IfOk result (λ value. (least ≤ value) × (value ≤ most)) }
-    ensures unread { IfErr result (λ kind. kind ≢ BookFaultKind.ReadFailed) }
 {
     match number_within(field, least, most) {
         Some(value) => Ok(value),
-        None => Err(BookFaultKind::Number),
+        None => Err(RowFault::Number),
     }
 }
 
 /// The category in a field.
-fn category(field: &str) -> Result<u8, BookFaultKind>
+fn category(field: &str) -> Result<u8, RowFault>
     ensures value { result ≡ category field.now }
-    ensures unread { IfErr result (λ kind. kind ≢ BookFaultKind.ReadFailed) }
 {
     let value = number(field, 0, 2)?;
     Ok(value as u8)
@@ -82,39 +80,36 @@ fn first_order<'a>(orders: &'a [Order], name: &str) -> Option<&'a Order>
 }
 
 /// Whether a row may write this name.
-pub(crate) fn check_new_name(orders: &[Order], name: &str) -> Result<(), BookFaultKind>
-    ensures right { IfOk result (λ _. new_name orders.now name.now ≡ Ok name.now) }
-    ensures wrong { IfErr result (λ kind. new_name orders.now name.now ≡ Err kind) }
-    ensures unread { IfErr result (λ kind. kind ≢ BookFaultKind.ReadFailed) }
+pub(crate) fn check_new_name(orders: &[Order], name: &str) -> Result<(), RowFault>
+    ensures ok { IfOk result (λ _. new_name orders.now name.now ≡ Ok name.now) }
+    ensures err { IfErr result (λ fault. new_name orders.now name.now ≡ Err fault) }
 {
     if name.is_empty() {
-        return Err(BookFaultKind::UnknownName);
+        return Err(RowFault::UnknownName);
     }
     if first_order(orders, name).is_some() {
-        return Err(BookFaultKind::TwiceNamed);
+        return Err(RowFault::TwiceNamed);
     }
     Ok(())
 }
 
 /// The first order of a name that a row may update or stop.
-pub(crate) fn known_name<'a>(orders: &'a [Order], name: &str) -> Result<&'a Order, BookFaultKind>
-    ensures right { IfOk result (λ order. known_name orders.now name.now ≡ Ok order.now) }
+pub(crate) fn known_name<'a>(orders: &'a [Order], name: &str) -> Result<&'a Order, RowFault>
+    ensures ok { IfOk result (λ order. known_name orders.now name.now ≡ Ok order.now) }
     ensures sendable { IfOk result (λ order. All IsSendable orders.now → IsSendable order.now) }
-    ensures wrong { IfErr result (λ kind. known_name orders.now name.now ≡ Err kind) }
-    ensures unread { IfErr result (λ kind. kind ≢ BookFaultKind.ReadFailed) }
+    ensures err { IfErr result (λ fault. known_name orders.now name.now ≡ Err fault) }
 {
     match first_order(orders, name) {
         Some(order) => Ok(order),
-        None => Err(BookFaultKind::UnknownName),
+        None => Err(RowFault::UnknownName),
     }
 }
 
 /// ID, SCOPE and CODE, from this place on.
-pub(crate) fn alert_at(fields: &StringRecord, place: usize) -> Result<Alert, BookFaultKind>
+pub(crate) fn alert_at(fields: &StringRecord, place: usize) -> Result<Alert, RowFault>
     requires { place ≤ 100 }
     ensures value { result ≡ alert_at (fields_of fields.now) place }
     ensures serials { IfOk result HasSerials }
-    ensures unread { IfErr result (λ kind. kind ≢ BookFaultKind.ReadFailed) }
 {
     let id = number(column(fields, place), 0, u16::MAX)?;
     let scope = number(column(fields, place + 1), 0, 3)? as u8;
@@ -128,12 +123,11 @@ pub(crate) fn sending_at(
     declared: &[Cell],
     fields: &StringRecord,
     place: usize,
-) -> Result<Sending, BookFaultKind>
+) -> Result<Sending, RowFault>
     requires { place ≤ 100 }
-    ensures right { IfOk result (λ sending. sending_at declared.now (fields_of fields.now) place ≡ Ok sending) }
-    ensures wrong { IfErr result (λ kind. kind ≢ BookFaultKind.Refused →
-        sending_at declared.now (fields_of fields.now) place ≡ Err kind) }
-    ensures unread { IfErr result (λ kind. kind ≢ BookFaultKind.ReadFailed) }
+    ensures ok { IfOk result (λ sending. sending_at declared.now (fields_of fields.now) place ≡ Ok sending) }
+    ensures err { IfErr result (λ fault. fault ≢ RowFault.Refused →
+        sending_at declared.now (fields_of fields.now) place ≡ Err fault) }
 {
     let category = category(column(fields, place + 1))?;
     let period = number(column(fields, place + 2), 1, 1024)?;

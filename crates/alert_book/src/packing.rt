@@ -4,7 +4,7 @@ ghost use Rattle.std.specs.Prelude.{◌≡◌, ◌≢◌, ◌⊎◌, Ok, Some, I
 ghost use Rattle.std.specs.List.{AllZip};
 ghost use Rattle.std.specs.Str.{chars};
 ghost use Rattle.cbs_page.specs.Text.{IsTextFault};
-ghost use Rattle.alert_book.specs.Book.{fault_at, refused, sending_of, unread, ArePagesOf, HavePages, HasWrongText};
+ghost use Rattle.alert_book.specs.Book.{fault_at, refused, sending_of, ArePagesOf, HavePages, HasWrongText};
 ghost use Rattle.alert_book.specs.PackingSteps.{IsFirstFault, IsPacked};
 
 use crate::fault::{BookFault, BookFaultKind, fault_of_book};
@@ -19,8 +19,8 @@ const LEAST_TEXTS: usize = 32;
 
 /// The pages of an order's text, if it has one.
 fn pages_of(alloc: Global, order: &Order) -> Result<Option<Paged>, TextFault>
-    ensures right { IfOk result (λ paged. ArePagesOf (sending_of order.now.action) paged) }
-    ensures wrong { IfErr result (λ why. (sending : Sending) × (sending_of order.now.action ≡ Some sending)
+    ensures ok { IfOk result (λ paged. ArePagesOf (sending_of order.now.action) paged) }
+    ensures err { IfErr result (λ why. (sending : Sending) × (sending_of order.now.action ≡ Some sending)
         × IsTextFault sending.language (chars sending.text) why) }
 {
     match &order.action {
@@ -79,8 +79,8 @@ fn in_order(
     alloc: Global,
     packed: Vec<Result<Option<Paged>, BookFault>>,
 ) -> Result<Vec<Option<Paged>>, BookFault>
-    ensures right { IfOk result (λ pages. packed.items ≡ map Ok pages.items) }
-    ensures wrong { IfErr result (λ fault. (fault ≡ refused) ⊎ IsFirstFault packed.items fault) }
+    ensures ok { IfOk result (λ pages. packed.items ≡ map Ok pages.items) }
+    ensures err { IfErr result (λ fault. (fault ≡ refused) ⊎ IsFirstFault packed.items fault) }
 {
     let mut pages = Vec::new(alloc);
     for packed in packed {
@@ -101,9 +101,8 @@ pub(crate) fn all_pages<T: AllocGlobal + Threads + Sync>(
     rt: &T,
     orders: &[Order],
 ) -> Result<Vec<Option<Paged>>, BookFault>
-    ensures right { IfOk result (λ pages. HavePages orders.now pages.items) }
-    ensures wrong { IfErr result (λ fault. (fault ≡ refused) ⊎ HasWrongText orders.now fault) }
-    ensures unread { IfErr result (λ fault. fault ≢ unread) }
+    ensures ok { IfOk result (λ pages. HavePages orders.now pages.items) }
+    ensures err { IfErr result (λ fault. (fault ≡ refused) ⊎ HasWrongText orders.now fault) }
 {
     match pack_each(rt, orders) {
         Ok(packed) => in_order(rt.alloc(), packed),

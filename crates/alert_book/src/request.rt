@@ -12,26 +12,11 @@ use crate::cells::list_of;
 use crate::order::{Action, Alert, Order, Sending};
 use cbs_page::{Paged, Serial};
 use cbsp_wire::{Cell, Cells, Contents, Message};
-use std::alloc::{AllocError, AllocFailed, Global};
+use std::alloc::Global;
 use std::collections::VecDeque;
-use thiserror::Error;
 
-/// There was no memory.
-#[derive(Clone, Copy, Debug, PartialEq, Eq, Error)]
-#[error("out of memory")]
-pub struct Refused;
-
-impl From<AllocError> for Refused {
-    fn from(_error: AllocError) -> Refused {
-        Refused
-    }
-}
-
-impl<T: Drop> From<AllocFailed<T>> for Refused {
-    fn from(_error: AllocFailed<T>) -> Refused {
-        Refused
-    }
-}
+/// Out of memory.
+pub use std::alloc::AllocError as Refused;
 
 /// A message of a session.
 #[derive(Debug, Drop)]

@@ -9,7 +9,7 @@ ghost use Rattle.alert_book.specs.Row.{cell_row, columns_of, is_update_of, is_wr
 ghost use Rattle.alert_book.specs.Row.{row_of_verb, stop_row, update_row, update_with, verb_of, write_row};
 
 use crate::cells::{cells_of_field, is_among};
-use crate::fault::BookFaultKind;
+use crate::fault::RowFault;
 use crate::fields::{
     alert_at, check_new_name, column, copy_of, is_named, known_name, number, sending_at, texts_of,
 };
@@ -82,16 +82,15 @@ pub(crate) fn row_of(
     declared: &[Cell],
     orders: &[Order],
     fields: ByteRecord,
-) -> Result<Row, BookFaultKind>
+) -> Result<Row, RowFault>
     requires { length orders.now ≤ 4096 }
-    ensures right { IfOk result (λ meant. row_of row declared.now orders.now (fields_of fields) ≡ Ok meant) }
+    ensures ok { IfOk result (λ meant. row_of row declared.now orders.now (fields_of fields) ≡ Ok meant) }
     ensures sendable { IfOk result (λ meant. All IsSendable orders.now → IsFine meant) }
-    ensures wrong { IfErr result (λ kind. kind ≢ BookFaultKind.Refused →
-        row_of row declared.now orders.now (fields_of fields) ≡ Err kind) }
-    ensures unread { IfErr result (λ kind. kind ≢ BookFaultKind.ReadFailed) }
+    ensures err { IfErr result (λ fault. fault ≢ RowFault.Refused →
+        row_of row declared.now orders.now (fields_of fields) ≡ Err fault) }
 {
     if row > MAX_ROWS {
-        return Err(BookFaultKind::TooManyRows);
+        return Err(RowFault::TooManyRows);
     }
     let fields = texts_of(fields)?;
     row_after_verb(alloc, row, declared, orders, &fields)
@@ -104,22 +103,21 @@ fn row_after_verb(
     declared: &[Cell],
     orders: &[Order],
     fields: &StringRecord,
-) -> Result<Row, BookFaultKind>
+) -> Result<Row, RowFault>
     requires { length orders.now ≤ 4096 }
-    ensures right { IfOk result (λ meant.
+    ensures ok { IfOk result (λ meant.
         row_after_verb (verb_of (column (fields_of fields.now) 0)) row declared.now orders.now (fields_of fields.now)
         ≡ Ok meant) }
     ensures sendable { IfOk result (λ meant. All IsSendable orders.now → IsFine meant) }
-    ensures wrong { IfErr result (λ kind. kind ≢ BookFaultKind.Refused →
+    ensures err { IfErr result (λ fault. fault ≢ RowFault.Refused →
         row_after_verb (verb_of (column (fields_of fields.now) 0)) row declared.now orders.now (fields_of fields.now)
-        ≡ Err kind) }
-    ensures unread { IfErr result (λ kind. kind ≢ BookFaultKind.ReadFailed) }
+        ≡ Err fault) }
 {
     let Some(verb) = verb_of(column(fields, 0)) else {
-        return Err(BookFaultKind::Verb);
+        return Err(RowFault::Verb);
     };
     if fields.len() != columns_of(verb) {
-        return Err(BookFaultKind::Columns);
+        return Err(RowFault::Columns);
     }
     match verb {
         Verb::Cell => cell_row(declared, fields),
@@ -130,19 +128,18 @@ fn row_after_verb(
 }
 
 /// A row that declares a cell.
-fn cell_row(declared: &[Cell], fields: &StringRecord) -> Result<Row, BookFaultKind>
-    ensures right { IfOk result (λ meant. cell_row declared.now (fields_of fields.now) ≡ Ok meant) }
-    ensures wrong { IfErr result (λ kind. cell_row declared.now (fields_of fields.now) ≡ Err kind) }
-    ensures unread { IfErr result (λ kind. kind ≢ BookFaultKind.ReadFailed) }
+fn cell_row(declared: &[Cell], fields: &StringRecord) -> Result<Row, RowFault>
+    ensures ok { IfOk result (λ meant. cell_row declared.now (fields_of fields.now) ≡ Ok meant) }
+    ensures err { IfErr result (λ fault. cell_row declared.now (fields_of fields.now) ≡ Err fault) }
 {
     if declared.len() >= MAX_CELLS {
-        return Err(BookFaultKind::TooManyRows);
+        return Err(RowFault::TooManyRows);
     }
     let lac = number(column(fields, 1), 0, u16::MAX)?;
     let ci = number(column(fields, 2), 0, u16::MAX)?;
     let cell = Cell { lac, ci };
     if is_among(declared, cell) {
-        return Err(BookFaultKind::TwiceNamed);
+        return Err(RowFault::TwiceNamed);
     }
     Ok(Row::Declare(cell))
 }
@@ -182,13 +179,12 @@ fn write_row(
     declared: &[Cell],
     orders: &[Order],
     fields: &StringRecord,
-) -> Result<Row, BookFaultKind>
+) -> Result<Row, RowFault>
     requires { length orders.now ≤ 4096 }
-    ensures right { IfOk result (λ meant. write_row row declared.now orders.now (fields_of fields.now) ≡ Ok meant) }
+    ensures ok { IfOk result (λ meant. write_row row declared.now orders.now (fields_of fields.now) ≡ Ok meant) }
     ensures sendable { IfOk result (λ meant. All IsSendable orders.now → IsFine meant) }
-    ensures wrong { IfErr result (λ kind. kind ≢ BookFaultKind.Refused →
-        write_row row declared.now orders.now (fields_of fields.now) ≡ Err kind) }
-    ensures unread { IfErr result (λ kind. kind ≢ BookFaultKind.ReadFailed) }
+    ensures err { IfErr result (λ fault. fault ≢ RowFault.Refused →
+        write_row row declared.now orders.now (fields_of fields.now) ≡ Err fault) }
 {
     let at = number(column(fields, 1), 0, u16::MAX)?;
     let name = column(fields, 2);
@@ -212,12 +208,11 @@ fn update_row(
     declared: &[Cell],
     orders: &[Order],
     fields: &StringRecord,
-) -> Result<Row, BookFaultKind>
-    ensures right { IfOk result (λ meant. update_row row declared.now orders.now (fields_of fields.now) ≡ Ok meant) }
+) -> Result<Row, RowFault>
+    ensures ok { IfOk result (λ meant. update_row row declared.now orders.now (fields_of fields.now) ≡ Ok meant) }
     ensures sendable { IfOk result (λ meant. All IsSendable orders.now → IsFine meant) }
-    ensures wrong { IfErr result (λ kind. kind ≢ BookFaultKind.Refused →
-        update_row row declared.now orders.now (fields_of fields.now) ≡ Err kind) }
-    ensures unread { IfErr result (λ kind. kind ≢ BookFaultKind.ReadFailed) }
+    ensures err { IfErr result (λ fault. fault ≢ RowFault.Refused →
+        update_row row declared.now orders.now (fields_of fields.now) ≡ Err fault) }
 {
     let at = number(column(fields, 1), 0, u16::MAX)?;
     let name = column(fields, 2);
@@ -237,15 +232,14 @@ fn update_with(
     first: &Order,
     earlier: usize,
     sending: Sending,
-) -> Result<Row, BookFaultKind>
-    ensures right { IfOk result (λ meant. update_with row at name.now first.now earlier sending ≡ Ok meant) }
+) -> Result<Row, RowFault>
+    ensures ok { IfOk result (λ meant. update_with row at name.now first.now earlier sending ≡ Ok meant) }
     ensures sendable { IfOk result (λ meant. HasSerials first.now.alert → IsFine meant) }
-    ensures wrong { IfErr result (λ kind. kind ≢ BookFaultKind.Refused →
-        update_with row at name.now first.now earlier sending ≡ Err kind) }
-    ensures unread { IfErr result (λ kind. kind ≢ BookFaultKind.ReadFailed) }
+    ensures err { IfErr result (λ fault. fault ≢ RowFault.Refused →
+        update_with row at name.now first.now earlier sending ≡ Err fault) }
 {
     if earlier >= MAX_UPDATES {
-        return Err(BookFaultKind::TooManyUpdates);
+        return Err(RowFault::TooManyUpdates);
     }
     let update = earlier as u8 + 1;
     Ok(Row::Give(Order {
@@ -265,12 +259,11 @@ fn stop_row(
     declared: &[Cell],
     orders: &[Order],
     fields: &StringRecord,
-) -> Result<Row, BookFaultKind>
-    ensures right { IfOk result (λ meant. stop_row row declared.now orders.now (fields_of fields.now) ≡ Ok meant) }
+) -> Result<Row, RowFault>
+    ensures ok { IfOk result (λ meant. stop_row row declared.now orders.now (fields_of fields.now) ≡ Ok meant) }
     ensures sendable { IfOk result (λ meant. All IsSendable orders.now → IsFine meant) }
-    ensures wrong { IfErr result (λ kind. kind ≢ BookFaultKind.Refused →
-        stop_row row declared.now orders.now (fields_of fields.now) ≡ Err kind) }
-    ensures unread { IfErr result (λ kind. kind ≢ BookFaultKind.ReadFailed) }
+    ensures err { IfErr result (λ fault. fault ≢ RowFault.Refused →
+        stop_row row declared.now orders.now (fields_of fields.now) ≡ Err fault) }
 {
     let at = number(column(fields, 1), 0, u16::MAX)?;
     let name = column(fields, 2);

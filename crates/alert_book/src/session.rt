@@ -15,7 +15,7 @@ ghost use Rattle.cbsp_wire.specs.declared.message.Message.{Message};
 use crate::believed::Believed;
 use crate::book::Book;
 use crate::order::Order;
-use crate::outcome::{Outcome, cells_asked, outcome_of, version_said};
+use crate::outcome::{Outcome, cells_asked, outcome_of};
 use crate::request::{Refused, Request, requests_of};
 use crate::versions::Versions;
 use cbs_page::Paged;
@@ -62,7 +62,11 @@ impl<'a> Model for Session<'a> {
 
 impl<'a> Session<'a> {
     /// The session of part `part` of a book that is served in `parts` parts, 1 to 64: of the alerts whose number, from
-    /// 0 in the order of their first rows, leaves it when divided by `parts`. No memory is taken so far.
+    /// 0 in the order of their first rows, leaves it when divided by `parts`.
+    ///
+    /// # Errors
+    ///
+    /// None so far: it takes no memory.
     pub fn new(alloc: Global, book: &'a Book, part: u16, parts: u16) -> Result<Session<'a>, Refused>
         requires { part < parts }
         ensures { IfOk result (λ session. StandsFor session (session_of book.now part parts)) }
@@ -85,7 +89,7 @@ impl<'a> Session<'a> {
     ///
     /// # Errors
     ///
-    /// `Refused` if memory is refused. The session then stands where it stood, and may be asked again.
+    /// `Refused` if out of memory. The session then stands where it stood, and may be asked again.
     pub fn next(&mut self, last: Option<&[u8]>) -> Result<Option<(u16, Vec<u8>)>, Refused>
         ensures next { OnOk result ((reply : Option Message) × IsReply (option_copied last.entry) reply
             × Advances reply self.old self.new) }
@@ -263,9 +267,7 @@ fn keep(versions: &mut Versions, sent: &Option<Request>, outcome: &Option<Outcom
         return;
     };
     for (place, cell) in cells_asked(&request.message).iter().enumerate() {
-        let before = versions.version(request.number, *cell);
-        let version = version_said(request, outcome, *cell, place, before);
-        versions.set(request.number, *cell, version);
+        versions.set_said(request, outcome, *cell, place);
     }
 }
 

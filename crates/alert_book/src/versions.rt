@@ -2,9 +2,11 @@
 
 ghost use Rattle.std.specs.Prelude.{◌≡◌, true, All, OnOk, OnErr, ℕ, None};
 ghost use Rattle.cbsp_wire.specs.declared.message.Cell.{Cell};
+ghost use Rattle.alert_book.specs.Session.{version_said};
 ghost use Rattle.alert_book.specs.VersionSteps.{has_place, kept_version, KeepsVersions, SetsVersion};
 
-use crate::request::Refused;
+use crate::outcome::{Outcome, version_said};
+use crate::request::{Refused, Request};
 use cbsp_wire::Cell;
 use std::alloc::Global;
 use std::collections::HashMap;
@@ -46,7 +48,11 @@ impl Versions {
         }
     }
 
-    /// Makes a place for the version of an alert in a cell. Nothing else changes, also if memory is refused.
+    /// Makes a place for the version of an alert in a cell. Nothing else changes.
+    ///
+    /// # Errors
+    ///
+    /// `Refused` if out of memory; nothing changes then.
     pub fn make_place(&mut self, number: u16, cell: Cell) -> Result<(), Refused>
         ensures keeps { KeepsVersions self.old self.new }
         ensures made { OnOk result (has_place self.new number cell ≡ true) }
@@ -59,13 +65,16 @@ impl Versions {
         Ok(())
     }
 
-    /// Sets the version of an alert in a cell for which there is a place.
-    pub fn set(&mut self, number: u16, cell: Cell, version: Option<u8>)
-        requires { has_place self.old number cell ≡ true }
-        ensures { SetsVersion self.old self.new number cell version }
+    /// Sets what the reply to a request says of a cell that it asked, for which there is a place: the version that is
+    /// believed live there. The cell is looked for at this place first in what the reply says.
+    pub fn set_said(&mut self, request: &Request, outcome: &Outcome, cell: Cell, place: usize)
+        requires { has_place self.old request.now.number cell ≡ true }
+        ensures { SetsVersion self.old self.new request.now.number cell
+            (version_said request.now outcome.now cell (kept_version self.old request.now.number cell)) }
     {
-        if let Some(kept) = self.by_alert_and_cell.get_mut(&(number, cell.lac, cell.ci)) {
-            *kept = version;
+        let key = (request.number, cell.lac, cell.ci);
+        if let Some(kept) = self.by_alert_and_cell.get_mut(&key) {
+            *kept = version_said(request, outcome, cell, place, *kept);
         }
     }
 }

@@ -80,7 +80,7 @@ impl CellBook {
     ///
     /// # Errors
     ///
-    /// `Refused` for want of memory, which a run of no slots doesn't take.
+    /// `Refused` if out of memory, which a run of no slots doesn't take.
     pub fn open(alloc: Global, cell: Cell, slots: u16) -> Result<CellBook, Refused>
         ensures opened { IfOk result (λ book. book ≡ opened cell slots) }
         ensures refused { IfErr result (λ refused. 0 < slots) }
@@ -164,7 +164,7 @@ impl CellBook {
     ///   are reserved;
     /// - else cause 06.
     ///
-    /// Each answer but cause 08 has an entry, which is the only trace of a refusal. Where there is no memory for what
+    /// Each answer but cause 08 has an entry, which is the only trace of a refusal. Where it is out of memory for what
     /// an answer takes, the answer is `Refused` instead, and the book is as it was. The command is one that `orders_of`
     /// gives of a message that was read, or a status.
     pub fn apply(&mut self, command: &Command) -> Answer

@@ -7,25 +7,10 @@ ghost use Rattle.bsc_table.specs.Record.{rank_of, is_background};
 use cbs_page::{Dcs, Serial};
 use cbsp_wire::Contents;
 use scheduler::Rank;
-use std::alloc::{AllocError, Global};
-use thiserror::Error;
+use std::alloc::Global;
 
-/// There was no memory: what was asked is undone.
-#[derive(Clone, Copy, Debug, PartialEq, Eq, Error)]
-#[error("out of memory")]
-pub struct Refused;
-
-impl From<AllocError> for Refused {
-    fn from(_error: AllocError) -> Refused {
-        Refused
-    }
-}
-
-impl From<scheduler::Refused> for Refused {
-    fn from(_error: scheduler::Refused) -> Refused {
-        Refused
-    }
-}
+/// Out of memory: what was asked is undone.
+pub use std::alloc::AllocError as Refused;
 
 /// The category of a message (3GPP TS 48.049, 8.2, Category). Of two broadcasts that are due at the same slot, the one
 /// of the high category is aired before the normal one. What background does is an own rule.
@@ -105,7 +90,7 @@ impl Command {
     ///
     /// # Errors
     ///
-    /// `Refused` for want of memory, which a write alone takes.
+    /// `Refused` if out of memory, which a write alone takes.
     pub fn copy(&self, alloc: Global) -> Result<Command, Refused>
         ensures copied { IfOk result (λ command. command ≡ self.now) }
         ensures refused { IfErr result (λ refused. IsWrite self.now) }

@@ -47,7 +47,7 @@ pub enum Answer {
     Unknown,
     /// The command is refused with this cause (3GPP TS 48.049, 8.2, Cause).
     Cause(u8),
-    /// There was no memory: the cell is as it was.
+    /// Out of memory: the cell is as it was.
     Refused,
 }
 

@@ -60,7 +60,7 @@ impl Table {
     ///
     /// # Errors
     ///
-    /// `Refused` for want of memory.
+    /// `Refused` if out of memory.
     pub fn reserve(&mut self) -> Result<(), Refused>
         ensures same { self.new.all ≡ self.old.all }
         ensures room { OnOk result (0 < self.new.room) }

@@ -4,6 +4,7 @@ ghost use Rattle.std.specs.Prelude.{◌≡◌, ◌↔◌, ◌+◌, ◌*◌, ◌<
 ghost use Rattle.std.specs.Prelude.{OnOk};
 ghost use Rattle.std.specs.Io.KnownBytes.{Appends};
 ghost use Rattle.device_ends.specs.Sink.{sink_failed, writer_of};
+ghost use Rattle.device_ends.specs.Stream.{Writes};
 ghost use Rattle.cbch_blocks.specs.Blocks.{blocks_of_page};
 ghost use Rattle.cbch_blocks.specs.RecordBlocks.{tape_header, tape_of_record};
 ghost use Rattle.cbch_blocks.specs.Slots.{silent_record, with_slot};
@@ -14,27 +15,19 @@ use crate::slot::{put_page, strip_slot};
 use bsc_table::CellRecord;
 use cbsp_wire::Cell;
 use device_ends::{Sink, write_front};
-use std::alloc::{AllocError, Global};
+use std::alloc::Global;
 use std::io::Write;
 use std::marker::Model;
 use thiserror::Error;
+
+/// Out of memory.
+pub use std::alloc::AllocError as Refused;
 
 /// How many octets the header of a tape has.
 const HEADER: usize = 8;
 
 /// How many octets the blocks of a slot have.
 const SLOT: usize = 92;
-
-/// Memory was refused.
-#[derive(Clone, Copy, Debug, PartialEq, Eq, Error)]
-#[error("out of memory")]
-pub struct Refused;
-
-impl From<AllocError> for Refused {
-    fn from(_error: AllocError) -> Refused {
-        Refused
-    }
-}
 
 /// A tape could not be written whole.
 #[derive(Clone, Copy, Debug, PartialEq, Eq, Error)]
@@ -131,8 +124,8 @@ impl Tape {
     pub fn write_to<W: Write>(&self, sink: &mut Sink<W>) -> Result<(), WriteFailed>
         ensures ok { OnOk result (Appends (W.contents (writer_of sink.old))
             (W.contents (writer_of sink.new)) self.now) }
-        ensures err { IfErr result (λ fault. Appends (W.contents (writer_of sink.old))
-            (W.contents (writer_of sink.new)) (take fault.written self.now)) }
+        ensures err { IfErr result (λ fault. Writes W.contents (λ old new.
+            Appends old new (take fault.written self.now)) sink.old sink.new) }
 
         // At any writer.
         ensures front { IfErr result (λ fault. 0 < length self.now → fault.written < length self.now) }
@@ -166,7 +159,7 @@ fn header_of(cell: Cell, slots: u16) -> [u8; HEADER]
 ///
 /// # Errors
 ///
-/// Returns [`Refused`] if memory was refused.
+/// Returns [`Refused`] if out of memory.
 pub fn tape_of(alloc: Global, run: &CellRecord) -> Result<Tape, Refused>
     ensures { IfOk result (λ tape. tape ≡ tape_of_record run.now) }
 {

@@ -6,6 +6,7 @@ pub mod TextLaws
 pub mod PaginateLaws
 pub mod LongTexts
 pub mod PlainLaws
+pub mod OwnSeptets
 pub mod CodingLaws
 pub mod ComesBack
 pub mod OneText

@@ -1,7 +1,8 @@
 -- Steps of paging (own): what a page that is being filled has taken, and what a whole text takes. The contracts of
 -- private functions alone speak of it.
-use Rattle.std.specs.Prelude.{◌≡◌, ℕ, ◌<◌, List, length, map, All}
+use Rattle.std.specs.Prelude.{◌≡◌, ℕ, ◌<◌, ◌==◌, ◌&&◌, not, Bool, List, length, map, All}
 use Rattle.std.specs.List.{flat_map}
+use Rattle.cbs_page.specs.TextSteps.{is_plain}
 use Rattle.cbs_page.specs.Text.{codes_of, AreContentsOf, IsPagingIn}
 use Rattle.cbs_page.specs.declared.content.Content.{Content}
 use Rattle.cbs_page.specs.declared.coding.Alphabet.{Alphabet}
@@ -32,3 +33,7 @@ abbrev pub HoldText : Alphabet → List ℕ → List Content → Type 0
 HoldText alphabet text contents =
     (pieces : List (List ℕ)) × IsPagingIn alphabet text pieces
     × AreContentsOf alphabet (map (flat_map (codes_of alphabet)) pieces) contents
+
+-- a character that is one septet of its own number, and that a text may have: CR ends no text
+abbrev pub is_own_septet : ℕ → Bool
+is_own_septet character = is_plain character && not (character == 13)

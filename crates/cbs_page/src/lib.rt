@@ -11,6 +11,7 @@ pub mod content;
 mod laws;
 pub mod octets;
 pub mod paging;
+mod plain;
 pub mod serial;
 pub mod text;
 

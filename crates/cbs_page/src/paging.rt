@@ -1,17 +1,19 @@
 //! The pages of a text: which alphabet it gets, how it is cut, and what each page holds (3GPP TS 23.041, clause
 //! 9.4.1.2.5; the cutting is this project's own: each page takes all that it can, and an escape pair is never split).
 
-ghost use Rattle.std.specs.Prelude.{◌≡◌, ◌≢◌, ◌≤◌, [], ◌∷◌, length, nat_lt, IfOk, IfErr, position, is_some};
+ghost use Rattle.std.specs.Prelude.{◌≡◌, ◌≢◌, ℕ, ◌≤◌, List, [], ◌∷◌, true, length, nat_lt, IfOk, IfErr, position, is_some};
 ghost use Rattle.std.specs.List.{list_all};
 ghost use Rattle.std.specs.Str.{chars};
 ghost use Rattle.gsm_alphabet.specs.Alphabet.{code_of};
-ghost use Rattle.cbs_page.specs.PagingSteps.{HoldText, TakesPages};
+ghost use Rattle.cbs_page.specs.PagingSteps.{HoldText, TakesPages, is_own_septet};
+ghost use Rattle.cbs_page.specs.Coding.{language_value};
 ghost use Rattle.cbs_page.specs.Text.{is_bad, alphabet_for, coding_for, AreContentsOf, IsTextFault, IsPagedText};
 ghost use Rattle.cbs_page.specs.Text.{ShowsText};
 
 use crate::builder::PageBuilder;
 use crate::coding::{Alphabet, Dcs, language_dcs};
 use crate::content::Content;
+use crate::plain::{are_own_septets, contents_of_septets};
 use gsm_alphabet::encode_char;
 use std::alloc::{AllocError, Global};
 use thiserror::Error;
@@ -50,14 +52,17 @@ pub enum TextFault {
     /// The text needs more than 15 pages.
     #[error("too many pages")]
     TooManyPages,
-    /// There was no memory for the pages.
+    /// Out of memory.
     #[error("out of memory")]
     Refused,
 }
 
 /// The pages of a text in a language. The text is GSM 7-bit if that alphabet has each of its characters, with the
-/// language's data coding value, and UCS-2 otherwise. The error is the first of `TextFault` that applies, with out of
-/// memory last.
+/// language's data coding value, and UCS-2 otherwise.
+///
+/// # Errors
+///
+/// The first of [`TextFault`] that applies, with out of memory last.
 pub fn paginate(alloc: Global, text: &str, language: &str) -> Result<Paged, TextFault>
     ensures sent { IfOk result (IsPagedText language.now (chars text.now)) }
     ensures shown { IfOk result (λ paged. ShowsText (chars text.now) paged) }
@@ -69,6 +74,9 @@ pub fn paginate(alloc: Global, text: &str, language: &str) -> Result<Paged, Text
     };
     if text.is_empty() {
         return Err(TextFault::Empty);
+    }
+    if are_own_septets(text.as_bytes()) {
+        return paginate_septets(alloc, text, value);
     }
     if let Some(place) = bad_place(text) {
         return Err(TextFault::BadCharacter { place });
@@ -83,6 +91,29 @@ pub fn paginate(alloc: Global, text: &str, language: &str) -> Result<Paged, Text
     match contents_of_text(alloc, text, alphabet) {
         Ok(pages) => Ok(Paged {
             dcs: coding(alphabet, value),
+            pages,
+        }),
+        Err(_) => Err(TextFault::Refused),
+    }
+}
+
+/// The pages of a text whose octets are its septets, in the language with this data coding value.
+fn paginate_septets(alloc: Global, text: &str, value: u8) -> Result<Paged, TextFault>
+    requires some { chars text.now ≢ [] }
+    requires own { list_all is_own_septet text.now ≡ true }
+    ensures sent { IfOk result (λ paged. (language : List ℕ) → language_value language ≡ Some value
+        → IsPagedText language (chars text.now) paged) }
+    ensures shown { IfOk result (λ paged. ShowsText (chars text.now) paged) }
+    ensures count { IfOk result (λ paged. (1 ≤ length paged.pages.items) × (length paged.pages.items ≤ 15)) }
+    ensures fault { IfErr result (λ fault. (language : List ℕ) → language_value language ≡ Some value
+        → IsTextFault language (chars text.now) fault) }
+{
+    if text.len() > MAX_CHARACTERS {
+        return Err(TextFault::TooManyPages);
+    }
+    match contents_of_septets(alloc, text.as_bytes()) {
+        Ok(pages) => Ok(Paged {
+            dcs: Dcs(value),
             pages,
         }),
         Err(_) => Err(TextFault::Refused),

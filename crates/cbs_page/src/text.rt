@@ -13,10 +13,12 @@ use crate::coding::Alphabet;
 use crate::octets::PageView;
 use gsm_alphabet::{decode_ext, decode_one};
 use septets::unpack;
-use std::alloc::{AllocError, Global};
+use std::alloc::Global;
 use std::str;
-use thiserror::Error;
 use ucs2_text::{char_of, units_of};
+
+/// Out of memory.
+pub use std::alloc::AllocError as Refused;
 
 /// The septet that begins a character of the extension table (3GPP TS 23.038, clause 6.2.1.1).
 const ESCAPE: u8 = 0x1B;
@@ -27,20 +29,12 @@ const CR: u8 = 0x0D;
 /// Carriage return as a unit of UCS-2.
 const CR_UNIT: u16 = 0x000D;
 
-/// There was no memory for a text.
-#[derive(Clone, Copy, Debug, PartialEq, Eq, Error)]
-#[error("out of memory")]
-pub struct Refused;
-
-impl From<AllocError> for Refused {
-    fn from(_error: AllocError) -> Refused {
-        Refused
-    }
-}
-
 /// The text that a readable page shows: the carriage returns at its end are dropped first, then the rest is decoded. A
-/// surrogate unit shows U+FFFD, and an escape alone at the end shows a space. The only error is that memory was
-/// refused.
+/// surrogate unit shows U+FFFD, and an escape alone at the end shows a space.
+///
+/// # Errors
+///
+/// `Refused` if out of memory.
 pub fn page_text(alloc: Global, view: &PageView) -> Result<String, Refused>
     requires { IsTrue (is_readable view.now) }
     ensures { IfOk result (λ text. string_bytes text ≡ encode_utf8_all (text_of_page view.now)) }
@@ -70,7 +64,7 @@ fn without_filling<T: Copy + PartialEq>(items: &[T], filling: T) -> &[T]
 }
 
 /// The text of septets. Most texts are plain, and then their septets are the text's octets.
-fn gsm_text(alloc: Global, septets: &[u8]) -> Result<String, AllocError>
+fn gsm_text(alloc: Global, septets: &[u8]) -> Result<String, Refused>
     ensures { IfOk result (λ text. string_bytes text ≡ encode_utf8_all (text_of_septets septets.now)) }
 {
     if are_plain(septets) {
@@ -94,7 +88,7 @@ fn are_plain(septets: &[u8]) -> bool
 }
 
 /// Whether a septet is one of those that show the characters of their own numbers.
-fn is_plain(septet: u8) -> bool
+pub fn is_plain(septet: u8) -> bool
     ensures { result ≡ is_plain septet }
 {
     (septet < 128)
@@ -114,7 +108,7 @@ fn is_within(septet: u8, least: u8, most: u8) -> bool
 }
 
 /// The text of septets, one character after another.
-fn decoded_text(alloc: Global, septets: &[u8]) -> Result<String, AllocError>
+fn decoded_text(alloc: Global, septets: &[u8]) -> Result<String, Refused>
     ensures { IfOk result (λ text. string_bytes text ≡ encode_utf8_all (text_of_septets septets.now)) }
 {
     let mut text = String::new(alloc);
@@ -136,7 +130,7 @@ fn decoded_text(alloc: Global, septets: &[u8]) -> Result<String, AllocError>
 }
 
 /// The text of UCS-2 units.
-fn units_text(alloc: Global, units: &[u16]) -> Result<String, AllocError>
+fn units_text(alloc: Global, units: &[u16]) -> Result<String, Refused>
     ensures { IfOk result (λ text. string_bytes text ≡ encode_utf8_all (map character_of_unit units.now)) }
 {
     let mut text = String::new(alloc);

@@ -112,7 +112,7 @@ impl Contents {
     ///
     /// # Errors
     ///
-    /// `AllocError` for want of memory, of which the count of the owners takes some.
+    /// `AllocError` if out of memory, of which the count of the owners takes some.
     pub fn new(list: Vec<Content>) -> Result<Contents, AllocError>
         ensures { IfOk result (λ contents. contents ≡ list.items) }
     {
@@ -133,7 +133,7 @@ impl Contents {
     ///
     /// # Errors
     ///
-    /// `AllocError` for want of memory.
+    /// `AllocError` if out of memory.
     pub fn copy(&self, alloc: Global) -> Result<Contents, AllocError>
         ensures { IfOk result (λ contents. contents ≡ self.now) }
     {

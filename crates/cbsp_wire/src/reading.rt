@@ -65,7 +65,11 @@ fn split_header(octets: &[u8]) -> Result<(MessageType, &[u8]), WireFault>
     }
 }
 
-/// The message that octets mean, or the first of the refusals that applies:
+/// The message that octets mean.
+///
+/// # Errors
+///
+/// The first of these that applies:
 ///
 /// 1. `Truncated`: fewer than 4 octets, or fewer than the length field says after them.
 /// 2. `TrailingBytes`: more than the length field says.
@@ -75,11 +79,11 @@ fn split_header(octets: &[u8]) -> Result<(MessageType, &[u8]), WireFault>
 /// 5. `Cause(0x05)`: a mandatory element isn't among those taken.
 /// 6. `Cause(0x00)`: an element isn't of this message.
 /// 7. `Cause(0x01)`: an element other than 01 comes twice, or a value is out of its range.
-/// 8. `Refused`: memory ran out.
+/// 8. `Refused`: out of memory.
 pub fn read(alloc: Global, octets: &[u8]) -> Result<Message, WireFault>
     // What is read is what the octets mean.
     ensures meant { IfOk result (λ m. IsMessage octets.now m) }
-    // What the octets mean is read, unless memory runs out.
+    // What the octets mean is read, unless out of memory.
     ensures complete { (m : Message) → IsMessage octets.now m
         → MatchResult result (λ read. read ≡ m) (λ fault. fault ≡ WireFault.Refused) }
     // Which refusal it is.

@@ -184,8 +184,11 @@ pub fn write_in(message: &Message, out: &mut Vec<u8>)
     out[start + 3] = (length % 256) as u8;
 }
 
-/// The octets of a message, with its elements in the table's order; `Cause(0x01)` if no octets mean it, as of a
-/// message without contents; `Refused` if memory runs out.
+/// The octets of a message, with its elements in the table's order.
+///
+/// # Errors
+///
+/// `Cause(0x01)` if no octets mean it, as of a message without contents; `Refused` if out of memory.
 pub fn write(alloc: Global, message: &Message) -> Result<Vec<u8>, WireFault>
     ensures written { IfOk result (λ octets. octets.items ≡ octets_of_message message.now) }
     ensures meant { IfOk result (λ octets. IsMessage octets.items message.now) }

@@ -44,7 +44,9 @@ impl<R: Read> Source<R> {
     /// Reads some octets into the front of the buffer, by one read of the reader, and returns how
     /// many: 0 only at the end, or for an empty buffer.
     ///
-    /// Returns [`Failed`] if the reader returns an error, and from then on, with no further read.
+    /// # Errors
+    ///
+    /// [`Failed`] if the reader returns an error, and from then on, with no further read.
     pub fn read(&mut self, buffer: &mut [u8]) -> Result<usize, Failed>
         ensures bound { ReadsAtMost result buffer.new }
         ensures octets { ReadConsumes (R.remaining (reader_of self.old))

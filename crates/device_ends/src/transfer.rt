@@ -7,6 +7,7 @@ ghost use Rattle.device_ends.specs.Moves.{AppendsFront, ConsumesSome, ReadsUpTo}
 ghost use Rattle.device_ends.specs.ReadFault.{reports_device};
 ghost use Rattle.device_ends.specs.Sink.{sink_failed, writer_of};
 ghost use Rattle.device_ends.specs.Source.{reader_of, source_failed};
+ghost use Rattle.device_ends.specs.Stream.{Reads};
 ghost use Rattle.device_ends.specs.TransferSteps.{Moved};
 
 use crate::fault::ReadFault;
@@ -36,7 +37,11 @@ pub fn write_front<W: Write>(sink: &mut Sink<W>, octets: &[u8]) -> usize
     out
 }
 
-/// Writes all octets. Returns [`Failed`] if the sink has failed, and then a front of them is out.
+/// Writes all octets.
+///
+/// # Errors
+///
+/// [`Failed`] if the sink has failed; then a front of them is out.
 pub fn write_all<W: Write>(sink: &mut Sink<W>, octets: &[u8]) -> Result<(), Failed>
     ensures ok { OnOk result (Appends (W.contents (writer_of sink.old))
         (W.contents (writer_of sink.new)) octets.now) }
@@ -52,16 +57,18 @@ pub fn write_all<W: Write>(sink: &mut Sink<W>, octets: &[u8]) -> Result<(), Fail
 /// Reads to the end, but stops once it has `limit + 1` octets: so the input was longer than `limit`
 /// exactly if more than `limit` octets are returned.
 ///
-/// Returns [`ReadFault::Device`] exactly if the source has failed, and [`ReadFault::Refused`]
-/// if memory was refused. After either, at most `limit` octets were read and are gone.
+/// # Errors
+///
+/// [`ReadFault::Device`] exactly if the source has failed, and [`ReadFault::Refused`] if out of memory. After either,
+/// at most `limit` octets were read and are gone.
 pub fn read_up_to<R: Read>(
     source: &mut Source<R>,
     alloc: Global,
     limit: usize,
 ) -> Result<Vec<u8>, ReadFault>
     requires { limit < usize.MAX }
-    ensures reads { IfOk result (λ octets. ReadsUpTo (R.remaining (reader_of source.old))
-        (R.remaining (reader_of source.new)) octets.items limit) }
+    ensures reads { IfOk result (λ octets. Reads R.remaining (λ old new. ReadsUpTo old new octets.items limit)
+        source.old source.new) }
     ensures value { IfOk result (λ octets. IfSome (R.remaining (reader_of source.old))
         (λ left. octets.items ≡ take (limit + 1) left)) }
     ensures err { OnErr result (ConsumesSome (R.remaining (reader_of source.old))

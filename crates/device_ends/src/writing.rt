@@ -45,7 +45,9 @@ impl<W: Write> Sink<W> {
     /// Writes a front of the octets, by one write of the writer, and returns how many: at least one
     /// if there is one.
     ///
-    /// Returns [`Failed`] if the writer returns an error or takes none of one octet or more, and
+    /// # Errors
+    ///
+    /// [`Failed`] if the writer returns an error or takes none of one octet or more, and
     /// from then on, with no further write. What a failed call was given is not written.
     pub fn write(&mut self, octets: &[u8]) -> Result<usize, Failed>
         ensures bound { WritesAtMost result octets.now }

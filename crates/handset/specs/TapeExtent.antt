@@ -30,7 +30,7 @@ pub record StopsAtFailure (most : ℕ) (old new : Option (List ℕ)) : Type 0 wh
   pub few : length readings ≤ most
   pub cut : 0 < length part → (length readings < most) × IsCut part
 
--- memory was refused: the part is within a tape that the input may have
+-- out of memory: the part is within a tape that the input may have
 pub record StopsWithin (most : ℕ) (old new : Option (List ℕ)) : Type 0 where
   pub readings : List TapeReading
   pub part : List ℕ

@@ -50,7 +50,11 @@ impl Handset {
     }
 
     /// Reads a block of 23 octets, its type and 22 more, and returns a copy of the message that it makes complete, if
-    /// it does. The only error is that memory was refused, and then the handset is as it was.
+    /// it does.
+    ///
+    /// # Errors
+    ///
+    /// `Refused` if out of memory; the handset is as it was then.
     pub fn feed(&mut self, block: &[u8; 23]) -> Result<Option<Shown>, Refused>
         ensures read { OnOk result ((blocks : List (List ℕ)) → HasRead self.old blocks →
             HasRead self.new (blocks ++ block.now ∷ [])) }
@@ -84,7 +88,7 @@ impl Handset {
         shown
     }
 
-    /// The message that a block would make complete. The only error is that memory was refused.
+    /// The message that a block would make complete. The only error is out of memory.
     fn message_with(&self, block: &[u8; 23]) -> Result<Option<Shown>, Refused>
         ensures { IfOk result (λ message. (blocks : List (List ℕ)) → HasRead self.now blocks →
             shown_in (blocks ++ block.now ∷ []) ≡ shown_in blocks ++ messages_of (option_to_list message)) }
@@ -95,7 +99,7 @@ impl Handset {
         }
     }
 
-    /// Reads a block as `feed` does, and returns no copy. The only error is that memory was refused, and then the
+    /// Reads a block as `feed` does, and returns no copy. The only error is out of memory, and then the
     /// handset is as it was.
     fn accept(&mut self, block: &[u8; 23]) -> Result<(), Refused>
         ensures read { OnOk result ((blocks : List (List ℕ)) → HasRead self.old blocks →
@@ -109,7 +113,7 @@ impl Handset {
         Ok(())
     }
 
-    /// Reads blocks, one after another. The only error is that memory was refused; some of them may then have been
+    /// Reads blocks, one after another. The only error is out of memory; some of them may then have been
     /// read.
     pub(crate) fn accept_all(&mut self, blocks: &[[u8; 23]]) -> Result<(), Refused>
         ensures { OnOk result ((before : List (List ℕ)) → HasRead self.old before →

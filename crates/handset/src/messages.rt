@@ -8,8 +8,10 @@ ghost use Rattle.handset.specs.Keeping.{is_numbered, messages_of};
 ghost use Rattle.handset.specs.KeepingSteps.{agrees_with_first, counts, is_whole, message_whole, text_kept, total_kept};
 
 use cbs_page::{PageView, Serial, page_text};
-use std::alloc::{AllocError, AllocFailed, Global};
-use thiserror::Error;
+use std::alloc::Global;
+
+/// Out of memory.
+pub use std::alloc::AllocError as Refused;
 
 /// A message that a handset shows.
 #[derive(Drop, Debug)]
@@ -20,29 +22,6 @@ pub struct Shown {
     pub serial: Serial,
     /// The texts of its pages, in the order of their numbers.
     pub text: String,
-}
-
-/// There was no memory for a page or a text.
-#[derive(Clone, Copy, Debug, PartialEq, Eq, Error)]
-#[error("out of memory")]
-pub struct Refused;
-
-impl From<AllocError> for Refused {
-    fn from(_error: AllocError) -> Refused {
-        Refused
-    }
-}
-
-impl<T: Drop> From<AllocFailed<T>> for Refused {
-    fn from(_failed: AllocFailed<T>) -> Refused {
-        Refused
-    }
-}
-
-impl From<cbs_page::Refused> for Refused {
-    fn from(_error: cbs_page::Refused) -> Refused {
-        Refused
-    }
 }
 
 /// Whether two pages are of one message: their identifiers and their serial numbers are the same.
@@ -125,7 +104,11 @@ fn is_complete(pages: &[PageView], last: &PageView) -> bool
     total != 0
 }
 
-/// The message of the last page, if it has all its pages with this one. The only error is that memory was refused.
+/// The message of the last page, if it has all its pages with this one.
+///
+/// # Errors
+///
+/// `Refused` if out of memory.
 pub fn message_if_complete(
     alloc: Global,
     pages: &[PageView],

@@ -58,8 +58,11 @@ impl Pages {
         }
     }
 
-    /// Keeps a page after those of its message. The only error is that memory was refused, and then nothing has
-    /// changed.
+    /// Keeps a page after those of its message.
+    ///
+    /// # Errors
+    ///
+    /// `Refused` if out of memory; nothing has changed then.
     pub fn push(&mut self, page: &PageView) -> Result<(), Refused>
         requires { IsTrue (is_readable page.now) }
         ensures pages { OnOk result (KeepsPage self.old self.new page.now) }
@@ -70,7 +73,8 @@ impl Pages {
             pages.push(*page)?;
             return Ok(());
         }
-        let mut pages = Vec::new(self.alloc);
+        // most messages come whole, so their pages never move
+        let mut pages = Vec::with_capacity(self.alloc, usize::from(page.total))?;
         pages.push(*page)?;
         self.by_name.insert(name, pages)?;
         Ok(())

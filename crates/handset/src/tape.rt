@@ -8,6 +8,7 @@ ghost use Rattle.std.specs.Prelude.{IfOk, IfSome, IfNone, OnOk, vec_len, [], ◌
 ghost use Rattle.std.specs.Io.KnownBytes.{Consumes, IsAtEnd};
 ghost use Rattle.std.specs.Option.{option_to_list};
 ghost use Rattle.device_ends.specs.Source.{reader_of, source_failed};
+ghost use Rattle.device_ends.specs.Stream.{Reads};
 ghost use Rattle.handset.specs.Reception.{shown_in};
 ghost use Rattle.handset.specs.Keeping.{HasRead, messages_of};
 ghost use Rattle.handset.specs.Tape.{TapeReading, cell_in, slots_in, max_slots, max_tapes, reading_of, readings_of};
@@ -64,7 +65,7 @@ pub enum TapeFault {
     /// The reader failed.
     #[error("read failed")]
     ReadFailed,
-    /// There was no memory.
+    /// Out of memory.
     #[error("out of memory")]
     Refused,
 }
@@ -86,30 +87,24 @@ impl From<AllocError> for TapeFault {
     }
 }
 
-impl From<crate::Refused> for TapeFault {
-    ghost from_gives = { λ _ fault. fault ≡ Refused };
-
-    fn from(_error: crate::Refused) -> TapeFault {
-        TapeFault::Refused
-    }
-}
-
 /// Reads one tape, after which the input is to end.
 ///
-/// Returns [`TapeFault::Short`] if the input ends before its tape does, [`TapeFault::Long`] if it goes on after the
+/// # Errors
+///
+/// [`TapeFault::Short`] if the input ends before its tape does, [`TapeFault::Long`] if it goes on after the
 /// tape or the header says more than 65,535 slots, [`TapeFault::ReadFailed`] exactly if the source has failed, now or
-/// earlier, and [`TapeFault::Refused`] if memory runs out. Of a long input no more is read than the header that says
+/// earlier, and [`TapeFault::Refused`] if out of memory. Of a long input no more is read than the header that says
 /// too many slots, or one octet after the tape.
 pub fn read_tape<R: Read>(alloc: Global, source: &mut Source<R>) -> Result<Reading, TapeFault>
-    ensures reading { IfOk result (λ reading. IfSome (R.remaining (reader_of source.old)) (λ input.
+    ensures ok { IfOk result (λ reading. IfSome (R.remaining (reader_of source.old)) (λ input.
         IsTape input (reading_of reading))) }
     ensures fault { IfErr result (λ fault. IfSome (R.remaining (reader_of source.old)) (λ input.
         IsTapeFault input fault)) }
 
     // How far the source was read: to its end, or as the fault says and no further.
     ensures whole { OnOk result (IsAtEnd (R.remaining (reader_of source.new))) }
-    ensures extent { IfErr result (λ fault. StopsAt 1 (R.remaining (reader_of source.old))
-        (R.remaining (reader_of source.new)) fault) }
+    ensures extent { IfErr result (λ fault. Reads R.remaining (λ old new. StopsAt 1 old new fault)
+        source.old source.new) }
 
     // At any reader.
     ensures tape { IfOk result (λ reading. (octets : List ℕ) × IsTape octets (reading_of reading)) }
@@ -132,19 +127,22 @@ pub fn read_tape<R: Read>(alloc: Global, source: &mut Source<R>) -> Result<Readi
     }
 }
 
-/// Reads tapes up to the end of the input, at most 64; an input of no octets has none. Returns the faults of
-/// [`read_tape`]: an input is short if it ends inside one of its tapes, and long if it goes on after the 64th or has
-/// a header of too many slots.
+/// Reads tapes up to the end of the input, at most 64; an input of no octets has none.
+///
+/// # Errors
+///
+/// Those of [`read_tape`]: an input is short if it ends inside one of its tapes, and long if it goes on after the 64th
+/// or has a header of too many slots.
 pub fn read_tapes<R: Read>(alloc: Global, source: &mut Source<R>) -> Result<Vec<Reading>, TapeFault>
-    ensures readings { IfOk result (λ readings. IfSome (R.remaining (reader_of source.old)) (λ input.
-        AreTapes input (readings_of readings.items))) }
+    ensures ok { IfOk result (λ tapes. IfSome (R.remaining (reader_of source.old)) (λ input.
+        AreTapes input (readings_of tapes.items))) }
     ensures fault { IfErr result (λ fault. IfSome (R.remaining (reader_of source.old)) (λ input.
         IsTapesFault input fault)) }
 
     // How far the source was read: to its end, or as the fault says and no further.
     ensures whole { OnOk result (IsAtEnd (R.remaining (reader_of source.new))) }
-    ensures extent { IfErr result (λ fault. StopsAt max_tapes (R.remaining (reader_of source.old))
-        (R.remaining (reader_of source.new)) fault) }
+    ensures extent { IfErr result (λ fault. Reads R.remaining (λ old new. StopsAt max_tapes old new fault)
+        source.old source.new) }
 
     // At any reader.
     ensures tapes { IfOk result (λ readings. (octets : List ℕ) × AreTapes octets (readings_of readings.items)) }
@@ -161,7 +159,7 @@ pub trait TakesReadings {
     /// It has taken these readings, in order.
     ghost HasTaken: { Self → List TapeReading → Type 0 };
 
-    /// Takes the next reading. The only error is that memory was refused.
+    /// Takes the next reading. The only error is out of memory.
     fn take(&mut self, reading: Reading) -> Result<(), AllocError>
         ensures { OnOk result ((before : List TapeReading) → HasTaken self.old before →
             HasTaken self.new (before ++ reading_of reading ∷ [])) };
@@ -191,8 +189,8 @@ pub fn read_each<R: Read, T: TakesReadings>(
 
     // How far the source was read: to its end, or as the fault says and no further.
     ensures whole { OnOk result (IsAtEnd (R.remaining (reader_of source.new))) }
-    ensures extent { IfErr result (λ fault. StopsAt max_tapes (R.remaining (reader_of source.old))
-        (R.remaining (reader_of source.new)) fault) }
+    ensures extent { IfErr result (λ fault. Reads R.remaining (λ old new. StopsAt max_tapes old new fault)
+        source.old source.new) }
 
     // At any reader.
     ensures failed { source_failed source.new ≡ reports_read_failed result }

@@ -84,7 +84,7 @@ text Short -> tape is short
 text Long -> tape is long
 text ReadFailed -> read failed
 text OutOfMemory -> out of memory
-text Refused -> out of memory
+text Refused -> memory allocation failed
 ";
 
 /// A reader that is asked once more than it has to be would be told as failed.

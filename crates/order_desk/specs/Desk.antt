@@ -55,6 +55,14 @@ AreAnswered desk at command (first ∷ later) notes =
     (own rest : List Note) × (notes ≡ own ++ rest)
     × IsAnswered desk at command first.0 first.1 own × AreAnswered desk at command later rest
 
+-- what a call adds to the notes of its pass
+abbrev pub AddsNotes : (old new : List Note) → (List Note → Type 0) → Type 0
+AddsNotes old new Are = (added : List Note) × Are added × (new ≡ old ++ added)
+
+-- a call adds one note
+abbrev pub AddsNote : (old new : List Note) → (Note → Type 0) → Type 0
+AddsNote old new Is = (note : Note) × Is note × (new ≡ old ++ note ∷ [])
+
 -- octets are a message that orders a command of these cells
 pub record IsOrderOf (octets : List ℕ) (cells : List Cell) (command : Command) : Type 0 where
   pub message : Message
@@ -108,7 +116,7 @@ pub record IsStopped (desk : Line) (at : ℕ) (cells : List Cell) (command : Com
   pub next : slice_get cells place ≡ Some cell
   pub own : has_cell desk cell ≡ true
 
--- octets are no order, for this fault, or weren't read for want of memory
+-- octets are no order, for this fault, or it was out of memory
 abbrev pub IsNoOrder : List ℕ → DeskFault → Type 0
 IsNoOrder octets (faults.Wire fault) = (fault ≢ wire.Refused) × (first_fault octets ≡ reported_fault fault)
 IsNoOrder octets (faults.Cause cause) = (m : Message) × IsMessage octets m × (order_of m ≡ Err cause)
@@ -150,7 +158,7 @@ pub record IsTold (desk : Line) (cell : Cell) (id serial : ℕ) (told : Option (
     pub status : IsStatus id serial told before after note
 
 -- why a play was refused, with nothing noted: the cell isn't of the desk, or its lock holds a book of another; or
--- there was no memory
+-- it was out of memory
 abbrev pub IsRefusedPlay : Line → Cell → DeskFault → List Note → Type 0
 IsRefusedPlay desk cell faults.Unknown notes = notes ≡ []
 IsRefusedPlay desk cell (faults.Memory done) notes = (has_cell desk cell ≡ true) × (done ≡ 0) × (notes ≡ [])

@@ -39,7 +39,7 @@ abbrev pub IsErrand : (own : List Cell) → Command → Errand → Type 0
 IsErrand own command (errands.Own cell place copy) = (slice_get own place ≡ Some cell) × (copy ≡ command)
 IsErrand own command (errands.Foreign cell) = list_any (is_cell cell) own ≡ false
 
--- why a cell didn't tell a status, and what is noted: its log has no room for the entry, or there was no memory
+-- why a cell didn't tell a status, and what is noted: its log has no room for the entry, or out of memory
 abbrev pub IsUntold : (id serial : ℕ) → DeskFault → (before after : Record) → List Note → Type 0
 IsUntold id serial faults.Full before after notes =
     IsAsked (commands.Status id serial) (answers.Cause BSC_MEMORY_EXCEEDED) before after (Full before.cell)

@@ -5,8 +5,8 @@ ghost use Rattle.std.specs.Prelude.{vec_capacity, All, IfErr, IfNone, IfOk, IfSo
 ghost use Rattle.cbsp_wire.specs.Range.{cells_are_valid};
 ghost use Rattle.bsc_table.specs.Transitions.{opened};
 ghost use Rattle.order_desk.specs.declared.note.Note.{Note};
-ghost use Rattle.order_desk.specs.Desk.{IsCarriedOut, IsPlayed, IsRefusedOrder, IsRefusedPlay, IsRefusedStatus};
-ghost use Rattle.order_desk.specs.Desk.{IsTold, has_cell};
+ghost use Rattle.order_desk.specs.Desk.{AddsNote, AddsNotes, IsCarriedOut, IsPlayed, IsRefusedOrder, IsRefusedPlay};
+ghost use Rattle.order_desk.specs.Desk.{IsRefusedStatus, IsTold, has_cell};
 ghost use Rattle.order_desk.specs.DeskSteps.{AreDone, AreHalted, CanBeDone, IsDone, IsHalted};
 ghost use Rattle.order_desk.specs.Pieces.{IsPieceOf, IsRefusedPiece};
 
@@ -267,12 +267,10 @@ impl Desk {
         bytes: &[u8],
         gate: &G,
     ) -> Result<Vec<u8>, DeskFault>
-        ensures carried_out { OnOk result (IfOk result (λ reply. (added : List Note)
-            × IsCarriedOut self.now at bytes.now reply.items added
-            × (pass.new ≡ pass.old ++ added))) }
-        ensures refused { OnErr result (IfErr result (λ fault. (added : List Note)
-            × IsRefusedOrder self.now at bytes.now fault added
-            × (pass.new ≡ pass.old ++ added))) }
+        ensures carried_out { OnOk result (IfOk result (λ reply. AddsNotes pass.old pass.new
+            (IsCarriedOut self.now at bytes.now reply.items))) }
+        ensures refused { OnErr result (IfErr result (λ fault. AddsNotes pass.old pass.new
+            (IsRefusedOrder self.now at bytes.now fault))) }
     {
         let Order {
             command,
@@ -305,12 +303,10 @@ impl Desk {
         k: u16,
         gate: &G,
     ) -> Result<SlotRange, DeskFault>
-        ensures played { OnOk result (IfOk result (λ range. (note : Note)
-            × IsPlayed self.now cell k range note
-            × (pass.new ≡ pass.old ++ note ∷ []))) }
-        ensures refused { OnErr result (IfErr result (λ fault. (added : List Note)
-            × IsRefusedPlay self.now cell fault added
-            × (pass.new ≡ pass.old ++ added))) }
+        ensures played { OnOk result (IfOk result (λ range. AddsNote pass.old pass.new
+            (IsPlayed self.now cell k range))) }
+        ensures refused { OnErr result (IfErr result (λ fault. AddsNotes pass.old pass.new
+            (IsRefusedPlay self.now cell fault))) }
         ensures foreign { has_cell self.now cell ≡ false → result ≡ Err DeskFault.Unknown }
     {
         let Some(place) = self.place_of(cell) else {
@@ -343,12 +339,10 @@ impl Desk {
         serial: Serial,
         gate: &G,
     ) -> Result<Option<(u16, State)>, DeskFault>
-        ensures told { OnOk result (IfOk result (λ told. (note : Note)
-            × IsTold self.now cell id serial told note
-            × (pass.new ≡ pass.old ++ note ∷ []))) }
-        ensures refused { OnErr result (IfErr result (λ fault. (added : List Note)
-            × IsRefusedStatus self.now cell id serial fault added
-            × (pass.new ≡ pass.old ++ added))) }
+        ensures told { OnOk result (IfOk result (λ told. AddsNote pass.old pass.new
+            (IsTold self.now cell id serial told))) }
+        ensures refused { OnErr result (IfErr result (λ fault. AddsNotes pass.old pass.new
+            (IsRefusedStatus self.now cell id serial fault))) }
         ensures foreign { has_cell self.now cell ≡ false → result ≡ Err DeskFault.Unknown }
     {
         let Some(place) = self.place_of(cell) else {

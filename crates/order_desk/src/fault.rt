@@ -22,7 +22,7 @@ pub enum DeskFault {
     /// The cell's log has 4,096 entries.
     #[error("order was refused")]
     Full,
-    /// There was no memory.
+    /// Out of memory.
     #[error("out of memory")]
     Memory {
         /// How many cells of an order's list were answered, those that aren't of the desk among them. Of the next one
@@ -43,14 +43,6 @@ impl<T: Drop> From<AllocFailed<T>> for DeskFault {
     ghost from_gives = { λ _ fault. fault ≡ Memory 0 };
 
     fn from(_refused: AllocFailed<T>) -> DeskFault {
-        DeskFault::Memory { done: 0 }
-    }
-}
-
-impl From<bsc_table::Refused> for DeskFault {
-    ghost from_gives = { λ _ fault. fault ≡ Memory 0 };
-
-    fn from(_refused: bsc_table::Refused) -> DeskFault {
         DeskFault::Memory { done: 0 }
     }
 }

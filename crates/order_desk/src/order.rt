@@ -18,7 +18,7 @@ use std::alloc::Global;
 pub(crate) enum Halt {
     /// Its lock holds the book of another cell or run: no call leaves one there, but the lock's type doesn't say so.
     WrongBook,
-    /// There was no memory.
+    /// Out of memory.
     Refused,
 }
 

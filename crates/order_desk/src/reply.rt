@@ -253,7 +253,7 @@ pub(crate) fn reply_in(room: ReplyRoom, command: &Command, answers: &[(Cell, Ans
 ///
 /// # Errors
 ///
-/// `Refused` if memory runs out.
+/// `Refused` if out of memory.
 pub fn reply_of(
     alloc: Global,
     command: &Command,

@@ -55,7 +55,7 @@ pub enum SettleFault {
         /// The session's part of the book.
         part: u16,
     },
-    /// There was no memory.
+    /// Out of memory.
     #[error("out of memory")]
     Refused,
 }

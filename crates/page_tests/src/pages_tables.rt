@@ -94,6 +94,25 @@ cut ru <616*Я> -> TooManyPages
 cut en <41*a>Я -> dcs 48 used 82 2
 content 1 en <41*a>Я -> 00610061..
 content 2 en <41*a>Я -> 042f000d000d..
+# Each character whose septet is its own number: alone, after one whose septet is another, and on two pages.
+cut und <000A> !\"#%&'()*+,-./0123456789:;<003C>=<003E>?ABCDEFGHIJKLMNOPQRSTUVWXYZabcdefghijklmnopqrstuvwxyz -> \
+    dcs 0f used 74
+content 1 und <000A> !\"#%&'()*+,-./0123456789:;<003C>=<003E>?ABCDEFGHIJKLMNOPQRSTUVWXYZabcdefghijklmnopqrstuvwxyz -> \
+    0a5048342a994ea8946ac56ab95eb0986c46abd96eb89c6ec7ebf97e41e19058341e9149e592d9743ea151e9945ab55eb1596d583c2697cd67\
+    745abd66b7dd6f785c3ea7d7ed777c5edf68341a8d46a3d100
+cut und $<000A> !\"#%&'()*+,-./0123456789:;<003C>=<003E>?ABCDEFGHIJKLMNOPQRSTUVWXYZabcdefghijklmnopqrstuvwxyz -> \
+    dcs 0f used 75
+content 1 und $<000A> !\"#%&'()*+,-./0123456789:;<003C>=<003E>?ABCDEFGHIJKLMNOPQRSTUVWXYZabcdefghijklmnopqrstuvwxyz -> \
+    020528241a954c27544ab562b55c2f584c36a3d56c375c4eb7e3f57cbfa070482c1a8fc8a472c96c3a9fd0a8744aad5aafd8ac362c1e93cbe6\
+    333aad5eb3dbee373c2e9fd3ebf63b3eaf6f341a8d46a3d100
+cut und <000A> !\"#%&'()*+,-./0123456789:;<003C>=<003E>?ABCDEFGHIJKLMNOPQRSTUVWXYZabcdefghijklmnopqrstuvwxyz\
+    <000A> !\"#%&'() -> dcs 0f used 82 1
+content 1 und <000A> !\"#%&'()*+,-./0123456789:;<003C>=<003E>?ABCDEFGHIJKLMNOPQRSTUVWXYZabcdefghijklmnopqrstuvwxyz\
+    <000A> !\"#%&'() -> \
+    0a5048342a994ea8946ac56ab95eb0986c46abd96eb89c6ec7ebf97e41e19058341e9149e592d9743ea151e9945ab55eb1596d583c2697cd67\
+    745abd66b7dd6f785c3ea7d7ed777c5eaf008544a392e98402
+content 2 und <000A> !\"#%&'()*+,-./0123456789:;<003C>=<003E>?ABCDEFGHIJKLMNOPQRSTUVWXYZabcdefghijklmnopqrstuvwxyz\
+    <000A> !\"#%&'() -> a946a3d168341a<10*8d46a3d168341a>8d46a3d100
 # The first fault is told.
 cut en a<000D> -> BadCharacter { place: 1 }
 cut en é<1F6A8><000D> -> BadCharacter { place: 1 }
@@ -131,18 +150,18 @@ shown 01 c14da3d168341a<10*8d46a3d168341a>8d46a3d100 -> A<0020>
 shown 40 9bf246b1093684<10*8d46a3d168341a>8d46a3d100 -> €<000A>A<000D>B
 # A surrogate, and a carriage return in the middle.
 shown 48 d83d000d0041<38*000d> -> <FFFD><000D>A
-# What faults are called, and then want of memory for a page that is shown.
+# What faults are called, and then out of memory for a page that is shown.
 fault BadLanguage -> unknown language
 fault Empty -> text is empty
 fault BadCharacter 12 -> bad character at 12
 fault TooManyPages -> too many pages
 fault Refused -> out of memory
-fault -> out of memory
+fault -> memory allocation failed
 ";
 
 #[test]
 fn texts_are_cut_into_pages_and_shown(rt: HostRuntime) -> Result<(), Fail> {
-    expect_rows(&rt, rt.alloc(), TEXTS, 48)
+    expect_rows(&rt, rt.alloc(), TEXTS, 55)
 }
 
 /// Texts that are cut, and pages that are shown, with scarce memory.

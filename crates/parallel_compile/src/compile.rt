@@ -18,7 +18,7 @@ use std::thread::Threads;
 ///
 /// # Errors
 ///
-/// Returns [`CompileFault::Refused`] if memory was refused.
+/// Returns [`CompileFault::Refused`] if out of memory.
 pub fn compile_one(alloc: Global, records: &[CellRecord]) -> Result<Vec<Tape>, CompileFault>
     ensures ok { IfOk result (λ tapes. tapes.items ≡ map tape_of_record records.now) }
     ensures err { IfErr result (λ fault. fault ≡ faults.Refused) }
@@ -37,7 +37,7 @@ pub fn compile_one(alloc: Global, records: &[CellRecord]) -> Result<Vec<Tape>, C
 /// # Errors
 ///
 /// Returns [`CompileFault::Workers`] exactly if there are no workers or over 64, and else [`CompileFault::Refused`] if
-/// memory was refused, after all workers have ended.
+/// out of memory, after all workers have ended.
 pub fn compile_all<R: Threads + Sync, G: Gate>(
     rt: &R,
     alloc: Global,

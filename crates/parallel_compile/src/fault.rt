@@ -39,18 +39,3 @@ impl<T: Drop> From<AllocFailed<T>> for CompileFault {
     }
 }
 
-impl From<cbch_blocks::Refused> for CompileFault {
-    ghost from_gives = { λ _ fault. fault ≡ faults.Refused };
-
-    fn from(_error: cbch_blocks::Refused) -> CompileFault {
-        CompileFault::Refused
-    }
-}
-
-impl From<tickets::Refused> for CompileFault {
-    ghost from_gives = { λ _ fault. fault ≡ faults.Refused };
-
-    fn from(_error: tickets::Refused) -> CompileFault {
-        CompileFault::Refused
-    }
-}

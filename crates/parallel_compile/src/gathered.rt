@@ -15,7 +15,7 @@ use std::alloc::Global;
 ///
 /// Returns [`CompileFault::Piece`] unless each number below `n` is that of one piece and no piece has another, with the
 /// least number that is missing, that several pieces have, or that isn't below `n`. Returns [`CompileFault::Refused`]
-/// if memory was refused.
+/// if out of memory.
 pub fn gather(alloc: Global, n: usize, pieces: Vec<(u64, Tape)>) -> Result<Vec<Tape>, CompileFault>
     ensures ok { IfOk result (λ tapes. AreGathered n pieces.items tapes.items) }
     ensures err { IfErr result (IsOfPieces n (numbers_of pieces.items)) }

@@ -149,8 +149,11 @@ impl<'a> InCell<'a> {
     }
 }
 
-/// Appends the rows of a cell, in two walks over its log and one over its slots. The only error is that memory was
-/// refused.
+/// Appends the rows of a cell, in two walks over its log and one over its slots.
+///
+/// # Errors
+///
+/// Out of memory.
 pub fn push_cell(
     alloc: Global,
     rows: &mut Vec<Row>,

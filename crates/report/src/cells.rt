@@ -26,7 +26,7 @@ fn are_of_one_cells(records: &[CellRecord], readings: &[Reading]) -> bool
     true
 }
 
-/// The rows of cells, of which there are as many records as readings. The only error is that memory was refused.
+/// The rows of cells, of which there are as many records as readings. The only error is out of memory.
 fn all_rows(
     alloc: Global,
     records: &[CellRecord],
@@ -50,7 +50,7 @@ fn all_rows(
 /// # Errors
 ///
 /// Returns [`ReportFault::Cells`] exactly if the readings aren't of the same cells as the records in the same order,
-/// and [`ReportFault::Refused`] if memory was refused.
+/// and [`ReportFault::Refused`] if out of memory.
 pub fn rows(
     alloc: Global,
     records: &[CellRecord],

@@ -15,7 +15,7 @@ pub enum ReportFault {
     /// The writer failed. Some of the report may be out.
     #[error("write failed")]
     WriteFailed,
-    /// There was no memory.
+    /// Out of memory.
     #[error("out of memory")]
     Refused,
 }

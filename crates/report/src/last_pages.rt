@@ -33,7 +33,7 @@ fn count_page(counts: &mut [u16], log: &[Entry], aired: Aired)
 }
 
 /// How often the slots of a run air the last page of the message of each entry, by the entry's place in the log.
-pub fn count_last_pages(
+pub(crate) fn count_last_pages(
     alloc: Global,
     log: &[Entry],
     air: &[Option<Aired>],

@@ -27,7 +27,11 @@ impl Model for Names {
 }
 
 impl Names {
-    /// The pairs of these messages. The only error is that memory was refused.
+    /// The pairs of these messages.
+    ///
+    /// # Errors
+    ///
+    /// Out of memory.
     pub fn of(alloc: Global, shown: &[Shown]) -> Result<Names, AllocError>
         ensures { IfOk result (λ names. (id serial : ℕ)
             → has_name names id serial ≡ is_shown (messages_of shown.now) id serial) }

@@ -4,6 +4,7 @@ ghost use Rattle.std.specs.Prelude.{◌≡◌, ◌≢◌, ◌↔◌, true, IfErr
 ghost use Rattle.std.specs.Io.KnownBytes.{Appends};
 ghost use Rattle.device_ends.specs.Moves.{AppendsFront};
 ghost use Rattle.device_ends.specs.Sink.{sink_failed, writer_of};
+ghost use Rattle.device_ends.specs.Stream.{Writes};
 ghost use Rattle.report.specs.ReportText.{report_text};
 
 use crate::fault::ReportFault;
@@ -13,7 +14,7 @@ use device_ends::{Failed, Sink, write_all};
 use std::alloc::{AllocError, Global};
 use std::io::Write;
 
-/// The text of a report of these rows. The only error is that memory was refused.
+/// The text of a report of these rows. The only error is out of memory.
 fn text_of(alloc: Global, rows: &[Row]) -> Result<Vec<u8>, AllocError>
     ensures { IfOk result (λ octets. octets.items ≡ report_text rows.now) }
 {
@@ -30,7 +31,7 @@ fn text_of(alloc: Global, rows: &[Row]) -> Result<Vec<u8>, AllocError>
 /// # Errors
 ///
 /// Returns [`ReportFault::WriteFailed`] exactly if the sink has failed, now or earlier, after which a front of the
-/// text may be out, and [`ReportFault::Refused`] if memory was refused, after which nothing is.
+/// text may be out, and [`ReportFault::Refused`] if out of memory, after which nothing is.
 pub fn write_report<W: Write>(
     alloc: Global,
     rows: &[Row],
@@ -39,7 +40,7 @@ pub fn write_report<W: Write>(
     ensures ok { OnOk result (Appends (W.contents (writer_of sink.old)) (W.contents (writer_of sink.new))
         (report_text rows.now)) }
     ensures front { IsErrOf result ReportFault.WriteFailed
-        → AppendsFront (W.contents (writer_of sink.old)) (W.contents (writer_of sink.new)) (report_text rows.now) }
+        → Writes W.contents (λ old new. AppendsFront old new (report_text rows.now)) sink.old sink.new }
     ensures refused { IsErrOf result ReportFault.Refused → sink.new ≡ sink.old }
     ensures faults { IfErr result (λ fault. fault ≢ ReportFault.Cells) }
     ensures failed { IsErrOf result ReportFault.WriteFailed ↔ IsTrue (sink_failed sink.new) }

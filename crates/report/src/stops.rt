@@ -63,7 +63,7 @@ impl Stops {
         }
     }
 
-    /// Adds an entry that comes before the others. The only error is that memory was refused.
+    /// Adds an entry that comes before the others. The only error is out of memory.
     fn add(&mut self, entry: &Entry) -> Result<(), AllocFailed<((u16, u16), u16)>>
         ensures { OnOk result ((later : List Entry) → AreStops self.old later
             → AreStops self.new (entry.now ∷ later)) }
@@ -76,7 +76,7 @@ impl Stops {
 }
 
 /// The slot at which the message of each write was stopped, if it was, by the write's place in the log.
-pub fn stops_of(alloc: Global, log: &[Entry]) -> Result<Vec<Option<u16>>, AllocError>
+pub(crate) fn stops_of(alloc: Global, log: &[Entry]) -> Result<Vec<Option<u16>>, AllocError>
     ensures places { IfOk result (λ stops. length stops.items ≡ length log.now) }
     ensures each { IfOk result (λ stops. (place : ℕ) → place < length log.now
         → slice_index_or stops.items place None ≡ stop_at log.now place) }

@@ -33,7 +33,11 @@ fn showing_text(alloc: Global, shown: Showing) -> Result<String, AllocError>
 impl Table {
     ghost use Rattle.report.specs.TextSteps.{IsTable};
 
-    /// The text of no rows. The only error is that memory was refused.
+    /// The text of no rows.
+    ///
+    /// # Errors
+    ///
+    /// Out of memory.
     pub fn new(alloc: Global) -> Result<Table, AllocError>
         ensures { IfOk result (λ table. IsTable table (report_text [])) }
     {
@@ -62,6 +66,10 @@ impl Table {
     }
 
     /// Appends the line of a row.
+    ///
+    /// # Errors
+    ///
+    /// Out of memory.
     pub fn push(&mut self, row: &Row) -> Result<(), AllocError>
         ensures { OnOk result ((octets : List ℕ) → IsTable self.old octets
             → IsTable self.new (octets ++ row_line row.now)) }
@@ -86,7 +94,7 @@ impl Table {
         ])
     }
 
-    /// Appends a line. A writer to memory fails only if memory is refused.
+    /// Appends a line. A writer to memory fails only if out of memory.
     fn push_line(&mut self, fields: &[&[u8]]) -> Result<(), AllocError>
         ensures { OnOk result ((octets : List ℕ) → IsTable self.old octets
             → IsTable self.new (octets ++ line (map (λ f. f.now) fields.now))) }
@@ -98,6 +106,10 @@ impl Table {
     }
 
     /// The text's octets.
+    ///
+    /// # Errors
+    ///
+    /// Out of memory.
     pub fn into_octets(self) -> Result<Vec<u8>, AllocError>
         ensures { IfOk result (λ octets. (text : List ℕ) → IsTable self text → octets.items ≡ text) }
     {

@@ -1,6 +1,6 @@
 -- Lemmas on what is ahead of the places of a plan.
 use Rattle.std.proofs.Common.{◌≡◌, ◌≢◌, ℕ, zero, suc, ◌+◌, ◌-◌, ◌*◌, ◌/◌, ◌%◌, ◌≤◌, ◌<◌, List, length, get_or}
-use Rattle.std.proofs.Common.{map, min, set, inl, inr, refl, sym, ap, subst, ◌∙◌, arith}
+use Rattle.std.proofs.Common.{true, map, min, set, inl, inr, refl, sym, ap, subst, ◌∙◌, arith}
 use Rattle.std.specs.List.{All}
 use Rattle.std.proofs.lemmas.List.{length-map, get_or-map, map-set, get_or-set_same, get_or-set_other}
 use Rattle.std.proofs.lemmas.List.{get_or_past, set-get_or}
@@ -8,7 +8,7 @@ use Rattle.std.proofs.lemmas.Bool.{cases_lt, cases_eq}
 use Rattle.scheduler.specs.declared.turn.Ahead.{Ahead}
 use Rattle.scheduler.specs.declared.kept.Kept.{Kept}
 use Rattle.scheduler.specs.declared.queue.Node.{Node}
-use Rattle.scheduler.specs.QueueSteps.{joined, nothing_ahead, no_turn, own, kept_in, ahead_at, own_at, node_with}
+use Rattle.scheduler.specs.QueueSteps.{aired, joined, nothing_ahead, no_turn, own, kept_in, ahead_at, own_at, node_with}
 use Rattle.scheduler.specs.QueueSteps.{ahead_among, ahead_below, seen_in, IsRight, HasTurn}
 use Rattle.scheduler.specs.QueueSteps.{IsNode, IsTree, IsTreeBut, KeepsNodesBut}
 use Rattle.scheduler.proofs.Turns.{IsAhead, IsAhead-same, IsAhead-trans, joined-left, joined-right, joined-one}
@@ -271,6 +271,31 @@ kept_as-others nodes place d k h others = λ other apart.
     node_is nodes (kept_as nodes place d k) other (kept_as-ahead nodes place d k other h)
     (kept_as-own nodes place d k other apart) (below_same nodes (kept_as nodes place d k) other
     (λ i g. kept_as-ahead nodes place d k (other * 8 + 1 + i) h)) (others other apart)
+
+-- the turn of a message stays where a page is left of its broadcast
+pub own_aired : (k : Kept) → k.is_open ≡ true → (aired k).is_open ≡ true → own k ≡ own (aired k)
+own_aired k was is = rw (was, is) refl
+
+-- what is ahead of the message at the place alone is then that of the new one
+kept_as-own_here : (nodes : List Node) (place : ℕ) (d : Node) (k : Kept) → place < length nodes
+    → own_at (kept_as nodes place d k) place ≡ own k
+kept_as-own_here nodes place d k h =
+    ap (λ ks. get_or (map own ks) place nothing_ahead) (kept_as-kept nodes place d k)
+    ∙ (ap (λ xs. get_or xs place nothing_ahead) (map-set own (kept_in nodes) place k)
+    ∙ get_or-set_same (map own (kept_in nodes)) place (own k) nothing_ahead
+    (omega (arith, length-map (kept_in nodes) own, length-map nodes (λ (n : Node). n.kept))))
+
+-- and where that is the same, all stays right
+pub kept_as-tree : (nodes : List Node) (place : ℕ) (d : Node) (k : Kept) → place < length nodes
+    → own_at nodes place ≡ own k → IsTree nodes → IsTree (kept_as nodes place d k)
+kept_as-tree nodes place d k h turn tree = λ other.
+    node_is nodes (kept_as nodes place d k) other (kept_as-ahead nodes place d k other h)
+    (elim (cases_eq other place) [
+      | inl here ↦ rw here (kept_as-own_here nodes place d k h ∙ sym turn)
+      | inr apart ↦ kept_as-own nodes place d k other apart
+    ])
+    (below_same nodes (kept_as nodes place d k) other
+    (λ i g. kept_as-ahead nodes place d k (other * 8 + 1 + i) h)) (tree other)
 
 -- where what is ahead of the place is right, all is
 pub all_right : (nodes : List Node) (place : ℕ) → IsNode nodes place → IsTreeBut nodes place → IsTree nodes

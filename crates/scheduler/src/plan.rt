@@ -1,7 +1,7 @@
 //! The plan of a cell.
 
-ghost use Rattle.std.specs.Prelude.{◌≡◌, ◌≢◌, ◌+◌, ◌<◌, ◌≤◌, MatchBool, [], ◌∷◌, ◌++◌, length};
-ghost use Rattle.std.specs.Prelude.{codes, Some, All, Any, OnOk, OnErr};
+ghost use Rattle.std.specs.Prelude.{◌≡◌, ◌≢◌, ◌+◌, ◌<◌, ◌≤◌, MatchBool, [], ◌∷◌, ◌++◌, length, Some, All, Any};
+ghost use Rattle.std.specs.Prelude.{OnOk, OnErr};
 ghost use Rattle.std.specs.Option.{ForSome};
 ghost use Rattle.scheduler.specs.Message.{stopped_at};
 ghost use Rattle.scheduler.specs.Air.{layer_of, class_of, IsChosen};
@@ -10,8 +10,10 @@ ghost use Rattle.scheduler.specs.Follows.{messages_of, message_of, message_from}
 
 use crate::queue::{Node, are_below, completed_of, has_entry, has_standing, play, push, stop_at};
 use std::alloc::Global;
-use std::fmt;
 use std::marker::Model;
+
+/// Out of memory.
+pub use std::alloc::AllocError as Refused;
 
 /// Before which others the pages of a message are aired.
 #[derive(Clone, Copy, Debug, PartialEq, Eq)]
@@ -64,20 +66,6 @@ pub struct Item {
     pub rank: Rank,
 }
 
-/// Out of memory: the plan is as it was.
-#[derive(Clone, Copy, Debug, PartialEq, Eq)]
-pub struct Refused;
-
-impl fmt::Display for Refused {
-    ghost output = { λ _. Some (codes "out of memory") };
-
-    fn fmt<W: fmt::Write>(&self, f: &mut fmt::Formatter<W>) -> fmt::Result {
-        f.write_str("out of memory")
-    }
-}
-
-impl std::error::Error for Refused {}
-
 /// The schedule of a cell: it is told of the messages, and asked for each slot in order.
 ///
 /// With one message of one page and a period of 2 slots, added at slot 0 as entry 0, `next(0)` is `Some((0, 1))`,
@@ -119,8 +107,11 @@ impl Plan {
     }
 
     /// Adds a message, that stands from the slot that is asked next, or from a later one. Its number is above those
-    /// of the messages added before, and it has a page or more and a period of 1 slot or more. After `Err` the plan
-    /// is unchanged.
+    /// of the messages added before, and it has a page or more and a period of 1 slot or more.
+    ///
+    /// # Errors
+    ///
+    /// `Refused` if out of memory; the plan is unchanged then.
     pub fn add(&mut self, item: Item) -> Result<(), Refused>
         requires rising { All (λ m. m.entry < item.entry) (messages_of self.old) }
         requires from_next { next_slot self.old ≤ item.start }

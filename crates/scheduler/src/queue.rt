@@ -4,13 +4,13 @@
 //! below which that is so are listed, from place 0 down, and then looked at again, from the last of the list up.
 
 ghost use Rattle.std.specs.Prelude.{◌≡◌, ◌≢◌, ◌<◌, ◌≤◌, ℕ, ◌+◌, ◌*◌, length, All, AllPairs, Any, map, slice_set};
-ghost use Rattle.std.specs.Prelude.{◌==◌, ◌++◌, ◌∷◌, [], if◌then◌else◌, MatchBool, OnOk, OnErr};
+ghost use Rattle.std.specs.Prelude.{◌==◌, ◌++◌, ◌∷◌, [], if◌then◌else◌, true, MatchBool, OnOk, OnErr};
 ghost use Rattle.std.specs.Prelude.{Option, Some, None, slice_index_or};
 ghost use Rattle.scheduler.specs.PlanSteps.{IsChoice, after_slot, scheduled_stopped};
 ghost use Rattle.scheduler.specs.declared.queue.Node.{Node};
 ghost use Rattle.scheduler.specs.QueueSteps.{ahead_among, ahead_at, ahead_below, kept_in, seen_in};
 ghost use Rattle.scheduler.specs.QueueSteps.{IsNode, IsTree, HasTurn};
-ghost use Rattle.scheduler.specs.QueueSteps.{IsTreeBut, KeepsNodesBut, own_at, IsRight, IsPlaceOf, IsFound, AreRising};
+ghost use Rattle.scheduler.specs.QueueSteps.{IsTreeBut, KeepsNodesBut, own, own_at, IsRight, IsPlaceOf, IsFound, AreRising};
 ghost use Rattle.scheduler.specs.QueueSteps.{AreKept, AreListed, AreDue, kept_new, renewed_node};
 
 use crate::kept::Kept;
@@ -129,6 +129,22 @@ fn change(nodes: &mut [Node], place: usize, kept: Kept)
 {
     nodes[place].kept = kept;
     lift(nodes, place);
+}
+
+/// Keeps this of the message at a place once a page of it was aired: if one is left of its broadcast, its turn stays,
+/// and so does what is ahead of each place.
+fn keep_aired(nodes: &mut [Node], place: usize, kept: Kept)
+    requires within { place < length nodes.old }
+    requires tree { IsTree nodes.old }
+    requires turn { kept.is_open ≡ true → own_at nodes.old place ≡ own kept }
+    ensures kept { kept_in nodes.new ≡ slice_set (kept_in nodes.old) place kept }
+    ensures tree { IsTree nodes.new }
+{
+    if kept.is_open {
+        nodes[place].kept = kept;
+    } else {
+        change(nodes, place, kept);
+    }
 }
 
 /// Looks again at the message of a place, if `slot` is a slot to do so, and puts right what is ahead of the place.
@@ -286,7 +302,7 @@ fn air_first(nodes: &mut [Node], slot: u16) -> Option<(u16, u8)>
     let entry = ahead_at(nodes, 0).first_entry()?;
     let place = place_of(nodes, entry);
     let kept = nodes[place].kept;
-    change(nodes, place, kept.aired());
+    keep_aired(nodes, place, kept.aired());
     Some((entry, kept.scheduled.next_page()))
 }
 

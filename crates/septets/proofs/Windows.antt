@@ -1,6 +1,10 @@
 -- Bits of a window that is cut out of two numbers side by side, as the code cuts octets and septets.
-use Rattle.std.proofs.Common.{◌≡◌, ℕ, ◌+◌, ◌-◌, ◌*◌, ◌/◌, ◌%◌, ◌^◌, ◌<◌, ◌≤◌, List, length, get_or, bit_and, bit_or}
+use Rattle.std.proofs.Common.{◌≡◌, ℕ, ◌+◌, ◌-◌, ◌*◌, ◌/◌, ◌%◌, ◌^◌, ◌<◌, ◌≤◌, List, length, get_or, bit_and, bit_or, ◌≢◌}
 use Rattle.std.proofs.Common.{All, sym, ap, ◌∙◌, subst, inl, inr, arith}
+use Rattle.std.proofs.Common.{get_or-set_other, get_or-set_same}
+use Rattle.std.proofs.Math.ListN.{set, length-set}
+use Rattle.std.proofs.lemmas.List.Elements.{All-set}
+use borrow.Author.Count.{below_more}
 use Rattle.std.specs.Int.{bit_at}
 use Rattle.std.specs.Int.Bits.{or_shifted_r}
 use Rattle.std.proofs.lemmas.Nat.{and_mask, shl_whole, shr-shr, shr_split, mod_below}
@@ -52,18 +56,23 @@ septet_window low high s l h =
     ∙ ap (λ x. bit_and (x / 2 ^ s) 127) (or_shifted_r high 8 low l)
     ∙ and_mask ((high * 2 ^ 8 + low) / 2 ^ s) 7
 
+-- what `joined` computes
+pub joined_window : (low high s : ℕ) → low < 128 → high < 128
+    → bit_and (bit_or low (high * 128 % 65536) / 2 ^ s) 255 ≡ (high * 128 + low) / 2 ^ s % 256
+joined_window low high s l h = octet_window low high s l h
+
 -- bit j of the octet at a place
-pub packed_bit : (xs : List ℕ) (place j low high : ℕ) → low ≡ get_or xs (8 * place / 7) 0
-    → high ≡ get_or xs (8 * place / 7 + 1) 0 → low < 128 → high < 128 → j < 8
-    → bit_at (bit_and (bit_or low (high * 128 % 65536) / 2 ^ (place % 7)) 255) j ≡ septet_bit xs (8 * place + j)
-packed_bit xs place j low high is_low is_high l h below =
-    ap (λ x. bit_at x j) (octet_window low high (place % 7) l h)
-    ∙ elim (cases_lt (place % 7 + j) 7) [
-      | inl within ↦ window_low low high 7 (place % 7) 8 j below within ∙ ap (λ x. bit_at x (place % 7 + j)) is_low
-          ∙ sym (septet_bit-at xs (8 * place + j) (8 * place / 7) (place % 7 + j) (omega arith) (omega arith))
-      | inr above ↦ window_high low high 7 (place % 7) 8 j below l above
-          ∙ ap (λ x. bit_at x (place % 7 + j - 7)) is_high ∙ sym
-          (septet_bit-at xs (8 * place + j) (8 * place / 7 + 1) (place % 7 + j - 7) (omega arith) (omega arith))
+pub packed_bit : (xs : List ℕ) (first s j low high octet : ℕ) → low ≡ get_or xs first 0
+    → high ≡ get_or xs (first + 1) 0 → low < 128 → s < 7 → j < 8 → octet ≡ (high * 128 + low) / 2 ^ s % 256
+    → bit_at octet j ≡ septet_bit xs (7 * first + s + j)
+packed_bit xs first s j low high octet is_low is_high l in_group below is =
+    ap (λ x. bit_at x j) is
+    ∙ elim (cases_lt (s + j) 7) [
+      | inl within ↦ window_low low high 7 s 8 j below within ∙ ap (λ x. bit_at x (s + j)) is_low
+          ∙ sym (septet_bit-at xs (7 * first + s + j) first (s + j) (omega arith) (omega arith))
+      | inr above ↦ window_high low high 7 s 8 j below l above
+          ∙ ap (λ x. bit_at x (s + j - 7)) is_high ∙ sym
+          (septet_bit-at xs (7 * first + s + j) (first + 1) (s + j - 7) (omega arith) (omega arith))
     ]
 
 -- bit j of the septet at a place
@@ -101,18 +110,41 @@ unpacked_value xs place low high is_low is_high l h =
 abbrev pub HasBitsOf : List ℕ → ℕ → ℕ → Type 0
 HasBitsOf septets place octet = (j : ℕ) → j < 8 → bit_at octet j ≡ septet_bit (filled septets) (8 * place + j)
 
+-- the octets before this place are packed
+pub record ArePacked (septets octets : List ℕ) (count : ℕ) : Type 0 where
+  pub size : length octets ≡ 82
+  pub fits : All (λ octet. octet < 256) octets
+  pub packed : (k : ℕ) → k < count → HasBitsOf septets k (get_or octets k 0)
+
+-- one octet more, of two septets of which the first begins s bits before it
+pub ArePacked-more : (septets octets : List ℕ) (place first s low high octet next : ℕ)
+    → ArePacked septets octets place → next ≡ place + 1 → place < 82 → 8 * place ≡ 7 * first + s → s < 7 → low ≡ get_or (filled septets) first 0
+    → high ≡ get_or (filled septets) (first + 1) 0 → low < 128 → octet < 256
+    → octet ≡ (high * 128 + low) / 2 ^ s % 256
+    → ArePacked septets (set octets place octet) next
+ArePacked-more septets octets place first s low high octet next had is_next within at in_group is_low is_high l fits is =
+    let bits : HasBitsOf septets place octet = λ j below.
+    packed_bit (filled septets) first s j low high octet is_low is_high l in_group below is
+    ∙ (let same : 7 * first + s + j ≡ 8 * place + j = omega arith in ap (λ i. septet_bit (filled septets) i) same) in
+    record {
+      size = length-set octets place octet ∙ had.size;
+      fits = All-set (λ (a : ℕ). a < 256) octets place octet fits had.fits;
+      packed = rw is_next (below_more (λ k. HasBitsOf septets k (get_or (set octets place octet) k 0)) place
+          (λ k below. let other : k ≢ place = omega arith in rw get_or-set_other (had.packed k below))
+          (let inside : place < length octets = omega (arith, had.size) in rw get_or-set_same bits));
+    }
+
 -- 82 octets of such bits are the packing
-pub IsPacked-from_octets : (septets octets : List ℕ) → length septets ≤ 93 → length octets ≡ 82
-    → All (λ octet. octet < 256) octets → ((place : ℕ) → place < 82 → HasBitsOf septets place (get_or octets place 0))
+pub IsPacked-from_octets : (septets octets : List ℕ) → length septets ≤ 93 → ArePacked septets octets 82
     → IsPacked septets octets
-IsPacked-from_octets septets octets short size fits has_bits =
+IsPacked-from_octets septets octets short done =
     let same : (i : ℕ) → i < 656 → octet_bit octets i ≡ septet_bit (filled septets) i =
     λ i within.
-    has_bits (i / 8) (omega arith) (i % 8) (omega arith)
+    done.packed (i / 8) (omega arith) (i % 8) (omega arith)
     ∙ ap (λ a. septet_bit (filled septets) a) (let whole : 8 * (i / 8) + i % 8 ≡ i = omega arith in whole) in
     record {
-      size = size;
-      in_range = fits;
+      size = done.size;
+      in_range = done.fits;
       same_bits = λ i within. same i (omega arith);
       spare_bits = λ i past within. same i within ∙ septet_bit-past septets i short past;
     }

@@ -5,9 +5,8 @@
 //! octets, and [`packing_laws`] says that the two are inverse to each other. Nothing here allocates.
 #![tactic(auto)]
 
-ghost use Rattle.std.specs.Prelude.{◌≡◌, ◌+◌, ◌*◌, ◌<◌, ℕ, All, slice_index};
-ghost use Rattle.std.specs.Int.{bit_at};
-ghost use Rattle.septets.specs.Packing.{filled, septet_at, septet_bit, unpacked, IsPacked, IsUnpacked};
+ghost use Rattle.std.specs.Prelude.{◌≡◌, ◌+◌, ◌*◌, ◌/◌, ◌%◌, ◌^◌, ◌<◌, ◌≤◌, ◌++◌, All, drop, length};
+ghost use Rattle.septets.specs.Packing.{filled, septet_at, unpacked, IsPacked, IsUnpacked};
 
 mod laws;
 
@@ -28,11 +27,25 @@ pub fn pack(septets: &ArrayVec<u8, 93>) -> [u8; 82]
     requires { All (λ septet. septet < 128) septets.now.items }
     ensures { IsPacked septets.now.items result }
 {
-    let used = septets.as_slice();
+    let page = filled_page(septets.as_slice());
     let mut octets = [0; OCTETS];
-    for (place, octet) in octets.iter_mut().enumerate() {
-        *octet = packed_octet(used, place);
+    for group in 0..GROUPS {
+        for step in 0..7 {
+            octets[7 * group + step] = joined(
+                page[8 * group + step],
+                page[8 * group + step + 1],
+                step,
+            );
+        }
     }
+    for step in 0..4 {
+        octets[7 * GROUPS + step] = joined(
+            page[8 * GROUPS + step],
+            page[8 * GROUPS + step + 1],
+            step,
+        );
+    }
+    octets[OCTETS - 1] = joined(page[SEPTETS - 1], 0, 4);
     octets
 }
 
@@ -56,28 +69,33 @@ pub fn unpack(octets: &[u8; 82]) -> [u8; 93]
 /// How many groups of eight septets a page has, each in seven octets; five septets follow.
 const GROUPS: usize = 11;
 
-/// The septet at a place of the filled page, and 0 past its end, as the spare bits want it.
-fn filled_septet(septets: &[u8], place: usize) -> u8
-    ensures { result ≡ slice_index (filled septets.now) place }
+/// The septets, and carriage return up to 93 of them.
+fn filled_page(septets: &[u8]) -> [u8; 93]
+    requires { length septets.now ≤ 93 }
+    ensures { result ≡ filled septets.now }
 {
-    match septets.get(place) {
-        Some(septet) => *septet,
-        None if place < SEPTETS => CR,
-        None => 0,
-    }
+    let mut page = [CR; SEPTETS];
+    put_first(&mut page, septets);
+    page
 }
 
-/// The octet at a place of the packed page: two septets, of which it has a part each.
-fn packed_octet(septets: &[u8], place: usize) -> u8
-    requires septets_of_seven { All (λ septet. septet < 128) septets.now }
-    requires in_page { place < 82 }
-    ensures { (j : ℕ) → j < 8 → bit_at result j ≡ septet_bit (filled septets.now) (8 * place + j) }
+/// Writes these septets over the first ones of a page.
+fn put_first(page: &mut [u8], septets: &[u8])
+    requires { length septets.now ≤ length page.old }
+    ensures { page.new ≡ septets.now ++ drop (length septets.now) page.old }
 {
-    let first = 8 * place / 7;
-    let low = filled_septet(septets, first);
-    let high = filled_septet(septets, first + 1);
+    page[..septets.len()].copy_from_slice(septets);
+}
+
+/// The octet of two septets side by side without their lowest bits, as many as it is octets after its group's first.
+fn joined(low: u8, high: u8, step: usize) -> u8
+    requires low_of_seven { low < 128 }
+    requires high_of_seven { high < 128 }
+    requires in_group { step < 7 }
+    ensures { result ≡ (high * 128 + low) / 2 ^ step % 256 }
+{
     let pair = u16::from(low) | u16::from(high) << 7;
-    (pair >> (place % 7) & 0xFF) as u8
+    (pair >> step & 0xFF) as u8
 }
 
 /// The septet at a place of the page: of two octets, seven bits.

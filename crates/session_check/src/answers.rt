@@ -17,35 +17,7 @@ use crate::notes::first_of_command;
 use bsc_table::{Answer, CellRecord, Command, Entry};
 use cbsp_wire::{Cell, cause};
 use order_desk::Note;
-use std::alloc::{AllocError, AllocFailed, Global};
-
-/// There was no memory.
-#[derive(Clone, Copy)]
-pub(crate) struct Refused;
-
-impl From<AllocError> for Refused {
-    fn from(_error: AllocError) -> Refused {
-        Refused
-    }
-}
-
-impl<T: Drop> From<AllocFailed<T>> for Refused {
-    fn from(_error: AllocFailed<T>) -> Refused {
-        Refused
-    }
-}
-
-impl From<alert_book::Refused> for Refused {
-    fn from(_error: alert_book::Refused) -> Refused {
-        Refused
-    }
-}
-
-impl From<bsc_table::Refused> for Refused {
-    fn from(_error: bsc_table::Refused) -> Refused {
-        Refused
-    }
-}
+use std::alloc::{AllocError as Refused, Global};
 
 /// The record of a cell, if it is of the run.
 fn record_of(records: &[CellRecord], cell: Cell) -> Option<&CellRecord>

@@ -9,13 +9,13 @@ ghost use Rattle.book_runs.specs.Sessions.{IsSessionOf};
 ghost use Rattle.session_check.specs.NotedSteps.{AreStanding, cells_of, commands_in};
 ghost use Rattle.session_check.specs.ReplaySteps.{IsNoTurn, IsTurnNoted};
 
-use crate::answers::{Refused, answers_in};
+use crate::answers::answers_in;
 use crate::notes::are_of_plays;
 use alert_book::{Book, Session};
 use bsc_table::{CellRecord, Command, orders_of};
 use cbsp_wire::{Cell, WireFault, read};
 use order_desk::{Note, reply_of};
-use std::alloc::Global;
+use std::alloc::{AllocError as Refused, Global};
 
 /// The cells that a message names, and the command to them; None if its octets are no order.
 fn order_in(alloc: Global, octets: &[u8]) -> Result<Option<(Vec<Cell>, Command)>, Refused>
@@ -23,7 +23,7 @@ fn order_in(alloc: Global, octets: &[u8]) -> Result<Option<(Vec<Cell>, Command)>
     ensures none { IfOk result (λ found. IfNone found ((cells : List Cell) (command : Command)
         → IsOrderOf octets.now cells command → ⊥)) }
 {
-    // What octets mean is one message, and it is read unless memory runs out.
+    // What octets mean is one message, and it is read unless out of memory.
     cbsp_wire::meaning_law();
     let message = match read(alloc, octets) {
         Ok(message) => message,

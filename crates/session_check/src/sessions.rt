@@ -6,13 +6,12 @@ ghost use Rattle.book_runs.specs.Sessions.{AreSessions, IsRightPass};
 ghost use Rattle.session_check.specs.Checked.{HasRightNumbers, IsFirstWrongPass};
 ghost use Rattle.session_check.specs.NotedSteps.{cells_of};
 
-use crate::answers::Refused;
 use crate::notes::are_of_plays;
 use crate::session::is_session;
 use alert_book::Book;
 use bsc_table::CellRecord;
 use order_desk::{Pass, SettleFault};
-use std::alloc::Global;
+use std::alloc::{AllocError as Refused, Global};
 
 /// Whether the pass of a place is right: that of the session of this part, or, after the parts, one without notes of
 /// commands.
@@ -47,7 +46,7 @@ fn is_right(
 /// # Errors
 ///
 /// - [`SettleFault::Session`] with the least part whose pass isn't right, `parts` for a pass after them.
-/// - [`SettleFault::Refused`], at any point, if memory runs out.
+/// - [`SettleFault::Refused`], at any point, if out of memory.
 pub fn check_sessions(
     alloc: Global,
     book: &Book,

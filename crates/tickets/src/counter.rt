@@ -17,20 +17,11 @@ ghost use Rattle.tickets.specs.Draws.{
 
 use crate::view::{BothParts, Draw, Draws, OnePart, View};
 use atomic_table::{Seat as Token, Table};
-use std::alloc::{AllocError, Global};
+use std::alloc::Global;
 use std::marker::Model;
-use thiserror::Error;
 
-/// There was no memory.
-#[derive(Clone, Copy, Debug, PartialEq, Eq, Error)]
-#[error("out of memory")]
-pub struct Refused;
-
-impl From<AllocError> for Refused {
-    fn from(_error: AllocError) -> Refused {
-        Refused
-    }
-}
+/// Out of memory.
+pub use std::alloc::AllocError as Refused;
 
 /// Hands out the numbers below its limit.
 #[derive(Drop)]
@@ -80,7 +71,11 @@ impl Model for Seat {
 
 impl Counter {
     /// A counter of the numbers below `count`, which is at most 65,535, and its first seat, which may be split 64
-    /// times. `Refused` if memory is refused.
+    /// times.
+    ///
+    /// # Errors
+    ///
+    /// `Refused` if out of memory.
     pub fn new(alloc: Global, count: u64) -> Result<(Counter, Seat), Refused>
         requires { count < 65536 }
         ensures { IfOk result (λ made. (made.0.limit ≡ count) × (made.1 ≡ first_seat made.0)) }

@@ -1,10 +1,16 @@
 -- What the words of a command line ask for: word 0 is the program's name, and word 1 names the command. Own.
-use Rattle.std.specs.Prelude.{◌≡◌, ℕ, ◌+◌, ◌≤◌, ◌||◌, ◌⊎◌, Bool, false, nat_eq, List, ◌∷◌, ◌++◌, Some, codes}
+use Rattle.std.specs.Prelude.{◌≡◌, ℕ, ◌+◌, ◌≤◌, ◌||◌, ◌⊎◌, Bool, false, if◌then◌else◌, nat_eq, List, ◌∷◌, ◌++◌, Some}
+use Rattle.std.specs.Prelude.{codes}
 use Rattle.std.specs.Prelude.{slice_get}
 use Rattle.std.specs.List.{list_any, starts_with}
 use Rattle.std.specs.Str.{bytes_eq}
 use Rattle.std.specs.Str.Parse.{IsNumeral, digits_value, without_leading_plus}
 use Rattle.cbs_page.specs.Serial.{serial_number, AreSerialFields}
+use Rattle.gsmtap.specs.declared.capture.Settings.{Settings}
+use Rattle.gsmtap.specs.declared.capture.Slots.{Slots}
+use Rattle.gsmtap.specs.declared.capture.Slots.TheVariants.{All, Used}
+use Rattle.gsmtap.specs.declared.packet.Channel.{Channel}
+use Rattle.gsmtap.specs.declared.packet.Channel.TheVariants.{Basic, Extended}
 
 -- the words give the option of this name this value: as the word after its name, or in one word with it, after `=`
 abbrev pub GivesValue : (words : List (List ℕ)) (name value : List ℕ) → Type 0
@@ -43,6 +49,23 @@ pub record IsPageOrder (words : List (List ℕ)) (language : List ℕ) (id seria
 -- the words ask for `read`
 abbrev pub IsReadOrder : (words : List (List ℕ)) → Type 0
 IsReadOrder words = slice_get words 1 ≡ Some (codes "read")
+
+-- which slots the words want in a capture
+abbrev pub slots_given : (words : List (List ℕ)) → Slots
+slots_given words = if is_given words (codes "--used") then Used else All
+
+-- the words give the channel that a capture names: 51 is the basic one, which it is if no word begins with the option's
+-- name, and 52 the extended one
+abbrev pub GivesChannel : (words : List (List ℕ)) → Channel → Type 0
+GivesChannel words Basic =
+    GivesNumber words (codes "--channel") 51 ⊎ (is_given words (codes "--channel") ≡ false)
+GivesChannel words Extended = GivesNumber words (codes "--channel") 52
+
+-- the words ask for `pcap`
+pub record IsPcapOrder (words : List (List ℕ)) (settings : Settings) : Type 0 where
+  pub command : slice_get words 1 ≡ Some (codes "pcap")
+  pub slots : settings.slots ≡ slots_given words
+  pub channel_given : GivesChannel words settings.channel
 
 -- the words give a number of slots, 1 to 65,535
 pub record GivesSlots (words : List (List ℕ)) (slots : ℕ) : Type 0 where

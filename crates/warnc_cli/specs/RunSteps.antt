@@ -5,10 +5,11 @@ use Rattle.std.specs.Io.KnownBytes.{Keeps}
 use Rattle.device_ends.specs.Sink.{sink_failed}
 use Rattle.device_ends.specs.declared.reading.Source.{Source}
 use Rattle.device_ends.specs.declared.writing.Sink.{Sink}
-use Rattle.warnc_cli.specs.CommandLine.{IsCompileOrder, IsLiveOrder, IsPageOrder, IsReadOrder, IsReportOrder}
+use Rattle.warnc_cli.specs.CommandLine.{IsCompileOrder, IsLiveOrder, IsPageOrder, IsPcapOrder, IsReadOrder}
+use Rattle.warnc_cli.specs.CommandLine.{IsReportOrder}
 use Rattle.warnc_cli.specs.Status.{OneHasFailed, status_of_book_fault}
 use Rattle.warnc_cli.specs.declared.command.Order.{Order}
-use Rattle.warnc_cli.specs.declared.command.Order.TheVariants.{Compile, Live, Page, Read, Report}
+use Rattle.warnc_cli.specs.declared.command.Order.TheVariants.{Compile, Live, Page, Pcap, Read, Report}
 use Rattle.order_desk.specs.declared.fault.DeskFault.{DeskFault}
 use Rattle.order_desk.specs.declared.fault.DeskFault.TheVariants as desk
 use Rattle.order_desk.specs.declared.settle.SettleFault.{SettleFault}
@@ -21,16 +22,19 @@ use Rattle.report.specs.declared.fault.ReportFault.{ReportFault}
 use Rattle.report.specs.declared.fault.ReportFault.TheVariants as report
 use Rattle.warnc_inspect.specs.declared.read.ReadCommandFault.{ReadCommandFault}
 use Rattle.warnc_inspect.specs.declared.read.ReadCommandFault.TheVariants as table
+use Rattle.warnc_air.specs.declared.pcap.PcapFault.{PcapFault}
+use Rattle.warnc_air.specs.declared.pcap.PcapFault.TheVariants as pcap
 
 -- the words ask for what `order` says
 abbrev pub IsOrdered : (words : List (List ℕ)) → Order → Type 0
 IsOrdered words (Page options) = IsPageOrder words options.language.now options.id options.serial
 IsOrdered words Read = IsReadOrder words
+IsOrdered words (Pcap settings) = IsPcapOrder words settings
 IsOrdered words (Compile slots workers) = IsCompileOrder words slots workers.number
 IsOrdered words (Report slots workers) = IsReportOrder words slots workers.number
 IsOrdered words (Live slots sessions workers) = IsLiveOrder words slots sessions.number workers.number
 
--- the status of a fault of `read`: 1 if the input is refused, 3 if a device failed, 4 if there was no memory
+-- the status of a fault of `read`: 1 if the input is refused, 3 if a device failed, 4 if out of memory
 abbrev pub status_of_read_fault : ReadCommandFault → ℕ
 status_of_read_fault table.Short = 1
 status_of_read_fault table.Long = 1
@@ -38,7 +42,15 @@ status_of_read_fault table.ReadFailed = 3
 status_of_read_fault table.Refused = 4
 status_of_read_fault table.WriteFailed = 3
 
--- the status of a fault of the desk and of its settlement: 4 if there was no memory, else 1
+-- the same of a fault of `pcap`
+abbrev pub status_of_pcap_fault : PcapFault → ℕ
+status_of_pcap_fault pcap.Short = 1
+status_of_pcap_fault pcap.Long = 1
+status_of_pcap_fault pcap.ReadFailed = 3
+status_of_pcap_fault pcap.Refused = 4
+status_of_pcap_fault pcap.WriteFailed = 3
+
+-- the status of a fault of the desk and of its settlement: 4 if out of memory, else 1
 abbrev pub status_of_desk_fault : DeskFault → ℕ
 status_of_desk_fault (desk.Memory done) = 4
 status_of_desk_fault other = 1
@@ -47,13 +59,13 @@ abbrev pub status_of_settle_fault : SettleFault → ℕ
 status_of_settle_fault settle.Refused = 4
 status_of_settle_fault other = 1
 
--- the status of a fault of workers: 4 if there was no memory, else 1
+-- the status of a fault of workers: 4 if out of memory, else 1
 abbrev pub status_of_compile_fault : CompileFault → ℕ
 status_of_compile_fault compile.Refused = 4
 status_of_compile_fault other = 1
 
 -- the status of a fault of a run: that of the book's fault, of the desk's, of the settlement's or of
--- the workers', 3 if the writer failed, 4 if there was no memory
+-- the workers', 3 if the writer failed, 4 if out of memory
 abbrev pub status_of_run_fault : RunFault → ℕ
 status_of_run_fault (run.Book f) = status_of_book_fault f
 status_of_run_fault (run.Desk f) = status_of_desk_fault f

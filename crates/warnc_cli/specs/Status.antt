@@ -6,13 +6,15 @@ use Rattle.device_ends.specs.Sink.{sink_failed}
 use Rattle.device_ends.specs.Source.{source_failed}
 use Rattle.device_ends.specs.declared.reading.Source.{Source}
 use Rattle.device_ends.specs.declared.writing.Sink.{Sink}
+use Rattle.gsmtap.specs.Capture.{IsCapture}
+use Rattle.gsmtap.specs.declared.capture.Settings.{Settings}
 use Rattle.handset.specs.Tape.{IsShort, IsLong}
 use Rattle.alert_book.specs.Book.{Contents, IsBook, IsWrong, max_input}
 use Rattle.alert_book.specs.declared.fault.BookFault.{BookFault}
 use Rattle.alert_book.specs.declared.fault.BookFaultKind.{BookFaultKind}
 use Rattle.alert_book.specs.declared.fault.BookFaultKind.TheVariants as kinds
-use Rattle.warnc_cli.specs.CommandLine.{asks_for_text, IsCompileOrder, IsLiveOrder, IsPageOrder, IsReadOrder}
-use Rattle.warnc_cli.specs.CommandLine.{IsReportOrder}
+use Rattle.warnc_cli.specs.CommandLine.{asks_for_text, IsCompileOrder, IsLiveOrder, IsPageOrder, IsPcapOrder}
+use Rattle.warnc_cli.specs.CommandLine.{IsReadOrder, IsReportOrder}
 use Rattle.warnc_run.specs.declared.fault.RunFault.{RunFault}
 use Rattle.warnc_run.specs.Compiled.{IsCompiled, StopsRun}
 use Rattle.warnc_run.specs.Live.{IsLive}
@@ -23,7 +25,7 @@ use Rattle.cbs_page.specs.declared.paging.TextFault.TheVariants as text
 use Rattle.warnc_inspect.specs.declared.page.PageFault.{PageFault}
 use Rattle.warnc_inspect.specs.declared.page.PageFault.TheVariants as fault
 
--- 1 if the input is refused, 3 if a device failed, 4 if there was no memory
+-- 1 if the input is refused, 3 if a device failed, 4 if out of memory
 abbrev pub status_of_page_fault : PageFault → ℕ
 status_of_page_fault fault.ReadFailed = 3
 status_of_page_fault fault.TooLong = 1
@@ -88,6 +90,13 @@ pub record WroteTable (words : List (List ℕ)) (input old new : Option (List �
   pub asked : IsReadOrder words
   pub wrote : WritesOutput IsReadOutput input old new
 
+-- the words ask for `pcap`, and what was written is the capture of the tapes, for the slots and the channel that the
+-- words give
+pub record WroteCapture (words : List (List ℕ)) (input old new : Option (List ℕ)) : Type 0 where
+  pub settings : Settings
+  pub asked : IsPcapOrder words settings
+  pub wrote : WritesOutput (IsCapture settings) input old new
+
 -- the words ask for `compile`, and what was written is the tapes of the book's cells, in runs of as many slots as the
 -- words say, whatever the number of workers
 pub record WroteTapes (words : List (List ℕ)) (input old new : Option (List ℕ)) : Type 0 where
@@ -115,8 +124,8 @@ pub record WroteReport (words : List (List ℕ)) (input old new : Option (List �
 
 abbrev pub WroteWhatIsAsked : (words : List (List ℕ)) (input old new : Option (List ℕ)) → Type 0
 WroteWhatIsAsked words input old new = WroteText words old new ⊎
-    (WrotePages words input old new ⊎ (WroteTable words input old new
-    ⊎ (WroteTapes words input old new ⊎ (WroteLiveTapes words input old new ⊎ WroteReport words input old new))))
+    (WrotePages words input old new ⊎ (WroteTable words input old new ⊎ (WroteCapture words input old new
+    ⊎ (WroteTapes words input old new ⊎ (WroteLiveTapes words input old new ⊎ WroteReport words input old new)))))
 
 -- What status 1 says: the command that the words ask for refuses the input.
 
@@ -131,6 +140,12 @@ pub record RefusesText (words : List (List ℕ)) (input : Option (List ℕ)) : T
 -- the words ask for `read`, and the input is no whole tapes
 pub record RefusesTapes (words : List (List ℕ)) (input : Option (List ℕ)) : Type 0 where
   pub asked : IsReadOrder words
+  pub refused : IfSome input IsNoTapes
+
+-- the words ask for `pcap`, and the input is no whole tapes
+pub record RefusesCapture (words : List (List ℕ)) (input : Option (List ℕ)) : Type 0 where
+  pub settings : Settings
+  pub asked : IsPcapOrder words settings
   pub refused : IfSome input IsNoTapes
 
 -- the words ask for `compile`, and the input is no book or has no run
@@ -157,8 +172,8 @@ pub record RefusesReportedAlerts (words : List (List ℕ)) (input : Option (List
 
 abbrev pub RefusesInput : (words : List (List ℕ)) (input : Option (List ℕ)) → Type 0
 RefusesInput words input =
-    RefusesText words input ⊎ (RefusesTapes words input ⊎ (RefusesAlerts words input
-    ⊎ (RefusesLiveAlerts words input ⊎ RefusesReportedAlerts words input)))
+    RefusesText words input ⊎ (RefusesTapes words input ⊎ (RefusesCapture words input ⊎ (RefusesAlerts words input
+    ⊎ (RefusesLiveAlerts words input ⊎ RefusesReportedAlerts words input))))
 
 -- one of the two ends has failed
 abbrev pub OneHasFailed : {R W : Type 0} → Source R → Sink W → Type 0

@@ -2,11 +2,13 @@
 
 ghost use Rattle.std.specs.Prelude.{◌≡◌, ◌⊎◌, false, IfOk, IfSome, codes, map, slice_get};
 ghost use Rattle.warnc_cli.specs.CommandLine.{asks_for_text, begins_with, is_given, is_text_word, GivesNumber};
-ghost use Rattle.warnc_cli.specs.CommandLine.{GivesSlots, GivesThreads, GivesValue, IsPageOrder};
+ghost use Rattle.warnc_cli.specs.CommandLine.{GivesChannel, GivesSlots, GivesThreads, GivesValue, IsPageOrder};
+ghost use Rattle.warnc_cli.specs.CommandLine.{slots_given};
 ghost use Rattle.warnc_cli.specs.RunSteps.{IsOrdered};
 
 use cbs_page::Serial;
-use clap::{Arg, Command, Error, value_parser};
+use clap::{Arg, ArgAction, Command, Error, value_parser};
+use gsmtap::{Channel, Settings, Slots};
 use std::alloc::{AllocError, Global};
 use std::convert::AsStr;
 use warnc_run::{Sessions, Workers};
@@ -32,6 +34,8 @@ pub enum Order<'a> {
     Page(PageOptions<'a>),
     /// `read`.
     Read,
+    /// `pcap`.
+    Pcap(Settings),
     /// `compile`.
     Compile {
         /// How many slots each cell's run has, at least 1.
@@ -57,11 +61,12 @@ pub enum Order<'a> {
     },
 }
 
-/// What the words ask for, or the text that clap has for them: help, the version, or what is wrong with them. clap
-/// judges the words; what they give is then looked up in the words themselves, since the contracts of clap don't reach
-/// into a subcommand.
+/// What the words ask for. clap judges the words; what they give is then looked up in the words themselves, since the
+/// contracts of clap don't reach into a subcommand. None never comes of words that clap takes.
 ///
-/// None never comes of words that clap takes.
+/// # Errors
+///
+/// The text that clap has for the words: help, the version, or what is wrong with them.
 pub fn order_of<'a, S: AsStr>(alloc: Global, words: &'a [S]) -> Result<Option<Order<'a>>, Error>
     ensures { IfOk result (λ order. IfSome order (IsOrdered (map S.text words.now))) }
 {
@@ -81,6 +86,10 @@ fn order_in<'a, S: AsStr>(words: &'a [S]) -> Option<Order<'a>>
             None => None,
         },
         "read" => Some(Order::Read),
+        "pcap" => Some(Order::Pcap(Settings {
+            channel: channel_in(words)?,
+            slots: captured_slots(words),
+        })),
         "compile" => Some(Order::Compile {
             slots: slots_in(words)?,
             workers: workers_in(words)?,
@@ -111,6 +120,31 @@ fn page_options<'a, S: AsStr>(words: &'a [S]) -> Option<PageOptions<'a>>
         id: number_of(words, "--id")?,
         serial: Serial::new(scope, number_of(words, "--code")?, update)?,
     })
+}
+
+/// The channel that the words give, the basic one if they give none.
+fn channel_in<S: AsStr>(words: &[S]) -> Option<Channel>
+    ensures { IfSome result (GivesChannel (map S.text words.now)) }
+{
+    if !is_given(words, "--channel") {
+        return Some(Channel::Basic);
+    }
+    match number_of(words, "--channel")? {
+        51 => Some(Channel::Basic),
+        52 => Some(Channel::Extended),
+        _ => None,
+    }
+}
+
+/// The slots that the words want in a capture.
+fn captured_slots<S: AsStr>(words: &[S]) -> Slots
+    ensures { result ≡ slots_given (map S.text words.now) }
+{
+    if is_given(words, "--used") {
+        Slots::Used
+    } else {
+        Slots::All
+    }
 }
 
 /// The number of slots that the words give.
@@ -227,6 +261,7 @@ fn warnc<'a>(alloc: Global) -> Result<Command<'a>, AllocError> {
         .subcommand(page(alloc)?)?
         .subcommand(compile(alloc)?)?
         .subcommand(live(alloc)?)?
+        .subcommand(pcap(alloc)?)?
         .subcommand(read(alloc))?
         .subcommand(report(alloc)?)
 }
@@ -236,6 +271,32 @@ fn read<'a>(alloc: Global) -> Command<'a> {
     Command::new(alloc, "read")
         .about("Reads tapes of blocks and writes a table of what a handset shows of them, as CSV")
         .after_help("Example: warnc read < tapes")
+}
+
+/// The command line of `pcap`.
+fn pcap<'a>(alloc: Global) -> Result<Command<'a>, AllocError> {
+    Command::new(alloc, "pcap")
+        .about("Reads tapes of blocks and writes them as a capture file, a GSMTAP packet for each block")
+        .after_help("Example: warnc pcap --used < tapes > air.pcap")
+        .arg(used(alloc))?
+        .arg(channel(alloc))
+}
+
+/// The option that leaves idle slots out of a capture.
+fn used<'a>(alloc: Global) -> Arg<'a> {
+    Arg::new(alloc, "used")
+        .long("used")
+        .help("Leaves out slots in which no page is sent")
+        .action(ArgAction::SetTrue)
+}
+
+/// The option of the channel that a capture names.
+fn channel<'a>(alloc: Global) -> Arg<'a> {
+    Arg::new(alloc, "channel")
+        .long("channel")
+        .value_name("CHANNEL")
+        .help("The channel that the packets name: 51 for the basic one, 52 for the extended; 51 if it isn't given")
+        .value_parser(value_parser!(u16).range(51..=52))
 }
 
 /// The command line of `compile`.

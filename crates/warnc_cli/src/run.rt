@@ -8,6 +8,7 @@ ghost use Rattle.device_ends.specs.Source.{reader_of, source_failed};
 ghost use Rattle.warnc_run.specs.Compiled.{IsCompiled};
 ghost use Rattle.warnc_run.specs.Live.{IsLive};
 ghost use Rattle.warnc_run.specs.Reported.{IsReported};
+ghost use Rattle.gsmtap.specs.Capture.{IsCapture};
 ghost use Rattle.warnc_inspect.specs.PageOutput.{IsPageOutput};
 ghost use Rattle.warnc_inspect.specs.ReadOutput.{IsReadOutput};
 ghost use Rattle.warnc_cli.specs.RunSteps.{IsRunBetween, IsStatusOfSink};
@@ -19,12 +20,14 @@ use crate::status::{DEVICE, DONE, MEMORY, REFUSED_INPUT, USAGE, failed};
 use clap::Error;
 use clap::error::ErrorKind;
 use device_ends::{Sink, Source, write_all};
+use gsmtap::Settings;
 use order_desk::Open;
 use std::alloc::{AllocGlobal, Global};
 use std::convert::AsStr;
 use std::io::{Read, Write};
 use std::sync::Wait;
 use std::thread::Threads;
+use warnc_air::pcap::pcap_stream;
 use warnc_inspect::page::page_stream;
 use warnc_inspect::read::read_stream;
 use warnc_run::{ReportRunFault, Sessions, Workers, compile_stream, live_stream, report_stream};
@@ -79,6 +82,7 @@ pub fn run_between<T: AllocGlobal + Threads + Wait + Sync, S: AsStr, R: Read, W:
         Ok(Some(order)) => match order {
             Order::Page(options) => run_page(alloc, &options, source, sink, faults),
             Order::Read => run_read(alloc, source, sink, faults),
+            Order::Pcap(settings) => run_pcap(alloc, settings, source, sink, faults),
             Order::Compile { slots, workers } => {
                 run_compile(rt, slots, workers, source, sink, faults)
             }
@@ -144,6 +148,27 @@ fn run_read<R: Read, W: Write, F: Write>(
     ensures refused { result ≡ REFUSED_INPUT → IfSome (R.remaining (reader_of source.old)) IsNoTapes }
 {
     match read_stream(alloc, source, sink) {
+        Ok(()) => DONE,
+        Err(fault) => failed(&fault, faults),
+    }
+}
+
+/// Runs `pcap`, and returns the status.
+fn run_pcap<R: Read, W: Write, F: Write>(
+    alloc: Global,
+    settings: Settings,
+    source: &mut Source<R>,
+    sink: &mut Sink<W>,
+    faults: &mut F,
+) -> u8
+    ensures done { result ≡ DONE → WritesOutput (IsCapture settings)
+        (R.remaining (reader_of source.old)) (W.contents (writer_of sink.old)) (W.contents (writer_of sink.new)) }
+    ensures any_device { IsRunBetween result source.new sink.old sink.new
+        (W.contents (writer_of sink.old)) (W.contents (writer_of sink.new)) }
+    ensures wrote { result ≡ DONE → WritesSome (W.contents (writer_of sink.old)) (W.contents (writer_of sink.new)) }
+    ensures refused { result ≡ REFUSED_INPUT → IfSome (R.remaining (reader_of source.old)) IsNoTapes }
+{
+    match pcap_stream(alloc, source, sink, settings) {
         Ok(()) => DONE,
         Err(fault) => failed(&fault, faults),
     }

@@ -1,7 +1,8 @@
 //! The statuses of a run, and which fault ends one with which status.
 
 ghost use Rattle.std.specs.Prelude.{◌≡◌, ℕ};
-ghost use Rattle.warnc_cli.specs.RunSteps.{status_of_read_fault, status_of_report_fault, status_of_run_fault};
+ghost use Rattle.warnc_cli.specs.RunSteps.{status_of_pcap_fault, status_of_read_fault, status_of_report_fault};
+ghost use Rattle.warnc_cli.specs.RunSteps.{status_of_run_fault};
 ghost use Rattle.warnc_cli.specs.Status.{status_of_book_fault, status_of_page_fault};
 
 use alert_book::{BookFault, BookFaultKind};
@@ -11,6 +12,7 @@ use parallel_compile::CompileFault;
 use report::ReportFault;
 use std::fmt::Display;
 use std::io::Write;
+use warnc_air::pcap::PcapFault;
 use warnc_inspect::page::PageFault;
 use warnc_inspect::read::ReadCommandFault;
 use warnc_run::RunFault;
@@ -27,7 +29,7 @@ pub const USAGE: u8 = 2;
 /// A device failed.
 pub const DEVICE: u8 = 3;
 
-/// There was no memory.
+/// Out of memory.
 pub const MEMORY: u8 = 4;
 
 /// A fault that ends a run: its text is the line that reports it.
@@ -70,6 +72,18 @@ impl Fault for ReadCommandFault {
             ReadCommandFault::Short | ReadCommandFault::Long => REFUSED_INPUT,
             ReadCommandFault::ReadFailed | ReadCommandFault::WriteFailed => DEVICE,
             ReadCommandFault::Refused => MEMORY,
+        }
+    }
+}
+
+impl Fault for PcapFault {
+    ghost status_of = { status_of_pcap_fault };
+
+    fn status(&self) -> u8 {
+        match *self {
+            PcapFault::Short | PcapFault::Long => REFUSED_INPUT,
+            PcapFault::ReadFailed | PcapFault::WriteFailed => DEVICE,
+            PcapFault::Refused => MEMORY,
         }
     }
 }

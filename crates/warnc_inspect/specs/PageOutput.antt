@@ -85,3 +85,7 @@ IsStreamFault language id serial input old new (fault.Text text_fault) =
 IsStreamFault language id serial input old new fault.Refused = Keeps old new
 IsStreamFault language id serial input old new fault.WriteFailed =
     (output : List ℕ) × IsPageOutput language id serial input output × AppendsFront old new output
+
+-- the fault of a failed writer
+abbrev pub IsPageWriteFault : PageFault → Type 0
+IsPageWriteFault f = f ≡ fault.WriteFailed

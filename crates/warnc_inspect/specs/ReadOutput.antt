@@ -63,3 +63,7 @@ IsReadTo old new fault.Long = StopsAt max_tapes old new tape.Long
 IsReadTo old new fault.ReadFailed = StopsAt max_tapes old new tape.ReadFailed
 IsReadTo old new fault.Refused = StopsAt max_tapes old new tape.Refused ⊎ IsAtEnd new
 IsReadTo old new fault.WriteFailed = IsAtEnd new
+
+-- the fault of a failed writer
+abbrev pub IsReadWriteFault : ReadCommandFault → Type 0
+IsReadWriteFault f = f ≡ fault.WriteFailed

@@ -1,14 +1,13 @@
 //! The command `page`: one text to the blocks of its pages, and what a handset shows of them.
 
-ghost use Rattle.std.specs.Prelude.{◌≡◌, ◌≤◌, ◌+◌, ◌++◌, length, string_bytes, IfErr, IfOk, IfSome, OnOk};
+ghost use Rattle.std.specs.Prelude.{◌≡◌, ◌≤◌, ◌+◌, ◌++◌, length, string_bytes, IfErr, IfOk, OnOk};
 ghost use Rattle.std.specs.List.{flat_map};
 ghost use Rattle.device_ends.specs.Moves.{ConsumesSome, WritesOutput};
-ghost use Rattle.device_ends.specs.Sink.{writer_of};
 ghost use Rattle.device_ends.specs.Source.{reader_of};
-ghost use Rattle.device_ends.specs.Stream.{IsStreamBetween};
+ghost use Rattle.device_ends.specs.Stream.{Between, FaultOfInput, IsStreamBetween};
 ghost use Rattle.handset.specs.Keeping.{HasRead, message_shown, messages_of};
 ghost use Rattle.warnc_inspect.specs.PageOutput.{without_final_lf, blocks_of_message, block_line, message_line};
-ghost use Rattle.warnc_inspect.specs.PageOutput.{lines_of, IsPageOutput, IsPageFault, IsStreamFault};
+ghost use Rattle.warnc_inspect.specs.PageOutput.{lines_of, IsPageOutput, IsPageFault, IsStreamFault, IsPageWriteFault};
 
 use cbch_blocks::cut;
 use cbs_page::{Paged, Serial, TextFault, page_bytes, paginate};
@@ -37,7 +36,7 @@ pub enum PageFault {
     /// The text can't be sent.
     #[error("{0}")]
     Text(TextFault),
-    /// There was no memory.
+    /// Out of memory.
     #[error("out of memory")]
     Refused,
     /// The writer failed. Some of the output may be out.
@@ -47,6 +46,10 @@ pub enum PageFault {
 
 /// Reads one text, and writes the blocks of its pages, a line each, and then what a handset shows of these blocks. One
 /// LF at the end of the input isn't part of the text. Nothing is written before all of the output is made.
+///
+/// # Errors
+///
+/// The first [`PageFault`] that applies, with nothing written but after `WriteFailed`.
 pub fn page_stream<R: Read, W: Write>(
     alloc: Global,
     source: &mut Source<R>,
@@ -56,19 +59,18 @@ pub fn page_stream<R: Read, W: Write>(
     serial: Serial,
 ) -> Result<(), PageFault>
     // What was written is what the definitions make of the octets that were read, at any reader of some octets.
-    ensures ok { OnOk result (WritesOutput (IsPageOutput language.now id serial) (R.remaining (reader_of source.old))
-        (W.contents (writer_of sink.old)) (W.contents (writer_of sink.new))) }
-    ensures fault { IfErr result (λ fault. IfSome (R.remaining (reader_of source.old)) (λ input.
-        IsStreamFault language.now id serial input (W.contents (writer_of sink.old)) (W.contents (writer_of sink.new))
-        fault)) }
+    ensures ok { OnOk result (Between R.remaining W.contents (λ first last.
+        WritesOutput (IsPageOutput language.now id serial) first) source.old source.new sink.old sink.new) }
+    ensures err { IfErr result (FaultOfInput R.remaining W.contents (IsStreamFault language.now id serial) source.old
+        sink.old sink.new) }
 
     // One octet past the bound is read at most.
     ensures reads { ConsumesSome (R.remaining (reader_of source.old)) (R.remaining (reader_of source.new))
         (MAX_INPUT + 1) }
 
     // At any reader and any writer.
-    ensures any_device { IsStreamBetween PageFault.ReadFailed (λ fault. fault ≡ PageFault.WriteFailed) result source.old
-        source.new sink.old sink.new (W.contents (writer_of sink.old)) (W.contents (writer_of sink.new)) }
+    ensures any_ends { IsStreamBetween PageFault.ReadFailed IsPageWriteFault result W.contents source.old source.new
+        sink.old sink.new }
 {
     let input = match read_up_to(source, alloc, MAX_INPUT) {
         Ok(input) => input,

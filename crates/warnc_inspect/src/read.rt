@@ -1,12 +1,11 @@
 //! The command `read`: tapes to a table of what a handset shows of them.
 
-ghost use Rattle.std.specs.Prelude.{◌≡◌, IfErr, IfSome, OnOk};
+ghost use Rattle.std.specs.Prelude.{◌≡◌, IfErr, OnOk};
 ghost use Rattle.std.specs.Io.KnownBytes.{IsAtEnd};
 ghost use Rattle.device_ends.specs.Moves.{WritesOutput};
-ghost use Rattle.device_ends.specs.Sink.{writer_of};
 ghost use Rattle.device_ends.specs.Source.{reader_of};
-ghost use Rattle.device_ends.specs.Stream.{IsStreamBetween};
-ghost use Rattle.warnc_inspect.specs.ReadOutput.{IsReadOutput, IsReadFault, IsReadTo};
+ghost use Rattle.device_ends.specs.Stream.{Between, FaultOfInput, IsStreamBetween};
+ghost use Rattle.warnc_inspect.specs.ReadOutput.{IsReadOutput, IsReadFault, IsReadTo, IsReadWriteFault};
 ghost use Rattle.warnc_inspect.specs.ReadSteps.{fault_of_tapes};
 
 use crate::table::Table;
@@ -28,7 +27,7 @@ pub enum ReadCommandFault {
     /// The reader failed.
     #[error("read failed")]
     ReadFailed,
-    /// There was no memory.
+    /// Out of memory.
     #[error("out of memory")]
     Refused,
     /// The writer failed. Some of the table may be out.
@@ -39,25 +38,27 @@ pub enum ReadCommandFault {
 /// Reads 0 to 64 tapes up to the end of the input, and writes a table of the messages that they show, as CSV: a row of
 /// the columns' names, and then a row for each message, tapes in order, messages in the order in which they are shown.
 /// Nothing is written before the last tape is read and the table is made; of the tapes no more is kept than their rows.
+///
+/// # Errors
+///
+/// The first [`ReadCommandFault`] that applies, with nothing written but after `WriteFailed`.
 pub fn read_stream<R: Read, W: Write>(
     alloc: Global,
     source: &mut Source<R>,
     sink: &mut Sink<W>,
 ) -> Result<(), ReadCommandFault>
     // What was written is the table of what the tapes show, at any reader of some tapes.
-    ensures ok { OnOk result (WritesOutput IsReadOutput (R.remaining (reader_of source.old))
-        (W.contents (writer_of sink.old)) (W.contents (writer_of sink.new))) }
-    ensures fault { IfErr result (λ fault. IfSome (R.remaining (reader_of source.old)) (λ input.
-        IsReadFault input (W.contents (writer_of sink.old)) (W.contents (writer_of sink.new)) fault)) }
+    ensures ok { OnOk result (Between R.remaining W.contents (λ first last. WritesOutput IsReadOutput first) source.old
+        source.new sink.old sink.new) }
+    ensures err { IfErr result (FaultOfInput R.remaining W.contents IsReadFault source.old sink.old sink.new) }
 
     // How far the source was read: to its end, or as the fault says and no further.
     ensures whole { OnOk result (IsAtEnd (R.remaining (reader_of source.new))) }
     ensures extent { IfErr result (IsReadTo (R.remaining (reader_of source.old)) (R.remaining (reader_of source.new))) }
 
     // At any reader and any writer.
-    ensures any_device { IsStreamBetween ReadCommandFault.ReadFailed (λ fault. fault ≡ ReadCommandFault.WriteFailed)
-        result source.old source.new sink.old sink.new (W.contents (writer_of sink.old))
-        (W.contents (writer_of sink.new)) }
+    ensures any_ends { IsStreamBetween ReadCommandFault.ReadFailed IsReadWriteFault result W.contents source.old
+        source.new sink.old sink.new }
 {
     if source.failed() {
         return Err(ReadCommandFault::ReadFailed);

@@ -21,7 +21,11 @@ impl Table {
     ghost use Rattle.warnc_inspect.specs.ReadOutput.{reading_rows, table_of};
     ghost use Rattle.warnc_inspect.specs.ReadSteps.{IsTable};
 
-    /// A table of no messages. The only error is that memory was refused.
+    /// A table of no messages.
+    ///
+    /// # Errors
+    ///
+    /// Out of memory.
     pub fn new(alloc: Global) -> Result<Table, AllocError>
         ensures { IfOk result (λ table. IsTable table (table_of [])) }
     {
@@ -74,7 +78,7 @@ impl Table {
         ])
     }
 
-    /// Appends a row. A writer to memory fails only if memory is refused.
+    /// Appends a row. A writer to memory fails only if out of memory.
     fn push_row(&mut self, fields: &[&[u8]]) -> Result<(), AllocError>
         ensures { OnOk result ((octets : List ℕ) → IsTable self.old octets →
             IsTable self.new (octets ++ row (map (λ f. f.now) fields.now))) }
@@ -86,6 +90,10 @@ impl Table {
     }
 
     /// The table's octets.
+    ///
+    /// # Errors
+    ///
+    /// Out of memory.
     pub fn into_octets(self) -> Result<Vec<u8>, AllocError>
         ensures { IfOk result (λ octets. (text : List ℕ) → IsTable self text → octets.items ≡ text) }
     {

@@ -1,9 +1,12 @@
 -- What `warnc compile` makes of the octets that it reads: the tapes of the book's cells. Own.
-use Rattle.std.specs.Prelude.{◌≡◌, ◌≢◌, ⊤, ℕ, ◌+◌, ◌*◌, ◌<◌, ◌≤◌, List, length, take, Option, All}
+use Rattle.std.specs.Prelude.{◌≡◌, ◌≢◌, ⊤, ℕ, ◌+◌, ◌*◌, ◌<◌, ◌≤◌, List, length, take, Option, Result, All}
 use Rattle.std.specs.Io.KnownBytes.{Appends, Consumes, IsAtEnd, Keeps}
 use Rattle.std.specs.List.{flat_map}
 use Rattle.device_ends.specs.Moves.{AppendsFront}
-use Rattle.alert_book.specs.Book.{Contents, IsBook, RefusesBook}
+use Rattle.device_ends.specs.Stream.{IsStreamBetween}
+use Rattle.device_ends.specs.declared.reading.Source.{Source}
+use Rattle.device_ends.specs.declared.writing.Sink.{Sink}
+use Rattle.alert_book.specs.Book.{Contents, IsBook, RefusesBook, unread}
 use Rattle.bsc_table.specs.Record.{Record}
 use Rattle.order_desk.specs.declared.fault.DeskFault.{DeskFault}
 use Rattle.order_desk.specs.declared.fault.DeskFault.TheVariants as desk
@@ -133,3 +136,13 @@ IsRunFault slots parts Means first last old new (fault.Compile f) = IsCompileFau
 IsRunFault slots parts Means first last old new fault.Refused = Keeps old new
 IsRunFault slots parts Means first last old new (fault.Write failed) =
     MakesTapesFront Means (tape_size slots) failed.written first last old new
+
+-- why no tapes were made of a book in a run of its one session
+abbrev pub IsCompileRunFault : (slots : ℕ) → (first last old new : Option (List ℕ)) → RunFault → Type 0
+IsCompileRunFault slots first last old new f = IsRunFault slots 1 (IsCompiled slots) first last old new f
+
+-- what is so of a run at any reader and any writer
+abbrev pub IsRunAtEnds : {R W : Type 0} → Result (Unit {0}) RunFault → (held : W → Option (List ℕ))
+    → (first last : Source R) → (old new : Sink W) → Type 0
+IsRunAtEnds result held first last old new =
+    IsStreamBetween (fault.Book unread) IsWriteFault result held first last old new

@@ -1,6 +1,6 @@
 -- What `warnc live` makes of the octets that it reads: the tapes of the book's cells, whose orders came of several
 -- sessions side by side. Own.
-use Rattle.std.specs.Prelude.{◌≡◌, ℕ, List, length, All}
+use Rattle.std.specs.Prelude.{◌≡◌, ℕ, List, Option, length, All}
 use Rattle.std.specs.List.{flat_map}
 use Rattle.alert_book.specs.Book.{Contents, IsBook}
 use Rattle.bsc_table.specs.Record.{Record}
@@ -9,6 +9,8 @@ use Rattle.book_runs.specs.Live.{IsLiveRun}
 use Rattle.book_runs.specs.Meant.{IsMeantIn}
 use Rattle.book_runs.specs.Ordered.{AreThoseStarted}
 use Rattle.book_runs.specs.Run.{Exchange}
+use Rattle.warnc_run.specs.declared.fault.RunFault.{RunFault}
+use Rattle.warnc_run.specs.Compiled.{IsRunFault}
 
 -- what is written for the octets that were read: they are a book; a run of as many sessions as there are parts gives
 -- each cell a record, which shows what the book means; each message that a cell accepted is one that an order of the
@@ -24,3 +26,7 @@ pub record IsLive (slots parts : ℕ) (input output : List ℕ) : Type 0 where
   pub meant : All (IsMeantIn book) records
   pub accepted : All (AreThoseStarted book (flat_map (λ (exchanges : List Exchange). exchanges) sessions)) records
   pub written : output ≡ flat_map tape_of_record records
+
+-- why no tapes were made of a book in a run with so many sessions
+abbrev pub IsLiveFault : (slots sessions : ℕ) → (first last old new : Option (List ℕ)) → RunFault → Type 0
+IsLiveFault slots sessions first last old new f = IsRunFault slots sessions (IsLive slots sessions) first last old new f

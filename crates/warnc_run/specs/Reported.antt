@@ -1,7 +1,10 @@
 -- What `warnc report` makes of the octets that it reads: the report of the book's cells. Own.
-use Rattle.std.specs.Prelude.{◌≡◌, ⊤, ℕ, List, Option, All, map}
+use Rattle.std.specs.Prelude.{◌≡◌, ⊤, ℕ, List, Option, Result, All, map}
 use Rattle.std.specs.Io.KnownBytes.{Keeps}
-use Rattle.alert_book.specs.Book.{Contents, IsBook}
+use Rattle.device_ends.specs.Stream.{IsStreamBetween}
+use Rattle.device_ends.specs.declared.reading.Source.{Source}
+use Rattle.device_ends.specs.declared.writing.Sink.{Sink}
+use Rattle.alert_book.specs.Book.{Contents, IsBook, unread}
 use Rattle.bsc_table.specs.Record.{Record}
 use Rattle.cbch_blocks.specs.RecordBlocks.{blocks_of}
 use Rattle.handset.specs.Reception.{shown_in}
@@ -55,3 +58,12 @@ IsReportRunFault slots Means first last old new (fault.Run f) =
 IsReportRunFault slots Means first last old new (fault.Report report.Cells) = ⊥
 IsReportRunFault slots Means first last old new (fault.Report report.WriteFailed) = MakesFront Means first last old new
 IsReportRunFault slots Means first last old new (fault.Report report.Refused) = ReadsBook first last × Keeps old new
+
+abbrev pub IsReportFault : (slots : ℕ) → (first last old new : Option (List ℕ)) → ReportRunFault → Type 0
+IsReportFault slots first last old new f = IsReportRunFault slots (IsReported slots) first last old new f
+
+-- what is so of a report at any reader and any writer
+abbrev pub IsReportAtEnds : {R W : Type 0} → Result (Unit {0}) ReportRunFault → (held : W → Option (List ℕ))
+    → (first last : Source R) → (old new : Sink W) → Type 0
+IsReportAtEnds result held first last old new =
+    IsStreamBetween (fault.Run (run.Book unread)) IsReportWriteFault result held first last old new

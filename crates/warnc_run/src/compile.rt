@@ -1,12 +1,9 @@
 //! The command `compile`: a book of alerts to the tapes of its cells.
 
 ghost use Rattle.std.specs.Prelude.{◌≡◌, ◌↔◌, IfErr, IsErrOf, OnOk};
-ghost use Rattle.device_ends.specs.Sink.{writer_of};
-ghost use Rattle.device_ends.specs.Source.{reader_of};
-ghost use Rattle.device_ends.specs.Stream.{IsStreamBetween};
-ghost use Rattle.alert_book.specs.Book.{unread};
+ghost use Rattle.device_ends.specs.Stream.{Between, FaultBetween};
 ghost use Rattle.parallel_compile.specs.declared.fault.CompileFault.TheVariants as compile;
-ghost use Rattle.warnc_run.specs.Compiled.{AreWorkers, IsCompiled, IsRunFault, IsWriteFault, Makes};
+ghost use Rattle.warnc_run.specs.Compiled.{AreWorkers, IsCompileRunFault, IsCompiled, IsRunAtEnds, Makes};
 ghost use Rattle.warnc_run.specs.declared.fault.RunFault.TheVariants as faults;
 
 use crate::fault::RunFault;
@@ -35,10 +32,10 @@ pub fn compile_stream<T: AllocGlobal + Threads + Wait + Sync, R: Read, W: Write>
     slots: u16,
     workers: u64,
 ) -> Result<(), RunFault>
-    ensures ok { OnOk result (Makes (IsCompiled slots) (R.remaining (reader_of source.old))
-        (R.remaining (reader_of source.new)) (W.contents (writer_of sink.old)) (W.contents (writer_of sink.new))) }
-    ensures fault { IfErr result (IsRunFault slots 1 (IsCompiled slots) (R.remaining (reader_of source.old))
-        (R.remaining (reader_of source.new)) (W.contents (writer_of sink.old)) (W.contents (writer_of sink.new))) }
+    ensures ok { OnOk result (Between R.remaining W.contents (Makes (IsCompiled slots)) source.old source.new sink.old
+        sink.new) }
+    ensures err { IfErr result (FaultBetween R.remaining W.contents (IsCompileRunFault slots) source.old source.new
+        sink.old sink.new) }
 
     // The number of workers is judged first, and nothing is done if it is wrong.
     ensures workers { IsErrOf result (faults.Compile compile.Workers) ↔ (AreWorkers workers → ⊥) }
@@ -46,8 +43,8 @@ pub fn compile_stream<T: AllocGlobal + Threads + Wait + Sync, R: Read, W: Write>
         → (source.new ≡ source.old) × (sink.new ≡ sink.old) }
 
     // At any reader and any writer.
-    ensures any_ends { AreWorkers workers → IsStreamBetween (faults.Book unread) IsWriteFault result source.old
-        source.new sink.old sink.new (W.contents (writer_of sink.old)) (W.contents (writer_of sink.new)) }
+    ensures any_ends { AreWorkers workers
+        → IsRunAtEnds result W.contents source.old source.new sink.old sink.new }
 {
     // A run of one session is a run of the book.
     book_runs::session_laws();

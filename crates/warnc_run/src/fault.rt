@@ -22,13 +22,13 @@ pub enum RunFault {
     /// What the passes note isn't what the cells hold, or isn't what the sessions ordered.
     #[error("{0}")]
     Settle(SettleFault),
-    /// The number of workers isn't one that there can be, or they had no memory.
+    /// The number of workers isn't one that there can be, or they were out of memory.
     #[error("{0}")]
     Compile(CompileFault),
     /// The writer failed. Some tapes are out whole, and of the one under way as many octets as the fault names.
     #[error("{0}")]
     Write(WriteFailed),
-    /// There was no memory.
+    /// Out of memory.
     #[error("out of memory")]
     Refused,
 }
@@ -49,35 +49,11 @@ impl<T: Drop> From<AllocFailed<T>> for RunFault {
     }
 }
 
-impl From<alert_book::Refused> for RunFault {
-    ghost from_gives = { λ _ fault. fault ≡ faults.Refused };
-
-    fn from(_error: alert_book::Refused) -> RunFault {
-        RunFault::Refused
-    }
-}
-
 impl From<DeskFault> for RunFault {
     ghost from_gives = { λ desk fault. fault ≡ faults.Desk desk };
 
     fn from(fault: DeskFault) -> RunFault {
         RunFault::Desk(fault)
-    }
-}
-
-impl From<bsc_table::Refused> for RunFault {
-    ghost from_gives = { λ _ fault. fault ≡ faults.Refused };
-
-    fn from(_error: bsc_table::Refused) -> RunFault {
-        RunFault::Refused
-    }
-}
-
-impl From<tickets::Refused> for RunFault {
-    ghost from_gives = { λ _ fault. fault ≡ faults.Refused };
-
-    fn from(_error: tickets::Refused) -> RunFault {
-        RunFault::Refused
     }
 }
 

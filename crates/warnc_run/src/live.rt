@@ -1,13 +1,10 @@
 //! The command `live`: a book of alerts, whose parts are ordered side by side, to the tapes of its cells.
 
 ghost use Rattle.std.specs.Prelude.{◌≡◌, ◌↔◌, ◌<◌, ◌≤◌, IfErr, IsErrOf, OnOk};
-ghost use Rattle.device_ends.specs.Sink.{writer_of};
-ghost use Rattle.device_ends.specs.Source.{reader_of};
-ghost use Rattle.device_ends.specs.Stream.{IsStreamBetween};
-ghost use Rattle.alert_book.specs.Book.{unread};
+ghost use Rattle.device_ends.specs.Stream.{Between, FaultBetween};
 ghost use Rattle.parallel_compile.specs.declared.fault.CompileFault.TheVariants as compile;
-ghost use Rattle.warnc_run.specs.Compiled.{AreWorkers, IsRunFault, IsWriteFault, Makes};
-ghost use Rattle.warnc_run.specs.Live.{IsLive};
+ghost use Rattle.warnc_run.specs.Compiled.{AreWorkers, IsRunAtEnds, Makes};
+ghost use Rattle.warnc_run.specs.Live.{IsLive, IsLiveFault};
 ghost use Rattle.warnc_run.specs.declared.fault.RunFault.TheVariants as faults;
 
 use crate::counts::{Sessions, Workers};
@@ -45,7 +42,7 @@ use std::thread::Threads;
 /// contract excludes [`RunFault::Desk`] with `Unknown`, [`RunFault::Settle`], and [`CompileFault::Piece`] for a tape
 /// that isn't its record's; the desk refuses no order for what it says. With no workers or over 64 it returns
 /// [`RunFault::Compile`] with [`CompileFault::Workers`], before anything is read. Of sessions that met a fault of the
-/// desk, the least one's is returned, unless memory runs out.
+/// desk, the least one's is returned, unless out of memory.
 pub fn live_stream<T: AllocGlobal + Threads + Wait + Sync, R: Read, W: Write, G: Gate>(
     rt: &T,
     source: &mut Source<R>,
@@ -57,10 +54,10 @@ pub fn live_stream<T: AllocGlobal + Threads + Wait + Sync, R: Read, W: Write, G:
 ) -> Result<(), RunFault>
     requires some { 0 < sessions }
     requires few { sessions ≤ 64 }
-    ensures ok { OnOk result (Makes (IsLive slots sessions) (R.remaining (reader_of source.old))
-        (R.remaining (reader_of source.new)) (W.contents (writer_of sink.old)) (W.contents (writer_of sink.new))) }
-    ensures fault { IfErr result (IsRunFault slots sessions (IsLive slots sessions) (R.remaining (reader_of source.old))
-        (R.remaining (reader_of source.new)) (W.contents (writer_of sink.old)) (W.contents (writer_of sink.new))) }
+    ensures ok { OnOk result (Between R.remaining W.contents (Makes (IsLive slots sessions)) source.old source.new
+        sink.old sink.new) }
+    ensures err { IfErr result (FaultBetween R.remaining W.contents (IsLiveFault slots sessions) source.old source.new
+        sink.old sink.new) }
 
     // The number of workers is judged first, and nothing is done if it is wrong.
     ensures workers { IsErrOf result (faults.Compile compile.Workers) ↔ (AreWorkers workers → ⊥) }
@@ -68,8 +65,8 @@ pub fn live_stream<T: AllocGlobal + Threads + Wait + Sync, R: Read, W: Write, G:
         → (source.new ≡ source.old) × (sink.new ≡ sink.old) }
 
     // At any reader and any writer.
-    ensures any_ends { AreWorkers workers → IsStreamBetween (faults.Book unread) IsWriteFault result source.old
-        source.new sink.old sink.new (W.contents (writer_of sink.old)) (W.contents (writer_of sink.new)) }
+    ensures any_ends { AreWorkers workers
+        → IsRunAtEnds result W.contents source.old source.new sink.old sink.new }
 {
     // A handset is shown what the book means, whatever the cells answered, and whichever session came first.
     book_runs::session_laws();

@@ -1,15 +1,13 @@
 //! The command `report`: a book of alerts to the report of its cells.
 
 ghost use Rattle.std.specs.Prelude.{◌≡◌, ◌↔◌, ◌≤◌, ◌++◌, ℕ, List, length, map, All, IfErr, IfOk, IsErrOf, OnOk};
-ghost use Rattle.device_ends.specs.Sink.{writer_of};
-ghost use Rattle.device_ends.specs.Source.{reader_of};
-ghost use Rattle.device_ends.specs.Stream.{IsStreamBetween};
-ghost use Rattle.alert_book.specs.Book.{unread, IsBook};
+ghost use Rattle.device_ends.specs.Stream.{Between, FaultBetween};
+ghost use Rattle.alert_book.specs.Book.{IsBook};
 ghost use Rattle.cbch_blocks.specs.RecordBlocks.{tape_of_record};
 ghost use Rattle.handset.specs.Tape.{readings_of, IsTape};
 ghost use Rattle.parallel_compile.specs.declared.fault.CompileFault.TheVariants as compile;
 ghost use Rattle.warnc_run.specs.Compiled.{AreWorkers, Makes};
-ghost use Rattle.warnc_run.specs.Reported.{reading_of_record, IsReported, IsReportRunFault, IsReportWriteFault};
+ghost use Rattle.warnc_run.specs.Reported.{reading_of_record, IsReportAtEnds, IsReportFault, IsReported};
 ghost use Rattle.warnc_run.specs.RunSteps.{AreRowsOf, IsOfBookReport, IsOfReport};
 ghost use Rattle.warnc_run.specs.declared.fault.RunFault.TheVariants as faults;
 ghost use Rattle.warnc_run.specs.declared.report_run.ReportRunFault.TheVariants as reports;
@@ -94,10 +92,10 @@ pub fn report_stream<T: AllocGlobal + Threads + Wait + Sync, R: Read, W: Write>(
     slots: u16,
     workers: u64,
 ) -> Result<(), ReportRunFault>
-    ensures ok { OnOk result (Makes (IsReported slots) (R.remaining (reader_of source.old))
-        (R.remaining (reader_of source.new)) (W.contents (writer_of sink.old)) (W.contents (writer_of sink.new))) }
-    ensures fault { IfErr result (IsReportRunFault slots (IsReported slots) (R.remaining (reader_of source.old))
-        (R.remaining (reader_of source.new)) (W.contents (writer_of sink.old)) (W.contents (writer_of sink.new))) }
+    ensures ok { OnOk result (Between R.remaining W.contents (Makes (IsReported slots)) source.old source.new sink.old
+        sink.new) }
+    ensures err { IfErr result (FaultBetween R.remaining W.contents (IsReportFault slots) source.old source.new
+        sink.old sink.new) }
 
     // The number of workers is judged first, and nothing is done if it is wrong.
     ensures workers { IsErrOf result (reports.Run (faults.Compile compile.Workers)) ↔ (AreWorkers workers → ⊥) }
@@ -105,8 +103,8 @@ pub fn report_stream<T: AllocGlobal + Threads + Wait + Sync, R: Read, W: Write>(
         → (source.new ≡ source.old) × (sink.new ≡ sink.old) }
 
     // At any reader and any writer.
-    ensures any_ends { AreWorkers workers → IsStreamBetween (reports.Run (faults.Book unread)) IsReportWriteFault result
-        source.old source.new sink.old sink.new (W.contents (writer_of sink.old)) (W.contents (writer_of sink.new)) }
+    ensures any_ends { AreWorkers workers
+        → IsReportAtEnds result W.contents source.old source.new sink.old sink.new }
 {
     // A handset is shown what the book means, whatever the cells answered.
     book_runs::run_laws();

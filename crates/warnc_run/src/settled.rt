@@ -19,7 +19,7 @@ use std::alloc::Global;
 ///
 /// # Errors
 ///
-/// Returns the settlement's fault, or `Refused` if memory runs out.
+/// Returns the settlement's fault, or `Refused` if out of memory.
 pub(crate) fn records_of(
     alloc: Global,
     book: &Book,

@@ -23,7 +23,7 @@ impl MemoryWriter {
     ghost use Rattle.device_ends.specs.MemoryWriter.{octets_taken, writes_left, octets_per_write};
 
     /// A writer that has taken nothing, and takes at most `per_call` octets a call. After `calls`
-    /// calls each further one fails; at `None` none does, unless memory is refused.
+    /// calls each further one fails; at `None` none does, unless out of memory.
     pub fn new(alloc: Global, per_call: usize, calls: Option<usize>) -> Self
         ensures octets { octets_taken result ≡ [] }
         ensures per_call { octets_per_write result ≡ per_call }

@@ -1,10 +1,12 @@
-use Rattle.std.proofs.Common.{◌≡◌, ℕ, ◌<◌, length, get_or, All}
-use Rattle.septets.proofs.Windows.{HasBitsOf}
+use Rattle.std.proofs.Common.{◌+◌, ◌*◌}
+use Rattle.septets.proofs.Windows.{ArePacked}
 use Rattle.septets.proofs.pack.Given as goal
 
-abbrev pub invariant-loop-place : goal.invariant-loop-place
-invariant-loop-place l = record {
-  size : length l.octet-items ≡ 82;
-  fits : All (λ octet. octet < 256) l.octet-items;
-  packed : (k : ℕ) → k < l.place → HasBitsOf l.used k (get_or l.octet-items k 0);
-}
+abbrev pub invariant-loop-group : goal.invariant-loop-group
+invariant-loop-group l = ArePacked l.septets.items l.octets (7 * l.group)
+
+abbrev pub invariant-loop-step : goal.invariant-loop-step
+invariant-loop-step l = ArePacked l.septets.items l.octets (7 * l.group + l.step)
+
+abbrev pub invariant-loop-step-2 : goal.invariant-loop-step-2
+invariant-loop-step-2 l = ArePacked l.septets.items l.octets (77 + l.step)

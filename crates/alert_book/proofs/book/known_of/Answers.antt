@@ -36,7 +36,7 @@ loop-record-preserved c =
     let m = rows-more (λ (s : Bor (List ℕ)). Some s.now) c.loop-record.record-iterator.rdr c.next.new.self.rdr
     (fields_of c.in-Ok.fields) default_config st.StartRecord (strip_bom c.args.octets.now) inv.left inv.seen
     inv.config inv.source inv.reached s.0 in
-    let read = c.in-Ok-read.ensures.right in
+    let read = c.in-Ok-read.ensures.ok in
     record {
       trim = s.0.3 ∙ inv.trim;
       ready = inl s.1;
@@ -52,19 +52,19 @@ loop-record-preserved c =
           inv.meant read.1 read.2;
     }
 
-pub returns-in-Err-clause-wrong : goal.returns-in-Err-clause-wrong
-returns-in-Err-clause-wrong c =
+pub returns-in-Err-clause-err : goal.returns-in-Err-clause-err
+returns-in-Err-clause-err c =
     let inv = c.loop-record.invariant in
     let s = rw (c.in-Some.is, c.in-Ok.is) at ((c.next.ensures.steps inv.turns inv.trim).0 inv.ready) in
     let m = rows-more (λ (s : Bor (List ℕ)). Some s.now) c.loop-record.record-iterator.rdr c.next.new.self.rdr
     (fields_of c.in-Ok.fields) default_config st.StartRecord (strip_bom c.args.octets.now) inv.left inv.seen
     inv.config inv.source inv.reached s.0 in
     wrong_row c.args.octets.now inv.seen (fields_of c.in-Ok.fields) c.loop-record.row c.loop-record.known
-    c.in-Err.kind _ _ m.0
-    m.2 inv.meant c.in-Err.ensures.wrong c.row_fault.ensures
+    c.in-Err.fault _ _ m.0
+    m.2 inv.meant c.in-Err.ensures.err c.fault_of_row.ensures
 
-pub returns-clause-right : goal.returns-clause-right
-returns-clause-right c =
+pub returns-clause-ok : goal.returns-clause-ok
+returns-clause-ok c =
     let inv = c.loop-record.invariant in
     let s = rw c.in-None.is at ((c.next.ensures.steps inv.turns inv.trim).0 inv.ready) in
     record {

@@ -4,8 +4,8 @@ use Rattle.std.proofs.lemmas.Iterator.Consumers.{YieldsList-so_far, YieldsList-t
 use Rattle.alert_book.proofs.PageLaws.{first_fault}
 use Rattle.alert_book.proofs.packing.in_order.Goals as goal
 
-pub returns-in-Err-clause-wrong : goal.returns-in-Err-clause-wrong
-returns-in-Err-clause-wrong c =
+pub returns-in-Err-clause-err : goal.returns-in-Err-clause-err
+returns-in-Err-clause-err c =
     let list = YieldsList-from_vec c.args.packed.items
     (search (rules, c.into_iter-packed-iterator.ensures.into_iter_gives))
     (search (rules, c.into_iter-packed-iterator.ensures.into_iter_gives)) in

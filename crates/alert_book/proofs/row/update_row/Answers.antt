@@ -3,16 +3,16 @@ use Rattle.csv.specs.Records.{fields_of}
 use Rattle.alert_book.proofs.RowLaws.{update_is}
 use Rattle.alert_book.proofs.row.update_row.Goals as goal
 
-pub returns-in_err-meant-clause-wrong : goal.returns-in_err-meant-clause-wrong
-returns-in_err-meant-clause-wrong c =
+pub returns-in_err-meant-clause-err : goal.returns-in_err-meant-clause-err
+returns-in_err-meant-clause-err c =
     let is = update_is c.args.row c.args.declared.now c.args.orders.now (fields_of c.args.fields.now) c.in_ok-at.at
     c.in_ok-first.first.now c.in_ok-sending.sending c.column-name.result.now c.count_of_updates-earlier.result
     (search rules) (search rules) (search rules) (search rules) (search rules) in
     rw is (search rules)
 
-pub returns-clause-right : goal.returns-clause-right
-returns-clause-right c =
+pub returns-clause-ok : goal.returns-clause-ok
+returns-clause-ok c =
     let is = update_is c.args.row c.args.declared.now c.args.orders.now (fields_of c.args.fields.now) c.in_ok-at.at
     c.in_ok-first.first.now c.in_ok-sending.sending c.column-name.result.now c.count_of_updates-earlier.result
     (search rules) (search rules) (search rules) (search rules) (search rules) in
-    is ∙ c.in_ok-meant.ensures.right
+    is ∙ c.in_ok-meant.ensures.ok

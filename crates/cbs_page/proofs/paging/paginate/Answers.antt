@@ -145,3 +145,6 @@ returns-in-Err-clause-fault c =
         omega (arith, takes.2),
       ),
     )
+
+pub paginate_septets-requires-clause-some : goal.paginate_septets-requires-clause-some
+paginate_septets-requires-clause-some c = some_characters c.args.text.now c.utf8.text c.if-is_empty.ensures

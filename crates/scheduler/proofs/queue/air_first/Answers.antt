@@ -1,8 +1,10 @@
 use Rattle.std.proofs.Common.{◌==◌, ◌%◌, Some, None, if◌then◌else◌, ap, sym, subst}
-use Rattle.std.proofs.Common.{◌∙◌, ℕ, Option, ◌≡◌, ◌+◌, arith, map}
+use Rattle.std.proofs.Common.{◌∙◌, ℕ, Option, ◌≡◌, ◌+◌, arith, get_or, map, true}
+use Rattle.scheduler.specs.declared.kept.Kept.{Kept}
+use Rattle.scheduler.proofs.Tree.{own_aired, own_at-is}
 use Rattle.scheduler.specs.declared.turn.Ahead.{Ahead}
 use Rattle.scheduler.specs.PlanSteps.{IsChoice, after_slot}
-use Rattle.scheduler.specs.QueueSteps.{no_turn, seen, seen_in}
+use Rattle.scheduler.specs.QueueSteps.{aired, no_turn, own, seen, seen_in}
 use Rattle.scheduler.proofs.FirstTurn.{blank, first_found, first_has_more, choice_found, choice_without}
 use Rattle.scheduler.proofs.Found.{turns_aired}
 use Rattle.scheduler.proofs.Passed.{used_at, seen_after_none, seen_after_used, right_later, right_after_used}
@@ -55,8 +57,8 @@ aired-requires-clause-few c =
     c.requires.kept.right in
     omega (arith, right.fit.few, c.requires.within)
 
-pub change-requires-clause-within : goal.change-requires-clause-within
-change-requires-clause-within c =
+pub keep_aired-requires-clause-within : goal.keep_aired-requires-clause-within
+keep_aired-requires-clause-within c =
     let one = sym (c.first_entry.ensures ∙ ap number_of c.ahead_at.ensures) ∙ c.in_ok-entry.was in
     (first_found c.args.slot c.args.nodes.now c.in_ok-entry.entry c.place_of-place.result c.requires.kept
     c.requires.rising c.requires.awake one c.place_of-place.ensures).turn.within
@@ -80,7 +82,7 @@ pub returns-clause-seen : goal.returns-clause-seen
 returns-clause-seen c =
     let used = used_at c.args.slot c.args.nodes.now (c.in_ok-entry.entry, c.next_page.result) c.place_of-place.result
     blank c.requires.kept c.requires.rising c.requires.awake (returns-clause-chosen c) c.place_of-place.ensures in
-    ap (map (seen (c.args.slot + 1))) c.change.ensures.kept
+    ap (map (seen (c.args.slot + 1))) c.keep_aired.ensures.kept
     ∙ rw c.aired.ensures (seen_after_used c.args.slot c.args.nodes.now (c.in_ok-entry.entry, c.next_page.result)
     c.place_of-place.result blank c.requires.kept c.requires.rising c.requires.awake used)
 
@@ -89,10 +91,20 @@ returns-clause-kept c =
     let used = used_at c.args.slot c.args.nodes.now (c.in_ok-entry.entry, c.next_page.result) c.place_of-place.result
     blank c.requires.kept c.requires.rising c.requires.awake (returns-clause-chosen c) c.place_of-place.ensures in
     record {
-      right = rw (c.change.ensures.kept, c.aired.ensures) (right_after_used c.args.slot c.args.nodes.now
+      right = rw (c.keep_aired.ensures.kept, c.aired.ensures) (right_after_used c.args.slot c.args.nodes.now
           (c.in_ok-entry.entry, c.next_page.result) c.place_of-place.result
           blank c.requires.kept c.requires.awake used);
-      turns = rw (c.change.ensures.kept, c.aired.ensures) (turns_aired c.args.nodes.now c.place_of-place.result
+      turns = rw (c.keep_aired.ensures.kept, c.aired.ensures) (turns_aired c.args.nodes.now c.place_of-place.result
           used.within c.requires.kept.turns);
-      tree = c.change.ensures.tree;
+      tree = c.keep_aired.ensures.tree;
     }
+
+pub keep_aired-requires-clause-turn : goal.keep_aired-requires-clause-turn
+keep_aired-requires-clause-turn c = λ left.
+    let one = sym (c.first_entry.ensures ∙ ap number_of c.ahead_at.ensures) ∙ c.in_ok-entry.was in
+    let first = first_found c.args.slot c.args.nodes.now c.in_ok-entry.entry c.place_of-place.result c.requires.kept
+    c.requires.rising c.requires.awake one c.place_of-place.ensures in
+    let k : Kept = (get_or c.args.nodes.now c.place_of-place.result blank).kept in
+    let still : (aired k).is_open ≡ true = sym (ap (λ (a : Kept). a.is_open) c.aired.ensures) ∙ left in
+    own_at-is c.args.nodes.now c.place_of-place.result blank first.turn.within
+    ∙ own_aired k first.turn.is_open still ∙ ap own (sym c.aired.ensures)

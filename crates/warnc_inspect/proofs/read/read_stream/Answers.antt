@@ -32,8 +32,8 @@ returns-in-Ok-write_all-clause-ok g c =
       );
     }
 
-pub returns-clause-fault : goal.returns-clause-fault
-returns-clause-fault g c =
+pub returns-clause-err : goal.returns-clause-err
+returns-clause-err g c =
     let taken = c.in-Ok-read_each.ensures.taken in
     let written : c.deref.result.now ≡ table_of taken.readings =
     c.deref.ensures.value ∙ written_of _ _ _ _ taken c.in-Ok.ensures c.in-Ok-into_octets.ensures in

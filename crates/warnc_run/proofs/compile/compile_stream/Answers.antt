@@ -7,7 +7,7 @@ returns-clause-ok g c =
     on_ok_weaker c.live_stream.result (makes_by_one c.session_laws.ensures.one c.args.slots _ _ _ _)
     c.live_stream.ensures.ok
 
-pub returns-clause-fault : goal.returns-clause-fault
-returns-clause-fault g c =
+pub returns-clause-err : goal.returns-clause-err
+returns-clause-err g c =
     IfErr-weaker c.live_stream.result _ _ (fault_by_one c.session_laws.ensures.one c.args.slots _ _ _ _)
-    c.live_stream.ensures.fault
+    c.live_stream.ensures.err

@@ -15,7 +15,7 @@ write_tapes-requires g c =
 
 pub returns-in-Ok-write_tapes-clause-ok : goal.returns-in-Ok-write_tapes-clause-ok
 returns-in-Ok-write_tapes-clause-ok g c =
-    let read = c.in-Ok.ensures.right in
+    let read = c.in-Ok.ensures.ok in
     let tapes = c.deref.result.now in
     let few : c.args.slots ≤ 65535 = omega (arith, c.ranges.slots.fits) in record {
       input = read.input;
@@ -29,9 +29,9 @@ returns-in-Ok-write_tapes-clause-ok g c =
       appended = c.in-Ok-write_tapes.ensures.ok;
     }
 
-pub returns-clause-fault : goal.returns-clause-fault
-returns-clause-fault g c =
-    let read = c.in-Ok.ensures.right in
+pub returns-clause-err : goal.returns-clause-err
+returns-clause-err g c =
+    let read = c.in-Ok.ensures.ok in
     let tapes = c.deref.result.now in
     let few : c.args.slots ≤ 65535 = omega (arith, c.ranges.slots.fits) in
     let taken = taken_of_run c.session_laws.ensures.shown read.input c.in-Ok.book c.args.slots c.args.sessions tapes
@@ -52,9 +52,9 @@ returns-clause-fault g c =
       front = taken.front;
     }
 
-pub returns-in_err-tapes-clause-fault : goal.returns-in_err-tapes-clause-fault
-returns-in_err-tapes-clause-fault g c =
-    let read = c.in-Ok.ensures.right in
+pub returns-in_err-tapes-clause-err : goal.returns-in_err-tapes-clause-err
+returns-in_err-tapes-clause-err g c =
+    let read = c.in-Ok.ensures.ok in
     let whole : ReadsBook _ _ = record {
       input = read.input;
       book = c.in-Ok.book;

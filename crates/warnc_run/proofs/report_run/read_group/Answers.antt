@@ -12,7 +12,7 @@ loop-tape-preserved g c =
     let so_far = map reading_of_record (take c.loop-tape.tape-index c.args.records.now) in
     let read : IsTape c.tape-item.result one =
     subst (λ (octets : List ℕ). IsTape octets one)
-    (ap (λ (reader : Bor (List ℕ)). reader.now) c.new.ensures.reader ∙ c.bytes.ensures) c.in-Ok.ensures.reading in
+    (ap (λ (reader : Bor (List ℕ)). reader.now) c.new.ensures.reader ∙ c.bytes.ensures) c.in-Ok.ensures.ok in
     ap readings_of c.in_ok-push.ensures.items
     ∙ map-append reading_of c.loop-tape.readings.items (c.in-Ok.reading ∷ [])
     ∙ ap (λ (all : List TapeReading). all ++ one ∷ []) c.loop-tape.invariant

@@ -11,7 +11,7 @@ use Rattle.warnc_run.proofs.report_run.report_stream.Goals as goal
 
 pub returns-in-Ok-write_report-clause-ok : goal.returns-in-Ok-write_report-clause-ok
 returns-in-Ok-write_report-clause-ok g c =
-    let read = c.in-Ok.ensures.right in
+    let read = c.in-Ok.ensures.ok in
     let few : c.args.slots ≤ 65535 = omega (arith, c.ranges.slots.fits) in record {
       input = read.input;
       output = report_text c.deref.result.now;
@@ -24,9 +24,9 @@ returns-in-Ok-write_report-clause-ok g c =
       appended = c.in-Ok-write_report.ensures.ok;
     }
 
-pub returns-clause-fault : goal.returns-clause-fault
-returns-clause-fault g c =
-    let read = c.in-Ok.ensures.right in
+pub returns-clause-err : goal.returns-clause-err
+returns-clause-err g c =
+    let read = c.in-Ok.ensures.ok in
     let wrote = c.in-Err-write_report.ensures in
     let few : c.args.slots ≤ 65535 = omega (arith, c.ranges.slots.fits) in
     fault_of_report c.args.slots (IsReported c.args.slots) _ _ _ _ c.in-Err-write_report.fault wrote.faults
@@ -52,9 +52,9 @@ returns-clause-fault g c =
       rw (wrote.refused (ap Err is)) (Keeps-refl _),
     ))
 
-pub returns-in_err-rows-clause-fault : goal.returns-in_err-rows-clause-fault
-returns-in_err-rows-clause-fault g c =
-    let read = c.in-Ok.ensures.right in
+pub returns-in_err-rows-clause-err : goal.returns-in_err-rows-clause-err
+returns-in_err-rows-clause-err g c =
+    let read = c.in-Ok.ensures.ok in
     let whole : ReadsBook _ _ = record {
       input = read.input;
       book = c.in-Ok.book;

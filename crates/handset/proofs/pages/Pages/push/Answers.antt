@@ -48,7 +48,7 @@ pub invariant_of-self-in-Some : goal.invariant_of-self-in-Some
 invariant_of-self-in-Some c = readable-more _ _ c.args.page.now (more c) c.requires c.self.invariant
 
 -- the first page of a message was kept
-first : (c : goal.Joined-branch-4) → KeepsPage (seen c.self.inside.by_name.entries) (seen c.insert.new.self.entries)
+first : (c : goal.Joined-branch-5) → KeepsPage (seen c.self.inside.by_name.entries) (seen c.insert.new.self.entries)
     c.args.page.now
 first c =
     keeps_page c.self.inside.by_name.entries c.insert.new.self.entries c.args.page.now c.push-2.new.self
@@ -60,7 +60,7 @@ first c =
     ∙ ap (λ n. cond (same_key (c.args.page.now.id, n) key) (Some c.push-2.new.self)
     (lookup (same_key key) c.self.inside.by_name.entries)) c.number.ensures)
     (c.in_ok-push-2.ensures.items ∙ ap (λ kept. kept ++ c.args.page.now ∷ [])
-    (c.new-pages.ensures.items ∙ ap found_items c.in_default.ensures.value
+    (c.in_ok-pages.ensures.items ∙ ap found_items c.in_default.ensures.value
     ∙ ap (λ n. found_items (lookup (same_key (c.args.page.now.id, n)) c.self.inside.by_name.entries)) c.number.ensures))
 
 pub returns-clause-pages : goal.returns-clause-pages

@@ -1,0 +1,4 @@
+pub mod Chunks
+pub mod TapeSteps
+pub mod SomeOutput
+pub mod PacketSteps

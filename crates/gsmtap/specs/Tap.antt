@@ -1,0 +1,58 @@
+-- The block that a packet carries in GSMTAP, if it does: in IPv4 (RFC 791), in UDP (RFC 768). Each step is a function
+-- of the octets.
+use Rattle.std.specs.Prelude.{ℕ, ◌+◌, ◌-◌, ◌*◌, ◌/◌, ◌%◌, ◌==◌, ◌&&◌, ◌||◌, nat_le, Bool, true, List, length, take}
+use Rattle.std.specs.Prelude.{drop}
+use Rattle.std.specs.Prelude.{slice_index, Option, Some, None, option_and_then, if◌then◌else◌}
+use Rattle.byteorder.specs.Endian.{big_number}
+use Rattle.gsmtap.specs.declared.file.Link.{Link}
+use Rattle.gsmtap.specs.declared.file.Link.TheVariants.{Ethernet, Internet}
+use Rattle.gsmtap.specs.declared.tap.Sent.{Sent}
+
+-- the IPv4 packet in a packet: after an Ethernet header of 14 octets whose type is IPv4, or the packet itself
+unfoldable pub internet_of : Link → List ℕ → Option (List ℕ)
+internet_of Internet octets = Some octets
+internet_of Ethernet octets =
+    if nat_le 14 (length octets) && big_number 2 (drop 12 octets) == 0x0800 then Some (drop 14 octets) else None
+
+-- it comes from the wanted address, where one is wanted
+abbrev pub is_from : Option ℕ → List ℕ → Bool
+is_from None octets = true
+is_from (Some address) octets = big_number 4 (drop 12 octets) == address
+
+-- the octets of the header of an IPv4 packet: its second half octet counts words of four
+abbrev pub header_length : List ℕ → ℕ
+header_length octets = 4 * (slice_index octets 0 % 16)
+
+-- the datagram in an IPv4 packet: version 4, five words of header at least, whole (no fragment), protocol 17
+unfoldable pub datagram_of : Option ℕ → List ℕ → Option (List ℕ)
+datagram_of from octets =
+    if nat_le 20 (length octets) && slice_index octets 0 / 16 == 4 && nat_le 20 (header_length octets)
+    && nat_le (header_length octets) (length octets) && big_number 2 (drop 6 octets) % 0x4000 == 0
+    && slice_index octets 9 == 17 && is_from from octets
+    then Some (drop (header_length octets) octets) else None
+
+-- what a datagram to port 4729 carries, by the length that it says
+unfoldable pub payload_of : List ℕ → Option (List ℕ)
+payload_of octets =
+    if nat_le 8 (length octets) && big_number 2 (drop 2 octets) == 4729 && nat_le 8 (big_number 2 (drop 4 octets))
+    && nat_le (big_number 2 (drop 4 octets)) (length octets)
+    then Some (take (big_number 2 (drop 4 octets) - 8) (drop 8 octets)) else None
+
+-- the block in GSMTAP: version 2, a header of four words at least, type 1 (a block of the Um interface), downlink (bit
+-- 14 of the ARFCN is 0), channel 12 or 15, and 23 octets after the header. It has the number of its frame
+unfoldable pub block_of : List ℕ → Option Sent
+block_of octets =
+    if nat_le 16 (length octets) && slice_index octets 0 == 2 && nat_le 4 (slice_index octets 1)
+    && slice_index octets 2 == 1 && slice_index octets 4 / 64 % 2 == 0
+    && (slice_index octets 12 == 12 || slice_index octets 12 == 15)
+    && length octets == 4 * slice_index octets 1 + 23
+    then Some (record {
+      frame = big_number 4 (drop 8 octets);
+      block = drop (4 * slice_index octets 1) octets;
+    }) else None
+
+-- the block that a packet carries
+unfoldable pub sent_in : Link → Option ℕ → List ℕ → Option Sent
+sent_in link from octets =
+    option_and_then (λ internet. option_and_then (λ datagram. option_and_then block_of (payload_of datagram))
+    (datagram_of from internet)) (internet_of link octets)

@@ -1,0 +1,77 @@
+//! Capture files in the classic format of libpcap: their header, and the packet that comes next.
+
+ghost use Rattle.std.specs.Prelude.{◌≡◌, ◌<◌, ◌≤◌, length};
+ghost use Rattle.gsmtap.specs.File.{is_magic, link_numbered, link_of, number_in, order_of};
+
+use byteorder::{BigEndian, ByteOrder, LittleEndian};
+
+/// Which octet of a number stands first.
+#[derive(Clone, Copy, Debug, PartialEq, Eq)]
+pub enum Order {
+    /// The lowest.
+    LowFirst,
+    /// The highest.
+    HighFirst,
+}
+
+/// What packets begin with.
+#[derive(Clone, Copy, Debug, PartialEq, Eq)]
+pub enum Link {
+    /// A header of Ethernet, link type 1.
+    Ethernet,
+    /// A header of IPv4, link types 101 and 228.
+    Internet,
+}
+
+/// The number in the first four octets.
+pub fn number_in(order: Order, octets: &[u8]) -> u32
+    requires { 4 ≤ length octets.now }
+    ensures { result ≡ number_in order octets.now }
+{
+    match order {
+        Order::LowFirst => LittleEndian::read_u32(octets),
+        Order::HighFirst => BigEndian::read_u32(octets),
+    }
+}
+
+/// Whether a file begins with this number: one for microseconds, one for nanoseconds.
+fn is_magic(number: u32) -> bool
+    ensures { result ≡ is_magic number }
+{
+    number == 0xA1B2_C3D4 || number == 0xA1B2_3C4D
+}
+
+/// The order of the octets of a file's numbers, by its header.
+pub fn order_of(header: &[u8]) -> Option<Order>
+    requires { length header.now ≡ 24 }
+    ensures { result ≡ order_of header.now }
+{
+    if is_magic(LittleEndian::read_u32(header)) {
+        Some(Order::LowFirst)
+    } else if is_magic(BigEndian::read_u32(header)) {
+        Some(Order::HighFirst)
+    } else {
+        None
+    }
+}
+
+/// The link type of a file, by its header.
+pub fn link_of(order: Order, header: &[u8]) -> Option<Link>
+    requires { length header.now ≡ 24 }
+    ensures { result ≡ link_of order header.now }
+{
+    link_numbered(number_in(order, &header[20..]))
+}
+
+/// The link type of this number.
+fn link_numbered(number: u32) -> Option<Link>
+    ensures { result ≡ link_numbered number }
+{
+    if number == 1 {
+        Some(Link::Ethernet)
+    } else if number == 101 || number == 228 {
+        Some(Link::Internet)
+    } else {
+        None
+    }
+}

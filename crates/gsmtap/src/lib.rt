@@ -1,0 +1,19 @@
+//! What a cell's broadcast channel sends, as a capture file that other programs read, and back: the classic capture
+//! format of libpcap, with IPv4, UDP and GSMTAP around each block.
+//!
+//! [`capture_of`] makes the capture of tapes, whose octets `specs/Capture.antt` says; [`tape_of_capture`] makes a tape
+//! of a capture that others made, as `specs/TapeOfCapture.antt` says.
+#![tactic(auto)]
+
+pub mod capture;
+pub mod fault;
+pub mod file;
+mod packet;
+mod tap;
+pub mod tape;
+mod track;
+
+pub use capture::{CaptureFault, Settings, Slots, capture_of};
+pub use fault::{AirFault, AirFaultKind};
+pub use packet::{Channel, Place, push_packet};
+pub use tape::{Wanted, tape_of_capture};

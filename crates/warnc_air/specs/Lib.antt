@@ -1,0 +1,2 @@
+pub mod PcapOutput
+pub mod TapeOutput

@@ -1,0 +1,86 @@
+//! The command `tape`: a capture file to a tape.
+
+ghost use Rattle.std.specs.Prelude.{◌≡◌, ◌+◌, IfErr, OnOk};
+ghost use Rattle.device_ends.specs.Moves.{ConsumesSome, WritesOutput};
+ghost use Rattle.device_ends.specs.Source.{reader_of};
+ghost use Rattle.device_ends.specs.Stream.{Between, FaultOfInput, IsStreamBetween};
+ghost use Rattle.gsmtap.specs.TapeOfCapture.{IsTapeOfCapture};
+ghost use Rattle.warnc_air.specs.TapeOutput.{IsTapeCommandFault, IsTapeWriteFault, fault_of_air};
+
+use device_ends::{Failed, ReadFault, Sink, Source, read_up_to, write_all};
+use gsmtap::{AirFault, AirFaultKind, Wanted, tape_of_capture};
+use std::alloc::Global;
+use std::io::{Read, Write};
+use thiserror::Error;
+
+/// The most octets that are read: 1 GiB.
+pub const MAX_INPUT: usize = 0x4000_0000;
+
+/// Why `tape` writes no tape. If several of the first three apply, it is the first of them.
+#[derive(Clone, Copy, Debug, PartialEq, Eq, Error)]
+pub enum TapeCommandFault {
+    /// The reader failed.
+    #[error("read failed")]
+    ReadFailed,
+    /// There are more than 1,073,741,824 octets.
+    #[error("capture is too long")]
+    TooLong,
+    /// The file or a packet of it is at fault.
+    #[error("{0}")]
+    Air(AirFault),
+    /// Out of memory.
+    #[error("out of memory")]
+    Refused,
+    /// The writer failed. Some of the tape may be out.
+    #[error("write failed")]
+    WriteFailed,
+}
+
+/// Reads a capture file, and writes the tape that it is. Nothing is written before all of the tape is made.
+pub fn tape_stream<R: Read, W: Write>(
+    alloc: Global,
+    source: &mut Source<R>,
+    sink: &mut Sink<W>,
+    wanted: &Wanted,
+) -> Result<(), TapeCommandFault>
+    // What was written is the tape of the file that was read, at any reader of some file.
+    ensures ok { OnOk result (Between R.remaining W.contents (λ first last.
+        WritesOutput (IsTapeOfCapture wanted.now) first) source.old source.new sink.old sink.new) }
+    ensures err { IfErr result (FaultOfInput R.remaining W.contents (IsTapeCommandFault wanted.now) source.old sink.old
+        sink.new) }
+
+    // One octet past the bound is read at most.
+    ensures reads { ConsumesSome (R.remaining (reader_of source.old)) (R.remaining (reader_of source.new))
+        (MAX_INPUT + 1) }
+
+    // At any reader and any writer.
+    ensures any_ends { IsStreamBetween TapeCommandFault.ReadFailed IsTapeWriteFault result W.contents source.old
+        source.new sink.old sink.new }
+{
+    let input = match read_up_to(source, alloc, MAX_INPUT) {
+        Ok(input) => input,
+        Err(ReadFault::Device) => return Err(TapeCommandFault::ReadFailed),
+        Err(ReadFault::Refused) => return Err(TapeCommandFault::Refused),
+    };
+    if input.len() > MAX_INPUT {
+        return Err(TapeCommandFault::TooLong);
+    }
+    let output = match tape_of_capture(alloc, &input, wanted) {
+        Ok(output) => output,
+        Err(fault) => return Err(fault_of_air(fault)),
+    };
+    match write_all(sink, &output) {
+        Ok(()) => Ok(()),
+        Err(Failed) => Err(TapeCommandFault::WriteFailed),
+    }
+}
+
+/// The fault that a fault of a file is.
+fn fault_of_air(fault: AirFault) -> TapeCommandFault
+    ensures { result ≡ fault_of_air fault }
+{
+    match fault.kind {
+        AirFaultKind::Refused => TapeCommandFault::Refused,
+        _ => TapeCommandFault::Air(fault),
+    }
+}
