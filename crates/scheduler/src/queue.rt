@@ -274,8 +274,8 @@ fn renew_all(nodes: &mut [Node], listed: &mut [usize], slot: u16)
     renew_listed(nodes, listed, count, slot);
 }
 
-/// A place up to which all messages have lesser numbers than `entry`: one near the end, if that can be seen there, since
-/// most of those that are looked for were added of late; else the first.
+/// A place up to which all messages have lesser numbers than `entry`: one near the end, if that can be seen there,
+/// since most of those that are looked for were added of late; else the first.
 fn near_end(nodes: &[Node], entry: u16) -> usize
     requires { AreRising nodes.now }
     ensures within { result ≤ length nodes.now }
