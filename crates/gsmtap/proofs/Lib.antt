@@ -2,3 +2,4 @@ pub mod Chunks
 pub mod TapeSteps
 pub mod SomeOutput
 pub mod PacketSteps
+pub mod ThereAndBack

@@ -27,7 +27,7 @@ pub record ArePushed (settings : Settings) (input left : List ℕ) (number : ℕ
 abbrev pub blocks_of_slots : List (List ℕ) → List (List ℕ)
 blocks_of_slots slots = flat_map blocks_of_slot slots
 
-blocks_joined : (slots : List (List ℕ)) → AllByRecursion (λ slot. length slot ≡ 92) slots →
+pub blocks_joined : (slots : List (List ℕ)) → AllByRecursion (λ slot. length slot ≡ 92) slots →
     octets_of_blocks (blocks_of_slots slots) ≡ flat_map (λ slot. slot) slots
 blocks_joined [] each = refl
 blocks_joined (slot ∷ slots) each =

@@ -6,3 +6,4 @@ pub mod Tap
 pub mod Track
 pub mod TapeOfCapture
 pub mod TapeSteps
+pub mod Laws

@@ -8,6 +8,7 @@
 pub mod capture;
 pub mod fault;
 pub mod file;
+mod laws;
 mod packet;
 mod tap;
 pub mod tape;
@@ -15,5 +16,6 @@ mod track;
 
 pub use capture::{CaptureFault, Settings, Slots, capture_of};
 pub use fault::{AirFault, AirFaultKind};
+pub use laws::capture_laws;
 pub use packet::{Channel, Place, push_packet};
 pub use tape::{Wanted, tape_of_capture};

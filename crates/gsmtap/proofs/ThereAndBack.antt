@@ -1,0 +1,402 @@
+-- The tape of the capture of a tape is the tape.
+use Rattle.std.proofs.Common.{◌≡◌, ℕ, ◌+◌, ◌*◌, ◌%◌, ◌<◌, ◌^◌, List, [], ◌∷◌, ◌++◌, length, map, take, drop, refl}
+use Rattle.std.proofs.Common.{suc, sym, ap, ◌∙◌, arith, append_assoc, append-nil, Option, Some, None, Result, Ok}
+use Rattle.std.proofs.Common.{replicate, Err, lit<}
+use Rattle.std.specs.List.{flat_map, AllByRecursion, slice_get}
+use Rattle.std.specs.Prelude.{slice_set, nat_lt, true}
+use Rattle.cbsp_wire.specs.declared.message.Cell.{Cell}
+use Rattle.gsmtap.specs.TapeOfCapture.{after_packet, after_packets, after_sent, blocks_in, nothing_known, taken}
+use Rattle.gsmtap.specs.declared.track.Track.{Track}
+use Rattle.byteorder.specs.Numbers.{big_number-reads_back}
+use Rattle.gsmtap.specs.File.{ArePackets, IsPacket, Packet, length_said, link_of, octets_of_packet, octets_of_packets}
+use Rattle.gsmtap.specs.File.{order_of}
+use Rattle.std.proofs.lemmas.Grind.{flat_map-append}
+use Rattle.gsmtap.specs.Capture.{blocks_of_slot, file_header, packets_of_blocks, packets_of_slot, packets_of_slots}
+use Rattle.gsmtap.specs.declared.capture.Slots.TheVariants.{All}
+use Rattle.gsmtap.proofs.Chunks.{chunks_each, chunks_long}
+use Rattle.gsmtap.proofs.TapeSteps.{blocks_joined, blocks_of_slots}
+use Rattle.gsmtap.specs.Laws.{CaptureHasTheTape}
+use Rattle.gsmtap.specs.declared.capture.Settings.{Settings}
+use Rattle.gsmtap.specs.declared.tape.Wanted.{Wanted}
+use Rattle.handset.specs.Tape.{cell_in, octets_of_blocks, tape_octets}
+use Rattle.gsmtap.specs.declared.fault.AirFaultKind.{AirFaultKind}
+use Rattle.gsmtap.specs.declared.file.Link.{Link}
+use Rattle.gsmtap.specs.declared.file.Order.{Order}
+use Rattle.gsmtap.specs.Packet.{datagram_header, frame_number, internet_header, packet, record_header, tap_header}
+use Rattle.std.proofs.lemmas.List.{length-append, length_push, take_all}
+use Rattle.gsmtap.specs.Track.{Known, ahead, followed, nearest, place_in, put, put_at, slot_in, with_block}
+use Rattle.gsmtap.specs.Tap.{block_of, datagram_of, internet_of, payload_of, sent_in}
+use Rattle.gsmtap.specs.declared.file.Link.TheVariants.{Internet}
+use Rattle.gsmtap.specs.declared.file.Order.TheVariants.{LowFirst}
+use Rattle.gsmtap.specs.declared.packet.Channel.{Channel}
+use Rattle.gsmtap.specs.declared.packet.Channel.TheVariants.{Basic, Extended}
+use Rattle.gsmtap.specs.declared.packet.Place.{Place}
+
+header_order : order_of file_header ≡ Some LowFirst
+unfolding file_header
+header_order = refl
+
+header_link : link_of LowFirst file_header ≡ Some Internet
+unfolding file_header
+header_link = refl
+
+header_long : length file_header ≡ 24
+unfolding file_header
+header_long = refl
+
+-- a packet behind its header in the file
+abbrev pub inside_of : Channel → Place → List ℕ → List ℕ
+inside_of channel place block =
+    internet_header place ++ datagram_header ++ tap_header channel place ++ block
+
+inside_long : (channel : Channel) (place : Place) (block : List ℕ) → length block ≡ 23 →
+    length (inside_of channel place block) ≡ 67
+unfolding internet_header datagram_header tap_header
+inside_long channel place block long = rw long refl
+
+record_said : (place : Place) → length_said LowFirst (record_header place) ≡ 67
+unfolding record_header
+record_said place = refl
+
+record_long : (place : Place) → length (record_header place) ≡ 16
+unfolding record_header
+record_long place = refl
+
+frame_fits : (place : Place) → frame_number place < 256 ^ 4
+frame_fits place = omega arith
+
+-- what carries a block is taken as it
+datagram_there : (channel : Channel) (place : Place) (block : List ℕ) → length block ≡ 23 →
+    datagram_of None (inside_of channel place block) ≡ Some (datagram_header ++ tap_header channel place ++ block)
+unfolding internet_header datagram_header tap_header datagram_of
+datagram_there channel place block long = rw long refl
+
+payload_there : (channel : Channel) (place : Place) (block : List ℕ) → length block ≡ 23 →
+    payload_of (datagram_header ++ tap_header channel place ++ block) ≡ Some (tap_header channel place ++ block)
+unfolding datagram_header tap_header payload_of
+payload_there channel place block long =
+    rw long (ap (λ xs. Some (tap_header channel place ++ xs)) (take_all 23 block (omega (arith, long))))
+
+block_there : (channel : Channel) (place : Place) (block : List ℕ) → length block ≡ 23 →
+    block_of (tap_header channel place ++ block) ≡ Some (record { frame = frame_number place; block = block })
+unfolding tap_header block_of
+block_there Basic place block long =
+    rw long (ap (λ (f : ℕ). Some (record { frame = f; block = block }))
+    (big_number-reads_back 4 (frame_number place) (15 ∷ 0 ∷ 2 ∷ 0 ∷ block) (frame_fits place)))
+block_there Extended place block long =
+    rw long (ap (λ (f : ℕ). Some (record { frame = f; block = block }))
+    (big_number-reads_back 4 (frame_number place) (12 ∷ 0 ∷ 2 ∷ 0 ∷ block) (frame_fits place)))
+
+sent_there : (channel : Channel) (place : Place) (block : List ℕ) → length block ≡ 23 →
+    sent_in Internet None (inside_of channel place block)
+    ≡ Some (record { frame = frame_number place; block = block })
+unfolding sent_in internet_of
+sent_there channel place block long =
+    rw (datagram_there channel place block long) (rw (payload_there channel place block long)
+    (block_there channel place block long))
+
+-- a packet of the capture
+abbrev pub packet_at : Channel → Place → List ℕ → Packet
+packet_at channel place block = record { header = record_header place; octets = inside_of channel place block }
+
+packet_is : (channel : Channel) (place : Place) (block : List ℕ) →
+    octets_of_packet (packet_at channel place block) ≡ packet channel place block
+unfolding packet record_header internet_header datagram_header tap_header
+packet_is channel place block = refl
+
+packet_whole : (channel : Channel) (place : Place) (block : List ℕ) → length block ≡ 23 →
+    IsPacket LowFirst (packet_at channel place block)
+packet_whole channel place block long = record {
+  sixteen = record_long place;
+  said = record_said place ∙ sym (inside_long channel place block long);
+}
+
+-- where it stands
+place_there : (place : Place) → place.block < 4 → place_in (frame_number place) ≡ place.block
+place_there place few = omega arith
+
+slot_there : (place : Place) → place.block < 4 → slot_in (frame_number place) ≡ place.slot % 6656
+slot_there place few = omega arith
+
+follows_first : (place : Place) → place.block < 4 → place.slot ≡ 0 →
+    followed None (slot_in (frame_number place)) ≡ Some (record { first = 0; slot = 0 })
+unfolding followed
+follows_first place few is =
+    ap (λ (n : ℕ). Some (record { first = n; slot = 0 })) (slot_there place few ∙ ap (λ n. n % 6656) is)
+
+same_slot : (slot : ℕ) → nearest (record { first = 0; slot = slot }) (slot % 6656) ≡ Some slot
+same_slot slot =
+    let none : ahead ((0 + slot) % 6656) (slot % 6656) ≡ 0 = omega arith in
+    rw none (ap Some (let e : slot + 0 ≡ slot = omega arith in e))
+
+next_slot : (slot : ℕ) → nearest (record { first = 0; slot = slot }) ((slot + 1) % 6656) ≡ Some (slot + 1)
+next_slot slot =
+    let one : ahead ((0 + slot) % 6656) ((slot + 1) % 6656) ≡ 1 = omega arith in
+    rw one refl
+
+leads_same : (slot : ℕ) → followed (Some (record { first = 0; slot = slot })) (slot % 6656)
+    ≡ Some (record { first = 0; slot = slot })
+unfolding followed
+leads_same slot = rw (same_slot slot) refl
+
+leads_next : (slot : ℕ) → followed (Some (record { first = 0; slot = slot })) ((slot + 1) % 6656)
+    ≡ Some (record { first = 0; slot = slot + 1 })
+unfolding followed
+leads_next slot = rw (next_slot slot) refl
+
+leads_first : followed None (0 % 6656) ≡ Some (record { first = 0; slot = 0 })
+unfolding followed
+leads_first = refl
+
+-- the blocks of a tape of which these are known
+abbrev pub sofar : (done : List (List ℕ)) (left : ℕ) → List (Option (List ℕ))
+sofar done left = map Some done ++ replicate left None
+
+get_next : (done : List (List ℕ)) (left : ℕ) → slice_get (sofar done (suc left)) (length done) ≡ Some None
+get_next [] left = refl
+get_next (block ∷ done) left = get_next done left
+
+set_next : (done : List (List ℕ)) (left : ℕ) (block : List ℕ) →
+    slice_set (sofar done (suc left)) (length done) (Some block) ≡ sofar (done ++ block ∷ []) left
+set_next [] left block = refl
+set_next (first ∷ done) left block = ap (λ blocks. Some first ∷ blocks) (set_next done left block)
+
+put_next : (done : List (List ℕ)) (left place : ℕ) (block : List ℕ) → length done ≡ place →
+    put (sofar done (suc left)) place block ≡ Some (sofar (done ++ block ∷ []) left)
+unfolding put
+put_next done left place block is =
+    ap (λ n. put_at (sofar done (suc left)) n block (slice_get (sofar done (suc left)) n)) (sym is)
+    ∙ ap (put_at (sofar done (suc left)) (length done) block) (get_next done left)
+    ∙ ap Some (set_next done left block)
+
+-- one block more
+abbrev pub at : Cell → (slot block : ℕ) → Place
+at cell slot block = record { tape = 0; cell = cell; slot = slot; block = block }
+
+with_next : (cell : Cell) (slot block : ℕ) (octets : List ℕ) (track : Option Track) (done : List (List ℕ)) (left : ℕ) →
+    block < 4 → nat_lt block 4 ≡ true → length done ≡ 4 * slot + block →
+    followed track (slot % 6656) ≡ Some (record { first = 0; slot = slot }) →
+    with_block (record { track = track; blocks = sofar done (suc left) })
+    (record { frame = frame_number (at cell slot block); block = octets })
+    ≡ Ok (record { track = Some (record { first = 0; slot = slot }); blocks = sofar (done ++ octets ∷ []) left })
+unfolding with_block
+with_next cell slot block octets track done left few few_is many leads =
+    let place : Place = at cell slot block in
+    let there : length done ≡ 4 * slot + place_in (frame_number place) =
+    many ∙ ap (λ n. 4 * slot + n) (sym (place_there place few)) in
+    rw (place_there place few) (rw few_is (rw (slot_there place few) (rw leads
+    (rw (put_next done left (4 * slot + place_in (frame_number place)) octets there) refl))))
+
+next_packet : (channel : Channel) (cell : Cell) (slot block : ℕ) (octets : List ℕ) (track : Option Track)
+    (done : List (List ℕ)) (left : ℕ) → length octets ≡ 23 →
+    block < 4 → nat_lt block 4 ≡ true → length done ≡ 4 * slot + block →
+    followed track (slot % 6656) ≡ Some (record { first = 0; slot = slot }) →
+    after_packet Internet None (record { track = track; blocks = sofar done (suc left) })
+    (packet_at channel (at cell slot block) octets)
+    ≡ Ok (record { track = Some (record { first = 0; slot = slot }); blocks = sofar (done ++ octets ∷ []) left })
+unfolding after_packet
+next_packet channel cell slot block octets track done left long few few_is many leads =
+    ap (after_sent (record { track = track; blocks = sofar done (suc left) }))
+    (sent_there channel (at cell slot block) octets long)
+    ∙ with_next cell slot block octets track done left few few_is many leads
+
+-- the packets of blocks of a slot, from this one on, and of slots
+abbrev pub packets_in : Channel → Cell → (slot block : ℕ) → List (List ℕ) → List Packet
+packets_in channel cell slot block [] = []
+packets_in channel cell slot block (octets ∷ rest) =
+    packet_at channel (at cell slot block) octets ∷ packets_in channel cell slot (block + 1) rest
+
+abbrev pub packets_on : Channel → Cell → (slot : ℕ) → List (List ℕ) → List Packet
+packets_on channel cell slot [] = []
+packets_on channel cell slot (octets ∷ rest) =
+    packets_in channel cell slot 0 (blocks_of_slot octets) ++ packets_on channel cell (slot + 1) rest
+
+in_joined : (channel : Channel) (cell : Cell) (slot block : ℕ) (blocks : List (List ℕ)) →
+    octets_of_packets (packets_in channel cell slot block blocks)
+    ≡ packets_of_blocks channel 0 cell slot block blocks
+in_joined channel cell slot block [] = refl
+in_joined channel cell slot block (octets ∷ rest) =
+    ap (λ xs. xs ++ octets_of_packets (packets_in channel cell slot (block + 1) rest))
+    (packet_is channel (at cell slot block) octets)
+    ∙ ap (λ xs. packet channel (at cell slot block) octets ++ xs) (in_joined channel cell slot (block + 1) rest)
+
+slot_joined : (channel : Channel) (cell : Cell) (slot : ℕ) (octets : List ℕ) →
+    octets_of_packets (packets_in channel cell slot 0 (blocks_of_slot octets))
+    ≡ packets_of_slot channel 0 cell slot octets
+unfolding packets_of_slot
+slot_joined channel cell slot octets = in_joined channel cell slot 0 (blocks_of_slot octets)
+
+on_joined : (channel : Channel) (cell : Cell) (slot : ℕ) (slots : List (List ℕ)) →
+    octets_of_packets (packets_on channel cell slot slots)
+    ≡ packets_of_slots (record { channel = channel; slots = All }) 0 cell slot slots
+on_joined channel cell slot [] = refl
+on_joined channel cell slot (octets ∷ rest) =
+    let front : List Packet = packets_in channel cell slot 0 (blocks_of_slot octets) in
+    let back : List Packet = packets_on channel cell (slot + 1) rest in
+    flat_map-append octets_of_packet front back
+    ∙ ap (λ xs. xs ++ octets_of_packets back) (slot_joined channel cell slot octets)
+    ∙ ap (λ xs. packets_of_slot channel 0 cell slot octets ++ xs) (on_joined channel cell (slot + 1) rest)
+
+are-append : (order : Order) (front back : List Packet) → ArePackets order front → ArePackets order back →
+    ArePackets order (front ++ back)
+are-append order [] back first second = second
+are-append order (packet ∷ front) back first second = (first.0, are-append order front back first.1 second)
+
+in_whole : (channel : Channel) (cell : Cell) (slot block : ℕ) (blocks : List (List ℕ)) →
+    AllByRecursion (λ block. length block ≡ 23) blocks →
+    ArePackets LowFirst (packets_in channel cell slot block blocks)
+in_whole channel cell slot block [] each = tt
+in_whole channel cell slot block (octets ∷ rest) each =
+    (packet_whole channel (at cell slot block) octets each.0, in_whole channel cell slot (block + 1) rest each.1)
+
+on_whole : (channel : Channel) (cell : Cell) (slot : ℕ) (slots : List (List ℕ)) →
+    AllByRecursion (λ slot. length slot ≡ 92) slots →
+    ArePackets LowFirst (packets_on channel cell slot slots)
+on_whole channel cell slot [] each = tt
+on_whole channel cell slot (octets ∷ rest) each =
+    are-append LowFirst (packets_in channel cell slot 0 (blocks_of_slot octets))
+    (packets_on channel cell (slot + 1) rest)
+    (in_whole channel cell slot 0 (blocks_of_slot octets) (chunks_each 23 4 octets each.0))
+    (on_whole channel cell (slot + 1) rest each.1)
+
+-- packets one after another
+after_append : (link : Link) (from : Option ℕ) (number : ℕ) (state : Result Known AirFaultKind)
+    (front back : List Packet) (known : Known) → after_packets link from number state front ≡ Ok known →
+    after_packets link from number state (front ++ back)
+    ≡ after_packets link from (number + length front) (Ok known) back
+after_append link from number (Ok old) [] back known is =
+    let same : old ≡ known = cc in
+    let here : number ≡ number + length {A = Packet} [] = omega arith in
+    ap (λ k. after_packets link from number (Ok k) back) same
+    ∙ ap (λ n. after_packets link from n (Ok known) back) here
+after_append link from number (Err why) [] back known is = cc
+after_append link from number (Ok old) (first ∷ front) back known is =
+    let next : number + 1 + length front ≡ number + length (first ∷ front) = omega arith in
+    after_append link from (number + 1) (after_packet link from old first) front back known is
+    ∙ ap (λ n. after_packets link from n (Ok known) back) next
+after_append link from number (Err why) (first ∷ front) back known is = cc
+
+-- what is known after a slot
+abbrev pub known_at : (slot : ℕ) → (done : List (List ℕ)) (left : ℕ) → Known
+known_at slot done left = record { track = Some (record { first = 0; slot = slot }); blocks = sofar done left }
+
+slot_taken : (channel : Channel) (cell : Cell) (slot number : ℕ) (octets : List ℕ) (track : Option Track)
+    (done : List (List ℕ)) (left : ℕ) → length octets ≡ 92 → length done ≡ 4 * slot →
+    followed track (slot % 6656) ≡ Some (record { first = 0; slot = slot }) →
+    after_packets Internet None number (Ok (record { track = track; blocks = sofar done (suc (suc (suc (suc left)))) }))
+    (packets_in channel cell slot 0 (blocks_of_slot octets))
+    ≡ Ok (known_at slot (done ++ blocks_of_slot octets) left)
+slot_taken channel cell slot number octets track done left long many leads =
+    let each : AllByRecursion (λ block. length block ≡ 23) (blocks_of_slot octets) = chunks_each 23 4 octets long in
+    let a : List ℕ = take 23 octets in
+    let b : List ℕ = take 23 (drop 23 octets) in
+    let c : List ℕ = take 23 (drop 23 (drop 23 octets)) in
+    let d : List ℕ = take 23 (drop 23 (drop 23 (drop 23 octets))) in
+    let track' : Option Track = Some (record { first = 0; slot = slot }) in
+    let one : List (List ℕ) = done ++ a ∷ [] in
+    let two : List (List ℕ) = one ++ b ∷ [] in
+    let three : List (List ℕ) = two ++ c ∷ [] in
+    let many1 : length one ≡ 4 * slot + 1 = length_push done a ∙ ap (λ n. n + 1) many in
+    let many2 : length two ≡ 4 * slot + 2 = length_push one b ∙ omega (arith, many1) in
+    let many3 : length three ≡ 4 * slot + 3 = length_push two c ∙ omega (arith, many2) in
+    let whole : ((((done ++ a ∷ []) ++ b ∷ []) ++ c ∷ []) ++ d ∷ []) ≡ done ++ blocks_of_slot octets =
+    simp append_assoc in
+    ap (λ state. after_packets Internet None (number + 1) state (packets_in channel cell slot 1 (b ∷ c ∷ d ∷ [])))
+    (next_packet channel cell slot 0 a track done (suc (suc (suc left))) each.0 (lit< tt) refl
+    (omega (arith, many)) leads)
+    ∙ ap (λ state. after_packets Internet None (number + 1 + 1) state (packets_in channel cell slot 2 (c ∷ d ∷ [])))
+    (next_packet channel cell slot 1 b track' one (suc (suc left)) each.1.0 (lit< tt) refl many1 (leads_same slot))
+    ∙ ap (λ state. after_packets Internet None (number + 1 + 1 + 1) state (packets_in channel cell slot 3 (d ∷ [])))
+    (next_packet channel cell slot 2 c track' two (suc left) each.1.1.0 (lit< tt) refl many2 (leads_same slot))
+    ∙ ap (λ state. after_packets Internet None (number + 1 + 1 + 1 + 1) state [])
+    (next_packet channel cell slot 3 d track' three left each.1.1.1.0 (lit< tt) refl many3 (leads_same slot))
+    ∙ ap (λ blocks. Ok (known_at slot blocks left)) whole
+
+-- all slots
+all_taken : (channel : Channel) (cell : Cell) (slot number : ℕ) (slots : List (List ℕ)) (track : Option Track)
+    (done : List (List ℕ)) → AllByRecursion (λ slot. length slot ≡ 92) slots → length done ≡ 4 * slot →
+    followed track (slot % 6656) ≡ Some (record { first = 0; slot = slot }) →
+    (known : Known)
+    × (after_packets Internet None number (Ok (record { track = track; blocks = sofar done (4 * length slots) }))
+    (packets_on channel cell slot slots) ≡ Ok known)
+    × (known.blocks ≡ map Some (done ++ blocks_of_slots slots))
+all_taken channel cell slot number [] track done each many leads = (
+  record { track = track; blocks = sofar done (4 * length {A = List ℕ} []) },
+  refl,
+  append-nil (map Some done) ∙ ap (map Some) (sym (append-nil done)),
+)
+all_taken channel cell slot number (octets ∷ rest) track done each many leads =
+    let blocks : List (List ℕ) = blocks_of_slot octets in
+    let left : ℕ = 4 * length rest in
+    let four : 4 * length (octets ∷ rest) ≡ suc (suc (suc (suc left))) = omega arith in
+    let front : List Packet = packets_in channel cell slot 0 blocks in
+    let back : List Packet = packets_on channel cell (slot + 1) rest in
+    let after : length (done ++ blocks) ≡ 4 * (slot + 1) =
+    omega (arith, length-append done blocks, chunks_long 23 4 octets, many) in
+    let others = all_taken channel cell (slot + 1) (number + length front) rest
+    (Some (record { first = 0; slot = slot })) (done ++ blocks) each.1 after (leads_next slot) in (
+      others.0,
+      ap (λ n. after_packets Internet None number (Ok (record { track = track; blocks = sofar done n }))
+          (front ++ back))
+          four
+          ∙ after_append Internet None number
+          (Ok (record { track = track; blocks = sofar done (suc (suc (suc (suc left)))) })) front back
+          (known_at slot (done ++ blocks) left)
+          (slot_taken channel cell slot number octets track done left each.0 many leads)
+          ∙ others.1,
+      others.2 ∙ ap (map Some) (append_assoc done blocks (blocks_of_slots rest)),
+    )
+
+all_known : (blocks : List (List ℕ)) → blocks_in (map Some blocks) ≡ blocks
+all_known [] = refl
+all_known (block ∷ blocks) = ap (λ rest. block ∷ rest) (all_known blocks)
+
+packets_taken : (wanted : Wanted) (channel : Channel) (cell : Cell) (slots : List (List ℕ)) →
+    wanted.from ≡ None → wanted.slots ≡ length slots → AllByRecursion (λ slot. length slot ≡ 92) slots →
+    (known : Known) × (taken wanted Internet (packets_on channel cell 0 slots) ≡ Ok known)
+    × (known.blocks ≡ map Some (blocks_of_slots slots))
+unfolding taken
+packets_taken wanted channel cell slots anywhere many each =
+    let all = all_taken channel cell 0 0 slots None [] each refl leads_first in (
+      all.0,
+      ap (λ from. after_packets Internet from 0 (Ok (nothing_known wanted.slots)) (packets_on channel cell 0 slots))
+          anywhere
+          ∙ ap (λ n. after_packets Internet None 0 (Ok (nothing_known n)) (packets_on channel cell 0 slots)) many
+          ∙ all.1,
+      all.2,
+    )
+
+pub there_and_back : CaptureHasTheTape
+there_and_back cell channel slots few each =
+    let wanted : Wanted = record { cell = cell; slots = length slots; from = None } in
+    let settings : Settings = record { channel = channel; slots = All } in
+    let said : Cell = cell_in (tape_octets cell (length slots) []) in
+    let packets : List Packet = packets_on channel said 0 slots in
+    let taken_all = packets_taken wanted channel said slots refl refl each in
+    let blocks : octets_of_blocks (blocks_in taken_all.0.blocks) ≡ flat_map (λ slot. slot) slots =
+    ap (λ known. octets_of_blocks (blocks_in known)) taken_all.2
+    ∙ ap octets_of_blocks (all_known (blocks_of_slots slots)) ∙ blocks_joined slots each in
+    record {
+      known = taken_all.0;
+      file = record {
+        order = LowFirst;
+        link = Internet;
+        after = octets_of_packets packets;
+        opens = record {
+          header = file_header;
+          split =
+              ap (λ octets. file_header ++ octets)
+              (append-nil (packets_of_slots settings 0 said 0 slots) ∙ sym (on_joined channel said 0 slots));
+          long = header_long;
+          order_is = header_order;
+          link_is = header_link;
+        };
+        so = record {
+          packets = packets;
+          joined = refl;
+          whole = on_whole channel said 0 slots each;
+          are_taken = taken_all.1;
+        };
+      };
+      written = ap (λ octets. tape_octets cell (length slots) [] ++ octets) (sym blocks);
+    }

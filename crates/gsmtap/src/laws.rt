@@ -1,0 +1,10 @@
+//! A law of captures, over their definitions alone.
+
+ghost use Rattle.gsmtap.specs.Laws.{CaptureHasTheTape};
+
+/// What comes back of a capture. It does nothing: its contract is the statement.
+///
+/// The tape of the capture of a tape with all its slots is the tape, for each cell, channel and number of slots.
+pub fn capture_laws()
+    ensures { CaptureHasTheTape }
+{}
