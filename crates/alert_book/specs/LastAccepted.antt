@@ -1,13 +1,12 @@
 -- Which version of an alert a cell accepted last, by the turns of a session alone; and that a session replaces and
 -- stops no other. Own.
 use Rattle.std.specs.Prelude.{◌≡◌, ◌⊎◌, ℕ, true, Option, Some, None, List, ◌∷◌, ◌++◌, find, All}
-use Rattle.std.specs.List.{list_any}
 use Rattle.cbsp_wire.specs.declared.cause.TheConstants.{MESSAGE_REFERENCE_NOT_IDENTIFIED}
 use Rattle.cbsp_wire.specs.declared.message.Cell.{Cell}
 use Rattle.cbsp_wire.specs.declared.message.Failure.{Failure}
 use Rattle.cbsp_wire.specs.declared.message.Message.{Message}
 use Rattle.cbsp_wire.specs.declared.message.Message.TheVariants as messages
-use Rattle.cbsp_wire.specs.Range.{is_cell}
+use Rattle.cbsp_wire.specs.CellLists.{contains}
 use Rattle.alert_book.specs.declared.outcome.Outcome.{Outcome}
 use Rattle.alert_book.specs.Book.{Contents, IsBook}
 use Rattle.alert_book.specs.Session.{outcome_of, refuses, Standing}
@@ -39,7 +38,7 @@ IsAskedOf number cell turn = (turn.request.number ≡ number) × (is_asked cell 
 pub record HasAccepted (cell : Cell) (turn : Turn) : Type 0 where
   pub outcome : Outcome
   pub replied : outcome_of turn.request.message turn.reply ≡ Some outcome
-  pub listed : list_any (is_cell cell) outcome.accepted ≡ true
+  pub listed : contains outcome.accepted cell ≡ true
   pub unrefused : find (refuses cell) outcome.refused ≡ None
 
 -- or that it has no such message: it refused, since the message to replace or to stop isn't live there

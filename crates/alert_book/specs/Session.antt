@@ -10,7 +10,7 @@ use Rattle.std.specs.Prelude.{List}
 use Rattle.std.specs.Prelude.{[], ◌∷◌, drop, filter, find, length, map, nat_lt}
 use Rattle.std.specs.Prelude.{Vec}
 use Rattle.std.specs.Global.{Global}
-use Rattle.std.specs.List.{list_any, range_with_len}
+use Rattle.std.specs.List.{range_with_len}
 use Rattle.cbs_page.specs.declared.paging.Paged.{Paged}
 use Rattle.cbs_page.specs.Serial.{serial_number}
 use Rattle.cbsp_wire.specs.declared.cause.TheConstants.{MESSAGE_REFERENCE_NOT_IDENTIFIED}
@@ -20,6 +20,7 @@ use Rattle.cbsp_wire.specs.declared.message.Failure.{Failure}
 use Rattle.cbsp_wire.specs.declared.message.Message.{Message}
 use Rattle.cbsp_wire.specs.declared.message.Message.TheVariants as messages
 use Rattle.cbsp_wire.specs.Meaning.{IsMessage}
+use Rattle.cbsp_wire.specs.CellLists.{contains}
 use Rattle.cbsp_wire.specs.Range.{is_cell}
 use Rattle.cbsp_wire.specs.Refusals.{first_fault}
 use Rattle.cbsp_wire.specs.Written.{octets_of_message}
@@ -117,12 +118,12 @@ refuses cell failure = is_cell cell failure.cell
 abbrev pub version_said : Request → Outcome → Cell → (before : Option ℕ) → Option ℕ
 version_said request outcome cell before =
     version_by (find (refuses cell) outcome.refused)
-    (list_any (is_cell cell) outcome.accepted) request.version before
+    (contains outcome.accepted cell) request.version before
 
 -- the version of an alert in a cell after what a reply says of these cells; other cells and alerts keep theirs
 abbrev pub version_after : Request → Outcome → List Cell → (number : ℕ) → Cell → (before : Option ℕ) → Option ℕ
 version_after request outcome cells number cell before =
-    if (request.number == number) && list_any (is_cell cell) cells then version_said request outcome cell before
+    if (request.number == number) && contains cells cell then version_said request outcome cell before
     else before
 
 -- the version of an alert that is believed live in a cell, by the replies so far, the last one first

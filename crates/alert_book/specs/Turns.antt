@@ -1,9 +1,8 @@
 -- The turns of a session: its requests, each with the reply to it, from the first request to the last. Own.
 use Rattle.std.specs.Prelude.{◌≡◌, ℕ, Bool, Some, None, List, [], ◌∷◌}
-use Rattle.std.specs.List.{list_any}
 use Rattle.cbsp_wire.specs.declared.message.Cell.{Cell}
 use Rattle.cbsp_wire.specs.declared.message.Message.{Message}
-use Rattle.cbsp_wire.specs.Range.{is_cell}
+use Rattle.cbsp_wire.specs.CellLists.{contains}
 use Rattle.alert_book.specs.declared.request.Request.{Request}
 use Rattle.alert_book.specs.Book.{Contents}
 use Rattle.alert_book.specs.Session.{after_reply, cells_asked, session_of, Standing}
@@ -31,4 +30,4 @@ pub record AreTurnsOf (book : Contents) (part parts : ℕ) (turns : List Turn) :
 
 -- whether a turn's message asks a cell
 abbrev pub is_asked : Cell → Turn → Bool
-is_asked cell turn = list_any (is_cell cell) (cells_asked turn.request.message)
+is_asked cell turn = contains (cells_asked turn.request.message) cell
