@@ -1,0 +1,342 @@
+#!/usr/bin/env python3
+"""Makes captures of tapes and tapes of captures, as docs/formats.md describes them: a second program against which `warnc pcap` and
+`warnc tape` are compared. It shares nothing with them.
+
+Usage: capture_reference.py [--used] [--channel 51|52] < tapes > air.pcap
+       capture_reference.py --back LAC-CI SLOTS [IPV4] < air.pcap > tape
+       capture_reference.py --compare PROGRAM [RUNS]     random tapes there and back, with packets that are put in order anew,
+                                                         doubled, dropped, foreign or cut; each file is made by both programs
+       capture_reference.py --tshark PROGRAM < tapes     what tshark shows of the captures that a built program makes, beside what
+                                                         its `read` shows: identifiers, serial numbers and texts of pages
+"""
+import argparse
+import csv
+import random
+import shutil
+import struct
+import subprocess
+import sys
+
+IDLE = bytes([0x2F] + [0x2B] * 22)
+FRAMES = 51 * 26 * 2048
+SLOTS = FRAMES // 51 // 8
+
+
+class Refused(Exception):
+    """An input that makes no output."""
+
+
+def tapes_of(octets):
+    """Yields each tape's location area, cell identity and blocks."""
+    place = 0
+    while place < len(octets):
+        if len(octets) - place < 8:
+            raise Refused("tape is short")
+        lac, cell, slots = struct.unpack_from(">HHI", octets, place)
+        place += 8
+        if slots > 65535:
+            raise Refused("tape is long")
+        if len(octets) - place < slots * 92:
+            raise Refused("tape is short")
+        yield lac, cell, [octets[place + 23 * it:place + 23 * it + 23] for it in range(4 * slots)]
+        place += 92 * slots
+
+
+def ones_sum(octets):
+    """The one's complement sum of words of 16 bits."""
+    total = 0
+    for word, in struct.iter_unpack(">H", octets):
+        total += word
+        total = (total & 0xFFFF) + (total >> 16)
+    return total
+
+
+def internet(source, target, identity, payload, protocol=17):
+    header = struct.pack(">BBHHHBBH4s4s", 0x45, 0, 20 + len(payload), identity, 0, 64, protocol, 0, source, target)
+    return header[:10] + struct.pack(">H", ones_sum(header) ^ 0xFFFF) + header[12:] + payload
+
+
+def gsmtap(frame, channel, block, arfcn=0):
+    return struct.pack(">BBBBHbbIBBBB", 2, 4, 1, 0, arfcn, 0, 0, frame, channel, 0, 2, 0) + block
+
+
+def datagram(payload, port=4729):
+    return struct.pack(">HHHH", port, port, 8 + len(payload), 0) + payload
+
+
+def file_header(order="<", magic=0xA1B2C3D4, link=228):
+    return struct.pack(order + "IHHiIII", magic, 2, 4, 0, 0, 65535, link)
+
+
+def packet(octets, when=(0, 0), order="<"):
+    return struct.pack(order + "IIII", *when, len(octets), len(octets)) + octets
+
+
+def packet_of_block(number, lac, cell, place, block, channel):
+    slot, part = divmod(place, 4)
+    multiframe = 8 * slot + part
+    when = divmod(multiframe * 51 * 120000 // 26, 1000000)
+    body = datagram(gsmtap((multiframe * 51 + 32) % FRAMES, channel, block))
+    return packet(internet(struct.pack(">HH", lac, cell), struct.pack(">I", 0x0A000000 + number), slot % 65536, body), when)
+
+
+def capture_of(octets, used=False, channel=15):
+    tapes = list(tapes_of(octets))
+    if len(tapes) > 64:
+        raise Refused("tape is long")
+    out = [file_header()]
+    for number, (lac, cell, blocks) in enumerate(tapes):
+        for slot in range(len(blocks) // 4):
+            four = blocks[4 * slot:4 * slot + 4]
+            if used and four == [IDLE] * 4:
+                continue
+            out += [packet_of_block(number, lac, cell, 4 * slot + it, block, channel) for it, block in enumerate(four)]
+    return b"".join(out)
+
+
+def packets_of(octets):
+    """Returns the link type and an iterator over the packets."""
+    if len(octets) < 24:
+        raise Refused("not a capture file")
+    for order in "<>":
+        if struct.unpack_from(order + "I", octets)[0] in (0xA1B2C3D4, 0xA1B23C4D):
+            break
+    else:
+        raise Refused("not a capture file")
+    link = struct.unpack_from(order + "I", octets, 20)[0]
+    if link not in (1, 101, 228):
+        raise Refused("unknown link type")
+    return link, each_packet(octets, order)
+
+
+def each_packet(octets, order):
+    place, number = 24, 0
+    while place < len(octets):
+        number += 1
+        if len(octets) - place < 16:
+            raise Refused(f"packet {number}: capture is short")
+        size = struct.unpack_from(order + "I", octets, place + 8)[0]
+        place += 16
+        if len(octets) - place < size:
+            raise Refused(f"packet {number}: capture is short")
+        yield number, octets[place:place + size]
+        place += size
+
+
+def block_in(link, octets, source):
+    """Returns the frame number and the block that a packet carries, or None."""
+    if link == 1:
+        if len(octets) < 14 or octets[12:14] != b"\x08\x00":
+            return None
+        octets = octets[14:]
+    if len(octets) < 20 or octets[0] >> 4 != 4 or octets[9] != 17:
+        return None
+    size = 4 * (octets[0] & 15)
+    if size < 20 or len(octets) < size or struct.unpack_from(">H", octets, 6)[0] & 0x3FFF:
+        return None
+    if source is not None and octets[12:16] != source:
+        return None
+    octets = octets[size:]
+    if len(octets) < 8:
+        return None
+    _, port, size, _ = struct.unpack_from(">HHHH", octets)
+    if port != 4729 or size < 8 or size > len(octets):
+        return None
+    octets = octets[8:size]
+    if len(octets) < 16:
+        return None
+    version, words, kind, _, arfcn, _, _, frame, channel = struct.unpack_from(">BBBBHbbIB", octets)
+    if (version, kind) != (2, 1) or words < 4 or arfcn & 0x4000 or channel not in (12, 15) or len(octets) != 4 * words + 23:
+        return None
+    return frame, octets[4 * words:]
+
+
+def tape_of(octets, lac, cell, slots, source=None):
+    link, packets = packets_of(octets)
+    blocks, first, last = {}, None, None
+    for number, inside in packets:
+        found = block_in(link, inside, source)
+        if found is None:
+            continue
+        frame, block = found
+        slot, part = divmod(frame // 51 % (FRAMES // 51), 8)
+        if part >= 4:
+            continue
+        if first is None:
+            first, last = slot, 0
+        else:
+            step = (slot - first - last) % SLOTS
+            if step == SLOTS - 1 and last > 0:
+                step = -1
+            elif step >= SLOTS // 2:
+                raise Refused(f"packet {number}: steps back")
+            last += step
+        if last < slots and blocks.setdefault(4 * last + part, block) != block:
+            raise Refused(f"packet {number}: block differs")
+    return struct.pack(">HHI", lac, cell, slots) + b"".join(blocks.get(it, IDLE) for it in range(4 * slots))
+
+
+def random_tape(rng, slots):
+    blocks = b"".join(
+        rng.choice([IDLE * 4, rng.randbytes(92), rng.randbytes(46) + IDLE * 2]) if rng.random() < 0.3 else IDLE * 4
+        for _ in range(slots))
+    return struct.pack(">HHI", rng.randrange(65536), rng.randrange(65536), slots) + blocks
+
+
+def foreign(rng):
+    """A packet that isn't a block of a cell broadcast channel."""
+    block, at = rng.randbytes(23), rng.randrange(FRAMES)
+    good = gsmtap(at, 15, block)
+    source, target = rng.randbytes(4), rng.randbytes(4)
+    return rng.choice([
+        internet(source, target, 1, datagram(good, 4730)),
+        internet(source, target, 1, datagram(good[:-1])),
+        internet(source, target, 1, datagram(good + b"+")),
+        internet(source, target, 1, datagram(gsmtap(at, 15, block, 0x4000))),
+        internet(source, target, 1, datagram(gsmtap(at, 7, block))),
+        internet(source, target, 1, datagram(b"\1" + good[1:])),
+        internet(source, target, 1, datagram(good[:2] + b"\2" + good[3:])),
+        internet(source, target, 1, datagram(good), 6),
+        internet(source, target, 1, datagram(gsmtap((at // 408 * 8 + 4 + at % 4) * 51 % FRAMES, 12, block))),
+        rng.randbytes(rng.randrange(80)),
+        b"",
+    ])
+
+
+def disturbed(rng, packets):
+    """Packets as a network may give them."""
+    out = []
+    for it in packets:
+        if rng.random() < 0.02:
+            continue
+        out.append(it)
+        if rng.random() < 0.05:
+            out.append(it)
+        if rng.random() < 0.05:
+            out.append(foreign(rng))
+        if rng.random() < 0.05 and len(out) > 1:
+            out[-1], out[-2] = out[-2], out[-1]
+        if rng.random() < 0.002:
+            out.append(it[:-1] + bytes([it[-1] ^ 1]))
+    return out
+
+
+def random_file(rng, tape):
+    """A capture of a tape with another header, order, time and disturbance."""
+    order, magic = rng.choice("<>"), rng.choice([0xA1B2C3D4, 0xA1B23C4D])
+    link = rng.choice([1, 101, 228])
+    _, packets = packets_of(capture_of(tape, rng.random() < 0.3, rng.choice([12, 15])))
+    inside = [octets for _, octets in packets]
+    if rng.random() < 0.7:
+        inside = disturbed(rng, inside)
+    if link == 1:
+        inside = [rng.randbytes(12) + (b"\x08\x00" if rng.random() < 0.99 else b"\x08\x06") + it for it in inside]
+    out = file_header(order, magic, link) + b"".join(packet(it, (rng.randrange(1 << 32), 7), order) for it in inside)
+    if rng.random() < 0.1:
+        out = out[:rng.randrange(len(out) + 1)]
+    if rng.random() < 0.02:
+        out = out[:20] + rng.randbytes(4) + out[24:]
+    return out
+
+
+def ran(program, words, octets):
+    """What a program makes of an input: its output, or the line that refuses it."""
+    done = subprocess.run([program, *words], input=octets, stdout=subprocess.PIPE, stderr=subprocess.PIPE, check=False)
+    return done.stdout if done.returncode == 0 else done.stderr.decode().removeprefix("warnc: ").rstrip("\n")
+
+
+def made(function, *words):
+    """What this program makes of it."""
+    try:
+        return function(*words)
+    except Refused as why:
+        return str(why)
+
+
+def compare(program, runs):
+    rng, counts = random.Random(41), {}
+    for run in range(runs):
+        slots = rng.choice([1, 2, 7, 40, 300])
+        tape = random_tape(rng, slots)
+        used, channel = rng.random() < 0.5, rng.choice([51, 52])
+        words = ["pcap", "--channel", str(channel)] + ["--used"] * used
+        several = b"".join([tape] * rng.choice([0, 1, 1, 2, 65]) if slots < 8 else [tape])
+        several = several if rng.random() < 0.9 else several[:rng.randrange(len(several) + 1)]
+        mine = made(capture_of, several, used, {51: 15, 52: 12}[channel])
+        assert ran(program, words, several) == mine, f"run {run}: {words}"
+        lac, cell = struct.unpack_from(">HH", tape)
+        back = ["tape", "--cell", f"{lac}-{cell}", "--slots"]
+        whole = ran(program, ["pcap"], tape)
+        assert ran(program, [*back, str(slots)], whole) == tape, f"run {run}: there and back"
+        file = random_file(rng, tape)
+        wanted = rng.choice([slots, slots, max(1, slots - 1), slots + 3])
+        source = rng.choice([None, None, tape[:4], b"\x0A\0\0\1"])
+        back += [str(wanted)] + ([] if source is None else ["--from", ".".join(map(str, source))])
+        mine = made(tape_of, file, lac, cell, wanted, source)
+        assert ran(program, back, file) == mine, f"run {run}: {back}: {mine if isinstance(mine, str) else 'a tape'}"
+        kind = "a tape" if isinstance(mine, bytes) else mine.split(": ")[-1]
+        counts[kind] = counts.get(kind, 0) + 1
+    print(f"{runs} runs, both programs made the same of each; captures that were disturbed gave {counts}")
+
+
+def shown_by_tshark(capture):
+    """The messages of a capture of one tape, as tshark shows them: each page that is whole has a line of fields."""
+    names = ["message-identifier", "serial_number", "current_page", "total_pages", "page_content"]
+    fields = [word for name in names for word in ("-e", f"gsm_cbs.{name}")]
+    done = subprocess.run(["tshark", "-r", "-", "-Y", "gsm_cbs", "-T", "fields", "-E", "separator=|", *fields], input=capture,
+                          stdout=subprocess.PIPE, stderr=subprocess.DEVNULL, check=True)
+    messages = {}
+    for line in done.stdout.decode().splitlines():
+        number, serial, page, total, text = line.split("|", 4)
+        pages = messages.setdefault((int(number, 0), int(serial, 0)), {})
+        pages[int(page)] = text
+        assert int(page) <= int(total)
+    return {name: "".join(pages[it] for it in sorted(pages)) for name, pages in messages.items()}
+
+
+def beside_tshark(program):
+    """Compares what tshark shows of each tape with what `read` shows."""
+    if shutil.which("tshark") is None:
+        print("tshark isn't installed: SKIPPED")
+        return
+    count = 0
+    for lac, cell, blocks in tapes_of(sys.stdin.buffer.read()):
+        tape = struct.pack(">HHI", lac, cell, len(blocks) // 4) + b"".join(blocks)
+        table = csv.reader(ran(program, ["read"], tape).decode().splitlines())
+        read = {(int(number), int(serial, 16)): text for _, _, number, serial, text in list(table)[1:]}
+        shown = shown_by_tshark(ran(program, ["pcap"], tape))
+        assert shown == read, f"cell {lac}-{cell}: tshark shows {shown}, read {read}"
+        count += len(read)
+    print(f"tshark shows the {count} messages that read shows")
+
+
+def main():
+    parser = argparse.ArgumentParser(description=__doc__.splitlines()[0])
+    parser.add_argument("--used", action="store_true")
+    parser.add_argument("--channel", type=int, choices=[51, 52], default=51)
+    parser.add_argument("--back", nargs="+")
+    parser.add_argument("--compare", nargs="+")
+    parser.add_argument("--tshark")
+    words = parser.parse_args()
+    if words.compare:
+        compare(words.compare[0], int((words.compare[1:] or ["1000"])[0]))
+        return 0
+    if words.tshark:
+        beside_tshark(words.tshark)
+        return 0
+    octets = sys.stdin.buffer.read()
+    try:
+        if words.back:
+            lac, cell = map(int, words.back[0].split("-"))
+            source = bytes(map(int, words.back[2].split("."))) if len(words.back) > 2 else None
+            sys.stdout.buffer.write(tape_of(octets, lac, cell, int(words.back[1]), source))
+        else:
+            sys.stdout.buffer.write(capture_of(octets, words.used, {51: 15, 52: 12}[words.channel]))
+    except Refused as why:
+        print(why, file=sys.stderr)
+        return 1
+    return 0
+
+
+if __name__ == "__main__":
+    sys.exit(main())
