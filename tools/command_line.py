@@ -51,7 +51,7 @@ def of_source():
     for command in given(bodies["warnc"], "subcommand"):
         options = (bodies[it] for it in given(bodies[command], "arg"))
         name = only(r'Command::new\(alloc, "(\w+)"\)', bodies[command])
-        commands[name] = {only(r'\b(?:option|threads)\(\s*alloc,\s*"(\w+)"', it) for it in options}
+        commands[name] = {only(r'\b(?:option|optional|threads|flag)\(\s*alloc,\s*"(\w+)"', it) for it in options}
     return commands, plain(only(r"\"The text's language: ([^\"]*)\"", bodies["language"]))
 
 

@@ -10,12 +10,16 @@ _warnc() {
         before=${COMP_WORDS[COMP_CWORD - 2]}
     fi
     if [ "$COMP_CWORD" -eq 1 ]; then
-        words="compile live read report page help -h --help -V --version"
+        words="compile live read pcap tape report page help -h --help -V --version"
     else
         case $before in
         --lang) words="de en it fr es nl sv da pt fi no el tr hu pl und cs he ar ru is" ;;
+        --channel) words="51 52" ;;
         --scope) words="0 1 2 3" ;;
         --update) words="0 1 2 3 4 5 6 7 8 9 10 11 12 13 14 15" ;;
+        --used)
+            words="--channel -h --help"
+            ;;
         --*)
             # any other option takes a number, which nobody can guess
             ;;
@@ -24,9 +28,11 @@ _warnc() {
             compile) words="--slots --workers -h --help" ;;
             live) words="--slots --sessions --workers -h --help" ;;
             read) words="-h --help" ;;
+            pcap) words="--used --channel -h --help" ;;
+            tape) words="--cell --slots --from -h --help" ;;
             report) words="--slots --workers -h --help" ;;
             page) words="--lang --id --scope --code --update -h --help" ;;
-            help) words="compile live read report page" ;;
+            help) words="compile live read pcap tape report page" ;;
             esac
             ;;
         esac

@@ -8,6 +8,8 @@ complete -c warnc -n __fish_use_subcommand -s V -l version -d 'Print the version
 complete -c warnc -n __fish_use_subcommand -a compile -d 'Write the tapes of a book of alerts'
 complete -c warnc -n __fish_use_subcommand -a live -d 'The same, with several sessions side by side'
 complete -c warnc -n __fish_use_subcommand -a read -d 'Write what phones show of tapes'
+complete -c warnc -n __fish_use_subcommand -a pcap -d 'Write the blocks of tapes as a capture file'
+complete -c warnc -n __fish_use_subcommand -a tape -d 'Write a tape of a capture file'
 complete -c warnc -n __fish_use_subcommand -a report -d 'Write what became of each order in each cell'
 complete -c warnc -n __fish_use_subcommand -a page -d 'Write the blocks of a text'
 complete -c warnc -n __fish_use_subcommand -a help -d 'Print what a command takes'
@@ -18,6 +20,11 @@ complete -c warnc -n '__fish_seen_subcommand_from live' -x -l slots -d 'How many
 complete -c warnc -n '__fish_seen_subcommand_from live' -x -l sessions -d 'How many sessions order side by side, 1 to 64'
 complete -c warnc -n '__fish_seen_subcommand_from live' -x -l workers -d 'How many workers play cells, 1 to 64'
 complete -c warnc -n '__fish_seen_subcommand_from read'
+complete -c warnc -n '__fish_seen_subcommand_from pcap' -l used -d 'Leave out idle slots'
+complete -c warnc -n '__fish_seen_subcommand_from pcap' -x -l channel -d 'Channel that packets name' -a '51 52'
+complete -c warnc -n '__fish_seen_subcommand_from tape' -x -l cell -d 'Cell that the tape names, as 1-1'
+complete -c warnc -n '__fish_seen_subcommand_from tape' -x -l slots -d 'How many slots the tape has, 1 to 65535'
+complete -c warnc -n '__fish_seen_subcommand_from tape' -x -l from -d 'IPv4 address of the source'
 complete -c warnc -n '__fish_seen_subcommand_from report' -x -l slots -d 'How many slots each run has, 1 to 65535'
 complete -c warnc -n '__fish_seen_subcommand_from report' -x -l workers -d 'How many workers play cells, 1 to 64'
 complete -c warnc -n '__fish_seen_subcommand_from page' -x -l lang -d 'Language of the text' \
@@ -27,4 +34,4 @@ complete -c warnc -n '__fish_seen_subcommand_from page' -x -l scope -d 'Geograph
 complete -c warnc -n '__fish_seen_subcommand_from page' -x -l code -d 'Message code, 0 to 1023'
 complete -c warnc -n '__fish_seen_subcommand_from page' -x -l update -d 'Update number' \
     -a '0 1 2 3 4 5 6 7 8 9 10 11 12 13 14 15'
-complete -c warnc -n '__fish_seen_subcommand_from help' -a 'compile live read report page'
+complete -c warnc -n '__fish_seen_subcommand_from help' -a 'compile live read pcap tape report page'

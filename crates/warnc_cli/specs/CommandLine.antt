@@ -1,15 +1,18 @@
 -- What the words of a command line ask for: word 0 is the program's name, and word 1 names the command. Own.
 use Rattle.std.specs.Prelude.{◌≡◌, ℕ, ◌+◌, ◌≤◌, ◌||◌, ◌⊎◌, Bool, false, if◌then◌else◌, nat_eq, List, ◌∷◌, ◌++◌, Some}
 use Rattle.std.specs.Prelude.{codes}
-use Rattle.std.specs.Prelude.{slice_get}
+use Rattle.std.specs.Prelude.{slice_get, ◌<◌, [], Option, None}
 use Rattle.std.specs.List.{list_any, starts_with}
 use Rattle.std.specs.Str.{bytes_eq}
 use Rattle.std.specs.Str.Parse.{IsNumeral, digits_value, without_leading_plus}
 use Rattle.cbs_page.specs.Serial.{serial_number, AreSerialFields}
+use Rattle.byteorder.specs.Endian.{big_number}
+use Rattle.cbsp_wire.specs.declared.message.Cell.{Cell}
 use Rattle.gsmtap.specs.declared.capture.Settings.{Settings}
 use Rattle.gsmtap.specs.declared.capture.Slots.{Slots}
 use Rattle.gsmtap.specs.declared.capture.Slots.TheVariants.{All, Used}
 use Rattle.gsmtap.specs.declared.packet.Channel.{Channel}
+use Rattle.gsmtap.specs.declared.tape.Wanted.{Wanted}
 use Rattle.gsmtap.specs.declared.packet.Channel.TheVariants.{Basic, Extended}
 
 -- the words give the option of this name this value: as the word after its name, or in one word with it, after `=`
@@ -78,6 +81,54 @@ pub record GivesThreads (words : List (List ℕ)) (name : List ℕ) (number : �
   pub given : GivesNumber words name number ⊎ ((is_given words name ≡ false) × (number ≡ 1))
   pub some : 1 ≤ number
   pub most : number ≤ 64
+
+-- digits write a number; a plus may stand before them
+pub record IsNumber (digits : List ℕ) (number : ℕ) : Type 0 where
+  pub numeral : IsNumeral 10 (without_leading_plus digits)
+  pub value : digits_value 10 (without_leading_plus digits) ≡ number
+
+-- a text writes a cell: its location area code, a hyphen, and its cell identity
+pub record IsCell (text : List ℕ) (cell : Cell) : Type 0 where
+  pub lac : List ℕ
+  pub ci : List ℕ
+  pub joined : text ≡ lac ++ 45 ∷ ci
+  pub lac_is : IsNumber lac cell.lac
+  pub ci_is : IsNumber ci cell.ci
+
+-- the words give a cell
+abbrev pub GivesCell : (words : List (List ℕ)) → Cell → Type 0
+GivesCell words cell = (text : List ℕ) × GivesValue words (codes "--cell") text × IsCell text cell
+
+-- a text writes an IPv4 address: its four octets, the highest first, with dots between them
+pub record IsAddress (text : List ℕ) (address : ℕ) : Type 0 where
+  pub first : List ℕ
+  pub second : List ℕ
+  pub third : List ℕ
+  pub fourth : List ℕ
+  pub joined : text ≡ first ++ 46 ∷ (second ++ 46 ∷ (third ++ 46 ∷ fourth))
+  pub a : ℕ
+  pub b : ℕ
+  pub c : ℕ
+  pub d : ℕ
+  pub first_is : IsNumber first a
+  pub second_is : IsNumber second b
+  pub third_is : IsNumber third c
+  pub fourth_is : IsNumber fourth d
+  pub small : (a < 256) × (b < 256) × (c < 256) × (d < 256)
+  pub value : address ≡ big_number 4 (a ∷ b ∷ c ∷ d ∷ [])
+
+-- the words give the address that packets come from, or none
+abbrev pub GivesFrom : (words : List (List ℕ)) → Option ℕ → Type 0
+GivesFrom words None = is_given words (codes "--from") ≡ false
+GivesFrom words (Some address) =
+    (text : List ℕ) × GivesValue words (codes "--from") text × IsAddress text address
+
+-- the words ask for `tape`
+pub record IsTapeOrder (words : List (List ℕ)) (wanted : Wanted) : Type 0 where
+  pub command : slice_get words 1 ≡ Some (codes "tape")
+  pub cell_given : GivesCell words wanted.cell
+  pub slots_given : GivesSlots words wanted.slots
+  pub from_given : GivesFrom words wanted.from
 
 -- the words ask for `compile` with this number of slots and of workers
 pub record IsCompileOrder (words : List (List ℕ)) (slots workers : ℕ) : Type 0 where

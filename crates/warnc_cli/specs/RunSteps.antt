@@ -6,10 +6,10 @@ use Rattle.device_ends.specs.Sink.{sink_failed}
 use Rattle.device_ends.specs.declared.reading.Source.{Source}
 use Rattle.device_ends.specs.declared.writing.Sink.{Sink}
 use Rattle.warnc_cli.specs.CommandLine.{IsCompileOrder, IsLiveOrder, IsPageOrder, IsPcapOrder, IsReadOrder}
-use Rattle.warnc_cli.specs.CommandLine.{IsReportOrder}
+use Rattle.warnc_cli.specs.CommandLine.{IsReportOrder, IsTapeOrder}
 use Rattle.warnc_cli.specs.Status.{OneHasFailed, status_of_book_fault}
 use Rattle.warnc_cli.specs.declared.command.Order.{Order}
-use Rattle.warnc_cli.specs.declared.command.Order.TheVariants.{Compile, Live, Page, Pcap, Read, Report}
+use Rattle.warnc_cli.specs.declared.command.Order.TheVariants.{Compile, Live, Page, Pcap, Read, Report, Tape}
 use Rattle.order_desk.specs.declared.fault.DeskFault.{DeskFault}
 use Rattle.order_desk.specs.declared.fault.DeskFault.TheVariants as desk
 use Rattle.order_desk.specs.declared.settle.SettleFault.{SettleFault}
@@ -24,12 +24,15 @@ use Rattle.warnc_inspect.specs.declared.read.ReadCommandFault.{ReadCommandFault}
 use Rattle.warnc_inspect.specs.declared.read.ReadCommandFault.TheVariants as table
 use Rattle.warnc_air.specs.declared.pcap.PcapFault.{PcapFault}
 use Rattle.warnc_air.specs.declared.pcap.PcapFault.TheVariants as pcap
+use Rattle.warnc_air.specs.declared.tape.TapeCommandFault.{TapeCommandFault}
+use Rattle.warnc_air.specs.declared.tape.TapeCommandFault.TheVariants as tape
 
 -- the words ask for what `order` says
 abbrev pub IsOrdered : (words : List (List ℕ)) → Order → Type 0
 IsOrdered words (Page options) = IsPageOrder words options.language.now options.id options.serial
 IsOrdered words Read = IsReadOrder words
 IsOrdered words (Pcap settings) = IsPcapOrder words settings
+IsOrdered words (Tape wanted) = IsTapeOrder words wanted
 IsOrdered words (Compile slots workers) = IsCompileOrder words slots workers.number
 IsOrdered words (Report slots workers) = IsReportOrder words slots workers.number
 IsOrdered words (Live slots sessions workers) = IsLiveOrder words slots sessions.number workers.number
@@ -49,6 +52,14 @@ status_of_pcap_fault pcap.Long = 1
 status_of_pcap_fault pcap.ReadFailed = 3
 status_of_pcap_fault pcap.Refused = 4
 status_of_pcap_fault pcap.WriteFailed = 3
+
+-- the same of a fault of `tape`
+abbrev pub status_of_tape_fault : TapeCommandFault → ℕ
+status_of_tape_fault tape.ReadFailed = 3
+status_of_tape_fault tape.TooLong = 1
+status_of_tape_fault (tape.Air why) = 1
+status_of_tape_fault tape.Refused = 4
+status_of_tape_fault tape.WriteFailed = 3
 
 -- the status of a fault of the desk and of its settlement: 4 if out of memory, else 1
 abbrev pub status_of_desk_fault : DeskFault → ℕ

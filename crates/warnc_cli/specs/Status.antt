@@ -7,14 +7,18 @@ use Rattle.device_ends.specs.Source.{source_failed}
 use Rattle.device_ends.specs.declared.reading.Source.{Source}
 use Rattle.device_ends.specs.declared.writing.Sink.{Sink}
 use Rattle.gsmtap.specs.Capture.{IsCapture}
+use Rattle.gsmtap.specs.TapeOfCapture.{IsAirFault, IsTapeOfCapture}
 use Rattle.gsmtap.specs.declared.capture.Settings.{Settings}
+use Rattle.gsmtap.specs.declared.fault.AirFault.{AirFault}
+use Rattle.gsmtap.specs.declared.tape.Wanted.{Wanted}
+use Rattle.warnc_air.specs.TapeOutput.{max_input as max_capture}
 use Rattle.handset.specs.Tape.{IsShort, IsLong}
 use Rattle.alert_book.specs.Book.{Contents, IsBook, IsWrong, max_input}
 use Rattle.alert_book.specs.declared.fault.BookFault.{BookFault}
 use Rattle.alert_book.specs.declared.fault.BookFaultKind.{BookFaultKind}
 use Rattle.alert_book.specs.declared.fault.BookFaultKind.TheVariants as kinds
 use Rattle.warnc_cli.specs.CommandLine.{asks_for_text, IsCompileOrder, IsLiveOrder, IsPageOrder, IsPcapOrder}
-use Rattle.warnc_cli.specs.CommandLine.{IsReadOrder, IsReportOrder}
+use Rattle.warnc_cli.specs.CommandLine.{IsReadOrder, IsReportOrder, IsTapeOrder}
 use Rattle.warnc_run.specs.declared.fault.RunFault.{RunFault}
 use Rattle.warnc_run.specs.Compiled.{IsCompiled, StopsRun}
 use Rattle.warnc_run.specs.Live.{IsLive}
@@ -65,6 +69,10 @@ abbrev pub IsNoRun : (slots parts : ℕ) (input : List ℕ) → Type 0
 IsNoRun slots parts input = IsNoBook input
     ⊎ ((book : Contents) × IsBook input book × ((fault : RunFault) × StopsRun book slots parts fault))
 
+-- the input is refused: it is too long for a capture, or no capture file that has a tape
+abbrev pub IsNoAir : Wanted → (input : List ℕ) → Type 0
+IsNoAir wanted input = (max_capture < length input) ⊎ ((why : AirFault) × IsAirFault wanted input why)
+
 -- something was written
 abbrev pub WritesSome : (old new : Option (List ℕ)) → Type 0
 WritesSome old new = (output : List ℕ) × (0 < length output) × Appends old new output
@@ -97,6 +105,12 @@ pub record WroteCapture (words : List (List ℕ)) (input old new : Option (List 
   pub asked : IsPcapOrder words settings
   pub wrote : WritesOutput (IsCapture settings) input old new
 
+-- the words ask for `tape`, and what was written is the tape that the words want of the capture
+pub record WroteTape (words : List (List ℕ)) (input old new : Option (List ℕ)) : Type 0 where
+  pub wanted : Wanted
+  pub asked : IsTapeOrder words wanted
+  pub wrote : WritesOutput (IsTapeOfCapture wanted) input old new
+
 -- the words ask for `compile`, and what was written is the tapes of the book's cells, in runs of as many slots as the
 -- words say, whatever the number of workers
 pub record WroteTapes (words : List (List ℕ)) (input old new : Option (List ℕ)) : Type 0 where
@@ -125,7 +139,8 @@ pub record WroteReport (words : List (List ℕ)) (input old new : Option (List �
 abbrev pub WroteWhatIsAsked : (words : List (List ℕ)) (input old new : Option (List ℕ)) → Type 0
 WroteWhatIsAsked words input old new = WroteText words old new ⊎
     (WrotePages words input old new ⊎ (WroteTable words input old new ⊎ (WroteCapture words input old new
-    ⊎ (WroteTapes words input old new ⊎ (WroteLiveTapes words input old new ⊎ WroteReport words input old new)))))
+    ⊎ (WroteTape words input old new ⊎ (WroteTapes words input old new
+    ⊎ (WroteLiveTapes words input old new ⊎ WroteReport words input old new))))))
 
 -- What status 1 says: the command that the words ask for refuses the input.
 
@@ -147,6 +162,12 @@ pub record RefusesCapture (words : List (List ℕ)) (input : Option (List ℕ)) 
   pub settings : Settings
   pub asked : IsPcapOrder words settings
   pub refused : IfSome input IsNoTapes
+
+-- the words ask for `tape`, and the input is no capture file that has the tape that they want
+pub record RefusesAir (words : List (List ℕ)) (input : Option (List ℕ)) : Type 0 where
+  pub wanted : Wanted
+  pub asked : IsTapeOrder words wanted
+  pub refused : IfSome input (IsNoAir wanted)
 
 -- the words ask for `compile`, and the input is no book or has no run
 pub record RefusesAlerts (words : List (List ℕ)) (input : Option (List ℕ)) : Type 0 where
@@ -172,8 +193,8 @@ pub record RefusesReportedAlerts (words : List (List ℕ)) (input : Option (List
 
 abbrev pub RefusesInput : (words : List (List ℕ)) (input : Option (List ℕ)) → Type 0
 RefusesInput words input =
-    RefusesText words input ⊎ (RefusesTapes words input ⊎ (RefusesCapture words input ⊎ (RefusesAlerts words input
-    ⊎ (RefusesLiveAlerts words input ⊎ RefusesReportedAlerts words input))))
+    RefusesText words input ⊎ (RefusesTapes words input ⊎ (RefusesCapture words input ⊎ (RefusesAir words input
+    ⊎ (RefusesAlerts words input ⊎ (RefusesLiveAlerts words input ⊎ RefusesReportedAlerts words input)))))
 
 -- one of the two ends has failed
 abbrev pub OneHasFailed : {R W : Type 0} → Source R → Sink W → Type 0

@@ -1,14 +1,15 @@
 //! The command line: which words are taken, and what they mean.
 
-ghost use Rattle.std.specs.Prelude.{◌≡◌, ◌⊎◌, false, IfOk, IfSome, codes, map, slice_get};
+ghost use Rattle.std.specs.Prelude.{◌≡◌, ◌<◌, ◌∷◌, ◌++◌, ◌⊎◌, false, IfOk, IfSome, codes, map, slice_get};
 ghost use Rattle.warnc_cli.specs.CommandLine.{asks_for_text, begins_with, is_given, is_text_word, GivesNumber};
 ghost use Rattle.warnc_cli.specs.CommandLine.{GivesChannel, GivesSlots, GivesThreads, GivesValue, IsPageOrder};
-ghost use Rattle.warnc_cli.specs.CommandLine.{slots_given};
+ghost use Rattle.warnc_cli.specs.CommandLine.{GivesCell, GivesFrom, IsAddress, IsCell, IsNumber, slots_given};
 ghost use Rattle.warnc_cli.specs.RunSteps.{IsOrdered};
 
 use cbs_page::Serial;
+use cbsp_wire::Cell;
 use clap::{Arg, ArgAction, Command, Error, value_parser};
-use gsmtap::{Channel, Settings, Slots};
+use gsmtap::{Channel, Settings, Slots, Wanted};
 use std::alloc::{AllocError, Global};
 use std::convert::AsStr;
 use warnc_run::{Sessions, Workers};
@@ -36,6 +37,8 @@ pub enum Order<'a> {
     Read,
     /// `pcap`.
     Pcap(Settings),
+    /// `tape`.
+    Tape(Wanted),
     /// `compile`.
     Compile {
         /// How many slots each cell's run has, at least 1.
@@ -62,7 +65,8 @@ pub enum Order<'a> {
 }
 
 /// What the words ask for. clap judges the words; what they give is then looked up in the words themselves, since the
-/// contracts of clap don't reach into a subcommand. None never comes of words that clap takes.
+/// contracts of clap don't reach into a subcommand. None comes of words that clap takes only where a cell isn't two
+/// numbers or an address isn't four: clap judges each of the numbers.
 ///
 /// # Errors
 ///
@@ -89,6 +93,11 @@ fn order_in<'a, S: AsStr>(words: &'a [S]) -> Option<Order<'a>>
         "pcap" => Some(Order::Pcap(Settings {
             channel: channel_in(words)?,
             slots: captured_slots(words),
+        })),
+        "tape" => Some(Order::Tape(Wanted {
+            cell: cell_in(words)?,
+            slots: slots_in(words)?,
+            from: from_in(words)?,
         })),
         "compile" => Some(Order::Compile {
             slots: slots_in(words)?,
@@ -145,6 +154,75 @@ fn captured_slots<S: AsStr>(words: &[S]) -> Slots
     } else {
         Slots::All
     }
+}
+
+/// The cell that the words give.
+fn cell_in<S: AsStr>(words: &[S]) -> Option<Cell>
+    ensures { IfSome result (GivesCell (map S.text words.now)) }
+{
+    cell_of(value_of(words, "--cell")?)
+}
+
+/// The cell that a text writes.
+fn cell_of(text: &str) -> Option<Cell>
+    ensures { IfSome result (IsCell text.now) }
+{
+    let (lac, ci) = halves(text, '-')?;
+    Some(Cell {
+        lac: number(lac)?,
+        ci: number(ci)?,
+    })
+}
+
+/// What stands before and after a mark, where it comes first.
+fn halves(text: &str, mark: char) -> Option<(&str, &str)>
+    requires { mark < 128 }
+    ensures { IfSome result (λ parts. text.now ≡ parts.0.now ++ mark ∷ parts.1.now) }
+{
+    match text.split_once(mark) {
+        Some((front, back)) => Some((front, back)),
+        None => None,
+    }
+}
+
+/// The address that the words give, if they give one.
+fn from_in<S: AsStr>(words: &[S]) -> Option<Option<u32>>
+    ensures { IfSome result (GivesFrom (map S.text words.now)) }
+{
+    if !is_given(words, "--from") {
+        return Some(None);
+    }
+    let address = address_of(value_of(words, "--from")?)?;
+    Some(Some(address))
+}
+
+/// The IPv4 address that a text writes.
+fn address_of(text: &str) -> Option<u32>
+    ensures { IfSome result (IsAddress text.now) }
+{
+    let (first, rest) = halves(text, '.')?;
+    let (second, rest) = halves(rest, '.')?;
+    let (third, fourth) = halves(rest, '.')?;
+    let a = octet(first)?;
+    let b = octet(second)?;
+    let c = octet(third)?;
+    let d = octet(fourth)?;
+    Some(u32::from_be_bytes([a, b, c, d]))
+}
+
+/// The number that a text writes.
+fn number(text: &str) -> Option<u16>
+    ensures { IfSome result (IsNumber text.now) }
+{
+    text.parse().ok()
+}
+
+/// The octet that a text writes.
+fn octet(text: &str) -> Option<u8>
+    ensures number { IfSome result (IsNumber text.now) }
+    ensures bound { IfSome result (λ octet. octet < 256) }
+{
+    text.parse().ok()
 }
 
 /// The number of slots that the words give.
@@ -263,7 +341,8 @@ fn warnc<'a>(alloc: Global) -> Result<Command<'a>, AllocError> {
         .subcommand(live(alloc)?)?
         .subcommand(pcap(alloc)?)?
         .subcommand(read(alloc))?
-        .subcommand(report(alloc)?)
+        .subcommand(report(alloc)?)?
+        .subcommand(tape(alloc)?)
 }
 
 /// The command line of `read`.
@@ -276,27 +355,75 @@ fn read<'a>(alloc: Global) -> Command<'a> {
 /// The command line of `pcap`.
 fn pcap<'a>(alloc: Global) -> Result<Command<'a>, AllocError> {
     Command::new(alloc, "pcap")
-        .about("Reads tapes of blocks and writes them as a capture file, a GSMTAP packet for each block")
+        .about(
+            "Reads tapes of blocks and writes them as a capture file, a GSMTAP packet for each block",
+        )
         .after_help("Example: warnc pcap --used < tapes > air.pcap")
         .arg(used(alloc))?
         .arg(channel(alloc))
 }
 
+/// The command line of `tape`.
+fn tape<'a>(alloc: Global) -> Result<Command<'a>, AllocError> {
+    Command::new(alloc, "tape")
+        .about(
+            "Reads a capture file of GSMTAP packets, also of another program's making, and writes a tape of it",
+        )
+        .after_help("Example: warnc tape --cell 1-1 --slots 4096 < air.pcap > tape")
+        .arg(cell(alloc))?
+        .arg(tape_slots(alloc))?
+        .arg(from(alloc))
+}
+
+/// The option of the cell that a tape names.
+fn cell<'a>(alloc: Global) -> Arg<'a> {
+    option(
+        alloc,
+        "cell",
+        "LAC-CI",
+        "The cell that the tape names: its location area code and its cell identity, 0-0 to 65535-65535",
+    )
+    .value_parser(value_parser!(u16))
+    .value_delimiter('-')
+}
+
+/// The option of the number of a tape's slots.
+fn tape_slots<'a>(alloc: Global) -> Arg<'a> {
+    option(
+        alloc,
+        "slots",
+        "SLOTS",
+        "How many slots the tape has, 1 to 65535, each 1.883 s",
+    )
+    .value_parser(value_parser!(u16).range(1..=65535))
+}
+
+/// The option of the address that packets come from.
+fn from<'a>(alloc: Global) -> Arg<'a> {
+    optional(
+        alloc,
+        "from",
+        "IPV4",
+        "Takes the packets from this IPv4 address alone, as 127.0.0.1; all if it isn't given",
+    )
+    .value_parser(value_parser!(u8))
+    .value_delimiter('.')
+}
+
 /// The option that leaves idle slots out of a capture.
 fn used<'a>(alloc: Global) -> Arg<'a> {
-    Arg::new(alloc, "used")
-        .long("used")
-        .help("Leaves out slots in which no page is sent")
-        .action(ArgAction::SetTrue)
+    flag(alloc, "used", "Leaves out slots in which no page is sent")
 }
 
 /// The option of the channel that a capture names.
 fn channel<'a>(alloc: Global) -> Arg<'a> {
-    Arg::new(alloc, "channel")
-        .long("channel")
-        .value_name("CHANNEL")
-        .help("The channel that the packets name: 51 for the basic one, 52 for the extended; 51 if it isn't given")
-        .value_parser(value_parser!(u16).range(51..=52))
+    optional(
+        alloc,
+        "channel",
+        "CHANNEL",
+        "The channel that the packets name: 51 for the basic one, 52 for the extended; 51 if it isn't given",
+    )
+    .value_parser(value_parser!(u16).range(51..=52))
 }
 
 /// The command line of `compile`.
@@ -353,11 +480,15 @@ fn workers<'a>(alloc: Global) -> Arg<'a> {
 
 /// An option `--name` of a number of threads, which needn't be given.
 fn threads<'a>(alloc: Global, name: &'a str, value: &'a str, help: &'a str) -> Arg<'a> {
+    optional(alloc, name, value, help).value_parser(value_parser!(u16).range(1..=64))
+}
+
+/// An option `--name` that needn't be given.
+fn optional<'a>(alloc: Global, name: &'a str, value: &'a str, help: &'a str) -> Arg<'a> {
     Arg::new(alloc, name)
         .long(name)
         .value_name(value)
         .help(help)
-        .value_parser(value_parser!(u16).range(1..=64))
 }
 
 /// The option of the number of slots.
@@ -366,7 +497,7 @@ fn slots<'a>(alloc: Global) -> Arg<'a> {
         alloc,
         "slots",
         "SLOTS",
-        "How many slots each cell's run has, 1 to 65535",
+        "How many slots each cell's run has, 1 to 65535, each 1.883 s",
     )
     .value_parser(value_parser!(u16).range(1..=65535))
 }
@@ -421,11 +552,15 @@ fn page<'a>(alloc: Global) -> Result<Command<'a>, AllocError> {
         .arg(update(alloc))
 }
 
-/// A required option `--name`.
-fn option<'a>(alloc: Global, name: &'a str, value: &'a str, help: &'a str) -> Arg<'a> {
+/// An option `--name` without a value.
+fn flag<'a>(alloc: Global, name: &'a str, help: &'a str) -> Arg<'a> {
     Arg::new(alloc, name)
         .long(name)
-        .value_name(value)
         .help(help)
-        .required(true)
+        .action(ArgAction::SetTrue)
+}
+
+/// A required option `--name`.
+fn option<'a>(alloc: Global, name: &'a str, value: &'a str, help: &'a str) -> Arg<'a> {
+    optional(alloc, name, value, help).required(true)
 }

@@ -9,10 +9,12 @@ ghost use Rattle.warnc_run.specs.Compiled.{IsCompiled};
 ghost use Rattle.warnc_run.specs.Live.{IsLive};
 ghost use Rattle.warnc_run.specs.Reported.{IsReported};
 ghost use Rattle.gsmtap.specs.Capture.{IsCapture};
+ghost use Rattle.gsmtap.specs.TapeOfCapture.{IsTapeOfCapture};
 ghost use Rattle.warnc_inspect.specs.PageOutput.{IsPageOutput};
 ghost use Rattle.warnc_inspect.specs.ReadOutput.{IsReadOutput};
 ghost use Rattle.warnc_cli.specs.RunSteps.{IsRunBetween, IsStatusOfSink};
-ghost use Rattle.warnc_cli.specs.Status.{IsNoRun, IsNoTapes, IsRefused, OneHasFailed, RefusesInput, WritesSome};
+ghost use Rattle.warnc_cli.specs.Status.{IsNoAir, IsNoRun, IsNoTapes, IsRefused, OneHasFailed, RefusesInput};
+ghost use Rattle.warnc_cli.specs.Status.{WritesSome};
 ghost use Rattle.warnc_cli.specs.Status.{WroteWhatIsAsked};
 
 use crate::command::{Order, PageOptions, asks_for_text, order_of};
@@ -20,7 +22,7 @@ use crate::status::{DEVICE, DONE, MEMORY, REFUSED_INPUT, USAGE, failed};
 use clap::Error;
 use clap::error::ErrorKind;
 use device_ends::{Sink, Source, write_all};
-use gsmtap::Settings;
+use gsmtap::{Settings, Wanted};
 use order_desk::Open;
 use std::alloc::{AllocGlobal, Global};
 use std::convert::AsStr;
@@ -28,6 +30,7 @@ use std::io::{Read, Write};
 use std::sync::Wait;
 use std::thread::Threads;
 use warnc_air::pcap::pcap_stream;
+use warnc_air::tape::tape_stream;
 use warnc_inspect::page::page_stream;
 use warnc_inspect::read::read_stream;
 use warnc_run::{ReportRunFault, Sessions, Workers, compile_stream, live_stream, report_stream};
@@ -83,6 +86,7 @@ pub fn run_between<T: AllocGlobal + Threads + Wait + Sync, S: AsStr, R: Read, W:
             Order::Page(options) => run_page(alloc, &options, source, sink, faults),
             Order::Read => run_read(alloc, source, sink, faults),
             Order::Pcap(settings) => run_pcap(alloc, settings, source, sink, faults),
+            Order::Tape(wanted) => run_tape(alloc, &wanted, source, sink, faults),
             Order::Compile { slots, workers } => {
                 run_compile(rt, slots, workers, source, sink, faults)
             }
@@ -96,7 +100,7 @@ pub fn run_between<T: AllocGlobal + Threads + Wait + Sync, S: AsStr, R: Read, W:
             } => run_live(rt, slots, sessions, workers, source, sink, faults),
         },
         Ok(None) => {
-            let _ = writeln!(faults, "warnc: no command");
+            let _ = writeln!(faults, "warnc: no such cell or address");
             USAGE
         }
         Err(error) => run_text(alloc, &error, asks_for_text(words), sink, faults),
@@ -169,6 +173,27 @@ fn run_pcap<R: Read, W: Write, F: Write>(
     ensures refused { result ≡ REFUSED_INPUT → IfSome (R.remaining (reader_of source.old)) IsNoTapes }
 {
     match pcap_stream(alloc, source, sink, settings) {
+        Ok(()) => DONE,
+        Err(fault) => failed(&fault, faults),
+    }
+}
+
+/// Runs `tape`, and returns the status.
+fn run_tape<R: Read, W: Write, F: Write>(
+    alloc: Global,
+    wanted: &Wanted,
+    source: &mut Source<R>,
+    sink: &mut Sink<W>,
+    faults: &mut F,
+) -> u8
+    ensures done { result ≡ DONE → WritesOutput (IsTapeOfCapture wanted.now)
+        (R.remaining (reader_of source.old)) (W.contents (writer_of sink.old)) (W.contents (writer_of sink.new)) }
+    ensures any_device { IsRunBetween result source.new sink.old sink.new
+        (W.contents (writer_of sink.old)) (W.contents (writer_of sink.new)) }
+    ensures wrote { result ≡ DONE → WritesSome (W.contents (writer_of sink.old)) (W.contents (writer_of sink.new)) }
+    ensures refused { result ≡ REFUSED_INPUT → IfSome (R.remaining (reader_of source.old)) (IsNoAir wanted.now) }
+{
+    match tape_stream(alloc, source, sink, wanted) {
         Ok(()) => DONE,
         Err(fault) => failed(&fault, faults),
     }

@@ -2,7 +2,7 @@
 
 ghost use Rattle.std.specs.Prelude.{◌≡◌, ℕ};
 ghost use Rattle.warnc_cli.specs.RunSteps.{status_of_pcap_fault, status_of_read_fault, status_of_report_fault};
-ghost use Rattle.warnc_cli.specs.RunSteps.{status_of_run_fault};
+ghost use Rattle.warnc_cli.specs.RunSteps.{status_of_run_fault, status_of_tape_fault};
 ghost use Rattle.warnc_cli.specs.Status.{status_of_book_fault, status_of_page_fault};
 
 use alert_book::{BookFault, BookFaultKind};
@@ -13,6 +13,7 @@ use report::ReportFault;
 use std::fmt::Display;
 use std::io::Write;
 use warnc_air::pcap::PcapFault;
+use warnc_air::tape::TapeCommandFault;
 use warnc_inspect::page::PageFault;
 use warnc_inspect::read::ReadCommandFault;
 use warnc_run::RunFault;
@@ -84,6 +85,18 @@ impl Fault for PcapFault {
             PcapFault::Short | PcapFault::Long => REFUSED_INPUT,
             PcapFault::ReadFailed | PcapFault::WriteFailed => DEVICE,
             PcapFault::Refused => MEMORY,
+        }
+    }
+}
+
+impl Fault for TapeCommandFault {
+    ghost status_of = { status_of_tape_fault };
+
+    fn status(&self) -> u8 {
+        match *self {
+            TapeCommandFault::TooLong | TapeCommandFault::Air(_) => REFUSED_INPUT,
+            TapeCommandFault::ReadFailed | TapeCommandFault::WriteFailed => DEVICE,
+            TapeCommandFault::Refused => MEMORY,
         }
     }
 }

@@ -1,0 +1,175 @@
+//! The lines of a table, and what comes of them.
+//!
+//! The octets are what these lines add: `hex DIGITS ..`; `idle N`, the blocks of N idle slots; `repeat N` has them N
+//! times, and `new` begins anew. `want DIGITS ..` adds octets with which an output is compared.
+//!
+//! `capture SLOTS CHANNEL` makes the capture of the octets, of `all` slots or the `used` ones, for channel 51 or 52;
+//! `tape LAC CI N` their tape of N slots, and `tape LAC CI N ADDRESS` that of the packets from the address of these
+//! eight digits. The answer is `as wanted`, or how many octets come out, or the fault. An output that is as wanted
+//! becomes the octets, and nothing more is wanted. `fronts N M LAC CI SLOTS` makes tapes of each front of N to M
+//! octets, and the answer is that of all of them.
+
+use gsmtap::{Channel, Settings, Slots, Wanted, capture_of, tape_of_capture};
+use std::alloc::Global;
+use std::process::Abort;
+use std::test::Fail;
+use test_support::{Row, Words, octets_of};
+
+/// The octets of a run, and those that have to come out.
+#[derive(Drop)]
+pub struct Bench {
+    octets: Vec<u8>,
+    wanted: Vec<u8>,
+}
+
+/// Adds the octets of words of hexadecimal digits, at most eight.
+fn add_hex(alloc: Global, octets: &mut Vec<u8>, words: &mut Words) -> Result<(), Fail> {
+    for _ in 0..8 {
+        octets.extend_from_slice(&octets_of(alloc, words.word())?)?;
+    }
+    Ok(())
+}
+
+/// Adds the blocks of idle slots.
+fn add_idle(octets: &mut Vec<u8>, slots: u16) -> Result<(), Fail> {
+    for _ in 0..slots {
+        for _ in 0..4 {
+            octets.push(0x2F)?;
+            octets.extend_from_slice(&[0x2B; 22])?;
+        }
+    }
+    Ok(())
+}
+
+/// Has the octets so many times.
+fn repeat(alloc: Global, octets: &mut Vec<u8>, times: u16) -> Result<(), Fail> {
+    let once = Vec::from_slice(alloc, octets)?;
+    for _ in 1..times {
+        octets.extend_from_slice(&once)?;
+    }
+    Ok(())
+}
+
+/// What an output is. One that is as wanted becomes the octets.
+fn judged(alloc: Global, bench: &mut Bench, output: Vec<u8>) -> Result<String, Fail> {
+    if output.as_slice() != bench.wanted.as_slice() {
+        return Ok(format!(in alloc; "{} octets", output.len())?);
+    }
+    bench.wanted.clear();
+    bench.octets = output;
+    Ok(String::from_str(alloc, "as wanted")?)
+}
+
+/// Makes the capture of the octets.
+fn capture(alloc: Global, bench: &mut Bench, words: &mut Words) -> Result<String, Fail> {
+    let slots = match words.word() {
+        "used" => Slots::Used,
+        _ => Slots::All,
+    };
+    let channel = match words.number16()? {
+        52 => Channel::Extended,
+        _ => Channel::Basic,
+    };
+    match capture_of(alloc, &bench.octets, Settings { channel, slots }) {
+        Ok(output) => judged(alloc, bench, output),
+        Err(fault) => Ok(fault.to_string(alloc)?),
+    }
+}
+
+/// The tape that words want.
+fn wanted_in(words: &mut Words) -> Result<Wanted, Fail> {
+    let cell = cbsp_wire::Cell {
+        lac: words.number16()?,
+        ci: words.number16()?,
+    };
+    let slots = words.number16()?;
+    let from = match words.word() {
+        "" => None,
+        address => Some(u32::from_str_radix(address, 16)?),
+    };
+    Ok(Wanted { cell, slots, from })
+}
+
+/// The tape of octets, or the text of the fault.
+fn tape_in(alloc: Global, octets: &[u8], wanted: &Wanted) -> Result<Result<Vec<u8>, String>, Fail> {
+    if octets.len() > 1_000_000 {
+        return Err(Fail::new("too many octets for a test"));
+    }
+    match tape_of_capture(alloc, octets, wanted) {
+        Ok(output) => Ok(Ok(output)),
+        Err(fault) => Ok(Err(fault.to_string(alloc)?)),
+    }
+}
+
+/// Makes the tape of the octets.
+fn tape(alloc: Global, bench: &mut Bench, words: &mut Words) -> Result<String, Fail> {
+    let wanted = wanted_in(words)?;
+    match tape_in(alloc, &bench.octets, &wanted)? {
+        Ok(output) => judged(alloc, bench, output),
+        Err(text) => Ok(text),
+    }
+}
+
+/// Makes the tape of each front of so many octets, both ends included, and returns what all of them give.
+fn fronts(alloc: Global, bench: &mut Bench, words: &mut Words) -> Result<String, Fail> {
+    let (first, last) = (words.number16()?, words.number16()?);
+    let wanted = wanted_in(words)?;
+    let mut all = String::new(alloc);
+    for length in first..=last {
+        let front = bench.octets.get(..usize::from(length));
+        let text = match tape_in(alloc, front.unwrap_or(&bench.octets), &wanted)? {
+            Ok(_) => String::from_str(alloc, "a tape")?,
+            Err(text) => text,
+        };
+        if !all.is_empty() && all != text {
+            return Ok(format!(in alloc; "{text} at {length}")?);
+        }
+        all = text;
+    }
+    Ok(all)
+}
+
+/// What comes of a verb and the words after it.
+fn done(alloc: Global, bench: &mut Bench, verb: &str, words: &mut Words) -> Result<String, Fail> {
+    match verb {
+        "new" => bench.octets.clear(),
+        "hex" => add_hex(alloc, &mut bench.octets, words)?,
+        "want" => add_hex(alloc, &mut bench.wanted, words)?,
+        "idle" => add_idle(&mut bench.octets, words.number16()?)?,
+        "repeat" => repeat(alloc, &mut bench.octets, words.number16()?)?,
+        "capture" => return capture(alloc, bench, words),
+        "tape" => return tape(alloc, bench, words),
+        "fronts" => return fronts(alloc, bench, words),
+        _ => return Ok(String::from_str(alloc, "no such action")?),
+    }
+    Ok(String::new(alloc))
+}
+
+/// Expects what a row says. Its words are all read.
+fn expect_row(rt: &impl Abort, alloc: Global, bench: &mut Bench, row: Row) -> Result<(), Fail> {
+    let mut words = Words::of(row.action);
+    let verb = words.word();
+    let found = done(alloc, bench, verb, &mut words)?;
+    assert_eq!(rt; found.as_str(), row.wanted, "{}", row.action);
+    if words.word().is_empty() {
+        return Ok(());
+    }
+    Err(Fail::new("words are left over"))
+}
+
+/// Expects what the rows of a table say, which are so many at least.
+pub fn expect_rows(rt: &impl Abort, alloc: Global, table: &str, least: u16) -> Result<(), Fail> {
+    let mut bench = Bench {
+        octets: Vec::new(alloc),
+        wanted: Vec::new(alloc),
+    };
+    let mut rows = 0_u16;
+    for line in table.split('\n') {
+        if let Some(row) = Row::of(line) {
+            expect_row(rt, alloc, &mut bench, row)?;
+            rows = rows.saturating_add(1);
+        }
+    }
+    assert!(rt; rows >= least);
+    Ok(())
+}

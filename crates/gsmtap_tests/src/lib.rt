@@ -1,0 +1,10 @@
+//! Tests of `gsmtap` by its public calls, as tables of lines: worked octets, which `tools/capture_reference.py` made,
+//! captures as others make them, and captures that are at fault.
+#![tactic(auto)]
+
+#[cfg(test)]
+mod bench;
+#[cfg(test)]
+mod captures;
+#[cfg(test)]
+mod tapes;
