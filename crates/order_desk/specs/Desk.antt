@@ -2,13 +2,13 @@
 -- So a call says that there is such a record of its cell, and its pass shows what was made of it.
 use Rattle.std.specs.Prelude.{◌≡◌, ◌≢◌, ◌⊎◌, ℕ, ◌<◌, Bool, true, false, Option, Some, Ok, Err}
 use Rattle.std.specs.Prelude.{List, [], ◌∷◌, ◌++◌, length, take}
-use Rattle.std.specs.List.{list_any, slice_get}
+use Rattle.std.specs.List.{slice_get}
 use Rattle.cbsp_wire.specs.declared.cause.TheConstants.{BSC_MEMORY_EXCEEDED, CELL_IDENTITY_NOT_VALID}
 use Rattle.cbsp_wire.specs.declared.fault.WireFault.TheVariants as wire
 use Rattle.cbsp_wire.specs.declared.message.Cell.{Cell}
 use Rattle.cbsp_wire.specs.declared.message.Message.{Message}
 use Rattle.cbsp_wire.specs.Meaning.{IsMessage}
-use Rattle.cbsp_wire.specs.Range.{is_cell}
+use Rattle.cbsp_wire.specs.CellLists.{contains}
 use Rattle.cbsp_wire.specs.Refusals.{first_fault, reported_fault}
 use Rattle.cbsp_wire.specs.Written.{octets_of_message}
 use Rattle.bsc_table.specs.declared.command.Command.{Command}
@@ -34,7 +34,7 @@ pub record Line : Type 0 where
 
 -- whether a cell is of the desk
 abbrev pub has_cell : Line → Cell → Bool
-has_cell desk cell = list_any (is_cell cell) desk.cells
+has_cell desk cell = contains desk.cells cell
 
 -- what the lock of a cell of the desk held: a legal history of that cell's run
 abbrev pub IsHeld : Line → Cell → Record → Type 0

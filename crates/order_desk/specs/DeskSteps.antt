@@ -1,7 +1,7 @@
 -- Steps of a desk's calls (own). The contracts of private functions alone speak of it.
 use Rattle.std.specs.Prelude.{◌≡◌, ℕ, ◌<◌, ◌≤◌, ⊤, true, false, Option, Some, None, List, [], ◌∷◌, ◌++◌}
 use Rattle.std.specs.Prelude.{All, length, map, take, vec_capacity, vec_len}
-use Rattle.std.specs.List.{list_any, slice_get}
+use Rattle.std.specs.List.{slice_get}
 use Rattle.cbsp_wire.specs.declared.message.Cell.{Cell}
 use Rattle.cbsp_wire.specs.declared.cause.TheConstants.{BSC_MEMORY_EXCEEDED, CELL_IDENTITY_NOT_VALID}
 use Rattle.bsc_table.specs.declared.command.Command.{Command}
@@ -22,7 +22,8 @@ use Rattle.order_desk.specs.declared.order.Order.{Order}
 use Rattle.order_desk.specs.Desk.{IsAtMostPlayed, IsHeld, IsOrderOf, Line, has_cell}
 use Rattle.order_desk.specs.Notes.{IsAsked, IsServed}
 use Rattle.order_desk.specs.ReplySteps.{HasRoomFor}
-use Rattle.cbsp_wire.specs.Range.{cells_are_valid, is_cell}
+use Rattle.cbsp_wire.specs.CellLists.{contains}
+use Rattle.cbsp_wire.specs.Range.{cells_are_valid}
 
 -- the cell of an errand
 abbrev pub cell_of : Errand → Cell
@@ -37,7 +38,7 @@ place_of (errands.Foreign cell) = None
 -- an errand of a command: to a cell of the desk, with its place and a copy; or to another cell
 abbrev pub IsErrand : (own : List Cell) → Command → Errand → Type 0
 IsErrand own command (errands.Own cell place copy) = (slice_get own place ≡ Some cell) × (copy ≡ command)
-IsErrand own command (errands.Foreign cell) = list_any (is_cell cell) own ≡ false
+IsErrand own command (errands.Foreign cell) = contains own cell ≡ false
 
 -- why a cell didn't tell a status, and what is noted: its log has no room for the entry, or out of memory
 abbrev pub IsUntold : (id serial : ℕ) → DeskFault → (before after : Record) → List Note → Type 0

@@ -1,8 +1,8 @@
 -- What a reply says of the cells that answered. Own.
 use Rattle.std.specs.Prelude.{◌≡◌, ℕ, ◌<◌, ⊤, true, false, List, ◌∷◌, ◌++◌, length}
-use Rattle.std.specs.List.{list_any}
 use Rattle.cbsp_wire.specs.declared.message.Cell.{Cell}
-use Rattle.cbsp_wire.specs.Range.{cells_of_failures, is_cell}
+use Rattle.cbsp_wire.specs.CellLists.{contains}
+use Rattle.cbsp_wire.specs.Range.{cells_of_failures}
 use Rattle.scheduler.specs.Air.{Air}
 use Rattle.bsc_table.specs.declared.command.Command.{Command}
 use Rattle.bsc_table.specs.declared.command.Command.TheVariants as commands
@@ -28,8 +28,8 @@ StopsAreCounted = (cell : Cell) (completed : ℕ) (before after : List (Cell × 
 -- a cell that wasn't asked isn't among the failures
 abbrev pub OthersAreNotRefused : Type 0
 OthersAreNotRefused = (cell : Cell) (answers : List (Cell × Answer))
-    → list_any (is_cell cell) (cells_answered answers) ≡ false
-    → list_any (is_cell cell) (cells_of_failures (refused_in answers)) ≡ false
+    → contains (cells_answered answers) cell ≡ false
+    → contains (cells_of_failures (refused_in answers)) cell ≡ false
 
 -- a cell that accepts a plain write is told as accepting, and the completed broadcasts of one that replaced a message
 abbrev pub AcceptedAreListed : Type 0

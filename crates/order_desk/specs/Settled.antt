@@ -2,9 +2,9 @@
 -- first thing that was noted and isn't so, or is so and wasn't noted.
 use Rattle.std.specs.Prelude.{◌≡◌, ⊤, ◌⊎◌, ℕ, ◌<◌, Bool, true, false}
 use Rattle.std.specs.Prelude.{List, ◌∷◌, ◌++◌, length, slice_index_or, All}
-use Rattle.std.specs.List.{AllZip, list_any}
+use Rattle.std.specs.List.{AllZip}
 use Rattle.cbsp_wire.specs.declared.message.Cell.{Cell}
-use Rattle.cbsp_wire.specs.Range.{is_cell}
+use Rattle.cbsp_wire.specs.CellLists.{contains}
 use Rattle.bsc_table.specs.Legal.{IsLegal}
 use Rattle.bsc_table.specs.Record.{Record}
 use Rattle.bsc_table.specs.Transitions.{IsPlayedUpTo}
@@ -33,7 +33,7 @@ number_of (notes.Full cell) = 4096
 
 -- whether a note is of one of these cells
 abbrev pub is_of : List Cell → Note → Bool
-is_of cells note = list_any (is_cell (cell_of note)) cells
+is_of cells note = contains cells (cell_of note)
 
 -- the first note of no cell of the desk: all notes before it are of the desk's cells
 pub record IsFirstForeign (cells : List Cell) (passes : List (List Note)) (note : Note) : Type 0 where
