@@ -1,8 +1,9 @@
 -- A run of a book (own): what its session asks of the cells, what each of them answers, and what that makes of them.
 use Rattle.std.specs.Prelude.{◌≡◌, ℕ, min, max, Bool, false, List, [], ◌∷◌, map, filter, All, Ok}
-use Rattle.std.specs.List.{flat_map, list_any}
+use Rattle.std.specs.List.{flat_map}
 use Rattle.cbsp_wire.specs.declared.cause.TheConstants.{CELL_IDENTITY_NOT_VALID}
 use Rattle.cbsp_wire.specs.declared.message.Cell.{Cell}
+use Rattle.cbsp_wire.specs.CellLists.{contains}
 use Rattle.cbsp_wire.specs.Range.{is_cell}
 use Rattle.alert_book.specs.Book.{Contents}
 use Rattle.alert_book.specs.Turns.{AreTurnsOf, Turn}
@@ -24,7 +25,7 @@ pub record Exchange : Type 0 where
 
 -- whether a cell is one of these
 abbrev pub is_among : List Cell → Cell → Bool
-is_among cells cell = list_any (is_cell cell) cells
+is_among cells cell = contains cells cell
 
 -- the message of the turn's request means the command to the cells that answered, and the reply is that of their
 -- answers. A cell that isn't of the run is not identified
