@@ -1,6 +1,6 @@
 -- What `tape` writes and refuses: a tape has its header at least, and a fault of status 1 is one of the input.
-use Rattle.std.proofs.Common.{◌≡◌, ℕ, ◌+◌, ◌/◌, ◌%◌, ◌<◌, ◌∷◌, List, length, sym, subst, ap, ◌∙◌, arith, inl, inr}
-use Rattle.std.proofs.Common.{Option, None, Some, IfSome, refl}
+use Rattle.std.proofs.Common.{◌≡◌, ℕ, ◌/◌, ◌%◌, ◌<◌, ◌∷◌, List, length, sym, subst, arith, inl, inr}
+use Rattle.std.proofs.Common.{Option, None, Some, IfSome}
 use Rattle.handset.specs.Tape.{octets_of_blocks, tape_octets}
 use Rattle.gsmtap.specs.TapeOfCapture.{IsTapeOfCapture, blocks_in}
 use Rattle.gsmtap.specs.declared.tape.Wanted.{Wanted}
