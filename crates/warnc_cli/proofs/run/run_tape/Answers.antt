@@ -11,4 +11,4 @@ returns-in-Ok-clause-wrote g c =
 
 pub returns-in-Err-clause-refused : goal.returns-in-Err-clause-refused
 returns-in-Err-clause-refused g c =
-    λ is. refused_air _ c.args.wanted.now _ _ c.in-Err.fault c.in-Err.ensures.fault (sym c.failed.ensures ∙ is)
+    λ is. refused_air _ c.args.wanted.now _ _ c.in-Err.fault c.in-Err.ensures.err (sym c.failed.ensures ∙ is)
