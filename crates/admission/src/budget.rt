@@ -1,6 +1,7 @@
 //! The table of the loads that are reserved in a cell.
 
-ghost use Rattle.std.specs.Prelude.{◌≡◌, ◌≢◌, ℕ, ◌==◌, ◌≤◌, Some, None, List, [], length, ◌∷◌, ◌++◌, sum_by, take, All, Any};
+ghost use Rattle.std.specs.Prelude.{◌≡◌, ◌≢◌, ℕ, ◌==◌, ◌≤◌, Some, None, List, [], length, ◌∷◌, ◌++◌, sum_by, take, All};
+ghost use Rattle.std.specs.Prelude.{Any};
 ghost use Rattle.std.specs.Prelude.{OnOk, OnErr, MatchBool};
 ghost use Rattle.std.specs.Option.{option_map};
 ghost use Rattle.admission.specs.Table.{answer_for, answer_of, remaining_without, load_for, excess_over, ends_at};

@@ -11,9 +11,9 @@ use Rattle.alert_book.specs.declared.fault.BookFault.{BookFault}
 use Rattle.alert_book.specs.declared.fault.BookFaultKind.TheVariants.{ReadFailed}
 use Rattle.alert_book.specs.declared.fault.RowFault.{RowFault}
 use Rattle.alert_book.specs.declared.fault.RowFault.TheVariants as fault
-use Rattle.alert_book.specs.declared.order.Order.{Order}
-use Rattle.alert_book.specs.declared.row.Row.{Row}
-use Rattle.alert_book.specs.declared.row.Row.TheVariants as rows
+use Rattle.alert_book.specs.declared.book.order.Order.{Order}
+use Rattle.alert_book.specs.declared.book.row.Row.{Row}
+use Rattle.alert_book.specs.declared.book.row.Row.TheVariants as rows
 use Rattle.alert_book.specs.Row.{row_of}
 use Rattle.alert_book.specs.Book.{Rows, IsRowFault, after_row, fault_at, kind_of, refused, rows_of, rows_read}
 use Rattle.alert_book.specs.Book.{rows_with, unread, with_row}

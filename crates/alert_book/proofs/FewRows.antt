@@ -11,11 +11,11 @@ use Rattle.cbsp_wire.specs.Range.{are_distinct, cells_are_valid, is_cell}
 use Rattle.alert_book.specs.declared.fault.BookFault.{BookFault}
 use Rattle.alert_book.specs.declared.fault.RowFault.{RowFault}
 use Rattle.alert_book.specs.declared.fault.RowFault.TheVariants as fault
-use Rattle.alert_book.specs.declared.order.Order.{Order}
-use Rattle.alert_book.specs.declared.row.Row.{Row}
-use Rattle.alert_book.specs.declared.row.Row.TheVariants as rows
-use Rattle.alert_book.specs.declared.row.Verb.{Verb}
-use Rattle.alert_book.specs.declared.row.Verb.TheVariants as verbs
+use Rattle.alert_book.specs.declared.book.order.Order.{Order}
+use Rattle.alert_book.specs.declared.book.row.Row.{Row}
+use Rattle.alert_book.specs.declared.book.row.Row.TheVariants as rows
+use Rattle.alert_book.specs.declared.book.row.Verb.{Verb}
+use Rattle.alert_book.specs.declared.book.row.Verb.TheVariants as verbs
 use Rattle.alert_book.specs.Book.{after_row, rows_read, rows_with, with_row, Rows}
 use Rattle.alert_book.specs.Cells.{cell_with, cells_of_field, is_among}
 use Rattle.alert_book.specs.Fields.{alert_at, are_texts, column, if_right, known_name, new_name, number, sending_at}

@@ -9,7 +9,7 @@ use Rattle.cbsp_wire.specs.declared.cause.TheConstants.{MESSAGE_REFERENCE_NOT_ID
 use Rattle.cbsp_wire.specs.declared.message.Cell.{Cell}
 use Rattle.cbsp_wire.specs.declared.message.Failure.{Failure}
 use Rattle.cbsp_wire.specs.Range.{is_cell}
-use Rattle.alert_book.specs.declared.outcome.Outcome.{Outcome}
+use Rattle.alert_book.specs.declared.session.outcome.Outcome.{Outcome}
 use Rattle.alert_book.specs.LastAccepted.{HasAccepted, HasNone, IsAskedOf}
 use Rattle.alert_book.specs.Session.{outcome_of, refuses, replies_with, version_by, version_in, Replied}
 use Rattle.alert_book.specs.Turns.{is_asked, Turn}

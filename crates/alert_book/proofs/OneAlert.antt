@@ -9,12 +9,12 @@ use Rattle.std.proofs.lemmas.List.Sums.{sum_by_push}
 use Rattle.cbsp_wire.specs.declared.message.Cell.{Cell}
 use Rattle.alert_book.specs.declared.fault.RowFault.{RowFault}
 use Rattle.alert_book.specs.declared.fault.RowFault.TheVariants as fault
-use Rattle.alert_book.specs.declared.order.Action.TheVariants as action
-use Rattle.alert_book.specs.declared.order.Order.{Order}
-use Rattle.alert_book.specs.declared.row.Row.{Row}
-use Rattle.alert_book.specs.declared.row.Row.TheVariants as rows
-use Rattle.alert_book.specs.declared.row.Verb.{Verb}
-use Rattle.alert_book.specs.declared.row.Verb.TheVariants as verbs
+use Rattle.alert_book.specs.declared.book.order.Action.TheVariants as action
+use Rattle.alert_book.specs.declared.book.order.Order.{Order}
+use Rattle.alert_book.specs.declared.book.row.Row.{Row}
+use Rattle.alert_book.specs.declared.book.row.Row.TheVariants as rows
+use Rattle.alert_book.specs.declared.book.row.Verb.{Verb}
+use Rattle.alert_book.specs.declared.book.row.Verb.TheVariants as verbs
 use Rattle.alert_book.specs.Book.{rows_with, with_row, Contents, IsBook, Rows}
 use Rattle.alert_book.specs.Cells.{cell_with, cells_of_field, is_among}
 use Rattle.alert_book.specs.Fields.{alert_at, are_texts, column, first_order, is_named, known_name, new_name}

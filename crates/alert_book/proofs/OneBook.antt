@@ -10,8 +10,8 @@ use Rattle.cbs_page.specs.declared.paging.TextFault.{TextFault}
 use Rattle.cbs_page.specs.declared.paging.TextFault.TheVariants as text
 use Rattle.alert_book.specs.declared.fault.BookFault.{BookFault}
 use Rattle.alert_book.specs.declared.fault.BookFaultKind.TheVariants as fault
-use Rattle.alert_book.specs.declared.order.Order.{Order}
-use Rattle.alert_book.specs.declared.order.Sending.{Sending}
+use Rattle.alert_book.specs.declared.book.order.Order.{Order}
+use Rattle.alert_book.specs.declared.book.order.Sending.{Sending}
 use Rattle.alert_book.specs.Book.{fault_at, rows_of, rows_with, sending_of, ArePagesOf}
 use Rattle.alert_book.specs.Book.{HasTextFault, HasWrongText, HavePages, IsRowFault, Rows}
 use Rattle.alert_book.specs.Laws.{BooksAreOne, BooksAreRight, FaultsAreOne, HaveSamePages}

@@ -4,13 +4,13 @@ use Rattle.std.proofs.Common.{length, map, get_or, take, drop, inl, inr, suc, re
 use Rattle.std.proofs.lemmas.List.{take-append-drop, take_more, map-id}
 use Rattle.std.specs.List.{AllZip}
 use Rattle.cbs_page.specs.declared.paging.Paged.{Paged}
-use Rattle.alert_book.specs.declared.order.Order.{Order}
+use Rattle.alert_book.specs.declared.book.order.Order.{Order}
 use Rattle.alert_book.specs.declared.fault.BookFault.{BookFault}
 use Rattle.alert_book.specs.Book.{HavePages, HasWrongText, refused, unread}
-use Rattle.alert_book.specs.PackingSteps.{HasBadText, IsFirstFault, IsPacked}
+use Rattle.alert_book.specs.PackingSteps.{HasBadText, IsFirstFault, IsOrderPacked}
 
 -- where each order has pages, these are the pages of the orders
-pub pages_have : (orders : List Order) (pages : List (Option Paged)) → AllZip IsPacked orders (map Ok pages) →
+pub pages_have : (orders : List Order) (pages : List (Option Paged)) → AllZip IsOrderPacked orders (map Ok pages) →
     HavePages orders pages
 pages_have [] [] all = tt
 pages_have [] (paged ∷ pages) all = absurd all
@@ -58,7 +58,7 @@ wrong_here order orders f bad = record {
 }
 
 wrong_later : (order : Order) (orders : List Order) (paged : Option Paged) (f : BookFault) →
-    IsPacked order (Ok paged) → HasWrongText orders f → HasWrongText (order ∷ orders) f
+    IsOrderPacked order (Ok paged) → HasWrongText orders f → HasWrongText (order ∷ orders) f
 wrong_later order orders paged f here later = record {
   before = order ∷ later.before;
   order = later.order;
@@ -77,7 +77,7 @@ wrong_later order orders paged f here later = record {
 -- so the first fault of orders is that of the first whose text can't be sent
 wrong_after : (orders : List Order) (before : List (Option Paged)) (after : List (Result (Option Paged) BookFault))
     (f : BookFault) →
-    AllZip IsPacked orders (map Ok before ++ Err f ∷ after) → (f ≡ refused) ⊎ HasWrongText orders f
+    AllZip IsOrderPacked orders (map Ok before ++ Err f ∷ after) → (f ≡ refused) ⊎ HasWrongText orders f
 wrong_after [] [] after f all = absurd all
 wrong_after [] (paged ∷ before) after f all = absurd all
 wrong_after (order ∷ orders) [] after f all = elim all.0 [
@@ -90,7 +90,7 @@ wrong_after (order ∷ orders) (paged ∷ before) after f all = elim (wrong_afte
 ]
 
 pub wrong_first : (orders : List Order) (packed : List (Result (Option Paged) BookFault)) (f : BookFault) →
-    AllZip IsPacked orders packed → (f ≡ refused) ⊎ IsFirstFault packed f → (f ≡ refused) ⊎ HasWrongText orders f
+    AllZip IsOrderPacked orders packed → (f ≡ refused) ⊎ IsFirstFault packed f → (f ≡ refused) ⊎ HasWrongText orders f
 wrong_first orders packed f all (inl none) = inl none
 wrong_first orders packed f all (inr first) =
     wrong_after orders first.before first.after f (rw first.split at all)

@@ -13,15 +13,15 @@ use Rattle.cbsp_wire.specs.declared.message.Cell.{Cell}
 use Rattle.cbsp_wire.specs.Range.{are_distinct, cells_are_valid, is_cell, is_nothing, is_period}
 use Rattle.alert_book.specs.declared.fault.RowFault.{RowFault}
 use Rattle.alert_book.specs.declared.fault.RowFault.TheVariants as fault
-use Rattle.alert_book.specs.declared.order.Action.{Action}
-use Rattle.alert_book.specs.declared.order.Action.TheVariants as action
-use Rattle.alert_book.specs.declared.order.Order.{Order}
-use Rattle.alert_book.specs.declared.order.Sending.{Sending}
+use Rattle.alert_book.specs.declared.book.order.Action.{Action}
+use Rattle.alert_book.specs.declared.book.order.Action.TheVariants as action
+use Rattle.alert_book.specs.declared.book.order.Order.{Order}
+use Rattle.alert_book.specs.declared.book.order.Sending.{Sending}
 use Rattle.std.specs.Str.Parse.{digits_value}
-use Rattle.alert_book.specs.declared.row.Row.{Row}
-use Rattle.alert_book.specs.declared.row.Row.TheVariants as rows
-use Rattle.alert_book.specs.declared.row.Verb.{Verb}
-use Rattle.alert_book.specs.declared.row.Verb.TheVariants as verbs
+use Rattle.alert_book.specs.declared.book.row.Row.{Row}
+use Rattle.alert_book.specs.declared.book.row.Row.TheVariants as rows
+use Rattle.alert_book.specs.declared.book.row.Verb.{Verb}
+use Rattle.alert_book.specs.declared.book.row.Verb.TheVariants as verbs
 use Rattle.alert_book.specs.Book.{rows_with, with_row, Contents, IsBook, Rows}
 use Rattle.alert_book.specs.Fields.{alert_at, are_texts, known_name, new_name}
 use Rattle.alert_book.specs.Row.{is_update_of, is_write, new_cell, order_with, row_after_verb, row_of, verb_of}

@@ -1,8 +1,8 @@
 -- A row that updates an alert, once its fields are read.
 use Rattle.std.proofs.Common.{◌≡◌, ℕ, List, count_by, Ok, refl}
 use Rattle.cbsp_wire.specs.declared.message.Cell.{Cell}
-use Rattle.alert_book.specs.declared.order.Order.{Order}
-use Rattle.alert_book.specs.declared.order.Sending.{Sending}
+use Rattle.alert_book.specs.declared.book.order.Order.{Order}
+use Rattle.alert_book.specs.declared.book.order.Sending.{Sending}
 use Rattle.alert_book.specs.Fields.{column, known_name, number, sending_at}
 use Rattle.alert_book.specs.Row.{is_update_of, update_row, update_with}
 

@@ -7,11 +7,11 @@ use Rattle.std.proofs.lemmas.List.Elements.{All-filter, All-map}
 use Rattle.std.proofs.lemmas.List.FromFn.{get_or-range_with_len, length-range_with_len}
 use Rattle.cbsp_wire.specs.declared.message.Cell.{Cell}
 use Rattle.cbs_page.specs.declared.paging.Paged.{Paged}
-use Rattle.alert_book.specs.declared.order.Order.{Order}
-use Rattle.alert_book.specs.declared.request.Request.{Request}
-use Rattle.alert_book.specs.declared.request.Target.{Target}
+use Rattle.alert_book.specs.declared.book.order.Order.{Order}
+use Rattle.alert_book.specs.declared.session.request.Request.{Request}
+use Rattle.alert_book.specs.declared.session.request.Target.{Target}
 use Rattle.alert_book.specs.Book.{Contents}
-use Rattle.alert_book.specs.Session.{due_requests, first_requests, found_first, has_cells, is_of_part, orders_from}
+use Rattle.alert_book.specs.Session.{due_requests, next_requests, found_first, has_cells, is_of_part, orders_from}
 use Rattle.alert_book.specs.Session.{orders_with, requests_of}
 use Rattle.alert_book.specs.Session.{target_of, targets_of, versions}
 use Rattle.alert_book.specs.SessionSteps.{requests_in}
@@ -33,14 +33,14 @@ targets_are_short live number cells =
 first_of : (live : ℕ → Cell → Option ℕ) (part parts : ℕ) (order : Order) (paged : Option Paged)
     (orders : List Order) (pages : List (Option Paged)) →
     let left = filter (is_of_part part parts) (orders_with orders pages) in
-    first_requests live (filter (is_of_part part parts) (orders_with (order ∷ orders) (paged ∷ pages)))
-    ≡ found_first (requests_in live part parts order paged) left (first_requests live left)
+    next_requests live (filter (is_of_part part parts) (orders_with (order ∷ orders) (paged ∷ pages)))
+    ≡ found_first (requests_in live part parts order paged) left (next_requests live left)
 first_of live part parts order paged orders pages = by_part (is_of_part part parts (order, paged))
   where
     by_part : (here : Bool) →
         let left = filter (is_of_part part parts) (orders_with orders pages) in
-        first_requests live (cond here ((order, paged) ∷ left) left)
-        ≡ found_first (cond here (requests_of live order paged) []) left (first_requests live left)
+        next_requests live (cond here ((order, paged) ∷ left) left)
+        ≡ found_first (cond here (requests_of live order paged) []) left (next_requests live left)
     by_part true = refl
     by_part false = refl
 
@@ -54,14 +54,14 @@ dropped xs i d within =
 pub first_from : (live : ℕ → Cell → Option ℕ) (book : Contents) (part parts place : ℕ) (order : Order)
     (paged : Option Paged) → place < length book.orders → length book.pages ≡ length book.orders →
     let left = orders_from book part parts (place + 1) in
-    first_requests live (orders_from book part parts place)
+    next_requests live (orders_from book part parts place)
     ≡ found_first (requests_in live part parts (get_or book.orders place order) (get_or book.pages place paged)) left
-    (first_requests live left)
+    (next_requests live left)
 first_from live book part parts place order paged within same =
     let there : place < length book.pages = omega (arith, within, same) in
-    ap (λ (orders : List Order). first_requests live (filter (is_of_part part parts)
+    ap (λ (orders : List Order). next_requests live (filter (is_of_part part parts)
     (orders_with orders (drop place book.pages)))) (dropped book.orders place order within)
-    ∙ ap (λ (pages : List (Option Paged)). first_requests live (filter (is_of_part part parts)
+    ∙ ap (λ (pages : List (Option Paged)). next_requests live (filter (is_of_part part parts)
     (orders_with (get_or book.orders place order ∷ drop (place + 1) book.orders) pages)))
     (dropped book.pages place paged there)
     ∙ first_of live part parts (get_or book.orders place order) (get_or book.pages place paged)
@@ -75,6 +75,6 @@ found_some (request ∷ due) left later some = refl
 
 -- where no request is due, the next row gives it
 pub due_none : (live : ℕ → Cell → Option ℕ) (due : List Request) (left : List (Order × Option Paged)) →
-    length due ≡ 0 → due_requests live due left ≡ first_requests live left
+    length due ≡ 0 → due_requests live due left ≡ next_requests live left
 due_none live [] left none = refl
 due_none live (request ∷ due) left none = absurd (omega (arith, none))

@@ -4,11 +4,11 @@ use Rattle.std.proofs.Common.{◌≡◌, ℕ, Option, Some, None, List, [], ◌�
 use Rattle.cbs_page.specs.declared.paging.Paged.{Paged}
 use Rattle.cbsp_wire.specs.declared.message.Cell.{Cell}
 use Rattle.cbsp_wire.specs.declared.message.Message.{Message}
-use Rattle.alert_book.specs.declared.session.Found.{Found}
+use Rattle.alert_book.specs.declared.session.NextRequests.{NextRequests}
 use Rattle.alert_book.specs.AdvancingSteps.{due_with, first_in, rest_of, row_after, HasAdvanced}
-use Rattle.alert_book.specs.declared.order.Order.{Order}
-use Rattle.alert_book.specs.declared.outcome.Outcome.{Outcome}
-use Rattle.alert_book.specs.declared.request.Request.{Request}
+use Rattle.alert_book.specs.declared.book.order.Order.{Order}
+use Rattle.alert_book.specs.declared.session.outcome.Outcome.{Outcome}
+use Rattle.alert_book.specs.declared.session.request.Request.{Request}
 use Rattle.alert_book.specs.Session.{after_reply, advanced, cells_asked, due_requests, outcome_in, replies_with}
 use Rattle.alert_book.specs.Session.{sent_first, version_after, version_in, Replied}
 use Rattle.alert_book.specs.SessionSteps.{live_with}
@@ -88,7 +88,7 @@ has_advanced old prepared new reply requests keeps sent row due has standing sta
     })
 
 -- what is due doesn't depend on the versions
-pub due_same : (old : SessionState) (versions : Entries) (found : Option Found) →
+pub due_same : (old : SessionState) (versions : Entries) (found : Option NextRequests) →
     due_with (record old { versions = versions }) found ≡ due_with old found
 due_same old versions None = refl
 due_same old versions (Some found) = refl

@@ -8,12 +8,12 @@ use Rattle.std.proofs.lemmas.List.Sums.{count_by-le-length, length-filter}
 use Rattle.cbs_page.specs.declared.paging.Paged.{Paged}
 use Rattle.cbsp_wire.specs.declared.message.Cell.{Cell}
 use Rattle.cbsp_wire.specs.Range.{is_cell}
-use Rattle.alert_book.specs.declared.order.Action.{Action}
-use Rattle.alert_book.specs.declared.order.Action.TheVariants as action
-use Rattle.alert_book.specs.declared.order.Order.{Order}
-use Rattle.alert_book.specs.declared.request.Request.{Request}
-use Rattle.alert_book.specs.declared.request.Target.{Target}
-use Rattle.alert_book.specs.Session.{advanced, after_reply, cells_asked, cells_with, due_requests, first_requests}
+use Rattle.alert_book.specs.declared.book.order.Action.{Action}
+use Rattle.alert_book.specs.declared.book.order.Action.TheVariants as action
+use Rattle.alert_book.specs.declared.book.order.Order.{Order}
+use Rattle.alert_book.specs.declared.session.request.Request.{Request}
+use Rattle.alert_book.specs.declared.session.request.Target.{Target}
+use Rattle.alert_book.specs.Session.{advanced, after_reply, cells_asked, cells_with, due_requests, next_requests}
 use Rattle.alert_book.specs.Session.{found_first, has_cells, is_of_part, is_version, orders_from, orders_with}
 use Rattle.alert_book.specs.Session.{outcome_in, replies_with, requests_by, requests_of, stop_request}
 use Rattle.alert_book.specs.Session.{target_of, targets_of, update_request, version_in, versions, Replied, Standing}
@@ -189,10 +189,10 @@ found_asks replies row (request ∷ due) left later cell once few =
     let more = filter_more (asks cell) request due in omega (arith, more, once)
 
 rows_ask : (live : ℕ → Cell → Option ℕ) (replies : List Replied) (row : ℕ) (left : List (Order × Option Paged))
-    (cell : Cell) → most_asked cell (advanced replies row (first_requests live left)) ≤ length left
+    (cell : Cell) → most_asked cell (advanced replies row (next_requests live left)) ≤ length left
 rows_ask live replies row [] cell = omega arith
 rows_ask live replies row (next ∷ left) cell =
-    let few = found_asks replies row (requests_of live next.0 next.1) left (first_requests live left) cell
+    let few = found_asks replies row (requests_of live next.0 next.1) left (next_requests live left) cell
     (row_asks_once live next.0 next.0.action next.1 cell) (rows_ask live replies row left cell) in
     omega (arith, few)
 

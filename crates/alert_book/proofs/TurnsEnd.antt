@@ -6,12 +6,12 @@ use Rattle.std.proofs.lemmas.List.FromFn.{length-range_with_len}
 use Rattle.std.proofs.lemmas.List.Sums.{count_by-le-length, length-filter}
 use Rattle.cbs_page.specs.declared.paging.Paged.{Paged}
 use Rattle.cbsp_wire.specs.declared.message.Cell.{Cell}
-use Rattle.alert_book.specs.declared.order.Action.{Action}
-use Rattle.alert_book.specs.declared.order.Action.TheVariants as action
-use Rattle.alert_book.specs.declared.order.Order.{Order}
-use Rattle.alert_book.specs.declared.request.Request.{Request}
-use Rattle.alert_book.specs.declared.request.Target.{Target}
-use Rattle.alert_book.specs.Session.{advanced, due_requests, first_requests, found_first, has_cells}
+use Rattle.alert_book.specs.declared.book.order.Action.{Action}
+use Rattle.alert_book.specs.declared.book.order.Action.TheVariants as action
+use Rattle.alert_book.specs.declared.book.order.Order.{Order}
+use Rattle.alert_book.specs.declared.session.request.Request.{Request}
+use Rattle.alert_book.specs.declared.session.request.Target.{Target}
+use Rattle.alert_book.specs.Session.{advanced, due_requests, next_requests, found_first, has_cells}
 use Rattle.alert_book.specs.Session.{outcome_in, replies_with, requests_by, requests_of, stop_request, target_of}
 use Rattle.alert_book.specs.Session.{targets_of, update_request, version_in, versions, Replied}
 use Rattle.alert_book.specs.TurnLaws.{most_requests, SessionsEnd}
@@ -61,11 +61,11 @@ found_leaves_fewer replies row (request ∷ due) left later few fewer some = ome
 -- so the first of some rows that gives a request leaves fewer
 rows_leave_fewer : (live : ℕ → Cell → Option ℕ) (replies : List Replied) (row : ℕ)
     (left : List (Order × Option Paged)) →
-    (advanced replies row (first_requests live left)).sent ≢ None →
-    most_requests (advanced replies row (first_requests live left)) < 17 * length left
+    (advanced replies row (next_requests live left)).sent ≢ None →
+    most_requests (advanced replies row (next_requests live left)) < 17 * length left
 rows_leave_fewer live replies row [] some = absurd (some refl)
 rows_leave_fewer live replies row (next ∷ left) some =
-    let fewer = found_leaves_fewer replies row (requests_of live next.0 next.1) left (first_requests live left)
+    let fewer = found_leaves_fewer replies row (requests_of live next.0 next.1) left (next_requests live left)
     (requests_are_few live next.0 next.0.action next.1) (rows_leave_fewer live replies row left) some in
     omega (arith, fewer)
 

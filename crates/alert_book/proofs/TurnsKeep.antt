@@ -4,10 +4,10 @@ use Rattle.std.proofs.lemmas.List.Elements.{All-cons, All-filter, All-head, All-
 use Rattle.cbs_page.specs.declared.paging.Paged.{Paged}
 use Rattle.cbsp_wire.specs.declared.message.Cell.{Cell}
 use Rattle.cbsp_wire.specs.declared.message.Message.{Message}
-use Rattle.alert_book.specs.declared.order.Order.{Order}
-use Rattle.alert_book.specs.declared.request.Request.{Request}
+use Rattle.alert_book.specs.declared.book.order.Order.{Order}
+use Rattle.alert_book.specs.declared.session.request.Request.{Request}
 use Rattle.alert_book.specs.Book.{Contents}
-use Rattle.alert_book.specs.Session.{advanced, after_reply, due_requests, first_requests, found_first}
+use Rattle.alert_book.specs.Session.{advanced, after_reply, due_requests, next_requests, found_first}
 use Rattle.alert_book.specs.Session.{is_of_part, orders_with, outcome_in, replies_with, requests_of, session_of}
 use Rattle.alert_book.specs.Session.{version_in, Replied, Standing}
 use Rattle.alert_book.specs.Turns.{begun, GoesTo, Turn}
@@ -36,11 +36,11 @@ found_kept P L (request ∷ due) left later here rest after = record { due = her
 
 first_kept : (P : Request → Type 0) (L : Order × Option Paged → Type 0) → Gives P L →
     (live : ℕ → Cell → Option ℕ) (left : List (Order × Option Paged)) → All L left →
-    AreKept P L (first_requests live left)
+    AreKept P L (next_requests live left)
 first_kept P L gives live [] kept = record { due = All-nil P; left = kept }
 first_kept P L gives live (next ∷ left) kept =
     let rest = All-tail L next left kept in
-    found_kept P L (requests_of live next.0 next.1) left (first_requests live left)
+    found_kept P L (requests_of live next.0 next.1) left (next_requests live left)
     (gives live next (All-head L next left kept)) rest (first_kept P L gives live left rest)
 
 due_kept : (P : Request → Type 0) (L : Order × Option Paged → Type 0) → Gives P L →

@@ -11,21 +11,21 @@ use Rattle.std.proofs.lemmas.List.Elements.{All-tail, All-weaker}
 use Rattle.cbs_page.specs.declared.paging.Paged.{Paged}
 use Rattle.cbsp_wire.specs.declared.message.Cell.{Cell}
 use Rattle.cbsp_wire.specs.declared.message.Message.{Message}
-use Rattle.alert_book.specs.declared.order.Action.{Action}
-use Rattle.alert_book.specs.declared.order.Action.TheVariants as action
-use Rattle.alert_book.specs.declared.order.Alert.{Alert}
-use Rattle.alert_book.specs.declared.order.Order.{Order}
-use Rattle.alert_book.specs.declared.order.Sending.{Sending}
-use Rattle.alert_book.specs.declared.outcome.Outcome.{Outcome}
-use Rattle.alert_book.specs.declared.request.Request.{Request}
-use Rattle.alert_book.specs.declared.request.Target.{Target}
+use Rattle.alert_book.specs.declared.book.order.Action.{Action}
+use Rattle.alert_book.specs.declared.book.order.Action.TheVariants as action
+use Rattle.alert_book.specs.declared.book.order.Alert.{Alert}
+use Rattle.alert_book.specs.declared.book.order.Order.{Order}
+use Rattle.alert_book.specs.declared.book.order.Sending.{Sending}
+use Rattle.alert_book.specs.declared.session.outcome.Outcome.{Outcome}
+use Rattle.alert_book.specs.declared.session.request.Request.{Request}
+use Rattle.alert_book.specs.declared.session.request.Target.{Target}
 use Rattle.alert_book.specs.Book.{Contents}
 use Rattle.alert_book.specs.LastAccepted.{HasAcceptedLast, LastAcceptedIsReplaced, Pair, pair_gone, pair_sent}
-use Rattle.alert_book.specs.Session.{advanced, after_reply, due_requests, first_requests, found_first}
+use Rattle.alert_book.specs.Session.{advanced, after_reply, due_requests, next_requests, found_first}
 use Rattle.alert_book.specs.Session.{has_cells, is_of_part, is_version, orders_from, orders_with, outcome_in}
 use Rattle.alert_book.specs.Session.{outcome_of}
 use Rattle.alert_book.specs.Session.{replies_with, requests_by, requests_of, serial_of, session_of, stop_request}
-use Rattle.alert_book.specs.Session.{target_of, targets_of, update_request, version_in, version_said, versions}
+use Rattle.alert_book.specs.Session.{target_of, targets_of, update_request, version_in, version_after_reply, versions}
 use Rattle.alert_book.specs.Session.{Replied, Standing}
 use Rattle.alert_book.specs.Turns.{begun, GoesTo, Turn}
 use Rattle.alert_book.proofs.LastAccepted.{AcceptedVersion, AreOfTurns, of_turns_more}
@@ -149,12 +149,12 @@ found_aimed orders live (request ∷ due) left later here once rest after =
     record { due = here; once = once; left = rest }
 
 first_aimed : (orders : List Order) (live : ℕ → Cell → Option ℕ) (left : List (Order × Option Paged))
-    → AreOfThese orders left → AreAimed orders live (first_requests live left)
+    → AreOfThese orders left → AreAimed orders live (next_requests live left)
 first_aimed orders live [] these =
     record { due = All-nil (IsAimed orders live); once = λ cell. omega arith; left = these }
 first_aimed orders live (next ∷ left) these =
     let rest = All-tail (λ (n : Order × Option Paged). Contains orders n.0) next left these in
-    found_aimed orders live (requests_of live next.0 next.1) left (first_requests live left)
+    found_aimed orders live (requests_of live next.0 next.1) left (next_requests live left)
     (row_aimed orders live next.0 next.0.action next.1
     (All-head (λ (n : Order × Option Paged). Contains orders n.0) next left these))
     (λ cell. row_asks_once live next.0 next.0.action next.1 cell) rest (first_aimed orders live left rest)
@@ -218,7 +218,7 @@ still_aimed orders replies (Some last) (Some outcome) request apart aimed = reco
         was.0,
         was.1,
         λ cell asked. same_version (eqb last.number request.number) (asks cell last)
-            (version_said last outcome cell (version_in replies request.number cell))
+            (version_after_reply last outcome cell (version_in replies request.number cell))
             (version_in replies request.number cell) (unasked (asks cell last) (apart cell asked))
             ∙ was.2 cell asked,
       );

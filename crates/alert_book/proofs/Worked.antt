@@ -8,7 +8,7 @@ use Rattle.alert_book.specs.declared.fault.BookFaultKind.TheVariants as fault
 use Rattle.alert_book.specs.declared.fault.RowFault.TheVariants as row_fault
 use Rattle.alert_book.specs.Number.{number_within}
 use Rattle.alert_book.specs.Cells.{cell_named, cell_with, cells_listed, cells_of_field}
-use Rattle.alert_book.specs.declared.order.Action.TheVariants as action
+use Rattle.alert_book.specs.declared.book.order.Action.TheVariants as action
 use Rattle.alert_book.specs.Fields.{alert_with, category, sending_with}
 use Rattle.alert_book.specs.Row.{order_with, verb_of}
 use Rattle.alert_book.specs.Book.{fault_at, rows_of, rows_with}

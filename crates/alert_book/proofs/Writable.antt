@@ -17,17 +17,17 @@ use Rattle.cbs_page.specs.Text.{IsPagedText}
 use Rattle.cbs_page.proofs.CuttingLaws.{AreContentsOf-length}
 use Rattle.cbs_page.proofs.FullPages.{pages_fit}
 use Rattle.cbsp_wire.specs.declared.message.Cell.{Cell}
-use Rattle.cbsp_wire.specs.declared.message_type.Presence.TheVariants as presences
+use Rattle.cbsp_wire.specs.declared.message.message_type.Presence.TheVariants as presences
 use Rattle.cbsp_wire.specs.Range.{are_distinct, cells_are_valid, has_alphabet, is_nothing}
 use Rattle.cbsp_wire.specs.Range.{is_there_if, is_writable}
 use Rattle.cbsp_wire.specs.Table.{presence_of, table}
-use Rattle.alert_book.specs.declared.order.Action.{Action}
-use Rattle.alert_book.specs.declared.order.Action.TheVariants as action
-use Rattle.alert_book.specs.declared.order.Alert.{Alert}
-use Rattle.alert_book.specs.declared.order.Order.{Order}
-use Rattle.alert_book.specs.declared.order.Sending.{Sending}
-use Rattle.alert_book.specs.declared.request.Request.{Request}
-use Rattle.alert_book.specs.declared.request.Target.{Target}
+use Rattle.alert_book.specs.declared.book.order.Action.{Action}
+use Rattle.alert_book.specs.declared.book.order.Action.TheVariants as action
+use Rattle.alert_book.specs.declared.book.order.Alert.{Alert}
+use Rattle.alert_book.specs.declared.book.order.Order.{Order}
+use Rattle.alert_book.specs.declared.book.order.Sending.{Sending}
+use Rattle.alert_book.specs.declared.session.request.Request.{Request}
+use Rattle.alert_book.specs.declared.session.request.Target.{Target}
 use Rattle.alert_book.specs.Book.{sending_of, ArePagesOf, HavePages}
 use Rattle.alert_book.specs.Session.{cells_with, has_cells, is_version, kill_of, orders_with, requests_by, stop_request}
 use Rattle.alert_book.specs.Session.{target_of, targets_of, update_request, versions, write_of}

@@ -1,21 +1,21 @@
 -- How a session advances (own). Contracts of private functions alone speak of it.
 use Rattle.std.specs.Prelude.{◌≡◌, ℕ, Option, Some, None, List, [], ◌∷◌}
 use Rattle.cbs_page.specs.declared.paging.Paged.{Paged}
-use Rattle.alert_book.specs.declared.order.Order.{Order}
-use Rattle.alert_book.specs.declared.outcome.Outcome.{Outcome}
-use Rattle.alert_book.specs.declared.request.Request.{Request}
-use Rattle.alert_book.specs.declared.session.Found.{Found}
+use Rattle.alert_book.specs.declared.book.order.Order.{Order}
+use Rattle.alert_book.specs.declared.session.outcome.Outcome.{Outcome}
+use Rattle.alert_book.specs.declared.session.request.Request.{Request}
+use Rattle.alert_book.specs.declared.session.NextRequests.{NextRequests}
 use Rattle.alert_book.specs.Session.{orders_from}
 use Rattle.alert_book.specs.SessionSteps.{AreBelievedWith}
 use Rattle.alert_book.specs.Stands.{left_in, SessionState}
 
 -- the requests that were found, or else those that are due
-abbrev pub requests_with : Option Found → List Request → List Request
+abbrev pub requests_with : Option NextRequests → List Request → List Request
 requests_with None due = due
 requests_with (Some found) due = found.requests.items
 
 -- the requests that are due, and the orders that are then left
-abbrev pub due_with : SessionState → Option Found → List Request × List (Order × Option Paged)
+abbrev pub due_with : SessionState → Option NextRequests → List Request × List (Order × Option Paged)
 due_with s None = (s.due, left_in s)
 due_with s (Some found) = (found.requests.items, orders_from s.book s.part s.parts found.place)
 

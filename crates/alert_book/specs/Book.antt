@@ -17,12 +17,12 @@ use Rattle.alert_book.specs.declared.fault.BookFaultKind.{BookFaultKind}
 use Rattle.alert_book.specs.declared.fault.BookFaultKind.TheVariants as fault
 use Rattle.alert_book.specs.declared.fault.RowFault.{RowFault}
 use Rattle.alert_book.specs.declared.fault.RowFault.TheVariants as row_fault
-use Rattle.alert_book.specs.declared.order.Action.{Action}
-use Rattle.alert_book.specs.declared.order.Action.TheVariants as action
-use Rattle.alert_book.specs.declared.order.Order.{Order}
-use Rattle.alert_book.specs.declared.order.Sending.{Sending}
-use Rattle.alert_book.specs.declared.row.Row.{Row}
-use Rattle.alert_book.specs.declared.row.Row.TheVariants as rows
+use Rattle.alert_book.specs.declared.book.order.Action.{Action}
+use Rattle.alert_book.specs.declared.book.order.Action.TheVariants as action
+use Rattle.alert_book.specs.declared.book.order.Order.{Order}
+use Rattle.alert_book.specs.declared.book.order.Sending.{Sending}
+use Rattle.alert_book.specs.declared.book.row.Row.{Row}
+use Rattle.alert_book.specs.declared.book.row.Row.TheVariants as rows
 use Rattle.alert_book.specs.Row.{row_of}
 
 -- the most octets of a book

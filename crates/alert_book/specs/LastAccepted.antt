@@ -7,7 +7,7 @@ use Rattle.cbsp_wire.specs.declared.message.Failure.{Failure}
 use Rattle.cbsp_wire.specs.declared.message.Message.{Message}
 use Rattle.cbsp_wire.specs.declared.message.Message.TheVariants as messages
 use Rattle.cbsp_wire.specs.CellLists.{contains}
-use Rattle.alert_book.specs.declared.outcome.Outcome.{Outcome}
+use Rattle.alert_book.specs.declared.session.outcome.Outcome.{Outcome}
 use Rattle.alert_book.specs.Book.{Contents, IsBook}
 use Rattle.alert_book.specs.Session.{outcome_of, refuses, Standing}
 use Rattle.alert_book.specs.Turns.{begun, is_asked, GoesTo, Turn}

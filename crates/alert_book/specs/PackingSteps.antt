@@ -7,8 +7,8 @@ use Rattle.cbs_page.specs.declared.paging.TextFault.{TextFault}
 use Rattle.cbs_page.specs.declared.paging.TextFault.TheVariants as text
 use Rattle.alert_book.specs.declared.fault.BookFault.{BookFault}
 use Rattle.alert_book.specs.declared.fault.BookFaultKind.TheVariants as fault
-use Rattle.alert_book.specs.declared.order.Order.{Order}
-use Rattle.alert_book.specs.declared.order.Sending.{Sending}
+use Rattle.alert_book.specs.declared.book.order.Order.{Order}
+use Rattle.alert_book.specs.declared.book.order.Sending.{Sending}
 use Rattle.alert_book.specs.Book.{ArePagesOf, fault_at, refused, sending_of}
 
 -- the order's text can't be sent, and this says so of its row
@@ -21,9 +21,9 @@ pub record HasBadText (order : Order) (f : BookFault) : Type 0 where
   pub named : f ≡ fault_at order.row (fault.Text why)
 
 -- the pages of the order's text, or its fault, or out of memory
-abbrev pub IsPacked : Order → Result (Option Paged) BookFault → Type 0
-IsPacked order (Ok paged) = ArePagesOf (sending_of order.action) paged
-IsPacked order (Err f) = (f ≡ refused) ⊎ HasBadText order f
+abbrev pub IsOrderPacked : Order → Result (Option Paged) BookFault → Type 0
+IsOrderPacked order (Ok paged) = ArePagesOf (sending_of order.action) paged
+IsOrderPacked order (Err f) = (f ≡ refused) ⊎ HasBadText order f
 
 -- of what came of the orders, one after the other, this is the first fault
 pub record IsFirstFault (packed : List (Result (Option Paged) BookFault)) (f : BookFault) : Type 0 where

@@ -1,10 +1,10 @@
 -- Orders whose messages have serial numbers (own). The type of books keeps this of its orders, and contracts of private
 -- functions alone speak of it.
 use Rattle.std.specs.Prelude.{⊤, ◌<◌}
-use Rattle.alert_book.specs.declared.order.Action.{Action}
-use Rattle.alert_book.specs.declared.order.Action.TheVariants as action
-use Rattle.alert_book.specs.declared.order.Alert.{Alert}
-use Rattle.alert_book.specs.declared.order.Order.{Order}
+use Rattle.alert_book.specs.declared.book.order.Action.{Action}
+use Rattle.alert_book.specs.declared.book.order.Action.TheVariants as action
+use Rattle.alert_book.specs.declared.book.order.Alert.{Alert}
+use Rattle.alert_book.specs.declared.book.order.Order.{Order}
 
 -- an alert whose versions have serial numbers
 pub record HasSerials (alert : Alert) : Type 0 where

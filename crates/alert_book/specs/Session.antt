@@ -24,14 +24,14 @@ use Rattle.cbsp_wire.specs.CellLists.{contains}
 use Rattle.cbsp_wire.specs.Range.{is_cell}
 use Rattle.cbsp_wire.specs.Refusals.{first_fault}
 use Rattle.cbsp_wire.specs.Written.{octets_of_message}
-use Rattle.alert_book.specs.declared.order.Action.{Action}
-use Rattle.alert_book.specs.declared.order.Action.TheVariants as action
-use Rattle.alert_book.specs.declared.order.Alert.{Alert}
-use Rattle.alert_book.specs.declared.order.Order.{Order}
-use Rattle.alert_book.specs.declared.order.Sending.{Sending}
-use Rattle.alert_book.specs.declared.outcome.Outcome.{Outcome}
-use Rattle.alert_book.specs.declared.request.Request.{Request}
-use Rattle.alert_book.specs.declared.request.Target.{Target}
+use Rattle.alert_book.specs.declared.book.order.Action.{Action}
+use Rattle.alert_book.specs.declared.book.order.Action.TheVariants as action
+use Rattle.alert_book.specs.declared.book.order.Alert.{Alert}
+use Rattle.alert_book.specs.declared.book.order.Order.{Order}
+use Rattle.alert_book.specs.declared.book.order.Sending.{Sending}
+use Rattle.alert_book.specs.declared.session.outcome.Outcome.{Outcome}
+use Rattle.alert_book.specs.declared.session.request.Request.{Request}
+use Rattle.alert_book.specs.declared.session.request.Target.{Target}
 use Rattle.alert_book.specs.Book.{Contents}
 
 -- the versions that an alert can have, by their update numbers
@@ -83,19 +83,19 @@ is_reply_to message (messages.KillFailed id old refused completed cells channel)
 is_reply_to message order = false
 
 -- what a reply says of cells
-abbrev pub outcome_said : Message → Outcome
-outcome_said (messages.WriteDone id new old completed cells channel) =
+abbrev pub outcome_of_reply : Message → Outcome
+outcome_of_reply (messages.WriteDone id new old completed cells channel) =
     outcome_with (accepting old completed cells) []
-outcome_said (messages.WriteFailed id new old refused completed cells channel) =
+outcome_of_reply (messages.WriteFailed id new old refused completed cells channel) =
     outcome_with (accepting old completed cells) refused
-outcome_said (messages.KillDone id old completed cells channel) = outcome_with (cells_counted completed) []
-outcome_said (messages.KillFailed id old refused completed cells channel) =
+outcome_of_reply (messages.KillDone id old completed cells channel) = outcome_with (cells_counted completed) []
+outcome_of_reply (messages.KillFailed id old refused completed cells channel) =
     outcome_with (cells_counted completed) refused
-outcome_said order = outcome_with [] []
+outcome_of_reply order = outcome_with [] []
 
 -- and what it says to this message, if it is a reply to it
 abbrev pub outcome_of : Message → (reply : Message) → Option Outcome
-outcome_of message reply = if is_reply_to message reply then Some (outcome_said reply) else None
+outcome_of message reply = if is_reply_to message reply then Some (outcome_of_reply reply) else None
 
 -- a request, and what its reply says
 pub record Replied : Type 0 where
@@ -115,15 +115,15 @@ version_by None accepted asked before = if accepted then asked else before
 abbrev pub refuses : Cell → Failure → Bool
 refuses cell failure = is_cell cell failure.cell
 
-abbrev pub version_said : Request → Outcome → Cell → (before : Option ℕ) → Option ℕ
-version_said request outcome cell before =
+abbrev pub version_after_reply : Request → Outcome → Cell → (before : Option ℕ) → Option ℕ
+version_after_reply request outcome cell before =
     version_by (find (refuses cell) outcome.refused)
     (contains outcome.accepted cell) request.version before
 
 -- the version of an alert in a cell after what a reply says of these cells; other cells and alerts keep theirs
 abbrev pub version_after : Request → Outcome → List Cell → (number : ℕ) → Cell → (before : Option ℕ) → Option ℕ
 version_after request outcome cells number cell before =
-    if (request.number == number) && contains cells cell then version_said request outcome cell before
+    if (request.number == number) && contains cells cell then version_after_reply request outcome cell before
     else before
 
 -- the version of an alert that is believed live in a cell, by the replies so far, the last one first
@@ -232,10 +232,10 @@ abbrev pub found_first : List Request → List (Order × Option Paged) → List 
 found_first [] left later = later
 found_first (request ∷ due) left later = (request ∷ due, left)
 
-abbrev pub first_requests : (live : ℕ → Cell → Option ℕ) → List (Order × Option Paged)
+abbrev pub next_requests : (live : ℕ → Cell → Option ℕ) → List (Order × Option Paged)
     → List Request × List (Order × Option Paged)
-first_requests live [] = ([], [])
-first_requests live (next ∷ left) = found_first (requests_of live next.0 next.1) left (first_requests live left)
+next_requests live [] = ([], [])
+next_requests live (next ∷ left) = found_first (requests_of live next.0 next.1) left (next_requests live left)
 
 -- the first of these requests is sent, if there is one
 abbrev pub sent_first : List Replied → (row : ℕ) → List Request → List (Order × Option Paged) → Standing
@@ -245,7 +245,7 @@ sent_first replies row (request ∷ due) left = standing_with replies (Some requ
 -- the next request: of the row under way, or else of the first row after it that gives one
 abbrev pub due_requests : (live : ℕ → Cell → Option ℕ) → List Request → List (Order × Option Paged)
     → List Request × List (Order × Option Paged)
-due_requests live [] left = first_requests live left
+due_requests live [] left = next_requests live left
 due_requests live (request ∷ due) left = (request ∷ due, left)
 
 abbrev pub advanced : List Replied → (row : ℕ) → List Request × List (Order × Option Paged) → Standing

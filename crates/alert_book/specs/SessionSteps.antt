@@ -2,11 +2,11 @@
 use Rattle.std.specs.Prelude.{◌≡◌, ℕ, Option, Some, None, List, [], filter, if◌then◌else◌, map}
 use Rattle.cbs_page.specs.declared.paging.Paged.{Paged}
 use Rattle.cbsp_wire.specs.declared.message.Cell.{Cell}
-use Rattle.alert_book.specs.declared.believed.Believed.{Believed}
-use Rattle.alert_book.specs.declared.order.Order.{Order}
-use Rattle.alert_book.specs.declared.outcome.Outcome.{Outcome}
-use Rattle.alert_book.specs.declared.request.CellVersion.{CellVersion}
-use Rattle.alert_book.specs.declared.request.Request.{Request}
+use Rattle.alert_book.specs.declared.session.live_versions.LiveVersions.{LiveVersions}
+use Rattle.alert_book.specs.declared.book.order.Order.{Order}
+use Rattle.alert_book.specs.declared.session.outcome.Outcome.{Outcome}
+use Rattle.alert_book.specs.declared.session.request.CellVersion.{CellVersion}
+use Rattle.alert_book.specs.declared.session.request.Request.{Request}
 use Rattle.alert_book.specs.Session.{cells_asked, is_of_part, is_version, requests_of, version_after}
 use Rattle.alert_book.specs.VersionSteps.{Key, kept_version}
 
@@ -17,7 +17,7 @@ live_with entries (Some request) None number cell = kept_version entries number 
 live_with entries (Some request) (Some outcome) number cell =
     version_after request outcome (cells_asked request.message) number cell (kept_version entries number cell)
 
-abbrev pub live_by : Believed → (number : ℕ) → Cell → Option ℕ
+abbrev pub live_by : LiveVersions → (number : ℕ) → Cell → Option ℕ
 live_by live number cell =
     live_with live.versions.now live.sent.now live.outcome.now number cell
 

@@ -3,8 +3,8 @@ use Rattle.std.specs.Prelude.{◌≡◌, ⊤, ℕ, true, Option, Some, None, Lis
 use Rattle.cbs_page.specs.declared.paging.Paged.{Paged}
 use Rattle.cbsp_wire.specs.declared.message.Cell.{Cell}
 use Rattle.cbsp_wire.specs.declared.message.Message.{Message}
-use Rattle.alert_book.specs.declared.order.Order.{Order}
-use Rattle.alert_book.specs.declared.request.Request.{Request}
+use Rattle.alert_book.specs.declared.book.order.Order.{Order}
+use Rattle.alert_book.specs.declared.session.request.Request.{Request}
 use Rattle.alert_book.specs.Session.{after_reply, cells_asked, orders_from, version_in, Replied, Standing}
 use Rattle.alert_book.specs.Book.{Contents}
 use Rattle.alert_book.specs.VersionSteps.{Key, has_place, kept_version}

@@ -1,8 +1,8 @@
 -- What holds of the texts of a book's orders, by its definition alone. Own.
 use Rattle.std.specs.Prelude.{◌≡◌, ℕ, Some, List, All}
 use Rattle.std.specs.Str.{IsUtf8}
-use Rattle.alert_book.specs.declared.order.Order.{Order}
-use Rattle.alert_book.specs.declared.order.Sending.{Sending}
+use Rattle.alert_book.specs.declared.book.order.Order.{Order}
+use Rattle.alert_book.specs.declared.book.order.Sending.{Sending}
 use Rattle.alert_book.specs.Book.{Contents, IsBook, sending_of}
 
 -- an order sends no text, or one that is UTF-8

@@ -6,11 +6,11 @@ use Rattle.cbs_page.specs.declared.paging.Paged.{Paged}
 use Rattle.cbsp_wire.specs.declared.message.Cell.{Cell}
 use Rattle.cbsp_wire.specs.declared.message.Message.{Message}
 use Rattle.cbsp_wire.specs.declared.message.Message.TheVariants as messages
-use Rattle.alert_book.specs.declared.order.Action.{Action}
-use Rattle.alert_book.specs.declared.order.Action.TheVariants as action
-use Rattle.alert_book.specs.declared.order.Order.{Order}
-use Rattle.alert_book.specs.declared.order.Sending.{Sending}
-use Rattle.alert_book.specs.declared.request.Request.{Request}
+use Rattle.alert_book.specs.declared.book.order.Action.{Action}
+use Rattle.alert_book.specs.declared.book.order.Action.TheVariants as action
+use Rattle.alert_book.specs.declared.book.order.Order.{Order}
+use Rattle.alert_book.specs.declared.book.order.Sending.{Sending}
+use Rattle.alert_book.specs.declared.session.request.Request.{Request}
 use Rattle.alert_book.specs.Book.{Contents, HavePages, IsBook, ArePagesOf, sending_of}
 use Rattle.alert_book.specs.Session.{after_reply, serial_of, Standing}
 use Rattle.alert_book.specs.Turns.{begun, GoesTo, is_asked, Turn}

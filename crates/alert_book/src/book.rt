@@ -8,9 +8,9 @@ ghost use Rattle.alert_book.specs.Book.{ReadsBook, RefusesBook};
 ghost use Rattle.alert_book.specs.SendableSteps.{IsSendable};
 
 use crate::fault::{BookFault, BookFaultKind, RowFault, fault_of_book};
-use crate::order::Order;
-use crate::packing::all_pages;
-use crate::row::{Row, row_of};
+use crate::book::order::Order;
+use crate::book::packing::all_pages;
+use crate::book::row::{Row, row_of};
 use cbs_page::Paged;
 use cbsp_wire::Cell;
 use csv::{ByteRecord, ReaderBuilder};
@@ -19,6 +19,13 @@ use std::alloc::{AllocGlobal, Global};
 use std::io::Read;
 use std::marker::Model;
 use std::thread::Threads;
+
+pub(crate) mod cells;
+pub(crate) mod fields;
+pub(crate) mod number;
+pub(crate) mod order;
+pub(crate) mod packing;
+pub(crate) mod row;
 
 /// The most octets of a book: 16 MiB.
 pub const MAX_INPUT: usize = 0x100_0000;
@@ -73,12 +80,12 @@ impl Book {
 
 /// The rows of a book, as far as they are read.
 #[derive(Debug, Drop)]
-struct Known {
+struct RowsSoFar {
     cells: Vec<Cell>,
     orders: Vec<Order>,
 }
 
-impl Model for Known {
+impl Model for RowsSoFar {
     ghost use Rattle.alert_book.specs.Book.{Rows};
 
     ghost Value = { Rows };
@@ -91,12 +98,12 @@ impl Model for Known {
     ghost invariant = { λ known. All IsSendable known.orders.items };
 }
 
-impl Known {
+impl RowsSoFar {
     ghost use Rattle.std.specs.Prelude.{Ok, Err};
     ghost use Rattle.csv.specs.Records.{fields_of};
     ghost use Rattle.alert_book.specs.Book.{with_row};
     ghost use Rattle.alert_book.specs.Row.{row_of};
-    ghost use Rattle.alert_book.specs.declared.row.Row.{Row};
+    ghost use Rattle.alert_book.specs.declared.book.row.Row.{Row};
 
     /// Reads the row of this number.
     fn read(&mut self, alloc: Global, row: u16, fields: ByteRecord) -> Result<(), RowFault>
@@ -129,11 +136,11 @@ fn fault_of_row(row: u16, fault: RowFault) -> BookFault
 }
 
 /// The rows of a book's octets.
-fn known_of(alloc: Global, octets: &[u8]) -> Result<Known, BookFault>
+fn read_rows(alloc: Global, octets: &[u8]) -> Result<RowsSoFar, BookFault>
     ensures ok { IfOk result (λ known. AreRowsOf octets.now known) }
     ensures err { IfErr result (λ fault. (fault ≡ refused) ⊎ IsRowFault octets.now fault) }
 {
-    let mut known = Known {
+    let mut known = RowsSoFar {
         cells: Vec::new(alloc),
         orders: Vec::new(alloc),
     };
@@ -162,7 +169,7 @@ fn book_of<T: AllocGlobal + Threads + Sync>(rt: &T, octets: &[u8]) -> Result<Boo
     ensures err { IfErr result (λ fault. (fault ≡ refused) ⊎ IsWrong octets.now fault) }
     ensures unread { IfErr result (λ fault. fault ≢ unread) }
 {
-    let known = known_of(rt.alloc(), octets)?;
+    let known = read_rows(rt.alloc(), octets)?;
     let pages = all_pages(rt, &known.orders)?;
     Ok(Book {
         cells: known.cells,

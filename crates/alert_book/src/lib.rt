@@ -5,23 +5,13 @@
 //! replies so far.
 #![tactic(auto)]
 
-mod believed;
 pub mod book;
-mod cells;
 pub mod fault;
-mod fields;
 mod laws;
-mod number;
-pub mod order;
-pub mod outcome;
-mod packing;
-pub mod request;
-mod row;
 pub mod session;
-mod versions;
 
 pub use book::{Book, MAX_INPUT, read_book};
 pub use fault::{BookFault, BookFaultKind};
 pub use laws::{book_laws, session_laws, text_laws};
-pub use request::Refused;
+pub use session::request::Refused;
 pub use session::Session;

@@ -2,7 +2,7 @@
 
 ghost use Rattle.std.specs.Prelude.{◌≡◌, ◌<◌, ℕ, IfOk, OnErr, OnOk, Option, Some};
 ghost use Rattle.std.specs.Option.{option_copied};
-ghost use Rattle.alert_book.specs.Session.{due_requests, first_requests, orders_from, outcome_in, session_of};
+ghost use Rattle.alert_book.specs.Session.{due_requests, next_requests, orders_from, outcome_in, session_of};
 ghost use Rattle.alert_book.specs.Session.{IsGiven, IsReply, Standing};
 ghost use Rattle.alert_book.specs.SessionSteps.{live_by, live_with, requests_in, AreBelievedWith};
 ghost use Rattle.alert_book.specs.SendableSteps.{IsSendable};
@@ -12,17 +12,22 @@ ghost use Rattle.alert_book.specs.VersionSteps.{has_place, KeepsVersions};
 ghost use Rattle.cbsp_wire.specs.declared.message.Cell.{Cell};
 ghost use Rattle.cbsp_wire.specs.declared.message.Message.{Message};
 
-use crate::believed::Believed;
+use crate::session::live_versions::LiveVersions;
 use crate::book::Book;
-use crate::order::Order;
-use crate::outcome::{Outcome, cells_asked, outcome_of};
-use crate::request::{Refused, Request, requests_of};
-use crate::versions::Versions;
+use crate::book::order::Order;
+use crate::session::outcome::{Outcome, cells_asked, outcome_of};
+use crate::session::request::{Refused, Request, requests_of};
+use crate::session::versions::Versions;
 use cbs_page::Paged;
 use cbsp_wire::{Message, WireFault, read, write};
 use std::alloc::Global;
 use std::collections::VecDeque;
 use std::marker::Model;
+
+pub(crate) mod live_versions;
+pub(crate) mod outcome;
+pub(crate) mod request;
+pub(crate) mod versions;
 
 /// A session of a part of a book: the orders of its alerts, as messages.
 ///
@@ -106,7 +111,7 @@ impl<'a> Session<'a> {
 
     /// Keeps what the reply to the last request says, and takes the next one as sent, for whose versions there are
     /// places.
-    fn advance(&mut self, outcome: &Option<Outcome>, found: Option<Found>)
+    fn advance(&mut self, outcome: &Option<Outcome>, found: Option<NextRequests>)
         requires { HavePlaces self.old.versions (first_in (due_with self.old found).0) }
         ensures { HasAdvanced self.old self.new outcome.now (due_with self.old found) }
     {
@@ -123,19 +128,19 @@ impl<'a> Session<'a> {
 
     /// The requests of the next row that gives some, after what a reply says; none where requests of the row under way
     /// are still due.
-    fn found(&self, outcome: &Option<Outcome>) -> Result<Option<Found>, Refused>
+    fn found(&self, outcome: &Option<Outcome>) -> Result<Option<NextRequests>, Refused>
         ensures { IfOk result (λ found. due_requests (live_with self.now.versions self.now.sent outcome.now)
             self.now.due (left_in self.now) ≡ due_with self.now found) }
     {
         if !self.due.is_empty() {
             return Ok(None);
         }
-        let live = Believed {
+        let live = LiveVersions {
             versions: &self.versions,
             sent: &self.sent,
             outcome,
         };
-        let found = first_requests(
+        let found = next_requests(
             self.alloc, &live, self.book, self.part, self.parts, self.place,
         )?;
         Ok(Some(found))
@@ -151,13 +156,13 @@ impl<'a> Session<'a> {
 
 /// The requests of a row, and the place of the order after it.
 #[derive(Drop)]
-struct Found {
+struct NextRequests {
     requests: VecDeque<Request>,
     place: usize,
 }
 
 /// The first of the requests that were found, or else of those that are due.
-fn first_due<'a>(found: &'a Option<Found>, due: &'a VecDeque<Request>) -> Option<&'a Request>
+fn first_due<'a>(found: &'a Option<NextRequests>, due: &'a VecDeque<Request>) -> Option<&'a Request>
     ensures { option_copied result ≡ first_in (requests_with found.now due.now.items) }
 {
     match found {
@@ -197,7 +202,7 @@ fn outcome_in(
 /// The requests that a row gives, if its order is of this part.
 fn requests_in(
     alloc: Global,
-    live: &Believed<'_>,
+    live: &LiveVersions<'_>,
     order: &Order,
     paged: &Option<Paged>,
     part: u16,
@@ -216,16 +221,16 @@ fn requests_in(
 }
 
 /// The requests of the first order of a part, from this place on, that gives one; no requests if none does.
-fn first_requests(
+fn next_requests(
     alloc: Global,
-    live: &Believed<'_>,
+    live: &LiveVersions<'_>,
     book: &Book,
     part: u16,
     parts: u16,
     from: usize,
-) -> Result<Found, Refused>
+) -> Result<NextRequests, Refused>
     requires { 0 < parts }
-    ensures { IfOk result (λ found. first_requests (live_by live.now) (orders_from book.now part parts from)
+    ensures { IfOk result (λ found. next_requests (live_by live.now) (orders_from book.now part parts from)
         ≡ (found.requests.items, orders_from book.now part parts found.place)) }
 {
     let orders = book.orders();
@@ -233,13 +238,13 @@ fn first_requests(
     for place in from..orders.len() {
         let requests = requests_in(alloc, live, &orders[place], &pages[place], part, parts)?;
         if !requests.is_empty() {
-            return Ok(Found {
+            return Ok(NextRequests {
                 requests,
                 place: place + 1,
             });
         }
     }
-    Ok(Found {
+    Ok(NextRequests {
         requests: VecDeque::new(alloc),
         place: orders.len(),
     })

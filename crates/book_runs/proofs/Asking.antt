@@ -12,7 +12,7 @@ use Rattle.std.proofs.lemmas.List.Elements.{All-head, All-tail}
 use Rattle.cbsp_wire.specs.declared.message.Cell.{Cell}
 use Rattle.cbsp_wire.specs.declared.message.Message.{Message}
 use Rattle.cbsp_wire.specs.declared.message.Message.TheVariants as messages
-use Rattle.cbsp_wire.specs.declared.message_type.MessageType.TheVariants as types
+use Rattle.cbsp_wire.specs.declared.message.message_type.MessageType.TheVariants as types
 use Rattle.cbsp_wire.specs.Range.{all_cells_are_valid, are_distinct, cells_are_valid, cells_of_counts}
 use Rattle.cbsp_wire.specs.Range.{cells_of_failures, contents_are_valid, is_cell, is_full, is_there_if, is_writable}
 use Rattle.cbsp_wire.specs.Range.{numbers_are_valid, values_are_valid}

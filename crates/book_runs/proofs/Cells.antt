@@ -8,7 +8,7 @@ use Rattle.cbsp_wire.specs.declared.message.Cell.{Cell}
 use Rattle.cbsp_wire.specs.Range.{are_distinct, is_cell}
 use Rattle.cbsp_wire.proofs.CellLists.{is_itself, same_cell}
 use Rattle.bsc_table.specs.Record.{Record}
-use Rattle.book_runs.specs.Run.{slot_of}
+use Rattle.book_runs.specs.Run.{given_slot}
 use Rattle.book_runs.specs.Sessions.{slot_before, slot_in}
 
 -- two cells that differ do so the other way round
@@ -21,7 +21,8 @@ other_way a b differ = elim (cases_Bool (is_cell b a)) [
 
 -- the slot of a command is that of its cell's record, where no two records have one cell
 abbrev pub HasSlots : List Record → Record → Type 0
-HasSlots records r = (number at : ℕ) → slot_in records r.cell number at ≡ slot_of r.slots (slot_before r.log number) at
+HasSlots records r = (number at : ℕ) → slot_in records r.cell number at ≡ given_slot r.slots
+    (slot_before r.log number) at
 
 apart : (c : Cell) (records : List Record) → list_any (is_cell c) (map (λ r. r.cell) records) ≡ false
     → All (λ r. is_cell c r.cell ≡ false) records
@@ -46,13 +47,13 @@ have_slots (r ∷ records) distinct =
     (apart r.cell records (not-true (list_any (is_cell r.cell) cells) parts.0)) (have_slots records parts.1)))
   where
     first : (number at : ℕ)
-        → slot_in (r ∷ records) r.cell number at ≡ slot_of r.slots (slot_before r.log number) at
-    first number at = ap (λ b. cond b (slot_of r.slots (slot_before r.log number) at)
+        → slot_in (r ∷ records) r.cell number at ≡ given_slot r.slots (slot_before r.log number) at
+    first number at = ap (λ b. cond b (given_slot r.slots (slot_before r.log number) at)
         (slot_in records r.cell number at)) (is_itself r.cell)
 
     later : (s : Record) (number at : ℕ) → is_cell r.cell s.cell ≡ false
-        → slot_in records s.cell number at ≡ slot_of s.slots (slot_before s.log number) at
-        → slot_in (r ∷ records) s.cell number at ≡ slot_of s.slots (slot_before s.log number) at
+        → slot_in records s.cell number at ≡ given_slot s.slots (slot_before s.log number) at
+        → slot_in (r ∷ records) s.cell number at ≡ given_slot s.slots (slot_before s.log number) at
     later s number at differ is =
-        ap (λ b. cond b (slot_of r.slots (slot_before r.log number) at) (slot_in records s.cell number at))
+        ap (λ b. cond b (given_slot r.slots (slot_before r.log number) at) (slot_in records s.cell number at))
         (other_way r.cell s.cell differ) ∙ is

@@ -10,7 +10,7 @@ use Rattle.bsc_table.specs.declared.command.Command.{Command}
 use Rattle.bsc_table.specs.declared.entry.Answer.{Answer}
 use Rattle.bsc_table.specs.declared.entry.Entry.{Entry}
 use Rattle.bsc_table.specs.Record.{Record}
-use Rattle.book_runs.specs.Run.{Asked, Exchange, asked_in, asked_of, asked_with, entries_for, slot_of}
+use Rattle.book_runs.specs.Run.{Asked, Exchange, asked_in, asked_of, asked_with, entries_for, given_slot}
 use Rattle.book_runs.proofs.Lists.{all_joined, any_here, any_joined, any_kept, any_later, any_mapped, any_weaker}
 use Rattle.book_runs.proofs.Lists.{any_with, kept_of}
 use Rattle.book_runs.proofs.Logged.{HasLogOf}
@@ -19,7 +19,7 @@ entries_have : (P : Command → Answer → Type 0) (slots clock : ℕ) (asked : 
     → All (λ a. P a.command a.answer) asked → All (λ e. P e.command e.answer) (entries_for slots clock asked)
 entries_have P slots clock [] all = All-nil (λ (e : Entry). P e.command e.answer)
 entries_have P slots clock (a ∷ later) all =
-    let next : ℕ = slot_of slots clock a.at in
+    let next : ℕ = given_slot slots clock a.at in
     All-cons (λ (e : Entry). P e.command e.answer)
     (record { command = a.command; slot = next; answer = a.answer }) (entries_for slots next later)
     (All-head (λ (b : Asked). P b.command b.answer) a later all)
@@ -75,14 +75,14 @@ entered : (P : Command → Answer → Type 0) (slots clock : ℕ) (asked : List 
 entered P slots clock [] some = absurd (omega (arith, some.2))
 entered P slots clock (a ∷ later) (zero, b, within, is, here) =
     any_here (λ (e : Entry). P e.command e.answer)
-    (record { command = a.command; slot = slot_of slots clock a.at; answer = a.answer })
-    (entries_for slots (slot_of slots clock a.at) later)
+    (record { command = a.command; slot = given_slot slots clock a.at; answer = a.answer })
+    (entries_for slots (given_slot slots clock a.at) later)
     (subst (λ (c : Asked). P c.command c.answer) (sym is) here)
 entered P slots clock (a ∷ later) (suc k, b, within, is, here) =
     any_later (λ (e : Entry). P e.command e.answer)
-    (record { command = a.command; slot = slot_of slots clock a.at; answer = a.answer })
-    (entries_for slots (slot_of slots clock a.at) later)
-    (entered P slots (slot_of slots clock a.at) later (k, b, omega (arith, within), is, here))
+    (record { command = a.command; slot = given_slot slots clock a.at; answer = a.answer })
+    (entries_for slots (given_slot slots clock a.at) later)
+    (entered P slots (given_slot slots clock a.at) later (k, b, omega (arith, within), is, here))
 
 pub log_entered : (slots : ℕ) (exchanges : List Exchange) (r : Record) → HasLogOf slots exchanges r
     → (P : Command → Answer → Type 0)

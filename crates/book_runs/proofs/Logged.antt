@@ -11,7 +11,7 @@ use Rattle.cbsp_wire.specs.declared.message.Cell.{Cell}
 use Rattle.bsc_table.specs.Legal.{IsLegal}
 use Rattle.bsc_table.specs.Record.{Record}
 use Rattle.book_runs.specs.Live.{IsRunBy, Order, asked_by}
-use Rattle.book_runs.specs.Run.{Asked, Exchange, IsRunOf, asked_in, asked_of, entries_for}
+use Rattle.book_runs.specs.Run.{Asked, Exchange, IsRunOfBook, asked_in, asked_of, entries_for}
 
 -- a finished legal record with these entries: all of what was asked, and of nothing else
 pub record HasLogOf (slots : ℕ) (exchanges : List Exchange) (r : Record) : Type 0 where
@@ -24,7 +24,7 @@ pub record HasLogOf (slots : ℕ) (exchanges : List Exchange) (r : Record) : Typ
   pub every : All (Contains asked) (asked_of r.cell exchanges)
 
 -- a record of a run of one session is one
-pub log_of_run : (slots : ℕ) (exchanges : List Exchange) (r : Record) → IsRunOf slots exchanges r
+pub log_of_run : (slots : ℕ) (exchanges : List Exchange) (r : Record) → IsRunOfBook slots exchanges r
     → HasLogOf slots exchanges r
 log_of_run slots exchanges r run = record {
   run = run.run;

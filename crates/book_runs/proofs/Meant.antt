@@ -10,7 +10,7 @@ use Rattle.scheduler.specs.Completed.{completed}
 use Rattle.handset.specs.Counting.{whole_in}
 use Rattle.handset.specs.Reception.{ShownMessage, shown_in}
 use Rattle.handset.specs.Tape.{max_slots}
-use Rattle.alert_book.specs.declared.order.Order.{Order}
+use Rattle.alert_book.specs.declared.book.order.Order.{Order}
 use Rattle.alert_book.specs.Book.{Contents}
 use Rattle.alert_book.specs.Texts.{HasUtf8Text}
 use Rattle.alert_book.specs.TurnLaws.{ComesOf}
@@ -23,7 +23,7 @@ use Rattle.book_runs.specs.Live.{IsRunBy}
 use Rattle.book_runs.specs.LiveLaws.{LiveRunsShowTheBook}
 use Rattle.book_runs.specs.Meant.{IsMeantIn, IsOfOrder}
 use Rattle.book_runs.specs.Ordered.{ComesOfExchange}
-use Rattle.book_runs.specs.Run.{Exchange, IsRunOf}
+use Rattle.book_runs.specs.Run.{Exchange, IsRunOfBook}
 use Rattle.book_runs.specs.RunLaws.{RunsShowTheBook}
 use Rattle.book_runs.proofs.Laws.{Laws}
 use Rattle.book_runs.proofs.Lists.{any_weaker, any_with}
@@ -106,7 +106,7 @@ pub runs_show_the_book : Laws → RunsShowTheBook
 runs_show_the_book laws input book slots exchanges records is few run =
     let utf8 = laws.texts_are_utf8 input book is in
     let asked = ordered laws input book 0 1 exchanges is run.session run.exchanged in
-    All-weaker (IsRunOf slots exchanges) (IsMeantIn book)
+    All-weaker (IsRunOfBook slots exchanges) (IsMeantIn book)
     (λ r here. is_meant_in laws book slots exchanges r utf8 asked few (log_of_run slots exchanges r here)) records
     run.each
 

@@ -12,7 +12,7 @@ use Rattle.cbsp_wire.specs.declared.cause.TheConstants.{CELL_IDENTITY_NOT_VALID}
 use Rattle.cbsp_wire.specs.declared.message.Cell.{Cell}
 use Rattle.cbsp_wire.specs.declared.message.Message.{Message}
 use Rattle.cbsp_wire.specs.Range.{is_cell}
-use Rattle.alert_book.specs.declared.request.Request.{Request}
+use Rattle.alert_book.specs.declared.session.request.Request.{Request}
 use Rattle.alert_book.specs.Book.{Contents}
 use Rattle.alert_book.specs.Session.{Standing, after_reply}
 use Rattle.alert_book.specs.Turns.{GoesTo, Turn, begun}
@@ -25,8 +25,9 @@ use Rattle.bsc_table.specs.Orders.{order_of}
 use Rattle.bsc_table.specs.Record.{Record, messages_in}
 use Rattle.order_desk.specs.Reply.{cells_answered, reply_message}
 use Rattle.book_runs.specs.OneRun.{RunsAreOne}
-use Rattle.book_runs.specs.Run.{Asked, Exchange, IsExchange, IsRun, IsRunOf, asked_in, asked_of, entries_for, is_among}
-use Rattle.book_runs.specs.Run.{slot_of}
+use Rattle.book_runs.specs.Run.{Asked, Exchange, IsExchange, IsRun, IsRunOfBook, asked_in, asked_of, entries_for}
+use Rattle.book_runs.specs.Run.{is_among}
+use Rattle.book_runs.specs.Run.{given_slot}
 use Rattle.cbsp_wire.proofs.CellLists.{is_itself, same_cell}
 use Rattle.book_runs.proofs.Laws.{OneRunLaws}
 use Rattle.book_runs.proofs.OneAnswer.{answer_after, answer_is, messages_rise}
@@ -35,14 +36,14 @@ use Rattle.book_runs.proofs.SameBook.{same_turns}
 -- where a cell's clock stands after what it was asked
 abbrev clock_after : (slots clock : ℕ) → List Asked → ℕ
 clock_after slots clock [] = clock
-clock_after slots clock (a ∷ later) = clock_after slots (slot_of slots clock a.at) later
+clock_after slots clock (a ∷ later) = clock_after slots (given_slot slots clock a.at) later
 
 entries-append : (slots clock : ℕ) (before later : List Asked)
     → entries_for slots clock (before ++ later)
     ≡ entries_for slots clock before ++ entries_for slots (clock_after slots clock before) later
 entries-append slots clock [] later = refl
 entries-append slots clock (a ∷ before) later =
-    let next : ℕ = slot_of slots clock a.at in
+    let next : ℕ = given_slot slots clock a.at in
     ap (λ (es : List Entry). record { command = a.command; slot = next; answer = a.answer } ∷ es)
     (entries-append slots next before later)
 
@@ -56,13 +57,13 @@ record HasRecord (slots : ℕ) (asked : List Asked) : Type 0 where
 -- the answer to a command that is asked from a slot on, by what was asked before it
 abbrev answer_to : (slots : ℕ) → List Asked → (at : ℕ) → Command → Answer
 answer_to slots before at command =
-    answer_after slots (entries_for slots 0 before) (slot_of slots (clock_after slots 0 before) at) command
+    answer_after slots (entries_for slots 0 before) (given_slot slots (clock_after slots 0 before) at) command
 
 answer_asked : (laws : OneRunLaws) (slots : ℕ) (before later : List Asked) (a : Asked)
     → HasRecord slots (before ++ a ∷ later)
     → a.answer ≡ answer_to slots before a.at a.command
 answer_asked laws slots before later a has =
-    let at : ℕ = slot_of slots (clock_after slots 0 before) a.at in
+    let at : ℕ = given_slot slots (clock_after slots 0 before) a.at in
     let e : Entry = record { command = a.command; slot = at; answer = a.answer } in
     answer_is laws has.r (entries_for slots 0 before) (entries_for slots at later) e has.legal
     (has.entries ∙ entries-append slots 0 before (a ∷ later))
@@ -240,19 +241,19 @@ same_exchanges laws cells slots from reached end (x ∷ xs) (y ∷ ys) done goes
     ap (λ (z : Exchange). z ∷ xs) first ∙ ap (λ (l : List Exchange). y ∷ l) rest
 
 -- each cell of a run has a record of what its exchanges asked it
-record_of : (slots : ℕ) (exchanges : List Exchange) (records : List Record) → All (IsRunOf slots exchanges) records
+record_of : (slots : ℕ) (exchanges : List Exchange) (records : List Record) → All (IsRunOfBook slots exchanges) records
     → (c : Cell) → is_among (map (λ r. r.cell) records) c ≡ true → HasRecord slots (asked_of c exchanges)
 record_of slots exchanges [] each c own = absurd (both_ways false refl own)
 record_of slots exchanges (r ∷ records) each c own =
     elim (or_cases (is_cell c r.cell) (list_any (is_cell c) (map (λ (s : Record). s.cell) records)) own) [
       | inl same ↦ of_first (same_cell c r.cell same)
       | inr later ↦
-          record_of slots exchanges records (All-tail (IsRunOf slots exchanges) r records each) c later
+          record_of slots exchanges records (All-tail (IsRunOfBook slots exchanges) r records each) c later
     ]
   where
     of_first : c ≡ r.cell → HasRecord slots (asked_of c exchanges)
     of_first is =
-        let run = All-head (IsRunOf slots exchanges) r records each in record {
+        let run = All-head (IsRunOfBook slots exchanges) r records each in record {
           r = r;
           run = run.run;
           legal = run.legal;
@@ -265,7 +266,7 @@ record_with cell slots clock log air = record { cell = cell; slots = slots; cloc
 
 -- and its record is determined by them
 one_record : (laws : OneRunLaws) (slots : ℕ) (exchanges : List Exchange) (r q : Record) → r.cell ≡ q.cell
-    → IsRunOf slots exchanges r → IsRunOf slots exchanges q → r ≡ q
+    → IsRunOfBook slots exchanges r → IsRunOfBook slots exchanges q → r ≡ q
 one_record laws slots exchanges r q cell mine theirs =
     let log : r.log ≡ q.log =
     mine.entries ∙ ap (λ (c : Cell). entries_for slots 0 (asked_of c exchanges)) cell ∙ sym theirs.entries in
@@ -280,8 +281,8 @@ one_record laws slots exchanges r q cell mine theirs =
     ∙ ap (λ (a : Air). record_with q.cell q.slots q.clock q.log a) air
 
 same_records : (laws : OneRunLaws) (slots : ℕ) (exchanges : List Exchange) (records rest : List Record)
-    → map (λ r. r.cell) records ≡ map (λ r. r.cell) rest → All (IsRunOf slots exchanges) records
-    → All (IsRunOf slots exchanges) rest → records ≡ rest
+    → map (λ r. r.cell) records ≡ map (λ r. r.cell) rest → All (IsRunOfBook slots exchanges) records
+    → All (IsRunOfBook slots exchanges) rest → records ≡ rest
 same_records laws slots exchanges [] [] cells mine theirs = refl
 same_records laws slots exchanges [] (q ∷ rest) cells mine theirs = absurd (cc)
 same_records laws slots exchanges (r ∷ records) [] cells mine theirs = absurd (cc)
@@ -289,11 +290,11 @@ same_records laws slots exchanges (r ∷ records) (q ∷ rest) cells mine theirs
     let named : List Record → List Cell = λ all. map (λ (s : Record). s.cell) all in
     let first : r ≡ q = one_record laws slots exchanges r q
     (first_cell r.cell q.cell (named records) (named rest) cells)
-    (All-head (IsRunOf slots exchanges) r records mine) (All-head (IsRunOf slots exchanges) q rest theirs) in
+    (All-head (IsRunOfBook slots exchanges) r records mine) (All-head (IsRunOfBook slots exchanges) q rest theirs) in
     ap (λ (s : Record). s ∷ records) first
     ∙ ap (λ (l : List Record). q ∷ l)
     (same_records laws slots exchanges records rest (later_cells r.cell q.cell (named records) (named rest) cells)
-    (All-tail (IsRunOf slots exchanges) r records mine) (All-tail (IsRunOf slots exchanges) q rest theirs))
+    (All-tail (IsRunOfBook slots exchanges) r records mine) (All-tail (IsRunOfBook slots exchanges) q rest theirs))
 
 -- so a book has one run
 one_run : (laws : OneRunLaws) (book : Contents) (slots : ℕ) (exchanges others : List Exchange)
@@ -311,7 +312,7 @@ one_run laws book slots exchanges others records rest one two =
     one.exchanged two.exchanged asked also in (
       same,
       same_records laws slots others records rest (one.cells ∙ sym two.cells)
-          (subst (λ (xs : List Exchange). All (IsRunOf slots xs) records) same one.each) two.each,
+          (subst (λ (xs : List Exchange). All (IsRunOfBook slots xs) records) same one.each) two.each,
     )
 
 -- a run of a book is one of each book with the same cells, orders and pages

@@ -7,7 +7,7 @@ use Rattle.std.proofs.lemmas.List.Elements.{All-head, All-weaker}
 use Rattle.bsc_table.specs.Record.{Record}
 use Rattle.book_runs.specs.Live.{IsRunBy, Order, asked_by}
 use Rattle.book_runs.specs.LiveLaws.{OneSessionIsARun}
-use Rattle.book_runs.specs.Run.{Asked, Exchange, IsExchange, IsRunOf, entries_for}
+use Rattle.book_runs.specs.Run.{Asked, Exchange, IsExchange, IsRunOfBook, entries_for}
 
 -- where no other part asked anything, the first asked all
 all_of_first : (order : Order) → ((part : ℕ) → asked_by (suc part) order ≡ [])
@@ -46,7 +46,7 @@ all_of_first (a ∷ order) none = elim (cases_Bool (eqb a.0 0)) [
         ∙ none part))
 
 is_run_of : (slots : ℕ) (exchanges : List Exchange) (r : Record) → IsRunBy slots (exchanges ∷ []) r
-    → IsRunOf slots exchanges r
+    → IsRunOfBook slots exchanges r
 is_run_of slots exchanges r by =
     let all = all_of_first by.order (λ part. by.own (suc part)) in record {
       run = by.run;
@@ -60,6 +60,6 @@ one_session_is_a_run book slots exchanges records live = record {
   session = live.turns 0 (omega arith);
   cells = live.cells;
   exchanged = All-head (All (IsExchange book.cells)) exchanges [] live.exchanged;
-  each = All-weaker (IsRunBy slots (exchanges ∷ [])) (IsRunOf slots exchanges)
+  each = All-weaker (IsRunBy slots (exchanges ∷ [])) (IsRunOfBook slots exchanges)
       (λ r by. is_run_of slots exchanges r by) records live.each;
 }

@@ -9,7 +9,7 @@ use Rattle.std.proofs.lemmas.Option.{slice_get-get_or}
 use Rattle.cbs_page.specs.Text.{text_of_page}
 use Rattle.cbsp_wire.specs.declared.message.Cell.{Cell}
 use Rattle.cbsp_wire.specs.Range.{is_cell}
-use Rattle.alert_book.specs.declared.order.Order.{Order}
+use Rattle.alert_book.specs.declared.book.order.Order.{Order}
 use Rattle.alert_book.specs.Book.{Contents, IsBook}
 use Rattle.alert_book.specs.Texts.{HasUtf8Text}
 use Rattle.alert_book.specs.TurnLaws.{ComesOf}
@@ -29,7 +29,7 @@ use Rattle.book_runs.specs.LiveLaws.{LiveRunsAcceptWhatWasOrdered}
 use Rattle.book_runs.specs.Meant.{IsOfOrder}
 use Rattle.book_runs.specs.Ordered.{AreThoseStarted, ComesOfExchange, HasAccepted, RunsAcceptWhatWasOrdered}
 use Rattle.book_runs.specs.Ordered.{StartsMessage}
-use Rattle.book_runs.specs.Run.{Exchange, IsExchange, IsRunOf}
+use Rattle.book_runs.specs.Run.{Exchange, IsExchange, IsRunOfBook}
 use Rattle.book_runs.proofs.Accepted.{accepted_of}
 use Rattle.book_runs.proofs.Entries.{IsOfExchange, log_entered, log_has}
 use Rattle.book_runs.proofs.Laws.{Laws}
@@ -146,7 +146,7 @@ pub runs_accept_what_was_ordered : Laws → RunsAcceptWhatWasOrdered
 runs_accept_what_was_ordered laws input book slots exchanges records is run =
     let utf8 = laws.texts_are_utf8 input book is in
     let asked = ordered laws input book 0 1 exchanges is run.session run.exchanged in
-    All-weaker (IsRunOf slots exchanges) (AreThoseStarted book exchanges)
+    All-weaker (IsRunOfBook slots exchanges) (AreThoseStarted book exchanges)
     (λ r here. are_those_started laws book slots exchanges r utf8 asked (log_of_run slots exchanges r here)) records
     run.each
 

@@ -9,7 +9,7 @@ use Rattle.std.proofs.lemmas.List.Elements.{All-filter, All-head, All-weaker, fi
 use Rattle.std.proofs.lemmas.Option.{slice_get_within}
 use Rattle.bsc_table.specs.declared.entry.Entry.{Entry}
 use Rattle.book_runs.specs.Live.{Order, asked_by}
-use Rattle.book_runs.specs.Run.{Asked, entries_for, slot_of}
+use Rattle.book_runs.specs.Run.{Asked, entries_for, given_slot}
 use Rattle.book_runs.specs.Sessions.{slot_before, slot_of_entry}
 use Rattle.book_runs.proofs.Numbered.{Rise, all_from, from_next, items_at, items_from, no_item, none_from, numbers_of}
 use Rattle.book_runs.proofs.Numbered.{only_item}
@@ -18,7 +18,7 @@ use Rattle.book_runs.proofs.Numbered.{only_item}
 abbrev pub entry_of : (slots : ℕ) → List Entry → ℕ × Asked → Entry
 entry_of slots log x = record {
   command = x.1.command;
-  slot = slot_of slots (slot_before log x.0) x.1.at;
+  slot = given_slot slots (slot_before log x.0) x.1.at;
   answer = x.1.answer;
 }
 

@@ -9,13 +9,13 @@ use Rattle.std.proofs.lemmas.List.{length-map}
 use Rattle.std.proofs.lemmas.List.Elements.{All-weaker}
 use Rattle.cbsp_wire.specs.declared.message.Cell.{Cell}
 use Rattle.cbsp_wire.specs.Range.{is_cell}
-use Rattle.alert_book.specs.declared.order.Order.{Order as BookOrder}
+use Rattle.alert_book.specs.declared.book.order.Order.{Order as BookOrder}
 use Rattle.bsc_table.specs.Record.{Record}
 use Rattle.order_desk.specs.declared.note.Note.{Note}
 use Rattle.order_desk.specs.declared.note.Note.TheVariants as notes
 use Rattle.order_desk.specs.Agreement.{is_full_of}
 use Rattle.book_runs.specs.Live.{Order, asked_by}
-use Rattle.book_runs.specs.Run.{Asked, Exchange, asked_of, entries_for, slot_of}
+use Rattle.book_runs.specs.Run.{Asked, Exchange, asked_of, entries_for, given_slot}
 use Rattle.book_runs.specs.Sessions.{asks_of, is_of_command}
 use Rattle.book_runs.proofs.Logged.{each_asked}
 use Rattle.book_runs.proofs.Noted.{asks_of_cell}
@@ -50,7 +50,7 @@ marks_below parts order none = All-weaker (λ (a : ℕ × Asked). Contains (aske
 
 as_many_entries : (slots clock : ℕ) (asked : List Asked) → length (entries_for slots clock asked) ≡ length asked
 as_many_entries slots clock [] = refl
-as_many_entries slots clock (a ∷ asked) = ap suc (as_many_entries slots (slot_of slots clock a.at) asked)
+as_many_entries slots clock (a ∷ asked) = ap suc (as_many_entries slots (given_slot slots clock a.at) asked)
 
 -- so its log has at most as many entries as the book has orders
 pub log_few : (s : Service) (r : Record) → IsAskedOf s r

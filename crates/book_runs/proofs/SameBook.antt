@@ -8,15 +8,15 @@ use Rattle.cbs_page.specs.declared.paging.Paged.{Paged}
 use Rattle.cbsp_wire.specs.declared.message.Cell.{Cell}
 use Rattle.cbsp_wire.specs.declared.message.Message.{Message}
 use Rattle.cbsp_wire.specs.declared.message.Message.TheVariants as messages
-use Rattle.alert_book.specs.declared.order.Action.{Action}
-use Rattle.alert_book.specs.declared.order.Action.TheVariants as action
-use Rattle.alert_book.specs.declared.order.Order.{Order}
-use Rattle.alert_book.specs.declared.order.Sending.{Sending}
-use Rattle.alert_book.specs.declared.request.Request.{Request}
-use Rattle.alert_book.specs.declared.request.Target.{Target}
+use Rattle.alert_book.specs.declared.book.order.Action.{Action}
+use Rattle.alert_book.specs.declared.book.order.Action.TheVariants as action
+use Rattle.alert_book.specs.declared.book.order.Order.{Order}
+use Rattle.alert_book.specs.declared.book.order.Sending.{Sending}
+use Rattle.alert_book.specs.declared.session.request.Request.{Request}
+use Rattle.alert_book.specs.declared.session.request.Target.{Target}
 use Rattle.alert_book.specs.Book.{Contents}
 use Rattle.alert_book.specs.Laws.{HaveSamePages}
-use Rattle.alert_book.specs.Session.{Replied, Standing, advanced, after_reply, due_requests, first_requests}
+use Rattle.alert_book.specs.Session.{Replied, Standing, advanced, after_reply, due_requests, next_requests}
 use Rattle.alert_book.specs.Session.{found_first, is_of_part, orders_from, orders_with, outcome_in, replies_with}
 use Rattle.alert_book.specs.Session.{request_with}
 use Rattle.alert_book.specs.Session.{requests_by, requests_of, serial_if, serial_of, session_of, standing_with}
@@ -80,7 +80,7 @@ same_first [] left also later more same rest = rest
 same_first (request ∷ due) left also later more same rest = (refl, same)
 
 same_found : (live : ℕ → Cell → Option ℕ) (left also : List (Order × Option Paged)) → AreSameLeft left also
-    → IsSameFound (first_requests live left) (first_requests live also)
+    → IsSameFound (next_requests live left) (next_requests live also)
 same_found live [] [] same = (refl, tt)
 same_found live [] (b ∷ also) same = absurd same
 same_found live (a ∷ left) [] same = absurd same
@@ -88,9 +88,9 @@ same_found live (a ∷ left) (b ∷ also) same =
     let requests : requests_of live a.0 a.1 ≡ requests_of live b.0 b.1 =
     same_requests live a.0 a.0.action a.1 b.1 same.0.1
     ∙ ap (λ (order : Order). requests_of live order b.1) same.0.0 in
-    subst (λ (due : List Request). IsSameFound (first_requests live (a ∷ left))
-    (found_first due also (first_requests live also))) requests
-    (same_first (requests_of live a.0 a.1) left also (first_requests live left) (first_requests live also) same.1
+    subst (λ (due : List Request). IsSameFound (next_requests live (a ∷ left))
+    (found_first due also (next_requests live also))) requests
+    (same_first (requests_of live a.0 a.1) left also (next_requests live left) (next_requests live also) same.1
     (same_found live left also same.1))
 
 same_due : (live : ℕ → Cell → Option ℕ) (due : List Request) (left also : List (Order × Option Paged))

@@ -11,9 +11,9 @@ use Rattle.cbsp_wire.specs.declared.message.Cell.{Cell}
 use Rattle.cbsp_wire.specs.declared.message.Message.{Message}
 use Rattle.cbsp_wire.specs.declared.message.Message.TheVariants as messages
 use Rattle.cbsp_wire.specs.Written.{bodies_in, octets_of_message}
-use Rattle.alert_book.specs.declared.order.Action.TheVariants as action
-use Rattle.alert_book.specs.declared.order.Order.{Order}
-use Rattle.alert_book.specs.declared.request.Request.{Request}
+use Rattle.alert_book.specs.declared.book.order.Action.TheVariants as action
+use Rattle.alert_book.specs.declared.book.order.Order.{Order}
+use Rattle.alert_book.specs.declared.session.request.Request.{Request}
 use Rattle.alert_book.specs.Book.{Contents}
 use Rattle.alert_book.specs.Cells.{cell_with}
 use Rattle.alert_book.specs.Fields.{alert_with, sending_with}

@@ -6,8 +6,8 @@ use Rattle.scheduler.specs.Message.{IsBeforeStop}
 use Rattle.handset.specs.Reception.{ShownMessage, shown_in}
 use Rattle.handset.specs.Counting.{whole_in}
 use Rattle.handset.specs.Tape.{IsTape}
-use Rattle.alert_book.specs.declared.order.Order.{Order}
-use Rattle.alert_book.specs.declared.order.Sending.{Sending}
+use Rattle.alert_book.specs.declared.book.order.Order.{Order}
+use Rattle.alert_book.specs.declared.book.order.Sending.{Sending}
 use Rattle.alert_book.specs.Book.{Contents, sending_of}
 use Rattle.alert_book.specs.Session.{serial_of}
 use Rattle.alert_book.specs.TurnLaws.{version_of}

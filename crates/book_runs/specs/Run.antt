@@ -52,8 +52,8 @@ asked_of cell exchanges = flat_map (asked_in cell) exchanges
 
 -- the slot of a command that is asked from a slot on, where the cell's clock stands at another: the later of the two,
 -- or the run's end where that is less
-abbrev pub slot_of : (slots clock at : ℕ) → ℕ
-slot_of slots clock at = min slots (max at clock)
+abbrev pub given_slot : (slots clock at : ℕ) → ℕ
+given_slot slots clock at = min slots (max at clock)
 
 -- the entries of what a cell was asked: one for each command, in order, with its answer. Each is at the least slot that
 -- is neither before the one from which it was asked nor before the entry before it, or at the run's end where that is
@@ -61,12 +61,12 @@ slot_of slots clock at = min slots (max at clock)
 abbrev pub entries_for : (slots clock : ℕ) → List Asked → List Entry
 entries_for slots clock [] = []
 entries_for slots clock (a ∷ later) =
-    record { command = a.command; slot = slot_of slots clock a.at; answer = a.answer }
-    ∷ entries_for slots (slot_of slots clock a.at) later
+    record { command = a.command; slot = given_slot slots clock a.at; answer = a.answer }
+    ∷ entries_for slots (given_slot slots clock a.at) later
 
 -- the record of one cell of the run: a legal history of all its slots, whose log has the entries of what the cell was
 -- asked, and no others
-pub record IsRunOf (slots : ℕ) (exchanges : List Exchange) (r : Record) : Type 0 where
+pub record IsRunOfBook (slots : ℕ) (exchanges : List Exchange) (r : Record) : Type 0 where
   pub run : r.slots ≡ slots
   pub over : r.clock ≡ slots
   pub legal : IsLegal r
@@ -77,4 +77,4 @@ pub record IsRun (book : Contents) (slots : ℕ) (exchanges : List Exchange) (re
   pub session : AreTurnsOf book 0 1 (map (λ x. x.turn) exchanges)
   pub cells : map (λ r. r.cell) records ≡ book.cells
   pub exchanged : All (IsExchange book.cells) exchanges
-  pub each : All (IsRunOf slots exchanges) records
+  pub each : All (IsRunOfBook slots exchanges) records

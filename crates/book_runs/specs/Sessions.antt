@@ -13,7 +13,7 @@ use Rattle.bsc_table.specs.declared.entry.Entry.{Entry}
 use Rattle.bsc_table.specs.Record.{Record}
 use Rattle.order_desk.specs.declared.note.Note.{Note}
 use Rattle.order_desk.specs.declared.note.Note.TheVariants as notes
-use Rattle.book_runs.specs.Run.{Asked, Exchange, IsExchange, asked_with, is_among, slot_of}
+use Rattle.book_runs.specs.Run.{Asked, Exchange, IsExchange, asked_with, is_among, given_slot}
 
 -- what a turn asks of the run's cells, each with its cell, in the order of the message; and what all turns ask of them
 abbrev pub asks_in : List Cell → Exchange → List (Cell × Asked)
@@ -43,7 +43,7 @@ slot_before log (suc number) = slot_of_entry (slice_get log number)
 abbrev pub slot_in : List Record → Cell → (number at : ℕ) → ℕ
 slot_in [] cell number at = 0
 slot_in (r ∷ later) cell number at =
-    if is_cell cell r.cell then slot_of r.slots (slot_before r.log number) at else slot_in later cell number at
+    if is_cell cell r.cell then given_slot r.slots (slot_before r.log number) at else slot_in later cell number at
 
 -- a note is of what a cell was asked: of the entry of the command, with the cell's answer, at its slot; or of the full
 -- log of a cell that answered so

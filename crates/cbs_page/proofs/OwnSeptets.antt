@@ -1,7 +1,9 @@
 -- Texts of characters that are one septet of their own numbers: the octets of the text are its septets, and its pages
 -- are its octets, 93 at a time.
-use Rattle.std.proofs.Common.{◌≡◌, ◌≢◌, ℕ, ◌+◌, ◌*◌, ◌<◌, ◌≤◌, zero, suc, Option, Some, None, List, [], ◌∷◌, ◌++◌, length}
-use Rattle.std.proofs.Common.{Bool, true, false, not, eqb, refl, sym, ap, ◌∙◌, arith, inl, inr, take, drop, subst, append_assoc}
+use Rattle.std.proofs.Common.{◌≡◌, ◌≢◌, ℕ, ◌+◌, ◌*◌, ◌<◌, ◌≤◌, zero, suc, Option, Some, None, List, [], ◌∷◌, ◌++◌}
+use Rattle.std.proofs.Common.{length}
+use Rattle.std.proofs.Common.{Bool, true, false, not, eqb, refl, sym, ap, ◌∙◌, arith, inl, inr, take, drop, subst}
+use Rattle.std.proofs.Common.{append_assoc}
 use Rattle.std.proofs.Common.{append-nil, length-append, below_more}
 use Rattle.std.specs.Prelude.{◌&&◌, ◌||◌, is_some, position}
 use Rattle.std.specs.List.{list_all, position_from, AllByRecursion}
@@ -120,7 +122,8 @@ pub record HasClosed (octets rest : List ℕ) (contents : List Content) : Type 0
 pub HasClosed-none : (octets : List ℕ) → HasClosed octets octets []
 HasClosed-none octets = record { closed = []; held = tt; cut = refl }
 
-pub HasClosed-more : (octets rest : List ℕ) (contents : List Content) (content : Content) → HasClosed octets rest contents
+pub HasClosed-more : (octets rest : List ℕ) (contents : List Content) (content : Content) →
+    HasClosed octets rest contents
     → list_all is_own_septet rest ≡ true → 93 < length rest → IsContentOf Gsm (take 93 rest) content
     → HasClosed octets (drop 93 rest) (contents ++ content ∷ [])
 HasClosed-more octets rest contents content had all more here =
@@ -131,7 +134,8 @@ HasClosed-more octets rest contents content had all more here =
           ∙ ap (λ cuts. had.closed ++ cuts) (sym (cuts_more 93 [] rest all refl more)) ∙ had.cut;
     }
 
-pub HasClosed-end : (octets rest : List ℕ) (contents : List Content) (content : Content) → HasClosed octets rest contents
+pub HasClosed-end : (octets rest : List ℕ) (contents : List Content) (content : Content) →
+    HasClosed octets rest contents
     → list_all is_own_septet rest ≡ true → length rest ≤ 93 → IsContentOf Gsm rest content
     → AreContentsOf Gsm (cuts_from (codes_of Gsm) 93 [] octets) (contents ++ content ∷ [])
 HasClosed-end octets rest contents content had all few here =

@@ -1,7 +1,8 @@
 //! The pages of a text: which alphabet it gets, how it is cut, and what each page holds (3GPP TS 23.041, clause
 //! 9.4.1.2.5; the cutting is this project's own: each page takes all that it can, and an escape pair is never split).
 
-ghost use Rattle.std.specs.Prelude.{◌≡◌, ◌≢◌, ℕ, ◌≤◌, List, [], ◌∷◌, true, length, nat_lt, IfOk, IfErr, position, is_some};
+ghost use Rattle.std.specs.Prelude.{◌≡◌, ◌≢◌, ℕ, ◌≤◌, List, [], ◌∷◌, true, length, nat_lt, IfOk, IfErr, position};
+ghost use Rattle.std.specs.Prelude.{is_some};
 ghost use Rattle.std.specs.List.{list_all};
 ghost use Rattle.std.specs.Str.{chars};
 ghost use Rattle.gsm_alphabet.specs.Alphabet.{code_of};

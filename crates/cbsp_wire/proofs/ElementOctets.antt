@@ -4,7 +4,7 @@ use Rattle.std.proofs.Common.{◌∙◌, arith, append_assoc, length-append}
 use Rattle.std.specs.List.{flat_map}
 use Rattle.std.proofs.lemmas.List.{append-nil, set-append_right}
 use Rattle.std.proofs.lemmas.List.Concat.{flat_map-cons}
-use Rattle.cbsp_wire.specs.declared.item.Discriminator.{Discriminator}
+use Rattle.cbsp_wire.specs.declared.lists.item.Discriminator.{Discriminator}
 use Rattle.cbsp_wire.specs.Element.{Element, octets_of_elements}
 use Rattle.cbsp_wire.specs.Value.{Fields}
 use Rattle.cbsp_wire.specs.Written.{bodies_in, list_head, list_bodies, element, elements_among}

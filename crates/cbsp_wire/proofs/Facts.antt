@@ -4,8 +4,8 @@ use Rattle.std.proofs.Common.{Some, None, refl}
 use Rattle.std.specs.Prelude.{◌||◌, not, nat_le, IfSome}
 use Rattle.std.specs.List.{AllByRecursion, list_all}
 use Rattle.std.proofs.lemmas.Bool.{eqb-true, eqb-false, leb-true, le-leb}
-use Rattle.cbsp_wire.specs.declared.message_type.Presence.{Presence}
-use Rattle.cbsp_wire.specs.declared.message_type.Presence.TheVariants as presences
+use Rattle.cbsp_wire.specs.declared.message.message_type.Presence.{Presence}
+use Rattle.cbsp_wire.specs.declared.message.message_type.Presence.TheVariants as presences
 use Rattle.cbsp_wire.proofs.Tests.{and_both, list_all-parts}
 use Rattle.cbsp_wire.specs.Range.{is_there_if, passes}
 

@@ -5,12 +5,12 @@ use Rattle.std.specs.Prelude.{◌&&◌, ◌%◌, not, nat_le}
 use Rattle.std.specs.List.{AllByRecursion, list_all}
 use Rattle.std.proofs.lemmas.Bool.{eqb-true}
 use Rattle.cbs_page.specs.declared.content.Content.{Content}
-use Rattle.cbsp_wire.specs.declared.item.Discriminator.{Discriminator}
-use Rattle.cbsp_wire.specs.declared.item.Discriminator.TheVariants as discriminators
-use Rattle.cbsp_wire.specs.declared.message_type.MessageType.{MessageType}
-use Rattle.cbsp_wire.specs.declared.message_type.MessageType.TheVariants as types
-use Rattle.cbsp_wire.specs.declared.message_type.Presence.{Presence}
-use Rattle.cbsp_wire.specs.declared.message_type.Presence.TheVariants as presences
+use Rattle.cbsp_wire.specs.declared.lists.item.Discriminator.{Discriminator}
+use Rattle.cbsp_wire.specs.declared.lists.item.Discriminator.TheVariants as discriminators
+use Rattle.cbsp_wire.specs.declared.message.message_type.MessageType.{MessageType}
+use Rattle.cbsp_wire.specs.declared.message.message_type.MessageType.TheVariants as types
+use Rattle.cbsp_wire.specs.declared.message.message_type.Presence.{Presence}
+use Rattle.cbsp_wire.specs.declared.message.message_type.Presence.TheVariants as presences
 use Rattle.cbsp_wire.specs.declared.message.Cell.{Cell}
 use Rattle.cbsp_wire.specs.declared.message.Count.{Count}
 use Rattle.cbsp_wire.specs.declared.message.Failure.{Failure}

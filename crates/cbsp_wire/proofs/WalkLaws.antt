@@ -4,11 +4,11 @@ use Rattle.std.proofs.Common.{drop, Result, Ok, Err, refl, sym, ap, subst, â—Œâˆ
 use Rattle.std.specs.List.{AllByRecursion}
 use Rattle.std.proofs.lemmas.List.{length-append, take_at, drop_at, take-append-drop}
 use Rattle.std.proofs.lemmas.Bool.{ltb-false, le-ltb}
-use Rattle.cbsp_wire.specs.declared.message_type.MessageType.{MessageType}
-use Rattle.cbsp_wire.specs.declared.message_type.Presence.{Presence}
-use Rattle.cbsp_wire.specs.declared.message_type.Presence.TheVariants as presences
-use Rattle.cbsp_wire.specs.declared.elements.WalkEnd.{WalkEnd}
-use Rattle.cbsp_wire.specs.declared.elements.WalkEnd.TheVariants.{Complete, CutOff}
+use Rattle.cbsp_wire.specs.declared.message.message_type.MessageType.{MessageType}
+use Rattle.cbsp_wire.specs.declared.message.message_type.Presence.{Presence}
+use Rattle.cbsp_wire.specs.declared.message.message_type.Presence.TheVariants as presences
+use Rattle.cbsp_wire.specs.declared.reading.elements.WalkEnd.{WalkEnd}
+use Rattle.cbsp_wire.specs.declared.reading.elements.WalkEnd.TheVariants.{Complete, CutOff}
 use Rattle.cbsp_wire.specs.Element.{Element, octets_of_elements}
 use Rattle.cbsp_wire.specs.Table.{presence_of, size_of}
 use Rattle.cbsp_wire.specs.Walk.{body_at, element_at, front_of, Walk, walk_of}

@@ -4,11 +4,11 @@ use Rattle.std.proofs.Common.{◌∷◌, ◌++◌, length, take, drop, ◌*◌, 
 use Rattle.std.proofs.Common.{arith}
 use Rattle.std.proofs.lemmas.List.{length-drop, length-take}
 use Rattle.std.proofs.lemmas.Bool.{ne_eqb}
-use Rattle.cbsp_wire.specs.declared.message_type.MessageType.{MessageType}
-use Rattle.cbsp_wire.specs.declared.message_type.Presence.{Presence}
-use Rattle.cbsp_wire.specs.declared.message_type.Presence.TheVariants as presences
-use Rattle.cbsp_wire.specs.declared.elements.WalkEnd.{WalkEnd}
-use Rattle.cbsp_wire.specs.declared.elements.WalkEnd.TheVariants.{Complete, CutOff}
+use Rattle.cbsp_wire.specs.declared.message.message_type.MessageType.{MessageType}
+use Rattle.cbsp_wire.specs.declared.message.message_type.Presence.{Presence}
+use Rattle.cbsp_wire.specs.declared.message.message_type.Presence.TheVariants as presences
+use Rattle.cbsp_wire.specs.declared.reading.elements.WalkEnd.{WalkEnd}
+use Rattle.cbsp_wire.specs.declared.reading.elements.WalkEnd.TheVariants.{Complete, CutOff}
 use Rattle.cbsp_wire.specs.Element.{Element, bodies_of, u16_from_be}
 use Rattle.cbsp_wire.specs.Table.{presence_of, size_of, size_by, size_in, row_in, table, Row, Size, Fixed, Listed}
 use Rattle.cbsp_wire.specs.Walk.{body_at, element_at, front_of, Walk, then_walk, walk_within, walk_of}

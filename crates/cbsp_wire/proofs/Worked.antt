@@ -1,7 +1,7 @@
 -- The definitions, computed on worked octets.
 use Rattle.std.proofs.Common.{◌≡◌, ℕ, List, [], ◌∷◌, map, Some, None, refl}
 use Rattle.cbsp_wire.specs.declared.fault.WireFault.TheVariants.{Truncated, TrailingBytes, Cause}
-use Rattle.cbsp_wire.specs.declared.message_type.MessageType.TheVariants as types
+use Rattle.cbsp_wire.specs.declared.message.message_type.MessageType.TheVariants as types
 use Rattle.cbsp_wire.specs.declared.message.Cell.{Cell}
 use Rattle.cbsp_wire.specs.declared.message.Count.{Count}
 use Rattle.cbsp_wire.specs.declared.message.Failure.{Failure}

@@ -1,7 +1,7 @@
 -- What follows from the definitions alone: octets mean one message at most, and what is written is read back. Own.
 use Rattle.std.specs.Prelude.{◌≡◌, ◌↔◌, ℕ, List, true, None}
 use Rattle.cbsp_wire.specs.declared.message.Message.{Message}
-use Rattle.cbsp_wire.specs.declared.message_type.MessageType.{MessageType}
+use Rattle.cbsp_wire.specs.declared.message.message_type.MessageType.{MessageType}
 use Rattle.cbsp_wire.specs.Element.{Element}
 use Rattle.cbsp_wire.specs.Meaning.{IsMessage}
 use Rattle.cbsp_wire.specs.Range.{has_mandatory, elements_are_valid, is_writable}

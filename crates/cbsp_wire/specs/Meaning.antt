@@ -2,8 +2,8 @@
 -- project's own layouts.
 use Rattle.std.specs.Prelude.{◌≡◌, ℕ, List, ◌∷◌, length}
 use Rattle.std.specs.List.{AllByRecursion}
-use Rattle.cbsp_wire.specs.declared.message_type.MessageType.{MessageType}
-use Rattle.cbsp_wire.specs.declared.message_type.Presence.TheVariants as presences
+use Rattle.cbsp_wire.specs.declared.message.message_type.MessageType.{MessageType}
+use Rattle.cbsp_wire.specs.declared.message.message_type.Presence.TheVariants as presences
 use Rattle.cbsp_wire.specs.declared.fault.WireFault.{WireFault}
 use Rattle.cbsp_wire.specs.declared.fault.WireFault.TheVariants.{Truncated, TrailingBytes, Cause, Refused}
 use Rattle.cbsp_wire.specs.declared.message.Message.{Message}

@@ -4,11 +4,11 @@ use Rattle.std.specs.Prelude.{ℕ, ◌%◌, Bool, true, false, ◌==◌, ◌&&�
 use Rattle.std.specs.Prelude.{Option, Some, None, is_some}
 use Rattle.std.specs.List.{list_all, list_any}
 use Rattle.cbs_page.specs.Coding.{alphabet_of}
-use Rattle.cbsp_wire.specs.declared.message_type.MessageType.{MessageType}
-use Rattle.cbsp_wire.specs.declared.message_type.Presence.{Presence}
-use Rattle.cbsp_wire.specs.declared.message_type.Presence.TheVariants as presences
-use Rattle.cbsp_wire.specs.declared.item.Discriminator.{Discriminator}
-use Rattle.cbsp_wire.specs.declared.item.Discriminator.TheVariants as discriminators
+use Rattle.cbsp_wire.specs.declared.message.message_type.MessageType.{MessageType}
+use Rattle.cbsp_wire.specs.declared.message.message_type.Presence.{Presence}
+use Rattle.cbsp_wire.specs.declared.message.message_type.Presence.TheVariants as presences
+use Rattle.cbsp_wire.specs.declared.lists.item.Discriminator.{Discriminator}
+use Rattle.cbsp_wire.specs.declared.lists.item.Discriminator.TheVariants as discriminators
 use Rattle.cbsp_wire.specs.declared.message.Cell.{Cell}
 use Rattle.cbsp_wire.specs.declared.message.Count.{Count}
 use Rattle.cbsp_wire.specs.declared.message.Failure.{Failure}
@@ -17,10 +17,11 @@ use Rattle.cbs_page.specs.declared.content.Content.{Content}
 use Rattle.cbsp_wire.specs.Element.{Element, bodies_of}
 use Rattle.cbsp_wire.specs.Table.{presence_of}
 use Rattle.cbsp_wire.specs.Value.{items_of, Fields, fields_in, fields_of, type_of}
-use Rattle.cbsp_wire.specs.declared.iei.TheConstants.{MESSAGE_CONTENT, OLD_SERIAL_NUMBER, NEW_SERIAL_NUMBER, CELL_LIST}
-use Rattle.cbsp_wire.specs.declared.iei.TheConstants.{CATEGORY, REPETITION_PERIOD, BROADCASTS_REQUESTED}
-use Rattle.cbsp_wire.specs.declared.iei.TheConstants.{BROADCASTS_COMPLETED, FAILURE_LIST, DATA_CODING}
-use Rattle.cbsp_wire.specs.declared.iei.TheConstants.{MESSAGE_IDENTIFIER, CHANNEL_INDICATOR, NUMBER_OF_PAGES}
+use Rattle.cbsp_wire.specs.declared.message.iei.TheConstants.{MESSAGE_CONTENT, OLD_SERIAL_NUMBER, NEW_SERIAL_NUMBER}
+use Rattle.cbsp_wire.specs.declared.message.iei.TheConstants.{CELL_LIST}
+use Rattle.cbsp_wire.specs.declared.message.iei.TheConstants.{CATEGORY, REPETITION_PERIOD, BROADCASTS_REQUESTED}
+use Rattle.cbsp_wire.specs.declared.message.iei.TheConstants.{BROADCASTS_COMPLETED, FAILURE_LIST, DATA_CODING}
+use Rattle.cbsp_wire.specs.declared.message.iei.TheConstants.{MESSAGE_IDENTIFIER, CHANNEL_INDICATOR, NUMBER_OF_PAGES}
 
 -- the elements of messages, in the table's order
 abbrev pub numbers : List ℕ

@@ -3,12 +3,13 @@
 use Rattle.std.specs.Prelude.{◌≡◌, ◌≢◌, ℕ, ◌%◌, ◌≤◌, true, List, [], length, IfSome, is_some}
 use Rattle.std.specs.List.{AllByRecursion, AllPairs}
 use Rattle.cbs_page.specs.Coding.{alphabet_of}
-use Rattle.cbsp_wire.specs.declared.item.Discriminator.{Discriminator}
-use Rattle.cbsp_wire.specs.declared.item.Discriminator.TheVariants as discriminators
+use Rattle.cbsp_wire.specs.declared.lists.item.Discriminator.{Discriminator}
+use Rattle.cbsp_wire.specs.declared.lists.item.Discriminator.TheVariants as discriminators
 use Rattle.cbsp_wire.specs.declared.message.Cell.{Cell}
-use Rattle.cbsp_wire.specs.declared.message_type.MessageType.{MessageType}
-use Rattle.cbsp_wire.specs.declared.message_type.Presence.TheVariants as presences
-use Rattle.cbsp_wire.specs.declared.iei.TheConstants.{MESSAGE_CONTENT, CELL_LIST, BROADCASTS_COMPLETED, FAILURE_LIST}
+use Rattle.cbsp_wire.specs.declared.message.message_type.MessageType.{MessageType}
+use Rattle.cbsp_wire.specs.declared.message.message_type.Presence.TheVariants as presences
+use Rattle.cbsp_wire.specs.declared.message.iei.TheConstants.{MESSAGE_CONTENT, CELL_LIST, BROADCASTS_COMPLETED}
+use Rattle.cbsp_wire.specs.declared.message.iei.TheConstants.{FAILURE_LIST}
 use Rattle.cbsp_wire.specs.Element.{Element, bodies_of}
 use Rattle.cbsp_wire.specs.Table.{presence_of}
 use Rattle.cbsp_wire.specs.Value.{items_of, Fields, fields_in}

@@ -1,20 +1,21 @@
 -- The value of a message, found by looking elements up. 3GPP TS 48.049, clause 8.2, in this project's own layouts.
 use Rattle.std.specs.Prelude.{ℕ, ◌+◌, ◌*◌, List, [], ◌∷◌, length, map, Option, Some, None, unwrap_or}
 use Rattle.cbs_page.specs.declared.content.Content.{Content}
-use Rattle.cbsp_wire.specs.declared.message_type.MessageType.{MessageType}
-use Rattle.cbsp_wire.specs.declared.message_type.MessageType.TheVariants as types
-use Rattle.cbsp_wire.specs.declared.item.Discriminator.{Discriminator}
-use Rattle.cbsp_wire.specs.declared.item.Discriminator.TheVariants as discriminators
+use Rattle.cbsp_wire.specs.declared.message.message_type.MessageType.{MessageType}
+use Rattle.cbsp_wire.specs.declared.message.message_type.MessageType.TheVariants as types
+use Rattle.cbsp_wire.specs.declared.lists.item.Discriminator.{Discriminator}
+use Rattle.cbsp_wire.specs.declared.lists.item.Discriminator.TheVariants as discriminators
 use Rattle.cbsp_wire.specs.declared.message.Cell.{Cell}
 use Rattle.cbsp_wire.specs.declared.message.Count.{Count}
 use Rattle.cbsp_wire.specs.declared.message.Failure.{Failure}
 use Rattle.cbsp_wire.specs.declared.message.Message.{Message}
 use Rattle.cbsp_wire.specs.declared.message.Message.TheVariants as messages
 use Rattle.cbsp_wire.specs.Element.{Element, bodies_of, u16_from_be, first_octet}
-use Rattle.cbsp_wire.specs.declared.iei.TheConstants.{MESSAGE_CONTENT, OLD_SERIAL_NUMBER, NEW_SERIAL_NUMBER, CELL_LIST}
-use Rattle.cbsp_wire.specs.declared.iei.TheConstants.{CATEGORY, REPETITION_PERIOD, BROADCASTS_REQUESTED}
-use Rattle.cbsp_wire.specs.declared.iei.TheConstants.{BROADCASTS_COMPLETED, FAILURE_LIST, DATA_CODING}
-use Rattle.cbsp_wire.specs.declared.iei.TheConstants.{MESSAGE_IDENTIFIER, CHANNEL_INDICATOR, NUMBER_OF_PAGES}
+use Rattle.cbsp_wire.specs.declared.message.iei.TheConstants.{MESSAGE_CONTENT, OLD_SERIAL_NUMBER, NEW_SERIAL_NUMBER}
+use Rattle.cbsp_wire.specs.declared.message.iei.TheConstants.{CELL_LIST}
+use Rattle.cbsp_wire.specs.declared.message.iei.TheConstants.{CATEGORY, REPETITION_PERIOD, BROADCASTS_REQUESTED}
+use Rattle.cbsp_wire.specs.declared.message.iei.TheConstants.{BROADCASTS_COMPLETED, FAILURE_LIST, DATA_CODING}
+use Rattle.cbsp_wire.specs.declared.message.iei.TheConstants.{MESSAGE_IDENTIFIER, CHANNEL_INDICATOR, NUMBER_OF_PAGES}
 
 -- the number, or the octet, of the first body
 abbrev pub first_body_u16 : List (List ℕ) → Option ℕ

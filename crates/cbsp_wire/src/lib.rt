@@ -7,19 +7,11 @@
 
 pub mod cause;
 pub mod cells;
-mod cursor;
-mod elements;
 pub mod fault;
-mod fields;
-mod iei;
-mod item;
 mod laws;
 mod lists;
 pub mod message;
-mod message_type;
-mod range;
 mod reading;
-mod value;
 mod writing;
 
 pub use fault::WireFault;

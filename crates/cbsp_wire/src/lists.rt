@@ -7,9 +7,12 @@ ghost use Rattle.cbsp_wire.specs.Range.{are_distinct, cells_are_valid, items_are
 ghost use Rattle.cbsp_wire.specs.Range.{failures_are_by_lac_and_ci, is_by_lac_and_ci, is_list_body};
 ghost use Rattle.cbsp_wire.specs.Rising.{is_after, are_rising, are_rising_after};
 
-use crate::cursor::Cursor;
-use crate::item::Discriminator;
+use crate::lists::cursor::Cursor;
+use crate::lists::item::Discriminator;
 use crate::message::Cell;
+
+pub(crate) mod cursor;
+pub(crate) mod item;
 
 /// The cell that four octets are, the high ones first.
 pub(crate) fn cell_of(a: u8, b: u8, c: u8, d: u8) -> Cell

@@ -9,6 +9,9 @@ use std::alloc::{AllocError, Global};
 use std::marker::Model;
 use std::sync::ArcSlice;
 
+pub(crate) mod iei;
+pub(crate) mod message_type;
+
 /// A cell, by its location area code and its cell identity: `Cell { lac: 1, ci: 1 }`.
 #[derive(Clone, Copy, Debug, PartialEq, Eq)]
 pub struct Cell {

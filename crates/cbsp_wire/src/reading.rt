@@ -7,13 +7,17 @@ ghost use Rattle.cbsp_wire.specs.ReadingSteps.{HasHeader};
 ghost use Rattle.cbsp_wire.specs.Meaning.{IsMessage};
 
 use crate::cause;
-use crate::elements::{WalkEnd, end_of_walk};
+use crate::reading::elements::{WalkEnd, end_of_walk};
 use crate::fault::WireFault;
 use crate::message::Message;
-use crate::message_type::MessageType;
-use crate::range::{elements_are_valid, has_mandatory};
-use crate::value::message_from_elements;
+use crate::message::message_type::MessageType;
+use crate::reading::range::{elements_are_valid, has_mandatory};
+use crate::reading::value::message_from_elements;
 use std::alloc::Global;
+
+pub(crate) mod elements;
+pub(crate) mod range;
+pub(crate) mod value;
 
 /// The first fault of a message's elements.
 fn fault_of_elements(message_type: MessageType, elements: &[u8]) -> Option<WireFault>

@@ -11,14 +11,17 @@ ghost use Rattle.cbsp_wire.specs.Written.{cell_octets, count_octets, failure_oct
 ghost use Rattle.cbsp_wire.specs.Written.{bodies_in, octets_of_message};
 ghost use Rattle.cbsp_wire.specs.WritingSteps.{element_octets, field_octets, AreShort};
 
-use crate::elements::{NUMBERS, elements};
+use crate::reading::elements::{NUMBERS, elements};
 use crate::fault::WireFault;
-use crate::fields::{Fields, fields_of, is_writable, type_of};
-use crate::item::{Discriminator, ListItem, put_items};
+use crate::writing::fields::{Fields, fields_of, is_writable, type_of};
+use crate::lists::item::{Discriminator, ListItem, put_items};
 use crate::message::Message;
-use crate::{cause, iei};
+use crate::cause;
+use crate::message::iei;
 use cbs_page::Content;
 use std::alloc::Global;
+
+pub(crate) mod fields;
 
 /// Appends octets to a vector that has room for them, one by one, so that no memory is taken: `extend_from_slice`
 /// doesn't promise that the capacity stays.

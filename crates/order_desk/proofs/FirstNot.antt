@@ -1,22 +1,22 @@
 -- The first number at which something isn't right, by those of its parts.
 use Rattle.std.proofs.Common.{◌≡◌, ℕ, ◌<◌, ◌≤◌, min, Option, Some, None, inl, inr, subst, arith}
 use Rattle.std.proofs.lemmas.Bool.{cases_lt}
-use Rattle.order_desk.specs.SettleSteps.{IsFirstNot, lesser}
+use Rattle.order_desk.specs.SettleSteps.{IsLeastFailing, lesser}
 
 -- where two say the same of each number, the first is the same
 pub first_same : (one other : ℕ → Type 0) (found : Option ℕ)
     → ((k : ℕ) → one k → other k)
     → ((k : ℕ) → other k → one k)
-    → IsFirstNot one found
-    → IsFirstNot other found
+    → IsLeastFailing one found
+    → IsLeastFailing other found
 first_same one other None there back is = λ k. there k (is k)
 first_same one other (Some k) there back is = (λ right. is.0 (back k right), λ less lt. there less (is.1 less lt))
 
 -- of two facts, the lesser of the first at which each isn't so
 pub first_of_both : (one other : ℕ → Type 0) (a b : Option ℕ)
-    → IsFirstNot one a
-    → IsFirstNot other b
-    → IsFirstNot (λ k. one k × other k) (lesser a b)
+    → IsLeastFailing one a
+    → IsLeastFailing other b
+    → IsLeastFailing (λ k. one k × other k) (lesser a b)
 first_of_both one other None None is also = λ k. (is k, also k)
 first_of_both one other None (Some b) is also =
     (λ right. also.0 right.1, λ less lt. (is less, also.1 less lt))
@@ -51,8 +51,8 @@ pub first_with : (one other : ℕ → Type 0) (found : Option ℕ) (k : ℕ)
     → (other k → ⊥)
     → ((n : ℕ) → (n ≡ k → ⊥) → one n → other n)
     → ((n : ℕ) → other n → one n)
-    → IsFirstNot one found
-    → IsFirstNot other (lesser found (Some k))
+    → IsLeastFailing one found
+    → IsLeastFailing other (lesser found (Some k))
 first_with one other None k not there back is =
     (not, λ less lt. there less (apart less lt) (is less))
   where

@@ -10,15 +10,15 @@ use Rattle.bsc_table.specs.Record.{Record}
 use Rattle.order_desk.specs.declared.note.Note.{Note}
 use Rattle.order_desk.specs.Agreement.{AreInPlaceAt, IsRightNumber, IsRightSlot, all_notes, is_ended, is_full_of}
 use Rattle.order_desk.specs.Agreement.{times_noted, times_played}
-use Rattle.order_desk.specs.SettleSteps.{IsFirstNot, lesser}
+use Rattle.order_desk.specs.SettleSteps.{IsLeastFailing, lesser}
 use Rattle.order_desk.proofs.FirstNot.{first_same, first_of_both}
 use Rattle.order_desk.proofs.Walked.{ended_later}
 
 pub right_number : (cell : Cell) (log : List Entry) (passes : List (List Note)) (a b c : Option ℕ)
-    → IsFirstNot (λ k. All (AreInPlaceAt cell log k []) passes) a
-    → IsFirstNot (λ k. k < length log → times_noted cell k (all_notes passes) ≡ 1) b
-    → IsFirstNot (λ k. k ≡ 4096 → list_any (list_any (is_full_of cell)) passes ≡ true → 4096 ≤ length log) c
-    → IsFirstNot (IsRightNumber cell log passes) (lesser (lesser a b) c)
+    → IsLeastFailing (λ k. All (AreInPlaceAt cell log k []) passes) a
+    → IsLeastFailing (λ k. k < length log → times_noted cell k (all_notes passes) ≡ 1) b
+    → IsLeastFailing (λ k. k ≡ 4096 → list_any (list_any (is_full_of cell)) passes ≡ true → 4096 ≤ length log) c
+    → IsLeastFailing (IsRightNumber cell log passes) (lesser (lesser a b) c)
 right_number cell log passes a b c placed once full =
     first_same (λ k. (Placed k × Once k) × Full k) (IsRightNumber cell log passes) (lesser (lesser a b) c)
     (λ k is. record { placed = is.0.0; once = is.0.1; full = is.1 }) (λ k is. ((is.placed, is.once), is.full))
@@ -34,9 +34,9 @@ right_number cell log passes a b c placed once full =
     Full k = k ≡ 4096 → list_any (list_any (is_full_of cell)) passes ≡ true → 4096 ≤ length log
 
 pub right_slot : (cell : Cell) (clock : ℕ) (passes : List (List Note)) (a b : Option ℕ)
-    → IsFirstNot (λ slot. slot < clock → times_played cell slot (all_notes passes) ≡ 1) a
-    → IsFirstNot (λ slot. clock ≤ slot → list_all (list_all (is_ended cell slot)) passes ≡ true) b
-    → IsFirstNot (IsRightSlot cell clock passes) (lesser a b)
+    → IsLeastFailing (λ slot. slot < clock → times_played cell slot (all_notes passes) ≡ 1) a
+    → IsLeastFailing (λ slot. clock ≤ slot → list_all (list_all (is_ended cell slot)) passes ≡ true) b
+    → IsLeastFailing (IsRightSlot cell clock passes) (lesser a b)
 right_slot cell clock passes a b once beyond =
     first_same (λ slot. Once slot × Beyond slot) (IsRightSlot cell clock passes) (lesser a b)
     (λ slot is. record { once = is.0; beyond = is.1 }) (λ slot is. (is.once, is.beyond))
@@ -70,14 +70,14 @@ ended_since cell clock slot passes le is =
 -- what the first number at which something isn't right says of it, if there is one
 pub first_some : (right : ℕ → Type 0) (found : Option ℕ) (k : ℕ)
     → found ≡ Some k
-    → IsFirstNot right found
+    → IsLeastFailing right found
     → (right k → ⊥) × ((lesser : ℕ) → lesser < k → right lesser)
-first_some right found k is first = subst (IsFirstNot right) is first
+first_some right found k is first = subst (IsLeastFailing right) is first
 
 -- and if there is none
 pub first_none : (right : ℕ → Type 0) (found : Option ℕ)
     → ((k : ℕ) → found ≡ Some k → ⊥)
-    → IsFirstNot right found
+    → IsLeastFailing right found
     → (k : ℕ) → right k
 first_none right None none first = first
 first_none right (Some n) none first = absurd (none n refl)
@@ -86,17 +86,17 @@ first_none right (Some n) none first = absurd (none n refl)
 pub numbers_of : (passes : List (List Note)) (r : Record) (cell : Cell) (log : List Entry) (found : Option ℕ)
     → cell ≡ r.cell
     → log ≡ r.log
-    → IsFirstNot (IsRightNumber cell log passes) found
-    → IsFirstNot (IsRightNumber r.cell r.log passes) found
+    → IsLeastFailing (IsRightNumber cell log passes) found
+    → IsLeastFailing (IsRightNumber r.cell r.log passes) found
 numbers_of passes r cell log found same logged first =
-    subst (λ (c : Cell). IsFirstNot (IsRightNumber c r.log passes) found) same
-    (subst (λ (l : List Entry). IsFirstNot (IsRightNumber cell l passes) found) logged first)
+    subst (λ (c : Cell). IsLeastFailing (IsRightNumber c r.log passes) found) same
+    (subst (λ (l : List Entry). IsLeastFailing (IsRightNumber cell l passes) found) logged first)
 
 pub slots_of : (passes : List (List Note)) (r : Record) (cell : Cell) (clock : ℕ) (found : Option ℕ)
     → cell ≡ r.cell
     → clock ≡ r.clock
-    → IsFirstNot (IsRightSlot cell clock passes) found
-    → IsFirstNot (IsRightSlot r.cell r.clock passes) found
+    → IsLeastFailing (IsRightSlot cell clock passes) found
+    → IsLeastFailing (IsRightSlot r.cell r.clock passes) found
 slots_of passes r cell clock found same stands first =
-    subst (λ (c : Cell). IsFirstNot (IsRightSlot c r.clock passes) found) same
-    (subst (λ (t : ℕ). IsFirstNot (IsRightSlot cell t passes) found) stands first)
+    subst (λ (c : Cell). IsLeastFailing (IsRightSlot c r.clock passes) found) same
+    (subst (λ (t : ℕ). IsLeastFailing (IsRightSlot cell t passes) found) stands first)

@@ -4,8 +4,8 @@ use Rattle.std.proofs.Common.{None, Result, Ok, Err, refl, sym, subst, ap, rules
 use native.Mathlib.Omega.{arith}
 use Rattle.std.specs.List.{list_all}
 use Rattle.std.proofs.lemmas.Bool.{and_parts, cases_Bool}
-use Rattle.cbsp_wire.specs.declared.message_type.MessageType.TheVariants as types
-use Rattle.cbsp_wire.specs.declared.message_type.Presence.TheVariants as presences
+use Rattle.cbsp_wire.specs.declared.message.message_type.MessageType.TheVariants as types
+use Rattle.cbsp_wire.specs.declared.message.message_type.Presence.TheVariants as presences
 use Rattle.cbsp_wire.specs.declared.message.Cell.{Cell}
 use Rattle.cbsp_wire.specs.declared.message.Message.{Message}
 use Rattle.cbsp_wire.specs.declared.message.Message.TheVariants as messages
@@ -36,23 +36,24 @@ record IsOrder (m : Message) (cells : List Cell) (command : Command) : Type 0 wh
 not_ok : {X Y : Type 0} (x : X) (y : Y) → Err y ≡ Ok x → ⊥
 not_ok x y h = search (rules, h)
 
-abbrev Order : Type 0
-Order = List Cell × Command
+abbrev PreparedOrder : Type 0
+PreparedOrder = List Cell × Command
 
 -- the order of a message that has one
-order_or : Order → Result Order ℕ → Order
+order_or : PreparedOrder → Result PreparedOrder ℕ → PreparedOrder
 order_or other (Ok order) = order
 order_or other (Err cause) = other
 
-same_order : (r : Result Order ℕ) (cells named : List Cell) (command asked : Command)
+same_order : (r : Result PreparedOrder ℕ) (cells named : List Cell) (command asked : Command)
     → r ≡ Ok (named, asked)
     → r ≡ Ok (cells, command)
     → (named ≡ cells) × (asked ≡ command)
 unfolding order_or
 same_order r cells named command asked first then =
-    let other : Order = (named, asked) in
+    let other : PreparedOrder = (named, asked) in
     let h = sym first ∙ then in
-    (ap (λ (x : Result Order ℕ). (order_or other x).0) h, ap (λ (x : Result Order ℕ). (order_or other x).1) h)
+    (ap (λ (x : Result PreparedOrder ℕ). (order_or other x).0) h, ap
+        (λ (x : Result PreparedOrder ℕ). (order_or other x).1) h)
 
 of_channel : (channel : Option ℕ) (cells named : List Cell) (command asked : Command)
     → if_basic_channel channel named asked ≡ Ok (cells, command)

@@ -8,7 +8,7 @@ use Rattle.std.proofs.lemmas.List.Elements.{filter-append}
 use Rattle.cbsp_wire.proofs.Tests.{and_parts}
 use Rattle.cbsp_wire.specs.declared.message.Cell.{Cell}
 use Rattle.order_desk.specs.declared.note.Note.{Note}
-use Rattle.order_desk.specs.declared.times.Kind.{Kind}
+use Rattle.order_desk.specs.declared.settle.times.Kind.{Kind}
 use Rattle.order_desk.specs.SettleSteps.{AreTimes, stands_for}
 
 -- how many of some items and one more pass a test

@@ -12,9 +12,9 @@ use Rattle.cbsp_wire.specs.Range.{is_cell}
 use Rattle.bsc_table.specs.declared.entry.Entry.{Entry}
 use Rattle.order_desk.specs.declared.note.Note.{Note}
 use Rattle.order_desk.specs.declared.note.Note.TheVariants as notes
-use Rattle.order_desk.specs.declared.placed.Walk.{Walk}
+use Rattle.order_desk.specs.declared.settle.placed.Walk.{Walk}
 use Rattle.order_desk.specs.Agreement.{is_below, is_ended, is_event_at, IsInPlace, IsInPlaceAt, AreInPlaceAt}
-use Rattle.order_desk.specs.SettleSteps.{IsFirstNot, HasWalked, IsNext, lesser}
+use Rattle.order_desk.specs.SettleSteps.{IsLeastFailing, HasWalked, IsNext, lesser}
 use Rattle.order_desk.proofs.FirstNot.{first_same, first_with}
 
 clash : (b : Bool) → b ≡ true → b ≡ false → ⊥
@@ -96,7 +96,7 @@ walked_none cell log walk floor reached least = record {
   lowest = λ k _. omega (arith, floor);
   ended = All-nil (λ n. is_ended cell walk.reached n ≡ true);
   nearest = λ slot _. omega (arith, reached);
-  first = subst (IsFirstNot (λ k. AreInPlaceAt cell log k [] [])) (sym least) (λ k. tt);
+  first = subst (IsLeastFailing (λ k. AreInPlaceAt cell log k [] [])) (sym least) (λ k. tt);
 }
 
 -- a note of another cell, or of a full log
@@ -136,7 +136,7 @@ walked_range cell c log before from to old new same floor reached least has = re
   nearest = λ slot is. let parts = all_last (λ n. is_ended cell slot n ≡ true) before note is in
       both slot (has.nearest slot parts.0)
       (leb-true to slot (sym (ap (λ b. cond b (leb to slot) true) same) ∙ parts.1));
-  first = subst (IsFirstNot (λ k. AreInPlaceAt cell log k [] (before ++ note ∷ []))) (sym least)
+  first = subst (IsLeastFailing (λ k. AreInPlaceAt cell log k [] (before ++ note ∷ []))) (sym least)
       (first_same (λ k. AreInPlaceAt cell log k [] before) (λ k. AreInPlaceAt cell log k [] (before ++ note ∷ []))
       old.least (λ k are. in_place_after cell log k [] before note are tt)
       (λ k are. (in_place_before cell log k [] before note are).0) has.first);
@@ -221,12 +221,12 @@ walked_entry cell c log before number entry old new same floor reached least has
 
     found : (IsNext old log number entry × (new.least ≡ old.least))
         ⊎ ((IsNext old log number entry → ⊥) × (new.least ≡ lesser old.least (Some number)))
-        → IsFirstNot (λ k. AreInPlaceAt cell log k [] all) new.least
-    found (inl is) = subst (IsFirstNot (λ k. AreInPlaceAt cell log k [] all)) (sym is.1)
+        → IsLeastFailing (λ k. AreInPlaceAt cell log k [] all) new.least
+    found (inl is) = subst (IsLeastFailing (λ k. AreInPlaceAt cell log k [] all)) (sym is.1)
         (first_same (λ k. AreInPlaceAt cell log k [] before) (λ k. AreInPlaceAt cell log k [] all) old.least
         (λ k are. in_place_after cell log k [] before note are (at_number (placed is.0) k))
         (λ k are. (in_place_before cell log k [] before note are).0) has.first)
-    found (inr not) = subst (IsFirstNot (λ k. AreInPlaceAt cell log k [] all)) (sym not.1)
+    found (inr not) = subst (IsLeastFailing (λ k. AreInPlaceAt cell log k [] all)) (sym not.1)
         (first_with (λ k. AreInPlaceAt cell log k [] before) (λ k. AreInPlaceAt cell log k [] all) old.least number
         (λ are. not.0 (next ((in_place_before cell log number [] before note are).1 is_event)))
         (λ k other are. in_place_after cell log k [] before note are (no_event k other))

@@ -23,33 +23,34 @@ use Rattle.order_desk.specs.declared.fault.DeskFault.{DeskFault}
 use Rattle.order_desk.specs.declared.fault.DeskFault.TheVariants as faults
 use Rattle.order_desk.specs.declared.note.Note.{Note}
 use Rattle.order_desk.specs.declared.note.Note.TheVariants.{Full}
-use Rattle.order_desk.specs.Notes.{IsAsked, IsPlay, IsPlayedFor, IsRunOf, IsServed}
+use Rattle.order_desk.specs.Notes.{IsAsked, IsPlay, IsPlayedFor, IsRunOf, IsOrderServed}
 use Rattle.order_desk.specs.Notes.{IsStatus}
 use Rattle.order_desk.specs.Reply.{cells_answered, reply_message}
 
 -- a desk: its cells, and how many slots the run of each has
-pub record Line : Type 0 where
+pub record DeskState : Type 0 where
   pub cells : List Cell
   pub slots : ℕ
 
 -- whether a cell is of the desk
-abbrev pub has_cell : Line → Cell → Bool
+abbrev pub has_cell : DeskState → Cell → Bool
 has_cell desk cell = contains desk.cells cell
 
 -- what the lock of a cell of the desk held: a legal history of that cell's run
-abbrev pub IsHeld : Line → Cell → Record → Type 0
+abbrev pub IsHeld : DeskState → Cell → Record → Type 0
 IsHeld desk cell r = IsRunOf cell desk.slots r
 
 -- a cell of an order's list has answered, and these are the notes of it. A cell of the desk served the order; another
 -- one is not identified, and nothing is noted
-pub record IsAnswered (desk : Line) (at : ℕ) (command : Command) (cell : Cell) (answer : Answer) (notes : List Note)
+pub record IsAnswered (desk : DeskState) (at : ℕ) (command : Command) (cell : Cell) (answer : Answer)
+    (notes : List Note)
     : Type 0 where
   pub own : has_cell desk cell ≡ true → (before after : Record)
-      × IsHeld desk cell before × IsHeld desk cell after × IsServed at command answer before after notes
+      × IsHeld desk cell before × IsHeld desk cell after × IsOrderServed at command answer before after notes
   pub foreign : has_cell desk cell ≡ false → (answer ≡ answers.Cause CELL_IDENTITY_NOT_VALID) × (notes ≡ [])
 
 -- the cells of a list have answered one after the other, and these are the notes of it, in their order
-abbrev pub AreAnswered : Line → (at : ℕ) → Command → List (Cell × Answer) → List Note → Type 0
+abbrev pub AreAnswered : DeskState → (at : ℕ) → Command → List (Cell × Answer) → List Note → Type 0
 AreAnswered desk at command [] notes = notes ≡ []
 AreAnswered desk at command (first ∷ later) notes =
     (own rest : List Note) × (notes ≡ own ++ rest)
@@ -71,7 +72,7 @@ pub record IsOrderOf (octets : List ℕ) (cells : List Cell) (command : Command)
 
 -- an order was carried out from the slot `at` on: each cell that it names has answered, and the reply is that of the
 -- answers that were noted, with cause 08 for a full log and 03 for a cell that isn't of the desk
-pub record IsCarriedOut (desk : Line) (at : ℕ) (octets reply : List ℕ) (notes : List Note) : Type 0 where
+pub record IsCarriedOut (desk : DeskState) (at : ℕ) (octets reply : List ℕ) (notes : List Note) : Type 0 where
   pub command : Command
   pub answers : List (Cell × Answer)
   pub order : IsOrderOf octets (cells_answered answers) command
@@ -80,14 +81,15 @@ pub record IsCarriedOut (desk : Line) (at : ℕ) (octets reply : List ℕ) (note
   pub meant : IsMessage reply (reply_message command answers)
 
 -- of one more cell that didn't answer at most a play was noted
-abbrev pub IsAtMostPlayed : Line → (at : ℕ) → Cell → List Note → Type 0
+abbrev pub IsAtMostPlayed : DeskState → (at : ℕ) → Cell → List Note → Type 0
 IsAtMostPlayed desk at cell notes =
     (notes ≡ []) ⊎ ((before after : Record)
     × (has_cell desk cell ≡ true) × IsHeld desk cell before × IsHeld desk cell after
     × IsPlayedFor at before after notes)
 
 -- the cells of a list before this place have answered, and that is all that was noted
-pub record HaveAnswered (desk : Line) (at : ℕ) (cells : List Cell) (command : Command) (place : ℕ) (notes : List Note)
+pub record HaveAnswered (desk : DeskState) (at : ℕ) (cells : List Cell) (command : Command) (place : ℕ)
+    (notes : List Note)
     : Type 0 where
   pub answers : List (Cell × Answer)
   pub first : cells_answered answers ≡ take place cells
@@ -96,7 +98,8 @@ pub record HaveAnswered (desk : Line) (at : ℕ) (cells : List Cell) (command : 
 
 -- an order ended while the cell at this place of its list, a cell of the desk, was served: those before it have
 -- answered
-pub record IsCutShort (desk : Line) (at : ℕ) (cells : List Cell) (command : Command) (place : ℕ) (notes : List Note)
+pub record IsCutShort (desk : DeskState) (at : ℕ) (cells : List Cell) (command : Command) (place : ℕ)
+    (notes : List Note)
     : Type 0 where
   pub noted : List Note
   pub rest : List Note
@@ -109,7 +112,7 @@ pub record IsCutShort (desk : Line) (at : ℕ) (cells : List Cell) (command : Co
 
 -- an order ended at the cell at this place of its list, a cell of the desk, of which nothing is noted: those before it
 -- have answered
-pub record IsStopped (desk : Line) (at : ℕ) (cells : List Cell) (command : Command) (place : ℕ) (notes : List Note)
+pub record IsStopped (desk : DeskState) (at : ℕ) (cells : List Cell) (command : Command) (place : ℕ) (notes : List Note)
     : Type 0 where
   pub cell : Cell
   pub first : HaveAnswered desk at cells command place notes
@@ -126,7 +129,7 @@ IsNoOrder octets faults.Full = ⊥
 
 -- an order ended with this fault after these notes. A lock that holds a book of another cell ends it at that cell,
 -- which is one of the desk: a cell that isn't of the desk is answered, and the order goes on
-abbrev pub IsRefusedOrder : Line → (at : ℕ) → List ℕ → DeskFault → List Note → Type 0
+abbrev pub IsRefusedOrder : DeskState → (at : ℕ) → List ℕ → DeskFault → List Note → Type 0
 IsRefusedOrder desk at octets (faults.Wire fault) notes = IsNoOrder octets (faults.Wire fault) × (notes ≡ [])
 IsRefusedOrder desk at octets (faults.Cause cause) notes = IsNoOrder octets (faults.Cause cause) × (notes ≡ [])
 IsRefusedOrder desk at octets (faults.Memory done) notes =
@@ -139,7 +142,7 @@ IsRefusedOrder desk at octets faults.Unknown notes =
 IsRefusedOrder desk at octets faults.Full notes = ⊥
 
 -- a cell of the desk was played
-pub record IsPlayed (desk : Line) (cell : Cell) (k : ℕ) (range : SlotRange) (note : Note) : Type 0 where
+pub record IsPlayed (desk : DeskState) (cell : Cell) (k : ℕ) (range : SlotRange) (note : Note) : Type 0 where
   pub own : has_cell desk cell ≡ true
   pub before : Record
   pub after : Record
@@ -148,7 +151,7 @@ pub record IsPlayed (desk : Line) (cell : Cell) (k : ℕ) (range : SlotRange) (n
   pub play : IsPlay k range before after note
 
 -- a cell of the desk told the status of a message
-pub record IsTold (desk : Line) (cell : Cell) (id serial : ℕ) (told : Option (ℕ × State)) (note : Note) : Type 0
+pub record IsTold (desk : DeskState) (cell : Cell) (id serial : ℕ) (told : Option (ℕ × State)) (note : Note) : Type 0
   where
     pub own : has_cell desk cell ≡ true
     pub before : Record
@@ -159,7 +162,7 @@ pub record IsTold (desk : Line) (cell : Cell) (id serial : ℕ) (told : Option (
 
 -- why a play was refused, with nothing noted: the cell isn't of the desk, or its lock holds a book of another; or
 -- it was out of memory
-abbrev pub IsRefusedPlay : Line → Cell → DeskFault → List Note → Type 0
+abbrev pub IsRefusedPlay : DeskState → Cell → DeskFault → List Note → Type 0
 IsRefusedPlay desk cell faults.Unknown notes = notes ≡ []
 IsRefusedPlay desk cell (faults.Memory done) notes = (has_cell desk cell ≡ true) × (done ≡ 0) × (notes ≡ [])
 IsRefusedPlay desk cell (faults.Wire fault) notes = ⊥
@@ -167,7 +170,7 @@ IsRefusedPlay desk cell (faults.Cause cause) notes = ⊥
 IsRefusedPlay desk cell faults.Full notes = ⊥
 
 -- why a status was refused: so too, or because the log has no room for its entry, which is noted
-abbrev pub IsRefusedStatus : Line → Cell → (id serial : ℕ) → DeskFault → List Note → Type 0
+abbrev pub IsRefusedStatus : DeskState → Cell → (id serial : ℕ) → DeskFault → List Note → Type 0
 IsRefusedStatus desk cell id serial faults.Full notes =
     (has_cell desk cell ≡ true)
     × ((before : Record) × IsHeld desk cell before

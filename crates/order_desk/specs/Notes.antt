@@ -46,7 +46,7 @@ pub record IsPlayedFor (at : ℕ) (before after : Record) (notes : List Note) : 
   pub noted : notes ≡ range_notes before.cell before.clock after.clock
 
 -- a cell served an order from `at` on: it was played up to its slot, and then answered the command
-pub record IsServed (at : ℕ) (command : Command) (answer : Answer) (before after : Record) (notes : List Note)
+pub record IsOrderServed (at : ℕ) (command : Command) (answer : Answer) (before after : Record) (notes : List Note)
     : Type 0 where
   pub between : Record
   pub ranges : List Note

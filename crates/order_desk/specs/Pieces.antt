@@ -13,8 +13,8 @@ use Rattle.bsc_table.specs.declared.entry.Entry.{Entry}
 use Rattle.bsc_table.specs.Record.{Record}
 use Rattle.order_desk.specs.declared.fault.DeskFault.{DeskFault}
 use Rattle.order_desk.specs.declared.fault.DeskFault.TheVariants as faults
-use Rattle.order_desk.specs.declared.piece.Piece.{Piece}
-use Rattle.order_desk.specs.Desk.{IsHeld, Line, has_cell}
+use Rattle.order_desk.specs.declared.desk.piece.Piece.{Piece}
+use Rattle.order_desk.specs.Desk.{IsHeld, DeskState, has_cell}
 
 -- the octets of a page of a write, of which the pages are numbered from 1 and are 15 at most
 abbrev pub page_octets : ℕ → Command → Option (List ℕ)
@@ -40,7 +40,7 @@ abbrev pub pages_aired : (from k : ℕ) → Record → List (Option (List ℕ))
 pages_aired from k r = map (octets_aired r.log) (take k (drop from r.air))
 
 -- a piece of a cell of the desk from a slot on: of at most k slots, of those that were played
-pub record IsPieceOf (desk : Line) (cell : Cell) (from k : ℕ) (piece : Piece) : Type 0 where
+pub record IsPieceOf (desk : DeskState) (cell : Cell) (from k : ℕ) (piece : Piece) : Type 0 where
   pub own : has_cell desk cell ≡ true
   pub held : Record
   pub is_held : IsHeld desk cell held
@@ -50,7 +50,7 @@ pub record IsPieceOf (desk : Line) (cell : Cell) (from k : ℕ) (piece : Piece) 
   pub long : vec_len piece.pages ≡ min k (held.clock - from)
 
 -- why there is no piece: the cell isn't of the desk, or its lock holds a book of another; or the desk is out of memory
-abbrev pub IsRefusedPiece : Line → Cell → DeskFault → Type 0
+abbrev pub IsRefusedPiece : DeskState → Cell → DeskFault → Type 0
 IsRefusedPiece desk cell faults.Unknown = ⊤
 IsRefusedPiece desk cell (faults.Memory done) = (has_cell desk cell ≡ true) × (done ≡ 0)
 IsRefusedPiece desk cell (faults.Wire fault) = ⊥

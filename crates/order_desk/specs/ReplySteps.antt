@@ -1,6 +1,6 @@
 -- Steps of making a reply (own). The contracts of private functions alone speak of it.
 use Rattle.std.specs.Prelude.{◌≡◌, ℕ, ◌≤◌, [], vec_capacity}
-use Rattle.order_desk.specs.declared.reply.ReplyRoom.{ReplyRoom}
+use Rattle.order_desk.specs.declared.desk.reply.ReplyRoom.{ReplyRoom}
 
 -- there is room for the reply of so many cells, and nothing of it yet
 pub record HasRoomFor (count : ℕ) (room : ReplyRoom) : Type 0 where

@@ -8,20 +8,20 @@ use Rattle.bsc_table.specs.declared.entry.Entry.{Entry}
 use Rattle.bsc_table.specs.Record.{Record}
 use Rattle.order_desk.specs.declared.note.Note.{Note}
 use Rattle.order_desk.specs.declared.note.Note.TheVariants as notes
-use Rattle.order_desk.specs.declared.brief.Brief.{Brief}
-use Rattle.order_desk.specs.declared.brief.Brief.TheVariants as briefs
-use Rattle.order_desk.specs.declared.times.Kind.{Kind}
-use Rattle.order_desk.specs.declared.times.Kind.TheVariants as kinds
-use Rattle.order_desk.specs.declared.placed.Walk.{Walk}
+use Rattle.order_desk.specs.declared.settle.brief.Brief.{Brief}
+use Rattle.order_desk.specs.declared.settle.brief.Brief.TheVariants as briefs
+use Rattle.order_desk.specs.declared.settle.times.Kind.{Kind}
+use Rattle.order_desk.specs.declared.settle.times.Kind.TheVariants as kinds
+use Rattle.order_desk.specs.declared.settle.placed.Walk.{Walk}
 use Rattle.order_desk.specs.declared.settle.SettleFault.{SettleFault}
 use Rattle.order_desk.specs.declared.settle.SettleFault.TheVariants as faults
 use Rattle.order_desk.specs.Agreement.{is_below, is_ended, is_event_at, is_play_of, AreInPlaceAt, Agrees}
-use Rattle.order_desk.specs.Settled.{IsStrangeAt, OverlapsAt, cell_of, is_of, number_of}
+use Rattle.order_desk.specs.Settled.{IsStrangeAt, OverlapsAt, cell_of, is_of_cells, number_of}
 
 -- the first number at which something isn't right, if there is one
-abbrev pub IsFirstNot : (ℕ → Type 0) → Option ℕ → Type 0
-IsFirstNot right None = (k : ℕ) → right k
-IsFirstNot right (Some k) = (right k → ⊥) × ((lesser : ℕ) → lesser < k → right lesser)
+abbrev pub IsLeastFailing : (ℕ → Type 0) → Option ℕ → Type 0
+IsLeastFailing right None = (k : ℕ) → right k
+IsLeastFailing right (Some k) = (right k → ⊥) × ((lesser : ℕ) → lesser < k → right lesser)
 
 -- the note that stands in brief
 abbrev pub note_of : Brief → Note
@@ -52,7 +52,7 @@ pub record HasWalked (cell : Cell) (log : List Entry) (before : List Note) (walk
   pub lowest : (k : ℕ) → All (λ note. is_below cell k note ≡ true) before → walk.floor ≤ k
   pub ended : All (λ note. is_ended cell walk.reached note ≡ true) before
   pub nearest : (slot : ℕ) → All (λ note. is_ended cell slot note ≡ true) before → walk.reached ≤ slot
-  pub first : IsFirstNot (λ k. AreInPlaceAt cell log k [] before) walk.least
+  pub first : IsLeastFailing (λ k. AreInPlaceAt cell log k [] before) walk.least
 
 -- an entry that is noted next is in its place
 pub record IsNext (walk : Walk) (log : List Entry) (k : ℕ) (entry : Entry) : Type 0 where
@@ -80,11 +80,11 @@ IsOfCell cell r = r.cell ≡ cell
 
 -- the first note of a pass that is of no cell of the desk, as its cell and number
 abbrev pub IsForeignIn : List Cell → List Note → Option (Cell × ℕ) → Type 0
-IsForeignIn cells given None = All (λ n. is_of cells n ≡ true) given
+IsForeignIn cells given None = All (λ n. is_of_cells cells n ≡ true) given
 IsForeignIn cells given (Some told) = (before : List Note) × (note : Note) × (after : List Note)
     × (given ≡ before ++ note ∷ after)
-    × All (λ n. is_of cells n ≡ true) before
-    × (is_of cells note ≡ false)
+    × All (λ n. is_of_cells cells n ≡ true) before
+    × (is_of_cells cells note ≡ false)
     × (cell_of note ≡ told.0)
     × (number_of note ≡ told.1)
 

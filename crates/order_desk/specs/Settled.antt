@@ -32,8 +32,8 @@ number_of (notes.Played cell from to) = 4096
 number_of (notes.Full cell) = 4096
 
 -- whether a note is of one of these cells
-abbrev pub is_of : List Cell → Note → Bool
-is_of cells note = contains cells (cell_of note)
+abbrev pub is_of_cells : List Cell → Note → Bool
+is_of_cells cells note = contains cells (cell_of note)
 
 -- the first note of no cell of the desk: all notes before it are of the desk's cells
 pub record IsFirstForeign (cells : List Cell) (passes : List (List Note)) (note : Note) : Type 0 where
@@ -42,13 +42,13 @@ pub record IsFirstForeign (cells : List Cell) (passes : List (List Note)) (note 
   pub after : List Note
   pub later : List (List Note)
   pub noted : passes ≡ earlier ++ (before ++ note ∷ after) ∷ later
-  pub own_passes : All (All (λ n. is_of cells n ≡ true)) earlier
-  pub own_notes : All (λ n. is_of cells n ≡ true) before
-  pub foreign : is_of cells note ≡ false
+  pub own_passes : All (All (λ n. is_of_cells cells n ≡ true)) earlier
+  pub own_notes : All (λ n. is_of_cells cells n ≡ true) before
+  pub foreign : is_of_cells cells note ≡ false
 
 -- each note is of one of the desk's cells
 abbrev pub AreOwn : List Cell → List (List Note) → Type 0
-AreOwn cells passes = All (All (λ n. is_of cells n ≡ true)) passes
+AreOwn cells passes = All (All (λ n. is_of_cells cells n ≡ true)) passes
 
 -- a book is that of the cell in its place, for a run of the desk's slots
 abbrev pub IsBookOf : (slots : ℕ) → Cell → Record → Type 0

@@ -9,12 +9,12 @@ use Rattle.bsc_table.specs.declared.entry.State.{State}
 use Rattle.bsc_table.specs.Record.{Record}
 use Rattle.bsc_table.specs.Transitions.{Ask, IsReached, IsStep, Play}
 use Rattle.order_desk.specs.declared.note.Note.{Note}
-use Rattle.order_desk.specs.Notes.{IsPlay, IsPlayedFor, IsServed, IsStatus}
+use Rattle.order_desk.specs.Notes.{IsPlay, IsPlayedFor, IsOrderServed, IsStatus}
 
 -- an order from a slot on is a play up to that slot and then the command
 abbrev pub OrdersAreSteps : Type 0
 OrdersAreSteps = (at : ℕ) (command : Command) (answer : Answer) (before after : Record) (notes : List Note)
-    → IsServed at command answer before after notes
+    → IsOrderServed at command answer before after notes
     → IsReached (Play (at - before.clock) ∷ Ask command ∷ []) before after
 
 -- an order that ends out of memory has played at most

@@ -7,18 +7,18 @@ ghost use Rattle.bsc_table.specs.Transitions.{opened};
 ghost use Rattle.order_desk.specs.declared.note.Note.{Note};
 ghost use Rattle.order_desk.specs.Desk.{AddsNote, AddsNotes, IsCarriedOut, IsPlayed, IsRefusedOrder, IsRefusedPlay};
 ghost use Rattle.order_desk.specs.Desk.{IsRefusedStatus, IsTold, has_cell};
-ghost use Rattle.order_desk.specs.DeskSteps.{AreDone, AreHalted, CanBeDone, IsDone, IsHalted};
+ghost use Rattle.order_desk.specs.DeskSteps.{AreTasksDone, AreHalted, CanBeDone, IsTaskDone, IsHalted};
 ghost use Rattle.order_desk.specs.Pieces.{IsPieceOf, IsRefusedPiece};
 
 use crate::closed::Closed;
-use crate::errand::Errand;
+use crate::desk::cell_task::CellTask;
 use crate::fault::DeskFault;
 use crate::gate::Gate;
-use crate::held::{self, is_of};
+use crate::desk::in_cell::is_book_of;
 use crate::note::{Note, Pass};
-use crate::order::{Halt, Order, prepared};
-use crate::piece::{Piece, put_pages};
-use crate::reply::reply_in;
+use crate::desk::order::{CellFault, PreparedOrder, prepared};
+use crate::desk::piece::{Piece, put_pages};
+use crate::desk::reply::reply_in;
 use bsc_table::{Answer, CellBook, Refused, SlotRange, State};
 use cbs_page::Serial;
 use cbsp_wire::cells::find;
@@ -26,6 +26,12 @@ use cbsp_wire::{Cell, cause};
 use std::alloc::Global;
 use std::marker::Model;
 use std::sync::{Mutex, Wait};
+
+pub(crate) mod cell_task;
+pub(crate) mod in_cell;
+pub(crate) mod order;
+pub(crate) mod piece;
+pub(crate) mod reply;
 
 /// A new book for each cell.
 fn open_books(alloc: Global, cells: &[Cell], slots: u16) -> Result<Vec<CellBook>, DeskFault>
@@ -74,9 +80,9 @@ pub struct Desk {
 impl Model for Desk {
     ghost use Rattle.std.specs.Prelude.{◌≡◌, true, vec_len};
     ghost use Rattle.cbsp_wire.specs.Range.{cells_are_valid};
-    ghost use Rattle.order_desk.specs.Desk.{Line};
+    ghost use Rattle.order_desk.specs.Desk.{DeskState};
 
-    ghost Value = { Line };
+    ghost Value = { DeskState };
 
     ghost view = { λ desk. record { cells = desk.cells.items; slots = desk.slots } };
 
@@ -168,18 +174,18 @@ impl Desk {
     }
 
     /// Does an errand of an order in its cell.
-    fn serve<R: Wait, G: Gate>(
+    fn serve_cell<R: Wait, G: Gate>(
         &self,
         rt: &R,
         notes: &mut Vec<Note>,
         at: u16,
-        errand: Errand,
+        errand: CellTask,
         gate: &G,
-    ) -> Result<Answer, Halt>
+    ) -> Result<Answer, CellFault>
         requires errand { CanBeDone self.now errand }
         requires room { vec_len notes.old + 2 ≤ vec_capacity notes.old }
         ensures done { OnOk result (IfOk result (λ answer. (added : List Note)
-            × IsDone self.now at errand answer added
+            × IsTaskDone self.now at errand answer added
             × (notes.new.items ≡ notes.old.items ++ added))) }
         ensures halted { OnErr result (IfErr result (λ halt. (added : List Note)
             × IsHalted self.now at errand halt added
@@ -188,32 +194,32 @@ impl Desk {
         ensures room_stays { vec_capacity notes.new ≡ vec_capacity notes.old }
     {
         let (cell, place, command) = match errand {
-            Errand::Own {
+            CellTask::Own {
                 cell,
                 place,
                 command,
             } => (cell, place, command),
-            Errand::Foreign { .. } => return Ok(Answer::Cause(cause::CELL_IDENTITY_NOT_VALID)),
+            CellTask::Foreign { .. } => return Ok(Answer::Cause(cause::CELL_IDENTITY_NOT_VALID)),
         };
         let mut guard = self.books[place].lock(rt);
         gate.inside(place as u16);
         let book = &mut *guard;
-        if !is_of(book, cell, self.slots()) {
-            return Err(Halt::WrongBook);
+        if !is_book_of(book, cell, self.slots()) {
+            return Err(CellFault::WrongBook);
         }
-        match held::serve(book, notes, at, command) {
+        match in_cell::play_and_ask(book, notes, at, command) {
             Ok(answer) => Ok(answer),
-            Err(Refused) => Err(Halt::Refused),
+            Err(Refused) => Err(CellFault::Refused),
         }
     }
 
     /// Does the errands of an order, one after the other.
-    fn serve_all<R: Wait, G: Gate>(
+    fn serve_cells<R: Wait, G: Gate>(
         &self,
         rt: &R,
         notes: &mut Vec<Note>,
         at: u16,
-        errands: Vec<Errand>,
+        errands: Vec<CellTask>,
         mut answers: Vec<(Cell, Answer)>,
         gate: &G,
     ) -> Result<Vec<(Cell, Answer)>, DeskFault>
@@ -223,7 +229,7 @@ impl Desk {
         requires room_for_answers { vec_len errands ≤ vec_capacity answers }
         requires room_for_notes { vec_len notes.old + 2 * vec_len errands ≤ vec_capacity notes.old }
         ensures done { OnOk result (IfOk result (λ answers. (added : List Note)
-            × AreDone self.now at errands.items answers.items added
+            × AreTasksDone self.now at errands.items answers.items added
             × (notes.new.items ≡ notes.old.items ++ added))) }
         ensures halted { OnErr result (IfErr result (λ fault. (added : List Note)
             × AreHalted self.now at errands.items fault added
@@ -231,10 +237,10 @@ impl Desk {
     {
         for errand in errands {
             let cell = errand.cell();
-            match self.serve(rt, notes, at, errand, gate) {
+            match self.serve_cell(rt, notes, at, errand, gate) {
                 Ok(answer) => answers.push_reserved((cell, answer)),
-                Err(Halt::WrongBook) => return Err(DeskFault::Unknown),
-                Err(Halt::Refused) => {
+                Err(CellFault::WrongBook) => return Err(DeskFault::Unknown),
+                Err(CellFault::Refused) => {
                     return Err(DeskFault::Memory {
                         done: answers.len() as u16,
                     });
@@ -272,7 +278,7 @@ impl Desk {
         ensures refused { OnErr result (IfErr result (λ fault. AddsNotes pass.old pass.new
             (IsRefusedOrder self.now at bytes.now fault))) }
     {
-        let Order {
+        let PreparedOrder {
             command,
             errands,
             answers,
@@ -281,7 +287,7 @@ impl Desk {
         if pass.notes.reserve(2 * errands.len()).is_err() {
             return Err(DeskFault::Memory { done: 0 });
         }
-        match self.serve_all(rt, &mut pass.notes, at, errands, answers, gate) {
+        match self.serve_cells(rt, &mut pass.notes, at, errands, answers, gate) {
             Ok(answers) => Ok(reply_in(room, &command, &answers)),
             Err(fault) => Err(fault),
         }
@@ -316,10 +322,10 @@ impl Desk {
         let mut guard = self.books[place].lock(rt);
         gate.inside(place as u16);
         let book = &mut *guard;
-        if !is_of(book, cell, self.slots()) {
+        if !is_book_of(book, cell, self.slots()) {
             return Err(DeskFault::Unknown);
         }
-        Ok(held::play(book, &mut pass.notes, k))
+        Ok(in_cell::play(book, &mut pass.notes, k))
     }
 
     /// How often a message was broadcast in a cell, and how it stands there; None if it was never accepted. This is an
@@ -352,10 +358,10 @@ impl Desk {
         let mut guard = self.books[place].lock(rt);
         gate.inside(place as u16);
         let book = &mut *guard;
-        if !is_of(book, cell, self.slots()) {
+        if !is_book_of(book, cell, self.slots()) {
             return Err(DeskFault::Unknown);
         }
-        held::status(book, &mut pass.notes, id, serial)
+        in_cell::status(book, &mut pass.notes, id, serial)
     }
 
     /// What a cell aired in at most `k` slots from `from` on, of those that were played. This is no step of the cell:
@@ -386,7 +392,7 @@ impl Desk {
         let guard = self.books[place].lock(rt);
         gate.inside(place as u16);
         let book = &*guard;
-        if !is_of(book, cell, self.slots()) {
+        if !is_book_of(book, cell, self.slots()) {
             return Err(DeskFault::Unknown);
         }
         put_pages(book, &mut pages, from, k);

@@ -5,24 +5,14 @@
 //! noted is compared with what the cells hold.
 #![tactic(auto)]
 
-mod brief;
 mod cells;
 pub mod closed;
 pub mod desk;
-mod errand;
 pub mod fault;
 mod gate;
-mod held;
 mod laws;
 pub mod note;
-mod order;
-mod own;
-mod piece;
-mod placed;
-mod reply;
 pub mod settle;
-mod sorted;
-mod times;
 
 pub use cells::cells_ok;
 pub use closed::Closed;
@@ -31,6 +21,6 @@ pub use fault::DeskFault;
 pub use gate::{Gate, Open};
 pub use laws::{desk_steps, reply_laws};
 pub use note::{Note, Pass};
-pub use piece::Piece;
-pub use reply::reply_of;
+pub use desk::piece::Piece;
+pub use desk::reply::reply_of;
 pub use settle::SettleFault;

@@ -10,21 +10,28 @@ ghost use Rattle.cbsp_wire.specs.Range.{are_distinct, cells_are_valid};
 ghost use Rattle.order_desk.specs.declared.settle.SettleFault.TheVariants as faults;
 ghost use Rattle.order_desk.specs.Agreement.{Agrees, IsRightNumber, IsRightSlot, is_ended, is_full_of};
 ghost use Rattle.order_desk.specs.Settled.{AreOwn, IsBookOf, IsFault, IsFirstForeign, IsFirstWrong, IsPlayedOut};
-ghost use Rattle.order_desk.specs.Settled.{IsSettled, ClosedDesk, cell_of, is_of, number_of};
-ghost use Rattle.order_desk.specs.SettleSteps.{IsFirstJudged, IsFirstNot, IsForeignIn, IsOfCell, IsStrangeBy, note_of};
+ghost use Rattle.order_desk.specs.Settled.{IsSettled, ClosedDesk, cell_of, is_of_cells, number_of};
+ghost use Rattle.order_desk.specs.SettleSteps.{IsFirstJudged, IsLeastFailing, IsForeignIn, IsOfCell, IsStrangeBy};
+ghost use Rattle.order_desk.specs.SettleSteps.{note_of};
 
-use crate::brief::Brief;
+use crate::settle::brief::Brief;
 use crate::closed::Closed;
 use crate::note::{Note, Pass};
-use crate::own::Own;
-use crate::placed::{least_misplaced, lesser};
-use crate::sorted::{cell_of, sorted_notes};
-use crate::times::{Kind, least_not_once};
+use crate::settle::own::Own;
+use crate::settle::placed::{least_misplaced, lesser};
+use crate::settle::sorted::{cell_of, sorted_notes};
+use crate::settle::times::{Kind, least_not_once};
 use bsc_table::{CellBook, CellRecord, Entry};
 use cbsp_wire::Cell;
 use cbsp_wire::cells::find_near;
 use std::alloc::{AllocError, AllocFailed, Global};
 use thiserror::Error;
+
+pub(crate) mod brief;
+pub(crate) mod own;
+pub(crate) mod placed;
+pub(crate) mod sorted;
+pub(crate) mod times;
 
 /// How many entries a log has room for (own). A note without a number is told by it.
 const MAX_ENTRIES: u16 = 4096;
@@ -174,7 +181,7 @@ fn all_ended(cell: Cell, slot: u16, passes: &[Own]) -> bool
 
 /// The number 4,096 if a pass notes that the cell's log was full, and it has fewer entries.
 fn first_not_full(cell: Cell, entries: u16, passes: &[Own]) -> Option<u16>
-    ensures { IsFirstNot (λ k. k ≡ 4096 → list_any (list_any (is_full_of cell)) passes.now ≡ true → 4096 ≤ entries)
+    ensures { IsLeastFailing (λ k. k ≡ 4096 → list_any (list_any (is_full_of cell)) passes.now ≡ true → 4096 ≤ entries)
         result }
 {
     if entries < MAX_ENTRIES && was_full(cell, passes) {
@@ -192,7 +199,7 @@ fn first_strange(
     passes: &[Own],
 ) -> Result<Option<u16>, AllocError>
     requires { length log.now ≤ 4096 }
-    ensures { IfOk result (IsFirstNot (IsRightNumber cell log.now passes.now)) }
+    ensures { IfOk result (IsLeastFailing (IsRightNumber cell log.now passes.now)) }
 {
     let entries = log.len() as u16;
     let misplaced = least_misplaced(cell, log, passes);
@@ -203,7 +210,8 @@ fn first_strange(
 
 /// The clock if a noted range of the cell's played slots ends after it.
 fn first_late(cell: Cell, clock: u16, passes: &[Own]) -> Option<u16>
-    ensures { IsFirstNot (λ slot. clock ≤ slot → list_all (list_all (is_ended cell slot)) passes.now ≡ true) result }
+    ensures { IsLeastFailing (λ slot. clock ≤ slot → list_all (list_all (is_ended cell slot)) passes.now
+        ≡ true) result }
 {
     if all_ended(cell, clock, passes) {
         None
@@ -219,7 +227,7 @@ fn first_overlap(
     clock: u16,
     passes: &[Own],
 ) -> Result<Option<u16>, AllocError>
-    ensures { IfOk result (IsFirstNot (IsRightSlot cell clock passes.now)) }
+    ensures { IfOk result (IsLeastFailing (IsRightSlot cell clock passes.now)) }
 {
     let not_once = least_not_once(alloc, Kind::Slots, cell, clock, passes)?;
     let late = first_late(cell, clock, passes);

@@ -2,20 +2,20 @@
 use Rattle.std.proofs.Common.{◌≡◌, ◌<◌, ◌+◌, ℕ, List, [], ◌∷◌, ◌++◌, ap, get_or, length, refl, subst, take, ◌∙◌}
 use Rattle.std.proofs.Math.Numerals.{suc-eq-add-one}
 use Rattle.std.proofs.Math.Seq.{take-suc}
-use Rattle.order_desk.specs.Desk.{Line}
+use Rattle.order_desk.specs.Desk.{DeskState}
 use Rattle.parallel_compile.specs.declared.board.Board.{Board}
 use Rattle.parallel_compile.specs.declared.board.Numbered.{Numbered}
 use Rattle.parallel_compile.specs.StreamSteps.{HasCome, HaveCome}
 
 -- pieces came, and then others: all of them came
-pub more_came : (desk : Line) (pieces more : List Numbered) (first before after : Board)
+pub more_came : (desk : DeskState) (pieces more : List Numbered) (first before after : Board)
     → HaveCome desk pieces first before → HaveCome desk more before after → HaveCome desk (pieces ++ more) first after
 more_came desk [] more first before after same came = subst (λ b. HaveCome desk more b after) same came
 more_came desk (p ∷ rest) more first before after have came =
     (have.0, have.1, more_came desk rest more have.0 before after have.2 came)
 
 -- pieces came, and then one more
-pub one_more_came : (desk : Line) (pieces : List Numbered) (n : Numbered) (first before after : Board)
+pub one_more_came : (desk : DeskState) (pieces : List Numbered) (n : Numbered) (first before after : Board)
     → HaveCome desk pieces first before → HasCome desk n before after → HaveCome desk (pieces ++ n ∷ []) first after
 one_more_came desk pieces n first before after have come =
     more_came desk pieces (n ∷ []) first before after have (after, come, refl)

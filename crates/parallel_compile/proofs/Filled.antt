@@ -9,7 +9,7 @@ use Rattle.cbsp_wire.specs.declared.message.Cell.{Cell}
 use Rattle.cbch_blocks.specs.Blocks.{idle_blocks}
 use Rattle.cbch_blocks.specs.RecordBlocks.{blocks_of_uses, octets_of_blocks, tape_header, tape_of_record}
 use Rattle.cbch_blocks.specs.Slots.{silent_record}
-use Rattle.order_desk.specs.Desk.{Line}
+use Rattle.order_desk.specs.Desk.{DeskState}
 use Rattle.parallel_compile.specs.declared.filling.Filling.{Filling}
 use Rattle.parallel_compile.specs.StreamSteps.{AreFillings, IsFilledOn, pieces_in}
 use Rattle.parallel_compile.specs.Streamed.{AreTapesFor}
@@ -55,7 +55,8 @@ one_more cells slots i d fillings f are within tape came = record {
 }
 
 -- one of them is filled on
-pub one_filled : (desk : Line) (fillings : List Filling) (i : ℕ) (before after : Filling) → AreFillings desk fillings
+pub one_filled : (desk : DeskState) (fillings : List Filling) (i : ℕ) (before after : Filling) →
+    AreFillings desk fillings
     → i < length fillings → before ≡ get_or fillings i before → IsFilledOn before after
     → AreFillings desk (set fillings i after)
 one_filled desk fillings i before after are within is on = record {
@@ -70,7 +71,7 @@ map_twice : (fillings : List Filling) → map (take 8) (map (λ (f : Filling). f
 map_twice [] = refl
 map_twice (f ∷ rest) = ap (λ (fronts : List (List ℕ)). take 8 f.tape ∷ fronts) (map_twice rest)
 
-pub tapes_for : (desk : Line) (fillings : List Filling) → AreFillings desk fillings
+pub tapes_for : (desk : DeskState) (fillings : List Filling) → AreFillings desk fillings
     → AreTapesFor desk (map (λ (f : Filling). f.tape) fillings)
 tapes_for desk fillings are = record {
   headed = map_twice fillings ∙ are.headed;

@@ -10,11 +10,11 @@ use Rattle.std.proofs.lemmas.Option.{slice_get_within, slice_get_cases, slice_ge
 use native.Mathlib.Decide.{ℕ_discrete}
 use mathlib.Core.Logic.{dite}
 use Rattle.order_desk.proofs.FirstNot.{first_same, first_of_both}
-use Rattle.order_desk.specs.SettleSteps.{IsFirstNot, lesser}
+use Rattle.order_desk.specs.SettleSteps.{IsLeastFailing, lesser}
 use Rattle.tickets.specs.Draws.{times, numbers_below, AreSame}
-use Rattle.parallel_compile.specs.Gathered.{AreGathered, IsLeastBad, StandsIn, numbers_of}
+use Rattle.parallel_compile.specs.Gathered.{AreGathered, IsLeastBad, IsAmongPieces, numbers_of}
 use Rattle.parallel_compile.specs.Places.{ArePut, IsWithin}
-use Rattle.parallel_compile.specs.Workers.{IsPieceOf}
+use Rattle.parallel_compile.specs.Workers.{IsPieceOfRecord}
 use Rattle.bsc_table.specs.Record.{Record}
 use Rattle.cbch_blocks.specs.RecordBlocks.{tape_of_record}
 use Rattle.std.specs.Prelude.{IfOk, Result, Ok, Err}
@@ -61,8 +61,8 @@ only_if n pieces places spoilt put x good = (
 -- the first number that isn't good
 pub first_bad : (n : ℕ) (pieces : List (ℕ × List ℕ)) (places : List (Option (List ℕ))) (spoilt missing : Option ℕ)
     → ArePut n pieces places spoilt
-    → IsFirstNot (IsTaken places) missing
-    → IsFirstNot (IsGood n (numbers_of pieces)) (lesser spoilt missing)
+    → IsLeastFailing (IsTaken places) missing
+    → IsLeastFailing (IsGood n (numbers_of pieces)) (lesser spoilt missing)
 first_bad n pieces places spoilt missing put free =
     first_same (λ x. IsWithin n (numbers_of pieces) x × IsTaken places x) (IsGood n (numbers_of pieces))
     (lesser spoilt missing) (good_if n pieces places spoilt put) (only_if n pieces places spoilt put)
@@ -71,11 +71,11 @@ first_bad n pieces places spoilt missing put free =
 pub least_bad : (n : ℕ) (pieces : List (ℕ × List ℕ)) (places : List (Option (List ℕ))) (spoilt missing : Option ℕ)
     (index : ℕ)
     → ArePut n pieces places spoilt
-    → IsFirstNot (IsTaken places) missing
+    → IsLeastFailing (IsTaken places) missing
     → lesser spoilt missing ≡ Some index
     → IsLeastBad n (numbers_of pieces) index
 least_bad n pieces places spoilt missing index put free is =
-    subst (IsFirstNot (IsGood n (numbers_of pieces))) is (first_bad n pieces places spoilt missing put free)
+    subst (IsLeastFailing (IsGood n (numbers_of pieces))) is (first_bad n pieces places spoilt missing put free)
 
 -- neither number is there
 some_apart : {X : Type 0} (x : X) → Some x ≡ None → ⊥
@@ -106,12 +106,13 @@ inner_is (Some s) t h = ap (λ (o : Option (Option (List ℕ))). unwrap_or o Non
 pub gathered : (n : ℕ) (pieces : List (ℕ × List ℕ)) (places : List (Option (List ℕ))) (spoilt missing : Option ℕ)
     (tapes : List (List ℕ))
     → ArePut n pieces places spoilt
-    → IsFirstNot (IsTaken places) missing
+    → IsLeastFailing (IsTaken places) missing
     → lesser spoilt missing ≡ None
     → places ≡ map Some tapes
     → AreGathered n pieces tapes
 gathered n pieces places spoilt missing tapes put free is made = record {
-  numbered = subst (IsFirstNot (IsGood n (numbers_of pieces))) is (first_bad n pieces places spoilt missing put free);
+  numbered = subst (IsLeastFailing (IsGood n (numbers_of pieces))) is
+      (first_bad n pieces places spoilt missing put free);
   long = sym (length-map tapes Some) ∙ ap length (sym made) ∙ put.long;
   placed = λ k d within. inner_is (slice_get tapes (slice_index_or pieces k d).0) (slice_index_or pieces k d).1
       (sym (slice_get-map Some tapes (slice_index_or pieces k d).0)
@@ -134,8 +135,8 @@ found P Q i (piece ∷ pieces) some one other = dite (ℕ_discrete i piece.0)
 pub same_tapes : (pieces : List (ℕ × List ℕ)) (one other : List (List ℕ))
     → length one ≡ length other
     → AreSame (numbers_of pieces) (numbers_below (length one))
-    → All (StandsIn one) pieces
-    → All (StandsIn other) pieces
+    → All (IsAmongPieces one) pieces
+    → All (IsAmongPieces other) pieces
     → one ≡ other
 same_tapes pieces one other long numbered in_one in_other = ext_get_or [] one other long at
   where
@@ -143,8 +144,9 @@ same_tapes pieces one other long numbered in_one in_other = ext_get_or [] one ot
     at i within =
         let once : times i (numbers_below (length one)) ≡ 1 = once_below i (length one) within in
         let same : times i (numbers_of pieces) ≡ times i (numbers_below (length one)) = numbered i in
-        let is = found (StandsIn one) (StandsIn other) i pieces (omega arith)
-        (recursion_from_All (StandsIn one) pieces in_one) (recursion_from_All (StandsIn other) pieces in_other) in
+        let is = found (IsAmongPieces one) (IsAmongPieces other) i pieces (omega arith)
+        (recursion_from_All (IsAmongPieces one) pieces in_one)
+            (recursion_from_All (IsAmongPieces other) pieces in_other) in
         get_or_from_slice_get one i is.0.1 [] (ap (slice_get one) (sym is.1) ∙ is.2)
         ∙ sym (get_or_from_slice_get other i is.0.1 [] (ap (slice_get other) (sym is.1) ∙ is.3))
 
@@ -154,7 +156,7 @@ if_ok P Q (Err e) gives is = is
 
 -- Gathered pieces of records are the records' tapes.
 pub are_tapes : (records : List Record) (pieces : List (ℕ × List ℕ)) (tapes : List (List ℕ))
-    → All (IsPieceOf records) pieces
+    → All (IsPieceOfRecord records) pieces
     → AreGathered (length records) pieces tapes
     → tapes ≡ map tape_of_record records
 are_tapes records pieces tapes made is =

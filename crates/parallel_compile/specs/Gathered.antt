@@ -10,14 +10,14 @@ abbrev pub numbers_of : List (ℕ × List ℕ) → List ℕ
 numbers_of pieces = map (λ (piece : ℕ × List ℕ). piece.0) pieces
 
 -- the piece's tape is at the place of its number
-abbrev pub StandsIn : List (List ℕ) → (ℕ × List ℕ) → Type 0
-StandsIn tapes piece = slice_get tapes piece.0 ≡ Some piece.1
+abbrev pub IsAmongPieces : List (List ℕ) → (ℕ × List ℕ) → Type 0
+IsAmongPieces tapes piece = slice_get tapes piece.0 ≡ Some piece.1
 
 -- The numbers of the pieces are those below n, each once, and each piece is in its place.
 pub record AreGathered (n : ℕ) (pieces : List (ℕ × List ℕ)) (tapes : List (List ℕ)) : Type 0 where
   pub numbered : AreSame (numbers_of pieces) (numbers_below n)
   pub long : length tapes ≡ n
-  pub placed : All (StandsIn tapes) pieces
+  pub placed : All (IsAmongPieces tapes) pieces
 
 -- The number isn't given as often as it should be: once below n, and never from n on.
 abbrev pub IsBad : ℕ → List ℕ → ℕ → Type 0

@@ -7,9 +7,9 @@ use Rattle.cbsp_wire.specs.declared.message.Cell.{Cell}
 use Rattle.cbch_blocks.specs.Blocks.{blocks_of_page}
 use Rattle.cbch_blocks.specs.RecordBlocks.{tape_header}
 use Rattle.cbch_blocks.specs.Slots.{with_slot}
-use Rattle.order_desk.specs.declared.piece.Piece.{Piece}
-use Rattle.order_desk.specs.Desk.{Line}
-use Rattle.order_desk.specs.SettleSteps.{IsFirstNot, lesser}
+use Rattle.order_desk.specs.declared.desk.piece.Piece.{Piece}
+use Rattle.order_desk.specs.Desk.{DeskState}
+use Rattle.order_desk.specs.SettleSteps.{IsLeastFailing, lesser}
 use Rattle.parallel_compile.specs.declared.board.Board.{Board}
 use Rattle.parallel_compile.specs.declared.board.Numbered.{Numbered}
 use Rattle.parallel_compile.specs.declared.filling.Filling.{Filling}
@@ -21,7 +21,7 @@ abbrev pub pieces_in : ℕ → ℕ
 pieces_in slots = (slots + 63) / 64
 
 -- a piece is the one with this place in the run of a cell
-pub record Fits (cell : Cell) (slots place : ℕ) (piece : Piece) : Type 0 where
+pub record FitsTape (cell : Cell) (slots place : ℕ) (piece : Piece) : Type 0 where
   pub of_cell : piece.cell ≡ cell
   pub begins : piece.from ≡ 64 * place
   pub within : piece.from < slots
@@ -46,7 +46,7 @@ pub record IsFilledOn (before after : Filling) : Type 0 where
 
 -- tapes under way for the cells of a desk: each has the header of its cell, the slots of a run, and a place for each
 -- piece
-pub record AreFillings (desk : Line) (fillings : List Filling) : Type 0 where
+pub record AreFillings (desk : DeskState) (fillings : List Filling) : Type 0 where
   pub headed : map (λ (f : Filling). take 8 f.tape) fillings ≡ map (λ cell. tape_header cell desk.slots) desk.cells
   pub long : All (λ f. length f.tape ≡ 8 + 92 * desk.slots) fillings
   pub places : All (λ f. length f.came.items ≡ pieces_in desk.slots) fillings
@@ -60,32 +60,32 @@ abbrev pub IsCompleteAt : List Filling → ℕ → Type 0
 IsCompleteAt fillings number = (f : Filling) → slice_get fillings number ≡ Some f → IsComplete f
 
 -- a piece of the cell of this number fits a place that is free
-pub record HasPlace (desk : Line) (fillings : List Filling) (number place : ℕ) (piece : Piece) : Type 0 where
+pub record HasFilling (desk : DeskState) (fillings : List Filling) (number place : ℕ) (piece : Piece) : Type 0 where
   pub cell : Cell
   pub filling : Filling
   pub named : slice_get desk.cells number ≡ Some cell
   pub there : slice_get fillings number ≡ Some filling
-  pub fits : Fits cell desk.slots place piece
+  pub fits : FitsTape cell desk.slots place piece
   pub free : slice_get filling.came.items place ≡ Some false
 
 -- and was put in it
-pub record IsTaken (desk : Line) (number : ℕ) (piece : Piece) (before after : List Filling) : Type 0 where
+pub record IsTaken (desk : DeskState) (number : ℕ) (piece : Piece) (before after : List Filling) : Type 0 where
   pub place : ℕ
-  pub has : HasPlace desk before number place piece
+  pub has : HasFilling desk before number place piece
   pub filled : Filling
   pub put : IsPut place piece has.filling filled
   pub now : after ≡ set before number filled
 
 -- a piece of the cell of this number came: it was put in its place, or has none that is free, and spoils its number
-abbrev pub HasCome : Line → Numbered → (before : Board) → (after : Board) → Type 0
+abbrev pub HasCome : DeskState → Numbered → (before : Board) → (after : Board) → Type 0
 HasCome desk n before after =
     (IsTaken desk n.number n.piece before.fillings.items after.fillings.items × (after.spoilt ≡ before.spoilt))
-    ⊎ (((k : ℕ) → HasPlace desk before.fillings.items n.number k n.piece → ⊥)
+    ⊎ (((k : ℕ) → HasFilling desk before.fillings.items n.number k n.piece → ⊥)
     × (after.fillings.items ≡ before.fillings.items)
     × (after.spoilt ≡ lesser before.spoilt (Some n.number)))
 
 -- these pieces came, one after the other
-abbrev pub HaveCome : Line → List Numbered → Board → Board → Type 0
+abbrev pub HaveCome : DeskState → List Numbered → Board → Board → Type 0
 HaveCome desk [] before after = after ≡ before
 HaveCome desk (n ∷ later) before after =
     (between : Board) × HasCome desk n before between × HaveCome desk later between after
@@ -94,7 +94,7 @@ HaveCome desk (n ∷ later) before after =
 -- that is spoilt
 abbrev pub IsLeastFaulty : List Filling → Option ℕ → ℕ → Type 0
 IsLeastFaulty fillings spoilt index =
-    (missing : Option ℕ) × IsFirstNot (IsCompleteAt fillings) missing × (lesser spoilt missing ≡ Some index)
+    (missing : Option ℕ) × IsLeastFailing (IsCompleteAt fillings) missing × (lesser spoilt missing ≡ Some index)
 
 -- why there are no tapes of a board
 abbrev pub IsOfBoard : List Filling → Option ℕ → CompileFault → Type 0

@@ -3,12 +3,12 @@
 -- records.
 use Rattle.std.specs.Prelude.{◌≡◌, ◌<◌, ◌≤◌, ◌+◌, ◌*◌, ◌⊎◌, ℕ, List, length, map, take, All}
 use Rattle.cbch_blocks.specs.RecordBlocks.{tape_header}
-use Rattle.order_desk.specs.Desk.{Line}
+use Rattle.order_desk.specs.Desk.{DeskState}
 use Rattle.parallel_compile.specs.declared.fault.CompileFault.{CompileFault}
 use Rattle.parallel_compile.specs.declared.fault.CompileFault.TheVariants as fault
 
 -- tapes have the headers of a desk's cells, in their order, and as many slots as its runs
-pub record AreTapesFor (desk : Line) (tapes : List (List ℕ)) : Type 0 where
+pub record AreTapesFor (desk : DeskState) (tapes : List (List ℕ)) : Type 0 where
   pub headed : map (take 8) tapes ≡ map (λ cell. tape_header cell desk.slots) desk.cells
   pub long : All (λ tape. length tape ≡ 8 + 92 * desk.slots) tapes
 

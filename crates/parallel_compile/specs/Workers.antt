@@ -3,7 +3,7 @@ use Rattle.std.specs.Prelude.{◌≡◌, ◌<◌, ◌≤◌, ◌+◌, ◌⊎◌,
 use Rattle.cbch_blocks.specs.RecordBlocks.{tape_of_record}
 use Rattle.bsc_table.specs.Record.{Record}
 use Rattle.tickets.specs.Draws.{CounterState, SeatState, IsSeatOf}
-use Rattle.parallel_compile.specs.Gathered.{numbers_of, StandsIn}
+use Rattle.parallel_compile.specs.Gathered.{numbers_of, IsAmongPieces}
 use Rattle.parallel_compile.specs.declared.fault.CompileFault.{CompileFault}
 use Rattle.parallel_compile.specs.declared.fault.CompileFault.TheVariants as fault
 
@@ -14,8 +14,8 @@ IsOfWorkers workers fault.Refused = (0 < workers) × (workers ≤ 64)
 IsOfWorkers workers (fault.Piece index) = ⊥
 
 -- the piece's tape is that of the record with its number
-abbrev pub IsPieceOf : List Record → (ℕ × List ℕ) → Type 0
-IsPieceOf records piece = StandsIn (map tape_of_record records) piece
+abbrev pub IsPieceOfRecord : List Record → (ℕ × List ℕ) → Type 0
+IsPieceOfRecord records piece = IsAmongPieces (map tape_of_record records) piece
 
 -- a counter's first seat after so many splits
 abbrev pub IsSplit : CounterState → ℕ → SeatState → Type 0
@@ -30,4 +30,4 @@ pub record IsDone (counter : CounterState) (records : List Record) (parts : ℕ)
   pub parts_are : seat.parts ≡ parts
   pub over_is : seat.over ≡ over
   pub drawn : numbers_of pieces ≡ seat.drawn
-  pub made : All (IsPieceOf records) pieces
+  pub made : All (IsPieceOfRecord records) pieces

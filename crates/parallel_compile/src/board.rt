@@ -1,9 +1,10 @@
 //! The tapes of a desk's cells while their pieces come, and the first fault among these.
 
 ghost use Rattle.std.specs.Prelude.{◌≡◌, ℕ, IfErr, IfOk, None, false, map, true};
-ghost use Rattle.order_desk.specs.SettleSteps.{IsFirstNot};
+ghost use Rattle.order_desk.specs.SettleSteps.{IsLeastFailing};
 ghost use Rattle.parallel_compile.specs.declared.fault.CompileFault.TheVariants as faults;
-ghost use Rattle.parallel_compile.specs.StreamSteps.{AreFillings, HasCome, HasPlace, HaveCome, IsCompleteAt, IsOfBoard};
+ghost use Rattle.parallel_compile.specs.StreamSteps.{AreFillings, HasCome, HasFilling, HaveCome, IsCompleteAt};
+ghost use Rattle.parallel_compile.specs.StreamSteps.{IsOfBoard};
 ghost use Rattle.parallel_compile.specs.StreamSteps.{IsTaken};
 ghost use Rattle.parallel_compile.specs.Streamed.{AreTapesFor};
 
@@ -35,7 +36,7 @@ fn fill(fillings: &mut Vec<Filling>, cells: &[Cell], slots: u16, numbered: &Numb
     ensures stays { AreFillings (record { cells = cells.now; slots = slots }) fillings.new.items }
     ensures taken { result ≡ true → IsTaken (record { cells = cells.now; slots = slots }) numbered.now.number
         numbered.now.piece fillings.old.items fillings.new.items }
-    ensures left { result ≡ false → (fillings.new.items ≡ fillings.old.items) × ((k : ℕ) → HasPlace
+    ensures left { result ≡ false → (fillings.new.items ≡ fillings.old.items) × ((k : ℕ) → HasFilling
         (record { cells = cells.now; slots = slots }) fillings.old.items numbered.now.number k numbered.now.piece → ⊥) }
 {
     let place = numbered.number as usize;
@@ -48,7 +49,7 @@ fn fill(fillings: &mut Vec<Filling>, cells: &[Cell], slots: u16, numbered: &Numb
 
 /// The least place of a tape of which a piece is missing.
 fn first_incomplete(fillings: &[Filling]) -> Option<u64>
-    ensures { IsFirstNot (IsCompleteAt fillings.now) result }
+    ensures { IsLeastFailing (IsCompleteAt fillings.now) result }
 {
     for place in 0..fillings.len() {
         if !fillings[place].is_complete() {

@@ -6,7 +6,7 @@ ghost use Rattle.std.specs.List.{slice_get};
 ghost use Rattle.cbch_blocks.specs.RecordBlocks.{tape_of_record};
 ghost use Rattle.cbch_blocks.specs.Slots.{silent_record};
 ghost use Rattle.parallel_compile.specs.declared.fault.CompileFault.TheVariants as faults;
-ghost use Rattle.parallel_compile.specs.StreamSteps.{Fits, IsComplete, IsFilledOn, IsPut, pieces_in, with_pages};
+ghost use Rattle.parallel_compile.specs.StreamSteps.{FitsTape, IsComplete, IsFilledOn, IsPut, pieces_in, with_pages};
 
 use crate::fault::CompileFault;
 use cbch_blocks::Tape;
@@ -47,8 +47,8 @@ fn none_came(alloc: Global, slots: u16) -> Result<Vec<bool>, CompileFault>
 /// The place of a piece in the run of a cell; None unless it begins where a piece of that run does and has all of its
 /// slots.
 fn place_of(cell: Cell, slots: u16, piece: &Piece) -> Option<usize>
-    ensures { MatchOption result ((k : ℕ) → Fits cell slots k piece.now → ⊥)
-        (λ place. Fits cell slots place piece.now) }
+    ensures { MatchOption result ((k : ℕ) → FitsTape cell slots k piece.now → ⊥)
+        (λ place. FitsTape cell slots place piece.now) }
 {
     let begins = piece.from % PIECE == 0 && piece.from < slots;
     if piece.cell == cell
@@ -105,10 +105,10 @@ impl Filling {
     pub(crate) fn put(&mut self, cell: Cell, slots: u16, piece: &Piece) -> bool
         requires long { length self.old.tape ≡ 8 + 92 * slots }
         requires places { length self.old.came.items ≡ pieces_in slots }
-        ensures put { result ≡ true → (k : ℕ) × Fits cell slots k piece.now
+        ensures put { result ≡ true → (k : ℕ) × FitsTape cell slots k piece.now
             × (slice_get self.old.came.items k ≡ Some false) × IsPut k piece.now self.old self.new }
         ensures left { result ≡ false → (self.new ≡ self.old)
-            × ((k : ℕ) → Fits cell slots k piece.now → slice_get self.old.came.items k ≢ Some false) }
+            × ((k : ℕ) → FitsTape cell slots k piece.now → slice_get self.old.came.items k ≢ Some false) }
         ensures stays { IsFilledOn self.old self.new }
     {
         match place_of(cell, slots, piece) {

@@ -4,7 +4,7 @@ ghost use Rattle.std.specs.Prelude.{◌≡◌, IfErr, IfOk};
 ghost use Rattle.parallel_compile.specs.Gathered.{AreGathered, IsOfPieces, numbers_of};
 
 use crate::fault::CompileFault;
-use crate::place::{first_free, free_places, lesser, put_all, taken_out};
+use crate::place::{first_free, free_places, lesser, put_all, unwrap_all};
 use cbch_blocks::Tape;
 use std::alloc::Global;
 
@@ -25,6 +25,6 @@ pub fn gather(alloc: Global, n: usize, pieces: Vec<(u64, Tape)>) -> Result<Vec<T
     let missing = first_free(places.as_slice());
     match lesser(spoilt, missing) {
         Some(index) => Err(CompileFault::Piece { index }),
-        None => taken_out(alloc, places),
+        None => unwrap_all(alloc, places),
     }
 }

@@ -5,7 +5,7 @@ ghost use Rattle.std.specs.Prelude.{length, replicate};
 ghost use Rattle.std.specs.List.{slice_get};
 ghost use Rattle.parallel_compile.specs.declared.fault.CompileFault.TheVariants as faults;
 ghost use Rattle.parallel_compile.specs.Gathered.{numbers_of};
-ghost use Rattle.order_desk.specs.SettleSteps.{IsFirstNot, lesser as lesser_of};
+ghost use Rattle.order_desk.specs.SettleSteps.{IsLeastFailing, lesser as lesser_of};
 ghost use Rattle.parallel_compile.specs.Places.{ArePut};
 
 use crate::fault::CompileFault;
@@ -69,7 +69,7 @@ pub(crate) fn put_all(places: &mut Vec<Option<Tape>>, pieces: Vec<(u64, Tape)>) 
 
 /// The least place that is free.
 pub(crate) fn first_free(places: &[Option<Tape>]) -> Option<u64>
-    ensures { IsFirstNot (λ x. slice_get places.now x ≢ Some None) result }
+    ensures { IsLeastFailing (λ x. slice_get places.now x ≢ Some None) result }
 {
     for place in 0..places.len() {
         if places[place].is_none() {
@@ -80,7 +80,7 @@ pub(crate) fn first_free(places: &[Option<Tape>]) -> Option<u64>
 }
 
 /// The tapes of places of which none is free.
-pub(crate) fn taken_out(alloc: Global, places: Vec<Option<Tape>>) -> Result<Vec<Tape>, CompileFault>
+pub(crate) fn unwrap_all(alloc: Global, places: Vec<Option<Tape>>) -> Result<Vec<Tape>, CompileFault>
     requires { All (λ place. place ≢ None) places.items }
     ensures ok { IfOk result (λ tapes. places.items ≡ map Some tapes.items) }
     ensures err { IfErr result (λ fault. fault ≡ faults.Refused) }

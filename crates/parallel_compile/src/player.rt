@@ -26,39 +26,39 @@ pub(crate) struct Ended {
 
 /// Why a worker ends before all numbers are drawn.
 #[derive(Clone, Copy, Debug, PartialEq, Eq)]
-enum Halt {
+enum PlayerStop {
     /// Out of memory.
     Refused,
     /// Nobody receives any more, or the desk gives no piece. The collector finds which pieces are missing.
     Left,
 }
 
-impl From<DeskFault> for Halt {
-    fn from(fault: DeskFault) -> Halt {
+impl From<DeskFault> for PlayerStop {
+    fn from(fault: DeskFault) -> PlayerStop {
         match fault {
-            DeskFault::Memory { .. } => Halt::Refused,
-            _ => Halt::Left,
+            DeskFault::Memory { .. } => PlayerStop::Refused,
+            _ => PlayerStop::Left,
         }
     }
 }
 
-impl From<AllocError> for Halt {
-    fn from(_error: AllocError) -> Halt {
-        Halt::Refused
+impl From<AllocError> for PlayerStop {
+    fn from(_error: AllocError) -> PlayerStop {
+        PlayerStop::Refused
     }
 }
 
-impl<T: Drop> From<AllocFailed<T>> for Halt {
-    fn from(_error: AllocFailed<T>) -> Halt {
-        Halt::Refused
+impl<T: Drop> From<AllocFailed<T>> for PlayerStop {
+    fn from(_error: AllocFailed<T>) -> PlayerStop {
+        PlayerStop::Refused
     }
 }
 
-impl From<SendError<Vec<Numbered>>> for Halt {
-    fn from(error: SendError<Vec<Numbered>>) -> Halt {
+impl From<SendError<Vec<Numbered>>> for PlayerStop {
+    fn from(error: SendError<Vec<Numbered>>) -> PlayerStop {
         match error {
-            SendError::OutOfMemory(_) => Halt::Refused,
-            SendError::Disconnected(_) => Halt::Left,
+            SendError::OutOfMemory(_) => PlayerStop::Refused,
+            SendError::Disconnected(_) => PlayerStop::Left,
         }
     }
 }
@@ -73,7 +73,7 @@ fn play_on<R: Wait, G: Gate>(
     number: u64,
     from: &mut u16,
     gate: &G,
-) -> Result<Vec<Numbered>, Halt>
+) -> Result<Vec<Numbered>, PlayerStop>
     requires { number < length desk.now.cells }
     ensures { IfOk result (λ _. from.old < desk.now.slots → from.old < from.new) }
 {
@@ -98,7 +98,7 @@ fn send_cell<R: Wait, G: Gate>(
     number: u64,
     gate: &G,
     to: &Sender<Vec<Numbered>>,
-) -> Result<(), Halt>
+) -> Result<(), PlayerStop>
     requires { number < length desk.now.cells }
 {
     let mut from = 0;
@@ -119,7 +119,7 @@ fn send_drawn<R: Wait, G: Gate>(
     pass: &mut Pass,
     gate: &G,
     to: &Sender<Vec<Numbered>>,
-) -> Result<(), Halt>
+) -> Result<(), PlayerStop>
     requires seat { IsSeatOf counter.now seat }
     requires limit { counter.now.limit ≡ length desk.now.cells }
 {
@@ -147,7 +147,7 @@ pub(crate) fn work<R: Wait, G: Gate>(
     let done = send_drawn(rt, alloc, desk, counter, seat, &mut pass, gate, &to);
     Ended {
         pass,
-        refused: done == Err(Halt::Refused),
+        refused: done == Err(PlayerStop::Refused),
     }
 }
 
@@ -160,7 +160,7 @@ fn put_cell<R: Wait, G: Gate>(
     number: u64,
     gate: &G,
     board: &mut Board,
-) -> Result<(), Halt>
+) -> Result<(), PlayerStop>
     requires number { number < length desk.now.cells }
     requires board { AreFillings desk.now board.old.fillings.items }
     ensures stays { AreFillings desk.now board.new.fillings.items }
@@ -182,7 +182,7 @@ fn put_cells<R: Wait, G: Gate>(
     pass: &mut Pass,
     gate: &G,
     board: &mut Board,
-) -> Result<(), Halt>
+) -> Result<(), PlayerStop>
     requires { AreFillings desk.now board.old.fillings.items }
     ensures stays { AreFillings desk.now board.new.fillings.items }
     ensures came { (pieces : List Numbered) × HaveCome desk.now pieces board.old board.new }
@@ -209,6 +209,6 @@ pub(crate) fn work_alone<R: Wait, G: Gate>(
     let done = put_cells(rt, alloc, desk, &mut pass, gate, board);
     Ended {
         pass,
-        refused: done == Err(Halt::Refused),
+        refused: done == Err(PlayerStop::Refused),
     }
 }

@@ -4,7 +4,7 @@ ghost use Rattle.std.specs.Prelude.{◌≡◌, ◌+◌, ◌≤◌, ◌<◌, All,
 ghost use Rattle.tickets.specs.Draws.{AreSame, IsSeatOf, first_seat, new_seat, numbers_below};
 ghost use Rattle.parallel_compile.specs.declared.fault.CompileFault.TheVariants as faults;
 ghost use Rattle.parallel_compile.specs.Gathered.{numbers_of};
-ghost use Rattle.parallel_compile.specs.Workers.{IsDone, IsPieceOf, IsSplit};
+ghost use Rattle.parallel_compile.specs.Workers.{IsDone, IsPieceOfRecord, IsSplit};
 
 use crate::fault::CompileFault;
 use bsc_table::CellRecord;
@@ -112,7 +112,7 @@ pub(crate) fn pieces_of<R: Threads + Sync, G: Gate>(
     requires some { 0 < workers }
     requires few { workers ≤ 64 }
     ensures numbers { IfOk result (λ pieces. AreSame (numbers_of pieces.items) (numbers_below (length records.now))) }
-    ensures tapes { IfOk result (λ pieces. All (IsPieceOf records.now) pieces.items) }
+    ensures tapes { IfOk result (λ pieces. All (IsPieceOfRecord records.now) pieces.items) }
     ensures err { IfErr result (λ fault. fault ≡ faults.Refused) }
 {
     let (counter, mut first) = Counter::new(alloc, records.len() as u64)?;

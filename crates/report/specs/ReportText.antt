@@ -6,7 +6,7 @@ use Rattle.csv.specs.Writing.{default_writer, row_text}
 use Rattle.hex.specs.Hex.{encode_lower}
 use Rattle.report.specs.declared.row.Row.{Row}
 use Rattle.report.specs.declared.row.Showing.{Showing}
-use Rattle.report.specs.declared.row.Showing.TheVariants as showing
+use Rattle.report.specs.declared.row.Showing.TheVariants as shown_status
 
 -- a line of fields, as CSV quotes them, with LF at its end
 abbrev pub line : List (List ℕ) → List ℕ
@@ -24,9 +24,9 @@ serial_text serial = encode_lower ((serial / 256) ∷ (serial % 256) ∷ [])
 
 -- a cause has two lower hexadecimal digits
 abbrev pub showing_text : Showing → List ℕ
-showing_text showing.Yes = codes "yes"
-showing_text showing.No = codes "no"
-showing_text (showing.Refused cause) = codes "refused " ++ encode_lower (cause ∷ [])
+showing_text shown_status.Yes = codes "yes"
+showing_text shown_status.No = codes "no"
+showing_text (shown_status.Refused cause) = codes "refused " ++ encode_lower (cause ∷ [])
 
 -- a row's line: the serial number is hexadecimal, the other numbers are decimal
 abbrev pub row_line : Row → List ℕ

@@ -68,8 +68,8 @@ stop_at log place =
     option_map_or (λ e. stop_of_command (drop (place + 1) log) e.command) (slice_get log place) None
 
 -- where the message of a write ends that starts at this slot, by its stop
-abbrev pub end_by : (slots start period broadcasts : ℕ) → Option ℕ → ℕ
-end_by slots start period broadcasts stop =
+abbrev pub end_slot : (slots start period broadcasts : ℕ) → Option ℕ → ℕ
+end_slot slots start period broadcasts stop =
     unwrap_or stop (if broadcasts == 0 then slots else min (start + broadcasts * period) slots)
 
 -- the row of a write that was accepted, by its start
@@ -83,7 +83,7 @@ started_row cell slots shown stop completed
       id = id;
       serial = serial;
       start = start;
-      end = end_by slots start period broadcasts stop;
+      end = end_slot slots start period broadcasts stop;
       completed = completed;
       shown = showing_of (is_shown shown id serial);
     })

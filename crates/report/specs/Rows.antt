@@ -20,7 +20,7 @@ use Rattle.handset.specs.Reception.{ShownMessage}
 use Rattle.handset.specs.Tape.{TapeReading}
 use Rattle.report.specs.declared.row.Row.{Row}
 use Rattle.report.specs.declared.row.Showing.{Showing}
-use Rattle.report.specs.declared.row.Showing.TheVariants as showing
+use Rattle.report.specs.declared.row.Showing.TheVariants as shown_status
 
 -- the slot at which a message that nothing stopped ends in a run of so many slots: where the periods of its requested
 -- broadcasts are over, if that comes before the run's end, and else that
@@ -37,8 +37,8 @@ abbrev pub is_shown : List ShownMessage → (id serial : ℕ) → Bool
 is_shown shown id serial = list_any (λ m. (m.id == id) && (m.serial == serial)) shown
 
 abbrev pub showing_of : Bool → Showing
-showing_of true = showing.Yes
-showing_of false = showing.No
+showing_of true = shown_status.Yes
+showing_of false = shown_status.No
 
 -- the row of an accepted message: its completed broadcasts are counted at the end of the run
 abbrev pub message_row : Record → List ShownMessage → Accepted → Row
@@ -63,7 +63,7 @@ refusal_row cell id serial slot cause = record {
   start = slot;
   end = slot;
   completed = 0;
-  shown = showing.Refused cause;
+  shown = shown_status.Refused cause;
 }
 
 -- the row of a command, by its answer, where that is a refusal

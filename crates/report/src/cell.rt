@@ -4,10 +4,10 @@ ghost use Rattle.std.specs.Prelude.{◌≡◌, ◌++◌, List, OnOk, length};
 ghost use Rattle.handset.specs.Reception.{ShownMessage};
 ghost use Rattle.handset.specs.Keeping.{messages_of};
 ghost use Rattle.report.specs.Rows.{cell_rows, is_shown, showing_of};
-ghost use Rattle.report.specs.RowSteps.{HasNames, end_by, refused_row, row_by, rows_by, started_row};
+ghost use Rattle.report.specs.RowSteps.{HasNames, end_slot, refused_row, row_by, rows_by, started_row};
 
 use crate::last_pages::count_last_pages;
-use crate::names::Names;
+use crate::names::ShownIds;
 use crate::row::{Row, Showing};
 use crate::stops::stops_of;
 use bsc_table::{Answer, CellRecord, Command, Entry};
@@ -18,15 +18,15 @@ use std::alloc::{AllocError, Global};
 
 /// What the rows of a cell have in common.
 #[derive(Clone, Copy)]
-struct InCell<'a> {
+struct CellContext<'a> {
     cell: Cell,
     slots: u16,
-    shown: &'a Names,
+    shown: &'a ShownIds,
 }
 
 /// Where a message ends, by its start, period and broadcasts, and its stop.
-fn end_by(slots: u16, start: u32, period: u16, broadcasts: u16, stop: Option<u16>) -> u16
-    ensures { result ≡ end_by slots start period broadcasts stop }
+fn end_slot(slots: u16, start: u32, period: u16, broadcasts: u16, stop: Option<u16>) -> u16
+    ensures { result ≡ end_slot slots start period broadcasts stop }
 {
     if let Some(slot) = stop {
         return slot;
@@ -38,9 +38,9 @@ fn end_by(slots: u16, start: u32, period: u16, broadcasts: u16, stop: Option<u16
     over.min(u64::from(slots)) as u16
 }
 
-impl<'a> InCell<'a> {
+impl<'a> CellContext<'a> {
     /// Whether a message is shown.
-    fn showing(&self, id: u16, serial: Serial) -> Showing
+    fn shown_status(&self, id: u16, serial: Serial) -> Showing
         ensures { (shown : List ShownMessage) → HasNames self.now.shown.now shown
             → result ≡ showing_of (is_shown shown id serial) }
     {
@@ -75,9 +75,9 @@ impl<'a> InCell<'a> {
                 id: *id,
                 serial: *serial,
                 start,
-                end: end_by(self.slots, start, *period, *broadcasts, stop),
+                end: end_slot(self.slots, start, *period, *broadcasts, stop),
                 completed,
-                shown: self.showing(*id, *serial),
+                shown: self.shown_status(*id, *serial),
             }),
             Command::Kill { .. } => None,
             Command::Status { .. } => None,
@@ -169,8 +169,8 @@ pub fn push_cell(
     let slots = run.slots();
     let stops = stops_of(alloc, run.log())?;
     let completed = count_last_pages(alloc, run.log(), run.air())?;
-    let shown = Names::of(alloc, &reading.shown)?;
-    let in_cell = InCell {
+    let shown = ShownIds::of(alloc, &reading.shown)?;
+    let in_cell = CellContext {
         cell: run.cell(),
         slots,
         shown: &shown,

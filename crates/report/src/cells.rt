@@ -12,7 +12,7 @@ use handset::Reading;
 use std::alloc::{AllocError, Global};
 
 /// Whether the readings are of the same cells as the records, in the same order.
-fn are_of_one_cells(records: &[CellRecord], readings: &[Reading]) -> bool
+fn have_same_cells(records: &[CellRecord], readings: &[Reading]) -> bool
     ensures { IsTrue result ↔ AreOfOneCells records.now (readings_of readings.now) }
 {
     if records.len() != readings.len() {
@@ -66,7 +66,7 @@ pub fn rows(
     // Nothing is written here.
     ensures faults { IfErr result (λ fault. fault ≢ ReportFault.WriteFailed) }
 {
-    if !are_of_one_cells(records, readings) {
+    if !have_same_cells(records, readings) {
         return Err(ReportFault::Cells);
     }
     Ok(all_rows(alloc, records, readings)?)

@@ -13,11 +13,11 @@ use std::marker::Model;
 
 /// The pairs of the messages that are shown. In clauses these are the keys of its set.
 #[derive(Drop)]
-pub struct Names {
+pub struct ShownIds {
     pairs: HashSet<(u16, u16)>,
 }
 
-impl Model for Names {
+impl Model for ShownIds {
     ghost use Rattle.std.specs.Prelude.{List};
     ghost use Rattle.report.specs.RowSteps.{Pair};
 
@@ -26,13 +26,13 @@ impl Model for Names {
     ghost view = { λ names. names.pairs.keys };
 }
 
-impl Names {
+impl ShownIds {
     /// The pairs of these messages.
     ///
     /// # Errors
     ///
     /// Out of memory.
-    pub fn of(alloc: Global, shown: &[Shown]) -> Result<Names, AllocError>
+    pub fn of(alloc: Global, shown: &[Shown]) -> Result<ShownIds, AllocError>
         ensures { IfOk result (λ names. (id serial : ℕ)
             → has_name names id serial ≡ is_shown (messages_of shown.now) id serial) }
     {
@@ -40,7 +40,7 @@ impl Names {
         for message in shown {
             pairs.insert((message.id, message.serial.number()))?;
         }
-        Ok(Names { pairs })
+        Ok(ShownIds { pairs })
     }
 
     /// Whether a message of this pair is shown.

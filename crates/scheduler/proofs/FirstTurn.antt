@@ -6,10 +6,10 @@ use Rattle.std.specs.List.{All, AllPairs}
 use Rattle.std.proofs.lemmas.Bool.{cases_Bool, eqb-true, eq-eqb, false≢true}
 use Rattle.std.proofs.lemmas.Option.{none-some, same_Some}
 use Rattle.std.proofs.lemmas.List.{get_or-map, length-map}
-use Rattle.scheduler.specs.declared.queue.Node.{Node}
-use Rattle.scheduler.specs.declared.kept.Kept.{Kept}
+use Rattle.scheduler.specs.declared.tournament.Node.{Node}
+use Rattle.scheduler.specs.declared.progress.Progress.{Progress}
 use Rattle.scheduler.specs.declared.scheduled.Scheduled.{Scheduled}
-use Rattle.scheduler.specs.declared.turn.Ahead.{Ahead}
+use Rattle.scheduler.specs.declared.turn.First.{First}
 use Rattle.scheduler.specs.declared.plan.Rank.{Rank}
 use Rattle.scheduler.specs.declared.plan.Rank.TheVariants.{High, Normal, Background}
 use Rattle.scheduler.specs.Message.{due, broadcast_at}
@@ -30,7 +30,7 @@ pub all_awake : (slot : ℕ) (nodes : List Node) (k : ℕ) (d : Node) → IsTree
     → k < length nodes → slot < (get_or nodes k d).kept.until
 all_awake slot nodes k d tree awake h =
     let first = ahead_of_all nodes tree k in
-    let mine = ap (λ (a : Ahead). a.wake) (own_at-is nodes k d h) in
+    let mine = ap (λ (a : First). a.wake) (own_at-is nodes k d h) in
     omega (arith, first.wake, mine, awake)
 
 -- a message as it is seen, by its place
@@ -52,34 +52,34 @@ class_few Normal = omega arith
 class_few Background = omega arith
 
 -- an open message has a turn
-open_turn : (k : Kept) → k.is_open ≡ true → (own k).first ≡ turn_of k
+open_turn : (k : Progress) → k.is_open ≡ true → (own k).first ≡ turn_of k
 open_turn k is = rw is refl
 
-turn_few : (k : Kept) → HasTurn k → turn_of k < no_turn
+turn_few : (k : Progress) → HasTurn k → turn_of k < no_turn
 turn_few k has =
     is_turn (layer_of k.scheduled.item.rank) k.until (class_of k.scheduled.item.rank) k.scheduled.item.entry
     (layer_few k.scheduled.item.rank) has.slot (class_few k.scheduled.item.rank) has.number
 
 -- its number is at the end of it
-pub turn_entry : (k : Kept) → HasTurn k → turn_of k % 65536 ≡ k.scheduled.item.entry
+pub turn_entry : (k : Progress) → HasTurn k → turn_of k % 65536 ≡ k.scheduled.item.entry
 turn_entry k has = omega (arith, has.number)
 
 -- a turn is that of an open message
-turn_open : (k : Kept) (t : ℕ) → (own k).first ≡ t → t < no_turn → (k.is_open ≡ true) × (turn_of k ≡ t)
+turn_open : (k : Progress) (t : ℕ) → (own k).first ≡ t → t < no_turn → (k.is_open ≡ true) × (turn_of k ≡ t)
 turn_open k t is less = elim (cases_Bool k.is_open) [
   | inl opened ↦ (opened, sym (open_turn k opened) ∙ is)
   | inr shut ↦ absurd (let none : (own k).first ≡ no_turn = rw shut refl in omega (arith, none, is, less))
 ]
 
 -- where there is no first turn no message is open
-none_open : (a : Ahead) (k : Kept) → HasTurn k → a.first ≡ no_turn → IsAhead a (own k) → k.is_open ≡ false
+none_open : (a : First) (k : Progress) → HasTurn k → a.first ≡ no_turn → IsAhead a (own k) → k.is_open ≡ false
 none_open a k has none ahead = elim (cases_Bool k.is_open) [
   | inr shut ↦ shut
   | inl opened ↦ absurd (omega (arith, ahead.first, none, open_turn k opened, turn_few k has))
 ]
 
 -- an open message is due when it is looked at again
-open_due : (slot : ℕ) (k : Kept) → IsRight slot k → slot < k.until → k.is_open ≡ true
+open_due : (slot : ℕ) (k : Progress) → IsRight slot k → slot < k.until → k.is_open ≡ true
     → k.until ≡ due (message_of k.scheduled) (broadcast_at (message_of k.scheduled) slot)
 open_due slot k right awake opened = elim (right.timed slot (omega arith) awake) [
   | inl window ↦ window.1
@@ -87,7 +87,7 @@ open_due slot k right awake opened = elim (right.timed slot (omega arith) awake)
 ]
 
 -- of two open messages, the one whose turn comes no later is served no later
-served_first : (slot : ℕ) (a b : Kept) → HasTurn a → HasTurn b
+served_first : (slot : ℕ) (a b : Progress) → HasTurn a → HasTurn b
     → a.until ≡ due (message_of a.scheduled) (broadcast_at (message_of a.scheduled) slot)
     → b.until ≡ due (message_of b.scheduled) (broadcast_at (message_of b.scheduled) slot)
     → turn_of a ≤ turn_of b → IsServedFirst slot a.scheduled b.scheduled
@@ -119,7 +119,7 @@ pub first_at : (slot : ℕ) (nodes : List Node) (t place : ℕ) (d : Node) → A
     → IsTurnOf slot nodes t place d
 first_at slot nodes t place d kept rising awake is less found =
     let one = first_is_one nodes kept.tree t (length nodes) 0 (omega arith) is less in
-    let mine = ap (λ (a : Ahead). a.first) (sym (own_at-is nodes one.0 d one.1.0)) ∙ one.1.1 in
+    let mine = ap (λ (a : First). a.first) (sym (own_at-is nodes one.0 d one.1.0)) ∙ one.1.1 in
     let open_one = turn_open (get_or nodes one.0 d).kept t mine less in
     let named = sym (turn_entry (get_or nodes one.0 d).kept (turn_at nodes one.0 d one.1.0 kept.turns))
     ∙ ap (λ n. n % 65536) open_one.1 in
@@ -145,7 +145,7 @@ first_of_ready slot nodes t place d kept awake is first k h ready =
     let till = all_awake slot nodes k d kept.tree awake h in
     let is_open = sym (right.ready slot (omega arith) till) ∙ ready in
     let ahead = (ahead_of_all nodes kept.tree k).first in
-    let own_turn = ap (λ (a : Ahead). a.first) (own_at-is nodes k d h) ∙ open_turn other is_open in
+    let own_turn = ap (λ (a : First). a.first) (own_at-is nodes k d h) ∙ open_turn other is_open in
     let turns : turn_of mine ≤ turn_of other = omega (arith, ahead, is, first.turn, own_turn) in
     served_first slot mine other (turn_at nodes place d first.within kept.turns) (turn_at nodes k d h kept.turns)
     (open_due slot mine (right_at slot nodes place d first.within kept.right)
@@ -193,7 +193,7 @@ choice_of_none slot nodes kept awake none = λ k e within.
     let inside : k < length nodes = omega (arith, long, longer, within) in
     let till = all_awake slot nodes k d kept.tree awake inside in
     let other = seen_at slot nodes k d e inside ∙ seen_is (get_or nodes k d).kept slot till in
-    let Ahead_of : Ahead → Type 0 = λ x. IsAhead (ahead_at nodes 0) x in
+    let Ahead_of : First → Type 0 = λ x. IsAhead (ahead_at nodes 0) x in
     let ahead = subst Ahead_of (own_at-is nodes k d inside) (ahead_of_all nodes kept.tree k) in
     ap (λ x. is_ready x slot) other ∙ ((right_at slot nodes k d inside kept.right).ready slot (omega arith) till
     ∙ none_open (ahead_at nodes 0) (get_or nodes k d).kept (turn_at nodes k d inside kept.turns) none ahead)
@@ -221,7 +221,7 @@ first_has_more slot nodes t place d first =
     (is_ready-parts (get_or nodes place d).kept.scheduled slot first.ready).2
 
 -- the same of the messages alone
-pub kept_awake : (slot : ℕ) (nodes : List Node) (k : ℕ) (d : Kept) → IsTree nodes → slot < (ahead_at nodes 0).wake
+pub kept_awake : (slot : ℕ) (nodes : List Node) (k : ℕ) (d : Progress) → IsTree nodes → slot < (ahead_at nodes 0).wake
     → k < length (kept_in nodes) → slot < (get_or (kept_in nodes) k d).until
 kept_awake slot nodes k d tree awake h =
     let e : Node = record { kept = d; ahead = nothing_ahead } in

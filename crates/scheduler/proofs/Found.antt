@@ -6,9 +6,9 @@ use Rattle.std.proofs.lemmas.Bool.{eq-eqb, ne_eqb}
 use Rattle.std.proofs.lemmas.Option.{none-some}
 use Rattle.std.proofs.lemmas.List.{get_or_default, length-map, map_push, set_at}
 use Rattle.std.proofs.lemmas.List.Elements.{All-set}
-use Rattle.scheduler.specs.declared.queue.Node.{Node}
-use Rattle.scheduler.specs.declared.kept.Kept.{Kept}
-use Rattle.scheduler.specs.declared.turn.Ahead.{Ahead}
+use Rattle.scheduler.specs.declared.tournament.Node.{Node}
+use Rattle.scheduler.specs.declared.progress.Progress.{Progress}
+use Rattle.scheduler.specs.declared.turn.First.{First}
 use Rattle.scheduler.specs.declared.scheduled.Scheduled.{Scheduled}
 use Rattle.scheduler.specs.PlanSteps.{scheduled_stopped}
 use Rattle.scheduler.specs.QueueSteps.{kept_in, seen_in, IsRight, IsTree, IsTreeBut, AreRising, IsPlaceOf, IsFound}
@@ -122,7 +122,7 @@ stopped_none entry slot nodes none =
     let e : Node = record { kept = d; ahead = nothing_ahead } in
     let inside : k < length nodes = omega (arith, length-map nodes (λ (n : Node). n.kept), h) in
     let at = kept_at nodes k e inside in
-    let other = ne_eqb _ entry (λ same. none k e inside (sym (ap (λ (x : Kept). x.scheduled.item.entry) at)
+    let other = ne_eqb _ entry (λ same. none k e inside (sym (ap (λ (x : Progress). x.scheduled.item.entry) at)
     ∙ same)) in
     rw other refl)
     ∙ map_twice (λ (t : Scheduled). scheduled_stopped (t.item.entry == entry) slot t) (seen slot) (kept_in nodes)
@@ -140,7 +140,7 @@ stopped_one entry slot nodes place rising found =
     let inside : k < length nodes = omega (arith, length-map nodes (λ (n : Node). n.kept), h) in
     let at = kept_at nodes k e inside in
     let other = ne_eqb _ entry (λ same. apart (same_place nodes k place e rising inside found.0
-    (sym (ap (λ (x : Kept). x.scheduled.item.entry) at) ∙ (same ∙ sym (found.1 e))))) in
+    (sym (ap (λ (x : Progress). x.scheduled.item.entry) at) ∙ (same ∙ sym (found.1 e))))) in
     rw other refl)
     (λ d h.
     let at = sym (kept_at nodes place blank found.0) ∙ get_or_default (kept_in nodes) place blank.kept d h in
@@ -170,7 +170,7 @@ turns_aired nodes place within turns =
     All-set HasTurn (kept_in nodes) place _ (record { slot = has.slot; number = has.number }) turns
 
 -- a place more, with nothing ahead, leaves the others right
-pub push_others : (nodes : List Node) (k : Kept) → IsTree nodes
+pub push_others : (nodes : List Node) (k : Progress) → IsTree nodes
     → IsTreeBut (nodes ++ record { kept = k; ahead = nothing_ahead } ∷ []) (length nodes)
 push_others nodes k tree = λ place apart.
     node_is nodes (nodes ++ new ∷ []) place (ahead_same place) (own_same place apart)
@@ -179,7 +179,7 @@ push_others nodes k tree = λ place apart.
     new : Node
     new = record { kept = k; ahead = nothing_ahead }
 
-    past_or_there : (xs : List Ahead) (i : ℕ) → get_or (xs ++ nothing_ahead ∷ []) i nothing_ahead ≡ get_or xs i
+    past_or_there : (xs : List First) (i : ℕ) → get_or (xs ++ nothing_ahead ∷ []) i nothing_ahead ≡ get_or xs i
         nothing_ahead
     past_or_there [] zero = refl
     past_or_there [] (suc i) = refl
@@ -192,7 +192,7 @@ push_others nodes k tree = λ place apart.
         ap (λ xs. get_or xs i nothing_ahead) (map_push (λ (n : Node). n.ahead) nodes new)
         ∙ past_or_there (map (λ (n : Node). n.ahead) nodes) i
 
-    but_last : (xs : List Ahead) (x : Ahead) (i : ℕ) → i ≢ length xs → get_or (xs ++ x ∷ []) i nothing_ahead ≡ get_or
+    but_last : (xs : List First) (x : First) (i : ℕ) → i ≢ length xs → get_or (xs ++ x ∷ []) i nothing_ahead ≡ get_or
         xs i nothing_ahead
     but_last [] x zero apart = absurd (apart refl)
     but_last [] x (suc i) apart = refl

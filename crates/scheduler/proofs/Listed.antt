@@ -4,8 +4,8 @@ use Rattle.std.proofs.Common.{Bool, true, false, cond, leb, inl, inr, refl, sym,
 use Rattle.std.specs.List.{All}
 use Rattle.std.proofs.lemmas.List.{get_or-set_other, get_or-set_same, length-set}
 use Rattle.std.proofs.lemmas.Bool.{cases_lt, cases_eq, leb-true, leb-false}
-use Rattle.scheduler.specs.declared.turn.Ahead.{Ahead}
-use Rattle.scheduler.specs.declared.queue.Node.{Node}
+use Rattle.scheduler.specs.declared.turn.First.{First}
+use Rattle.scheduler.specs.declared.tournament.Node.{Node}
 use Rattle.scheduler.specs.QueueSteps.{ahead_at, own_at, seen_in, kept_in, IsRight, HasTurn, AreKept}
 use Rattle.scheduler.specs.QueueSteps.{IsNode, IsTree, KeepsNodesBut, IsDue, AreListed, AreDue}
 use Rattle.scheduler.proofs.Tree.{ahead_at-past, below_one, below_awake, node_awake, first_is_ahead}
@@ -14,7 +14,7 @@ use Rattle.scheduler.proofs.Tree.{ahead_at-past, below_one, below_awake, node_aw
 pub due_within : (slot : ℕ) (nodes : List Node) (k : ℕ) → slot < 4294967295 → IsDue slot nodes k → k < length nodes
 due_within slot nodes k few due = elim (cases_lt k (length nodes)) [
   | inl within ↦ within
-  | inr past ↦ absurd (omega (arith, few, due, ap (λ (a : Ahead). a.wake) (ahead_at-past nodes k past)))
+  | inr past ↦ absurd (omega (arith, few, due, ap (λ (a : First). a.wake) (ahead_at-past nodes k past)))
 ]
 
 -- the place above one that is due is due
@@ -44,7 +44,7 @@ pub listed_end : (slot : ℕ) (nodes : List Node) (listed : List ℕ) (count bou
     → AreListed slot nodes listed count further
 listed_end slot nodes listed count bound further few are more past =
     listed_past slot nodes listed count bound further are more (λ k h g.
-    omega (arith, few, ap (λ (a : Ahead). a.wake) (ahead_at-past nodes k (omega (arith, past, h)))))
+    omega (arith, few, ap (λ (a : First). a.wake) (ahead_at-past nodes k (omega (arith, past, h)))))
 
 -- what is written behind the listed places changes none of these
 pub listed_other : (listed : List ℕ) (count place i : ℕ) → i < count
@@ -275,7 +275,7 @@ pub renewed_more : (slot : ℕ) (listed : List ℕ) (count left : ℕ) (old mid 
 renewed_more slot listed count left old mid new few tree due within was long seen right turns others mine node keeps =
     let place = get_or listed left 0 in
     let wake : (k : ℕ) → k ≢ place → (ahead_at new k).wake ≡ (ahead_at mid k).wake = λ k apart.
-    ap (λ (a : Ahead). a.wake) (others k apart) in
+    ap (λ (a : First). a.wake) (others k apart) in
     let more : (k : ℕ) → k ≢ place → ((i : ℕ) → i < left → get_or listed i 0 ≢ k) → (i : ℕ) → i < left + 1
     → get_or listed i 0 ≢ k = λ k apart but i h same.
     elim (cases_lt i left) [

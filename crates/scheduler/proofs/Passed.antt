@@ -5,8 +5,8 @@ use Rattle.std.specs.List.{All}
 use Rattle.std.proofs.lemmas.Bool.{eq-eqb, ne_eqb}
 use Rattle.std.proofs.lemmas.List.{get_or_default, length-map}
 use Rattle.std.proofs.lemmas.List.Elements.{All-set}
-use Rattle.scheduler.specs.declared.queue.Node.{Node}
-use Rattle.scheduler.specs.declared.kept.Kept.{Kept}
+use Rattle.scheduler.specs.declared.tournament.Node.{Node}
+use Rattle.scheduler.specs.declared.progress.Progress.{Progress}
 use Rattle.scheduler.specs.declared.scheduled.Scheduled.{Scheduled}
 use Rattle.scheduler.specs.PlanSteps.{IsChoice, is_ready, after_slot}
 use Rattle.scheduler.specs.QueueSteps.{kept_in, seen_in, IsRight, AreKept, AreRising, IsPlaceOf, seen, aired, ahead_at}
@@ -102,11 +102,11 @@ seen_after_used slot nodes used place d kept rising awake here =
     ∙ get_or_default (kept_in nodes) place d.kept e h))
     ∙ map_twice (after_slot slot (Some used)) (seen slot) (kept_in nodes)
   where
-    other_place : (k : ℕ) (e : Kept) → k < length (kept_in nodes)
+    other_place : (k : ℕ) (e : Progress) → k < length (kept_in nodes)
         → (get_or (kept_in nodes) k e).scheduled.item.entry ≡ used.0 → k ≡ place
     other_place k e h named =
         let inside : k < length nodes = omega (arith, length-map nodes (λ (n : Node). n.kept), h) in
-        let is = ap (λ (x : Kept). x.scheduled.item.entry) (sym (kept_at nodes k d inside)
+        let is = ap (λ (x : Progress). x.scheduled.item.entry) (sym (kept_at nodes k d inside)
         ∙ get_or_default (kept_in nodes) k d.kept e h) in
         same_place nodes k place d rising inside here.within (is ∙ (named ∙ sym here.named))
 

@@ -5,9 +5,9 @@ use Rattle.std.specs.List.{All}
 use Rattle.std.proofs.lemmas.Bool.{cases_lt}
 use Rattle.std.proofs.lemmas.List.{get_or_default, map-set, set-get_or, get_or-map, length-map}
 use Rattle.std.proofs.lemmas.List.Elements.{All-set}
-use Rattle.scheduler.specs.declared.queue.Node.{Node}
-use Rattle.scheduler.specs.declared.kept.Kept.{Kept}
-use Rattle.scheduler.specs.QueueSteps.{kept_in, seen_in, IsRight, renewed, seen, AreRising, IsPlaceOf}
+use Rattle.scheduler.specs.declared.tournament.Node.{Node}
+use Rattle.scheduler.specs.declared.progress.Progress.{Progress}
+use Rattle.scheduler.specs.QueueSteps.{kept_in, seen_in, IsRight, refreshed, seen, AreRising, IsPlaceOf}
 use Rattle.scheduler.proofs.Lists.{rising-same}
 use Rattle.scheduler.proofs.Tree.{put_in, put_kept}
 use Rattle.scheduler.proofs.Windows.{seen_renewed}
@@ -24,19 +24,19 @@ right_at slot nodes place d h right =
     rw (← kept_at nodes place d h) (right place d.kept (omega (arith, length-map nodes (λ (n : Node). n.kept))))
 
 -- and stays so where one is written that is right
-pub right_put : (slot : ℕ) (nodes : List Node) (place : ℕ) (k : Kept) → IsRight slot k
+pub right_put : (slot : ℕ) (nodes : List Node) (place : ℕ) (k : Progress) → IsRight slot k
     → All (IsRight slot) (kept_in nodes) → All (IsRight slot) (kept_in (put_in nodes place k))
 right_put slot nodes place k here right =
     rw (put_kept nodes place k) (All-set (IsRight slot) (kept_in nodes) place k here right)
 
 -- a message that is looked at again is seen as before
 pub seen_put_renewed : (slot : ℕ) (nodes : List Node) (place : ℕ) (d : Node) → place < length nodes
-    → map (seen slot) (set (kept_in nodes) place (renewed slot (get_or nodes place d).kept)) ≡ seen_in slot nodes
+    → map (seen slot) (set (kept_in nodes) place (refreshed slot (get_or nodes place d).kept)) ≡ seen_in slot nodes
 seen_put_renewed slot nodes place d h =
     let here = seen_renewed (get_or nodes place d).kept slot ∙ (ap (seen slot) (sym (kept_at nodes place d h))
     ∙ sym (get_or-map (seen slot) (kept_in nodes) place d.kept (seen slot d.kept)
     (omega (arith, length-map nodes (λ (n : Node). n.kept))))) in
-    map-set (seen slot) (kept_in nodes) place (renewed slot (get_or nodes place d).kept)
+    map-set (seen slot) (kept_in nodes) place (refreshed slot (get_or nodes place d).kept)
     ∙ (ap (λ t. set (seen_in slot nodes) place t) here ∙ set-get_or (seen_in slot nodes) place (seen slot d.kept))
 
 -- where the numbers rise, each message before one of a lesser number has a lesser one

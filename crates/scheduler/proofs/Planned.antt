@@ -9,7 +9,7 @@ use Rattle.std.proofs.lemmas.Bool.{false≢true}
 use Rattle.std.proofs.lemmas.List.{length-map, length_push, with_items_is, map_push}
 use Rattle.scheduler.specs.declared.scheduled.Scheduled.{Scheduled}
 use Rattle.scheduler.specs.declared.plan.Item.{Item}
-use Rattle.scheduler.specs.declared.queue.Node.{Node}
+use Rattle.scheduler.specs.declared.tournament.Node.{Node}
 use Rattle.scheduler.specs.PlanSteps.{IsSound}
 use Rattle.scheduler.specs.Follows.{messages_of}
 use Rattle.scheduler.specs.QueueSteps.{HasTurn, kept_in, seen_in, seen, kept_new, AreRising, IsRight, IsTree, IsPlan}

@@ -5,9 +5,9 @@ use Rattle.std.specs.List.{All}
 use Rattle.std.proofs.lemmas.List.{length-map, get_or-map, map-set, get_or-set_same, get_or-set_other}
 use Rattle.std.proofs.lemmas.List.{get_or_past, set-get_or}
 use Rattle.std.proofs.lemmas.Bool.{cases_lt, cases_eq}
-use Rattle.scheduler.specs.declared.turn.Ahead.{Ahead}
-use Rattle.scheduler.specs.declared.kept.Kept.{Kept}
-use Rattle.scheduler.specs.declared.queue.Node.{Node}
+use Rattle.scheduler.specs.declared.turn.First.{First}
+use Rattle.scheduler.specs.declared.progress.Progress.{Progress}
+use Rattle.scheduler.specs.declared.tournament.Node.{Node}
 use Rattle.scheduler.specs.QueueSteps.{aired, joined, nothing_ahead, no_turn, own, kept_in, ahead_at, own_at, node_with}
 use Rattle.scheduler.specs.QueueSteps.{ahead_among, ahead_below, seen_in, IsRight, HasTurn}
 use Rattle.scheduler.specs.QueueSteps.{IsNode, IsTree, IsTreeBut, KeepsNodesBut}
@@ -109,7 +109,7 @@ below_same old new place same =
 pub below_awake : (nodes : List Node) (place slot : ℕ) → slot < 4294967295
     → ((i : ℕ) → i < 8 → slot < (ahead_at nodes (place * 8 + 1 + i)).wake) → slot < (ahead_below nodes place).wake
 below_awake nodes place slot few awake =
-    let is = ap (λ (a : Ahead). a.wake) (below_is nodes place) in
+    let is = ap (λ (a : First). a.wake) (below_is nodes place) in
     omega (arith, is, among_awake nodes (place * 8 + 1) 8 slot few awake)
 
 -- the place above
@@ -122,8 +122,8 @@ pub below_one : (nodes : List Node) (k i : ℕ) → i < 8 → IsNode nodes k
 below_one nodes k i h node =
     let mine = own_at nodes k in
     let below = ahead_below nodes k in
-    let Goal : Ahead → Type 0 = λ a. IsAhead a (ahead_at nodes (k * 8 + 1 + i)) in
-    let Below : Ahead → Type 0 = λ a. IsAhead a (ahead_at nodes (k * 8 + 1 + i)) in
+    let Goal : First → Type 0 = λ a. IsAhead a (ahead_at nodes (k * 8 + 1 + i)) in
+    let Below : First → Type 0 = λ a. IsAhead a (ahead_at nodes (k * 8 + 1 + i)) in
     subst Goal (sym node) (IsAhead-trans (joined mine below) below (ahead_at nodes (k * 8 + 1 + i))
     (joined-right mine below) (subst Below (sym (below_is nodes k)) (among_ahead nodes (k * 8 + 1) 8 i h)))
 
@@ -149,38 +149,39 @@ ahead_of_all nodes tree k =
 pub first_is_one : (nodes : List Node) → IsTree nodes → (t n k : ℕ) → length nodes ≤ k + n
     → (ahead_at nodes k).first ≡ t → t < no_turn → (i : ℕ) × ((i < length nodes) × ((own_at nodes i).first ≡ t))
 first_is_one nodes tree t zero k h is less =
-    absurd (omega (arith, ap (λ (a : Ahead). a.first) (ahead_at-past nodes k (omega (arith, h))), is, less))
+    absurd (omega (arith, ap (λ (a : First). a.first) (ahead_at-past nodes k (omega (arith, h))), is, less))
 first_is_one nodes tree t (suc n) k h is less =
-    let node = ap (λ (a : Ahead). a.first) (tree k) in
+    let node = ap (λ (a : First). a.first) (tree k) in
     elim (cases_lt k (length nodes)) [
       | inr past ↦
-          absurd (omega (arith, ap (λ (a : Ahead). a.first) (ahead_at-past nodes k past), is, less))
+          absurd (omega (arith, ap (λ (a : First). a.first) (ahead_at-past nodes k past), is, less))
       | inl within ↦ elim (joined-one (own_at nodes k) (ahead_below nodes k)) [
         | inl here ↦ (k, (within, sym here ∙ (sym node ∙ is)))
         | inr below ↦
-            let first = ap (λ (a : Ahead). a.first) (below_is nodes k) in
+            let first = ap (λ (a : First). a.first) (below_is nodes k) in
             let one = among_one nodes (k * 8 + 1) 8 t (sym first ∙ (sym below ∙ (sym node ∙ is))) less in
             first_is_one nodes tree t n (k * 8 + 1 + one.0) (omega (arith, h)) one.1.1 less
       ]
     ]
 
 -- the places after a write
-abbrev pub put_in : List Node → ℕ → Kept → List Node
+abbrev pub put_in : List Node → ℕ → Progress → List Node
 put_in nodes place k = set nodes place (node_with nodes place k)
 
 -- the messages are then the old ones but for that one
-pub put_kept : (nodes : List Node) (place : ℕ) (k : Kept) → kept_in (put_in nodes place k) ≡ set (kept_in nodes) place k
+pub put_kept : (nodes : List Node) (place : ℕ) (k : Progress) → kept_in (put_in nodes place k) ≡ set
+    (kept_in nodes) place k
 put_kept nodes place k = map-set (λ (n : Node). n.kept) nodes place (node_with nodes place k)
 
 -- and what is ahead of another place is as it was
-pub put_others : (nodes : List Node) (place : ℕ) (k : Kept) (other : ℕ) → other ≢ place
+pub put_others : (nodes : List Node) (place : ℕ) (k : Progress) (other : ℕ) → other ≢ place
     → ahead_at (put_in nodes place k) other ≡ ahead_at nodes other
 put_others nodes place k other apart =
     ap (λ xs. get_or xs other nothing_ahead) (map-set (λ (n : Node). n.ahead) nodes place (node_with nodes place k))
     ∙ get_or-set_other (map (λ (n : Node). n.ahead) nodes) place other (node_with nodes place k).ahead nothing_ahead
     apart
 
-put_own : (nodes : List Node) (place : ℕ) (k : Kept) (other : ℕ) → other ≢ place
+put_own : (nodes : List Node) (place : ℕ) (k : Progress) (other : ℕ) → other ≢ place
     → own_at (put_in nodes place k) other ≡ own_at nodes other
 put_own nodes place k other apart =
     ap (λ ks. get_or (map own ks) other nothing_ahead) (put_kept nodes place k)
@@ -188,7 +189,7 @@ put_own nodes place k other apart =
     ∙ get_or-set_other (map own (kept_in nodes)) place other (own k) nothing_ahead apart)
 
 -- what is ahead of the message at the place alone is then that of the new one
-pub put_own_here : (nodes : List Node) (place : ℕ) (k : Kept) → place < length nodes
+pub put_own_here : (nodes : List Node) (place : ℕ) (k : Progress) → place < length nodes
     → own_at (put_in nodes place k) place ≡ own k
 put_own_here nodes place k h =
     ap (λ ks. get_or (map own ks) place nothing_ahead) (put_kept nodes place k)
@@ -197,7 +198,8 @@ put_own_here nodes place k h =
     (omega (arith, length-map (kept_in nodes) own, length-map nodes (λ (n : Node). n.kept))))
 
 -- the place that is written is right
-pub put_node : (nodes : List Node) (place : ℕ) (k : Kept) → place < length nodes → IsNode (put_in nodes place k) place
+pub put_node : (nodes : List Node) (place : ℕ) (k : Progress) → place < length nodes → IsNode
+    (put_in nodes place k) place
 put_node nodes place k h =
     let here = ap (λ xs. get_or xs place nothing_ahead) (map-set (λ (n : Node). n.ahead) nodes place
     (node_with nodes place k)) ∙ get_or-set_same (map (λ (n : Node). n.ahead) nodes) place
@@ -208,7 +210,7 @@ put_node nodes place k h =
     ∙ ap (λ a. joined (own_at (put_in nodes place k) place) a) (sym below)
 
 -- and the others stay right, but perhaps the one above it
-pub put_nodes : (nodes : List Node) (place : ℕ) (k : Kept) → place < length nodes
+pub put_nodes : (nodes : List Node) (place : ℕ) (k : Progress) → place < length nodes
     → KeepsNodesBut nodes (put_in nodes place k) place
 put_nodes nodes place k h = λ other below node.
     elim (cases_eq other place) [
@@ -219,7 +221,8 @@ put_nodes nodes place k h = λ other below node.
     ]
 
 -- and elsewhere all is right but perhaps the place above
-pub put_above : (nodes : List Node) (place : ℕ) (k : Kept) → place < length nodes → 0 < place → IsTreeBut nodes place
+pub put_above : (nodes : List Node) (place : ℕ) (k : Progress) → place < length nodes → 0 < place →
+    IsTreeBut nodes place
     → IsTreeBut (put_in nodes place k) ((place - 1) / 8)
 put_above nodes place k h below others = λ other not_above.
     elim (cases_eq other place) [
@@ -238,18 +241,18 @@ kept_same nodes place d h =
 pub node_awake : (nodes : List Node) (place slot : ℕ) → IsNode nodes place → slot < (own_at nodes place).wake
     → slot < (ahead_below nodes place).wake → slot < (ahead_at nodes place).wake
 node_awake nodes place slot node mine below =
-    let is = ap (λ (a : Ahead). a.wake) node in
+    let is = ap (λ (a : First). a.wake) node in
     omega (arith, is, mine, below)
 
 -- a message alone written over leaves what is ahead of the places as it was
-abbrev pub kept_as : List Node → ℕ → Node → Kept → List Node
+abbrev pub kept_as : List Node → ℕ → Node → Progress → List Node
 kept_as nodes place d k = set nodes place (record (get_or nodes place d) { kept = k })
 
-pub kept_as-kept : (nodes : List Node) (place : ℕ) (d : Node) (k : Kept)
+pub kept_as-kept : (nodes : List Node) (place : ℕ) (d : Node) (k : Progress)
     → kept_in (kept_as nodes place d k) ≡ set (kept_in nodes) place k
 kept_as-kept nodes place d k = map-set (λ (n : Node). n.kept) nodes place (record (get_or nodes place d) { kept = k })
 
-kept_as-ahead : (nodes : List Node) (place : ℕ) (d : Node) (k : Kept) (other : ℕ) → place < length nodes
+kept_as-ahead : (nodes : List Node) (place : ℕ) (d : Node) (k : Progress) (other : ℕ) → place < length nodes
     → ahead_at (kept_as nodes place d k) other ≡ ahead_at nodes other
 kept_as-ahead nodes place d k other h =
     ap (λ xs. get_or xs other nothing_ahead) (map-set (λ (n : Node). n.ahead) nodes place
@@ -257,7 +260,7 @@ kept_as-ahead nodes place d k other h =
     (sym (get_or-map (λ (n : Node). n.ahead) nodes place d d.ahead h)) ∙ set-get_or (map (λ (n : Node). n.ahead) nodes)
     place d.ahead))
 
-kept_as-own : (nodes : List Node) (place : ℕ) (d : Node) (k : Kept) (other : ℕ) → other ≢ place
+kept_as-own : (nodes : List Node) (place : ℕ) (d : Node) (k : Progress) (other : ℕ) → other ≢ place
     → own_at (kept_as nodes place d k) other ≡ own_at nodes other
 kept_as-own nodes place d k other apart =
     ap (λ ks. get_or (map own ks) other nothing_ahead) (kept_as-kept nodes place d k)
@@ -265,7 +268,7 @@ kept_as-own nodes place d k other apart =
     ∙ get_or-set_other (map own (kept_in nodes)) place other (own k) nothing_ahead apart)
 
 -- so the others stay right
-pub kept_as-others : (nodes : List Node) (place : ℕ) (d : Node) (k : Kept) → place < length nodes
+pub kept_as-others : (nodes : List Node) (place : ℕ) (d : Node) (k : Progress) → place < length nodes
     → IsTreeBut nodes place → IsTreeBut (kept_as nodes place d k) place
 kept_as-others nodes place d k h others = λ other apart.
     node_is nodes (kept_as nodes place d k) other (kept_as-ahead nodes place d k other h)
@@ -273,11 +276,11 @@ kept_as-others nodes place d k h others = λ other apart.
     (λ i g. kept_as-ahead nodes place d k (other * 8 + 1 + i) h)) (others other apart)
 
 -- the turn of a message stays where a page is left of its broadcast
-pub own_aired : (k : Kept) → k.is_open ≡ true → (aired k).is_open ≡ true → own k ≡ own (aired k)
+pub own_aired : (k : Progress) → k.is_open ≡ true → (aired k).is_open ≡ true → own k ≡ own (aired k)
 own_aired k was is = rw (was, is) refl
 
 -- what is ahead of the message at the place alone is then that of the new one
-kept_as-own_here : (nodes : List Node) (place : ℕ) (d : Node) (k : Kept) → place < length nodes
+kept_as-own_here : (nodes : List Node) (place : ℕ) (d : Node) (k : Progress) → place < length nodes
     → own_at (kept_as nodes place d k) place ≡ own k
 kept_as-own_here nodes place d k h =
     ap (λ ks. get_or (map own ks) place nothing_ahead) (kept_as-kept nodes place d k)
@@ -286,7 +289,7 @@ kept_as-own_here nodes place d k h =
     (omega (arith, length-map (kept_in nodes) own, length-map nodes (λ (n : Node). n.kept))))
 
 -- and where that is the same, all stays right
-pub kept_as-tree : (nodes : List Node) (place : ℕ) (d : Node) (k : Kept) → place < length nodes
+pub kept_as-tree : (nodes : List Node) (place : ℕ) (d : Node) (k : Progress) → place < length nodes
     → own_at nodes place ≡ own k → IsTree nodes → IsTree (kept_as nodes place d k)
 kept_as-tree nodes place d k h turn tree = λ other.
     node_is nodes (kept_as nodes place d k) other (kept_as-ahead nodes place d k other h)
@@ -310,7 +313,7 @@ pub ahead_at-is : (nodes : List Node) (k : ℕ) (d : Node) → k < length nodes
 ahead_at-is nodes k d h = get_or-map (λ (n : Node). n.ahead) nodes k d nothing_ahead h
 
 -- a write at a place that none is above leaves all right
-pub put_top : (nodes : List Node) (place : ℕ) (k : Kept) → place < length nodes → place ≡ 0 → IsTreeBut nodes place
+pub put_top : (nodes : List Node) (place : ℕ) (k : Progress) → place < length nodes → place ≡ 0 → IsTreeBut nodes place
     → IsTree (put_in nodes place k)
 put_top nodes place k h top others = λ other.
     elim (cases_eq other place) [
@@ -325,8 +328,8 @@ among_most nodes from (suc n) = omega (arith, among_most nodes from n)
 
 pub first_most : (nodes : List Node) (place : ℕ) → IsNode nodes place → (ahead_at nodes place).first ≤ no_turn
 first_most nodes place node =
-    let is = ap (λ (a : Ahead). a.first) node in
-    let below = ap (λ (a : Ahead). a.first) (below_is nodes place) in
+    let is = ap (λ (a : First). a.first) node in
+    let below = ap (λ (a : First). a.first) (below_is nodes place) in
     omega (arith, is, below, among_most nodes (place * 8 + 1) 8)
 
 -- the places below one after so many of them were looked at again: what is seen is as before, what is kept is right,
@@ -355,7 +358,7 @@ renewed_child slot place n old mid new was long seen right turns before awake no
   before = λ k h. before k (omega (arith, h)) ∙ was.before k h;
   awake = λ i h. elim (cases_lt i n) [
     | inl less ↦
-        let same = ap (λ (a : Ahead). a.wake) (before (place * 8 + 1 + i) (omega (arith, less))) in
+        let same = ap (λ (a : First). a.wake) (before (place * 8 + 1 + i) (omega (arith, less))) in
         omega (arith, same, was.awake i less)
     | inr not ↦
         let Awake : ℕ → Type 0 = λ j. slot < (ahead_at new (place * 8 + 1 + j)).wake in
@@ -373,13 +376,13 @@ among_more nodes from n =
     ap (ahead_among nodes from) next
 
 -- what is ahead of some messages and of others and of further ones
-joined-assoc : (a b c : Ahead) → joined a (joined b c) ≡ joined (joined a b) c
+joined-assoc : (a b c : First) → joined a (joined b c) ≡ joined (joined a b) c
 joined-assoc a b c =
     let first : min a.first (min b.first c.first) ≡ min (min a.first b.first) c.first = omega arith in
     let wake : min a.wake (min b.wake c.wake) ≡ min (min a.wake b.wake) c.wake = omega arith in
     rw (first, wake) refl
 
-joined-none : (a : Ahead) → IsAhead a nothing_ahead → joined a nothing_ahead ≡ a
+joined-none : (a : First) → IsAhead a nothing_ahead → joined a nothing_ahead ≡ a
 joined-none a most =
     let first : min a.first no_turn ≡ a.first = omega (arith, most.first) in
     let wake : min a.wake 4294967295 ≡ a.wake = omega (arith, most.wake) in

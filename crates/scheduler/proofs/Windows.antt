@@ -8,13 +8,13 @@ use Rattle.std.proofs.Math.Nat.{lt_of_mul-lt-mul_right, mul-lt-mul_of_pos_right,
 use Rattle.std.specs.Option.{is_some}
 use Rattle.scheduler.specs.declared.plan.Item.{Item}
 use Rattle.scheduler.specs.declared.scheduled.Scheduled.{Scheduled}
-use Rattle.scheduler.specs.declared.kept.Kept.{Kept}
+use Rattle.scheduler.specs.declared.progress.Progress.{Progress}
 use Rattle.scheduler.specs.Message.{ScheduledMessage, release, due, broadcast_at}
 use Rattle.scheduler.specs.Message.{HasBroadcast, has_broadcast, is_before_stop}
 use Rattle.scheduler.specs.Air.{airs}
 use Rattle.scheduler.specs.Follows.{message_of}
 use Rattle.scheduler.specs.PlanSteps.{IsFit, is_ready, after_slot}
-use Rattle.scheduler.specs.QueueSteps.{kept_new, begun, renewed, aired, stopped, seen, IsRight}
+use Rattle.scheduler.specs.QueueSteps.{kept_new, begun, refreshed, aired, stopped, seen, IsRight}
 use Rattle.scheduler.proofs.Air.{broadcast_at-released, broadcast_at-not_due, broadcast_at-only, next_release}
 use Rattle.scheduler.proofs.Air.{same_broadcast}
 use Rattle.scheduler.proofs.Message.{has_broadcast-says, has_broadcast-from}
@@ -28,7 +28,7 @@ ready_of : (t : Scheduled) (slot : ℕ) → leb t.item.start slot ≡ true
 ready_of t slot started requested standing pages = rw (started, requested, standing, pages) refl
 
 -- a message that is looked at later is seen as it is kept
-pub seen_is : (k : Kept) (slot : ℕ) → slot < k.until → seen slot k ≡ k.scheduled
+pub seen_is : (k : Progress) (slot : ℕ) → slot < k.until → seen slot k ≡ k.scheduled
 seen_is k slot h =
     ap (λ (b : Bool). record k.scheduled { pages_aired = cond b k.scheduled.pages_aired 0 }) (lt-ltb slot k.until h)
 
@@ -41,7 +41,7 @@ cond_zero : (b : Bool) → cond b 0 0 ≡ zero
 cond_zero b = same_both b 0
 
 -- what is kept of a message at a slot is true of it at the next one, where it is looked at later
-pub IsRight-later : (k : Kept) (slot : ℕ) → IsRight slot k → slot < k.until → IsRight (slot + 1) k
+pub IsRight-later : (k : Progress) (slot : ℕ) → IsRight slot k → slot < k.until → IsRight (slot + 1) k
 IsRight-later k slot right before = record {
   fit = record {
     some_pages = right.fit.some_pages;
@@ -56,7 +56,7 @@ IsRight-later k slot right before = record {
 }
 
 -- the pages of the broadcast under way, at the next slot: none where it ends there
-pages_next : (k : Kept) (slot pages : ℕ) → 0 < k.scheduled.item.period → slot < k.until
+pages_next : (k : Progress) (slot pages : ℕ) → 0 < k.scheduled.item.period → slot < k.until
     → ((k.scheduled.item.start ≤ slot) × (k.until ≡ due (message_of k.scheduled)
     (broadcast_at (message_of k.scheduled) slot))) ⊎ (pages ≡ 0)
     → cond (ltb (slot + 1) k.until) pages 0 ≡ cond (eqb ((slot + 1 - k.scheduled.item.start) % k.scheduled.item.period)
@@ -93,7 +93,7 @@ pages_next k slot pages period before timed =
     ]
 
 -- a message that the slot does not air
-pub seen_after_other : (k : Kept) (slot : ℕ) (used : Option (ℕ × ℕ)) → IsRight slot k → slot < k.until
+pub seen_after_other : (k : Progress) (slot : ℕ) (used : Option (ℕ × ℕ)) → IsRight slot k → slot < k.until
     → airs k.scheduled.item.entry used ≡ false → seen (slot + 1) k ≡ after_slot slot used (seen slot k)
 seen_after_other k slot used right before other =
     let timed : ((k.scheduled.item.start ≤ slot) × (k.until ≡ due (message_of k.scheduled)
@@ -109,7 +109,7 @@ seen_after_other k slot used right before other =
     unchanged)
 
 -- and the one that it airs
-pub seen_after_aired : (k : Kept) (slot : ℕ) (used : Option (ℕ × ℕ)) → IsRight slot k → slot < k.until
+pub seen_after_aired : (k : Progress) (slot : ℕ) (used : Option (ℕ × ℕ)) → IsRight slot k → slot < k.until
     → is_ready k.scheduled slot ≡ true
     → airs k.scheduled.item.entry used ≡ true → seen (slot + 1) (aired k) ≡ after_slot slot used (seen slot k)
 seen_after_aired k slot used right before ready named =
@@ -127,7 +127,7 @@ seen_after_aired k slot used right before ready named =
     }) pages)
 
 -- what is kept of it is right at the next slot
-pub IsRight-aired : (k : Kept) (slot : ℕ) → IsRight slot k → slot < k.until → is_ready k.scheduled slot ≡ true
+pub IsRight-aired : (k : Progress) (slot : ℕ) → IsRight slot k → slot < k.until → is_ready k.scheduled slot ≡ true
     → IsRight (slot + 1) (aired k)
 IsRight-aired k slot right before ready = record {
   fit = record {
@@ -152,7 +152,7 @@ IsRight-aired k slot right before ready = record {
     is_open = sym (right.ready slot (omega arith) before) ∙ ready
 
 -- a message that is looked at again is seen as before
-pub seen_renewed : (k : Kept) (slot : ℕ) → seen slot (renewed slot k) ≡ seen slot k
+pub seen_renewed : (k : Progress) (slot : ℕ) → seen slot (refreshed slot k) ≡ seen slot k
 seen_renewed k slot =
     elim (cases_lt slot k.until) [
       | inl before ↦ rw (lt-ltb slot k.until before) (seen_is k slot before)
@@ -173,8 +173,8 @@ begun_awake t slot period short =
     ]
 
 -- the same of any message
-pub renewed_awake : (k : Kept) (slot : ℕ) → 0 < k.scheduled.item.period → slot < 65536
-    → slot < (renewed slot k).until
+pub renewed_awake : (k : Progress) (slot : ℕ) → 0 < k.scheduled.item.period → slot < 65536
+    → slot < (refreshed slot k).until
 renewed_awake k slot period short =
     elim (cases_lt slot k.until) [
       | inl before ↦ rw (lt-ltb slot k.until before) before
@@ -309,8 +309,8 @@ begins_if t slot requested fit at none is =
     and_true false = refl
 
 -- so is what is kept of any message that is looked at again
-pub IsRight-renewed : (k : Kept) (slot : ℕ) → IsRight slot k → slot < 65536 → IsRight slot (renewed slot k)
-IsRight-renewed k slot right short =
+pub IsRight-refreshed : (k : Progress) (slot : ℕ) → IsRight slot k → slot < 65536 → IsRight slot (refreshed slot k)
+IsRight-refreshed k slot right short =
     elim (cases_lt slot k.until) [
       | inl before ↦ rw (lt-ltb slot k.until before) right
       | inr now ↦ rw (le-ltb slot k.until now) (begun_right (record k.scheduled { pages_aired = 0 }) slot
@@ -322,7 +322,7 @@ IsRight-renewed k slot right short =
     ]
 
 -- what is kept of a message that is stopped is right
-pub IsRight-stopped : (k : Kept) (slot : ℕ) → IsRight slot k → IsRight slot (stopped slot k)
+pub IsRight-stopped : (k : Progress) (slot : ℕ) → IsRight slot k → IsRight slot (stopped slot k)
 IsRight-stopped k slot right = record {
   fit = record {
     some_pages = right.fit.some_pages;

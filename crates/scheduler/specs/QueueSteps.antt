@@ -3,9 +3,9 @@ use Rattle.std.specs.Prelude.{◌≡◌, ◌≢◌, ℕ, ◌+◌, ◌*◌, ◌<�
 use Rattle.std.specs.Prelude.{if◌then◌else◌, Option, Some, None, List, length, map, slice_index_or, All, AllPairs}
 use Rattle.scheduler.specs.declared.plan.Item.{Item}
 use Rattle.scheduler.specs.declared.scheduled.Scheduled.{Scheduled}
-use Rattle.scheduler.specs.declared.turn.Ahead.{Ahead}
-use Rattle.scheduler.specs.declared.kept.Kept.{Kept}
-use Rattle.scheduler.specs.declared.queue.Node.{Node}
+use Rattle.scheduler.specs.declared.turn.First.{First}
+use Rattle.scheduler.specs.declared.progress.Progress.{Progress}
+use Rattle.scheduler.specs.declared.tournament.Node.{Node}
 use Rattle.scheduler.specs.Message.{release, due, broadcast_at}
 use Rattle.scheduler.specs.Air.{layer_of, class_of}
 use Rattle.scheduler.specs.Follows.{message_of}
@@ -21,29 +21,29 @@ abbrev pub no_turn : ℕ
 no_turn = 18446744073709551615
 
 -- what is ahead of some messages and of others
-abbrev pub joined : Ahead → Ahead → Ahead
+abbrev pub joined : First → First → First
 joined a b = record { first = min a.first b.first; wake = min a.wake b.wake }
 
 -- what is ahead of no message
-abbrev pub nothing_ahead : Ahead
+abbrev pub nothing_ahead : First
 nothing_ahead = record { first = no_turn; wake = 4294967295 }
 
 -- the turn of a message that has a pending broadcast
-abbrev pub turn_of : Kept → ℕ
+abbrev pub turn_of : Progress → ℕ
 turn_of k =
     turn_number (layer_of k.scheduled.item.rank) k.until (class_of k.scheduled.item.rank) k.scheduled.item.entry
 
 -- what is ahead of a message alone
-abbrev pub own : Kept → Ahead
+abbrev pub own : Progress → First
 own k = record { first = if k.is_open then turn_of k else no_turn; wake = k.until }
 
 -- its slot and its number have room in a turn
-pub record HasTurn (k : Kept) : Type 0 where
+pub record HasTurn (k : Progress) : Type 0 where
   pub slot : k.until < 4294967296
   pub number : k.scheduled.item.entry < 65536
 
 -- what is kept of a message that was just added
-abbrev pub kept_new : Item → Kept
+abbrev pub kept_new : Item → Progress
 kept_new item = record {
   scheduled = record { item = item; stop = None; pages_aired = 0; completed = 0 };
   until = item.start;
@@ -51,7 +51,7 @@ kept_new item = record {
 }
 
 -- what begins at the slot, where nothing is known up to it
-abbrev pub begun : ℕ → Scheduled → Kept
+abbrev pub begun : ℕ → Scheduled → Progress
 begun slot t = record {
   scheduled = t;
   until = if is_ready t slot then due (message_of t) (broadcast_at (message_of t) slot) else
@@ -60,11 +60,11 @@ begun slot t = record {
 }
 
 -- what is kept of a message at the slot
-abbrev pub renewed : ℕ → Kept → Kept
-renewed slot k = if nat_lt slot k.until then k else begun slot (record k.scheduled { pages_aired = 0 })
+abbrev pub refreshed : ℕ → Progress → Progress
+refreshed slot k = if nat_lt slot k.until then k else begun slot (record k.scheduled { pages_aired = 0 })
 
 -- what is kept of a message once its next page was aired
-abbrev pub aired : Kept → Kept
+abbrev pub aired : Progress → Progress
 aired k =
     let pages = k.scheduled.pages_aired + 1 in
     record k {
@@ -76,25 +76,25 @@ aired k =
     }
 
 -- what is kept of a message once it was stopped before the slot
-abbrev pub stopped : ℕ → Kept → Kept
+abbrev pub stopped : ℕ → Progress → Progress
 stopped slot k = record k { scheduled = record k.scheduled { stop = Some slot }; is_open = false }
 
 -- a message as it stands at the slot: what was aired before its last release is forgotten
-abbrev pub seen : ℕ → Kept → Scheduled
+abbrev pub seen : ℕ → Progress → Scheduled
 seen slot k = record k.scheduled { pages_aired = if nat_lt slot k.until then k.scheduled.pages_aired else 0 }
 
 -- the broadcast that is under way at the slot is due when the message is looked at again, or none of it was aired
-abbrev pub IsTimed : Kept → ℕ → Type 0
+abbrev pub IsTimed : Progress → ℕ → Type 0
 IsTimed k slot =
     ((k.scheduled.item.start ≤ slot) × (k.until ≡ due (message_of k.scheduled)
     (broadcast_at (message_of k.scheduled) slot))) ⊎ ((k.scheduled.pages_aired ≡ 0) × (k.is_open ≡ false))
 
 -- the slot at which a message is looked at again is the release of one of its broadcasts, or none
-abbrev pub IsReleaseOrNone : Kept → Type 0
+abbrev pub IsReleaseOrNone : Progress → Type 0
 IsReleaseOrNone k = ((j : ℕ) × (k.until ≡ release (message_of k.scheduled) j)) ⊎ (k.until ≡ 4294967295)
 
 -- what is kept of a message is true from the slot up to the one at which it is looked at again
-pub record IsRight (slot : ℕ) (k : Kept) : Type 0 where
+pub record IsRight (slot : ℕ) (k : Progress) : Type 0 where
   pub fit : IsFit k.scheduled slot
   pub ahead : slot ≤ k.until
   pub release : IsReleaseOrNone k
@@ -103,13 +103,13 @@ pub record IsRight (slot : ℕ) (k : Kept) : Type 0 where
   pub stopped : (stop : ℕ) → k.scheduled.stop ≡ Some stop → stop ≤ slot
 
 -- what stands at a place once it was looked at, with this below it
-abbrev pub renewed_node : ℕ → Ahead → Node → Node
+abbrev pub renewed_node : ℕ → First → Node → Node
 renewed_node slot below n =
-    let kept = renewed slot n.kept in
+    let kept = refreshed slot n.kept in
     record { kept = kept; ahead = joined (own kept) below }
 
 -- the messages, without what stands beside them
-abbrev pub kept_in : List Node → List Kept
+abbrev pub kept_in : List Node → List Progress
 kept_in nodes = map (λ n. n.kept) nodes
 
 -- and as they stand at the slot
@@ -117,24 +117,24 @@ abbrev pub seen_in : ℕ → List Node → List Scheduled
 seen_in slot nodes = map (seen slot) (kept_in nodes)
 
 -- what is kept as ahead of a place and of those below it: nothing past the end
-abbrev pub ahead_at : List Node → ℕ → Ahead
+abbrev pub ahead_at : List Node → ℕ → First
 ahead_at nodes place = slice_index_or (map (λ n. n.ahead) nodes) place nothing_ahead
 
 -- what is ahead of the message at a place alone
-abbrev pub own_at : List Node → ℕ → Ahead
+abbrev pub own_at : List Node → ℕ → First
 own_at nodes place = slice_index_or (map own (kept_in nodes)) place nothing_ahead
 
 -- what is ahead of so many places from one on
-abbrev pub ahead_among : List Node → ℕ → ℕ → Ahead
+abbrev pub ahead_among : List Node → ℕ → ℕ → First
 ahead_among nodes from zero = nothing_ahead
 ahead_among nodes from (suc n) = joined (ahead_among nodes from n) (ahead_at nodes (from + n))
 
 -- what is ahead of the eight places below one
-unfoldable pub ahead_below : List Node → ℕ → Ahead
+unfoldable pub ahead_below : List Node → ℕ → First
 ahead_below nodes place = ahead_among nodes (place * 8 + 1) 8
 
 -- what is ahead of a place that has this alone: that, and what is ahead of the places below it
-abbrev pub with_below : List Node → ℕ → Ahead → Ahead
+abbrev pub with_below : List Node → ℕ → First → First
 with_below nodes place mine = joined mine (ahead_below nodes place)
 
 -- and so it is kept there
@@ -150,7 +150,7 @@ abbrev pub IsTreeBut : List Node → ℕ → Type 0
 IsTreeBut nodes but = (place : ℕ) → place ≢ but → IsNode nodes place
 
 -- the place with this message
-abbrev pub node_with : List Node → ℕ → Kept → Node
+abbrev pub node_with : List Node → ℕ → Progress → Node
 node_with nodes place k = record { kept = k; ahead = with_below nodes place (own k) }
 
 -- what was kept right is still so, but perhaps at the place that this one is below

@@ -5,10 +5,10 @@
 //! keeps is its own: its contracts speak of the messages and of the whole air list alone.
 #![tactic(auto)]
 
-mod kept;
+mod progress;
 mod laws;
 mod plan;
-mod queue;
+mod tournament;
 mod scheduled;
 mod turn;
 

@@ -19,36 +19,36 @@ pub fn turn_number(layer: u8, due: u32, class: u8, entry: u16) -> u64
 /// What is ahead of some messages: the first turn among those with a pending broadcast, and the first slot at which
 /// one of them is to be looked at again.
 #[derive(Clone, Copy)]
-pub struct Ahead {
+pub struct First {
     /// The first turn, as one number; 2^64 - 1 where no message has a pending broadcast.
     pub first: u64,
     /// The first slot at which a pending broadcast is due, or a further one is released.
     pub wake: u32,
 }
 
-impl Ahead {
+impl First {
     /// What is ahead of no message.
-    pub fn nothing() -> Ahead
+    pub fn nothing() -> First
         ensures { result ≡ nothing_ahead }
     {
-        Ahead {
+        First {
             first: NO_TURN,
             wake: u32::MAX,
         }
     }
 
     /// What is ahead of these and of others.
-    pub fn joined(self, other: Ahead) -> Ahead
+    pub fn joined(self, other: First) -> First
         ensures { result ≡ joined self other }
     {
-        Ahead {
+        First {
             first: self.first.min(other.first),
             wake: self.wake.min(other.wake),
         }
     }
 
     /// Whether the same is ahead of others.
-    pub fn is(self, other: Ahead) -> bool
+    pub fn is(self, other: First) -> bool
         ensures { MatchBool result (self ≡ other) (self ≢ other) }
     {
         self.first == other.first && self.wake == other.wake

@@ -1,5 +1,6 @@
 -- Bits of a window that is cut out of two numbers side by side, as the code cuts octets and septets.
-use Rattle.std.proofs.Common.{◌≡◌, ℕ, ◌+◌, ◌-◌, ◌*◌, ◌/◌, ◌%◌, ◌^◌, ◌<◌, ◌≤◌, List, length, get_or, bit_and, bit_or, ◌≢◌}
+use Rattle.std.proofs.Common.{◌≡◌, ℕ, ◌+◌, ◌-◌, ◌*◌, ◌/◌, ◌%◌, ◌^◌, ◌<◌, ◌≤◌, List, length, get_or, bit_and, bit_or}
+use Rattle.std.proofs.Common.{◌≢◌}
 use Rattle.std.proofs.Common.{All, sym, ap, ◌∙◌, subst, inl, inr, arith}
 use Rattle.std.proofs.Common.{get_or-set_other, get_or-set_same}
 use Rattle.std.proofs.Math.ListN.{set, length-set}
@@ -118,11 +119,13 @@ pub record ArePacked (septets octets : List ℕ) (count : ℕ) : Type 0 where
 
 -- one octet more, of two septets of which the first begins s bits before it
 pub ArePacked-more : (septets octets : List ℕ) (place first s low high octet next : ℕ)
-    → ArePacked septets octets place → next ≡ place + 1 → place < 82 → 8 * place ≡ 7 * first + s → s < 7 → low ≡ get_or (filled septets) first 0
+    → ArePacked septets octets place → next ≡ place + 1 → place < 82 → 8 * place ≡ 7 * first + s → s < 7 → low ≡ get_or
+        (filled septets) first 0
     → high ≡ get_or (filled septets) (first + 1) 0 → low < 128 → octet < 256
     → octet ≡ (high * 128 + low) / 2 ^ s % 256
     → ArePacked septets (set octets place octet) next
-ArePacked-more septets octets place first s low high octet next had is_next within at in_group is_low is_high l fits is =
+ArePacked-more septets octets place first s low high octet next had is_next within at in_group is_low is_high l fits is
+    =
     let bits : HasBitsOf septets place octet = λ j below.
     packed_bit (filled septets) first s j low high octet is_low is_high l in_group below is
     ∙ (let same : 7 * first + s + j ≡ 8 * place + j = omega arith in ap (λ i. septet_bit (filled septets) i) same) in

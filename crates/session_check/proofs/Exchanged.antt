@@ -9,7 +9,7 @@ use Rattle.std.proofs.lemmas.Option.{same_Some}
 use Rattle.cbsp_wire.specs.declared.message.Cell.{Cell}
 use Rattle.cbsp_wire.specs.declared.message.Message.{Message}
 use Rattle.cbsp_wire.specs.Laws.{OneMeaning}
-use Rattle.alert_book.specs.declared.request.Request.{Request}
+use Rattle.alert_book.specs.declared.session.request.Request.{Request}
 use Rattle.alert_book.specs.Book.{Contents}
 use Rattle.alert_book.specs.Session.{after_reply, GivesRequest, IsGiven, Standing}
 use Rattle.alert_book.specs.Turns.{begun, GoesTo}
@@ -250,11 +250,11 @@ ends_by records from given is = (
 )
 
 -- a pass is a session's exactly where the session goes on by its notes of commands from its beginning
-pub is_session : (book : Contents) (part parts : ℕ) (records : List Record) (pass : List Note)
+pub is_pass_of_session : (book : Contents) (part parts : ℕ) (records : List Record) (pass : List Note)
     → cells_of records ≡ book.cells
     → GoesOnBy records (begun book part parts) (commands_in pass)
     ↔ ((exchanges : List Exchange) × IsSessionOf book part parts records pass exchanges)
-is_session book part parts records pass cells = (
+is_pass_of_session book part parts records pass cells = (
   λ by. (
     by.exchanges,
     record {

@@ -11,7 +11,7 @@ use Rattle.bsc_table.specs.declared.entry.Entry.{Entry}
 use Rattle.bsc_table.specs.Record.{Record}
 use Rattle.order_desk.specs.declared.note.Note.{Note}
 use Rattle.order_desk.specs.declared.note.Note.TheVariants as notes
-use Rattle.book_runs.specs.Run.{is_among, slot_of}
+use Rattle.book_runs.specs.Run.{is_among, given_slot}
 use Rattle.book_runs.specs.Sessions.{IsNoteOf, slot_before, slot_in}
 use Rattle.session_check.specs.NotedSteps.{IsRecordOf, NotesAnswer, asked_at, cells_of}
 
@@ -61,16 +61,16 @@ among_none records cell others =
 slot_split : (before after : List Record) (r : Record) (cell : Cell) (number at : ℕ)
     → AllByRecursion (λ other. is_cell cell other.cell ≡ false) before
     → is_cell cell r.cell ≡ true
-    → slot_in (before ++ r ∷ after) cell number at ≡ slot_of r.slots (slot_before r.log number) at
+    → slot_in (before ++ r ∷ after) cell number at ≡ given_slot r.slots (slot_before r.log number) at
 slot_split [] after r cell number at others own =
-    ap (λ b. cond b (slot_of r.slots (slot_before r.log number) at) (slot_in after cell number at)) own
+    ap (λ b. cond b (given_slot r.slots (slot_before r.log number) at) (slot_in after cell number at)) own
 slot_split (b ∷ before) after r cell number at others own =
-    ap (λ t. cond t (slot_of b.slots (slot_before b.log number) at)
+    ap (λ t. cond t (given_slot b.slots (slot_before b.log number) at)
     (slot_in (before ++ r ∷ after) cell number at)) others.0
     ∙ slot_split before after r cell number at others.1 own
 
 slot_found : (records : List Record) (cell : Cell) (r : Record) (number at : ℕ) → IsRecordOf records cell r
-    → slot_in records cell number at ≡ slot_of r.slots (slot_before r.log number) at
+    → slot_in records cell number at ≡ given_slot r.slots (slot_before r.log number) at
 slot_found records cell r number at found =
     ap (λ (rs : List Record). slot_in rs cell number at) found.split
     ∙ slot_split found.before found.after r cell number at
@@ -96,7 +96,7 @@ pub note_by_one : (records : List Record) (cell : Cell) (r : Record) (at : ℕ) 
     → IsNoteOf records (cell, asked_at at command answer) note
     → NotesAnswer r at cell command note answer
 note_by_one records cell r at command (notes.Event of number entry) answer found noted =
-    let slot : entry.slot ≡ slot_of r.slots (slot_before r.log number) at =
+    let slot : entry.slot ≡ given_slot r.slots (slot_before r.log number) at =
     ap (λ (e : Entry). e.slot) noted.1 ∙ ap (λ (c : Cell). slot_in records c number at) noted.0
     ∙ slot_found records cell r number at found in (
       noted.0,

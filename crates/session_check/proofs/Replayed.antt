@@ -6,7 +6,7 @@ use Rattle.std.specs.Global.{Global}
 use Rattle.cbsp_wire.specs.declared.message.Message.{Message}
 use Rattle.cbsp_wire.specs.Laws.{MeantIsFaultless, OneMeaning}
 use Rattle.cbsp_wire.specs.Meaning.{IsMessage}
-use Rattle.alert_book.specs.declared.request.Request.{Request}
+use Rattle.alert_book.specs.declared.session.request.Request.{Request}
 use Rattle.alert_book.specs.Book.{Contents}
 use Rattle.alert_book.specs.Session.{after_reply, session_of, IsGiven, IsReply, Standing}
 use Rattle.alert_book.specs.Stands.{left_in, Advances, SessionState, StandsFor}

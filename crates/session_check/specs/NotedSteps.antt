@@ -12,7 +12,7 @@ use Rattle.bsc_table.specs.declared.entry.Entry.{Entry}
 use Rattle.bsc_table.specs.Record.{Record}
 use Rattle.order_desk.specs.declared.note.Note.{Note}
 use Rattle.order_desk.specs.declared.note.Note.TheVariants as notes
-use Rattle.book_runs.specs.Run.{Asked, is_among, slot_of}
+use Rattle.book_runs.specs.Run.{Asked, is_among, given_slot}
 use Rattle.book_runs.specs.Sessions.{IsNoteOf, is_of_command, slot_before}
 
 -- the cells of records
@@ -48,7 +48,7 @@ asked_at at command answer = record { at = at; command = command; answer = answe
 -- an entry is the one of a number in a record's log that a command asked from a slot on has, whatever the answer
 pub record IsEntryOf (r : Record) (at : ℕ) (command : Command) (number : ℕ) (entry : Entry) : Type 0 where
   pub ordered : entry.command ≡ command
-  pub placed : entry.slot ≡ slot_of r.slots (slot_before r.log number) at
+  pub placed : entry.slot ≡ given_slot r.slots (slot_before r.log number) at
 
 -- a note says that the cell of a record gave a command that it was asked from a slot on this answer
 abbrev pub NotesAnswer : Record → (at : ℕ) → Cell → Command → Note → Answer → Type 0

@@ -8,12 +8,12 @@ ghost use Rattle.bsc_table.specs.declared.entry.Answer.{Answer};
 ghost use Rattle.order_desk.specs.declared.note.Note.{Note};
 ghost use Rattle.order_desk.specs.Reply.{IsAnswerTo, cells_answered};
 ghost use Rattle.order_desk.specs.ReplyLaws.{IsOrdered};
-ghost use Rattle.book_runs.specs.Run.{is_among, slot_of};
+ghost use Rattle.book_runs.specs.Run.{is_among, given_slot};
 ghost use Rattle.book_runs.specs.Sessions.{slot_before};
 ghost use Rattle.session_check.specs.NotedSteps.{AreAnswersNoted, AreStanding, IsAnswerNoted, IsEntryOf, IsRecordOf};
 ghost use Rattle.session_check.specs.NotedSteps.{NotesAnswer, StandsIn, cells_of, commands_in};
 
-use crate::notes::first_of_command;
+use crate::notes::next_command;
 use bsc_table::{Answer, CellRecord, Command, Entry};
 use cbsp_wire::{Cell, cause};
 use order_desk::Note;
@@ -47,7 +47,7 @@ fn slot_before(log: &[Entry], number: u16) -> u16
 
 /// The slot of the entry of a number, of a command that the history's cell was asked from slot `at` on.
 fn slot_in(history: &CellRecord, number: u16, at: u16) -> u16
-    ensures { result ≡ slot_of history.now.slots (slot_before history.now.log number) at }
+    ensures { result ≡ given_slot history.now.slots (slot_before history.now.log number) at }
 {
     history
         .slots()
@@ -129,7 +129,7 @@ fn answer_in<'a>(
     let Some(record) = record_of(records, cell) else {
         return Some((Answer::Cause(cause::CELL_IDENTITY_NOT_VALID), notes));
     };
-    let Some((note, rest)) = first_of_command(notes) else {
+    let Some((note, rest)) = next_command(notes) else {
         return None;
     };
     match answer_noted(record, at, cell, command, note) {

@@ -17,7 +17,7 @@ fn is_of_command(note: &Note) -> bool
 }
 
 /// The first note of a command, and the notes after it. It takes no memory.
-pub(crate) fn first_of_command(notes: &[Note]) -> Option<(&Note, &[Note])>
+pub(crate) fn next_command(notes: &[Note]) -> Option<(&Note, &[Note])>
     ensures none { IfNone result (commands_in notes.now ≡ []) }
     ensures some { IfSome result (λ found. commands_in notes.now ≡ found.0.now ∷ commands_in found.1.now) }
 {
@@ -32,8 +32,8 @@ pub(crate) fn first_of_command(notes: &[Note]) -> Option<(&Note, &[Note])>
 }
 
 /// Whether none of these notes is of a command. It takes no memory.
-pub(crate) fn are_of_plays(notes: &[Note]) -> bool
+pub(crate) fn has_no_commands(notes: &[Note]) -> bool
     ensures { IsTrue result ↔ (commands_in notes.now ≡ []) }
 {
-    first_of_command(notes).is_none()
+    next_command(notes).is_none()
 }

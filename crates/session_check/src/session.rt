@@ -10,7 +10,7 @@ ghost use Rattle.session_check.specs.NotedSteps.{AreStanding, cells_of, commands
 ghost use Rattle.session_check.specs.ReplaySteps.{IsNoTurn, IsTurnNoted};
 
 use crate::answers::answers_in;
-use crate::notes::are_of_plays;
+use crate::notes::has_no_commands;
 use alert_book::{Book, Session};
 use bsc_table::{CellRecord, Command, orders_of};
 use cbsp_wire::{Cell, WireFault, read};
@@ -18,7 +18,7 @@ use order_desk::{Note, reply_of};
 use std::alloc::{AllocError as Refused, Global};
 
 /// The cells that a message names, and the command to them; None if its octets are no order.
-fn order_in(alloc: Global, octets: &[u8]) -> Result<Option<(Vec<Cell>, Command)>, Refused>
+fn order_meant(alloc: Global, octets: &[u8]) -> Result<Option<(Vec<Cell>, Command)>, Refused>
     ensures some { IfOk result (λ found. IfSome found (λ order. IsOrderOf octets.now order.0.items order.1)) }
     ensures none { IfOk result (λ found. IfNone found ((cells : List Cell) (command : Command)
         → IsOrderOf octets.now cells command → ⊥)) }
@@ -53,7 +53,7 @@ fn reply_in<'a>(
 {
     // A message that octets mean names some cells, none twice, and means one order.
     cbsp_wire::meaning_law();
-    let Some((cells, command)) = order_in(alloc, octets)? else {
+    let Some((cells, command)) = order_meant(alloc, octets)? else {
         return Ok(None);
     };
     let Some((answers, rest)) = answers_in(alloc, records, at, &cells, &command, notes)? else {
@@ -65,7 +65,7 @@ fn reply_in<'a>(
 
 /// Whether a pass is that of the session of a part of a book. The session is served again: what the cells answered is
 /// read off the pass.
-pub(crate) fn is_session(
+pub(crate) fn is_pass_of_session(
     alloc: Global,
     book: &Book,
     part: u16,
@@ -92,5 +92,5 @@ pub(crate) fn is_session(
         left = rest;
         next = session.next(Some(&reply))?;
     }
-    Ok(are_of_plays(left))
+    Ok(has_no_commands(left))
 }

@@ -6,8 +6,8 @@ ghost use Rattle.book_runs.specs.Sessions.{AreSessions, IsRightPass};
 ghost use Rattle.session_check.specs.Checked.{HasRightNumbers, IsFirstWrongPass};
 ghost use Rattle.session_check.specs.NotedSteps.{cells_of};
 
-use crate::notes::are_of_plays;
-use crate::session::is_session;
+use crate::notes::has_no_commands;
+use crate::session::is_pass_of_session;
 use alert_book::Book;
 use bsc_table::CellRecord;
 use order_desk::{Pass, SettleFault};
@@ -15,7 +15,7 @@ use std::alloc::{AllocError as Refused, Global};
 
 /// Whether the pass of a place is right: that of the session of this part, or, after the parts, one without notes of
 /// commands.
-fn is_right(
+fn is_right_pass(
     alloc: Global,
     book: &Book,
     parts: u16,
@@ -30,9 +30,9 @@ fn is_right(
 {
     let notes = passes[place].notes();
     if place < usize::from(parts) {
-        return is_session(alloc, book, place as u16, parts, records, notes);
+        return is_pass_of_session(alloc, book, place as u16, parts, records, notes);
     }
-    Ok(are_of_plays(notes))
+    Ok(has_no_commands(notes))
 }
 
 /// Checks that passes are those of a book's sessions, against the records of the run that they worked at. The book was
@@ -62,7 +62,7 @@ pub fn check_sessions(
         → IsFirstWrongPass book.now parts records.now passes.now fault) }
 {
     for place in 0..passes.len() {
-        match is_right(alloc, book, parts, records, passes, place) {
+        match is_right_pass(alloc, book, parts, records, passes, place) {
             Ok(true) => {}
             Ok(false) => {
                 let part = place.min(usize::from(parts)) as u16;

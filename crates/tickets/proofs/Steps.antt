@@ -12,7 +12,8 @@ use Rattle.atomic_table.specs.Table.{homes_after, carried_after}
 use Rattle.atomic_table.proofs.Lists.{at_set, at_snoc}
 use Rattle.tickets.specs.declared.view.View.{View}
 use Rattle.tickets.specs.Draws.{times, numbers_below}
-use Rattle.tickets.specs.Rule.{total, Fits, IsGiven, Drew, numbered_view, late_view, kept_part, new_part, joined_view}
+use Rattle.tickets.specs.Rule.{total, Fits, IsHandedOut, Drew, numbered_view, late_view, kept_part, new_part}
+use Rattle.tickets.specs.Rule.{joined_view}
 use Rattle.tickets.specs.Rule.{spent_view}
 use Rattle.tickets.proofs.Totals.{times_append, is_below, total_set, total_more, total_same, total_snoc, total_has}
 use Rattle.tickets.proofs.Totals.{total_less, total_alone}
@@ -33,7 +34,7 @@ fits_set limit before after views id w more others mine by v e =
 -- what a draw asks for, of the words
 abbrev Drawn : {S : Type 0} → ℕ → ℕ → Me S View → Step S → State S View → List ℕ → Type 0
 Drawn {S} key id me st s words = (w : View) × (a : Act S) × Valid s.homes me.1 a
-    × IsGiven key record {
+    × IsHandedOut key record {
       words = slice_set words 0 ((slice_index words 0 + 1) % 2 ^ 64);
       homes = homes_after s.homes me.1 a;
       views = slice_set s.views id w;
@@ -41,7 +42,7 @@ Drawn {S} key id me st s words = (w : View) × (a : Act S) × Valid s.homes me.1
     × Drew st me (slice_index words 0) (w, carried_after me.1 a)
 
 pub draws : {S : Type 0} (slots id key : ℕ) (me : Me S View) (st : Step S) → me.0.limit ≡ key → me.0.late ≡ 0
-    → me.0.spare < me.0.parts → Allows (IsGiven key) slots id me 0 (λ n. (n + 1) % 2 ^ 64) (Drew st me)
+    → me.0.spare < me.0.parts → Allows (IsHandedOut key) slots id me 0 (λ n. (n + 1) % 2 ^ 64) (Drew st me)
 draws {S} slots id key me st same_limit not_late some_part s h homes at less =
     let v = me.0 in
     let word : ℕ = h.0 in
@@ -125,7 +126,7 @@ draws {S} slots id key me st same_limit not_late some_part s h homes at less =
     )))
 
 pub splits : {S : Type 0} (id key : ℕ) (v : View) → 0 < v.spare → v.spare < v.parts
-    → Splits {S = S} (IsGiven key) id v (kept_part v) (new_part v)
+    → Splits {S = S} (IsHandedOut key) id v (kept_part v) (new_part v)
 splits id key v some_spare some_part s h at =
     let word : ℕ = h.0 in
     let left = kept_part v in
@@ -159,7 +160,7 @@ splits id key v some_spare some_part s h at =
     )
 
 pub joins : {S : Type 0} (id key : ℕ) (v : View) (other : ℕ) (w : View)
-    → Joins {S = S} (IsGiven key) id v other w (joined_view v w) spent_view
+    → Joins {S = S} (IsHandedOut key) id v other w (joined_view v w) spent_view
 joins id key v other w s h at apart there =
     let word : ℕ = h.0 in
     let both = joined_view v w in
@@ -195,7 +196,7 @@ joins id key v other w s h at apart there =
     )
 
 pub closes : {S : Type 0} (id key r : ℕ) (v : View) (words : List ℕ) (slots : List S)
-    → Final (Seen (IsGiven key) id v) words slots → get_elem? words 0 ≡ some r
+    → Final (Seen (IsHandedOut key) id v) words slots → get_elem? words 0 ≡ some r
     → ((x : ℕ) → times x v.drawn ≤ times x (numbers_below (min key r)))
     × (v.parts ≡ 65 → (x : ℕ) → times x v.drawn ≡ times x (numbers_below (min key r)))
 closes id key r v words slots final read =

@@ -18,8 +18,8 @@ Fits limit word v = (v.late + v.spare ≤ v.parts) × (v.parts ≡ 0 → v.drawn
 
 -- The views have 65 parts, and have drawn the numbers below the word, those below the limit alone, each once. Past the
 -- limit the word has grown by the answers of None alone, so it can't wrap.
-abbrev pub IsGiven : {S : Type 0} → ℕ → State S View → Type 0
-IsGiven limit s = (word : ℕ) × (s.words ≡ word ∷ []) × (limit < 65536) × (total (λ v. v.parts) s.views ≡ 65)
+abbrev pub IsHandedOut : {S : Type 0} → ℕ → State S View → Type 0
+IsHandedOut limit s = (word : ℕ) × (s.words ≡ word ∷ []) × (limit < 65536) × (total (λ v. v.parts) s.views ≡ 65)
     × ((x : ℕ) → total (λ v. times x v.drawn) s.views ≡ times x (numbers_below (min limit word)))
     × (word ≤ limit + total (λ v. v.late) s.views)
     × ((by : ℕ) (v : View) → get_elem? s.views by ≡ some v → Fits limit word v)

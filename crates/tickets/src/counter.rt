@@ -15,7 +15,7 @@ ghost use Rattle.tickets.specs.Draws.{
   joined_seat,
 };
 
-use crate::view::{BothParts, Draw, Draws, OnePart, View};
+use crate::view::{BothParts, DrawStep, Draws, OnePart, View};
 use atomic_table::{Seat as Token, Table};
 use std::alloc::Global;
 use std::marker::Model;
@@ -123,7 +123,7 @@ impl Seat {
         let found = counter
             .table
             .shared
-            .fetch_add::<Draw>(&mut self.token, 0, 1);
+            .fetch_add::<DrawStep>(&mut self.token, 0, 1);
         if found < counter.limit {
             return Some(found);
         }

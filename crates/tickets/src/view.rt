@@ -21,17 +21,17 @@ pub struct View {
 pub struct Draws;
 
 impl TableRule<(), View, u64> for Draws {
-    ghost use Rattle.tickets.specs.Rule.{IsGiven, first_view};
+    ghost use Rattle.tickets.specs.Rule.{IsHandedOut, first_view};
 
-    ghost holds = { IsGiven };
+    ghost holds = { IsHandedOut };
 
     ghost first = { first_view };
 }
 
 /// A draw.
-pub struct Draw;
+pub struct DrawStep;
 
-impl Play<(), View> for Draw {
+impl Play<(), View> for DrawStep {
     ghost use Rattle.tickets.specs.Rule.{Drew};
 
     ghost then = { Drew };

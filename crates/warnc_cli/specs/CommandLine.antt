@@ -36,7 +36,7 @@ pub record GivesNumber (words : List (List ℕ)) (name : List ℕ) (number : ℕ
   pub value : digits_value 10 (without_leading_plus digits) ≡ number
 
 -- the words ask for `page` with a language, a message identifier and a serial number
-pub record IsPageOrder (words : List (List ℕ)) (language : List ℕ) (id serial : ℕ) : Type 0 where
+pub record AsksForPage (words : List (List ℕ)) (language : List ℕ) (id serial : ℕ) : Type 0 where
   pub command : slice_get words 1 ≡ Some (codes "page")
   pub language_given : GivesValue words (codes "--lang") language
   pub id_given : GivesNumber words (codes "--id") id
@@ -50,8 +50,8 @@ pub record IsPageOrder (words : List (List ℕ)) (language : List ℕ) (id seria
   pub numbered : serial ≡ serial_number scope code update
 
 -- the words ask for `read`
-abbrev pub IsReadOrder : (words : List (List ℕ)) → Type 0
-IsReadOrder words = slice_get words 1 ≡ Some (codes "read")
+abbrev pub AsksForRead : (words : List (List ℕ)) → Type 0
+AsksForRead words = slice_get words 1 ≡ Some (codes "read")
 
 -- which slots the words want in a capture
 abbrev pub slots_given : (words : List (List ℕ)) → Slots
@@ -65,7 +65,7 @@ GivesChannel words Basic =
 GivesChannel words Extended = GivesNumber words (codes "--channel") 52
 
 -- the words ask for `pcap`
-pub record IsPcapOrder (words : List (List ℕ)) (settings : Settings) : Type 0 where
+pub record AsksForPcap (words : List (List ℕ)) (settings : Settings) : Type 0 where
   pub command : slice_get words 1 ≡ Some (codes "pcap")
   pub slots : settings.slots ≡ slots_given words
   pub channel_given : GivesChannel words settings.channel
@@ -124,26 +124,26 @@ GivesFrom words (Some address) =
     (text : List ℕ) × GivesValue words (codes "--from") text × IsAddress text address
 
 -- the words ask for `tape`
-pub record IsTapeOrder (words : List (List ℕ)) (wanted : Wanted) : Type 0 where
+pub record AsksForTape (words : List (List ℕ)) (wanted : Wanted) : Type 0 where
   pub command : slice_get words 1 ≡ Some (codes "tape")
   pub cell_given : GivesCell words wanted.cell
   pub slots_given : GivesSlots words wanted.slots
   pub from_given : GivesFrom words wanted.from
 
 -- the words ask for `compile` with this number of slots and of workers
-pub record IsCompileOrder (words : List (List ℕ)) (slots workers : ℕ) : Type 0 where
+pub record AsksForCompile (words : List (List ℕ)) (slots workers : ℕ) : Type 0 where
   pub command : slice_get words 1 ≡ Some (codes "compile")
   pub slots_given : GivesSlots words slots
   pub workers_given : GivesThreads words (codes "--workers") workers
 
 -- the words ask for `report` with this number of slots and of workers
-pub record IsReportOrder (words : List (List ℕ)) (slots workers : ℕ) : Type 0 where
+pub record AsksForReport (words : List (List ℕ)) (slots workers : ℕ) : Type 0 where
   pub command : slice_get words 1 ≡ Some (codes "report")
   pub slots_given : GivesSlots words slots
   pub workers_given : GivesThreads words (codes "--workers") workers
 
 -- the words ask for `live` with this number of slots, of sessions and of workers
-pub record IsLiveOrder (words : List (List ℕ)) (slots sessions workers : ℕ) : Type 0 where
+pub record AsksForLive (words : List (List ℕ)) (slots sessions workers : ℕ) : Type 0 where
   pub command : slice_get words 1 ≡ Some (codes "live")
   pub slots_given : GivesSlots words slots
   pub sessions_given : GivesThreads words (codes "--sessions") sessions

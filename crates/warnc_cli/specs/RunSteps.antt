@@ -5,11 +5,11 @@ use Rattle.std.specs.Io.KnownBytes.{Keeps}
 use Rattle.device_ends.specs.Sink.{sink_failed}
 use Rattle.device_ends.specs.declared.reading.Source.{Source}
 use Rattle.device_ends.specs.declared.writing.Sink.{Sink}
-use Rattle.warnc_cli.specs.CommandLine.{IsCompileOrder, IsLiveOrder, IsPageOrder, IsPcapOrder, IsReadOrder}
-use Rattle.warnc_cli.specs.CommandLine.{IsReportOrder, IsTapeOrder}
+use Rattle.warnc_cli.specs.CommandLine.{AsksForCompile, AsksForLive, AsksForPage, AsksForPcap, AsksForRead}
+use Rattle.warnc_cli.specs.CommandLine.{AsksForReport, AsksForTape}
 use Rattle.warnc_cli.specs.Status.{OneHasFailed, status_of_book_fault}
-use Rattle.warnc_cli.specs.declared.command.Order.{Order}
-use Rattle.warnc_cli.specs.declared.command.Order.TheVariants.{Compile, Live, Page, Pcap, Read, Report, Tape}
+use Rattle.warnc_cli.specs.declared.command.Task.{Task}
+use Rattle.warnc_cli.specs.declared.command.Task.TheVariants.{Compile, Live, Page, Pcap, Read, Report, Tape}
 use Rattle.order_desk.specs.declared.fault.DeskFault.{DeskFault}
 use Rattle.order_desk.specs.declared.fault.DeskFault.TheVariants as desk
 use Rattle.order_desk.specs.declared.settle.SettleFault.{SettleFault}
@@ -28,14 +28,14 @@ use Rattle.warnc_air.specs.declared.tape.TapeCommandFault.{TapeCommandFault}
 use Rattle.warnc_air.specs.declared.tape.TapeCommandFault.TheVariants as tape
 
 -- the words ask for what `order` says
-abbrev pub IsOrdered : (words : List (List ℕ)) → Order → Type 0
-IsOrdered words (Page options) = IsPageOrder words options.language.now options.id options.serial
-IsOrdered words Read = IsReadOrder words
-IsOrdered words (Pcap settings) = IsPcapOrder words settings
-IsOrdered words (Tape wanted) = IsTapeOrder words wanted
-IsOrdered words (Compile slots workers) = IsCompileOrder words slots workers.number
-IsOrdered words (Report slots workers) = IsReportOrder words slots workers.number
-IsOrdered words (Live slots sessions workers) = IsLiveOrder words slots sessions.number workers.number
+abbrev pub IsTaskOf : (words : List (List ℕ)) → Task → Type 0
+IsTaskOf words (Page options) = AsksForPage words options.language.now options.id options.serial
+IsTaskOf words Read = AsksForRead words
+IsTaskOf words (Pcap settings) = AsksForPcap words settings
+IsTaskOf words (Tape wanted) = AsksForTape words wanted
+IsTaskOf words (Compile slots workers) = AsksForCompile words slots workers.number
+IsTaskOf words (Report slots workers) = AsksForReport words slots workers.number
+IsTaskOf words (Live slots sessions workers) = AsksForLive words slots sessions.number workers.number
 
 -- the status of a fault of `read`: 1 if the input is refused, 3 if a device failed, 4 if out of memory
 abbrev pub status_of_read_fault : ReadCommandFault → ℕ

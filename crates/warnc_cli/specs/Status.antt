@@ -17,8 +17,8 @@ use Rattle.alert_book.specs.Book.{Contents, IsBook, IsWrong, max_input}
 use Rattle.alert_book.specs.declared.fault.BookFault.{BookFault}
 use Rattle.alert_book.specs.declared.fault.BookFaultKind.{BookFaultKind}
 use Rattle.alert_book.specs.declared.fault.BookFaultKind.TheVariants as kinds
-use Rattle.warnc_cli.specs.CommandLine.{asks_for_text, IsCompileOrder, IsLiveOrder, IsPageOrder, IsPcapOrder}
-use Rattle.warnc_cli.specs.CommandLine.{IsReadOrder, IsReportOrder, IsTapeOrder}
+use Rattle.warnc_cli.specs.CommandLine.{asks_for_text, AsksForCompile, AsksForLive, AsksForPage, AsksForPcap}
+use Rattle.warnc_cli.specs.CommandLine.{AsksForRead, AsksForReport, AsksForTape}
 use Rattle.warnc_run.specs.declared.fault.RunFault.{RunFault}
 use Rattle.warnc_run.specs.Compiled.{IsCompiled, StopsRun}
 use Rattle.warnc_run.specs.Live.{IsLive}
@@ -90,25 +90,25 @@ pub record WrotePages (words : List (List ℕ)) (input old new : Option (List �
   pub language : List ℕ
   pub id : ℕ
   pub serial : ℕ
-  pub asked : IsPageOrder words language id serial
+  pub asked : AsksForPage words language id serial
   pub wrote : WritesOutput (IsPageOutput language id serial) input old new
 
 -- the words ask for `read`, and what was written is the table of what the tapes show
 pub record WroteTable (words : List (List ℕ)) (input old new : Option (List ℕ)) : Type 0 where
-  pub asked : IsReadOrder words
+  pub asked : AsksForRead words
   pub wrote : WritesOutput IsReadOutput input old new
 
 -- the words ask for `pcap`, and what was written is the capture of the tapes, for the slots and the channel that the
 -- words give
 pub record WroteCapture (words : List (List ℕ)) (input old new : Option (List ℕ)) : Type 0 where
   pub settings : Settings
-  pub asked : IsPcapOrder words settings
+  pub asked : AsksForPcap words settings
   pub wrote : WritesOutput (IsCapture settings) input old new
 
 -- the words ask for `tape`, and what was written is the tape that the words want of the capture
 pub record WroteTape (words : List (List ℕ)) (input old new : Option (List ℕ)) : Type 0 where
   pub wanted : Wanted
-  pub asked : IsTapeOrder words wanted
+  pub asked : AsksForTape words wanted
   pub wrote : WritesOutput (IsTapeOfCapture wanted) input old new
 
 -- the words ask for `compile`, and what was written is the tapes of the book's cells, in runs of as many slots as the
@@ -116,7 +116,7 @@ pub record WroteTape (words : List (List ℕ)) (input old new : Option (List ℕ
 pub record WroteTapes (words : List (List ℕ)) (input old new : Option (List ℕ)) : Type 0 where
   pub slots : ℕ
   pub workers : ℕ
-  pub asked : IsCompileOrder words slots workers
+  pub asked : AsksForCompile words slots workers
   pub wrote : WritesOutput (IsCompiled slots) input old new
 
 -- the words ask for `live`, and what was written is the tapes of the book's cells, in runs of as many slots and with as
@@ -125,7 +125,7 @@ pub record WroteLiveTapes (words : List (List ℕ)) (input old new : Option (Lis
   pub slots : ℕ
   pub sessions : ℕ
   pub workers : ℕ
-  pub asked : IsLiveOrder words slots sessions workers
+  pub asked : AsksForLive words slots sessions workers
   pub wrote : WritesOutput (IsLive slots sessions) input old new
 
 -- the words ask for `report`, and what was written is the report of the book's cells, in runs of as many slots as the
@@ -133,7 +133,7 @@ pub record WroteLiveTapes (words : List (List ℕ)) (input old new : Option (Lis
 pub record WroteReport (words : List (List ℕ)) (input old new : Option (List ℕ)) : Type 0 where
   pub slots : ℕ
   pub workers : ℕ
-  pub asked : IsReportOrder words slots workers
+  pub asked : AsksForReport words slots workers
   pub wrote : WritesOutput (IsReported slots) input old new
 
 abbrev pub WroteWhatIsAsked : (words : List (List ℕ)) (input old new : Option (List ℕ)) → Type 0
@@ -149,31 +149,31 @@ pub record RefusesText (words : List (List ℕ)) (input : Option (List ℕ)) : T
   pub language : List ℕ
   pub id : ℕ
   pub serial : ℕ
-  pub asked : IsPageOrder words language id serial
+  pub asked : AsksForPage words language id serial
   pub refused : IfSome input (IsRefused language)
 
 -- the words ask for `read`, and the input is no whole tapes
 pub record RefusesTapes (words : List (List ℕ)) (input : Option (List ℕ)) : Type 0 where
-  pub asked : IsReadOrder words
+  pub asked : AsksForRead words
   pub refused : IfSome input IsNoTapes
 
 -- the words ask for `pcap`, and the input is no whole tapes
 pub record RefusesCapture (words : List (List ℕ)) (input : Option (List ℕ)) : Type 0 where
   pub settings : Settings
-  pub asked : IsPcapOrder words settings
+  pub asked : AsksForPcap words settings
   pub refused : IfSome input IsNoTapes
 
 -- the words ask for `tape`, and the input is no capture file that has the tape that they want
 pub record RefusesAir (words : List (List ℕ)) (input : Option (List ℕ)) : Type 0 where
   pub wanted : Wanted
-  pub asked : IsTapeOrder words wanted
+  pub asked : AsksForTape words wanted
   pub refused : IfSome input (IsNoAir wanted)
 
 -- the words ask for `compile`, and the input is no book or has no run
 pub record RefusesAlerts (words : List (List ℕ)) (input : Option (List ℕ)) : Type 0 where
   pub slots : ℕ
   pub workers : ℕ
-  pub asked : IsCompileOrder words slots workers
+  pub asked : AsksForCompile words slots workers
   pub refused : IfSome input (IsNoRun slots 1)
 
 -- the words ask for `live`, and the input is no book or has no run
@@ -181,14 +181,14 @@ pub record RefusesLiveAlerts (words : List (List ℕ)) (input : Option (List ℕ
   pub slots : ℕ
   pub sessions : ℕ
   pub workers : ℕ
-  pub asked : IsLiveOrder words slots sessions workers
+  pub asked : AsksForLive words slots sessions workers
   pub refused : IfSome input (IsNoRun slots sessions)
 
 -- the words ask for `report`, and the input is no book or has no run
 pub record RefusesReportedAlerts (words : List (List ℕ)) (input : Option (List ℕ)) : Type 0 where
   pub slots : ℕ
   pub workers : ℕ
-  pub asked : IsReportOrder words slots workers
+  pub asked : AsksForReport words slots workers
   pub refused : IfSome input (IsNoRun slots 1)
 
 abbrev pub RefusesInput : (words : List (List ℕ)) (input : Option (List ℕ)) → Type 0

@@ -2,9 +2,9 @@
 
 ghost use Rattle.std.specs.Prelude.{◌≡◌, ◌<◌, ◌∷◌, ◌++◌, ◌⊎◌, false, IfOk, IfSome, codes, map, slice_get};
 ghost use Rattle.warnc_cli.specs.CommandLine.{asks_for_text, begins_with, is_given, is_text_word, GivesNumber};
-ghost use Rattle.warnc_cli.specs.CommandLine.{GivesChannel, GivesSlots, GivesThreads, GivesValue, IsPageOrder};
+ghost use Rattle.warnc_cli.specs.CommandLine.{GivesChannel, GivesSlots, GivesThreads, GivesValue, AsksForPage};
 ghost use Rattle.warnc_cli.specs.CommandLine.{GivesCell, GivesFrom, IsAddress, IsCell, IsNumber, slots_given};
-ghost use Rattle.warnc_cli.specs.RunSteps.{IsOrdered};
+ghost use Rattle.warnc_cli.specs.RunSteps.{IsTaskOf};
 
 use cbs_page::Serial;
 use cbsp_wire::Cell;
@@ -30,7 +30,7 @@ const VERSION: &str = "0.1.0\nrattle-kit-13f logic dac8208d650f15bf";
 
 /// What the words ask for.
 #[derive(Clone, Copy, Debug, PartialEq, Eq)]
-pub enum Order<'a> {
+pub enum Task<'a> {
     /// `page`.
     Page(PageOptions<'a>),
     /// `read`.
@@ -71,43 +71,43 @@ pub enum Order<'a> {
 /// # Errors
 ///
 /// The text that clap has for the words: help, the version, or what is wrong with them.
-pub fn order_of<'a, S: AsStr>(alloc: Global, words: &'a [S]) -> Result<Option<Order<'a>>, Error>
-    ensures { IfOk result (λ order. IfSome order (IsOrdered (map S.text words.now))) }
+pub fn task_of<'a, S: AsStr>(alloc: Global, words: &'a [S]) -> Result<Option<Task<'a>>, Error>
+    ensures { IfOk result (λ order. IfSome order (IsTaskOf (map S.text words.now))) }
 {
     let command: Command<'a> = warnc(alloc)?;
     let _matches = command.try_get_matches_from(words)?;
-    Ok(order_in(words))
+    Ok(task_in(words))
 }
 
 /// What words ask for that clap has taken.
-fn order_in<'a, S: AsStr>(words: &'a [S]) -> Option<Order<'a>>
-    ensures { IfSome result (IsOrdered (map S.text words.now)) }
+fn task_in<'a, S: AsStr>(words: &'a [S]) -> Option<Task<'a>>
+    ensures { IfSome result (IsTaskOf (map S.text words.now)) }
 {
     let command = words.get(1)?;
     match command.as_str() {
         "page" => match page_options(words) {
-            Some(options) => Some(Order::Page(options)),
+            Some(options) => Some(Task::Page(options)),
             None => None,
         },
-        "read" => Some(Order::Read),
-        "pcap" => Some(Order::Pcap(Settings {
+        "read" => Some(Task::Read),
+        "pcap" => Some(Task::Pcap(Settings {
             channel: channel_in(words)?,
             slots: captured_slots(words),
         })),
-        "tape" => Some(Order::Tape(Wanted {
+        "tape" => Some(Task::Tape(Wanted {
             cell: cell_in(words)?,
             slots: slots_in(words)?,
             from: from_in(words)?,
         })),
-        "compile" => Some(Order::Compile {
+        "compile" => Some(Task::Compile {
             slots: slots_in(words)?,
             workers: workers_in(words)?,
         }),
-        "report" => Some(Order::Report {
+        "report" => Some(Task::Report {
             slots: slots_in(words)?,
             workers: workers_in(words)?,
         }),
-        "live" => Some(Order::Live {
+        "live" => Some(Task::Live {
             slots: slots_in(words)?,
             sessions: sessions_in(words)?,
             workers: workers_in(words)?,
@@ -120,7 +120,7 @@ fn order_in<'a, S: AsStr>(words: &'a [S]) -> Option<Order<'a>>
 fn page_options<'a, S: AsStr>(words: &'a [S]) -> Option<PageOptions<'a>>
     requires { slice_get (map S.text words.now) 1 ≡ Some (codes "page") }
     ensures { IfSome result (λ options.
-        IsPageOrder (map S.text words.now) options.language.now options.id options.serial) }
+        AsksForPage (map S.text words.now) options.language.now options.id options.serial) }
 {
     let scope = u8::try_from(number_of(words, "--scope")?).ok()?;
     let update = u8::try_from(number_of(words, "--update")?).ok()?;

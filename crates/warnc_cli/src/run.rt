@@ -17,7 +17,7 @@ ghost use Rattle.warnc_cli.specs.Status.{IsNoAir, IsNoRun, IsNoTapes, IsRefused,
 ghost use Rattle.warnc_cli.specs.Status.{WritesSome};
 ghost use Rattle.warnc_cli.specs.Status.{WroteWhatIsAsked};
 
-use crate::command::{Order, PageOptions, asks_for_text, order_of};
+use crate::command::{Task, PageOptions, asks_for_text, task_of};
 use crate::status::{DEVICE, DONE, MEMORY, REFUSED_INPUT, USAGE, failed};
 use clap::Error;
 use clap::error::ErrorKind;
@@ -81,19 +81,19 @@ pub fn run_between<T: AllocGlobal + Threads + Wait + Sync, S: AsStr, R: Read, W:
     ensures statuses { result ≤ 4 }
 {
     let alloc = rt.alloc();
-    match order_of(alloc, words) {
+    match task_of(alloc, words) {
         Ok(Some(order)) => match order {
-            Order::Page(options) => run_page(alloc, &options, source, sink, faults),
-            Order::Read => run_read(alloc, source, sink, faults),
-            Order::Pcap(settings) => run_pcap(alloc, settings, source, sink, faults),
-            Order::Tape(wanted) => run_tape(alloc, &wanted, source, sink, faults),
-            Order::Compile { slots, workers } => {
+            Task::Page(options) => run_page(alloc, &options, source, sink, faults),
+            Task::Read => run_read(alloc, source, sink, faults),
+            Task::Pcap(settings) => run_pcap(alloc, settings, source, sink, faults),
+            Task::Tape(wanted) => run_tape(alloc, &wanted, source, sink, faults),
+            Task::Compile { slots, workers } => {
                 run_compile(rt, slots, workers, source, sink, faults)
             }
-            Order::Report { slots, workers } => {
+            Task::Report { slots, workers } => {
                 run_report(rt, slots, workers, source, sink, faults)
             }
-            Order::Live {
+            Task::Live {
                 slots,
                 sessions,
                 workers,
@@ -118,7 +118,7 @@ fn run_page<R: Read, W: Write, F: Write>(
     ensures done { result ≡ DONE →
         WritesOutput (IsPageOutput options.now.language.now options.now.id options.now.serial)
         (R.remaining (reader_of source.old)) (W.contents (writer_of sink.old)) (W.contents (writer_of sink.new)) }
-    ensures any_device { IsRunBetween result source.new sink.old sink.new
+    ensures any_ends { IsRunBetween result source.new sink.old sink.new
         (W.contents (writer_of sink.old)) (W.contents (writer_of sink.new)) }
     ensures wrote { result ≡ DONE → WritesSome (W.contents (writer_of sink.old)) (W.contents (writer_of sink.new)) }
     ensures refused { result ≡ REFUSED_INPUT → IfSome (R.remaining (reader_of source.old))
@@ -146,7 +146,7 @@ fn run_read<R: Read, W: Write, F: Write>(
 ) -> u8
     ensures done { result ≡ DONE → WritesOutput IsReadOutput
         (R.remaining (reader_of source.old)) (W.contents (writer_of sink.old)) (W.contents (writer_of sink.new)) }
-    ensures any_device { IsRunBetween result source.new sink.old sink.new
+    ensures any_ends { IsRunBetween result source.new sink.old sink.new
         (W.contents (writer_of sink.old)) (W.contents (writer_of sink.new)) }
     ensures wrote { result ≡ DONE → WritesSome (W.contents (writer_of sink.old)) (W.contents (writer_of sink.new)) }
     ensures refused { result ≡ REFUSED_INPUT → IfSome (R.remaining (reader_of source.old)) IsNoTapes }
@@ -167,7 +167,7 @@ fn run_pcap<R: Read, W: Write, F: Write>(
 ) -> u8
     ensures done { result ≡ DONE → WritesOutput (IsCapture settings)
         (R.remaining (reader_of source.old)) (W.contents (writer_of sink.old)) (W.contents (writer_of sink.new)) }
-    ensures any_device { IsRunBetween result source.new sink.old sink.new
+    ensures any_ends { IsRunBetween result source.new sink.old sink.new
         (W.contents (writer_of sink.old)) (W.contents (writer_of sink.new)) }
     ensures wrote { result ≡ DONE → WritesSome (W.contents (writer_of sink.old)) (W.contents (writer_of sink.new)) }
     ensures refused { result ≡ REFUSED_INPUT → IfSome (R.remaining (reader_of source.old)) IsNoTapes }
@@ -188,7 +188,7 @@ fn run_tape<R: Read, W: Write, F: Write>(
 ) -> u8
     ensures done { result ≡ DONE → WritesOutput (IsTapeOfCapture wanted.now)
         (R.remaining (reader_of source.old)) (W.contents (writer_of sink.old)) (W.contents (writer_of sink.new)) }
-    ensures any_device { IsRunBetween result source.new sink.old sink.new
+    ensures any_ends { IsRunBetween result source.new sink.old sink.new
         (W.contents (writer_of sink.old)) (W.contents (writer_of sink.new)) }
     ensures wrote { result ≡ DONE → WritesSome (W.contents (writer_of sink.old)) (W.contents (writer_of sink.new)) }
     ensures refused { result ≡ REFUSED_INPUT → IfSome (R.remaining (reader_of source.old)) (IsNoAir wanted.now) }
@@ -210,7 +210,7 @@ fn run_compile<T: AllocGlobal + Threads + Wait + Sync, R: Read, W: Write, F: Wri
 ) -> u8
     ensures done { result ≡ DONE → WritesOutput (IsCompiled slots)
         (R.remaining (reader_of source.old)) (W.contents (writer_of sink.old)) (W.contents (writer_of sink.new)) }
-    ensures any_device { IsRunBetween result source.new sink.old sink.new
+    ensures any_ends { IsRunBetween result source.new sink.old sink.new
         (W.contents (writer_of sink.old)) (W.contents (writer_of sink.new)) }
     ensures refused { result ≡ REFUSED_INPUT → IfSome (R.remaining (reader_of source.old)) (IsNoRun slots 1) }
 {
@@ -232,7 +232,7 @@ fn run_live<T: AllocGlobal + Threads + Wait + Sync, R: Read, W: Write, F: Write>
 ) -> u8
     ensures done { result ≡ DONE → WritesOutput (IsLive slots sessions.number)
         (R.remaining (reader_of source.old)) (W.contents (writer_of sink.old)) (W.contents (writer_of sink.new)) }
-    ensures any_device { IsRunBetween result source.new sink.old sink.new
+    ensures any_ends { IsRunBetween result source.new sink.old sink.new
         (W.contents (writer_of sink.old)) (W.contents (writer_of sink.new)) }
     ensures refused { result ≡ REFUSED_INPUT → IfSome (R.remaining (reader_of source.old))
         (IsNoRun slots sessions.number) }
@@ -262,7 +262,7 @@ fn run_report<T: AllocGlobal + Threads + Wait + Sync, R: Read, W: Write, F: Writ
 ) -> u8
     ensures done { result ≡ DONE → WritesOutput (IsReported slots)
         (R.remaining (reader_of source.old)) (W.contents (writer_of sink.old)) (W.contents (writer_of sink.new)) }
-    ensures any_device { IsRunBetween result source.new sink.old sink.new
+    ensures any_ends { IsRunBetween result source.new sink.old sink.new
         (W.contents (writer_of sink.old)) (W.contents (writer_of sink.new)) }
     ensures wrote { result ≡ DONE → WritesSome (W.contents (writer_of sink.old)) (W.contents (writer_of sink.new)) }
     ensures refused { result ≡ REFUSED_INPUT → IfSome (R.remaining (reader_of source.old)) (IsNoRun slots 1) }

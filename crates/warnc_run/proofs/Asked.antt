@@ -14,8 +14,8 @@ use Rattle.cbsp_wire.specs.Range.{contents_are_valid, is_writable, numbers_are_v
 use Rattle.cbsp_wire.specs.Range.{values_are_valid}
 use Rattle.cbsp_wire.specs.Value.{fields_of}
 use Rattle.cbsp_wire.specs.Refusals.{reported_fault}
-use Rattle.alert_book.specs.declared.order.Order.{Order}
-use Rattle.alert_book.specs.declared.request.Request.{Request}
+use Rattle.alert_book.specs.declared.book.order.Order.{Order}
+use Rattle.alert_book.specs.declared.session.request.Request.{Request}
 use Rattle.alert_book.specs.Book.{Contents, IsBook}
 use Rattle.alert_book.specs.Session.{after_reply, Standing}
 use Rattle.alert_book.specs.TurnLaws.{ComesOf, IsSentFor, RequestsAreWritable, RequestsComeOfOrders}
@@ -27,7 +27,7 @@ use Rattle.bsc_table.specs.Orders.{category_of, if_basic_channel, if_category_kn
 use Rattle.order_desk.specs.declared.fault.DeskFault.{DeskFault}
 use Rattle.order_desk.specs.declared.fault.DeskFault.TheVariants as faults
 use Rattle.order_desk.specs.declared.note.Note.{Note}
-use Rattle.order_desk.specs.Desk.{IsRefusedOrder, Line}
+use Rattle.order_desk.specs.Desk.{IsRefusedOrder, DeskState}
 use Rattle.cbsp_wire.proofs.Tests.{and_parts}
 use Rattle.order_desk.proofs.Walked.{all_last}
 use Rattle.warnc_run.specs.Compiled.{IsDeskFault}
@@ -97,7 +97,7 @@ request_is_order come writable input book part parts turns reached request cause
 
 -- so the desk refuses a request of a book's session only because it is out of memory, or finds a book of another cell
 pub refused_request : OneMeaning → MeantIsFaultless → RequestsComeOfOrders → RequestsAreWritable → (input : List ℕ)
-    (book : Contents) (part parts : ℕ) (turns : List Turn) (reached : Standing) (request : Request) (desk : Line)
+    (book : Contents) (part parts : ℕ) (turns : List Turn) (reached : Standing) (request : Request) (desk : DeskState)
     (at : ℕ) (octets : List ℕ) (fault : DeskFault) (notes : List Note)
     → IsBook input book
     → GoesTo (begun book part parts) turns reached

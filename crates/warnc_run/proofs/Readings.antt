@@ -20,8 +20,8 @@ use Rattle.report.specs.Rows.{AreOfOneCells}
 use Rattle.report.specs.declared.fault.ReportFault.{ReportFault}
 use Rattle.report.specs.declared.fault.ReportFault.TheVariants as report
 use Rattle.report.specs.declared.row.Row.{Row}
-use Rattle.warnc_run.specs.Compiled.{IsWriteFault, MakesFront, ReadsBook}
-use Rattle.warnc_run.specs.RunSteps.{AreRowsOf, HaveRunLive, IsOfBook, IsOfBookReport, IsOfTapes}
+use Rattle.warnc_run.specs.Compiled.{IsWriteFault, MakesFront, HasReadBook}
+use Rattle.warnc_run.specs.RunSteps.{AreReportRows, HaveRunLive, IsOfBook, IsOfBookReport, IsOfTapes}
 use Rattle.warnc_run.specs.declared.fault.RunFault.{RunFault}
 use Rattle.warnc_run.specs.declared.fault.RunFault.TheVariants as run
 use Rattle.warnc_run.specs.declared.report_run.ReportRunFault.{ReportRunFault}
@@ -111,7 +111,7 @@ pub reported : OneSessionIsARun → RunsShowTheBook → RunsAcceptWhatWasOrdered
     → (input : List ℕ) (book : Contents) (slots : ℕ) (rows : List Row)
     → slots ≤ 65535
     → IsBook input book
-    → AreRowsOf book slots rows
+    → AreReportRows book slots rows
     → IsReported slots input (report_text rows)
 reported one law orders input book slots rows few is_book are =
     let session = only are.live.sessions are.live.parted in
@@ -133,7 +133,7 @@ pub fault_of_report : (slots : ℕ) (Means : (input output : List ℕ) → Type 
     (fault : ReportFault)
     → fault ≢ report.Cells
     → (fault ≡ report.WriteFailed → MakesFront Means first last old new)
-    → (fault ≡ report.Refused → ReadsBook first last × Keeps old new)
+    → (fault ≡ report.Refused → HasReadBook first last × Keeps old new)
     → IsReportRunFault slots Means first last old new (reports.Report fault)
 fault_of_report slots Means first last old new report.Cells not front kept = absurd (not refl)
 fault_of_report slots Means first last old new report.WriteFailed not front kept = front refl
@@ -160,7 +160,7 @@ not_written book slots run.Refused is = (λ write. write, λ piece. piece, is)
 -- a fault under way to the report of a book whose octets were read, with nothing written
 pub fault_of_book_report : (slots : ℕ) (Means : (input output : List ℕ) → Type 0) (first last old new : Option (List ℕ))
     (book : Contents) (fault : ReportRunFault)
-    → (read : ReadsBook first last)
+    → (read : HasReadBook first last)
     → read.book ≡ book
     → IsOfBookReport book slots fault
     → Keeps old new

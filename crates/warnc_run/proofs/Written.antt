@@ -28,7 +28,7 @@ use Rattle.book_runs.specs.Run.{Exchange}
 use Rattle.warnc_run.specs.declared.fault.RunFault.{RunFault}
 use Rattle.warnc_run.specs.declared.fault.RunFault.TheVariants as run
 use Rattle.parallel_compile.specs.declared.fault.CompileFault.TheVariants as compile
-use Rattle.warnc_run.specs.Compiled.{tape_size, IsCompiled, IsRunFault, IsSettleFault, Makes, ReadsBook}
+use Rattle.warnc_run.specs.Compiled.{tape_size, IsCompiled, IsRunFault, IsSettleFault, Makes, HasReadBook}
 use Rattle.warnc_run.specs.Live.{IsLive}
 use Rattle.warnc_run.specs.RunSteps.{AreTapesOf, IsOfTapes, TakesFront}
 
@@ -307,7 +307,7 @@ fault_by_one one slots first last old new (run.Write failed) is = record {
 -- a fault of the run of a book whose octets were read, with nothing written
 pub fault_of_run : (slots parts : ℕ) (Means : (input output : List ℕ) → Type 0) (first last old new : Option (List ℕ))
     (book : Contents) (fault : RunFault)
-    → (read : ReadsBook first last)
+    → (read : HasReadBook first last)
     → read.book ≡ book
     → IsOfTapes book slots parts fault
     → Keeps old new

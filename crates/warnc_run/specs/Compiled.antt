@@ -76,7 +76,7 @@ pub record MakesTapesFront (Means : (input output : List ℕ) → Type 0) (size 
   pub front : Appends old new (take (size * whole + written) output)
 
 -- all of the octets were read, and are a book
-pub record ReadsBook (first last : Option (List ℕ)) : Type 0 where
+pub record HasReadBook (first last : Option (List ℕ)) : Type 0 where
   pub input : List ℕ
   pub book : Contents
   pub read : Consumes first last input
@@ -96,8 +96,8 @@ IsWriteFault other = ⊥
 -- the octets are a book, and memory ran out, or the tape at a place isn't that of the cell's record
 abbrev pub IsCompileFault : (first last : Option (List ℕ)) → CompileFault → Type 0
 IsCompileFault first last compile.Workers = ⊤
-IsCompileFault first last compile.Refused = ReadsBook first last
-IsCompileFault first last (compile.Piece index) = ReadsBook first last
+IsCompileFault first last compile.Refused = HasReadBook first last
+IsCompileFault first last (compile.Piece index) = HasReadBook first last
 
 -- a fault of the desk under an order of a session: it is out of memory, or finds the book of another cell in a lock
 abbrev pub IsDeskFault : DeskFault → Type 0
@@ -129,9 +129,9 @@ abbrev pub IsRunFault : (slots parts : ℕ) (Means : (input output : List ℕ) �
     (first last old new : Option (List ℕ)) → RunFault → Type 0
 IsRunFault slots parts Means first last old new (fault.Book f) = RefusesBook first last f × Keeps old new
 IsRunFault slots parts Means first last old new (fault.Desk f) =
-    IsDeskFault f × ReadsBook first last × Keeps old new
+    IsDeskFault f × HasReadBook first last × Keeps old new
 IsRunFault slots parts Means first last old new (fault.Settle f) =
-    (read : ReadsBook first last) × IsSettleFault read.book slots parts f × Keeps old new
+    (read : HasReadBook first last) × IsSettleFault read.book slots parts f × Keeps old new
 IsRunFault slots parts Means first last old new (fault.Compile f) = IsCompileFault first last f × Keeps old new
 IsRunFault slots parts Means first last old new fault.Refused = Keeps old new
 IsRunFault slots parts Means first last old new (fault.Write failed) =

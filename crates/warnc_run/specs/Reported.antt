@@ -20,7 +20,7 @@ use Rattle.warnc_run.specs.declared.fault.RunFault.{RunFault}
 use Rattle.warnc_run.specs.declared.fault.RunFault.TheVariants as run
 use Rattle.warnc_run.specs.declared.report_run.ReportRunFault.{ReportRunFault}
 use Rattle.warnc_run.specs.declared.report_run.ReportRunFault.TheVariants as fault
-use Rattle.warnc_run.specs.Compiled.{IsRunFault, IsWriteFault, MakesFront, ReadsBook}
+use Rattle.warnc_run.specs.Compiled.{IsRunFault, IsWriteFault, MakesFront, HasReadBook}
 
 -- what a handset shows that reads the blocks of a record, with the record's cell and slots
 abbrev pub reading_of_record : Record → TapeReading
@@ -57,7 +57,7 @@ IsReportRunFault slots Means first last old new (fault.Run f) =
     (IsWriteFault f → ⊥) × (IsPieceFault f → ⊥) × IsRunFault slots 1 Means first last old new f
 IsReportRunFault slots Means first last old new (fault.Report report.Cells) = ⊥
 IsReportRunFault slots Means first last old new (fault.Report report.WriteFailed) = MakesFront Means first last old new
-IsReportRunFault slots Means first last old new (fault.Report report.Refused) = ReadsBook first last × Keeps old new
+IsReportRunFault slots Means first last old new (fault.Report report.Refused) = HasReadBook first last × Keeps old new
 
 abbrev pub IsReportFault : (slots : ℕ) → (first last old new : Option (List ℕ)) → ReportRunFault → Type 0
 IsReportFault slots first last old new f = IsReportRunFault slots (IsReported slots) first last old new f

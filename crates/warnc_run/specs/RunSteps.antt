@@ -40,7 +40,7 @@ IsOfTapes book slots parts (fault.Compile f) = f ≢ compile.Workers
 IsOfTapes book slots parts other = IsOfBook book slots parts other
 
 -- a thread has ended with this fault, and all before it had none
-pub record IsFirstFault (dones : List (Result ⊤ RunFault)) (fault : RunFault) : Type 0 where
+pub record IsFirstUserFault (dones : List (Result ⊤ RunFault)) (fault : RunFault) : Type 0 where
   pub before : List (Result ⊤ RunFault)
   pub after : List (Result ⊤ RunFault)
   pub split : dones ≡ before ++ Err fault ∷ after
@@ -78,7 +78,7 @@ pub record AreTapesOf (book : Contents) (slots parts : ℕ) (tapes : List (List 
   pub made : tapes ≡ map tape_of_record records
 
 -- these are the rows of the report of a run of one session
-pub record AreRowsOf (book : Contents) (slots : ℕ) (rows : List Row) : Type 0 where
+pub record AreReportRows (book : Contents) (slots : ℕ) (rows : List Row) : Type 0 where
   pub records : List Record
   pub live : HaveRunLive book slots 1 records
   pub made : rows ≡ rows_of records (map reading_of_record records)

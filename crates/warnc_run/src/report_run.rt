@@ -8,7 +8,7 @@ ghost use Rattle.handset.specs.Tape.{readings_of, IsTape};
 ghost use Rattle.parallel_compile.specs.declared.fault.CompileFault.TheVariants as compile;
 ghost use Rattle.warnc_run.specs.Compiled.{AreWorkers, Makes};
 ghost use Rattle.warnc_run.specs.Reported.{reading_of_record, IsReportAtEnds, IsReportFault, IsReported};
-ghost use Rattle.warnc_run.specs.RunSteps.{AreRowsOf, IsOfBookReport, IsOfReport};
+ghost use Rattle.warnc_run.specs.RunSteps.{AreReportRows, IsOfBookReport, IsOfReport};
 ghost use Rattle.warnc_run.specs.declared.fault.RunFault.TheVariants as faults;
 ghost use Rattle.warnc_run.specs.declared.report_run.ReportRunFault.TheVariants as reports;
 
@@ -132,7 +132,7 @@ fn rows_of_book<T: AllocGlobal + Threads + Wait + Sync>(
     workers: Workers,
 ) -> Result<Vec<Row>, ReportRunFault>
     requires book { (input : List ℕ) × IsBook input book }
-    ensures ok { IfOk result (λ rows. AreRowsOf book slots rows.items) }
+    ensures ok { IfOk result (λ rows. AreReportRows book slots rows.items) }
     ensures err { IfErr result (IsOfBookReport book slots) }
 {
     // No book has over 64 cells, and each record gives a tape.

@@ -16,7 +16,7 @@ use std::sync::Wait;
 /// # Errors
 ///
 /// Returns the desk's fault, or `Refused` if out of memory. What was done by then stays done, and is noted.
-pub(crate) fn serve<R: Wait, G: Gate>(
+pub(crate) fn run_session<R: Wait, G: Gate>(
     rt: &R,
     alloc: Global,
     book: &Book,

@@ -20,7 +20,7 @@ use std::alloc::Global;
 /// # Errors
 ///
 /// Returns the settlement's fault, or `Refused` if out of memory.
-pub(crate) fn records_of(
+pub(crate) fn settled_records(
     alloc: Global,
     book: &Book,
     desk: Desk,

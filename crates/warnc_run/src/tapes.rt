@@ -6,9 +6,9 @@ ghost use Rattle.warnc_run.specs.RunSteps.{AreTapesOf, HaveRunLive, IsOfBook, Is
 
 use crate::counts::{Sessions, Workers};
 use crate::fault::RunFault;
-use crate::sessions::served;
-use crate::settled::records_of;
-use crate::workers::played_out;
+use crate::sessions::run_sessions;
+use crate::settled::settled_records;
+use crate::workers::play_out;
 use alert_book::Book;
 use bsc_table::CellRecord;
 use cbch_blocks::Tape;
@@ -35,10 +35,10 @@ pub(crate) fn tapes_of_book<T: AllocGlobal + Threads + Wait + Sync, G: Gate>(
     // No book has a cell twice.
     alert_book::book_laws();
     let desk = Desk::open(rt.alloc(), book.cells(), slots)?;
-    let mut passes = served(rt, book, &desk, sessions, gate)?;
+    let mut passes = run_sessions(rt, book, &desk, sessions, gate)?;
     let (tapes, mut played) = stream_all(rt, rt.alloc(), &desk, workers.number, gate)?;
     passes.append(&mut played)?;
-    let records = records_of(rt.alloc(), book, desk, sessions, &passes)?;
+    let records = settled_records(rt.alloc(), book, desk, sessions, &passes)?;
     check_streamed(&tapes, &records)?;
     Ok(tapes)
 }
@@ -58,8 +58,8 @@ pub(crate) fn records_of_book<T: AllocGlobal + Threads + Wait + Sync>(
     alert_book::book_laws();
     let one = Sessions { number: 1 };
     let desk = Desk::open(rt.alloc(), book.cells(), slots)?;
-    let mut passes = served(rt, book, &desk, one, &Open)?;
-    let mut played = played_out(rt, &desk, workers, &Open)?;
+    let mut passes = run_sessions(rt, book, &desk, one, &Open)?;
+    let mut played = play_out(rt, &desk, workers, &Open)?;
     passes.append(&mut played)?;
-    records_of(rt.alloc(), book, desk, one, &passes)
+    settled_records(rt.alloc(), book, desk, one, &passes)
 }

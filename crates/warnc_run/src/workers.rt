@@ -6,7 +6,7 @@ ghost use Rattle.warnc_run.specs.RunSteps.{IsOfRun};
 
 use crate::counts::Workers;
 use crate::fault::RunFault;
-use crate::sessions::{Ended, passes_of};
+use crate::sessions::{UserEnd, passes_or_fault};
 use order_desk::{Desk, Gate, Pass};
 use std::alloc::{AllocGlobal, Global};
 use std::sync::Wait;
@@ -16,19 +16,19 @@ use tickets::{Counter, Seat};
 
 /// A worker before its work: its pass, and its seat at the counter of the cells.
 #[derive(Drop)]
-struct Player {
+struct Worker {
     seat: Seat,
     pass: Pass,
 }
 
 /// The players, their seats split from the first.
-fn players_of<T: AllocGlobal>(
+fn workers_at<T: AllocGlobal>(
     rt: &T,
     desk: &Desk,
     counter: &Counter,
     first: &mut Seat,
     workers: Workers,
-) -> Result<Vec<Player>, RunFault>
+) -> Result<Vec<Worker>, RunFault>
     requires first { first.old ≡ first_seat counter.now }
     ensures ok { IfOk result (λ players. All (λ player. IsSeatOf counter.now player.seat) players.items) }
     ensures err { IfErr result IsOfRun }
@@ -38,7 +38,7 @@ fn players_of<T: AllocGlobal>(
     for _ in 0..count {
         let seat = first.split(counter);
         let pass = desk.pass();
-        players.push(Player { seat, pass })?;
+        players.push(Worker { seat, pass })?;
     }
     Ok(players)
 }
@@ -71,21 +71,21 @@ fn work<T: AllocGlobal + Wait, G: Gate>(
     rt: &T,
     desk: &Desk,
     counter: &Counter,
-    player: Player,
+    player: Worker,
     gate: &G,
-) -> Ended
+) -> UserEnd
     requires seat { IsSeatOf counter.now player.seat }
     requires limit { counter.now.limit ≡ length desk.now.cells }
     ensures { IfErr result.done IsOfRun }
 {
-    let Player { seat, mut pass } = player;
+    let Worker { seat, mut pass } = player;
     let done = play_drawn(rt, rt.alloc(), desk, counter, seat, &mut pass, gate);
-    Ended { pass, done }
+    UserEnd { pass, done }
 }
 
 /// Has workers play all cells of a desk to the ends of their runs, and returns their passes. What this leaves unplayed,
 /// the settlement plays.
-pub(crate) fn played_out<T: AllocGlobal + Threads + Wait + Sync, G: Gate>(
+pub(crate) fn play_out<T: AllocGlobal + Threads + Wait + Sync, G: Gate>(
     rt: &T,
     desk: &Desk,
     workers: Workers,
@@ -95,16 +95,16 @@ pub(crate) fn played_out<T: AllocGlobal + Threads + Wait + Sync, G: Gate>(
     ensures { IfErr result IsOfRun }
 {
     let (counter, mut first) = Counter::new(rt.alloc(), desk.cells().len() as u64)?;
-    let players = players_of(rt, desk, &counter, &mut first, workers)?;
+    let players = workers_at(rt, desk, &counter, &mut first, workers)?;
     let shared = &counter;
     let all = thread::map_vec(
         rt,
         players,
-        &|player: Player| -> Ended
+        &|player: Worker| -> UserEnd
             requires seat { IsSeatOf shared.now player.seat }
             requires limit { shared.now.limit ≡ length desk.now.cells }
             ensures { IfErr result.done IsOfRun }
         { work(rt, desk, shared, player, gate) },
     )?;
-    passes_of(rt, all)
+    passes_or_fault(rt, all)
 }

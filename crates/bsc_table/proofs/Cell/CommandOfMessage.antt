@@ -14,7 +14,7 @@ use Rattle.cbsp_wire.specs.Range.{all_cells_are_valid, is_page_count}
 use Rattle.cbsp_wire.specs.Range.{is_period, has_alphabet, is_there_if, is_full, passes}
 use Rattle.cbsp_wire.specs.Table.{presence_of}
 use Rattle.cbsp_wire.specs.Value.{Fields, fields_of}
-use Rattle.cbsp_wire.specs.declared.message_type.MessageType.TheVariants as types
+use Rattle.cbsp_wire.specs.declared.message.message_type.MessageType.TheVariants as types
 use Rattle.cbsp_wire.proofs.MeantLaws.{IsMessage-writable}
 use Rattle.bsc_table.specs.Orders.{IsBroadcastable}
 

@@ -1,6 +1,6 @@
 use Rattle.std.proofs.Common.{◌≡◌, Err, List, rules, subst}
 use Rattle.alert_book.specs.Book.{HavePages}
-use Rattle.alert_book.specs.declared.order.Order.{Order}
+use Rattle.alert_book.specs.declared.book.order.Order.{Order}
 use Rattle.alert_book.proofs.BookLaws.{row_fault_is_read, unread_where}
 use Rattle.alert_book.proofs.PageLaws.{pages_length}
 use Rattle.alert_book.proofs.book.book_of.Goals as goal

@@ -10,7 +10,8 @@ use Rattle.cbs_page.specs.declared.content.Content.{Content}
 use Rattle.cbs_page.specs.declared.paging.Paged.{Paged}
 use Rattle.cbs_page.specs.Coding.{language_value}
 use Rattle.cbs_page.specs.PagingSteps.{HoldText, is_own_septet}
-use Rattle.cbs_page.specs.Text.{capacity, codes_of, cost_of, alphabet_for, coding_for, IsPagedText, IsPagingIn, IsPagingOf}
+use Rattle.cbs_page.specs.Text.{capacity, codes_of, cost_of, alphabet_for, coding_for, IsPagedText, IsPagingIn}
+use Rattle.cbs_page.specs.Text.{IsPagingOf}
 use Rattle.cbs_page.proofs.CuttingLaws.{AreContentsOf-length}
 use Rattle.cbs_page.proofs.LongTexts.{long-pages}
 use Rattle.cbs_page.proofs.OwnSeptets.{own_alphabet, own_chars, own_characters, own_few, own_good}

@@ -2,13 +2,13 @@ use Rattle.std.proofs.Common.{◌≡◌, ◌∙◌, ◌+◌, List, [], ◌∷◌
 use Rattle.std.proofs.lemmas.List.{take_all, take_more, drop_more, take-append-drop}
 use Rattle.std.proofs.lemmas.List.Elements.{All-nil}
 use Rattle.order_desk.specs.declared.note.Note.{Note}
-use Rattle.order_desk.specs.Settled.{AreOwn, is_of}
+use Rattle.order_desk.specs.Settled.{AreOwn, is_of_cells}
 use Rattle.order_desk.proofs.Walked.{all_with}
 use Rattle.order_desk.proofs.settle.first_foreign.Goals as goal
 
 -- src/settle.rt:132:5
 pub loop-pass-init : goal.loop-pass-init
-loop-pass-init c = All-nil (All (λ n. is_of c.args.cells.now n ≡ true))
+loop-pass-init c = All-nil (All (λ n. is_of_cells c.args.cells.now n ≡ true))
 
 -- src/settle.rt:134:13
 pub returns-in-Some : goal.returns-in-Some
@@ -47,10 +47,10 @@ loop-pass-preserved c =
     let more : take (c.loop-pass.pass-index + 1) c.args.passes.now ≡ before ++ pass ∷ [] =
     subst (λ (n : List Note). take (c.loop-pass.pass-index + 1) c.args.passes.now ≡ before ++ n ∷ [])
     (sym c.pass-item.is) (take_more c.args.passes.now c.loop-pass.pass-index pass c.loop-pass-test.true) in
-    let own : All (λ n. is_of c.args.cells.now n ≡ true) pass =
-    subst (All (λ n. is_of c.args.cells.now n ≡ true)) c.notes.ensures c.in_default.ensures in
+    let own : All (λ n. is_of_cells c.args.cells.now n ≡ true) pass =
+    subst (All (λ n. is_of_cells c.args.cells.now n ≡ true)) c.notes.ensures c.in_default.ensures in
     subst (AreOwn c.args.cells.now) (sym more)
-    (all_with (All (λ n. is_of c.args.cells.now n ≡ true)) before pass c.loop-pass.invariant own)
+    (all_with (All (λ n. is_of_cells c.args.cells.now n ≡ true)) before pass c.loop-pass.invariant own)
 
 -- src/settle.rt:131:1
 pub returns : goal.returns

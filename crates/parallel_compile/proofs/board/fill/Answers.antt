@@ -4,7 +4,7 @@ use Rattle.std.proofs.lemmas.List.{set-get_or}
 use Rattle.std.proofs.lemmas.Option.{get_or_from_slice_get, slice_get-get_or, slice_get_read, slice_get_within}
 use Rattle.cbsp_wire.specs.declared.message.Cell.{Cell}
 use Rattle.parallel_compile.specs.declared.filling.Filling.{Filling}
-use Rattle.parallel_compile.specs.StreamSteps.{Fits}
+use Rattle.parallel_compile.specs.StreamSteps.{FitsTape}
 use Rattle.parallel_compile.proofs.Filled.{one_filled}
 use Rattle.parallel_compile.proofs.board.fill.Goals as goal
 use Rattle.parallel_compile.proofs.board.fill.Goals.{else-place-cells-via-then-place-cells+else-place-len}
@@ -50,7 +50,7 @@ returns-then-place-len-clause-left c not =
           get_or_from_slice_get c.args.cells.now number has.cell (record { lac = 0; ci = 0 }) has.named in
           let filling : old ≡ has.filling = c.index_mut.ensures.value
           ∙ get_or_from_slice_get fillings number has.filling old has.there in
-          left.1 k (subst (λ (own : Cell). Fits own c.args.slots k c.args.numbered.now.piece) (sym cell) has.fits)
+          left.1 k (subst (λ (own : Cell). FitsTape own c.args.slots k c.args.numbered.now.piece) (sym cell) has.fits)
           (subst (λ (f : Filling). slice_get f.came.items k ≡ Some false) (sym filling) has.free),
     )
 

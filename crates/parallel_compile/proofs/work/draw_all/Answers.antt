@@ -4,7 +4,7 @@ use Rattle.std.proofs.lemmas.Option.{slice_get-map, slice_get_read}
 use Rattle.cbch_blocks.specs.RecordBlocks.{tape_of_record}
 use Rattle.tickets.specs.Draws.{SeatState}
 use Rattle.parallel_compile.specs.Gathered.{numbers_of}
-use Rattle.parallel_compile.specs.Workers.{IsPieceOf}
+use Rattle.parallel_compile.specs.Workers.{IsPieceOfRecord}
 use Rattle.parallel_compile.proofs.Drawn.{above, fewer_left}
 use Rattle.parallel_compile.proofs.Numbers.{numbers_more}
 use Rattle.parallel_compile.proofs.Putting.{all_more}
@@ -26,7 +26,7 @@ loop-index-preserved g c =
     subst (λ k. c.in-Some.index < k) c.requires.limit drawn.0 in
     let items : c.push.new.self.items ≡ c.loop-index.pieces.items ++ (c.in-Some.index, c.in_ok-tape.tape) ∷ [] =
     c.in_ok-push.ensures.items in
-    let tape : IsPieceOf c.args.records.now (c.in-Some.index, c.in_ok-tape.tape) =
+    let tape : IsPieceOfRecord c.args.records.now (c.in-Some.index, c.in_ok-tape.tape) =
     slice_get-map tape_of_record c.args.records.now c.in-Some.index
     ∙ ap (option_map tape_of_record) (slice_get_read c.args.records.now (length c.args.records.now) c.in-Some.index
     c.index-records-index.result refl within c.index-records-index.is)
@@ -37,6 +37,6 @@ loop-index-preserved g c =
       drawn = ap numbers_of items ∙ numbers_more c.loop-index.pieces.items c.in-Some.index c.in_ok-tape.tape
           ∙ ap (λ l. l ++ c.in-Some.index ∷ []) c.loop-index.invariant.drawn
           ∙ sym (ap (λ (s : SeatState). s.drawn) drawn.1);
-      made = subst (All (IsPieceOf c.args.records.now)) (sym items)
-          (all_more (IsPieceOf c.args.records.now) _ _ c.loop-index.invariant.made tape);
+      made = subst (All (IsPieceOfRecord c.args.records.now)) (sym items)
+          (all_more (IsPieceOfRecord c.args.records.now) _ _ c.loop-index.invariant.made tape);
     }

@@ -1,7 +1,7 @@
 use Rattle.std.proofs.Common.{◌≡◌, ◌-◌, All}
 use Rattle.tickets.specs.Draws.{IsSeatOf}
 use Rattle.parallel_compile.specs.Gathered.{numbers_of}
-use Rattle.parallel_compile.specs.Workers.{IsPieceOf}
+use Rattle.parallel_compile.specs.Workers.{IsPieceOfRecord}
 use Rattle.parallel_compile.proofs.Drawn.{above}
 use Rattle.parallel_compile.proofs.work.draw_all.Given as goal
 
@@ -10,7 +10,7 @@ invariant-loop-index g l = record {
   of : IsSeatOf l.counter l.seat;
   parts : l.seat.parts ≡ 1;
   drawn : numbers_of l.pieces.items ≡ l.seat.drawn;
-  made : All (IsPieceOf l.records) l.pieces.items;
+  made : All (IsPieceOfRecord l.records) l.pieces.items;
 }
 
 abbrev pub decreases-loop-index : goal.decreases-loop-index

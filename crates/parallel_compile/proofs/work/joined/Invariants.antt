@@ -1,7 +1,7 @@
 use Rattle.std.proofs.Common.{◌≡◌, ◌+◌, ◌<◌, All, length, true}
 use Rattle.tickets.specs.Draws.{IsSeatOf}
 use Rattle.parallel_compile.specs.Gathered.{numbers_of}
-use Rattle.parallel_compile.specs.Workers.{IsPieceOf}
+use Rattle.parallel_compile.specs.Workers.{IsPieceOfRecord}
 use Rattle.parallel_compile.proofs.work.joined.Given as goal
 
 abbrev pub invariant-loop-work : goal.invariant-loop-work
@@ -10,5 +10,5 @@ invariant-loop-work l = record {
   parts : l.seat.parts + length l.fn.works.items ≡ 65 + length l.yielded;
   over : 0 < length l.yielded → l.seat.over ≡ true;
   drawn : numbers_of l.pieces.items ≡ l.seat.drawn;
-  made : All (IsPieceOf l.records) l.pieces.items;
+  made : All (IsPieceOfRecord l.records) l.pieces.items;
 }

@@ -1,7 +1,7 @@
 use Rattle.std.proofs.Common.{◌<◌, ◌≤◌, ℕ, List, length, All, Err, ◌≡◌, refl, rules, sym, subst}
 use Rattle.std.proofs.KnownBytes.{Keeps-refl}
 use native.Mathlib.Omega.{arith}
-use Rattle.warnc_run.specs.Compiled.{ReadsBook}
+use Rattle.warnc_run.specs.Compiled.{HasReadBook}
 use Rattle.warnc_run.specs.Live.{IsLive}
 use Rattle.warnc_run.specs.RunSteps.{AreTapesOf}
 use Rattle.warnc_run.proofs.Written.{made_live, fault_of_run, joined, taken_of_run, tapes_have_octets, where_it_is}
@@ -55,7 +55,7 @@ returns-clause-err g c =
 pub returns-in_err-tapes-clause-err : goal.returns-in_err-tapes-clause-err
 returns-in_err-tapes-clause-err g c =
     let read = c.in-Ok.ensures.ok in
-    let whole : ReadsBook _ _ = record {
+    let whole : HasReadBook _ _ = record {
       input = read.input;
       book = c.in-Ok.book;
       read = read.consumed;

@@ -2,9 +2,9 @@ use Rattle.std.proofs.Common.{◌≡◌, ◌≤◌, Err, ap, refl, rules, sym, s
 use native.Mathlib.Omega.{arith}
 use Rattle.std.proofs.KnownBytes.{Keeps-refl}
 use Rattle.report.specs.ReportText.{report_text}
-use Rattle.warnc_run.specs.Compiled.{ReadsBook}
+use Rattle.warnc_run.specs.Compiled.{HasReadBook}
 use Rattle.warnc_run.specs.Reported.{IsReported}
-use Rattle.warnc_run.specs.RunSteps.{AreRowsOf}
+use Rattle.warnc_run.specs.RunSteps.{AreReportRows}
 use Rattle.warnc_run.proofs.Readings.{fault_of_book_report, fault_of_report, reported}
 use Rattle.warnc_run.proofs.Written.{where_it_is}
 use Rattle.warnc_run.proofs.report_run.report_stream.Goals as goal
@@ -20,7 +20,7 @@ returns-in-Ok-write_report-clause-ok g c =
       meant = reported c.session_laws.ensures.one c.run_laws.ensures c.order_laws.ensures read.input c.in-Ok.book
           c.args.slots
           c.deref.result.now few read.meant
-          (subst (AreRowsOf c.in-Ok.book c.args.slots) (sym c.deref.ensures.value) c.in_ok-rows.ensures.ok);
+          (subst (AreReportRows c.in-Ok.book c.args.slots) (sym c.deref.ensures.value) c.in_ok-rows.ensures.ok);
       appended = c.in-Ok-write_report.ensures.ok;
     }
 
@@ -38,7 +38,7 @@ returns-clause-err g c =
       meant = reported c.session_laws.ensures.one c.run_laws.ensures c.order_laws.ensures read.input c.in-Ok.book
           c.args.slots
           c.deref.result.now few read.meant
-          (subst (AreRowsOf c.in-Ok.book c.args.slots) (sym c.deref.ensures.value) c.in_ok-rows.ensures.ok);
+          (subst (AreReportRows c.in-Ok.book c.args.slots) (sym c.deref.ensures.value) c.in_ok-rows.ensures.ok);
       front = wrote.front (ap Err is);
     })
     (λ is. (
@@ -55,7 +55,7 @@ returns-clause-err g c =
 pub returns-in_err-rows-clause-err : goal.returns-in_err-rows-clause-err
 returns-in_err-rows-clause-err g c =
     let read = c.in-Ok.ensures.ok in
-    let whole : ReadsBook _ _ = record {
+    let whole : HasReadBook _ _ = record {
       input = read.input;
       book = c.in-Ok.book;
       read = read.consumed;

@@ -1,5 +1,5 @@
 use Rattle.std.proofs.Common.{rules, Option, sym, subst}
-use Rattle.alert_book.specs.declared.session.Found.{Found}
+use Rattle.alert_book.specs.declared.session.NextRequests.{NextRequests}
 use Rattle.alert_book.specs.AdvancingSteps.{due_with, first_in}
 use Rattle.alert_book.specs.Stands.{HavePlaces, SessionState}
 use Rattle.alert_book.proofs.StandsLaws.{places_stay, popped}
@@ -28,13 +28,15 @@ invariant_of-self c =
         places_stay s.versions _ c.pop_front.result c.keep.ensures.places
             (popped s.versions w.in-Some.found.requests.items c.pop_front.new.self.items c.pop_front.result
             (search (rules, w.self-inside-is, c.pop_front.ensures.items))
-            (subst (λ (f : Option Found). HavePlaces s.versions (first_in (due_with old f).0)) w.in-Some.is asked)),
+            (subst (λ (f : Option NextRequests). HavePlaces s.versions
+                (first_in (due_with old f).0)) w.in-Some.is asked)),
       )
       | in_default w ↦ rw w.self-inside-is (
         c.self.invariant.0,
         places_stay s.versions _ c.pop_front.result c.keep.ensures.places
             (popped s.versions s.due.items c.pop_front.new.self.items c.pop_front.result
             (search (rules, w.self-inside-is, c.pop_front.ensures.items))
-            (subst (λ (f : Option Found). HavePlaces s.versions (first_in (due_with old f).0)) w.in_default.is asked)),
+            (subst (λ (f : Option NextRequests). HavePlaces s.versions
+                (first_in (due_with old f).0)) w.in_default.is asked)),
       )
     ]

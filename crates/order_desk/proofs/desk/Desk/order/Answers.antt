@@ -61,7 +61,7 @@ returns-in-Ok-clause-carried_out g c =
           c.deref.ensures.value c.reply_in.ensures.written)
           (subst (λ (given : List (Cell × Answer)). IsMessage reply (reply_message order.command given))
           c.deref.ensures.value c.reply_in.ensures.meant),
-      added_after c.args.pass.now c.pass.inside.notes.items c.reserve.new.self.items c.serve_all.new.notes.items
+      added_after c.args.pass.now c.pass.inside.notes.items c.reserve.new.self.items c.serve_cells.new.notes.items
           done.0 c.reserve.ensures.items c.pass.view_is done.2,
     )
 
@@ -74,6 +74,6 @@ returns-clause-refused g c =
     let halted = c.in-Err.ensures.halted in (
       halted.0,
       order_halted desk c.args.at c.args.bytes.now order c.in-Err.fault halted.0 prepared halted.1,
-      added_after c.args.pass.now c.pass.inside.notes.items c.reserve.new.self.items c.serve_all.new.notes.items
+      added_after c.args.pass.now c.pass.inside.notes.items c.reserve.new.self.items c.serve_cells.new.notes.items
           halted.0 c.reserve.ensures.items c.pass.view_is halted.2,
     )

@@ -2,7 +2,7 @@ use Rattle.std.proofs.Common.{◌≡◌, ◌≤◌, ◌<◌, ◌+◌, arith, len
 use Rattle.std.specs.List.{All}
 use Rattle.std.proofs.lemmas.List.{map_push, length-map, length_push}
 use Rattle.scheduler.specs.declared.scheduled.Scheduled.{Scheduled}
-use Rattle.scheduler.specs.declared.queue.Node.{Node}
+use Rattle.scheduler.specs.declared.tournament.Node.{Node}
 use Rattle.scheduler.specs.Message.{ScheduledMessage}
 use Rattle.scheduler.specs.Air.{Air}
 use Rattle.scheduler.specs.Follows.{PlanState, Follows, messages_of, message_of, message_from, next_slot}

@@ -1,7 +1,7 @@
 use Rattle.std.proofs.Common.{◌≡◌, sym, subst, List}
 use Rattle.std.specs.List.{All}
 use Rattle.scheduler.specs.declared.scheduled.Scheduled.{Scheduled}
-use Rattle.scheduler.specs.declared.queue.Node.{Node}
+use Rattle.scheduler.specs.declared.tournament.Node.{Node}
 use Rattle.scheduler.specs.Follows.{PlanState, Follows}
 use Rattle.scheduler.specs.QueueSteps.{seen_in, AreRising}
 use Rattle.scheduler.proofs.Followed.{completed-kept}

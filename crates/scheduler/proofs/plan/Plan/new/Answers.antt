@@ -1,6 +1,6 @@
 use Rattle.std.proofs.Common.{[], List, arith, sym, subst, ap, length}
 use Rattle.std.proofs.lemmas.List.Elements.{All-nil}
-use Rattle.scheduler.specs.declared.queue.Node.{Node}
+use Rattle.scheduler.specs.declared.tournament.Node.{Node}
 use Rattle.scheduler.specs.PlanSteps.{IsFit}
 use Rattle.scheduler.specs.QueueSteps.{IsPlan, IsRight, HasTurn}
 use Rattle.scheduler.proofs.Tree.{IsNode-past}

@@ -1,7 +1,7 @@
 use Rattle.std.proofs.Common.{arith, ℕ, ◌+◌, ◌<◌, sym, ap, subst, ◌∙◌, map, refl, List, [], ◌∷◌, ◌++◌}
 use Rattle.std.specs.List.{AllPairs}
 use Rattle.scheduler.specs.declared.scheduled.Scheduled.{Scheduled}
-use Rattle.scheduler.specs.declared.queue.Node.{Node}
+use Rattle.scheduler.specs.declared.tournament.Node.{Node}
 use Rattle.scheduler.specs.Follows.{PlanState, Follows, messages_of, message_of, next_slot}
 use Rattle.scheduler.specs.PlanSteps.{IsSound, IsChoice, after_slot}
 use Rattle.scheduler.specs.QueueSteps.{AreKept, seen_in}

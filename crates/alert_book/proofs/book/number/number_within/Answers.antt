@@ -1,0 +1,31 @@
+use Rattle.std.proofs.Common.{◌≡◌, ◌<◌, ◌^◌, ◌∙◌, true, ℕ, List, length, rules, arith, sym}
+use Rattle.std.specs.Char.{is_ascii_digit}
+use Rattle.std.specs.List.{list_all}
+use Rattle.std.specs.Str.Parse.{digits_value}
+use Rattle.std.proofs.lemmas.Str.Parse.{IsNumeralModel, IsDigitsTest, numerals_by_value, parse_gives}
+use Rattle.std.proofs.lemmas.Str.Parse.{digits_value_short}
+use Rattle.alert_book.specs.Number.{is_number}
+use Rattle.alert_book.proofs.book.number.number_within.Goals as goal
+
+tells : IsDigitsTest (λ text. list_all is_ascii_digit text ≡ true)
+tells = search rules
+
+own : IsNumeralModel (λ text. list_all is_ascii_digit text ≡ true) (digits_value 10)
+own = numerals_by_value _ tells
+
+-- what a number is made of
+pub record HasDigits (text : List ℕ) : Type 0 where
+  pub some : 0 < length text
+  pub few : length text < 6
+  pub digits : list_all is_ascii_digit text ≡ true
+
+digits_of : (text : List ℕ) → is_number text ≡ true → HasDigits text
+digits_of text e = record { some = grind arith; few = grind arith; digits = search rules }
+
+pub returns-in-Err : goal.returns-in-Err
+returns-in-Err c =
+    let number : HasDigits c.args.text.now = digits_of _ (sym c.is_number.ensures ∙ c.if-not-is_number.false) in
+    let small : digits_value 10 c.args.text.now < 10 ^ 5 =
+    digits_value_short own c.args.text.now 5 number.digits (omega arith) in
+    let read = parse_gives own 32 c.args.text.now _ c.parse.ensures.value.0 number.digits number.some (omega arith) in
+    cc

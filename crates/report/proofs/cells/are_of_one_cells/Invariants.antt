@@ -1,8 +1,0 @@
-use Rattle.std.proofs.Common.{◌≡◌, map, take}
-use Rattle.handset.specs.Tape.{readings_of}
-use Rattle.report.proofs.cells.are_of_one_cells.Given as goal
-
-abbrev pub invariant-loop-place : goal.invariant-loop-place
-invariant-loop-place l =
-    map (λ r. r.cell) (take l.place l.records)
-    ≡ map (λ reading. reading.cell) (readings_of (take l.place l.readings))

@@ -1,4 +1,0 @@
-use Rattle.scheduler.proofs.queue.+lift.Given as goal
-
-abbrev pub decreases-lift : goal.decreases-lift
-decreases-lift l = l.place

@@ -1,0 +1,10 @@
+use Rattle.std.proofs.Common.{◌+◌, ◌*◌, length}
+use Rattle.alert_book.specs.Stands.{left_in}
+use Rattle.warnc_run.proofs.Serving.{IsServing, left_to_serve}
+use Rattle.warnc_run.proofs.session.run_session.Given as goal
+
+abbrev pub invariant-loop-next : goal.invariant-loop-next
+invariant-loop-next g l = IsServing l.book l.part l.parts l.session l.next
+
+abbrev pub decreases-loop-next : goal.decreases-loop-next
+decreases-loop-next g l = left_to_serve l.next (length l.session.due + 17 * length (left_in l.session))
