@@ -7,10 +7,10 @@ ghost use Rattle.alert_book.specs.Book.{fault_at, kind_of, refused, unread, AreR
 ghost use Rattle.alert_book.specs.Book.{ReadsBook, RefusesBook};
 ghost use Rattle.alert_book.specs.SendableSteps.{IsSendable};
 
-use crate::fault::{BookFault, BookFaultKind, RowFault, fault_of_book};
 use crate::book::order::Order;
 use crate::book::packing::all_pages;
 use crate::book::row::{Row, row_of};
+use crate::fault::{BookFault, BookFaultKind, RowFault, fault_of_book};
 use cbs_page::Paged;
 use cbsp_wire::Cell;
 use csv::{ByteRecord, ReaderBuilder};

@@ -13,5 +13,5 @@ pub mod session;
 pub use book::{Book, MAX_INPUT, read_book};
 pub use fault::{BookFault, BookFaultKind};
 pub use laws::{book_laws, session_laws, text_laws};
-pub use session::request::Refused;
 pub use session::Session;
+pub use session::request::Refused;

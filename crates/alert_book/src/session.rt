@@ -12,9 +12,9 @@ ghost use Rattle.alert_book.specs.VersionSteps.{has_place, KeepsVersions};
 ghost use Rattle.cbsp_wire.specs.declared.message.Cell.{Cell};
 ghost use Rattle.cbsp_wire.specs.declared.message.Message.{Message};
 
-use crate::session::live_versions::LiveVersions;
 use crate::book::Book;
 use crate::book::order::Order;
+use crate::session::live_versions::LiveVersions;
 use crate::session::outcome::{Outcome, cells_asked, outcome_of};
 use crate::session::request::{Refused, Request, requests_of};
 use crate::session::versions::Versions;

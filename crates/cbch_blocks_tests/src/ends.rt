@@ -134,6 +134,9 @@ fn a_tape_needs_no_more_memory_than_its_octets(rt: HostRuntime) -> Result<(), Fa
 fn texts_of_faults(rt: HostRuntime) -> Result<(), Fail> {
     let fault = WriteFailed { written: 7 };
     assert_eq!(rt; fault.to_string(rt.alloc())?.as_str(), "write failed");
-    assert_eq!(rt; Refused.to_string(rt.alloc())?.as_str(), "memory allocation failed");
+    assert_eq!(rt;
+        Refused.to_string(rt.alloc())?.as_str(),
+        "memory allocation failed"
+    );
     Ok(())
 }

@@ -5,8 +5,8 @@ ghost use Rattle.std.specs.List.{Contains, slice_get};
 ghost use Rattle.cbsp_wire.specs.CellLists.{AreDistinct, contains, least_place};
 ghost use Rattle.cbsp_wire.specs.Range.{are_distinct};
 
-use crate::lists::cursor::Items;
 use crate::lists;
+use crate::lists::cursor::Items;
 use crate::message::Cell;
 
 /// Whether a list has the cell.

@@ -7,10 +7,10 @@ ghost use Rattle.cbsp_wire.specs.ReadingSteps.{HasHeader};
 ghost use Rattle.cbsp_wire.specs.Meaning.{IsMessage};
 
 use crate::cause;
-use crate::reading::elements::{WalkEnd, end_of_walk};
 use crate::fault::WireFault;
 use crate::message::Message;
 use crate::message::message_type::MessageType;
+use crate::reading::elements::{WalkEnd, end_of_walk};
 use crate::reading::range::{elements_are_valid, has_mandatory};
 use crate::reading::value::message_from_elements;
 use std::alloc::Global;

@@ -11,13 +11,12 @@ ghost use Rattle.cbsp_wire.specs.Written.{cell_octets, count_octets, failure_oct
 ghost use Rattle.cbsp_wire.specs.Written.{bodies_in, octets_of_message};
 ghost use Rattle.cbsp_wire.specs.WritingSteps.{element_octets, field_octets, AreShort};
 
-use crate::reading::elements::{NUMBERS, elements};
-use crate::fault::WireFault;
-use crate::writing::fields::{Fields, fields_of, is_writable, type_of};
-use crate::lists::item::{Discriminator, ListItem, put_items};
-use crate::message::Message;
 use crate::cause;
-use crate::message::iei;
+use crate::fault::WireFault;
+use crate::lists::item::{Discriminator, ListItem, put_items};
+use crate::message::{Message, iei};
+use crate::reading::elements::{NUMBERS, elements};
+use crate::writing::fields::{Fields, fields_of, is_writable, type_of};
 use cbs_page::Content;
 use std::alloc::Global;
 

@@ -122,7 +122,7 @@ done_turn desk at list yielded e cell answer answers pushed start before after s
       so ++ own,
       subst (λ (n : ℕ). AreTasksDone desk at (take n list) pushed (so ++ own)) (sym (length_push yielded e))
           (subst (λ (given : List (Cell × Answer)). AreTasksDone desk at (take (length yielded + 1) list) given
-              (so ++ own))
+          (so ++ own))
           (sym (push ∙ ap (λ (c : Cell). answers ++ (c, answer) ∷ []) same)) next),
       is ∙ ap (λ (n : List Note). n ++ own) was ∙ append_assoc start so own,
     )

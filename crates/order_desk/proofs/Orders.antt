@@ -51,9 +51,11 @@ same_order : (r : Result PreparedOrder ℕ) (cells named : List Cell) (command a
 unfolding order_or
 same_order r cells named command asked first then =
     let other : PreparedOrder = (named, asked) in
-    let h = sym first ∙ then in
-    (ap (λ (x : Result PreparedOrder ℕ). (order_or other x).0) h, ap
-        (λ (x : Result PreparedOrder ℕ). (order_or other x).1) h)
+    let h = sym first ∙ then in (
+      ap (λ (x : Result PreparedOrder ℕ). (order_or other x).0) h,
+      ap
+          (λ (x : Result PreparedOrder ℕ). (order_or other x).1) h,
+    )
 
 of_channel : (channel : Option ℕ) (cells named : List Cell) (command asked : Command)
     → if_basic_channel channel named asked ≡ Ok (cells, command)

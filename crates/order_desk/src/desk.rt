@@ -12,13 +12,13 @@ ghost use Rattle.order_desk.specs.Pieces.{IsPieceOf, IsRefusedPiece};
 
 use crate::closed::Closed;
 use crate::desk::cell_task::CellTask;
-use crate::fault::DeskFault;
-use crate::gate::Gate;
 use crate::desk::in_cell::is_book_of;
-use crate::note::{Note, Pass};
 use crate::desk::order::{CellFault, PreparedOrder, prepared};
 use crate::desk::piece::{Piece, put_pages};
 use crate::desk::reply::reply_in;
+use crate::fault::DeskFault;
+use crate::gate::Gate;
+use crate::note::{Note, Pass};
 use bsc_table::{Answer, CellBook, Refused, SlotRange, State};
 use cbs_page::Serial;
 use cbsp_wire::cells::find;

@@ -14,9 +14,9 @@ ghost use Rattle.order_desk.specs.Settled.{IsSettled, ClosedDesk, cell_of, is_of
 ghost use Rattle.order_desk.specs.SettleSteps.{IsFirstJudged, IsLeastFailing, IsForeignIn, IsOfCell, IsStrangeBy};
 ghost use Rattle.order_desk.specs.SettleSteps.{note_of};
 
-use crate::settle::brief::Brief;
 use crate::closed::Closed;
 use crate::note::{Note, Pass};
+use crate::settle::brief::Brief;
 use crate::settle::own::Own;
 use crate::settle::placed::{least_misplaced, lesser};
 use crate::settle::sorted::{cell_of, sorted_notes};

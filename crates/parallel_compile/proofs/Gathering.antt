@@ -146,7 +146,7 @@ same_tapes pieces one other long numbered in_one in_other = ext_get_or [] one ot
         let same : times i (numbers_of pieces) ≡ times i (numbers_below (length one)) = numbered i in
         let is = found (IsAmongPieces one) (IsAmongPieces other) i pieces (omega arith)
         (recursion_from_All (IsAmongPieces one) pieces in_one)
-            (recursion_from_All (IsAmongPieces other) pieces in_other) in
+        (recursion_from_All (IsAmongPieces other) pieces in_other) in
         get_or_from_slice_get one i is.0.1 [] (ap (slice_get one) (sym is.1) ∙ is.2)
         ∙ sym (get_or_from_slice_get other i is.0.1 [] (ap (slice_get other) (sym is.1) ∙ is.3))
 

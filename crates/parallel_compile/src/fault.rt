@@ -38,4 +38,3 @@ impl<T: Drop> From<AllocFailed<T>> for CompileFault {
         CompileFault::Refused
     }
 }
-

@@ -80,7 +80,10 @@ pub(crate) fn first_free(places: &[Option<Tape>]) -> Option<u64>
 }
 
 /// The tapes of places of which none is free.
-pub(crate) fn unwrap_all(alloc: Global, places: Vec<Option<Tape>>) -> Result<Vec<Tape>, CompileFault>
+pub(crate) fn unwrap_all(
+    alloc: Global,
+    places: Vec<Option<Tape>>,
+) -> Result<Vec<Tape>, CompileFault>
     requires { All (λ place. place ≢ None) places.items }
     ensures ok { IfOk result (λ tapes. places.items ≡ map Some tapes.items) }
     ensures err { IfErr result (λ fault. fault ≡ faults.Refused) }

@@ -5,11 +5,11 @@
 //! keeps is its own: its contracts speak of the messages and of the whole air list alone.
 #![tactic(auto)]
 
-mod progress;
 mod laws;
 mod plan;
-mod tournament;
+mod progress;
 mod scheduled;
+mod tournament;
 mod turn;
 
 pub use laws::{air_laws, background_laws};

@@ -8,7 +8,9 @@ ghost use Rattle.scheduler.specs.Air.{layer_of, class_of, IsChosen};
 ghost use Rattle.scheduler.specs.Follows.{Follows, ForHistories, HasCompleted, IsStanding, HasStop, next_slot};
 ghost use Rattle.scheduler.specs.Follows.{messages_of, message_of, message_from};
 
-use crate::tournament::{Node, are_below, completed_of, has_entry, has_standing, play, push, stop_at};
+use crate::tournament::{
+    Node, are_below, completed_of, has_entry, has_standing, play, push, stop_at,
+};
 use std::alloc::Global;
 use std::marker::Model;
 

@@ -14,8 +14,8 @@ ghost use Rattle.scheduler.specs.QueueSteps.{IsTreeBut, KeepsNodesBut, own, own_
 ghost use Rattle.scheduler.specs.QueueSteps.{AreRising};
 ghost use Rattle.scheduler.specs.QueueSteps.{AreKept, AreListed, AreDue, kept_new, renewed_node};
 
-use crate::progress::Progress;
 use crate::plan::{Item, Refused};
+use crate::progress::Progress;
 use crate::turn::First;
 
 /// How many places are below one.

@@ -270,7 +270,10 @@ fn airs_background_that_is_never_whole(rt: HostRuntime) {
 fn tells_the_fault(rt: HostRuntime) -> Result<(), Fail> {
     air_laws();
     background_laws();
-    assert_eq!(rt; Refused.to_string(rt.alloc())?.as_str(), "memory allocation failed");
+    assert_eq!(rt;
+        Refused.to_string(rt.alloc())?.as_str(),
+        "memory allocation failed"
+    );
     Ok(())
 }
 

@@ -120,7 +120,7 @@ pub record ArePacked (septets octets : List ℕ) (count : ℕ) : Type 0 where
 -- one octet more, of two septets of which the first begins s bits before it
 pub ArePacked-more : (septets octets : List ℕ) (place first s low high octet next : ℕ)
     → ArePacked septets octets place → next ≡ place + 1 → place < 82 → 8 * place ≡ 7 * first + s → s < 7 → low ≡ get_or
-        (filled septets) first 0
+    (filled septets) first 0
     → high ≡ get_or (filled septets) (first + 1) 0 → low < 128 → octet < 256
     → octet ≡ (high * 128 + low) / 2 ^ s % 256
     → ArePacked septets (set octets place octet) next

@@ -165,7 +165,9 @@ impl Drought {
 
 /// Whether a text is the name of a fault that says that memory was refused, and nothing done.
 pub fn is_refused(text: &str) -> bool {
-    text.contains("Refused") || text.contains("AllocError") || text.starts_with("Memory { done: 0 }")
+    text.contains("Refused")
+        || text.contains("AllocError")
+        || text.starts_with("Memory { done: 0 }")
 }
 
 /// What came of a step that was refused so often before; it says so, if that is as often as each call is in a drought.

@@ -17,7 +17,7 @@ ghost use Rattle.warnc_cli.specs.Status.{IsNoAir, IsNoRun, IsNoTapes, IsRefused,
 ghost use Rattle.warnc_cli.specs.Status.{WritesSome};
 ghost use Rattle.warnc_cli.specs.Status.{WroteWhatIsAsked};
 
-use crate::command::{Task, PageOptions, asks_for_text, task_of};
+use crate::command::{PageOptions, Task, asks_for_text, task_of};
 use crate::status::{DEVICE, DONE, MEMORY, REFUSED_INPUT, USAGE, failed};
 use clap::Error;
 use clap::error::ErrorKind;

@@ -61,7 +61,10 @@ fn run_part<T: AllocGlobal + Wait, G: Gate>(
 }
 
 /// The passes of threads that have all done their work, or the fault of the first that hasn't.
-pub(crate) fn passes_or_fault<T: AllocGlobal>(rt: &T, all: Vec<UserEnd>) -> Result<Vec<Pass>, RunFault>
+pub(crate) fn passes_or_fault<T: AllocGlobal>(
+    rt: &T,
+    all: Vec<UserEnd>,
+) -> Result<Vec<Pass>, RunFault>
     requires { All (λ ended. IfErr ended.done IsOfRun) all.items }
     ensures ok { IfOk result (λ passes. vec_len passes ≡ vec_len all) }
     ensures err { IfErr result IsOfRun }

@@ -4,8 +4,8 @@ ghost use Rattle.std.specs.Prelude.{◌≡◌, ◌≢◌, Ok, Err, Some, None, I
 ghost use Rattle.std.specs.List.{list_all};
 ghost use Rattle.alert_book.specs.Cells.{all_of, cell_named, cells_listed, cells_of_field, is_among, judged};
 
-use crate::fault::RowFault;
 use crate::book::number::number_within;
+use crate::fault::RowFault;
 use cbsp_wire::cells::are_distinct;
 use cbsp_wire::{Cell, Cells};
 use std::alloc::{AllocError, Global};

@@ -8,9 +8,9 @@ ghost use Rattle.alert_book.specs.Fields.{new_name, number, sending_at};
 ghost use Rattle.alert_book.specs.SendableSteps.{HasSerials, IsSendable};
 
 use crate::book::cells::cells_of_field;
-use crate::fault::RowFault;
 use crate::book::number::number_within;
 use crate::book::order::{Alert, Order, Sending, Text};
+use crate::fault::RowFault;
 use cbsp_wire::Cell;
 use csv::{ByteRecord, StringRecord};
 use std::alloc::{AllocError, Global};

@@ -7,8 +7,8 @@ ghost use Rattle.cbs_page.specs.Text.{IsTextFault};
 ghost use Rattle.alert_book.specs.Book.{fault_at, refused, sending_of, ArePagesOf, HavePages, HasWrongText};
 ghost use Rattle.alert_book.specs.PackingSteps.{IsFirstFault, IsOrderPacked};
 
-use crate::fault::{BookFault, BookFaultKind, fault_of_book};
 use crate::book::order::{Action, Order, Sending};
+use crate::fault::{BookFault, BookFaultKind, fault_of_book};
 use cbs_page::{Paged, TextFault, paginate};
 use rayon::prelude::*;
 use std::alloc::{AllocError, AllocGlobal, Global};

@@ -9,11 +9,11 @@ ghost use Rattle.alert_book.specs.Row.{cell_row, columns_of, is_update_of, is_wr
 ghost use Rattle.alert_book.specs.Row.{row_of_verb, stop_row, update_row, update_with, verb_of, write_row};
 
 use crate::book::cells::{cells_of_field, is_among};
-use crate::fault::RowFault;
 use crate::book::fields::{
     alert_at, check_new_name, column, copy_of, is_named, known_name, number, sending_at, texts_of,
 };
 use crate::book::order::{Action, Order, Sending};
+use crate::fault::RowFault;
 use cbsp_wire::Cell;
 use csv::{ByteRecord, StringRecord};
 use std::alloc::Global;

@@ -7,9 +7,9 @@ ghost use Rattle.alert_book.specs.Session.{request_with, stop_request, update_re
 ghost use Rattle.alert_book.specs.SessionSteps.{cell_version, cells_found, live_by};
 ghost use Rattle.alert_book.specs.SendableSteps.{HasSerials, IsSendable};
 
-use crate::session::live_versions::LiveVersions;
 use crate::book::cells::list_of;
 use crate::book::order::{Action, Alert, Order, Sending};
+use crate::session::live_versions::LiveVersions;
 use cbs_page::{Paged, Serial};
 use cbsp_wire::{Cell, Cells, Contents, Message};
 use std::alloc::Global;

@@ -14,12 +14,11 @@ ghost use Rattle.cbsp_wire.specs.Value.{u8_value, contents_of, fields_in, first_
 ghost use Rattle.cbsp_wire.specs.declared.message.iei.TheConstants.{MESSAGE_CONTENT, NUMBER_OF_PAGES};
 
 use crate::lists::cursor::Octets;
-use crate::reading::elements::{NUMBERS, find, first_octet, presence};
-use crate::message::iei;
 use crate::lists::item::ListItem;
 use crate::lists::{cells_are_valid, is_list_body, items_of};
-use crate::message::{Cell, Count, Failure};
 use crate::message::message_type::{MessageType, Presence};
+use crate::message::{Cell, Count, Failure, iei};
+use crate::reading::elements::{NUMBERS, find, first_octet, presence};
 use crate::reading::value::{u8_value, u16_value};
 use cbs_page::Dcs;
 

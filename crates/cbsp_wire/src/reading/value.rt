@@ -7,12 +7,11 @@ ghost use Rattle.cbsp_wire.specs.Walk.{walk_of};
 ghost use Rattle.cbsp_wire.specs.Value.{first_items, content_of, u16_value, u8_value, cells_of, counts_of, failures_of};
 ghost use Rattle.cbsp_wire.specs.Value.{contents_of, message_of};
 
-use crate::reading::elements::{find, first_octet, u16_from_be};
-use crate::message::iei;
 use crate::lists::item::{ListItem, read_items};
 use crate::lists::items_of;
-use crate::message::{Cells, Contents, Counts, Failures, Message};
 use crate::message::message_type::MessageType;
+use crate::message::{Cells, Contents, Counts, Failures, Message, iei};
+use crate::reading::elements::{find, first_octet, u16_from_be};
 use crate::reading::range::content_count;
 use cbs_page::{Content, Dcs, Serial};
 use std::alloc::{AllocError, Global};

@@ -9,12 +9,11 @@ ghost use Rattle.cbsp_wire.specs.Range.{values_are_valid, is_full};
 ghost use Rattle.cbsp_wire.specs.Range.{is_writable};
 ghost use Rattle.cbsp_wire.specs.Value as values;
 
-use crate::lists::cursor::Items;
-use crate::reading::elements::presence;
-use crate::message::iei;
 use crate::lists::cells_are_valid;
-use crate::message::{Cell, Count, Failure, Message};
+use crate::lists::cursor::Items;
 use crate::message::message_type::{MessageType, Presence};
+use crate::message::{Cell, Count, Failure, Message, iei};
+use crate::reading::elements::presence;
 use crate::reading::range::{has_alphabet, is_page_count, is_period, is_up_to};
 use cbs_page::{Content, Serial};
 use std::marker::Model;

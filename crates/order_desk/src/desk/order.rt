@@ -7,8 +7,8 @@ ghost use Rattle.order_desk.specs.Desk.{IsNoOrder, IsOrderOf};
 ghost use Rattle.order_desk.specs.DeskSteps.{IsPrepared};
 
 use crate::desk::cell_task::{CellTask, cell_tasks};
-use crate::fault::DeskFault;
 use crate::desk::reply::{ReplyRoom, room_for};
+use crate::fault::DeskFault;
 use bsc_table::{Answer, Command, orders_of};
 use cbsp_wire::{Cell, WireFault, read};
 use std::alloc::Global;
@@ -52,7 +52,11 @@ fn order_in(alloc: Global, octets: &[u8]) -> Result<(Vec<Cell>, Command), DeskFa
 }
 
 /// The order that a message is, at a desk with these cells, with all the room that it takes.
-pub(crate) fn prepared(alloc: Global, own: &[Cell], octets: &[u8]) -> Result<PreparedOrder, DeskFault>
+pub(crate) fn prepared(
+    alloc: Global,
+    own: &[Cell],
+    octets: &[u8],
+) -> Result<PreparedOrder, DeskFault>
     ensures prepared { IfOk result (IsPrepared own.now octets.now) }
     ensures refused { IfErr result (IsNoOrder octets.now) }
 {

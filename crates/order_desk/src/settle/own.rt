@@ -4,8 +4,8 @@ ghost use Rattle.std.specs.Prelude.{◌≡◌, ◌<◌, [], ◌∷◌, ◌++◌,
 ghost use Rattle.order_desk.specs.declared.note.Note.{Note};
 ghost use Rattle.order_desk.specs.SettleSteps.{note_of};
 
-use crate::settle::brief::Brief;
 use crate::note::Note;
+use crate::settle::brief::Brief;
 use std::alloc::{AllocError, Global};
 use std::marker::Model;
 

@@ -22,6 +22,6 @@ pub returns : goal.returns
 returns c = λ some.
     let has = has_pages Gsm c.args.octets.now some in
     let made = HasClosed-end c.args.octets.now c.loop-rest.rest.now c.loop-rest.pages.items
-        c.content_of_septets-2.result
+    c.content_of_septets-2.result
     c.loop-rest.invariant.made c.loop-rest.invariant.own c.loop-rest-test.false c.content_of_septets-2.ensures in
     (has.pieces, has.paging, rw (c.in_ok-push-2.ensures.items, ← has.cut) made)

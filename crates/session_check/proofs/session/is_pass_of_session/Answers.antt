@@ -26,7 +26,7 @@ returns-in_default-2 c =
     subst (λ (octets : List ℕ). IsNoTurn c.args.records.now c.in-Some.at octets notes) c.deref.ensures.value
     (none_of c.in_ok-reply.field-0 c.in_default-2.is c.in_ok-reply.ensures.none) in
     let whole = is_pass_of_session c.args.book.now c.args.part c.args.parts c.args.records.now c.args.pass.now
-        c.requires.cells
+    c.requires.cells
     in (
       λ is. absurd (false≢true is),
       λ own. absurd (goes_no_further c.args.records.now replaying.reached given notes
@@ -69,7 +69,7 @@ returns c =
     let ended = ends_by c.args.records.now replaying.reached (commands_in c.loop-next.left.now)
     (subst (IsGiven replaying.reached.sent) c.in_default.is replaying.given) in
     let whole = is_pass_of_session c.args.book.now c.args.part c.args.parts c.args.records.now c.args.pass.now
-        c.requires.cells
+    c.requires.cells
     in (
       λ is. whole.0 (replaying.to_whole (ended.0 (c.has_no_commands.ensures.0 is))),
       λ own. c.has_no_commands.ensures.1 (ended.1 (replaying.from_whole (whole.1 own))),

@@ -29,7 +29,7 @@ invariant_of-self c =
             (popped s.versions w.in-Some.found.requests.items c.pop_front.new.self.items c.pop_front.result
             (search (rules, w.self-inside-is, c.pop_front.ensures.items))
             (subst (λ (f : Option NextRequests). HavePlaces s.versions
-                (first_in (due_with old f).0)) w.in-Some.is asked)),
+            (first_in (due_with old f).0)) w.in-Some.is asked)),
       )
       | in_default w ↦ rw w.self-inside-is (
         c.self.invariant.0,
@@ -37,6 +37,6 @@ invariant_of-self c =
             (popped s.versions s.due.items c.pop_front.new.self.items c.pop_front.result
             (search (rules, w.self-inside-is, c.pop_front.ensures.items))
             (subst (λ (f : Option NextRequests). HavePlaces s.versions
-                (first_in (due_with old f).0)) w.in_default.is asked)),
+            (first_in (due_with old f).0)) w.in_default.is asked)),
       )
     ]

@@ -34,12 +34,12 @@ loop-own-preserved c =
     subst (λ (least : Option ℕ). IsLeastFailing (λ k. All (AreInPlaceAt c.args.cell c.args.log.now k [])
     (take (c.loop-own.own-index + 1) c.args.passes.now)) least) (sym c.lesser-least.ensures)
     (subst (λ (passes : List (List Note)). IsLeastFailing
-        (λ k. All (AreInPlaceAt c.args.cell c.args.log.now k []) passes)
+    (λ k. All (AreInPlaceAt c.args.cell c.args.log.now k []) passes)
     (lesser c.loop-own.least c.least_misplaced_in.result)) (sym more) both)
 
 -- src/placed.rt:126:1
 pub returns : goal.returns
 returns c =
     subst (λ (passes : List (List Note)). IsLeastFailing
-        (λ k. All (AreInPlaceAt c.args.cell c.args.log.now k []) passes)
+    (λ k. All (AreInPlaceAt c.args.cell c.args.log.now k []) passes)
     c.loop-own.least) (take_all c.loop-own.own-index c.args.passes.now c.loop-own-test.false) c.loop-own.invariant

@@ -29,14 +29,14 @@ returns c =
           let set : SetsVersion entries new number c.args.cell w.version_after_reply.result =
           sets_version entries new number c.args.cell w.version_after_reply.result (placed c)
           (λ key. ((c.get_mut.follows.holds w.version_after_reply.result).3
-              (ap is_some (sym w.in-Some.ensures.value))).0 key)
+          (ap is_some (sym w.in-Some.ensures.value))).0 key)
           in
           let is : w.version_after_reply.result ≡ said (kept_version entries number c.args.cell) =
           w.version_after_reply.ensures
           ∙ ap said (found_is entries number c.args.cell w.in-Some.kept.now w.in-Some.ensures.value) in
           rw w.self-inside-is
           (subst (λ (old : Entries). SetsVersion old new number c.args.cell
-              (said (kept_version old number c.args.cell)))
+          (said (kept_version old number c.args.cell)))
           c.self.view_is (subst (λ (v : Option ℕ). SetsVersion entries new number c.args.cell v) is set))
       | in_default w ↦ absurd (no_place _ (sym w.in_default.ensures.value) (placed c))
     ]
