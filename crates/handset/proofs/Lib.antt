@@ -5,6 +5,8 @@ pub mod NamedPages
 pub mod ReadingLaws
 pub mod TapeLaws
 pub mod TapeExtents
+pub mod Recordings
+mod RecordingLaws
 mod Worked
 pub mod TapeKinds
 pub mod TapeCases

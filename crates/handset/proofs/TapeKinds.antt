@@ -11,18 +11,18 @@ use Rattle.handset.specs.Laws.{TapeIsOneKind, TapesAreOneKind}
 use Rattle.handset.proofs.TapeLaws.{tape_long}
 
 -- two ways to cut a list at one place
-front_same : (a b c d : List ℕ) → a ++ b ≡ c ++ d → length a ≡ length c → a ≡ c
+pub front_same : (a b c d : List ℕ) → a ++ b ≡ c ++ d → length a ≡ length c → a ≡ c
 front_same a b c d same long =
     sym (take-append_seam a b) ∙ ap (take (length a)) same ∙ ap (λ n. take n (c ++ d)) long ∙ take-append_seam c d
 
-back_same : (a b c d : List ℕ) → a ++ b ≡ c ++ d → length a ≡ length c → b ≡ d
+pub back_same : (a b c d : List ℕ) → a ++ b ≡ c ++ d → length a ≡ length c → b ≡ d
 back_same [] b [] d same long = same
 back_same [] b (y ∷ c) d same long = absurd (omega arith)
 back_same (x ∷ a) b [] d same long = absurd (omega arith)
 back_same (x ∷ a) b (y ∷ c) d same long = back_same a b c d (ap (drop 1) same) (omega arith)
 
 -- octets are those of one list of blocks
-blocks_same : (blocks others : List (List ℕ)) → AllByRecursion (λ block. length block ≡ 23) blocks →
+pub blocks_same : (blocks others : List (List ℕ)) → AllByRecursion (λ block. length block ≡ 23) blocks →
     AllByRecursion (λ block. length block ≡ 23) others →
     octets_of_blocks blocks ≡ octets_of_blocks others → blocks ≡ others
 blocks_same [] [] each all same = refl
@@ -58,7 +58,7 @@ reading_same octets reading other tape twin =
     ∙ ap (λ b. reading_from twin.header (shown_in b)) blocks ∙ sym twin.reading_is
 
 -- a tape that stands in front is told by what it stands in
-tape_in_front : (input tape after : List ℕ) (reading : TapeReading) → input ≡ tape ++ after → IsTape tape reading →
+pub tape_in_front : (input tape after : List ℕ) (reading : TapeReading) → input ≡ tape ++ after → IsTape tape reading →
     (8 ≤ length input) × (slots_in input ≤ max_slots) × (length tape ≡ 8 + 92 * slots_in input)
     × (length input ≡ length tape + length after)
 tape_in_front input tape after reading split is =

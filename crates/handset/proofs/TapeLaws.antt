@@ -33,14 +33,14 @@ pub record ReadsTapes (old new : Option (List ℕ)) (readings : List TapeReading
   pub joined : AreJoined octets readings
 
 -- what is known of an input, by what is known of the octets that are left of it
-behind : (P Q : List ℕ → Type 0) (a b : Option (List ℕ)) (octets : List ℕ) → Consumes a b octets → IfSome b P →
+pub behind : (P Q : List ℕ → Type 0) (a b : Option (List ℕ)) (octets : List ℕ) → Consumes a b octets → IfSome b P →
     ((rest : List ℕ) → P rest → Q (octets ++ rest)) → IfSome a Q
 behind P Q None b octets consumed left all = tt
 behind P Q (Some input) None octets consumed left all = absurd consumed
 behind P Q (Some input) (Some rest) octets consumed left all = subst Q (sym consumed) (all rest left)
 
 -- nothing is left of it
-at_end : (Q : List ℕ → Type 0) (a b : Option (List ℕ)) (octets : List ℕ) → Consumes a b octets → IsAtEnd b → Q octets →
+pub at_end : (Q : List ℕ → Type 0) (a b : Option (List ℕ)) (octets : List ℕ) → Consumes a b octets → IsAtEnd b → Q octets →
     IfSome a Q
 at_end Q None b octets consumed end all = tt
 at_end Q (Some input) None octets consumed end all = absurd consumed

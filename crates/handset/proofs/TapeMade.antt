@@ -3,10 +3,10 @@ use Rattle.std.proofs.Common.{◌≡◌, ℕ, ◌+◌, ◌*◌, ◌/◌, ◌%◌
 use Rattle.handset.specs.Laws.{MadeAreTapes}
 use Rattle.handset.specs.Tape.{AreSlots, slots_in, max_slots}
 
-pair_back : (n : ℕ) → 256 * (n / 256) + n % 256 ≡ n
+pub pair_back : (n : ℕ) → 256 * (n / 256) + n % 256 ≡ n
 pair_back n = omega arith
 
-four_back : (n : ℕ) → n < 4294967296 →
+pub four_back : (n : ℕ) → n < 4294967296 →
     16777216 * (n / 16777216) + 65536 * (n / 65536 % 256) + 256 * (n / 256 % 256) + n % 256 ≡ n
 four_back n fits = omega arith
 

@@ -1,6 +1,6 @@
 -- Laws of reading (own): of what a list of blocks shows, and of which octets are tapes. Each is over its definitions
 -- alone.
-use Rattle.std.specs.Prelude.{◌≡◌, ◌⊎◌, ℕ, ◌≤◌, true, nat_le, Option, List, ◌++◌, length}
+use Rattle.std.specs.Prelude.{◌≡◌, ◌⊎◌, ℕ, ◌≤◌, true, nat_le, Option, List, ◌++◌, length, map}
 use Rattle.std.specs.List.{flat_map}
 use Rattle.std.specs.Option.{option_to_list}
 use Rattle.cbs_page.specs.declared.octets.PageView.{PageView}
@@ -10,6 +10,7 @@ use Rattle.handset.specs.Reception.{Name, is_complete, text_of, ShownMessage, re
 use Rattle.handset.specs.Counting.{whole_among}
 use Rattle.handset.specs.Showing.{AreTheComplete}
 use Rattle.handset.specs.OneMessage.{AreFrom, IsLeastCount, IsMessage}
+use Rattle.handset.specs.Recording.{TapeRecording, reading_of_recording, AreRecordings, HoldsRecording}
 use Rattle.handset.specs.Tape.{TapeReading, tape_octets, max_slots, AreSlots, IsTape, IsShortTape, IsLongTape}
 use Rattle.handset.specs.Tape.{AreTapes, IsShort, IsLong}
 
@@ -78,3 +79,20 @@ abbrev pub MadeAreTapes : Type 0
 MadeAreTapes =
     (cell : Cell) → (slots : ℕ) → (blocks : List (List ℕ)) → slots ≤ max_slots → AreSlots slots blocks →
     IsTape (tape_octets cell slots blocks) (record { cell = cell; slots = slots; shown = shown_in blocks })
+
+-- what the tapes of an input hold is unique
+abbrev pub RecordingsAreOne : Type 0
+RecordingsAreOne = (input : List ℕ) (recordings others : List TapeRecording) → AreRecordings input recordings
+    → AreRecordings input others
+    → recordings ≡ others
+
+-- and a handset reads it
+abbrev pub RecordingsAreRead : Type 0
+RecordingsAreRead = (input : List ℕ) (recordings : List TapeRecording) → AreRecordings input recordings
+    → AreTapes input (map reading_of_recording recordings)
+
+-- the octets that are made of a cell, a number of slots and their blocks hold just these
+abbrev pub MadeAreRecordings : Type 0
+MadeAreRecordings =
+    (cell : Cell) → (slots : ℕ) → (blocks : List (List ℕ)) → slots ≤ max_slots → AreSlots slots blocks →
+    HoldsRecording (tape_octets cell slots blocks) (record { cell = cell; slots = slots; blocks = blocks })

@@ -2,6 +2,7 @@ pub mod Reception
 pub mod Keeping
 pub mod KeepingSteps
 pub mod Tape
+pub mod Recording
 pub mod TapeExtent
 pub mod TapeSteps
 pub mod Counting

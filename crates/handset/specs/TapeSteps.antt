@@ -10,6 +10,7 @@ use Rattle.handset.specs.declared.tape.TapeFault.TheVariants as fault
 use Rattle.handset.specs.Tape.{TapeReading, IsTape, AreSlots, IsCut, IsOversized, octets_of_blocks, slots_in}
 use Rattle.handset.specs.Tape.{max_slots}
 use Rattle.handset.specs.Tape.{tape_length}
+use Rattle.handset.specs.Recording.{TapeRecording, HoldsRecording}
 
 -- the reader gave this many octets, and a handset has read the blocks that they are
 pub record ReadsPiece (old new : Option (List ℕ)) (count : ℕ) (before after : HandsetState) : Type 0 where
@@ -63,3 +64,15 @@ IsNextFault input fault.Short = IsCut input
 IsNextFault input fault.Long = IsOversized input
 IsNextFault input fault.ReadFailed = Unit {0}
 IsNextFault input fault.Refused = Unit {0}
+
+-- the reader gave a header that may be
+pub record ReadsHeader (old new : Option (List ℕ)) (header : List ℕ) : Type 0 where
+  pub consumed : Consumes old new header
+  pub eight : length header ≡ 8
+  pub few : slots_in header ≤ max_slots
+
+-- the reader gave the tape that holds this
+pub record ReadsRecording (old new : Option (List ℕ)) (r : TapeRecording) : Type 0 where
+  pub octets : List ℕ
+  pub consumed : Consumes old new octets
+  pub holds : HoldsRecording octets r

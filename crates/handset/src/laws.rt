@@ -2,6 +2,7 @@
 
 ghost use Rattle.handset.specs.Laws.{ShownAreTheComplete, OnePageShowsOne, CompleteIsWhole, WholeIsTheLeastCount};
 ghost use Rattle.handset.specs.Laws.{TextIsTheMessages};
+ghost use Rattle.handset.specs.Laws.{MadeAreRecordings, RecordingsAreOne, RecordingsAreRead};
 ghost use Rattle.handset.specs.Laws.{TapeIsOneKind, TapeHasKind, TapesAreOneKind, TapesHaveKind, MadeAreTapes};
 
 /// Laws of what a list of blocks shows. It does nothing: its contract is the statement.
@@ -28,4 +29,14 @@ pub fn tape_laws()
     ensures tapes { TapesAreOneKind }
     ensures tapes_kinds { TapesHaveKind }
     ensures made { MadeAreTapes }
+{}
+
+/// Laws of what tapes hold. It does nothing: its contract is the statement.
+///
+/// What the tapes of an input hold is unique, and a handset reads it. The octets that are made of a cell, a number of
+/// slots and blocks hold these.
+pub fn recording_laws()
+    ensures one { RecordingsAreOne }
+    ensures read { RecordingsAreRead }
+    ensures made { MadeAreRecordings }
 {}

@@ -12,11 +12,13 @@ mod input;
 mod laws;
 mod messages;
 mod pages;
+mod recording;
 mod tape;
 
 pub use handset::Handset;
-pub use laws::{reading_laws, tape_laws};
+pub use laws::{reading_laws, recording_laws, tape_laws};
 pub use messages::{Refused, Shown};
+pub use recording::{Recording, TakesRecordings, record_each};
 pub use tape::{
     MAX_SLOTS, MAX_TAPES, Reading, TakesReadings, TapeFault, read_each, read_tape, read_tapes,
 };

@@ -17,7 +17,7 @@ ghost use Rattle.handset.specs.Tape.{IsTape, IsTapeFault, IsTapesFault};
 ghost use Rattle.handset.specs.declared.tape.TapeFault.TheVariants.{ReadFailed, Refused};
 ghost use Rattle.handset.specs.TapeExtent.{StopsAt};
 ghost use Rattle.handset.specs.TapeSteps.{IsNextFault, NextStopsAt, ReadsBlocks, ReadsCount, ReadsFewer, ReadsPiece};
-ghost use Rattle.handset.specs.TapeSteps.{ReadsTape, StopsInOctets};
+ghost use Rattle.handset.specs.TapeSteps.{ReadsHeader, ReadsTape, StopsInOctets};
 
 use crate::input::read_front;
 use crate::{Handset, Shown};
@@ -34,7 +34,7 @@ pub const MAX_SLOTS: u32 = 65_535;
 pub const MAX_TAPES: usize = 64;
 
 /// How many octets the blocks of a slot have.
-const SLOT: usize = 92;
+pub(crate) const SLOT: usize = 92;
 
 /// How many slots are read at a time at most: their octets are just under 64 KiB.
 const PIECE_SLOTS: usize = 712;
@@ -217,14 +217,14 @@ pub fn read_each<R: Read, T: TakesReadings>(
 }
 
 /// `length` octets of 0.
-fn zeros(alloc: Global, length: usize) -> Result<Vec<u8>, AllocError>
+pub(crate) fn zeros(alloc: Global, length: usize) -> Result<Vec<u8>, AllocError>
     ensures { IfOk result (λ octets. vec_len octets ≡ length) }
 {
     vec![in alloc; 0; length]
 }
 
 /// Whether the input is at its end. If it isn't, one octet more is gone.
-fn is_at_end<R: Read>(source: &mut Source<R>) -> Result<bool, Failed>
+pub(crate) fn is_at_end<R: Read>(source: &mut Source<R>) -> Result<bool, Failed>
     requires { source_failed source.old ≡ false }
     ensures end { IfOk result (λ end. MatchBool end (IsAtEnd (R.remaining (reader_of source.old)))
         (IfSome (R.remaining (reader_of source.old)) (λ left. 0 < length left))) }
@@ -257,18 +257,10 @@ fn next_tape<R: Read>(
         IsNextFault left fault)) }
     ensures failed { source_failed source.new ≡ reports_read_failed result }
 {
-    let mut header = [0; 8];
-    let count = read_front(source, &mut header)?;
-    if count == 0 {
+    let Some(header) = next_header(source)? else {
         return Ok(None);
-    }
-    if count < 8 {
-        return Err(TapeFault::Short);
-    }
+    };
     let slots = slots_of(&header);
-    if slots > MAX_SLOTS {
-        return Err(TapeFault::Long);
-    }
     let shown = read_slots(alloc, source, piece, slots)?;
     Ok(Some(Reading {
         cell: cell_of(&header),
@@ -277,8 +269,35 @@ fn next_tape<R: Read>(
     }))
 }
 
+/// Reads the header of the next tape, if there is one, and judges it.
+pub(crate) fn next_header<R: Read>(source: &mut Source<R>) -> Result<Option<[u8; 8]>, TapeFault>
+    requires { source_failed source.old ≡ false }
+    ensures header { IfOk result (λ next. IfSome next (λ header. Reads R.remaining (λ old new.
+        ReadsHeader old new header) source.old source.new)) }
+    ensures end { IfOk result (λ next. IfNone next (IsAtEnd (R.remaining (reader_of source.old)))) }
+    ensures whole { IfOk result (λ next. IfNone next (IsAtEnd (R.remaining (reader_of source.new)))) }
+    ensures extent { IfErr result (λ fault. NextStopsAt (R.remaining (reader_of source.old))
+        (R.remaining (reader_of source.new)) fault) }
+    ensures fault { IfErr result (λ fault. IfSome (R.remaining (reader_of source.old)) (λ left.
+        IsNextFault left fault)) }
+    ensures failed { source_failed source.new ≡ reports_read_failed result }
+{
+    let mut header = [0; 8];
+    let count = read_front(source, &mut header)?;
+    if count == 0 {
+        return Ok(None);
+    }
+    if count < 8 {
+        return Err(TapeFault::Short);
+    }
+    if slots_of(&header) > MAX_SLOTS {
+        return Err(TapeFault::Long);
+    }
+    Ok(Some(header))
+}
+
 /// The cell that a header names.
-fn cell_of(header: &[u8; 8]) -> Cell
+pub(crate) fn cell_of(header: &[u8; 8]) -> Cell
     ensures { result ≡ cell_in header.now }
 {
     Cell {
@@ -288,7 +307,7 @@ fn cell_of(header: &[u8; 8]) -> Cell
 }
 
 /// How many slots a header says.
-fn slots_of(header: &[u8; 8]) -> u32
+pub(crate) fn slots_of(header: &[u8; 8]) -> u32
     ensures { result ≡ slots_in header.now }
 {
     u32::from_be_bytes([header[4], header[5], header[6], header[7]])

@@ -1,0 +1,45 @@
+-- What a tape holds: a cell, the number of its slots and their blocks, as they were sent. Own.
+use Rattle.std.specs.Prelude.{◌≡◌, ℕ, ◌≤◌, List, [], ◌∷◌, ◌++◌, length, Option, IfSome}
+use Rattle.cbsp_wire.specs.declared.message.Cell.{Cell}
+use Rattle.handset.specs.Reception.{shown_in}
+use Rattle.handset.specs.Tape.{TapeReading, AreSlots, cell_in, max_slots, max_tapes, octets_of_blocks, slots_in}
+
+pub record TapeRecording : Type 0 where
+  pub cell : Cell
+  pub slots : ℕ
+  pub blocks : List (List ℕ)
+
+-- what a handset reads of it
+abbrev pub reading_of_recording : TapeRecording → TapeReading
+reading_of_recording r = record { cell = r.cell; slots = r.slots; shown = shown_in r.blocks }
+
+-- octets are the tape that holds this: a header of eight, and the blocks of as many slots as it says
+pub record HoldsRecording (octets : List ℕ) (r : TapeRecording) : Type 0 where
+  pub header : List ℕ
+  pub joined : octets ≡ header ++ octets_of_blocks r.blocks
+  pub eight : length header ≡ 8
+  pub few : slots_in header ≤ max_slots
+  pub slots : AreSlots (slots_in header) r.blocks
+  pub cell_is : r.cell ≡ cell_in header
+  pub slots_are : r.slots ≡ slots_in header
+
+-- octets are whole tapes, one after another, that hold these
+abbrev pub AreJoinedRecordings : List ℕ → List TapeRecording → Type 0
+AreJoinedRecordings octets [] = octets ≡ []
+AreJoinedRecordings octets (r ∷ rest) =
+    (tape : List ℕ) × (after : List ℕ) × (octets ≡ tape ++ after) × HoldsRecording tape r
+    × AreJoinedRecordings after rest
+
+-- tapes up to the end of an input, at most 64, hold these
+pub record AreRecordings (input : List ℕ) (recordings : List TapeRecording) : Type 0 where
+  pub joined : AreJoinedRecordings input recordings
+  pub few : length recordings ≤ max_tapes
+
+-- what takes recordings took those of the input's tapes, in order, and of some octets' tapes where the input isn't
+-- known; `HasTaken` says which recordings it has
+pub record AreRecorded {T : Type 0} (HasTaken : T → List TapeRecording → Type 0) (input : Option (List ℕ))
+    (old new : T) : Type 0 where
+  pub recordings : List TapeRecording
+  pub of_input : IfSome input (λ octets. AreRecordings octets recordings)
+  pub of_some : (octets : List ℕ) × AreRecordings octets recordings
+  pub taken : (before : List TapeRecording) → HasTaken old before → HasTaken new (before ++ recordings)

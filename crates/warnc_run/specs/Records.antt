@@ -1,0 +1,44 @@
+-- What the run of a book makes of its cells: a record for each. Own.
+use Rattle.std.specs.Prelude.{⊤, ℕ, List, Option, All}
+use Rattle.std.specs.Io.KnownBytes.{Consumes, IsAtEnd}
+use Rattle.alert_book.specs.Book.{Contents, IsBook, RefusesBook}
+use Rattle.bsc_table.specs.Record.{Record}
+use Rattle.book_runs.specs.Meant.{IsMeantIn}
+use Rattle.book_runs.specs.Ordered.{AreThoseStarted}
+use Rattle.book_runs.specs.Run.{Exchange, IsRun}
+use Rattle.parallel_compile.specs.declared.fault.CompileFault.TheVariants as compile
+use Rattle.warnc_run.specs.declared.fault.RunFault.{RunFault}
+use Rattle.warnc_run.specs.declared.fault.RunFault.TheVariants as fault
+use Rattle.warnc_run.specs.Compiled.{HasReadBook, IsDeskFault, IsSettleFault}
+
+-- the octets are a book; its run gives each cell one of these records, in the order of the book, and each shows what
+-- the book means; and each message that a cell accepted is one that an order of the book had it start, with that
+-- order's text, and no other order started one
+pub record AreRecordsOf (slots : ℕ) (input : List ℕ) (records : List Record) : Type 0 where
+  pub book : Contents
+  pub is_book : IsBook input book
+  pub exchanges : List Exchange
+  pub run : IsRun book slots exchanges records
+  pub meant : All (IsMeantIn book) records
+  pub accepted : All (AreThoseStarted book exchanges) records
+
+-- all of the octets were read, and these are the records of the book that they are
+pub record HasRunBook (slots : ℕ) (first last : Option (List ℕ)) (records : List Record) : Type 0 where
+  pub input : List ℕ
+  pub read : Consumes first last input
+  pub ended : IsAtEnd last
+  pub made : AreRecordsOf slots input records
+
+-- why there are no records of a book: the fault is the book's; or the octets are a book, and the desk was out of memory
+-- or found the book of another cell, or wasn't settled; or there can't be so many workers, or they were out of memory;
+-- or memory ran out. Nothing was to be written, and no tape was made
+abbrev pub IsRecordsFault : (slots : ℕ) (first last : Option (List ℕ)) → RunFault → Type 0
+IsRecordsFault slots first last (fault.Book f) = RefusesBook first last f
+IsRecordsFault slots first last (fault.Desk f) = IsDeskFault f × HasReadBook first last
+IsRecordsFault slots first last (fault.Settle f) =
+    (read : HasReadBook first last) × IsSettleFault read.book slots 1 f
+IsRecordsFault slots first last (fault.Compile compile.Workers) = ⊤
+IsRecordsFault slots first last (fault.Compile compile.Refused) = HasReadBook first last
+IsRecordsFault slots first last (fault.Compile (compile.Piece index)) = ⊥
+IsRecordsFault slots first last (fault.Write failed) = ⊥
+IsRecordsFault slots first last fault.Refused = ⊤

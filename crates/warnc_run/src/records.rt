@@ -1,0 +1,61 @@
+//! A book of alerts to the records of its cells.
+
+ghost use Rattle.std.specs.Prelude.{◌≡◌, ◌↔◌, true, IfErr, IfOk, IsErrOf, IsTrue};
+ghost use Rattle.device_ends.specs.Source.{source_failed};
+ghost use Rattle.device_ends.specs.Stream.{Reads};
+ghost use Rattle.alert_book.specs.Book.{unread};
+ghost use Rattle.parallel_compile.specs.declared.fault.CompileFault.TheVariants as compile;
+ghost use Rattle.warnc_run.specs.Compiled.{AreWorkers};
+ghost use Rattle.warnc_run.specs.Records.{HasRunBook, IsRecordsFault};
+ghost use Rattle.warnc_run.specs.declared.fault.RunFault.TheVariants as faults;
+
+use crate::counts::Workers;
+use crate::fault::RunFault;
+use crate::tapes::records_of_book;
+use alert_book::read_book;
+use bsc_table::CellRecord;
+use device_ends::Source;
+use parallel_compile::CompileFault;
+use std::io::Read;
+use std::sync::Wait;
+use std::thread::Threads;
+
+/// Reads a book, has the cells of a desk carry out what its one session orders, in runs of `slots` slots, as
+/// [`compile_stream`](crate::compile_stream) does, and returns the records of the cells, in the order of the book.
+/// `workers` workers, 1 to 64, play the cells; the records don't depend on their number.
+///
+/// # Errors
+///
+/// Returns the faults of [`compile_stream`](crate::compile_stream) but [`RunFault::Write`] and [`CompileFault::Piece`].
+pub fn run_book<T: AllocGlobal + Threads + Wait + Sync, R: Read>(
+    rt: &T,
+    source: &mut Source<R>,
+    slots: u16,
+    workers: u64,
+) -> Result<Vec<CellRecord>, RunFault>
+    ensures ok { IfOk result (λ records.
+        Reads R.remaining (λ first last. HasRunBook slots first last records.items) source.old source.new) }
+    ensures err { IfErr result (λ fault.
+        Reads R.remaining (λ first last. IsRecordsFault slots first last fault) source.old source.new) }
+
+    // The number of workers is judged first, and nothing is done if it is wrong.
+    ensures workers { IsErrOf result (faults.Compile compile.Workers) ↔ (AreWorkers workers → ⊥) }
+    ensures untried { IsErrOf result (faults.Compile compile.Workers) → source.new ≡ source.old }
+
+    // The device, at any reader.
+    ensures device { AreWorkers workers
+        → (IsErrOf result (faults.Book unread) ↔ IsTrue (source_failed source.new)) }
+    ensures failed_stays { source_failed source.old ≡ true → source.new ≡ source.old }
+{
+    // A handset is shown what the book means, whatever the cells answered.
+    book_runs::run_laws();
+    book_runs::order_laws();
+    book_runs::session_laws();
+    let Some(workers) = Workers::new(workers) else {
+        return Err(RunFault::Compile(CompileFault::Workers));
+    };
+    match read_book(rt, source) {
+        Ok(book) => records_of_book(rt, &book, slots, workers),
+        Err(fault) => Err(RunFault::Book(fault)),
+    }
+}
