@@ -4,3 +4,4 @@ pub mod Written
 pub mod Asked
 pub mod FirstFault
 mod OneOutput
+pub mod RecordsOf
