@@ -36,10 +36,11 @@ pub record AreRecordings (input : List ℕ) (recordings : List TapeRecording) : 
   pub few : length recordings ≤ max_tapes
 
 -- what takes recordings took those of the input's tapes, in order, and of some octets' tapes where the input isn't
--- known; `HasTaken` says which recordings it has
-pub record AreRecorded {T : Type 0} (HasTaken : T → List TapeRecording → Type 0) (input : Option (List ℕ))
+-- known; `HasTaken` says which recordings it has, for what it takes them
+pub record AreRecorded {G T : Type 0} (HasTaken : G → T → List TapeRecording → Type 0) (input : Option (List ℕ))
     (old new : T) : Type 0 where
   pub recordings : List TapeRecording
   pub of_input : IfSome input (λ octets. AreRecordings octets recordings)
   pub of_some : (octets : List ℕ) × AreRecordings octets recordings
-  pub taken : (before : List TapeRecording) → HasTaken old before → HasTaken new (before ++ recordings)
+  pub taken : (given : G) (before : List TapeRecording) → HasTaken given old before
+      → HasTaken given new (before ++ recordings)

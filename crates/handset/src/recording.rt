@@ -68,17 +68,22 @@ impl Recording {
 
 /// What becomes of the tapes of an input, which come one after another.
 pub trait TakesRecordings {
-    /// It has taken these, in order.
-    ghost HasTaken: { Self → List TapeRecording → Type 0 };
+    /// What it takes them for, which no tape changes.
+    ghost Given: { Type 0 };
+
+    /// For this it has taken these, in order.
+    ghost HasTaken: { Given → Self → List TapeRecording → Type 0 };
 
     /// Takes what the next tape holds. The only error is out of memory.
     fn take(&mut self, recording: Recording) -> Result<(), AllocError>
-        ensures { OnOk result ((before : List TapeRecording) → HasTaken self.old before →
-            HasTaken self.new (before ++ recording ∷ [])) };
+        ensures { OnOk result ((given : Given) (before : List TapeRecording) → HasTaken given self.old before →
+            HasTaken given self.new (before ++ recording ∷ [])) };
 }
 
 impl TakesRecordings for Vec<Recording> {
-    ghost HasTaken = { λ taken recordings. taken.items ≡ recordings };
+    ghost Given = { Unit {0} };
+
+    ghost HasTaken = { λ _ taken recordings. taken.items ≡ recordings };
 
     fn take(&mut self, recording: Recording) -> Result<(), AllocError> {
         match self.push(recording) {

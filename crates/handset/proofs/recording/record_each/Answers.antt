@@ -14,19 +14,19 @@ use Rattle.handset.proofs.recording.record_each.Invariants.{AreRecordedSoFar}
 use Rattle.handset.proofs.recording.record_each.Goals as goal
 
 -- one more
-taken_more : {T : Type 0} (HasTaken : T → List TapeRecording → Type 0) (first mid last : Option (List ℕ))
+taken_more : {G T : Type 0} (HasTaken : G → T → List TapeRecording → Type 0) (first mid last : Option (List ℕ))
     (old now new : T) (count : ℕ) (r : TapeRecording)
     → AreRecordedSoFar HasTaken first mid old now count
     → ReadsRecording mid last r
-    → ((before : List TapeRecording) → HasTaken now before → HasTaken new (before ++ r ∷ []))
+    → ((given : G) (before : List TapeRecording) → HasTaken given now before → HasTaken given new (before ++ r ∷ []))
     → AreRecordedSoFar HasTaken first last old new (count + 1)
 taken_more HasTaken first mid last old now new count r sofar reads takes = record {
   recordings = sofar.recordings ++ r ∷ [];
   read = one_more_read first mid last sofar.recordings r sofar.read reads;
   many = length-append sofar.recordings (r ∷ []) ∙ ap (λ n. n + 1) sofar.many;
-  taken = λ before has.
-      subst (HasTaken new) (append_assoc before sofar.recordings (r ∷ []))
-      (takes (before ++ sofar.recordings) (sofar.taken before has));
+  taken = λ given before has.
+      subst (HasTaken given new) (append_assoc before sofar.recordings (r ∷ []))
+      (takes given (before ++ sofar.recordings) (sofar.taken given before has));
 }
 
 -- a handset would read as many

@@ -5,12 +5,13 @@ use Rattle.handset.proofs.Recordings.{ReadsRecordings}
 use Rattle.handset.proofs.recording.record_each.Given as goal
 
 -- so many tapes were read, and what they hold was taken
-pub record AreRecordedSoFar {T : Type 0} (HasTaken : T → List TapeRecording → Type 0) (first now : Option (List ℕ))
-    (old new : T) (count : ℕ) : Type 0 where
+pub record AreRecordedSoFar {G T : Type 0} (HasTaken : G → T → List TapeRecording → Type 0)
+    (first now : Option (List ℕ)) (old new : T) (count : ℕ) : Type 0 where
   pub recordings : List TapeRecording
   pub read : ReadsRecordings first now recordings
   pub many : length recordings ≡ count
-  pub taken : (before : List TapeRecording) → HasTaken old before → HasTaken new (before ++ recordings)
+  pub taken : (given : G) (before : List TapeRecording) → HasTaken given old before
+      → HasTaken given new (before ++ recordings)
 
 abbrev pub invariant-loop-count : goal.invariant-loop-count
 invariant-loop-count g l = record {
