@@ -1,0 +1,258 @@
+#!/usr/bin/env python3
+"""Judges tapes by a book, as docs/definitions.md says what differs: a second program against which `warnc verify` is compared. Which
+orders a cell accepted, and from when to when, it takes from `warnc report`; all else it finds by itself.
+
+Usage: verify_reference.py PROGRAM [RUNS]    random books, whose tapes are left as they are in every third run, and else spoilt: octets
+                                             changed, slots swapped, dropped and doubled, blocks shifted, tapes missing, doubled, cut
+                                             or foreign; the rows of both programs have to be the same. PROGRAM is a built `warnc`
+"""
+import csv
+import io
+import random
+import struct
+import subprocess
+import sys
+
+import malformed
+
+LANGUAGES = "de en it fr es nl sv da pt fi no el tr hu pl und".split()
+TYPES = (0x20, 0x21, 0x22, 0x33)
+IDLE = bytes([0x2F] + [0x2B] * 22)
+TEXTS = ("Stay in!", "{fire} at 3€", "Go up to the roof " * 8, "Вода", "a" * 93 + "{", "Вода поднимается, идите наверх. " * 3, "@", "x" * 186)
+
+
+def pages_of(text):
+    """Returns the pieces of a text that its pages hold, and whether it is GSM 7-bit."""
+    pairs = set(malformed.EXTENSION.values())
+    alphabet = set(malformed.MAIN) | pairs
+    plain = all(it in alphabet for it in text)
+    room = 93 if plain else 41
+    pieces, used = [""], 0
+    for it in text:
+        cost = 2 if plain and it in pairs else 1
+        if used + cost > room:
+            pieces.append("")
+            used = 0
+        pieces[-1] += it
+        used += cost
+    return pieces, plain
+
+
+class Asked:
+    """What a cell was asked: an accepted message."""
+
+    def __init__(self, order, ident, serial, start, end, slots):
+        self.ident, self.serial, self.start = ident, serial, start
+        self.category, self.period, self.broadcasts = order["category"], order["period"], order["broadcasts"]
+        self.pages, plain = pages_of(order["text"])
+        self.dcs = LANGUAGES.index(order["lang"]) if plain else 0x48
+        over = start + self.broadcasts * self.period if self.broadcasts else slots
+        self.stop = end if end < min(over, slots) else None
+
+    def is_right(self, number, total, dcs, text):
+        return total == len(self.pages) and dcs == self.dcs and number <= total and text == self.pages[number - 1]
+
+
+def random_book(rng):
+    """Returns the text of a book, its cells, and its orders by identifier and serial number."""
+    cells = [(rng.randrange(1, 4), it) for it in rng.sample(range(1, 9), rng.randrange(1, 4))]
+    rows, orders, names = [f"cell,{lac},{ci}" for lac, ci in cells], {}, []
+    for at in sorted(rng.randrange(0, 30) for _ in range(rng.randrange(1, 9))):
+        kind = rng.choice(("write", "write", "update", "stop")) if names else "write"
+        chosen = rng.sample(cells, rng.randrange(1, len(cells) + 1))
+        where = "*" if rng.random() < 0.5 else " ".join(f"{lac}-{ci}" for lac, ci in chosen)
+        text, lang = rng.choice(TEXTS), rng.choice(LANGUAGES)
+        order = {"text": text, "lang": lang, "category": rng.choice((0, 1, 2, 2)), "period": rng.randrange(1, 9),
+                 "broadcasts": rng.choice((0, 0, 1, 2, 3))}
+        tail = f'{lang},{order["category"]},{order["period"]},{order["broadcasts"]},{where},"{text}"'
+        if kind == "write":
+            name = {"name": f"n{len(names)}", "ident": 4370 + len(names), "code": rng.randrange(1024), "update": 0}
+            names.append(name)
+            rows.append(f"write,{at},{name['name']},{name['ident']},1,{name['code']},{tail}")
+        elif kind == "update":
+            name = rng.choice(names)
+            name["update"] += 1
+            rows.append(f"update,{at},{name['name']},{tail}")
+        else:
+            rows.append(f"stop,{at},{rng.choice(names)['name']},{where}")
+        if kind != "stop":
+            orders[name["ident"], 1 << 14 | name["code"] << 4 | name["update"]] = order
+    return "".join(it + "\n" for it in rows), cells, orders
+
+
+def asked_of(report, orders, slots):
+    """Returns what each cell was asked."""
+    asked = {}
+    for row in csv.DictReader(io.StringIO(report)):
+        if not row["shown"].startswith("refused"):
+            ident, serial = int(row["id"]), int(row["serial"], 16)
+            asked.setdefault((int(row["lac"]), int(row["ci"])), []).append(
+                Asked(orders[ident, serial], ident, serial, int(row["start"]), int(row["end"]), slots))
+    return asked
+
+
+def sent_in(blocks):
+    """Yields each readable page that stands in blocks, with its slot."""
+    for place in range(len(blocks) - 3):
+        if tuple(it[0] for it in blocks[place:place + 4]) == TYPES:
+            page = b"".join(it[1:] for it in blocks[place:place + 4])
+            serial, ident, dcs, parameter = struct.unpack_from(">HHBB", page)
+            number, total = divmod(parameter, 16)
+            if number == 0 or total == 0:
+                number = total = 1
+            alphabet = malformed.alphabet_of(dcs)
+            if alphabet is not None and number <= total:
+                yield place // 4, ident, serial, number, total, dcs, malformed.text_of_content(alphabet, page[6:])
+
+
+def differences_of_message(one, sent, slots):
+    """Yields the differences of a message: its pages that were sent are (slot, number, right)."""
+    def first(kind, number, which):
+        found = [it[0] for it in sent if which(it)]
+        return [(found[0], one.ident, one.serial, kind, number)] if found else []
+
+    over = one.start + one.broadcasts * one.period if one.broadcasts else None
+    for number in range(1, 16):
+        yield from first(0, number, lambda it, number=number: it[1] == number and not it[2])
+    yield from first(1, 0, lambda it: it[0] < one.start)
+    yield from first(2, 0, lambda it: one.stop is not None and it[0] >= one.stop)
+    yield from first(3, 0, lambda it: over is not None and it[0] >= over and (one.stop is None or it[0] < one.stop))
+    turn, limit = 0, slots if one.stop is None else min(slots, one.stop)
+    while one.category != 1 and one.start + (turn + 1) * one.period <= limit and (not one.broadcasts or turn < one.broadcasts):
+        begin, due = one.start + turn * one.period, one.start + (turn + 1) * one.period
+        whole = {number for slot, number, right in sent if right and begin <= slot < due}
+        if not set(range(1, len(one.pages) + 1)) <= whole:
+            yield due, one.ident, one.serial, 4, turn
+        turn += 1
+
+
+def differences_of_cell(asked, blocks, slots):
+    sent, found, names = list(sent_in(blocks)), [], {(it.ident, it.serial) for it in asked}
+    for one in asked:
+        found += differences_of_message(one, [(slot, number, one.is_right(number, total, dcs, text))
+                                              for slot, ident, serial, number, total, dcs, text in sent
+                                              if (ident, serial) == (one.ident, one.serial)], slots)
+    for slot, ident, serial, *_ in sent:
+        if (ident, serial) not in names:
+            names.add((ident, serial))
+            found.append((slot, ident, serial, 5, 0))
+    return sorted(found)
+
+
+WORDS = ("page {} reads otherwise", "before its start", "after its stop", "after its last broadcast", "broadcast {} not whole",
+         "not ordered")
+
+
+def table_of(cells, asked, tapes, slots):
+    """Returns the table of a book's cells and of tapes (LAC, CI, slots, blocks)."""
+    lines = ["lac,ci,id,serial,slot,difference"]
+    for cell in cells:
+        own = [it for it in tapes if it[:2] == cell]
+        if not own:
+            lines.append(f"{cell[0]},{cell[1]},,,,no tape")
+        elif own[0][2] != slots:
+            lines.append(f"{cell[0]},{cell[1]},,,,other slots")
+        else:
+            for slot, ident, serial, kind, number in differences_of_cell(asked.get(cell, []), own[0][3], slots):
+                lines.append(f"{cell[0]},{cell[1]},{ident},{serial:04x},{slot},{WORDS[kind].format(number)}")
+    seen = set()
+    for lac, ci, *_ in tapes:
+        if (lac, ci) not in cells:
+            lines.append(f"{lac},{ci},,,,unknown cell")
+        elif (lac, ci) in seen:
+            lines.append(f"{lac},{ci},,,,second tape")
+        seen.add((lac, ci))
+    return "".join(it + "\n" for it in lines)
+
+
+def tapes_of(octets):
+    """Returns the tapes in octets."""
+    tapes, place = [], 0
+    while place < len(octets):
+        lac, ci, slots = struct.unpack_from(">HHI", octets, place)
+        blocks = [octets[at:at + 23] for at in range(place + 8, place + 8 + 92 * slots, 23)]
+        tapes.append((lac, ci, slots, blocks))
+        place += 8 + 92 * slots
+    return tapes
+
+
+def spoilt(rng, tapes):
+    """Returns tapes with a few things done to them."""
+    tapes = [(lac, ci, slots, list(blocks)) for lac, ci, slots, blocks in tapes]
+    for _ in range(rng.randrange(1, 5)):
+        place = rng.randrange(len(tapes)) if tapes else None
+        kind = rng.randrange(12)
+        if place is None or kind == 0:
+            tapes.insert(rng.randrange(len(tapes) + 1), (rng.randrange(1, 5), rng.randrange(1, 9), 1, [IDLE] * 4))
+            continue
+        lac, ci, slots, blocks = tapes[place]
+        one, other = rng.randrange(slots), rng.randrange(slots)
+        if kind == 1:
+            tapes.pop(place)
+        elif kind == 2:
+            tapes.append((lac, ci, slots, list(blocks)))
+        elif kind == 3 and slots > 1:
+            tapes[place] = (lac, ci, slots - 1, blocks[:-4])
+        elif kind == 4:
+            blocks.insert(rng.randrange(len(blocks)), IDLE)
+            blocks.pop()
+        elif kind == 5:
+            rng.shuffle(tapes)
+        elif kind in (6, 7):
+            blocks[4 * one:4 * one + 4], blocks[4 * other:4 * other + 4] = blocks[4 * other:4 * other + 4], blocks[4 * one:4 * one + 4]
+        elif kind == 8:
+            blocks[4 * one:4 * one + 4] = [IDLE] * 4
+        elif kind == 9:
+            source = rng.choice(tapes)[3]
+            at = 4 * rng.randrange(len(source) // 4)
+            blocks[4 * one:4 * one + 4] = source[at:at + 4]
+        else:
+            used = [it for it in range(len(blocks)) if blocks[it][0] != 0x2F] or [0]
+            at, octet = rng.choice(used), rng.randrange(23 if kind == 10 else 7)
+            block = bytearray(blocks[at])
+            block[octet] ^= 1 << rng.randrange(8)
+            blocks[at] = bytes(block)
+    return tapes
+
+
+def octets_of(tapes):
+    return b"".join(struct.pack(">HHI", lac, ci, slots) + b"".join(blocks) for lac, ci, slots, blocks in tapes)
+
+
+def run(program, words, octets):
+    return subprocess.run([program, *words], input=octets, stdout=subprocess.PIPE, stderr=subprocess.PIPE, check=False)
+
+
+def differs(program, seed):
+    """Whether both programs write different tables in this run."""
+    rng = random.Random(seed)
+    book, cells, orders = random_book(rng)
+    octets, slots = book.encode(), rng.randrange(1, 40)
+    report = run(program, ["report", "--slots", str(slots)], octets)
+    made = run(program, ["compile", "--slots", str(slots)], octets)
+    tapes = tapes_of(made.stdout)
+    if seed % 3:
+        tapes = spoilt(rng, tapes)
+    else:
+        rng.shuffle(tapes)
+    table = table_of(cells, asked_of(report.stdout.decode(), orders, slots), tapes, slots)
+    said = run(program, ["verify", "--slots", str(slots), "--book-octets", str(len(octets))], octets + octets_of(tapes))
+    count = table.count("\n") - 1
+    status, faults = (1, f"warnc: differences: {count}\n") if count else (0, "")
+    if (said.stdout.decode(), said.stderr.decode(), said.returncode) == (table, faults, status) and (seed % 3 or not count):
+        return False
+    print(f"run {seed}:\n{book}{table}{said.stdout.decode()}{said.stderr.decode()}")
+    return True
+
+
+def main(words):
+    if not words:
+        raise SystemExit(__doc__)
+    runs = int(words[1]) if len(words) > 1 else 1500
+    differing = sum(differs(words[0], seed) for seed in range(runs))
+    print(f"{runs} runs, {differing} differ")
+    return 1 if differing else 0
+
+
+if __name__ == "__main__":
+    sys.exit(main(sys.argv[1:]))
