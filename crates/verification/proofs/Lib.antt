@@ -1,0 +1,4 @@
+pub mod ListLaws
+pub mod OwedLaws
+pub mod NameLaws
+pub mod SentLaws
