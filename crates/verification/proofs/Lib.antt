@@ -2,3 +2,4 @@ pub mod ListLaws
 pub mod OwedLaws
 pub mod NameLaws
 pub mod SentLaws
+pub mod FoundLaws

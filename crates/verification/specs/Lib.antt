@@ -4,3 +4,7 @@ pub mod Judged
 pub mod Difference
 pub mod Kept
 pub mod Names
+pub mod Rows
+pub mod RowText
+pub mod Found
+pub mod FoundSteps

@@ -8,11 +8,17 @@ mod asked;
 mod broadcasts;
 mod cell;
 mod difference;
+mod findings;
 mod judged;
 mod names;
 mod not_ordered;
 mod pages;
+mod row;
 mod sent;
+mod text;
 
 pub use cell::differences;
 pub use difference::{Difference, Kind};
+pub use findings::Findings;
+pub use row::{Finding, Row};
+pub use text::text_of;
