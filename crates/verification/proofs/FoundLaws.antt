@@ -1,0 +1,289 @@
+-- What is kept of tapes, after none and after one more.
+use Rattle.std.proofs.Common.{◌≡◌, ℕ, ◌<◌, Bool, true, false, cond, not, Option, Some, None, List, [], ◌∷◌, ◌++◌, length}
+use Rattle.std.proofs.Common.{map, find, get_or, refl, sym, ◌∙◌, ap, subst, arith, All, append-nil, append_assoc}
+use Rattle.std.specs.Prelude.{◌&&◌, ◌||◌, ◌==◌, MatchBool, if◌then◌else◌}
+use Rattle.std.specs.List.{AllByRecursion, flat_map, list_any}
+use Rattle.std.specs.Cmp.{nat_eq_equiv}
+use Rattle.std.proofs.lemmas.List.{ext_get_or, get_or-map, map-append, length-map}
+use Rattle.std.proofs.lemmas.List.Concat.{flat_map-cons}
+use Rattle.std.proofs.lemmas.List.Elements.{All-nil, All-cons, recursion_from_All}
+use Rattle.cbsp_wire.specs.declared.message.Cell.{Cell}
+use Rattle.cbsp_wire.specs.Range.{is_cell}
+use Rattle.cbsp_wire.proofs.CellLists.{same_cell}
+use Rattle.bsc_table.specs.Record.{Record}
+use Rattle.verification.specs.declared.findings.CellFinding.{CellFinding}
+use Rattle.verification.specs.declared.findings.CellFinding.TheVariants as found
+use Rattle.verification.specs.declared.findings.CellState.{CellState}
+use Rattle.verification.specs.declared.row.Finding.TheVariants as findings
+use Rattle.verification.specs.declared.row.Row.{Row}
+use Rattle.verification.specs.Found.{FindingsState, HasTaken, IsFound, IsFoundBy, IsFoundIn, unjudged}
+use Rattle.verification.specs.FoundSteps.{AreJudgedBy, IsJudgedBy, rows_of_finding, rows_of_state}
+use Rattle.verification.specs.Rows.{AreJudged, AreRows, AreRowsBy, AreRowsOfCells, AreTapeRows, SentTape}
+use Rattle.verification.specs.Rows.{difference_row, is_known, is_tape_of, other_row, other_rows, row_of}
+
+-- no tapes
+runs-of : (records : List Record) → map (λ (c : CellState). c.run) (map unjudged records) ≡ records
+runs-of [] = refl
+runs-of (r ∷ records) = ap (λ rs. r ∷ rs) (runs-of records)
+
+none-found : (records : List Record) → All (IsFound []) (map unjudged records)
+none-found [] = All-nil (IsFound [])
+none-found (r ∷ records) = All-cons (IsFound []) (unjudged r) (map unjudged records) refl (none-found records)
+
+pub taken-none : (records : List Record) (f : FindingsState) → f.cells ≡ map unjudged records → f.seen ≡ [] →
+    f.others ≡ [] → HasTaken records f []
+taken-none records f cells seen others = record {
+  cells = ap (map (λ (c : CellState). c.run)) cells ∙ runs-of records;
+  found = subst (All (IsFound [])) (sym cells) (none-found records);
+  seen = seen;
+  others = others;
+}
+
+-- the first that passes a test, with one more at the end
+same-here : {X : Type 0} (test : Bool) (y : X) (one two : Option X) → one ≡ two →
+    cond test (Some y) one ≡ cond test (Some y) two
+same-here true y one two same = refl
+same-here false y one two same = same
+
+find-same : {X : Type 0} (test : X → Bool) (xs : List X) (x : X) → test x ≡ false →
+    find test (xs ++ x ∷ []) ≡ find test xs
+find-same test [] x fails = ap (λ here. cond here (Some x) None) fails
+find-same test (y ∷ xs) x fails =
+    same-here (test y) y (find test (xs ++ x ∷ [])) (find test xs) (find-same test xs x fails)
+
+kept-here : {X : Type 0} (here there : Bool) (y : X) (one two : Option X) → (here || there) ≡ true →
+    (there ≡ true → one ≡ two) → cond here (Some y) one ≡ cond here (Some y) two
+kept-here true there y one two some later = refl
+kept-here false there y one two some later = later some
+
+find-kept : {X : Type 0} (test : X → Bool) (xs : List X) (x : X) → list_any test xs ≡ true →
+    find test (xs ++ x ∷ []) ≡ find test xs
+find-kept test [] x some = cc
+find-kept test (y ∷ xs) x some =
+    kept-here (test y) (list_any test xs) y (find test (xs ++ x ∷ [])) (find test xs) some (find-kept test xs x)
+
+new-here : {X : Type 0} (here there : Bool) (y x : X) (one : Option X) → (here || there) ≡ false →
+    (there ≡ false → one ≡ Some x) → cond here (Some y) one ≡ Some x
+new-here true there y x one none later = cc
+new-here false there y x one none later = later none
+
+find-new : {X : Type 0} (test : X → Bool) (xs : List X) (x : X) → list_any test xs ≡ false → test x ≡ true →
+    find test (xs ++ x ∷ []) ≡ Some x
+find-new test [] x none passes = ap (λ here. cond here (Some x) None) passes
+find-new test (y ∷ xs) x none passes =
+    new-here (test y) (list_any test xs) y x (find test (xs ++ x ∷ [])) none
+    (λ rest. find-new test xs x rest passes)
+
+-- cells are compared either way
+cell-symm : (a b : Cell) → is_cell a b ≡ is_cell b a
+cell-symm a b =
+    ap (λ (x : Bool). x && (a.ci == b.ci)) (nat_eq_equiv.symm a.lac b.lac)
+    ∙ ap (λ (x : Bool). (b.lac == a.lac) && x) (nat_eq_equiv.symm a.ci b.ci)
+
+-- a cell of which the tape isn't
+stays : (tapes : List SentTape) (tape : SentTape) (c : CellState) → is_cell c.run.cell tape.cell ≡ false →
+    IsFound tapes c → IsFound (tapes ++ tape ∷ []) c
+stays tapes tape c other is =
+    subst (λ o. IsFoundBy c.run o c.finding) (sym (find-same (is_tape_of c.run.cell) tapes tape other)) is
+
+-- a cell that had a tape, if this tape is of it
+stays-seen : (tapes : List SentTape) (tape : SentTape) (c : CellState) → list_any (is_tape_of tape.cell) tapes ≡ true →
+    IsFound tapes c → IsFound (tapes ++ tape ∷ []) c
+stays-seen tapes tape c seen is = by_test (is_cell c.run.cell tape.cell) refl
+  where
+    by_test : (here : Bool) → is_cell c.run.cell tape.cell ≡ here → IsFound (tapes ++ tape ∷ []) c
+    by_test true same =
+        let had : list_any (is_tape_of c.run.cell) tapes ≡ true =
+        ap (λ cell. list_any (is_tape_of cell) tapes) (same_cell c.run.cell tape.cell same) ∙ seen in
+        subst (λ o. IsFoundBy c.run o c.finding) (sym (find-kept (is_tape_of c.run.cell) tapes tape had)) is
+    by_test false other = stays tapes tape c other is
+
+-- a cell that had no tape, if this tape is of it
+judged-first : (tapes : List SentTape) (tape : SentTape) (old new : CellState) →
+    list_any (is_tape_of tape.cell) tapes ≡ false → IsJudgedBy tape old new → IsFound tapes old →
+    IsFound (tapes ++ tape ∷ []) new
+judged-first tapes tape old new unseen judged is =
+    subst (λ r. IsFoundBy r (find (is_tape_of r.cell) (tapes ++ tape ∷ [])) new.finding) (sym judged.run)
+    (by_test (is_cell old.run.cell tape.cell) refl)
+  where
+    by_test : (here : Bool) → is_cell old.run.cell tape.cell ≡ here →
+        IsFoundBy old.run (find (is_tape_of old.run.cell) (tapes ++ tape ∷ [])) new.finding
+    by_test true same =
+        let none : list_any (is_tape_of old.run.cell) tapes ≡ false =
+        ap (λ cell. list_any (is_tape_of cell) tapes) (same_cell old.run.cell tape.cell same) ∙ unseen in
+        let found : IsFoundIn old.run tape.slots tape.blocks new.finding =
+        subst (λ b. MatchBool b (IsFoundIn old.run tape.slots tape.blocks new.finding) (new.finding ≡ old.finding)) same
+        judged.finding in
+        subst (λ o. IsFoundBy old.run o new.finding)
+        (sym (find-new (is_tape_of old.run.cell) tapes tape none same)) found
+    by_test false other =
+        let kept : new.finding ≡ old.finding =
+        subst (λ b. MatchBool b (IsFoundIn old.run tape.slots tape.blocks new.finding) (new.finding ≡ old.finding)) other
+        judged.finding in
+        subst (λ f. IsFoundBy old.run (find (is_tape_of old.run.cell) (tapes ++ tape ∷ [])) f) (sym kept)
+        (stays tapes tape old other is)
+
+-- the rows of one more tape that isn't judged
+others-more : (records : List Record) (before tapes : List SentTape) (tape : SentTape) →
+    other_rows records before (tapes ++ tape ∷ [])
+    ≡ other_rows records before tapes ++ other_row records (before ++ tapes) tape
+others-more records before [] tape =
+    append-nil (other_row records before tape)
+    ∙ ap (λ bs. other_row records bs tape) (sym (append-nil before))
+others-more records before (t ∷ tapes) tape =
+    ap (λ rows. other_row records before t ++ rows) (others-more records (before ++ t ∷ []) tapes tape)
+    ∙ ap (λ bs. other_row records before t
+    ++ (other_rows records (before ++ t ∷ []) tapes ++ other_row records bs tape)) (append_assoc before (t ∷ []) tapes)
+    ∙ sym (append_assoc (other_row records before t) (other_rows records (before ++ t ∷ []) tapes)
+    (other_row records (before ++ t ∷ tapes) tape))
+
+-- which row a tape has
+row-by : (records : List Record) (before : List SentTape) (tape : SentTape) (known second : Bool) →
+    is_known records tape.cell ≡ known → list_any (is_tape_of tape.cell) before ≡ second →
+    other_row records before tape
+    ≡ (if known then (if second then row_of tape.cell findings.SecondTape ∷ [] else [])
+    else row_of tape.cell findings.UnknownCell ∷ [])
+row-by records before tape known second is_known_is is_second_is =
+    ap (λ (x : Bool). if x
+    then (if list_any (is_tape_of tape.cell) before then row_of tape.cell findings.SecondTape ∷ [] else [])
+    else row_of tape.cell findings.UnknownCell ∷ []) is_known_is
+    ∙ ap (λ (x : Bool). if known then (if x then row_of tape.cell findings.SecondTape ∷ [] else [])
+    else row_of tape.cell findings.UnknownCell ∷ []) is_second_is
+
+-- the cells of the tapes
+seen-more : (f : FindingsState) (tapes : List SentTape) (tape : SentTape) (seen : List Cell) →
+    f.seen ≡ map (λ (t : SentTape). t.cell) tapes → seen ≡ f.seen ++ tape.cell ∷ [] →
+    seen ≡ map (λ (t : SentTape). t.cell) (tapes ++ tape ∷ [])
+seen-more f tapes tape seen are more =
+    more ∙ ap (λ cells. cells ++ tape.cell ∷ []) are ∙ sym (map-append (λ (t : SentTape). t.cell) tapes (tape ∷ []))
+
+seen-any : (cell : Cell) (tapes : List SentTape) →
+    list_any (is_cell cell) (map (λ (t : SentTape). t.cell) tapes) ≡ list_any (is_tape_of cell) tapes
+seen-any cell [] = refl
+seen-any cell (t ∷ tapes) = ap (λ (x : Bool). is_cell cell t.cell || x) (seen-any cell tapes)
+
+-- a tape of no cell of the run
+apart-here : (here there : Bool) → (here || there) ≡ false → (here ≡ false) × (there ≡ false)
+apart-here true there none = cc
+apart-here false there none = (refl, none)
+
+apart : (cells : List CellState) (cell : Cell) → is_known (map (λ (c : CellState). c.run) cells) cell ≡ false →
+    All (λ (c : CellState). is_cell c.run.cell cell ≡ false) cells
+apart [] cell none = All-nil (λ (c : CellState). is_cell c.run.cell cell ≡ false)
+apart (c ∷ cells) cell none =
+    let both = apart-here (is_cell cell c.run.cell) (is_known (map (λ (c : CellState). c.run) cells) cell) none in
+    All-cons (λ (c : CellState). is_cell c.run.cell cell ≡ false) c cells (cell-symm c.run.cell cell ∙ both.0)
+    (apart cells cell both.1)
+
+known-of : (records : List Record) (f : FindingsState) (cell : Cell) (known : Bool) →
+    map (λ (c : CellState). c.run) f.cells ≡ records → is_known (map (λ (c : CellState). c.run) f.cells) cell ≡ known →
+    is_known records cell ≡ known
+known-of records f cell known cells is = ap (λ rs. is_known rs cell) (sym cells) ∙ is
+
+pub taken-unknown : (records : List Record) (old new : FindingsState) (tapes : List SentTape) (tape : SentTape) →
+    HasTaken records old tapes → is_known (map (λ (c : CellState). c.run) old.cells) tape.cell ≡ false →
+    new.cells ≡ old.cells → new.seen ≡ old.seen ++ tape.cell ∷ [] →
+    new.others ≡ old.others ++ row_of tape.cell findings.UnknownCell ∷ [] → HasTaken records new (tapes ++ tape ∷ [])
+taken-unknown records old new tapes tape taken unknown cells seen others = record {
+  cells = ap (map (λ (c : CellState). c.run)) cells ∙ taken.cells;
+  found = subst (All (IsFound (tapes ++ tape ∷ []))) (sym cells)
+      (λ k d within. stays tapes tape (get_or old.cells k d) (apart old.cells tape.cell unknown k d within)
+      (taken.found k d within));
+  seen = seen-more old tapes tape new.seen taken.seen seen;
+  others = others ∙ ap (λ rows. rows ++ row_of tape.cell findings.UnknownCell ∷ []) taken.others
+      ∙ ap (λ rows. other_rows records [] tapes ++ rows)
+      (sym (row-by records tapes tape false (list_any (is_tape_of tape.cell) tapes)
+      (known-of records old tape.cell false taken.cells unknown) refl))
+      ∙ sym (others-more records [] tapes tape);
+}
+
+pub taken-second : (records : List Record) (old new : FindingsState) (tapes : List SentTape) (tape : SentTape) →
+    HasTaken records old tapes → is_known (map (λ (c : CellState). c.run) old.cells) tape.cell ≡ true →
+    list_any (is_cell tape.cell) old.seen ≡ true →
+    new.cells ≡ old.cells → new.seen ≡ old.seen ++ tape.cell ∷ [] →
+    new.others ≡ old.others ++ row_of tape.cell findings.SecondTape ∷ [] → HasTaken records new (tapes ++ tape ∷ [])
+taken-second records old new tapes tape taken known second cells seen others =
+    let had : list_any (is_tape_of tape.cell) tapes ≡ true =
+    sym (seen-any tape.cell tapes) ∙ ap (list_any (is_cell tape.cell)) (sym taken.seen) ∙ second in
+    record {
+      cells = ap (map (λ (c : CellState). c.run)) cells ∙ taken.cells;
+      found = subst (All (IsFound (tapes ++ tape ∷ []))) (sym cells)
+          (λ k d within. stays-seen tapes tape (get_or old.cells k d) had (taken.found k d within));
+      seen = seen-more old tapes tape new.seen taken.seen seen;
+      others = others ∙ ap (λ rows. rows ++ row_of tape.cell findings.SecondTape ∷ []) taken.others
+          ∙ ap (λ rows. other_rows records [] tapes ++ rows)
+          (sym (row-by records tapes tape true true (known-of records old tape.cell true taken.cells known) had))
+          ∙ sym (others-more records [] tapes tape);
+    }
+
+-- the runs of cells that were judged
+runs-same : (tape : SentTape) (old new : List CellState) → AreJudgedBy tape old new →
+    map (λ (c : CellState). c.run) new ≡ map (λ (c : CellState). c.run) old
+runs-same tape [] [] judged = refl
+runs-same tape [] (n ∷ new) judged = absurd (let less : ⊥ = omega (arith, judged.long) in less)
+runs-same tape (c ∷ old) new judged =
+    let run : CellState → Record = λ s. s.run in
+    ext_get_or c.run (map run new) (map run (c ∷ old))
+    (length-map new run ∙ judged.long ∙ sym (length-map (c ∷ old) run))
+    (λ i within.
+    let in_new : i < length new = omega (arith, length-map new run) in
+    let in_old : i < length (c ∷ old) = omega (arith, judged.long) in
+    get_or-map run new i c c.run in_new ∙ (judged.each i c in_old).run ∙ sym (get_or-map run (c ∷ old) i c c.run in_old))
+
+pub taken-first : (records : List Record) (old new : FindingsState) (tapes : List SentTape) (tape : SentTape) →
+    HasTaken records old tapes → is_known (map (λ (c : CellState). c.run) old.cells) tape.cell ≡ true →
+    list_any (is_cell tape.cell) old.seen ≡ false →
+    AreJudgedBy tape old.cells new.cells → new.seen ≡ old.seen ++ tape.cell ∷ [] →
+    new.others ≡ old.others → HasTaken records new (tapes ++ tape ∷ [])
+taken-first records old new tapes tape taken known first judged seen others =
+    let unseen : list_any (is_tape_of tape.cell) tapes ≡ false =
+    sym (seen-any tape.cell tapes) ∙ ap (list_any (is_cell tape.cell)) (sym taken.seen) ∙ first in
+    record {
+      cells = runs-same tape old.cells new.cells judged ∙ taken.cells;
+      found = λ k d within.
+          let inside : k < length old.cells = omega (arith, judged.long) in
+          judged-first tapes tape (get_or old.cells k d) (get_or new.cells k d) unseen (judged.each k d inside)
+          (taken.found k d inside);
+      seen = seen-more old tapes tape new.seen taken.seen seen;
+      others = others ∙ taken.others ∙ sym (append-nil (other_rows records [] tapes))
+          ∙ ap (λ rows. other_rows records [] tapes ++ rows)
+          (sym (row-by records tapes tape true false (known-of records old tape.cell true taken.cells known) unseen))
+          ∙ sym (others-more records [] tapes tape);
+    }
+
+-- the rows of what was found are those of the tapes
+of-tape : (r : Record) (tape : SentTape) (finding : CellFinding) → IsFoundIn r tape.slots tape.blocks finding →
+    AreTapeRows r tape (rows_of_finding r.cell finding)
+of-tape r tape found.NoTape is = absurd is
+of-tape r tape found.OtherSlots is =
+    subst (λ b. MatchBool b (AreJudged r tape.blocks (row_of r.cell findings.OtherSlots ∷ []))
+    (row_of r.cell findings.OtherSlots ∷ [] ≡ row_of r.cell findings.OtherSlots ∷ [])) (sym is) refl
+of-tape r tape (found.Judged ds) is =
+    subst (λ b. MatchBool b (AreJudged r tape.blocks (map (difference_row r.cell) ds.items))
+    (map (difference_row r.cell) ds.items ≡ row_of r.cell findings.OtherSlots ∷ [])) (sym is.0)
+    (record { found = ds.items; differences = is.1; rows_are = refl })
+
+of-first : (r : Record) (first : Option SentTape) (finding : CellFinding) → IsFoundBy r first finding →
+    AreRowsBy r first (rows_of_finding r.cell finding)
+of-first r None finding is = ap (rows_of_finding r.cell) is
+of-first r (Some tape) finding is = of-tape r tape finding is
+
+of-cells : (tapes : List SentTape) (cells : List CellState) → AllByRecursion (IsFound tapes) cells →
+    AreRowsOfCells tapes (map (λ (c : CellState). c.run) cells) (flat_map rows_of_state cells)
+of-cells tapes [] all = refl
+of-cells tapes (c ∷ cells) all = (
+  rows_of_state c,
+  flat_map rows_of_state cells,
+  flat_map-cons rows_of_state c cells,
+  of-first c.run (find (is_tape_of c.run.cell) tapes) c.finding all.0,
+  of-cells tapes cells all.1,
+)
+
+pub rows-are : (records : List Record) (f : FindingsState) (tapes : List SentTape) (rows : List Row) →
+    HasTaken records f tapes → rows ≡ flat_map rows_of_state f.cells ++ f.others → AreRows records tapes rows
+rows-are records f tapes rows taken is = record {
+  cells = flat_map rows_of_state f.cells;
+  of_cells = subst (λ rs. AreRowsOfCells tapes rs (flat_map rows_of_state f.cells)) taken.cells
+      (of-cells tapes f.cells (recursion_from_All (IsFound tapes) f.cells taken.found));
+  all = is ∙ ap (λ others. flat_map rows_of_state f.cells ++ others) taken.others;
+}

@@ -1,0 +1,5 @@
+pub mod ListLaws
+pub mod OwedLaws
+pub mod NameLaws
+pub mod SentLaws
+pub mod FoundLaws

@@ -1,0 +1,10 @@
+pub mod Asked
+pub mod Sent
+pub mod Judged
+pub mod Difference
+pub mod Kept
+pub mod Names
+pub mod Rows
+pub mod RowText
+pub mod Found
+pub mod FoundSteps

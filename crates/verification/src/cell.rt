@@ -1,0 +1,62 @@
+//! The differences of a cell.
+
+ghost use Rattle.std.specs.Prelude.{◌≡◌, ◌++◌, All, IfOk, IsTrue, OnOk, map};
+ghost use Rattle.std.specs.List.{flat_map};
+ghost use Rattle.cbs_page.specs.Page.{is_readable};
+ghost use Rattle.verification.specs.Difference.{AreDifferences, message_differences};
+ghost use Rattle.verification.specs.Judged.{judged_in};
+ghost use Rattle.verification.specs.Kept.{asked_of};
+
+use crate::asked::{Asked, asked_messages};
+use crate::broadcasts::push_broadcast_differences;
+use crate::difference::Difference;
+use crate::judged::judged_pages;
+use crate::not_ordered::push_not_ordered;
+use crate::pages::push_page_differences;
+use crate::sent::{SentPage, sent_pages};
+use bsc_table::CellRecord;
+use std::alloc::{AllocError, Global};
+
+/// Appends the differences of messages. The only error is out of memory.
+fn push_messages(
+    alloc: Global,
+    found: &mut Vec<Difference>,
+    slots: u16,
+    messages: &[Asked],
+    sent: &[SentPage],
+) -> Result<(), AllocError>
+    requires { All (λ s. IsTrue (is_readable s.page)) sent.now }
+    ensures { OnOk result (found.new.items ≡ found.old.items
+        ++ flat_map (λ a. message_differences slots a (judged_in a sent.now)) (map asked_of messages.now)) }
+{
+    for asked in messages {
+        let pages = judged_pages(alloc, asked, sent)?;
+        push_page_differences(found, asked, &pages)?;
+        push_broadcast_differences(found, slots, asked, &pages)?;
+    }
+    Ok(())
+}
+
+/// What isn't as it was asked, of a cell whose run has this record and whose channel sent these blocks: each difference
+/// once, by slot, identifier, serial number and kind, the kinds in the order of [`crate::Kind`]. A block is its type
+/// and 22 octets (3GPP TS 44.012), and four of them are a slot. The blocks may be any, also more or fewer than the
+/// run's.
+///
+/// # Errors
+///
+/// Out of memory.
+pub fn differences(
+    alloc: Global,
+    run: &CellRecord,
+    blocks: &[[u8; 23]],
+) -> Result<Vec<Difference>, AllocError>
+    ensures { IfOk result (λ found. AreDifferences run.now blocks.now found.items) }
+{
+    let messages = asked_messages(alloc, run.log())?;
+    let sent = sent_pages(alloc, blocks)?;
+    let mut found = Vec::new(alloc);
+    push_messages(alloc, &mut found, run.slots(), &messages, &sent)?;
+    push_not_ordered(alloc, &mut found, &messages, &sent)?;
+    found.sort_by_key(|difference| difference.key())?;
+    Ok(found)
+}

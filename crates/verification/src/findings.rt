@@ -1,0 +1,242 @@
+//! What the tapes of a run have, tape by tape.
+
+ghost use Rattle.std.specs.Prelude.{◌≡◌, ◌++◌, ◌∷◌, [], List, All, IfOk, OnOk, map};
+ghost use Rattle.std.specs.List.{flat_map, list_any};
+ghost use Rattle.cbsp_wire.specs.Range.{is_cell};
+ghost use Rattle.bsc_table.specs.Record.{Record};
+ghost use Rattle.verification.specs.Found.{HasTaken, IsFoundIn, unjudged};
+ghost use Rattle.verification.specs.FoundSteps.{AreJudgedBy, IsJudgedBy, rows_of_state};
+ghost use Rattle.verification.specs.Rows.{AreRows, SentTape, difference_row, is_known, tape_of};
+
+use crate::cell::differences;
+use crate::difference::Difference;
+use crate::row::{Finding, Row};
+use bsc_table::CellRecord;
+use cbsp_wire::Cell;
+use std::alloc::{AllocError, Global};
+use std::marker::Model;
+
+/// What was found of a cell.
+#[derive(Drop)]
+pub enum CellFinding {
+    /// It had no tape.
+    NoTape,
+    /// Its tape has another number of slots than the run.
+    OtherSlots,
+    /// Its tape has these differences.
+    Judged(Vec<Difference>),
+}
+
+/// A cell of the run, and what was found of it.
+#[derive(Drop)]
+pub struct CellState {
+    /// The record of its run.
+    pub run: CellRecord,
+    /// What was found.
+    pub finding: CellFinding,
+}
+
+/// What was found of the tapes of a run so far.
+#[derive(Drop)]
+pub struct Findings {
+    alloc: Global,
+    cells: Vec<CellState>,
+    seen: Vec<Cell>,
+    others: Vec<Row>,
+}
+
+impl Model for Findings {
+    ghost use Rattle.verification.specs.Found.{FindingsState};
+
+    ghost Value = { FindingsState };
+
+    ghost view = { λ f. record { cells = f.cells.items; seen = f.seen.items; others = f.others.items } };
+}
+
+/// What was found of a cell by a tape of so many slots, with these blocks. The only error is out of memory.
+fn judge(
+    alloc: Global,
+    run: &CellRecord,
+    slots: u32,
+    blocks: &[[u8; 23]],
+) -> Result<CellFinding, AllocError>
+    ensures { IfOk result (IsFoundIn run.now slots blocks.now) }
+{
+    if slots != u32::from(run.slots()) {
+        return Ok(CellFinding::OtherSlots);
+    }
+    Ok(CellFinding::Judged(differences(alloc, run, blocks)?))
+}
+
+/// The cells of these records, before any tape. The only error is out of memory.
+fn unjudged_cells(alloc: Global, records: Vec<CellRecord>) -> Result<Vec<CellState>, AllocError>
+    ensures { IfOk result (λ cells. cells.items ≡ map unjudged records.items) }
+{
+    let mut cells = Vec::with_capacity(alloc, records.len())?;
+    for run in records {
+        cells.push(CellState {
+            run,
+            finding: CellFinding::NoTape,
+        })?;
+    }
+    Ok(cells)
+}
+
+/// Whether a cell is one of these.
+fn is_among(cells: &[Cell], cell: Cell) -> bool
+    ensures { result ≡ list_any (is_cell cell) cells.now }
+{
+    for other in cells {
+        if cell == *other {
+            return true;
+        }
+    }
+    false
+}
+
+/// Judges a tape, if it is of a cell. The only error is out of memory.
+fn judge_cell(
+    alloc: Global,
+    state: &mut CellState,
+    cell: Cell,
+    slots: u32,
+    blocks: &[[u8; 23]],
+) -> Result<(), AllocError>
+    ensures { OnOk result (IsJudgedBy (tape_of cell slots blocks.now) state.old state.new) }
+{
+    if state.run.cell() == cell {
+        state.finding = judge(alloc, &state.run, slots, blocks)?;
+    }
+    Ok(())
+}
+
+/// Judges a tape in each of some cells of which it is. The only error is out of memory.
+fn judge_cells(
+    alloc: Global,
+    cells: &mut [CellState],
+    cell: Cell,
+    slots: u32,
+    blocks: &[[u8; 23]],
+) -> Result<(), AllocError>
+    ensures { OnOk result (AreJudgedBy (tape_of cell slots blocks.now) cells.old cells.new) }
+{
+    for place in 0..cells.len() {
+        judge_cell(alloc, &mut cells[place], cell, slots, blocks)?;
+    }
+    Ok(())
+}
+
+/// Whether a cell is one of the run's.
+fn is_known(cells: &[CellState], cell: Cell) -> bool
+    ensures { result ≡ is_known (map (λ c. c.run) cells.now) cell }
+{
+    for state in cells {
+        if cell == state.run.cell() {
+            return true;
+        }
+    }
+    false
+}
+
+/// Appends the rows of a cell. The only error is out of memory.
+fn push_rows(rows: &mut Vec<Row>, state: &CellState) -> Result<(), AllocError>
+    ensures { OnOk result (rows.new.items ≡ rows.old.items ++ rows_of_state state.now) }
+{
+    let cell = state.run.cell();
+    let finding = match &state.finding {
+        CellFinding::NoTape => Finding::NoTape,
+        CellFinding::OtherSlots => Finding::OtherSlots,
+        CellFinding::Judged(differences) => return push_differences(rows, cell, differences),
+    };
+    rows.push(Row { cell, finding })?;
+    Ok(())
+}
+
+/// Appends the rows of differences of a cell. The only error is out of memory.
+fn push_differences(
+    rows: &mut Vec<Row>,
+    cell: Cell,
+    differences: &[Difference],
+) -> Result<(), AllocError>
+    ensures { OnOk result (rows.new.items ≡ rows.old.items ++ map (difference_row cell) differences.now) }
+{
+    for difference in differences {
+        rows.push(Row {
+            cell,
+            finding: Finding::Differs(*difference),
+        })?;
+    }
+    Ok(())
+}
+
+/// The rows of cells, one after another. The only error is out of memory.
+fn rows_of_cells(alloc: Global, cells: &[CellState]) -> Result<Vec<Row>, AllocError>
+    ensures { IfOk result (λ rows. rows.items ≡ flat_map rows_of_state cells.now) }
+{
+    let mut rows = Vec::new(alloc);
+    for state in cells {
+        push_rows(&mut rows, state)?;
+    }
+    Ok(rows)
+}
+
+impl Findings {
+    /// Of no tapes, in a run with these records.
+    ///
+    /// # Errors
+    ///
+    /// Out of memory.
+    pub fn new(alloc: Global, records: Vec<CellRecord>) -> Result<Findings, AllocError>
+        ensures { IfOk result (λ findings. HasTaken records.items findings []) }
+    {
+        let cells = unjudged_cells(alloc, records)?;
+        Ok(Findings {
+            alloc,
+            cells,
+            seen: Vec::new(alloc),
+            others: Vec::new(alloc),
+        })
+    }
+
+    /// Takes the next tape: of which cell it is, how many slots it has, and its blocks. The first tape of a cell is
+    /// judged.
+    ///
+    /// # Errors
+    ///
+    /// Out of memory. Some of the tape may then have been taken.
+    pub fn take(&mut self, cell: Cell, slots: u32, blocks: &[[u8; 23]]) -> Result<(), AllocError>
+        ensures { OnOk result ((records : List Record) (tapes : List SentTape) → HasTaken records self.old tapes
+            → HasTaken records self.new (tapes ++ tape_of cell slots blocks.now ∷ [])) }
+    {
+        if !is_known(&self.cells, cell) {
+            self.others.push(Row {
+                cell,
+                finding: Finding::UnknownCell,
+            })?;
+        } else if is_among(&self.seen, cell) {
+            self.others.push(Row {
+                cell,
+                finding: Finding::SecondTape,
+            })?;
+        } else {
+            judge_cells(self.alloc, self.cells.as_mut_slice(), cell, slots, blocks)?;
+        }
+        self.seen.push(cell)?;
+        Ok(())
+    }
+
+    /// The rows of the cells, in the order of their records, and then those of tapes that weren't judged, in their
+    /// order.
+    ///
+    /// # Errors
+    ///
+    /// Out of memory.
+    pub fn rows(&self) -> Result<Vec<Row>, AllocError>
+        ensures { IfOk result (λ rows. (records : List Record) (tapes : List SentTape)
+            → HasTaken records self.now tapes → AreRows records tapes rows.items) }
+    {
+        let mut rows = rows_of_cells(self.alloc, &self.cells)?;
+        rows.extend_from_slice(&self.others)?;
+        Ok(rows)
+    }
+}

@@ -1,0 +1,24 @@
+//! Whether the tape of a cell keeps what the cell was asked to broadcast.
+//!
+//! [`differences`] compares the record of a cell's run with the blocks of a tape, which may come from any sender, and
+//! lists what isn't as it was asked. `specs/Difference.antt` says which differences these are.
+#![tactic(auto)]
+
+mod asked;
+mod broadcasts;
+mod cell;
+mod difference;
+mod findings;
+mod judged;
+mod names;
+mod not_ordered;
+mod pages;
+mod row;
+mod sent;
+mod text;
+
+pub use cell::differences;
+pub use difference::{Difference, Kind};
+pub use findings::Findings;
+pub use row::{Finding, Row};
+pub use text::text_of;

@@ -1,0 +1,56 @@
+//! Identifiers and serial numbers, each pair once.
+
+ghost use Rattle.std.specs.Prelude.{◌≡◌, ◌||◌, [], OnOk};
+ghost use Rattle.cbs_page.specs.declared.octets.PageView.{PageView};
+ghost use Rattle.verification.specs.Names.{has_name, is_pair};
+
+use cbs_page::PageView;
+use std::alloc::{AllocError, Global};
+use std::collections::HashSet;
+use std::marker::Model;
+
+/// Pairs of an identifier and a serial number. In clauses these are the keys of its set.
+#[derive(Drop)]
+pub struct Names {
+    pairs: HashSet<(u16, u16)>,
+}
+
+impl Model for Names {
+    ghost use Rattle.std.specs.Prelude.{List};
+    ghost use Rattle.verification.specs.Names.{Pair};
+
+    ghost Value = { List Pair };
+
+    ghost view = { λ names. names.pairs.keys };
+}
+
+impl Names {
+    /// No pair. It takes no memory.
+    pub fn new(alloc: Global) -> Names
+        ensures { result ≡ [] }
+    {
+        Names {
+            pairs: HashSet::new(alloc),
+        }
+    }
+
+    /// Whether the pair of a page is among them.
+    pub fn has(&self, page: &PageView) -> bool
+        ensures { result ≡ has_name self.now page.now }
+    {
+        self.pairs.contains(&(page.id, page.serial.number()))
+    }
+
+    /// Adds a pair.
+    ///
+    /// # Errors
+    ///
+    /// Out of memory.
+    pub fn add(&mut self, id: u16, serial: u16) -> Result<(), AllocError>
+        ensures { OnOk result ((page : PageView) → has_name self.new page
+            ≡ (has_name self.old page || is_pair (page.id, page.serial) (id, serial))) }
+    {
+        self.pairs.insert((id, serial))?;
+        Ok(())
+    }
+}
