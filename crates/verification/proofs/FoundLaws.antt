@@ -18,7 +18,8 @@ use Rattle.verification.specs.declared.row.Finding.TheVariants as findings
 use Rattle.verification.specs.declared.row.Row.{Row}
 use Rattle.verification.specs.Found.{FindingsState, HasTaken, IsFound, IsFoundBy, IsFoundIn, unjudged}
 use Rattle.verification.specs.FoundSteps.{AreJudgedBy, IsJudgedBy, rows_of_finding, rows_of_state}
-use Rattle.verification.specs.Rows.{AreJudged, AreRows, AreRowsBy, AreRowsOfCells, AreTapeRows, SentTape}
+use Rattle.handset.specs.Recording.{TapeRecording}
+use Rattle.verification.specs.Rows.{AreJudged, AreRows, AreRowsBy, AreRowsOfCells, AreTapeRows}
 use Rattle.verification.specs.Rows.{difference_row, is_known, is_tape_of, other_row, other_rows, row_of}
 
 -- no tapes
@@ -81,13 +82,13 @@ cell-symm a b =
     ∙ ap (λ (x : Bool). (b.lac == a.lac) && x) (nat_eq_equiv.symm a.ci b.ci)
 
 -- a cell of which the tape isn't
-stays : (tapes : List SentTape) (tape : SentTape) (c : CellState) → is_cell c.run.cell tape.cell ≡ false →
+stays : (tapes : List TapeRecording) (tape : TapeRecording) (c : CellState) → is_cell c.run.cell tape.cell ≡ false →
     IsFound tapes c → IsFound (tapes ++ tape ∷ []) c
 stays tapes tape c other is =
     subst (λ o. IsFoundBy c.run o c.finding) (sym (find-same (is_tape_of c.run.cell) tapes tape other)) is
 
 -- a cell that had a tape, if this tape is of it
-stays-seen : (tapes : List SentTape) (tape : SentTape) (c : CellState) → list_any (is_tape_of tape.cell) tapes ≡ true →
+stays-seen : (tapes : List TapeRecording) (tape : TapeRecording) (c : CellState) → list_any (is_tape_of tape.cell) tapes ≡ true →
     IsFound tapes c → IsFound (tapes ++ tape ∷ []) c
 stays-seen tapes tape c seen is = by_test (is_cell c.run.cell tape.cell) refl
   where
@@ -99,7 +100,7 @@ stays-seen tapes tape c seen is = by_test (is_cell c.run.cell tape.cell) refl
     by_test false other = stays tapes tape c other is
 
 -- a cell that had no tape, if this tape is of it
-judged-first : (tapes : List SentTape) (tape : SentTape) (old new : CellState) →
+judged-first : (tapes : List TapeRecording) (tape : TapeRecording) (old new : CellState) →
     list_any (is_tape_of tape.cell) tapes ≡ false → IsJudgedBy tape old new → IsFound tapes old →
     IsFound (tapes ++ tape ∷ []) new
 judged-first tapes tape old new unseen judged is =
@@ -124,7 +125,7 @@ judged-first tapes tape old new unseen judged is =
         (stays tapes tape old other is)
 
 -- the rows of one more tape that isn't judged
-others-more : (records : List Record) (before tapes : List SentTape) (tape : SentTape) →
+others-more : (records : List Record) (before tapes : List TapeRecording) (tape : TapeRecording) →
     other_rows records before (tapes ++ tape ∷ [])
     ≡ other_rows records before tapes ++ other_row records (before ++ tapes) tape
 others-more records before [] tape =
@@ -138,7 +139,7 @@ others-more records before (t ∷ tapes) tape =
     (other_row records (before ++ t ∷ tapes) tape))
 
 -- which row a tape has
-row-by : (records : List Record) (before : List SentTape) (tape : SentTape) (known second : Bool) →
+row-by : (records : List Record) (before : List TapeRecording) (tape : TapeRecording) (known second : Bool) →
     is_known records tape.cell ≡ known → list_any (is_tape_of tape.cell) before ≡ second →
     other_row records before tape
     ≡ (if known then (if second then row_of tape.cell findings.SecondTape ∷ [] else [])
@@ -151,14 +152,14 @@ row-by records before tape known second is_known_is is_second_is =
     else row_of tape.cell findings.UnknownCell ∷ []) is_second_is
 
 -- the cells of the tapes
-seen-more : (f : FindingsState) (tapes : List SentTape) (tape : SentTape) (seen : List Cell) →
-    f.seen ≡ map (λ (t : SentTape). t.cell) tapes → seen ≡ f.seen ++ tape.cell ∷ [] →
-    seen ≡ map (λ (t : SentTape). t.cell) (tapes ++ tape ∷ [])
+seen-more : (f : FindingsState) (tapes : List TapeRecording) (tape : TapeRecording) (seen : List Cell) →
+    f.seen ≡ map (λ (t : TapeRecording). t.cell) tapes → seen ≡ f.seen ++ tape.cell ∷ [] →
+    seen ≡ map (λ (t : TapeRecording). t.cell) (tapes ++ tape ∷ [])
 seen-more f tapes tape seen are more =
-    more ∙ ap (λ cells. cells ++ tape.cell ∷ []) are ∙ sym (map-append (λ (t : SentTape). t.cell) tapes (tape ∷ []))
+    more ∙ ap (λ cells. cells ++ tape.cell ∷ []) are ∙ sym (map-append (λ (t : TapeRecording). t.cell) tapes (tape ∷ []))
 
-seen-any : (cell : Cell) (tapes : List SentTape) →
-    list_any (is_cell cell) (map (λ (t : SentTape). t.cell) tapes) ≡ list_any (is_tape_of cell) tapes
+seen-any : (cell : Cell) (tapes : List TapeRecording) →
+    list_any (is_cell cell) (map (λ (t : TapeRecording). t.cell) tapes) ≡ list_any (is_tape_of cell) tapes
 seen-any cell [] = refl
 seen-any cell (t ∷ tapes) = ap (λ (x : Bool). is_cell cell t.cell || x) (seen-any cell tapes)
 
@@ -180,7 +181,7 @@ known-of : (records : List Record) (f : FindingsState) (cell : Cell) (known : Bo
     is_known records cell ≡ known
 known-of records f cell known cells is = ap (λ rs. is_known rs cell) (sym cells) ∙ is
 
-pub taken-unknown : (records : List Record) (old new : FindingsState) (tapes : List SentTape) (tape : SentTape) →
+pub taken-unknown : (records : List Record) (old new : FindingsState) (tapes : List TapeRecording) (tape : TapeRecording) →
     HasTaken records old tapes → is_known (map (λ (c : CellState). c.run) old.cells) tape.cell ≡ false →
     new.cells ≡ old.cells → new.seen ≡ old.seen ++ tape.cell ∷ [] →
     new.others ≡ old.others ++ row_of tape.cell findings.UnknownCell ∷ [] → HasTaken records new (tapes ++ tape ∷ [])
@@ -197,7 +198,7 @@ taken-unknown records old new tapes tape taken unknown cells seen others = recor
       ∙ sym (others-more records [] tapes tape);
 }
 
-pub taken-second : (records : List Record) (old new : FindingsState) (tapes : List SentTape) (tape : SentTape) →
+pub taken-second : (records : List Record) (old new : FindingsState) (tapes : List TapeRecording) (tape : TapeRecording) →
     HasTaken records old tapes → is_known (map (λ (c : CellState). c.run) old.cells) tape.cell ≡ true →
     list_any (is_cell tape.cell) old.seen ≡ true →
     new.cells ≡ old.cells → new.seen ≡ old.seen ++ tape.cell ∷ [] →
@@ -217,7 +218,7 @@ taken-second records old new tapes tape taken known second cells seen others =
     }
 
 -- the runs of cells that were judged
-runs-same : (tape : SentTape) (old new : List CellState) → AreJudgedBy tape old new →
+runs-same : (tape : TapeRecording) (old new : List CellState) → AreJudgedBy tape old new →
     map (λ (c : CellState). c.run) new ≡ map (λ (c : CellState). c.run) old
 runs-same tape [] [] judged = refl
 runs-same tape [] (n ∷ new) judged = absurd (let less : ⊥ = omega (arith, judged.long) in less)
@@ -230,7 +231,7 @@ runs-same tape (c ∷ old) new judged =
     let in_old : i < length (c ∷ old) = omega (arith, judged.long) in
     get_or-map run new i c c.run in_new ∙ (judged.each i c in_old).run ∙ sym (get_or-map run (c ∷ old) i c c.run in_old))
 
-pub taken-first : (records : List Record) (old new : FindingsState) (tapes : List SentTape) (tape : SentTape) →
+pub taken-first : (records : List Record) (old new : FindingsState) (tapes : List TapeRecording) (tape : TapeRecording) →
     HasTaken records old tapes → is_known (map (λ (c : CellState). c.run) old.cells) tape.cell ≡ true →
     list_any (is_cell tape.cell) old.seen ≡ false →
     AreJudgedBy tape old.cells new.cells → new.seen ≡ old.seen ++ tape.cell ∷ [] →
@@ -252,7 +253,7 @@ taken-first records old new tapes tape taken known first judged seen others =
     }
 
 -- the rows of what was found are those of the tapes
-of-tape : (r : Record) (tape : SentTape) (finding : CellFinding) → IsFoundIn r tape.slots tape.blocks finding →
+of-tape : (r : Record) (tape : TapeRecording) (finding : CellFinding) → IsFoundIn r tape.slots tape.blocks finding →
     AreTapeRows r tape (rows_of_finding r.cell finding)
 of-tape r tape found.NoTape is = absurd is
 of-tape r tape found.OtherSlots is =
@@ -263,12 +264,12 @@ of-tape r tape (found.Judged ds) is =
     (map (difference_row r.cell) ds.items ≡ row_of r.cell findings.OtherSlots ∷ [])) (sym is.0)
     (record { found = ds.items; differences = is.1; rows_are = refl })
 
-of-first : (r : Record) (first : Option SentTape) (finding : CellFinding) → IsFoundBy r first finding →
+of-first : (r : Record) (first : Option TapeRecording) (finding : CellFinding) → IsFoundBy r first finding →
     AreRowsBy r first (rows_of_finding r.cell finding)
 of-first r None finding is = ap (rows_of_finding r.cell) is
 of-first r (Some tape) finding is = of-tape r tape finding is
 
-of-cells : (tapes : List SentTape) (cells : List CellState) → AllByRecursion (IsFound tapes) cells →
+of-cells : (tapes : List TapeRecording) (cells : List CellState) → AllByRecursion (IsFound tapes) cells →
     AreRowsOfCells tapes (map (λ (c : CellState). c.run) cells) (flat_map rows_of_state cells)
 of-cells tapes [] all = refl
 of-cells tapes (c ∷ cells) all = (
@@ -279,7 +280,7 @@ of-cells tapes (c ∷ cells) all = (
   of-cells tapes cells all.1,
 )
 
-pub rows-are : (records : List Record) (f : FindingsState) (tapes : List SentTape) (rows : List Row) →
+pub rows-are : (records : List Record) (f : FindingsState) (tapes : List TapeRecording) (rows : List Row) →
     HasTaken records f tapes → rows ≡ flat_map rows_of_state f.cells ++ f.others → AreRows records tapes rows
 rows-are records f tapes rows taken is = record {
   cells = flat_map rows_of_state f.cells;

@@ -7,7 +7,8 @@ use Rattle.verification.specs.declared.findings.CellFinding.TheVariants as found
 use Rattle.verification.specs.declared.findings.CellState.{CellState}
 use Rattle.verification.specs.declared.row.Row.{Row}
 use Rattle.verification.specs.Difference.{AreDifferences}
-use Rattle.verification.specs.Rows.{SentTape, is_tape_of, other_rows}
+use Rattle.handset.specs.Recording.{TapeRecording}
+use Rattle.verification.specs.Rows.{is_tape_of, other_rows}
 
 -- the cells of the run, each with what was found of it, the cells of the tapes, and the rows of tapes that aren't judged
 pub record FindingsState : Type 0 where
@@ -23,11 +24,11 @@ IsFoundIn r slots blocks (found.Judged differences) =
     ((slots == r.slots) ≡ true) × AreDifferences r blocks differences.items
 
 -- and by its first tape, if it has one
-abbrev pub IsFoundBy : Record → Option SentTape → CellFinding → Type 0
+abbrev pub IsFoundBy : Record → Option TapeRecording → CellFinding → Type 0
 IsFoundBy r None finding = finding ≡ found.NoTape
 IsFoundBy r (Some tape) finding = IsFoundIn r tape.slots tape.blocks finding
 
-abbrev pub IsFound : List SentTape → CellState → Type 0
+abbrev pub IsFound : List TapeRecording → CellState → Type 0
 IsFound tapes c = IsFoundBy c.run (find (is_tape_of c.run.cell) tapes) c.finding
 
 -- a cell before any tape
@@ -35,7 +36,7 @@ abbrev pub unjudged : Record → CellState
 unjudged r = record { run = r; finding = found.NoTape }
 
 -- what is kept stands for these tapes
-pub record HasTaken (records : List Record) (findings : FindingsState) (tapes : List SentTape) : Type 0 where
+pub record HasTaken (records : List Record) (findings : FindingsState) (tapes : List TapeRecording) : Type 0 where
   pub cells : map (λ c. c.run) findings.cells ≡ records
   pub found : All (IsFound tapes) findings.cells
   pub seen : findings.seen ≡ map (λ tape. tape.cell) tapes

@@ -8,15 +8,16 @@ use Rattle.verification.specs.declared.findings.CellState.{CellState}
 use Rattle.verification.specs.declared.row.Finding.TheVariants as findings
 use Rattle.verification.specs.declared.row.Row.{Row}
 use Rattle.verification.specs.Found.{IsFoundIn}
-use Rattle.verification.specs.Rows.{SentTape, difference_row, row_of}
+use Rattle.handset.specs.Recording.{TapeRecording}
+use Rattle.verification.specs.Rows.{difference_row, row_of}
 
 -- the first tape of a cell is judged, and other cells stay as they are
-pub record IsJudgedBy (tape : SentTape) (old new : CellState) : Type 0 where
+pub record IsJudgedBy (tape : TapeRecording) (old new : CellState) : Type 0 where
   pub run : new.run ≡ old.run
   pub finding : MatchBool (is_cell old.run.cell tape.cell) (IsFoundIn old.run tape.slots tape.blocks new.finding)
       (new.finding ≡ old.finding)
 
-pub record AreJudgedBy (tape : SentTape) (old new : List CellState) : Type 0 where
+pub record AreJudgedBy (tape : TapeRecording) (old new : List CellState) : Type 0 where
   pub long : length new ≡ length old
   pub each : (k : ℕ) (d : CellState) → k < length old
       → IsJudgedBy tape (slice_index_or old k d) (slice_index_or new k d)

@@ -5,6 +5,7 @@ use Rattle.std.specs.Prelude.{◌∷◌, ◌++◌, map, find, MatchBool}
 use Rattle.std.specs.List.{list_any}
 use Rattle.cbsp_wire.specs.declared.message.Cell.{Cell}
 use Rattle.cbsp_wire.specs.Range.{is_cell}
+use Rattle.handset.specs.Recording.{TapeRecording}
 use Rattle.bsc_table.specs.Record.{Record}
 use Rattle.verification.specs.declared.difference.Difference.{Difference}
 use Rattle.verification.specs.declared.row.Row.{Row}
@@ -12,16 +13,10 @@ use Rattle.verification.specs.declared.row.Finding.{Finding}
 use Rattle.verification.specs.declared.row.Finding.TheVariants as findings
 use Rattle.verification.specs.Difference.{AreDifferences}
 
--- a tape: its cell, the number of its slots, and its blocks
-pub record SentTape : Type 0 where
-  pub cell : Cell
-  pub slots : ℕ
-  pub blocks : List (List ℕ)
-
-abbrev pub tape_of : Cell → (slots : ℕ) → (blocks : List (List ℕ)) → SentTape
+abbrev pub tape_of : Cell → (slots : ℕ) → (blocks : List (List ℕ)) → TapeRecording
 tape_of cell slots blocks = record { cell = cell; slots = slots; blocks = blocks }
 
-abbrev pub is_tape_of : Cell → SentTape → Bool
+abbrev pub is_tape_of : Cell → TapeRecording → Bool
 is_tape_of cell tape = is_cell cell tape.cell
 
 abbrev pub row_of : Cell → Finding → Row
@@ -37,21 +32,21 @@ pub record AreJudged (r : Record) (blocks : List (List ℕ)) (rows : List Row) :
   pub differences : AreDifferences r blocks found
   pub rows_are : rows ≡ map (difference_row r.cell) found
 
-abbrev pub AreTapeRows : Record → SentTape → List Row → Type 0
+abbrev pub AreTapeRows : Record → TapeRecording → List Row → Type 0
 AreTapeRows r tape rows =
     MatchBool (tape.slots == r.slots) (AreJudged r tape.blocks rows)
     (rows ≡ row_of r.cell findings.OtherSlots ∷ [])
 
 -- and by its first tape, if it has one
-abbrev pub AreRowsBy : Record → Option SentTape → List Row → Type 0
+abbrev pub AreRowsBy : Record → Option TapeRecording → List Row → Type 0
 AreRowsBy r None rows = rows ≡ row_of r.cell findings.NoTape ∷ []
 AreRowsBy r (Some tape) rows = AreTapeRows r tape rows
 
-abbrev pub AreCellRows : List SentTape → Record → List Row → Type 0
+abbrev pub AreCellRows : List TapeRecording → Record → List Row → Type 0
 AreCellRows tapes r rows = AreRowsBy r (find (is_tape_of r.cell) tapes) rows
 
 -- the rows of the cells, one after another
-abbrev pub AreRowsOfCells : List SentTape → List Record → List Row → Type 0
+abbrev pub AreRowsOfCells : List TapeRecording → List Record → List Row → Type 0
 AreRowsOfCells tapes [] rows = rows ≡ []
 AreRowsOfCells tapes (r ∷ records) rows =
     (own : List Row) × (later : List Row) × (rows ≡ own ++ later)
@@ -61,19 +56,19 @@ AreRowsOfCells tapes (r ∷ records) rows =
 abbrev pub is_known : List Record → Cell → Bool
 is_known records cell = list_any (λ r. is_cell cell r.cell) records
 
-abbrev pub other_row : List Record → (before : List SentTape) → SentTape → List Row
+abbrev pub other_row : List Record → (before : List TapeRecording) → TapeRecording → List Row
 other_row records before tape =
     if is_known records tape.cell
     then (if list_any (is_tape_of tape.cell) before then row_of tape.cell findings.SecondTape ∷ [] else [])
     else row_of tape.cell findings.UnknownCell ∷ []
 
-abbrev pub other_rows : List Record → (before tapes : List SentTape) → List Row
+abbrev pub other_rows : List Record → (before tapes : List TapeRecording) → List Row
 other_rows records before [] = []
 other_rows records before (tape ∷ later) =
     other_row records before tape ++ other_rows records (before ++ tape ∷ []) later
 
 -- the rows of the cells of these records, of which these tapes were given
-pub record AreRows (records : List Record) (tapes : List SentTape) (rows : List Row) : Type 0 where
+pub record AreRows (records : List Record) (tapes : List TapeRecording) (rows : List Row) : Type 0 where
   pub cells : List Row
   pub of_cells : AreRowsOfCells tapes records cells
   pub all : rows ≡ cells ++ other_rows records [] tapes

@@ -6,7 +6,8 @@ ghost use Rattle.cbsp_wire.specs.Range.{is_cell};
 ghost use Rattle.bsc_table.specs.Record.{Record};
 ghost use Rattle.verification.specs.Found.{HasTaken, IsFoundIn, unjudged};
 ghost use Rattle.verification.specs.FoundSteps.{AreJudgedBy, IsJudgedBy, rows_of_state};
-ghost use Rattle.verification.specs.Rows.{AreRows, SentTape, difference_row, is_known, tape_of};
+ghost use Rattle.handset.specs.Recording.{TapeRecording};
+ghost use Rattle.verification.specs.Rows.{AreRows, difference_row, is_known, tape_of};
 
 use crate::cell::differences;
 use crate::difference::Difference;
@@ -205,7 +206,7 @@ impl Findings {
     ///
     /// Out of memory. Some of the tape may then have been taken.
     pub fn take(&mut self, cell: Cell, slots: u32, blocks: &[[u8; 23]]) -> Result<(), AllocError>
-        ensures { OnOk result ((records : List Record) (tapes : List SentTape) → HasTaken records self.old tapes
+        ensures { OnOk result ((records : List Record) (tapes : List TapeRecording) → HasTaken records self.old tapes
             → HasTaken records self.new (tapes ++ tape_of cell slots blocks.now ∷ [])) }
     {
         if !is_known(&self.cells, cell) {
@@ -232,7 +233,7 @@ impl Findings {
     ///
     /// Out of memory.
     pub fn rows(&self) -> Result<Vec<Row>, AllocError>
-        ensures { IfOk result (λ rows. (records : List Record) (tapes : List SentTape)
+        ensures { IfOk result (λ rows. (records : List Record) (tapes : List TapeRecording)
             → HasTaken records self.now tapes → AreRows records tapes rows.items) }
     {
         let mut rows = rows_of_cells(self.alloc, &self.cells)?;

@@ -7,14 +7,15 @@ use Rattle.verification.specs.declared.findings.Findings.TheInside.{Inside}
 use Rattle.verification.specs.declared.row.Finding.TheVariants as findings
 use Rattle.verification.specs.Found.{FindingsState}
 use Rattle.verification.specs.FoundSteps.{AreJudgedBy}
-use Rattle.verification.specs.Rows.{SentTape, is_known, row_of, tape_of}
+use Rattle.handset.specs.Recording.{TapeRecording}
+use Rattle.verification.specs.Rows.{is_known, row_of, tape_of}
 use Rattle.verification.proofs.FoundLaws.{taken-first, taken-second, taken-unknown}
 use Rattle.verification.proofs.findings.Findings.take.Goals as goal
 use Rattle.verification.proofs.findings.Findings.take.Goals.{then-not-is_known+in_ok-push}
 use Rattle.verification.proofs.findings.Findings.take.Goals.{else-not-is_known+then-is_among+in_ok-push-2}
 use Rattle.verification.proofs.findings.Findings.take.Goals.{else-not-is_known+else-is_among+in_ok-judge_cells}
 
-tape : (c : goal.In_ok-push-3) → SentTape
+tape : (c : goal.In_ok-push-3) → TapeRecording
 tape c = tape_of c.args.cell c.args.slots c.args.blocks.now
 
 new : (c : goal.In_ok-push-3) → FindingsState
