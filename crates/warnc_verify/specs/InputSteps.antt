@@ -1,0 +1,13 @@
+-- Steps over an input with a book before the tapes (own). The contracts of private functions alone speak of them.
+use Rattle.std.specs.Prelude.{◌≡◌, ⊤}
+use Rattle.handset.specs.declared.tape.TapeFault.{TapeFault}
+use Rattle.handset.specs.declared.tape.TapeFault.TheVariants as tape
+use Rattle.warnc_verify.specs.declared.fault.VerifyFault.{VerifyFault}
+use Rattle.warnc_verify.specs.declared.fault.VerifyFault.TheVariants as faults
+
+-- why the octets of a book aren't there
+abbrev pub IsBookFault : VerifyFault → Type 0
+IsBookFault faults.ShortBook = ⊤
+IsBookFault (faults.Tapes f) = f ≡ tape.ReadFailed
+IsBookFault faults.Refused = ⊤
+IsBookFault other = ⊥

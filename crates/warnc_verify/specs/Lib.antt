@@ -1,0 +1,4 @@
+pub mod Verified
+pub mod VerifySteps
+pub mod Input
+pub mod InputSteps

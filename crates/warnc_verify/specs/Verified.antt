@@ -1,0 +1,83 @@
+-- What `warnc verify` makes of a book and of tapes: the table of what the tapes have otherwise. Own.
+use Rattle.std.specs.Prelude.{◌≡◌, ⊤, ℕ, ◌<◌, List, Option, IfSome, length}
+use Rattle.std.specs.Io.KnownBytes.{Appends, IsAtEnd}
+use Rattle.device_ends.specs.Moves.{AppendsFront}
+use Rattle.device_ends.specs.Sink.{writer_of}
+use Rattle.device_ends.specs.Source.{reader_of}
+use Rattle.device_ends.specs.declared.reading.Source.{Source}
+use Rattle.device_ends.specs.declared.writing.Sink.{Sink}
+use Rattle.handset.specs.Recording.{TapeRecording, AreRecordings}
+use Rattle.handset.specs.Tape.{IsTapesFault}
+use Rattle.bsc_table.specs.Record.{Record}
+use Rattle.verification.specs.Rows.{AreRows}
+use Rattle.verification.specs.RowText.{rows_text}
+use Rattle.verification.specs.declared.row.Row.{Row}
+use Rattle.warnc_run.specs.Records.{HasRunBook, IsRecordsFault}
+use Rattle.warnc_verify.specs.declared.fault.VerifyFault.{VerifyFault}
+use Rattle.warnc_verify.specs.declared.fault.VerifyFault.TheVariants as faults
+
+-- what the readers of the book and of the tapes have left before and after a call
+pub record Readers : Type 0 where
+  pub book_first : Option (List ℕ)
+  pub book_last : Option (List ℕ)
+  pub tapes_first : Option (List ℕ)
+  pub tapes_last : Option (List ℕ)
+
+abbrev pub readers_of : {B R : Type 0} → (book_left : B → Option (List ℕ)) → (left : R → Option (List ℕ))
+    → (book_first book_last : Source B) → (first last : Source R) → Readers
+readers_of book_left left book_first book_last first last = record {
+  book_first = book_left (reader_of book_first);
+  book_last = book_left (reader_of book_last);
+  tapes_first = left (reader_of first);
+  tapes_last = left (reader_of last);
+}
+
+-- the octets of the book were read: they are a book, and its run has these records
+abbrev pub RunsBook : (slots : ℕ) → Readers → List Record → Type 0
+RunsBook slots ends records = HasRunBook slots ends.book_first ends.book_last records
+
+-- the book and the tapes were read to their ends, and these rows tell how the tapes differ from what the cells of the
+-- book's run were asked: none, if they don't
+pub record Finds (slots : ℕ) (ends : Readers) (rows : List Row) : Type 0 where
+  pub records : List Record
+  pub run : RunsBook slots ends records
+  pub tapes : List TapeRecording
+  pub of_input : IfSome ends.tapes_first (λ input. AreRecordings input tapes)
+  pub of_some : (octets : List ℕ) × AreRecordings octets tapes
+  pub ended : IsAtEnd ends.tapes_last
+  pub rows_are : AreRows records tapes rows
+
+-- the table of some rows was written, or a front of it
+abbrev pub FindsAndWrites : (slots : ℕ) → Readers → (old new : Option (List ℕ)) → List Row → Type 0
+FindsAndWrites slots ends old new rows = Finds slots ends rows × Appends old new (rows_text rows)
+
+abbrev pub FindsAndWritesFront : (slots : ℕ) → Readers → (old new : Option (List ℕ)) → List Row → Type 0
+FindsAndWritesFront slots ends old new rows = Finds slots ends rows × AppendsFront old new (rows_text rows)
+
+-- why it isn't so that there are no differences: the book has no run; or it has one, and the tapes are none; or there
+-- are as many differences, one or more, and they were written; or memory ran out; or the writer failed
+abbrev pub IsVerifyFault : (slots : ℕ) → Readers → (old new : Option (List ℕ)) → VerifyFault → Type 0
+IsVerifyFault slots ends old new (faults.Run f) = IsRecordsFault slots ends.book_first ends.book_last f
+IsVerifyFault slots ends old new (faults.Tapes f) =
+    (records : List Record) × RunsBook slots ends records × IfSome ends.tapes_first (λ input. IsTapesFault input f)
+IsVerifyFault slots ends old new (faults.Differences count) =
+    (rows : List Row) × FindsAndWrites slots ends old new rows × (length rows ≡ count) × (0 < count)
+IsVerifyFault slots ends old new faults.ShortBook = ⊥
+IsVerifyFault slots ends old new faults.Refused = ⊤
+IsVerifyFault slots ends old new faults.WriteFailed =
+    (rows : List Row) × FindsAndWritesFront slots ends old new rows
+
+-- a fault that tells of differences, and one with which something may have been written
+abbrev pub IsDifference : VerifyFault → Type 0
+IsDifference (faults.Differences count) = ⊤
+IsDifference other = ⊥
+
+abbrev pub Writes : VerifyFault → Type 0
+Writes (faults.Differences count) = ⊤
+Writes faults.WriteFailed = ⊤
+Writes other = ⊥
+
+-- a fault of the book or of its run
+abbrev pub IsOfRun : VerifyFault → Type 0
+IsOfRun (faults.Run f) = ⊤
+IsOfRun other = ⊥

@@ -1,0 +1,25 @@
+-- Steps of a verification (own). The contracts of private functions alone speak of them.
+use Rattle.std.specs.Prelude.{◌≡◌, ⊤, ℕ, List, Option, IfSome}
+use Rattle.device_ends.specs.Moves.{AppendsFront}
+use Rattle.handset.specs.Tape.{IsTapesFault}
+use Rattle.bsc_table.specs.Record.{Record}
+use Rattle.verification.specs.RowText.{rows_text}
+use Rattle.verification.specs.declared.row.Row.{Row}
+use Rattle.warnc_run.specs.Records.{IsRecordsFault}
+use Rattle.warnc_verify.specs.Verified.{Readers, RunsBook}
+use Rattle.warnc_verify.specs.declared.fault.VerifyFault.{VerifyFault}
+use Rattle.warnc_verify.specs.declared.fault.VerifyFault.TheVariants as faults
+
+-- why there are no rows
+abbrev pub IsRowsFault : (slots : ℕ) → Readers → VerifyFault → Type 0
+IsRowsFault slots ends (faults.Run f) = IsRecordsFault slots ends.book_first ends.book_last f
+IsRowsFault slots ends (faults.Tapes f) =
+    (records : List Record) × RunsBook slots ends records × IfSome ends.tapes_first (λ input. IsTapesFault input f)
+IsRowsFault slots ends faults.Refused = ⊤
+IsRowsFault slots ends other = ⊥
+
+-- why a table wasn't written
+abbrev pub IsTableFault : (old new : Option (List ℕ)) → List Row → VerifyFault → Type 0
+IsTableFault old new rows faults.WriteFailed = AppendsFront old new (rows_text rows)
+IsTableFault old new rows faults.Refused = ⊤
+IsTableFault old new rows other = ⊥

@@ -1,0 +1,118 @@
+//! The command `verify`: a book of alerts and tapes to their differences.
+
+ghost use Rattle.std.specs.Prelude.{◌≡◌, ◌↔◌, [], false, true, IfErr, IfOk, IsErrOf, IsTrue, OnOk};
+ghost use Rattle.std.specs.Io.KnownBytes.{Appends};
+ghost use Rattle.device_ends.specs.Sink.{sink_failed};
+ghost use Rattle.device_ends.specs.Source.{source_failed};
+ghost use Rattle.device_ends.specs.Stream.{Writes as WritesBetween};
+ghost use Rattle.alert_book.specs.Book.{unread};
+ghost use Rattle.handset.specs.declared.tape.TapeFault.TheVariants as tape;
+ghost use Rattle.warnc_run.specs.declared.fault.RunFault.TheVariants as run;
+ghost use Rattle.verification.specs.RowText.{rows_text};
+ghost use Rattle.warnc_verify.specs.VerifySteps.{IsRowsFault, IsTableFault};
+ghost use Rattle.warnc_verify.specs.Verified.{readers_of, Finds, FindsAndWrites, IsDifference, IsOfRun, IsVerifyFault, Writes};
+ghost use Rattle.warnc_verify.specs.declared.fault.VerifyFault.TheVariants as faults;
+
+use crate::fault::VerifyFault;
+use crate::judge::Judge;
+use device_ends::{Failed, Sink, Source, write_all};
+use handset::record_each;
+use std::alloc::Global;
+use std::io::{Read, Write};
+use std::sync::Wait;
+use std::thread::Threads;
+use verification::{Findings, Row, text_of};
+use warnc_run::{Workers, run_book};
+
+/// Reads a book, has its cells carry out what its one session orders, in runs of `slots` slots, as
+/// [`compile_stream`](warnc_run::compile_stream) does, reads tapes up to their end, and writes a row for each difference
+/// between what the cells were asked and what the tapes send, and for each cell without a tape and tape without a cell
+/// (`AreRows`). Nothing is written before all is known. `workers` workers play the cells.
+///
+/// # Errors
+///
+/// [`VerifyFault::Differences`] if there is one row or more: all of them are written then, as is the line of the
+/// columns' names alone if there is none. With any other fault nothing is written, but after
+/// [`VerifyFault::WriteFailed`] a front of the table may be out.
+pub fn verify_stream<T: AllocGlobal + Threads + Wait + Sync, B: Read, R: Read, W: Write>(
+    rt: &T,
+    book: &mut Source<B>,
+    tapes: &mut Source<R>,
+    sink: &mut Sink<W>,
+    slots: u16,
+    workers: Workers,
+) -> Result<(), VerifyFault>
+    ensures ok { OnOk result (WritesBetween W.contents (λ old new. FindsAndWrites slots
+        (readers_of B.remaining R.remaining book.old book.new tapes.old tapes.new) old new []) sink.old sink.new) }
+    ensures err { IfErr result (λ fault. WritesBetween W.contents (λ old new. IsVerifyFault slots
+        (readers_of B.remaining R.remaining book.old book.new tapes.old tapes.new) old new fault) sink.old sink.new) }
+
+    // At any readers and any writer: which end failed is reported, the book's first, and what failed before is as it
+    // was. The tapes aren't touched if the book has no run.
+    ensures book_failed { IsErrOf result (faults.Run (run.Book unread)) ↔ IsTrue (source_failed book.new) }
+    ensures book_first { IfErr result (λ fault. IsOfRun fault → tapes.new ≡ tapes.old) }
+    ensures tapes_failed { source_failed tapes.old ≡ false
+        → (IsErrOf result (faults.Tapes tape.ReadFailed) ↔ IsTrue (source_failed tapes.new)) }
+    ensures write_failed { IsErrOf result faults.WriteFailed → sink_failed sink.new ≡ true }
+    ensures written { OnOk result (sink_failed sink.new ≡ false) }
+    ensures differences_written { IfErr result (λ fault. IsDifference fault → sink_failed sink.new ≡ false) }
+    ensures nothing_written { IfErr result (λ fault. (Writes fault → ⊥) → sink.new ≡ sink.old) }
+    ensures book_stays { source_failed book.old ≡ true → book.new ≡ book.old }
+    ensures tapes_stay { source_failed tapes.old ≡ true → tapes.new ≡ tapes.old }
+    ensures sink_stays { sink_failed sink.old ≡ true → sink.new ≡ sink.old }
+{
+    let rows = rows_of(rt, book, tapes, slots, workers)?;
+    write_rows(rt.alloc(), &rows, sink)?;
+    match rows.len() {
+        0 => Ok(()),
+        count => Err(VerifyFault::Differences(count)),
+    }
+}
+
+/// The rows of tapes beside the run of a book.
+fn rows_of<T: AllocGlobal + Threads + Wait + Sync, B: Read, R: Read>(
+    rt: &T,
+    book: &mut Source<B>,
+    tapes: &mut Source<R>,
+    slots: u16,
+    workers: Workers,
+) -> Result<Vec<Row>, VerifyFault>
+    ensures ok { IfOk result (λ rows. Finds slots
+        (readers_of B.remaining R.remaining book.old book.new tapes.old tapes.new) rows.items) }
+    ensures err { IfErr result (λ fault. IsRowsFault slots
+        (readers_of B.remaining R.remaining book.old book.new tapes.old tapes.new) fault) }
+    ensures book_failed { IsErrOf result (faults.Run (run.Book unread)) ↔ IsTrue (source_failed book.new) }
+    ensures book_first { IfErr result (λ fault. IsOfRun fault → tapes.new ≡ tapes.old) }
+    ensures tapes_failed { source_failed tapes.old ≡ false
+        → (IsErrOf result (faults.Tapes tape.ReadFailed) ↔ IsTrue (source_failed tapes.new)) }
+    ensures failed { IsErrOf result (faults.Tapes tape.ReadFailed) → source_failed tapes.new ≡ true }
+    ensures book_stays { source_failed book.old ≡ true → book.new ≡ book.old }
+    ensures tapes_stay { source_failed tapes.old ≡ true → tapes.new ≡ tapes.old }
+{
+    let alloc = rt.alloc();
+    let records = run_book(rt, book, slots, workers.number)?;
+    let mut judge = Judge {
+        findings: Findings::new(alloc, records)?,
+    };
+    record_each(alloc, tapes, &mut judge)?;
+    let rows = judge.findings.rows()?;
+    Ok(rows)
+}
+
+/// Writes the table of some rows. Nothing is written before all of it is made.
+fn write_rows<W: Write>(alloc: Global, rows: &[Row], sink: &mut Sink<W>) -> Result<(), VerifyFault>
+    ensures ok { OnOk result (WritesBetween W.contents (λ old new. Appends old new (rows_text rows.now))
+        sink.old sink.new) }
+    ensures err { IfErr result (λ fault. WritesBetween W.contents (λ old new. IsTableFault old new rows.now fault)
+        sink.old sink.new) }
+    ensures failed { IsErrOf result faults.WriteFailed → sink_failed sink.new ≡ true }
+    ensures written { OnOk result (sink_failed sink.new ≡ false) }
+    ensures refused { IsErrOf result faults.Refused → sink.new ≡ sink.old }
+    ensures stays { sink_failed sink.old ≡ true → sink.new ≡ sink.old }
+{
+    let text = text_of(alloc, rows)?;
+    match write_all(sink, text.as_bytes()) {
+        Ok(()) => Ok(()),
+        Err(Failed) => Err(VerifyFault::WriteFailed),
+    }
+}
