@@ -2,4 +2,5 @@ pub mod ListLaws
 pub mod OwedLaws
 pub mod NameLaws
 pub mod SentLaws
+pub mod TimeLaws
 pub mod FoundLaws

@@ -68,3 +68,9 @@ four-joined start a b c d one two three four is_one is_two is_three is_four =
   where
     regrouped : {X : Type 0} (s a b c d : List X) → (((s ++ a) ++ b) ++ c) ++ d ≡ s ++ (((a ++ b) ++ c) ++ d)
     regrouped s a b c d = simp append_assoc
+
+pub any-missing : (test : ℕ → Bool) (a n m : ℕ) → n ≡ m + 1 → test a ≡ false →
+    list_all test (range_with_len a n) ≡ false
+any-missing test a n m is fails =
+    ap (list_all test) (range-next a n m is)
+    ∙ ap (λ here. here && list_all test (range_with_len (a + 1) m)) fails

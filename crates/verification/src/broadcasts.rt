@@ -1,7 +1,8 @@
 //! The broadcasts of a message that are due and aren't whole.
 
-ghost use Rattle.std.specs.Prelude.{◌≡◌, ◌++◌, ◌+◌, OnOk};
-ghost use Rattle.verification.specs.Difference.{broadcast_difference, broadcast_differences, due, has_page};
+ghost use Rattle.std.specs.Prelude.{◌≡◌, ◌++◌, ◌+◌, ◌≤◌, ◌==◌, ◌&&◌, AllPairs, filter, OnOk};
+ghost use Rattle.std.specs.List.{list_any};
+ghost use Rattle.verification.specs.Difference.{broadcast_difference, broadcast_differences, due};
 ghost use Rattle.verification.specs.Difference.{is_by, is_in_time, is_owed, is_whole, release};
 ghost use Rattle.verification.specs.Kept.{asked_of};
 
@@ -46,40 +47,43 @@ impl<'a> Asked<'a> {
             && (self.broadcasts == 0 || broadcast < self.broadcasts)
     }
 
-    /// Whether a page was sent from the release of a broadcast up to its due slot.
-    fn is_in_time(&self, broadcast: u16, page: &JudgedPage) -> bool
-        ensures { result ≡ is_in_time (asked_of self.now) broadcast page.now }
+    /// Of pages whose slots never fall, those that were sent from the release of a broadcast up to its due slot.
+    fn in_time<'p>(&self, pages: &'p [JudgedPage], broadcast: u16) -> &'p [JudgedPage]
+        requires { AllPairs (λ a b. a.slot ≤ b.slot) pages.now }
+        ensures { result.now ≡ filter (is_in_time (asked_of self.now) broadcast) pages.now }
     {
-        let slot = page.slot as u64;
-        self.release(broadcast) <= slot && slot < self.due(broadcast)
-    }
-
-    /// Whether the page of this number was sent for a broadcast, as it was asked.
-    fn has_page(&self, pages: &[JudgedPage], broadcast: u16, number: usize) -> bool
-        ensures { result ≡ has_page (asked_of self.now) pages.now broadcast number }
-    {
-        for page in pages {
-            if self.is_in_time(broadcast, page)
-                && usize::from(page.number) == number
-                && page.right
-            {
-                return true;
-            }
-        }
-        false
+        let (release, due) = (self.release(broadcast), self.due(broadcast));
+        let first = pages.partition_point(|page| (page.slot as u64) < release);
+        let later = &pages[first..];
+        let count = later.partition_point(|page| (page.slot as u64) < due);
+        &later[..count]
     }
 
     /// Whether each page of the message was sent for a broadcast, as it was asked.
     fn is_whole(&self, pages: &[JudgedPage], broadcast: u16) -> bool
+        requires { AllPairs (λ a b. a.slot ≤ b.slot) pages.now }
         ensures { result ≡ is_whole (asked_of self.now) pages.now broadcast }
     {
+        let in_time = self.in_time(pages, broadcast);
         for place in 0..self.pages() {
-            if !self.has_page(pages, broadcast, place + 1) {
+            if !has_right_page(in_time, place + 1) {
                 return false;
             }
         }
         true
     }
+}
+
+/// Whether the page of this number is among pages, as it was asked.
+fn has_right_page(pages: &[JudgedPage], number: usize) -> bool
+    ensures { result ≡ list_any (λ page. (page.number == number) && page.right) pages.now }
+{
+    for page in pages {
+        if usize::from(page.number) == number && page.right {
+            return true;
+        }
+    }
+    false
 }
 
 /// Appends the differences of a message's broadcasts, in a run of so many slots.
@@ -93,6 +97,7 @@ pub fn push_broadcast_differences(
     asked: &Asked,
     pages: &[JudgedPage],
 ) -> Result<(), AllocError>
+    requires { AllPairs (λ a b. a.slot ≤ b.slot) pages.now }
     ensures { OnOk result (found.new.items
         ≡ found.old.items ++ broadcast_differences slots (asked_of asked.now) pages.now) }
 {

@@ -1,6 +1,6 @@
 //! The differences of a cell.
 
-ghost use Rattle.std.specs.Prelude.{◌≡◌, ◌++◌, All, IfOk, IsTrue, OnOk, map};
+ghost use Rattle.std.specs.Prelude.{◌≡◌, ◌++◌, ◌≤◌, All, AllPairs, IfOk, IsTrue, OnOk, map};
 ghost use Rattle.std.specs.List.{flat_map};
 ghost use Rattle.cbs_page.specs.Page.{is_readable};
 ghost use Rattle.verification.specs.Difference.{AreDifferences, message_differences};
@@ -25,7 +25,8 @@ fn push_messages(
     messages: &[Asked],
     sent: &[SentPage],
 ) -> Result<(), AllocError>
-    requires { All (λ s. IsTrue (is_readable s.page)) sent.now }
+    requires readable { All (λ s. IsTrue (is_readable s.page)) sent.now }
+    requires rising { AllPairs (λ a b. a.slot ≤ b.slot) sent.now }
     ensures { OnOk result (found.new.items ≡ found.old.items
         ++ flat_map (λ a. message_differences slots a (judged_in a sent.now)) (map asked_of messages.now)) }
 {

@@ -1,6 +1,6 @@
 //! The pages of a message that were sent, each right or not.
 
-ghost use Rattle.std.specs.Prelude.{◌≡◌, ◌-◌, All, IfOk, IsTrue, Some, encode_utf8_all};
+ghost use Rattle.std.specs.Prelude.{◌≡◌, ◌-◌, ◌≤◌, All, AllPairs, IfOk, IsTrue, Some, encode_utf8_all};
 ghost use Rattle.std.specs.List.{slice_get};
 ghost use Rattle.cbs_page.specs.Page.{is_readable};
 ghost use Rattle.verification.specs.Judged.{is_right, judged, judged_in, reads_as};
@@ -74,8 +74,10 @@ pub fn judged_pages(
     asked: &Asked,
     sent: &[SentPage],
 ) -> Result<Vec<JudgedPage>, AllocError>
-    requires { All (λ s. IsTrue (is_readable s.page)) sent.now }
-    ensures { IfOk result (λ pages. pages.items ≡ judged_in (asked_of asked.now) sent.now) }
+    requires readable { All (λ s. IsTrue (is_readable s.page)) sent.now }
+    requires rising { AllPairs (λ a b. a.slot ≤ b.slot) sent.now }
+    ensures pages { IfOk result (λ pages. pages.items ≡ judged_in (asked_of asked.now) sent.now) }
+    ensures rising { IfOk result (λ pages. AllPairs (λ a b. a.slot ≤ b.slot) pages.items) }
 {
     let mut pages = Vec::new(alloc);
     for sent_page in sent {

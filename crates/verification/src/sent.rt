@@ -1,6 +1,6 @@
 //! The pages that a tape sends.
 
-ghost use Rattle.std.specs.Prelude.{◌≡◌, ◌∷◌, ◌++◌, [], drop, All, IfOk, IsTrue};
+ghost use Rattle.std.specs.Prelude.{◌≡◌, ◌∷◌, ◌++◌, [], drop, ◌≤◌, All, AllPairs, IfOk, IsTrue};
 ghost use Rattle.std.specs.Option.{option_to_list};
 ghost use Rattle.cbs_page.specs.Page.{is_readable};
 ghost use Rattle.handset.specs.Reception.{page_in_front, page_octets};
@@ -59,6 +59,7 @@ fn page_in_front(blocks: &[[u8; 23]]) -> Option<PageView>
 pub fn sent_pages(alloc: Global, blocks: &[[u8; 23]]) -> Result<Vec<SentPage>, AllocError>
     ensures pages { IfOk result (λ sent. sent.items ≡ sent_in blocks.now) }
     ensures readable { IfOk result (λ sent. All (λ s. IsTrue (is_readable s.page)) sent.items) }
+    ensures rising { IfOk result (λ sent. AllPairs (λ a b. a.slot ≤ b.slot) sent.items) }
 {
     let mut sent = Vec::new(alloc);
     for place in 0..blocks.len() {

@@ -1,5 +1,6 @@
-use Rattle.std.proofs.Common.{◌≡◌, ◌∙◌, ◌+◌, ◌++◌, [], ◌∷◌, List, Option, All, IsTrue, ap, sym, subst, arith, drop, length}
+use Rattle.std.proofs.Common.{◌≡◌, ◌≤◌, ◌∙◌, ◌+◌, ◌++◌, [], ◌∷◌, List, Option, All, IsTrue, ap, sym, subst, arith, drop, length}
 use Rattle.std.proofs.Common.{map, filter, append-nil, cond, true, false, ℕ}
+use Rattle.std.specs.List.{AllPairs}
 use Rattle.std.specs.Option.{option_to_list}
 use Rattle.std.proofs.lemmas.List.{drop_all, take_rest}
 use Rattle.cbs_page.specs.declared.octets.PageView.{PageView}
@@ -9,6 +10,7 @@ use Rattle.verification.specs.declared.sent.SentPage.{SentPage}
 use Rattle.verification.specs.Sent.{sent_at, sent_from, sent_in}
 use Rattle.verification.proofs.ListLaws.{rest-more, rest-none}
 use Rattle.verification.proofs.SentLaws.{front-none, front-some, sent-next, sent-readable}
+use Rattle.verification.proofs.TimeLaws.{sent-rising}
 use Rattle.verification.proofs.sent.sent_pages.Goals as goal
 use Rattle.verification.proofs.sent.sent_pages.Goals.{in-Some+then-readable+in_ok-push, in-Some+else-readable}
 use Rattle.verification.proofs.sent.sent_pages.Goals.{in_default}
@@ -53,10 +55,17 @@ loop-place-preserved c = elim c.match-page_in_front.branch [
       (ap (λ (page : Option PageView). option_to_list page) (sym w.in_default.is) ∙ front c))
 ]
 
-pub returns-clause-readable : goal.returns-clause-readable
-returns-clause-readable c =
-    let same : c.loop-place.sent.items ≡ sent_in c.args.blocks.now =
+-- the pages when all blocks were looked at
+whole : (c : goal.After-loop-place) → c.loop-place.sent.items ≡ sent_in c.args.blocks.now
+whole c =
     rest-none c.loop-place.sent.items (sent_from c.loop-place.place (drop c.loop-place.place c.args.blocks.now))
     (sent_in c.args.blocks.now) c.loop-place.invariant
-    (ap (sent_from c.loop-place.place) (drop_all c.loop-place.place c.args.blocks.now (omega arith))) in
-    subst (All (λ (s : SentPage). IsTrue (is_readable s.page))) (sym same) (sent-readable 0 c.args.blocks.now)
+    (ap (sent_from c.loop-place.place) (drop_all c.loop-place.place c.args.blocks.now (omega arith)))
+
+pub returns-clause-readable : goal.returns-clause-readable
+returns-clause-readable c =
+    subst (All (λ (s : SentPage). IsTrue (is_readable s.page))) (sym (whole c)) (sent-readable 0 c.args.blocks.now)
+
+pub returns-clause-rising : goal.returns-clause-rising
+returns-clause-rising c =
+    subst (AllPairs (λ (a b : SentPage). a.slot ≤ b.slot)) (sym (whole c)) (sent-rising 0 c.args.blocks.now)

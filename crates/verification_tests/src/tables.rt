@@ -1,0 +1,315 @@
+//! Tapes that keep what was asked, and tapes that don't, by hand.
+
+use crate::cells::expect_lines;
+use std::test::Fail;
+
+/// A message of two pages, twice in a run of 10 slots: its own tape, and changed ones.
+const TWO_PAGES: &str = "
+cell 7 10
+write 4370 0010 - normal 4 2 AB/CD -> Started { slot: 0 }
+end
+tape
+found -> none
+
+# the same tape by hand: the pages stand in slots 0, 1, 4 and 5
+blank
+send 4370 0010 en 1 2 AB
+send 4370 0010 en 2 2 CD
+idle 2
+send 4370 0010 en 1 2 AB
+send 4370 0010 en 2 2 CD
+idle 4
+found -> none
+
+# one octet of the text of the second page in slot 1: block 5 is the page's second block
+tape
+octet 4 7 00
+found -> 1,7,4370,0010,1,page 2 reads otherwise
+next -> 1,7,4370,0010,4,broadcast 0 not whole
+next -> none
+
+# silence in slot 5, and a page too late in slot 9
+tape
+swap 5 9
+found -> 1,7,4370,0010,8,broadcast 1 not whole
+next -> 1,7,4370,0010,9,after its last broadcast
+next -> none
+";
+
+/// A message that is killed at slot 5, one that starts at slot 6, and names that the cell doesn't know.
+const STARTS_AND_STOPS: &str = "
+cell 8 12
+write 4371 0020 - normal 2 0 X -> Started { slot: 0 }
+play 5
+kill 4371 0020 -> Stopped { completed: 3 }
+play 1
+write 4371 0021 - normal 3 2 Y -> Started { slot: 6 }
+end
+tape
+found -> none
+
+# the second message too early, and the first too late: of its broadcasts those due by slot 5 are owed
+blank
+idle 5
+send 4371 0021 en 1 1 Y
+send 4371 0020 en 1 1 X
+idle 5
+found -> 1,8,4371,0020,2,broadcast 0 not whole
+next -> 1,8,4371,0020,4,broadcast 1 not whole
+next -> 1,8,4371,0021,5,before its start
+next -> 1,8,4371,0020,6,after its stop
+next -> 1,8,4371,0021,9,broadcast 0 not whole
+next -> 1,8,4371,0021,12,broadcast 1 not whole
+next -> none
+
+# pages that stand across slots belong to the slot of their first block
+blank
+send 4371 0020 en 1 1 X
+idle 1
+block
+send 4371 0020 en 1 1 X
+idle 1
+send 4371 0020 en 1 1 X
+idle 1
+send 4371 0021 en 1 1 Y
+idle 2
+send 4371 0021 en 1 1 Y
+idle 2
+found -> none
+
+# another serial number and another identifier, each reported once
+tape
+swap 1 11
+found -> none
+blank
+send 4371 0020 en 1 1 X
+send 4371 0022 en 1 1 X
+send 4371 0020 en 1 1 X
+send 4371 0022 en 1 2 Z
+send 4371 0020 en 1 1 X
+send 4370 0020 en 1 1 X
+send 4371 0021 en 1 1 Y
+idle 2
+send 4371 0021 en 1 1 Y
+idle 2
+found -> 1,8,4371,0022,1,not ordered
+next -> 1,8,4370,0020,5,not ordered
+next -> none
+
+# a message that isn't ordered is told before one of a greater identifier, and after one of a smaller one
+blank
+idle 2
+send 4372 0020 en 1 1 X
+idle 9
+found -> 1,8,4371,0020,2,broadcast 0 not whole
+next -> 1,8,4372,0020,2,not ordered
+next -> 1,8,4371,0020,4,broadcast 1 not whole
+next -> 1,8,4371,0021,9,broadcast 0 not whole
+next -> 1,8,4371,0021,12,broadcast 1 not whole
+next -> none
+";
+
+/// What a page may say otherwise: its total, its data coding, its number and its text, and what is no difference.
+const OTHERWISE: &str = "
+cell 9 8
+write 4370 0010 - high 4 2 A/B -> Started { slot: 0 }
+end
+blank
+send 4370 0010 en 1 3 A
+send 4370 0010 de 2 2 B
+send 4370 0010 en 1 2 A
+send 4370 0010 en 2 2 B
+send 4370 0010 en 1 2 B
+send 4370 0010 en 2 2 A
+send 4370 0010 en 3 3 A
+send 4370 0010 en 1 2 A
+found -> 1,9,4370,0010,0,page 1 reads otherwise
+next -> 1,9,4370,0010,1,page 2 reads otherwise
+next -> 1,9,4370,0010,6,page 3 reads otherwise
+next -> 1,9,4370,0010,8,broadcast 1 not whole
+next -> none
+
+# the spare bits of a page's last octet show nothing, and a page that can't be read is none
+tape
+octet 3 22 F8
+found -> none
+octet 4 6 32
+found -> 1,9,4370,0010,4,broadcast 0 not whole
+next -> none
+octet 4 6 22
+octet 4 5 F4
+found -> 1,9,4370,0010,4,broadcast 0 not whole
+next -> none
+octet 4 5 01
+octet 4 0 21
+found -> 1,9,4370,0010,4,broadcast 0 not whole
+next -> none
+octet 4 0 20
+found -> none
+";
+
+/// Messages of which fewer broadcasts are owed: background, a stop at a due slot, and a run that ends too soon.
+const OWED: &str = "
+cell 3 8
+write 4372 0030 - background 2 2 B -> Started { slot: 0 }
+end
+tape
+found -> none
+silence 0
+silence 2
+found -> none
+blank
+idle 4
+send 4372 0030 en 1 1 B
+idle 3
+found -> 1,3,4372,0030,4,after its last broadcast
+next -> none
+
+# stopped at slot 4, at which its second broadcast is due: that one is owed still; after its last broadcast it is
+# stopped
+cell 4 8
+write 4372 0031 - normal 2 3 N -> Started { slot: 0 }
+play 4
+kill 4372 0031 -> Stopped { completed: 2 }
+end
+tape
+silence 2
+found -> 1,4,4372,0031,4,broadcast 1 not whole
+next -> none
+tape
+swap 0 7
+found -> 1,4,4372,0031,2,broadcast 0 not whole
+next -> 1,4,4372,0031,7,after its stop
+next -> none
+
+# the run ends at the due slot of the first broadcast, and one slot before that of the second
+cell 5 5
+write 4372 0032 - normal 3 0 N -> Started { slot: 0 }
+end
+tape
+swap 0 1
+swap 3 4
+found -> none
+silence 4
+found -> none
+silence 1
+found -> 1,5,4372,0032,3,broadcast 0 not whole
+next -> none
+
+# a replacement that waits up to slot 4, sent at slot 3
+cell 6 8
+write 4373 0040 - normal 4 0 O -> Started { slot: 0 }
+play 2
+write 4373 0041 0040 normal 1 2 P -> Replaced { slot: 4, completed: 1 }
+end
+tape
+found -> none
+swap 3 4
+found -> 1,6,4373,0041,3,before its start
+next -> 1,6,4373,0041,5,broadcast 0 not whole
+next -> none
+";
+
+/// A run whose tape has four differences and a page that nobody ordered.
+pub const TAMPERED: &str = "
+cell 8 12
+write 4371 0020 - normal 2 0 X -> Started { slot: 0 }
+play 5
+kill 4371 0020 -> Stopped { completed: 3 }
+play 1
+write 4371 0021 - normal 3 2 Y -> Started { slot: 6 }
+end
+tape
+silence 2
+swap 6 5
+octet 37 8 00
+found -> 1,8,4371,0020,4,broadcast 1 not whole
+next -> 1,8,4371,0021,5,before its start
+next -> 1,8,4371,0021,9,page 1 reads otherwise
+next -> 1,8,4371,0021,9,broadcast 0 not whole
+next -> 1,8,4371,0021,12,broadcast 1 not whole
+next -> none
+";
+
+/// Tapes of several cells, in another order.
+const RUNS: &str = "
+cell 1 4
+end
+cell 2 4
+write 4370 0010 - normal 2 0 A -> Started { slot: 0 }
+end
+tape
+begin
+rows -> 1,1,,,,no tape
+next -> 1,2,,,,no tape
+next -> none
+take 2
+rows -> 1,1,,,,no tape
+next -> none
+silence 0
+take 2
+take 3
+take 3
+rows -> 1,1,,,,no tape
+next -> 1,2,,,,second tape
+next -> 1,3,,,,unknown cell
+next -> 1,3,,,,unknown cell
+next -> none
+blank
+idle 3
+take 1
+rows -> 1,1,,,,other slots
+next -> 1,2,,,,second tape
+next -> 1,3,,,,unknown cell
+next -> 1,3,,,,unknown cell
+next -> none
+cell 1 2
+end
+cell 2 2
+write 4370 0010 - normal 2 0 A -> Started { slot: 0 }
+end
+begin
+blank
+idle 2
+take 2
+send 4370 0010 en 1 1 A
+take 1
+rows -> 1,1,,,,other slots
+next -> 1,2,4370,0010,2,broadcast 0 not whole
+next -> none
+";
+
+#[test]
+fn two_pages(rt: HostRuntime) -> Result<(), Fail> {
+    let cells = expect_lines(&rt, rt.alloc(), TWO_PAGES, 23)?;
+    drop(cells);
+    Ok(())
+}
+
+#[test]
+fn starts_and_stops(rt: HostRuntime) -> Result<(), Fail> {
+    let cells = expect_lines(&rt, rt.alloc(), STARTS_AND_STOPS, 61)?;
+    drop(cells);
+    Ok(())
+}
+
+#[test]
+fn otherwise(rt: HostRuntime) -> Result<(), Fail> {
+    let cells = expect_lines(&rt, rt.alloc(), OTHERWISE, 33)?;
+    drop(cells);
+    Ok(())
+}
+
+#[test]
+fn owed(rt: HostRuntime) -> Result<(), Fail> {
+    let cells = expect_lines(&rt, rt.alloc(), OWED, 51)?;
+    drop(cells);
+    Ok(())
+}
+
+#[test]
+fn runs(rt: HostRuntime) -> Result<(), Fail> {
+    let cells = expect_lines(&rt, rt.alloc(), RUNS, 44)?;
+    drop(cells);
+    Ok(())
+}
