@@ -1,0 +1,5 @@
+mod EscapeLaws
+mod KeptLaws
+mod LoadLaws
+mod RangeLaws
+mod SectionLaws
