@@ -185,7 +185,7 @@ pub fn write_chart<W: Write>(
         (λ old new. AppendsFront old new (chart_text slots wanted records.now (readings_of readings.now)))
         sink.old sink.new }
     ensures cells { IsErrOf result ReportFault.Cells → ¬ AreOfOneCells records.now (readings_of readings.now) }
-    ensures unwritten { (IsErrOf result ReportFault.WriteFailed → ⊥) → IfErr result (λ fault. sink.new ≡ sink.old) }
+    ensures unwritten { IfErr result (λ fault. fault ≢ ReportFault.WriteFailed → sink.new ≡ sink.old) }
     ensures failed { IsErrOf result ReportFault.WriteFailed ↔ IsTrue (sink_failed sink.new) }
 
     // A sink that had failed before is as it was.

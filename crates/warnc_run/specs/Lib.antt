@@ -1,5 +1,6 @@
 pub mod Compiled
 pub mod Live
 pub mod Reported
+pub mod Charted
 pub mod RunSteps
 pub mod OneOutput
