@@ -3,3 +3,4 @@ mod KeptLaws
 mod LoadLaws
 mod RangeLaws
 mod SectionLaws
+pub mod SomeChart

@@ -31,19 +31,23 @@ pub const HEAD: &str = r#"<!DOCTYPE html>
 <meta name="viewport" content="width=device-width, initial-scale=1">
 <title>Warnings by cell</title>
 <style>
-:root{color-scheme:light dark;--ground:#fff;--text:#1a1a1a;--faint:#767676;--bar:#2f6fb3;--whole:#fff;--refusal:#b3261e;--lane:#eef1f4}
-@media(prefers-color-scheme:dark){:root{--ground:#15181c;--text:#e6e6e6;--faint:#9aa0a6;--bar:#6fa8e0;--whole:#15181c;--refusal:#ff8a80;--lane:#23282e}}
+:root{color-scheme:light dark;--ground:#fff;--text:#1a1a1a;--faint:#666;--lane:#eef1f4}
+:root{--bar:#2f6fb3;--whole:#fff;--refusal:#b3261e}
+@media(prefers-color-scheme:dark){
+:root{--ground:#15181c;--text:#e6e6e6;--faint:#a0a6ac;--lane:#262c33}
+:root{--bar:#6fa8e0;--whole:#15181c;--refusal:#ff8a80}
+}
 body{background:var(--ground);color:var(--text);font:15px/1.4 system-ui,sans-serif;margin:1.5em}
 summary{cursor:pointer;font-weight:600;margin:.8em 0 .4em}
-.line{align-items:center;display:grid;gap:.8em;grid-template-columns:18em 1fr;margin:.15em 0}
+.line{align-items:center;display:grid;gap:.8em;grid-template-columns:minmax(8em,22em) 1fr;margin:.15em 0}
 .line p{margin:0;overflow:hidden;text-overflow:ellipsis;white-space:nowrap}
 .line i{color:var(--faint)}
 svg{background:var(--lane);display:block;height:1.2em;width:100%}
 path{vector-effect:non-scaling-stroke}
-.loads{border-top:1px solid var(--refusal);height:4em}
+.loads{border-top:2px solid var(--refusal);height:4em}
 .bar,.load{fill:var(--bar)}
 .whole{stroke:var(--whole)}
-.refusal{stroke:var(--refusal);stroke-width:3px}
+.refusal{stroke:var(--refusal);stroke-width:4px}
 .line .axis{color:var(--faint);display:flex;font-size:.85em;justify-content:space-between}
 </style>
 </head>
@@ -55,8 +59,9 @@ path{vector-effect:non-scaling-stroke}
 pub const SLOTS: &str = " slots of 1.883 s, ";
 
 /// What comes after their time.
-pub const INTRODUCTION: &str = r#" minutes. A bar is a message from its start to its end, with a mark where a broadcast of it is
-whole; a red mark is a refused order. Below them is the load that is reserved: at the upper edge the cell is full.</p>
+pub const INTRODUCTION: &str = r#" minutes. A bar is a message from its start to its end, with a mark wherever a
+broadcast of it is whole; a red mark is a refused order. Below is the load that the cell has reserved: at the red edge
+it is full.</p>
 "#;
 
 /// The end of the page.

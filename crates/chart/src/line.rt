@@ -33,13 +33,13 @@ pub const NAME_END: &str = "</b> <i>";
 pub const TEXT: &str = "</i> <bdi>";
 
 /// What comes after its text.
-pub const TEXT_END: &str = "</bdi></p>";
+pub const TEXT_END: &str = "</bdi></p>\n";
 
 /// What comes after the name of a refused order.
 pub const REFUSED: &str = "</b> refused: ";
 
 /// What comes after its cause.
-pub const CAUSE_END: &str = "</p>";
+pub const CAUSE_END: &str = "</p>\n";
 
 /// The front of a line's picture, up to its width.
 pub const PICTURE: &str = "<svg viewBox=\"0 0 ";
@@ -48,7 +48,7 @@ pub const PICTURE: &str = "<svg viewBox=\"0 0 ";
 pub const TITLE: &str = " 10\" preserveAspectRatio=\"none\" role=\"img\"><title>";
 
 /// What comes after its title.
-pub const TITLE_END: &str = "</title><desc>";
+pub const TITLE_END: &str = "</title>\n<desc>";
 
 /// What comes before a message's start.
 pub const FROM: &str = "from slot ";
@@ -66,13 +66,13 @@ pub const SHOWN: &str = ", shown";
 pub const NOT_SHOWN: &str = ", not shown";
 
 /// The front of the bar, up to its start.
-pub const BAR: &str = "</desc><rect class=\"bar\" height=\"10\" x=\"";
+pub const BAR: &str = "</desc>\n<rect class=\"bar\" height=\"10\" x=\"";
 
 /// What comes before its width.
 pub const WIDTH: &str = "\" width=\"";
 
 /// What comes after the bar, up to the marks.
-pub const BAR_END: &str = "\"/><path class=\"whole\" d=\"";
+pub const BAR_END: &str = "\"/>\n<path class=\"whole\" d=\"";
 
 /// The end of a line.
 pub const LINE_END: &str = "\"/></svg></div>\n";
@@ -84,7 +84,7 @@ pub const REFUSED_AT: &str = "refused at slot ";
 pub const COLON: &str = ": ";
 
 /// The front of its mark, up to the slot.
-pub const REFUSAL: &str = "</desc><path class=\"refusal\" d=\"M";
+pub const REFUSAL: &str = "</desc>\n<path class=\"refusal\" d=\"M";
 
 /// The end of its mark and of the line.
 pub const REFUSAL_END: &str = " 0v10\"/></svg></div>\n";

@@ -16,10 +16,10 @@ pub const TICK: &str = "<span>";
 pub const AT: &str = "<br>";
 
 /// The end of a tick.
-pub const TICK_END: &str = " min</span>";
+pub const TICK_END: &str = " min</span>\n";
 
 /// The front of the axis.
-pub const AXIS: &str = "<div class=\"line\"><p>Slot, time</p><p class=\"axis\">";
+pub const AXIS: &str = "<div class=\"line\"><p>Slot, time</p><p class=\"axis\">\n";
 
 /// The end of the axis.
 pub const AXIS_END: &str = "</p></div>\n";
