@@ -99,6 +99,11 @@ pub record IsCell (text : List ℕ) (cell : Cell) : Type 0 where
 abbrev pub GivesCell : (words : List (List ℕ)) → Cell → Type 0
 GivesCell words cell = (text : List ℕ) × GivesValue words (codes "--cell") text × IsCell text cell
 
+-- the words give one cell that is wanted, or none
+abbrev pub GivesWanted : (words : List (List ℕ)) → Option Cell → Type 0
+GivesWanted words None = is_given words (codes "--cell") ≡ false
+GivesWanted words (Some cell) = GivesCell words cell
+
 -- a text writes an IPv4 address: its four octets, the highest first, with dots between them
 pub record IsAddress (text : List ℕ) (address : ℕ) : Type 0 where
   pub first : List ℕ
@@ -140,6 +145,13 @@ pub record AsksForCompile (words : List (List ℕ)) (slots workers : ℕ) : Type
 pub record AsksForReport (words : List (List ℕ)) (slots workers : ℕ) : Type 0 where
   pub command : slice_get words 1 ≡ Some (codes "report")
   pub slots_given : GivesSlots words slots
+  pub workers_given : GivesThreads words (codes "--workers") workers
+
+-- the words ask for `chart` with this number of slots and of workers, of the wanted cell or of all
+pub record AsksForChart (words : List (List ℕ)) (slots : ℕ) (wanted : Option Cell) (workers : ℕ) : Type 0 where
+  pub command : slice_get words 1 ≡ Some (codes "chart")
+  pub slots_given : GivesSlots words slots
+  pub wanted_given : GivesWanted words wanted
   pub workers_given : GivesThreads words (codes "--workers") workers
 
 -- the words ask for `live` with this number of slots, of sessions and of workers

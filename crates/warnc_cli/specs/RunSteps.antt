@@ -5,11 +5,11 @@ use Rattle.std.specs.Io.KnownBytes.{Keeps}
 use Rattle.device_ends.specs.Sink.{sink_failed}
 use Rattle.device_ends.specs.declared.reading.Source.{Source}
 use Rattle.device_ends.specs.declared.writing.Sink.{Sink}
-use Rattle.warnc_cli.specs.CommandLine.{AsksForCompile, AsksForLive, AsksForPage, AsksForPcap, AsksForRead}
-use Rattle.warnc_cli.specs.CommandLine.{AsksForReport, AsksForTape}
+use Rattle.warnc_cli.specs.CommandLine.{AsksForChart, AsksForCompile, AsksForLive, AsksForPage, AsksForPcap}
+use Rattle.warnc_cli.specs.CommandLine.{AsksForRead, AsksForReport, AsksForTape}
 use Rattle.warnc_cli.specs.Status.{OneHasFailed, status_of_book_fault}
 use Rattle.warnc_cli.specs.declared.command.Task.{Task}
-use Rattle.warnc_cli.specs.declared.command.Task.TheVariants.{Compile, Live, Page, Pcap, Read, Report, Tape}
+use Rattle.warnc_cli.specs.declared.command.Task.TheVariants.{Chart, Compile, Live, Page, Pcap, Read, Report, Tape}
 use Rattle.order_desk.specs.declared.fault.DeskFault.{DeskFault}
 use Rattle.order_desk.specs.declared.fault.DeskFault.TheVariants as desk
 use Rattle.order_desk.specs.declared.settle.SettleFault.{SettleFault}
@@ -35,6 +35,7 @@ IsTaskOf words (Pcap settings) = AsksForPcap words settings
 IsTaskOf words (Tape wanted) = AsksForTape words wanted
 IsTaskOf words (Compile slots workers) = AsksForCompile words slots workers.number
 IsTaskOf words (Report slots workers) = AsksForReport words slots workers.number
+IsTaskOf words (Chart slots wanted workers) = AsksForChart words slots wanted workers.number
 IsTaskOf words (Live slots sessions workers) = AsksForLive words slots sessions.number workers.number
 
 -- the status of a fault of `read`: 1 if the input is refused, 3 if a device failed, 4 if out of memory

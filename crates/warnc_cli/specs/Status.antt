@@ -17,9 +17,11 @@ use Rattle.alert_book.specs.Book.{Contents, IsBook, IsWrong, max_input}
 use Rattle.alert_book.specs.declared.fault.BookFault.{BookFault}
 use Rattle.alert_book.specs.declared.fault.BookFaultKind.{BookFaultKind}
 use Rattle.alert_book.specs.declared.fault.BookFaultKind.TheVariants as kinds
-use Rattle.warnc_cli.specs.CommandLine.{asks_for_text, AsksForCompile, AsksForLive, AsksForPage, AsksForPcap}
-use Rattle.warnc_cli.specs.CommandLine.{AsksForRead, AsksForReport, AsksForTape}
+use Rattle.warnc_cli.specs.CommandLine.{asks_for_text, AsksForChart, AsksForCompile, AsksForLive, AsksForPage}
+use Rattle.warnc_cli.specs.CommandLine.{AsksForPcap, AsksForRead, AsksForReport, AsksForTape}
 use Rattle.warnc_run.specs.declared.fault.RunFault.{RunFault}
+use Rattle.cbsp_wire.specs.declared.message.Cell.{Cell}
+use Rattle.warnc_run.specs.Charted.{IsCharted}
 use Rattle.warnc_run.specs.Compiled.{IsCompiled, StopsRun}
 use Rattle.warnc_run.specs.Live.{IsLive}
 use Rattle.warnc_run.specs.Reported.{IsReported}
@@ -136,11 +138,20 @@ pub record WroteReport (words : List (List ℕ)) (input old new : Option (List �
   pub asked : AsksForReport words slots workers
   pub wrote : WritesOutput (IsReported slots) input old new
 
+-- the words ask for `chart`, and what was written is the chart of the book's cells, or of the one that the words want,
+-- in runs of as many slots as the words say, whatever the number of workers
+pub record WroteChart (words : List (List ℕ)) (input old new : Option (List ℕ)) : Type 0 where
+  pub slots : ℕ
+  pub wanted : Option Cell
+  pub workers : ℕ
+  pub asked : AsksForChart words slots wanted workers
+  pub wrote : WritesOutput (IsCharted slots wanted) input old new
+
 abbrev pub WroteWhatIsAsked : (words : List (List ℕ)) (input old new : Option (List ℕ)) → Type 0
 WroteWhatIsAsked words input old new = WroteText words old new ⊎
     (WrotePages words input old new ⊎ (WroteTable words input old new ⊎ (WroteCapture words input old new
     ⊎ (WroteTape words input old new ⊎ (WroteTapes words input old new
-    ⊎ (WroteLiveTapes words input old new ⊎ WroteReport words input old new))))))
+    ⊎ (WroteLiveTapes words input old new ⊎ (WroteReport words input old new ⊎ WroteChart words input old new)))))))
 
 -- What status 1 says: the command that the words ask for refuses the input.
 
@@ -191,10 +202,19 @@ pub record RefusesReportedAlerts (words : List (List ℕ)) (input : Option (List
   pub asked : AsksForReport words slots workers
   pub refused : IfSome input (IsNoRun slots 1)
 
+-- the words ask for `chart`, and the input is no book or has no run
+pub record RefusesChartedAlerts (words : List (List ℕ)) (input : Option (List ℕ)) : Type 0 where
+  pub slots : ℕ
+  pub wanted : Option Cell
+  pub workers : ℕ
+  pub asked : AsksForChart words slots wanted workers
+  pub refused : IfSome input (IsNoRun slots 1)
+
 abbrev pub RefusesInput : (words : List (List ℕ)) (input : Option (List ℕ)) → Type 0
 RefusesInput words input =
     RefusesText words input ⊎ (RefusesTapes words input ⊎ (RefusesCapture words input ⊎ (RefusesAir words input
-    ⊎ (RefusesAlerts words input ⊎ (RefusesLiveAlerts words input ⊎ RefusesReportedAlerts words input)))))
+    ⊎ (RefusesAlerts words input ⊎ (RefusesLiveAlerts words input ⊎ (RefusesReportedAlerts words input
+    ⊎ RefusesChartedAlerts words input))))))
 
 -- one of the two ends has failed
 abbrev pub OneHasFailed : {R W : Type 0} → Source R → Sink W → Type 0

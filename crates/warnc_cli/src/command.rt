@@ -3,7 +3,8 @@
 ghost use Rattle.std.specs.Prelude.{◌≡◌, ◌<◌, ◌∷◌, ◌++◌, ◌⊎◌, false, IfOk, IfSome, codes, map, slice_get};
 ghost use Rattle.warnc_cli.specs.CommandLine.{asks_for_text, begins_with, is_given, is_text_word, GivesNumber};
 ghost use Rattle.warnc_cli.specs.CommandLine.{GivesChannel, GivesSlots, GivesThreads, GivesValue, AsksForPage};
-ghost use Rattle.warnc_cli.specs.CommandLine.{GivesCell, GivesFrom, IsAddress, IsCell, IsNumber, slots_given};
+ghost use Rattle.warnc_cli.specs.CommandLine.{GivesCell, GivesFrom, GivesWanted, IsAddress, IsCell, IsNumber};
+ghost use Rattle.warnc_cli.specs.CommandLine.{slots_given};
 ghost use Rattle.warnc_cli.specs.RunSteps.{IsTaskOf};
 
 use cbs_page::Serial;
@@ -50,6 +51,15 @@ pub enum Task<'a> {
     Report {
         /// How many slots each cell's run has, at least 1.
         slots: u16,
+        /// How many workers play the cells and make their tapes.
+        workers: Workers,
+    },
+    /// `chart`.
+    Chart {
+        /// How many slots each cell's run has, at least 1.
+        slots: u16,
+        /// The cell that is drawn; all if it is none.
+        wanted: Option<Cell>,
         /// How many workers play the cells and make their tapes.
         workers: Workers,
     },
@@ -107,6 +117,11 @@ fn task_in<'a, S: AsStr>(words: &'a [S]) -> Option<Task<'a>>
             slots: slots_in(words)?,
             workers: workers_in(words)?,
         }),
+        "chart" => Some(Task::Chart {
+            slots: slots_in(words)?,
+            wanted: wanted_in(words)?,
+            workers: workers_in(words)?,
+        }),
         "live" => Some(Task::Live {
             slots: slots_in(words)?,
             sessions: sessions_in(words)?,
@@ -161,6 +176,17 @@ fn cell_in<S: AsStr>(words: &[S]) -> Option<Cell>
     ensures { IfSome result (GivesCell (map S.text words.now)) }
 {
     cell_of(value_of(words, "--cell")?)
+}
+
+/// The one cell that the words want, if they want one.
+fn wanted_in<S: AsStr>(words: &[S]) -> Option<Option<Cell>>
+    ensures { IfSome result (GivesWanted (map S.text words.now)) }
+{
+    if !is_given(words, "--cell") {
+        return Some(None);
+    }
+    let cell = cell_in(words)?;
+    Some(Some(cell))
 }
 
 /// The cell that a text writes.
@@ -336,6 +362,7 @@ fn warnc<'a>(alloc: Global) -> Result<Command<'a>, AllocError> {
         .version(VERSION)
         .subcommand_required(true)
         .arg_required_else_help(true)
+        .subcommand(chart(alloc)?)?
         .subcommand(page(alloc)?)?
         .subcommand(compile(alloc)?)?
         .subcommand(live(alloc)?)?
@@ -444,6 +471,30 @@ fn report<'a>(alloc: Global) -> Result<Command<'a>, AllocError> {
         .after_help("Example: warnc report --slots 4096 < book.csv")
         .arg(slots(alloc))?
         .arg(workers(alloc))
+}
+
+/// The command line of `chart`.
+fn chart<'a>(alloc: Global) -> Result<Command<'a>, AllocError> {
+    Command::new(alloc, "chart")
+        .about(
+            "Reads a book of alerts, as CSV, and writes what became of them in each cell as a page to look at",
+        )
+        .after_help("Example: warnc chart --slots 4096 < book.csv > chart.html")
+        .arg(slots(alloc))?
+        .arg(charted_cell(alloc))?
+        .arg(workers(alloc))
+}
+
+/// The option of the one cell that is drawn.
+fn charted_cell<'a>(alloc: Global) -> Arg<'a> {
+    optional(
+        alloc,
+        "cell",
+        "LAC-CI",
+        "Draws this cell alone; all if it isn't given",
+    )
+    .value_parser(value_parser!(u16))
+    .value_delimiter('-')
 }
 
 /// The command line of `live`.

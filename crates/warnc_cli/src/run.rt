@@ -5,6 +5,7 @@ ghost use Rattle.std.specs.Io.KnownBytes.{Appends, Keeps};
 ghost use Rattle.device_ends.specs.Moves.{WritesOutput};
 ghost use Rattle.device_ends.specs.Sink.{sink_failed, writer_of};
 ghost use Rattle.device_ends.specs.Source.{reader_of, source_failed};
+ghost use Rattle.warnc_run.specs.Charted.{IsCharted};
 ghost use Rattle.warnc_run.specs.Compiled.{IsCompiled};
 ghost use Rattle.warnc_run.specs.Live.{IsLive};
 ghost use Rattle.warnc_run.specs.Reported.{IsReported};
@@ -19,6 +20,7 @@ ghost use Rattle.warnc_cli.specs.Status.{WroteWhatIsAsked};
 
 use crate::command::{PageOptions, Task, asks_for_text, task_of};
 use crate::status::{DEVICE, DONE, MEMORY, REFUSED_INPUT, USAGE, failed};
+use cbsp_wire::Cell;
 use clap::Error;
 use clap::error::ErrorKind;
 use device_ends::{Sink, Source, write_all};
@@ -33,7 +35,8 @@ use warnc_air::pcap::pcap_stream;
 use warnc_air::tape::tape_stream;
 use warnc_inspect::page::page_stream;
 use warnc_inspect::read::read_stream;
-use warnc_run::{ReportRunFault, Sessions, Workers, compile_stream, live_stream, report_stream};
+use warnc_run::{ReportRunFault, Sessions, Workers};
+use warnc_run::{chart_stream, compile_stream, live_stream, report_stream};
 
 /// Runs the command that the words ask for (the first is the program's name), from a reader to a writer, and returns
 /// the status: 0 done, 1 refused input, 2 command line, 3 device, 4 memory. A fault is one line for `faults`, `warnc: `
@@ -93,6 +96,11 @@ pub fn run_between<T: AllocGlobal + Threads + Wait + Sync, S: AsStr, R: Read, W:
             Task::Report { slots, workers } => {
                 run_report(rt, slots, workers, source, sink, faults)
             }
+            Task::Chart {
+                slots,
+                wanted,
+                workers,
+            } => run_chart(rt, slots, wanted, workers, source, sink, faults),
             Task::Live {
                 slots,
                 sessions,
@@ -268,6 +276,30 @@ fn run_report<T: AllocGlobal + Threads + Wait + Sync, R: Read, W: Write, F: Writ
     ensures refused { result ≡ REFUSED_INPUT → IfSome (R.remaining (reader_of source.old)) (IsNoRun slots 1) }
 {
     match report_stream(rt, source, sink, slots, workers.number) {
+        Ok(()) => DONE,
+        Err(ReportRunFault::Run(fault)) => failed(&fault, faults),
+        Err(ReportRunFault::Report(fault)) => failed(&fault, faults),
+    }
+}
+
+/// Runs `chart`, and returns the status.
+fn run_chart<T: AllocGlobal + Threads + Wait + Sync, R: Read, W: Write, F: Write>(
+    rt: &T,
+    slots: u16,
+    wanted: Option<Cell>,
+    workers: Workers,
+    source: &mut Source<R>,
+    sink: &mut Sink<W>,
+    faults: &mut F,
+) -> u8
+    ensures done { result ≡ DONE → WritesOutput (IsCharted slots wanted)
+        (R.remaining (reader_of source.old)) (W.contents (writer_of sink.old)) (W.contents (writer_of sink.new)) }
+    ensures any_ends { IsRunBetween result source.new sink.old sink.new
+        (W.contents (writer_of sink.old)) (W.contents (writer_of sink.new)) }
+    ensures wrote { result ≡ DONE → WritesSome (W.contents (writer_of sink.old)) (W.contents (writer_of sink.new)) }
+    ensures refused { result ≡ REFUSED_INPUT → IfSome (R.remaining (reader_of source.old)) (IsNoRun slots 1) }
+{
+    match chart_stream(rt, source, sink, slots, wanted, workers.number) {
         Ok(()) => DONE,
         Err(ReportRunFault::Run(fault)) => failed(&fault, faults),
         Err(ReportRunFault::Report(fault)) => failed(&fault, faults),

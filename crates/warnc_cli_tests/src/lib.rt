@@ -7,6 +7,10 @@ mod bench;
 #[cfg(test)]
 mod books;
 #[cfg(test)]
+mod captures;
+#[cfg(test)]
+mod charts;
+#[cfg(test)]
 mod malformed;
 #[cfg(test)]
 mod malformed_table;

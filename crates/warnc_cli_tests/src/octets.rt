@@ -98,6 +98,19 @@ impl Written {
         Ok(line)
     }
 
+    /// Whether a line has a text. The lines up to it, or all where none has it, were looked at then.
+    pub fn passes(&mut self, alloc: Global, text: &str) -> Result<bool, Fail> {
+        for _ in 0..self.left().len() {
+            if self.left().is_empty() {
+                return Ok(false);
+            }
+            if self.line(alloc)?.contains(text) {
+                return Ok(true);
+            }
+        }
+        Ok(false)
+    }
+
     /// How much it is of worked octets.
     pub fn part_of(&mut self, alloc: Global, worked: &[u8]) -> Result<String, Fail> {
         self.looked = self.writer.contents().len();

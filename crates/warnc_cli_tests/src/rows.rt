@@ -13,8 +13,8 @@
 //!
 //! - `run -> STATUS`. Lines say then what it wrote: `out -> LINE`, the next line of the output; `out N -> LINE`, the
 //!   next N lines, which are the same; `starts TEXT -> yes`, the next line begins so; `all -> worked` or
-//!   `all -> N of M`, how much of the worked octets it is; `says TEXT -> yes` and `lists COMMAND -> yes`, all that is
-//!   left of it does; `err -> LINE`, the next line of the faults. If no line speaks of an octet, the next run is no
+//!   `all -> N of M`, how much of the worked octets it is; `past TEXT -> yes`, a line has the text, and the next line
+//!   is the one after it; `says TEXT -> yes` and `lists COMMAND -> yes`, all that is left of it does; `err -> LINE`, the next line of the faults. If no line speaks of an octet, the next run is no
 //!   action;
 //! - `fails -> STATUS LINE`: all that it writes is a line of faults;
 //! - `usage -> STATUS WORD`: all that it writes is faults that begin with this word;
@@ -97,6 +97,7 @@ fn shown(alloc: Global, bench: &mut Bench, verb: &str, rest: &str) -> Result<Str
         "err" => return lines(alloc, &mut bench.faults, rest),
         "all" if rest.is_empty() => return bench.output.part_of(alloc, &bench.worked.octets),
         "starts" => bench.output.line(alloc)?.starts_with(rest),
+        "past" => bench.output.passes(alloc, rest)?,
         "says" => bench.output.rest(alloc)?.contains(rest),
         _ => {
             let listed = format!(in alloc; "\n  {rest} ")?;
@@ -129,7 +130,7 @@ fn carried_out<'a, T: AllocGlobal + Threads + Wait + Sync>(
             runs(rt, bench, verb, numbers_of(rest)?)
         }
         "scarce" if rest.is_empty() => scarce(rt, bench),
-        "out" | "err" | "starts" | "all" | "says" | "lists" => {
+        "out" | "err" | "starts" | "past" | "all" | "says" | "lists" => {
             shown(rt.alloc(), bench, verb, rest)
         }
         _ => set(rt.alloc(), bench, verb, rest),

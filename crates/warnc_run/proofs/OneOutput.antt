@@ -8,9 +8,10 @@ use Rattle.book_runs.specs.Live.{IsLiveRun}
 use Rattle.book_runs.specs.LiveLaws.{OneSessionIsARun}
 use Rattle.book_runs.specs.OneRun.{RunsAreOne}
 use Rattle.book_runs.specs.Run.{Exchange, IsRun}
+use Rattle.chart.specs.ChartText.{chart_text}
 use Rattle.report.specs.ReportText.{report_text}
 use Rattle.report.specs.Rows.{rows_of}
-use Rattle.warnc_run.specs.OneOutput.{CompiledIsOne, LiveOfOneIsCompiled, ReportedIsOne}
+use Rattle.warnc_run.specs.OneOutput.{ChartedIsOne, CompiledIsOne, LiveOfOneIsCompiled, ReportedIsOne}
 use Rattle.warnc_run.specs.Reported.{reading_of_record}
 
 pub compiled_is_one : RunsAreOne → CompiledIsOne
@@ -24,6 +25,14 @@ reported_is_one runs slots input output other one two =
     let same = runs input one.book two.book slots one.exchanges two.exchanges one.records two.records one.is_book
     two.is_book one.run two.run in
     one.written ∙ ap (λ (records : List Record). report_text (rows_of records (map reading_of_record records))) same.1
+    ∙ sym two.written
+
+pub charted_is_one : RunsAreOne → ChartedIsOne
+charted_is_one runs slots wanted input output other one two =
+    let same = runs input one.book two.book slots one.exchanges two.exchanges one.records two.records one.is_book
+    two.is_book one.run two.run in
+    one.written
+    ∙ ap (λ (records : List Record). chart_text slots wanted records (map reading_of_record records)) same.1
     ∙ sym two.written
 
 -- a run of one session is a run of the book

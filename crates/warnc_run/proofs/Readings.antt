@@ -1,6 +1,6 @@
 -- What handsets read of the tapes of records, one after the other.
 use Rattle.std.proofs.Common.{◌≡◌, ◌≢◌, ℕ, suc, ◌+◌, ◌<◌, ◌≤◌, ◌∙◌, List, [], ◌∷◌, ◌++◌, length, map, take, get_or}
-use Rattle.std.proofs.Common.{All, Option, ap, append_assoc, rules, sym, subst, refl}
+use Rattle.std.proofs.Common.{All, Option, ap, ap₂, append_assoc, rules, sym, subst, refl}
 use native.Mathlib.Omega.{arith}
 use Rattle.std.proofs.Math.Seq.{take-suc}
 use Rattle.std.proofs.lemmas.List.{get_or-map, length-map, map-append}
@@ -15,13 +15,15 @@ use Rattle.book_runs.specs.RunLaws.{RunsShowTheBook}
 use Rattle.cbsp_wire.specs.declared.message.Cell.{Cell}
 use Rattle.bsc_table.specs.Record.{Record}
 use Rattle.parallel_compile.specs.declared.fault.CompileFault.TheVariants as compile
+use Rattle.chart.specs.ChartText.{chart_text}
+use Rattle.warnc_run.specs.Charted.{IsCharted}
 use Rattle.report.specs.ReportText.{report_text}
 use Rattle.report.specs.Rows.{AreOfOneCells}
 use Rattle.report.specs.declared.fault.ReportFault.{ReportFault}
 use Rattle.report.specs.declared.fault.ReportFault.TheVariants as report
 use Rattle.report.specs.declared.row.Row.{Row}
 use Rattle.warnc_run.specs.Compiled.{IsWriteFault, MakesFront, HasReadBook}
-use Rattle.warnc_run.specs.RunSteps.{AreReportRows, HaveRunLive, IsOfBook, IsOfBookReport, IsOfTapes}
+use Rattle.warnc_run.specs.RunSteps.{AreReadings, AreReportRows, HaveRunLive, IsOfBook, IsOfBookReport, IsOfTapes}
 use Rattle.warnc_run.specs.declared.fault.RunFault.{RunFault}
 use Rattle.warnc_run.specs.declared.fault.RunFault.TheVariants as run
 use Rattle.warnc_run.specs.declared.report_run.ReportRunFault.{ReportRunFault}
@@ -126,6 +128,47 @@ reported one law orders input book slots rows few is_book are =
       meant = law input book slots session.0 are.records is_book few run;
       accepted = orders input book slots session.0 are.records is_book run;
       written = ap report_text are.made;
+    }
+
+-- their readings are of the same cells, so the chart can't fail for that
+pub never_cells : (fault : ReportFault) (records shown : List Record) (readings given : List TapeReading)
+    → shown ≡ records
+    → readings ≡ map reading_of_record records
+    → given ≡ readings
+    → (fault ≡ report.Cells → ¬ AreOfOneCells shown given)
+    → fault ≢ report.Cells
+never_cells fault records shown readings given is read are differ cells =
+    differ cells (ap (map (λ (r : Record). r.cell)) is ∙ of_one records
+    ∙ ap (map (λ (x : TapeReading). x.cell)) (sym (are ∙ read)))
+  where
+    of_one : (all : List Record)
+        → map (λ (r : Record). r.cell) all ≡ map (λ (x : TapeReading). x.cell) (map reading_of_record all)
+    of_one [] = refl
+    of_one (r ∷ rest) = ap (λ (cells : List Cell). r.cell ∷ cells) (of_one rest)
+
+-- and the chart of a run of the book whose octets were read is what they mean
+pub charted : OneSessionIsARun → RunsShowTheBook → RunsAcceptWhatWasOrdered
+    → (input : List ℕ) (book : Contents) (slots : ℕ) (wanted : Option Cell) (records shown : List Record)
+    (readings given : List TapeReading)
+    → slots ≤ 65535
+    → IsBook input book
+    → AreReadings book slots records readings
+    → shown ≡ records
+    → given ≡ readings
+    → IsCharted slots wanted input (chart_text slots wanted shown given)
+charted one law orders input book slots wanted records shown readings given few is_book are is same =
+    let session = only are.live.sessions are.live.parted in
+    let run = one book slots session.0 records
+    (subst (λ (sessions : List (List Exchange)). IsLiveRun book slots sessions records) session.1 are.live.run) in
+    record {
+      book = book;
+      is_book = is_book;
+      exchanges = session.0;
+      records = records;
+      run = run;
+      meant = law input book slots session.0 records is_book few run;
+      accepted = orders input book slots session.0 records is_book run;
+      written = ap₂ (λ (rs : List Record) (xs : List TapeReading). chart_text slots wanted rs xs) is (same ∙ are.read);
     }
 
 -- a fault of the report after the run

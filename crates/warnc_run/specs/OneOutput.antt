@@ -1,5 +1,7 @@
 -- What is written for a book is a function of its octets and of the number of slots (own).
-use Rattle.std.specs.Prelude.{◌≡◌, ℕ, List}
+use Rattle.std.specs.Prelude.{◌≡◌, ℕ, List, Option}
+use Rattle.cbsp_wire.specs.declared.message.Cell.{Cell}
+use Rattle.warnc_run.specs.Charted.{IsCharted}
 use Rattle.warnc_run.specs.Compiled.{IsCompiled}
 use Rattle.warnc_run.specs.Live.{IsLive}
 use Rattle.warnc_run.specs.Reported.{IsReported}
@@ -16,6 +18,13 @@ abbrev pub ReportedIsOne : Type 0
 ReportedIsOne = (slots : ℕ) (input output other : List ℕ)
     → IsReported slots input output
     → IsReported slots input other
+    → output ≡ other
+
+-- and the chart
+abbrev pub ChartedIsOne : Type 0
+ChartedIsOne = (slots : ℕ) (wanted : Option Cell) (input output other : List ℕ)
+    → IsCharted slots wanted input output
+    → IsCharted slots wanted input other
     → output ≡ other
 
 -- with one session, `live` writes the tapes that `compile` writes

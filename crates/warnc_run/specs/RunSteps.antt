@@ -8,6 +8,7 @@ use Rattle.bsc_table.specs.Record.{Record}
 use Rattle.cbch_blocks.specs.RecordBlocks.{tape_of_record}
 use Rattle.book_runs.specs.Live.{IsLiveRun}
 use Rattle.book_runs.specs.Run.{Exchange}
+use Rattle.handset.specs.Tape.{TapeReading}
 use Rattle.parallel_compile.specs.declared.fault.CompileFault.TheVariants as compile
 use Rattle.report.specs.Rows.{rows_of}
 use Rattle.report.specs.declared.row.Row.{Row}
@@ -76,6 +77,11 @@ pub record AreTapesOf (book : Contents) (slots parts : ℕ) (tapes : List (List 
   pub records : List Record
   pub live : HaveRunLive book slots parts records
   pub made : tapes ≡ map tape_of_record records
+
+-- these are the records of such a run of one session, and what handsets read of their blocks
+pub record AreReadings (book : Contents) (slots : ℕ) (records : List Record) (readings : List TapeReading) : Type 0 where
+  pub live : HaveRunLive book slots 1 records
+  pub read : readings ≡ map reading_of_record records
 
 -- these are the rows of the report of a run of one session
 pub record AreReportRows (book : Contents) (slots : ℕ) (rows : List Row) : Type 0 where

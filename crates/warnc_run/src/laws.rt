@@ -1,6 +1,6 @@
 //! Laws of what is written.
 
-ghost use Rattle.warnc_run.specs.OneOutput.{CompiledIsOne, LiveOfOneIsCompiled, ReportedIsOne};
+ghost use Rattle.warnc_run.specs.OneOutput.{ChartedIsOne, CompiledIsOne, LiveOfOneIsCompiled, ReportedIsOne};
 
 /// States, as its contract, that what is written for a book is a function of the book's octets and of the number of
 /// slots. Does nothing: its body names the laws that carry it.
@@ -8,8 +8,9 @@ pub fn output_laws()
     // The tapes are the same whatever the number of workers, the machine and the day.
     ensures compiled { CompiledIsOne }
 
-    // And so is the report.
+    // And so are the report and the chart.
     ensures reported { ReportedIsOne }
+    ensures charted { ChartedIsOne }
 
     // With one session, `live` writes the tapes that `compile` writes. With more, in which order they come to a cell is
     // chance, and the tapes may differ.

@@ -1,15 +1,16 @@
-//! The engines of the commands `compile`, `live` and `report`, from a reader to a writer: a book of alerts to the tapes
-//! of its cells, or to the report of them.
+//! The engines of the commands `compile`, `live`, `report` and `chart`, from a reader to a writer: a book of alerts to
+//! the tapes of its cells, to the report of them, or to their chart.
 //!
 //! [`live_stream`] reads all of the book, has the cells of a desk carry out what its sessions order, each in a thread
 //! of its own, has workers play the cells to their ends and hand on their pages, of which it puts the tapes together
 //! while the desk is open, settles the desk, compares the tapes with the records, and writes them. [`compile_stream`]
 //! is that with one session, and [`report_stream`] makes the tapes of one session's records, reads them and writes what
-//! became of each order. What was written is said by definitions of the book's octets alone (`IsCompiled`, `IsLive`,
-//! `IsReported`), which know of no worker: which orders each cell answered, at which slot, and what a handset shows
-//! that reads its tape.
+//! became of each order, which [`chart_stream`] draws. What was written is said by definitions of the book's octets
+//! alone (`IsCompiled`, `IsLive`, `IsReported`, `IsCharted`), which know of no worker: which orders each cell answered,
+//! at which slot, and what a handset shows that reads its tape.
 #![tactic(auto)]
 
+pub mod chart_run;
 pub mod compile;
 pub mod counts;
 pub mod fault;
@@ -24,6 +25,7 @@ mod settled;
 mod tapes;
 mod workers;
 
+pub use chart_run::chart_stream;
 pub use compile::compile_stream;
 pub use counts::{Sessions, Workers};
 pub use fault::RunFault;

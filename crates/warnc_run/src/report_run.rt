@@ -8,7 +8,7 @@ ghost use Rattle.handset.specs.Tape.{readings_of, IsTape};
 ghost use Rattle.parallel_compile.specs.declared.fault.CompileFault.TheVariants as compile;
 ghost use Rattle.warnc_run.specs.Compiled.{AreWorkers, Makes};
 ghost use Rattle.warnc_run.specs.Reported.{reading_of_record, IsReportAtEnds, IsReportFault, IsReported};
-ghost use Rattle.warnc_run.specs.RunSteps.{AreReportRows, IsOfBookReport, IsOfReport};
+ghost use Rattle.warnc_run.specs.RunSteps.{AreReadings, AreReportRows, IsOfBookReport, IsOfReport};
 ghost use Rattle.warnc_run.specs.declared.fault.RunFault.TheVariants as faults;
 ghost use Rattle.warnc_run.specs.declared.report_run.ReportRunFault.TheVariants as reports;
 
@@ -124,7 +124,27 @@ pub fn report_stream<T: AllocGlobal + Threads + Wait + Sync, R: Read, W: Write>(
     }
 }
 
-/// The rows of the report of a book's run. The book goes before they are made.
+/// The records of a book's run, and what handsets read of their tapes. The book goes before these are made.
+pub(crate) fn readings_of_book<T: AllocGlobal + Threads + Wait + Sync>(
+    rt: &T,
+    book: Book,
+    slots: u16,
+    workers: Workers,
+) -> Result<(Vec<CellRecord>, Vec<Reading>), ReportRunFault>
+    requires book { (input : List ℕ) × IsBook input book }
+    ensures ok { IfOk result (λ both. AreReadings book slots both.0.items (readings_of both.1.items)) }
+    ensures err { IfErr result (IsOfBookReport book slots) }
+{
+    // No book has over 64 cells, and each record gives a tape.
+    alert_book::book_laws();
+    book_runs::session_laws();
+    let records = records_of_book(rt, &book, slots, workers)?;
+    drop(book);
+    let readings = readings_by(rt, &records, workers)?;
+    Ok((records, readings))
+}
+
+/// The rows of the report of a book's run.
 fn rows_of_book<T: AllocGlobal + Threads + Wait + Sync>(
     rt: &T,
     book: Book,
@@ -135,12 +155,7 @@ fn rows_of_book<T: AllocGlobal + Threads + Wait + Sync>(
     ensures ok { IfOk result (λ rows. AreReportRows book slots rows.items) }
     ensures err { IfErr result (IsOfBookReport book slots) }
 {
-    // No book has over 64 cells, and each record gives a tape.
-    alert_book::book_laws();
-    book_runs::session_laws();
-    let records = records_of_book(rt, &book, slots, workers)?;
-    drop(book);
-    let readings = readings_by(rt, &records, workers)?;
+    let (records, readings) = readings_of_book(rt, book, slots, workers)?;
     match rows(rt.alloc(), &records, &readings) {
         Ok(rows) => Ok(rows),
         Err(fault) => Err(ReportRunFault::Report(fault)),

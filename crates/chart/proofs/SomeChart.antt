@@ -1,0 +1,11 @@
+-- A chart has octets.
+use Rattle.std.proofs.Common.{◌≡◌, ◌<◌, ℕ, List, Option, length, arith}
+use Rattle.cbsp_wire.specs.declared.message.Cell.{Cell}
+use Rattle.bsc_table.specs.Record.{Record}
+use Rattle.handset.specs.Tape.{TapeReading}
+use Rattle.chart.specs.ChartText.{chart_front, chart_text, head}
+
+pub some_chart : (slots : ℕ) (wanted : Option Cell) (records : List Record) (readings : List TapeReading)
+    → 0 < length (chart_text slots wanted records readings)
+unfolding chart_front head
+some_chart slots wanted records readings = omega arith

@@ -1,0 +1,10 @@
+use Rattle.std.proofs.Common.{◌≡◌, ◌+◌, ◌-◌, ◌*◌, ◌/◌, ◌<◌, ◌≤◌, ◌++◌, ◌&&◌, List, Some, ℕ, drop, take, length, map, slice_index, nat_le, nat_lt, if◌then◌else◌}
+use Rattle.bsc_table.specs.Record.{accepted_from, accepted_in}
+use Rattle.chart.specs.Kept.{all_kept, HavePeriods}
+use Rattle.chart.proofs.kept.accepted_in.Given as goal
+
+abbrev pub invariant-loop-place : goal.invariant-loop-place
+invariant-loop-place l = record {
+  all : accepted_from (all_kept l.all.items) l.place (drop l.place l.log) ≡ accepted_in l.log;
+  periods : HavePeriods l.all.items;
+}

@@ -1,0 +1,12 @@
+use Rattle.std.proofs.Common.{◌≡◌, ◌+◌, ◌-◌, ◌*◌, ◌/◌, ◌<◌, ◌≤◌, ◌++◌, ◌&&◌, List, Some, ℕ, drop, take, length, map, slice_index, nat_le, nat_lt, if◌then◌else◌}
+use Rattle.bsc_table.specs.Claim.{claimed_at}
+use Rattle.bsc_table.specs.Record.{claims_of}
+use Rattle.chart.specs.Kept.{all_kept}
+use Rattle.chart.proofs.load.loads_of.Given as goal
+
+abbrev pub invariant-loop-kept : goal.invariant-loop-kept
+invariant-loop-kept l = record {
+  same : length l.loads.items ≡ l.slots;
+  each : (slot : ℕ) → slot < l.slots → slice_index l.loads.items slot
+      + claimed_at (claims_of (all_kept (drop l.kept-index l.all))) slot ≡ claimed_at (claims_of (all_kept l.all)) slot;
+}

@@ -1,0 +1,178 @@
+-- The chart of a run: one page in HTML that stands alone (own). What is fixed in it are constants of the code; what is
+-- said here is what stands between them, and in which order.
+use Rattle.std.specs.Prelude.{ℕ, ◌-◌, ◌*◌, ◌/◌, ◌%◌, ◌==◌, ◌&&◌, Bool, true, if◌then◌else◌, Option, Some, None, List, []}
+use Rattle.std.specs.Prelude.{◌∷◌, ◌++◌}
+use Rattle.std.specs.Fmt.{decimal}
+use Rattle.std.specs.List.{flat_map, range_with_len}
+use Rattle.hex.specs.Hex.{encode_lower}
+use Rattle.cbsp_wire.specs.declared.message.Cell.{Cell}
+use Rattle.cbsp_wire.specs.declared.cause.TheConstants as cause
+use Rattle.bsc_table.specs.Record.{Record, Accepted, accepted_named}
+use Rattle.handset.specs.Reception.{ShownMessage}
+use Rattle.handset.specs.Tape.{TapeReading}
+use Rattle.report.specs.ReportText.{serial_text}
+use Rattle.report.specs.Rows.{cell_rows}
+use Rattle.report.specs.declared.row.Row.{Row}
+use Rattle.report.specs.declared.row.Showing.{Showing}
+use Rattle.report.specs.declared.row.Showing.TheVariants as shown_status
+use Rattle.chart.specs.declared.cause.TheConstants as causes
+use Rattle.chart.specs.declared.cell.TheConstants as cells
+use Rattle.chart.specs.declared.chart.TheConstants as charts
+use Rattle.chart.specs.declared.line.TheConstants as lines
+use Rattle.chart.specs.declared.load.TheConstants as loads
+use Rattle.chart.specs.declared.time.TheConstants as times
+use Rattle.chart.specs.Escape.{escaped}
+use Rattle.chart.specs.Load.{load_line}
+use Rattle.chart.specs.Message.{category_words, marks_of, text_shown}
+
+-- the name of what a row is of: its identifier, and its serial number in hexadecimal
+unfoldable pub name_text : Row → List ℕ
+name_text row = decimal row.id ++ lines.SPACE.now ++ serial_text row.serial
+
+-- a cause in words (3GPP TS 48.049, 8.2, Cause)
+abbrev pub cause_words : ℕ → List ℕ
+cause_words number =
+    if number == cause.PARAMETER_NOT_RECOGNISED then causes.NOT_RECOGNISED.now
+    else if number == cause.PARAMETER_VALUE_INVALID then causes.VALUE_INVALID.now
+    else if number == cause.MESSAGE_REFERENCE_NOT_IDENTIFIED then causes.NOT_IDENTIFIED.now
+    else if number == cause.CELL_IDENTITY_NOT_VALID then causes.CELL_NOT_VALID.now
+    else if number == cause.UNRECOGNISED_MESSAGE then causes.UNRECOGNISED.now
+    else if number == cause.MISSING_MANDATORY_ELEMENT then causes.MISSING.now
+    else if number == cause.BSC_CAPACITY_EXCEEDED then causes.CAPACITY.now
+    else if number == cause.CELL_MEMORY_EXCEEDED then causes.CELL_MEMORY.now
+    else if number == cause.BSC_MEMORY_EXCEEDED then causes.BSC_MEMORY.now
+    else if number == cause.CELL_BROADCAST_NOT_OPERATIONAL then causes.NOT_OPERATIONAL.now
+    else if number == cause.EXTENDED_CHANNEL_NOT_SUPPORTED then causes.NOT_SUPPORTED.now
+    else if number == cause.MESSAGE_REFERENCE_ALREADY_USED then causes.ALREADY_USED.now
+    else causes.OTHER.now
+
+-- a cause in words, and its number in two hexadecimal digits
+unfoldable pub cause_text : ℕ → List ℕ
+cause_text number = cause_words number ++ causes.NUMBER.now ++ encode_lower (number ∷ []) ++ causes.NUMBER_END.now
+
+-- the front of a row's picture, as wide as the run has slots: the name is its title
+unfoldable pub picture_front : (slots : ℕ) → Row → List ℕ
+picture_front slots row = lines.PICTURE.now ++ decimal slots ++ lines.TITLE.now ++ name_text row ++ lines.TITLE_END.now
+
+-- what a screen reader says of an accepted message: from when to when it stood, how many broadcasts were whole, and
+-- whether a phone shows it
+unfoldable pub description : Row → (outcome : List ℕ) → List ℕ
+description row outcome =
+    lines.FROM.now ++ decimal row.start ++ lines.TO.now ++ decimal row.end ++ lines.WHOLE.now ++ decimal row.completed
+    ++ outcome
+
+-- its bar, from its start to its end, in slots; none where it never started
+unfoldable pub bar : Row → List ℕ
+bar row = lines.BAR.now ++ decimal row.start ++ lines.WIDTH.now ++ decimal (row.end - row.start) ++ lines.BAR_END.now
+
+-- what is said of it: its name, its category and its text
+unfoldable pub message_name : Row → Option Accepted → List ℕ
+message_name row found =
+    lines.LINE.now ++ name_text row ++ lines.NAME_END.now ++ category_words found ++ lines.TEXT.now
+
+unfoldable pub message_front : Row → Option Accepted → (text : List ℕ) → List ℕ
+message_front row found text = message_name row found ++ escaped text ++ lines.TEXT_END.now
+
+-- the line of an accepted message: what is said of it, and its picture, a bar with a mark for each whole broadcast
+abbrev pub message_line : Record → Row → Option Accepted → (text outcome : List ℕ) → List ℕ
+message_line r row found text outcome =
+    message_front row found text ++ picture_front r.slots row ++ description row outcome ++ bar row
+    ++ marks_of r.slots r.air found ++ lines.LINE_END.now
+
+-- what a screen reader says of a refused order
+unfoldable pub refusal_description : Row → (number : ℕ) → List ℕ
+refusal_description row number = lines.REFUSED_AT.now ++ decimal row.start ++ lines.COLON.now ++ cause_text number
+
+-- its picture: a mark at the slot of the answer
+unfoldable pub refusal_picture : (slots : ℕ) → Row → (number : ℕ) → List ℕ
+refusal_picture slots row number =
+    picture_front slots row ++ refusal_description row number ++ lines.REFUSAL.now ++ decimal row.start
+    ++ lines.REFUSAL_END.now
+
+-- what is said of a refused order: its name, and the cause
+unfoldable pub refusal_front : Row → (number : ℕ) → List ℕ
+refusal_front row number =
+    lines.LINE.now ++ name_text row ++ lines.REFUSED.now ++ cause_text number ++ lines.CAUSE_END.now
+
+-- the line of a refused order
+abbrev pub refusal_line : (slots : ℕ) → Row → (number : ℕ) → List ℕ
+refusal_line slots row number = refusal_front row number ++ refusal_picture slots row number
+
+-- the line of a row
+abbrev pub line_by : Record → List ShownMessage → Row → Showing → List ℕ
+line_by r shown row shown_status.Yes =
+    message_line r row (accepted_named row.id row.serial r.log) (text_shown shown row.id row.serial) lines.SHOWN.now
+line_by r shown row shown_status.No =
+    message_line r row (accepted_named row.id row.serial r.log) (text_shown shown row.id row.serial) lines.NOT_SHOWN.now
+line_by r shown row (shown_status.Refused number) = refusal_line r.slots row number
+
+abbrev pub line_of : Record → List ShownMessage → Row → List ℕ
+line_of r shown row = line_by r shown row row.shown
+
+-- the time of a slot in minutes, to the tenth: a slot lasts 8 * 51 frames of 120/26 ms (3GPP TS 45.002)
+unfoldable pub minutes_text : ℕ → List ℕ
+minutes_text slot =
+    let tenths = slot * 102 / 325 in decimal (tenths / 10) ++ times.POINT.now ++ decimal (tenths % 10)
+
+-- the axis: the slots at each quarter of the run, and their times
+unfoldable pub tick : (slot : ℕ) → List ℕ
+tick slot = times.TICK.now ++ decimal slot ++ times.AT.now ++ minutes_text slot ++ times.TICK_END.now
+
+unfoldable pub ticks : (slots : ℕ) → List ℕ
+ticks slots = tick 0 ++ tick (slots / 4) ++ tick (slots / 2) ++ tick (slots * 3 / 4) ++ tick slots
+
+unfoldable pub axis : (slots : ℕ) → List ℕ
+axis slots = times.AXIS.now ++ ticks slots ++ times.AXIS_END.now
+
+-- the loads that are reserved over the slots: the picture is as high as SCALE, so that its upper edge is a full cell
+unfoldable pub load_front : (slots : ℕ) → List ℕ
+load_front slots = loads.LOAD.now ++ decimal slots ++ loads.LOAD_BOX.now
+
+unfoldable pub load_end : (slots : ℕ) → List ℕ
+load_end slots = loads.TO_SLOT.now ++ decimal slots ++ loads.LOAD_END.now
+
+abbrev pub load_picture : Record → List ℕ
+load_picture r = load_front r.slots ++ load_line r ++ load_end r.slots
+
+-- a cell's name
+unfoldable pub cell_front : Cell → List ℕ
+cell_front cell =
+    cells.CELL.now ++ decimal cell.lac ++ cells.DASH.now ++ decimal cell.ci ++ cells.NAME_END.now
+
+-- what is drawn of a cell: the rows of its report in their order, each a line, then its loads and the axis
+abbrev pub cell_section : Record → List ShownMessage → List ℕ
+cell_section r shown =
+    cell_front r.cell ++ flat_map (line_of r shown) (cell_rows r shown) ++ load_picture r ++ axis r.slots
+    ++ cells.CELL_END.now
+
+-- the cells that are drawn: the one that is wanted, or all
+abbrev pub is_wanted : Option Cell → Cell → Bool
+is_wanted None cell = true
+is_wanted (Some wanted) cell = (wanted.lac == cell.lac) && (wanted.ci == cell.ci)
+
+abbrev pub section_if : Option Cell → Record → List ShownMessage → List ℕ
+section_if wanted r shown = if is_wanted wanted r.cell then cell_section r shown else []
+
+-- the cells' sections, each with the reading of its blocks
+abbrev pub sections_of : Option Cell → List Record → List TapeReading → List ℕ
+sections_of wanted [] readings = []
+sections_of wanted (r ∷ records) [] = []
+sections_of wanted (r ∷ records) (reading ∷ readings) =
+    section_if wanted r reading.shown ++ sections_of wanted records readings
+
+-- the head of the page, and what its reader is told first
+unfoldable pub head : List ℕ
+head = charts.HEAD.now
+
+unfoldable pub introduction : List ℕ
+introduction = charts.INTRODUCTION.now
+
+-- the front of the page, which says how long the runs are
+unfoldable pub chart_front : (slots : ℕ) → List ℕ
+chart_front slots =
+    head ++ decimal slots ++ charts.SLOTS.now ++ minutes_text slots ++ introduction
+
+-- the chart of records, and of what handsets read of their blocks
+abbrev pub chart_text : (slots : ℕ) → Option Cell → List Record → List TapeReading → List ℕ
+chart_text slots wanted records readings =
+    chart_front slots ++ sections_of wanted records readings ++ charts.FOOT.now

@@ -1,0 +1,44 @@
+-- What is drawn of an accepted message beside its row (own).
+use Rattle.std.specs.Prelude.{ℕ, ◌+◌, ◌-◌, ◌==◌, ◌&&◌, if◌then◌else◌, min, Option, Some, None, List, [], ◌++◌, find}
+use Rattle.std.specs.Prelude.{false, slice_get}
+use Rattle.std.specs.Fmt.{decimal}
+use Rattle.std.specs.List.{flat_map, range_with_len}
+use Rattle.std.specs.Option.{option_map_or, unwrap_or}
+use Rattle.scheduler.specs.Air.{Air}
+use Rattle.scheduler.specs.Message.{ScheduledMessage}
+use Rattle.scheduler.specs.Pages.{airs_page}
+use Rattle.scheduler.specs.declared.plan.Rank.{Rank}
+use Rattle.scheduler.specs.declared.plan.Rank.TheVariants as ranks
+use Rattle.bsc_table.specs.Claim.{end_of}
+use Rattle.bsc_table.specs.Record.{Accepted}
+use Rattle.handset.specs.Reception.{ShownMessage}
+use Rattle.chart.specs.declared.message.TheConstants.{HIGH, NORMAL, BACKGROUND, MARK, MARK_END}
+
+-- the text that a handset shows of a message of this identifier and serial number, if it shows one
+abbrev pub text_shown : List ShownMessage → (id serial : ℕ) → List ℕ
+text_shown shown id serial = option_map_or (λ m. m.text) (find (λ m. (m.id == id) && (m.serial == serial)) shown) []
+
+-- the category in words
+abbrev pub rank_words : Rank → List ℕ
+rank_words ranks.High = HIGH.now
+rank_words ranks.Normal = NORMAL.now
+rank_words ranks.Background = BACKGROUND.now
+
+abbrev pub category_words : Option Accepted → List ℕ
+category_words None = []
+category_words (Some a) = rank_words a.message.rank
+
+-- the first slot after a message's reservation, or after the run
+abbrev pub end_within : (slots : ℕ) → ScheduledMessage → ℕ
+end_within slots m = min (unwrap_or (end_of m) slots) slots
+
+-- a mark after a slot that sends the last page of a message: a broadcast of it is whole then
+abbrev pub mark_at : Air → ScheduledMessage → (slot : ℕ) → List ℕ
+mark_at air m slot =
+    if option_map_or (airs_page m.entry m.pages) (slice_get air slot) false
+    then MARK.now ++ decimal (slot + 1) ++ MARK_END.now else []
+
+abbrev pub marks_of : (slots : ℕ) → Air → Option Accepted → List ℕ
+marks_of slots air None = []
+marks_of slots air (Some a) =
+    flat_map (mark_at air a.message) (range_with_len a.message.start (end_within slots a.message - a.message.start))

@@ -1,0 +1,210 @@
+//! The page of a chart, and how it is written.
+
+ghost use Rattle.std.specs.Prelude.{◌≡◌, ◌≢◌, ◌↔◌, ◌++◌, true, length, IfErr, IfOk, IsErrOf, IsTrue, OnOk};
+ghost use Rattle.std.specs.Io.KnownBytes.{Appends};
+ghost use Rattle.device_ends.specs.Moves.{AppendsFront};
+ghost use Rattle.device_ends.specs.Sink.{sink_failed, writer_of};
+ghost use Rattle.device_ends.specs.Stream.{Writes};
+ghost use Rattle.handset.specs.Keeping.{messages_of};
+ghost use Rattle.handset.specs.Tape.{readings_of};
+ghost use Rattle.report.specs.Rows.{AreOfOneCells};
+ghost use Rattle.chart.specs.ChartText.{chart_front, chart_text, head, introduction, is_wanted};
+ghost use Rattle.chart.specs.ChartText.{section_if, sections_of};
+
+use crate::cell::push_section;
+use crate::page::Page;
+use crate::time::push_minutes;
+use bsc_table::CellRecord;
+use cbsp_wire::Cell;
+use device_ends::{Failed, Sink, write_all};
+use handset::Reading;
+use report::ReportFault;
+use std::alloc::{AllocError, Global};
+use std::io::Write;
+
+/// The front of the page, up to the number of slots.
+pub const HEAD: &str = r#"<!DOCTYPE html>
+<html lang="en">
+<head>
+<meta charset="utf-8">
+<meta http-equiv="Content-Security-Policy" content="default-src 'none'; style-src 'unsafe-inline'">
+<meta name="viewport" content="width=device-width, initial-scale=1">
+<title>Warnings by cell</title>
+<style>
+:root{color-scheme:light dark;--ground:#fff;--text:#1a1a1a;--faint:#666;--lane:#eef1f4}
+:root{--bar:#2f6fb3;--whole:#fff;--refusal:#b3261e}
+@media(prefers-color-scheme:dark){
+:root{--ground:#15181c;--text:#e6e6e6;--faint:#a0a6ac;--lane:#262c33}
+:root{--bar:#6fa8e0;--whole:#15181c;--refusal:#ff8a80}
+}
+body{background:var(--ground);color:var(--text);font:15px/1.4 system-ui,sans-serif;margin:1.5em}
+summary{cursor:pointer;font-weight:600;margin:.8em 0 .4em}
+.line{align-items:center;display:grid;gap:.8em;grid-template-columns:minmax(8em,22em) 1fr;margin:.15em 0}
+.line p{margin:0;overflow:hidden;text-overflow:ellipsis;white-space:nowrap}
+.line i{color:var(--faint)}
+svg{background:var(--lane);display:block;height:1.2em;width:100%}
+path{vector-effect:non-scaling-stroke}
+.loads{border-top:2px solid var(--refusal);height:4em}
+.bar,.load{fill:var(--bar)}
+.whole{stroke:var(--whole)}
+.refusal{stroke:var(--refusal);stroke-width:4px}
+.line .axis{color:var(--faint);display:flex;font-size:.85em;justify-content:space-between}
+</style>
+</head>
+<body>
+<h1>Warnings by cell</h1>
+<p>A run of "#;
+
+/// What comes after the number of slots.
+pub const SLOTS: &str = " slots of 1.883 s, ";
+
+/// What comes after their time.
+pub const INTRODUCTION: &str = r#" minutes. A bar is a message from its start to its end, with a mark wherever a
+broadcast of it is whole; a red mark is a refused order. Below is the load that the cell has reserved: at the red edge
+it is full.</p>
+"#;
+
+/// The end of the page.
+pub const FOOT: &str = "</body>\n</html>\n";
+
+/// Whether a cell is drawn.
+fn is_wanted(wanted: Option<Cell>, cell: Cell) -> bool
+    ensures { result ≡ is_wanted wanted cell }
+{
+    match wanted {
+        None => true,
+        Some(wanted) => wanted.lac == cell.lac && wanted.ci == cell.ci,
+    }
+}
+
+/// Appends the section of a cell, if it is wanted.
+fn push_if_wanted(
+    alloc: Global,
+    page: &mut Page,
+    wanted: Option<Cell>,
+    run: &CellRecord,
+    reading: &Reading,
+) -> Result<(), ReportFault>
+    ensures section { OnOk result (page.new
+        ≡ page.old ++ section_if wanted run.now (messages_of reading.now.shown.items)) }
+    ensures cells { IfErr result (λ fault. fault ≡ ReportFault.Cells → run.now.cell ≢ reading.now.cell) }
+    ensures faults { IfErr result (λ fault. fault ≢ ReportFault.WriteFailed) }
+{
+    if is_wanted(wanted, run.cell()) {
+        push_section(alloc, page, run, reading)
+    } else {
+        Ok(())
+    }
+}
+
+/// Appends the sections of the cells that are wanted.
+fn push_sections(
+    alloc: Global,
+    page: &mut Page,
+    wanted: Option<Cell>,
+    records: &[CellRecord],
+    readings: &[Reading],
+) -> Result<(), ReportFault>
+    requires { length records.now ≡ length readings.now }
+    ensures sections { OnOk result (page.new
+        ≡ page.old ++ sections_of wanted records.now (readings_of readings.now)) }
+    ensures cells { IsErrOf result ReportFault.Cells → ¬ AreOfOneCells records.now (readings_of readings.now) }
+    ensures faults { IfErr result (λ fault. fault ≢ ReportFault.WriteFailed) }
+{
+    for (place, record) in records.iter().enumerate() {
+        push_if_wanted(alloc, page, wanted, record, &readings[place])?;
+    }
+    Ok(())
+}
+
+/// Appends the head of the page.
+#[tactic(auto, unfolding(crate::specs::ChartText::head))]
+fn push_head(page: &mut Page) -> Result<(), AllocError>
+    ensures { OnOk result (page.new ≡ page.old ++ head) }
+{
+    page.markup(HEAD)
+}
+
+/// Appends what the reader of the page is told first.
+#[tactic(auto, unfolding(crate::specs::ChartText::introduction))]
+fn push_introduction(page: &mut Page) -> Result<(), AllocError>
+    ensures { OnOk result (page.new ≡ page.old ++ introduction) }
+{
+    page.markup(INTRODUCTION)
+}
+
+/// Appends the front of the page.
+#[tactic(auto, unfolding(crate::specs::ChartText::chart_front))]
+fn push_front(page: &mut Page, slots: u16) -> Result<(), AllocError>
+    ensures { OnOk result (page.new ≡ page.old ++ chart_front slots) }
+{
+    push_head(page)?;
+    page.number(u64::from(slots))?;
+    page.markup(SLOTS)?;
+    push_minutes(page, u32::from(slots))?;
+    push_introduction(page)
+}
+
+/// The page of a chart.
+fn page_of(
+    alloc: Global,
+    slots: u16,
+    wanted: Option<Cell>,
+    records: &[CellRecord],
+    readings: &[Reading],
+) -> Result<Page, ReportFault>
+    ensures page { IfOk result (λ page. page ≡ chart_text slots wanted records.now (readings_of readings.now)) }
+    ensures cells { IsErrOf result ReportFault.Cells → ¬ AreOfOneCells records.now (readings_of readings.now) }
+    ensures faults { IfErr result (λ fault. fault ≢ ReportFault.WriteFailed) }
+{
+    if records.len() != readings.len() {
+        return Err(ReportFault::Cells);
+    }
+    let mut page = Page::new(alloc);
+    push_front(&mut page, slots)?;
+    push_sections(alloc, &mut page, wanted, records, readings)?;
+    page.markup(FOOT)?;
+    Ok(page)
+}
+
+/// Writes the chart of a run of `slots` slots: a page in HTML that stands alone, with a section for each cell, or for
+/// the wanted one alone: by its record and what a handset read of its blocks a line for each row of its report, in
+/// order, and the loads that it had reserved at each slot. Nothing is written before all of it is made.
+///
+/// # Errors
+///
+/// Returns [`ReportFault::Cells`] only if the readings aren't of the same cells as the records in the same order,
+/// [`ReportFault::WriteFailed`] exactly if the sink has failed, now or earlier, after which a front of the page may be
+/// out, and [`ReportFault::Refused`] if out of memory; after the others nothing is.
+pub fn write_chart<W: Write>(
+    alloc: Global,
+    slots: u16,
+    wanted: Option<Cell>,
+    records: &[CellRecord],
+    readings: &[Reading],
+    sink: &mut Sink<W>,
+) -> Result<(), ReportFault>
+    ensures ok { OnOk result (Appends (W.contents (writer_of sink.old)) (W.contents (writer_of sink.new))
+        (chart_text slots wanted records.now (readings_of readings.now))) }
+    ensures front { IsErrOf result ReportFault.WriteFailed → Writes W.contents
+        (λ old new. AppendsFront old new (chart_text slots wanted records.now (readings_of readings.now)))
+        sink.old sink.new }
+    ensures cells { IsErrOf result ReportFault.Cells → ¬ AreOfOneCells records.now (readings_of readings.now) }
+    ensures unwritten { IfErr result (λ fault. fault ≢ ReportFault.WriteFailed → sink.new ≡ sink.old) }
+    ensures failed { IsErrOf result ReportFault.WriteFailed ↔ IsTrue (sink_failed sink.new) }
+
+    // A sink that had failed before is as it was.
+    ensures failed_stays { sink_failed sink.old ≡ true → sink.new ≡ sink.old }
+{
+    if sink.failed() {
+        return Err(ReportFault::WriteFailed);
+    }
+    let page = match page_of(alloc, slots, wanted, records, readings) {
+        Ok(page) => page,
+        Err(fault) => return Err(fault),
+    };
+    match write_all(sink, page.octets()) {
+        Ok(()) => Ok(()),
+        Err(Failed) => Err(ReportFault::WriteFailed),
+    }
+}

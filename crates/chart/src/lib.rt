@@ -1,0 +1,20 @@
+//! The chart of a run, for people: one page in HTML, in which each message of a cell is a bar over the slots, each
+//! refused order a mark, and the loads that a cell has reserved a line.
+//!
+//! [`write_chart`] writes it. `specs/ChartText.antt` says which octets: of each cell the lines are those of the rows of
+//! its report, in their order, and every text of a message goes through `specs/Escape.antt`.
+#![tactic(auto)]
+
+pub mod cause;
+pub mod cell;
+pub mod chart;
+mod kept;
+mod laws;
+pub mod line;
+pub mod load;
+pub mod message;
+mod page;
+pub mod time;
+
+pub use chart::write_chart;
+pub use laws::chart_laws;

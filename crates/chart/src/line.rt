@@ -1,0 +1,273 @@
+//! The lines of a cell: one for each row of its report.
+
+ghost use Rattle.std.specs.Prelude.{◌≡◌, ◌++◌, OnOk};
+ghost use Rattle.std.specs.List.{flat_map};
+ghost use Rattle.bsc_table.specs.Record.{accepted_named};
+ghost use Rattle.chart.specs.Message.{text_shown};
+ghost use Rattle.chart.specs.Kept.{accepted_kept};
+ghost use Rattle.std.specs.Option.{option_map};
+ghost use Rattle.handset.specs.Keeping.{messages_of};
+ghost use Rattle.chart.specs.ChartText.{bar, description, line_of, message_front, message_line, message_name};
+ghost use Rattle.chart.specs.ChartText.{name_text, picture_front};
+ghost use Rattle.chart.specs.ChartText.{refusal_description, refusal_front, refusal_line, refusal_picture};
+
+use crate::cause::push_cause;
+use crate::kept::{KeptMessage, named};
+use crate::message::{category_words, push_marks, text_shown};
+use crate::page::Page;
+use bsc_table::CellRecord;
+use handset::Shown;
+use report::{Row, Showing};
+use std::alloc::AllocError;
+
+/// The front of a line.
+pub const LINE: &str = "<div class=\"line\"><p><b>";
+
+/// Between two numbers.
+pub const SPACE: &str = " ";
+
+/// What comes after the name of a message.
+pub const NAME_END: &str = "</b> <i>";
+
+/// What comes before its text.
+pub const TEXT: &str = "</i> <bdi>";
+
+/// What comes after its text.
+pub const TEXT_END: &str = "</bdi></p>\n";
+
+/// What comes after the name of a refused order.
+pub const REFUSED: &str = "</b> refused: ";
+
+/// What comes after its cause.
+pub const CAUSE_END: &str = "</p>\n";
+
+/// The front of a line's picture, up to its width.
+pub const PICTURE: &str = "<svg viewBox=\"0 0 ";
+
+/// What comes before its title.
+pub const TITLE: &str = " 10\" preserveAspectRatio=\"none\" role=\"img\"><title>";
+
+/// What comes after its title.
+pub const TITLE_END: &str = "</title>\n<desc>";
+
+/// What comes before a message's start.
+pub const FROM: &str = "from slot ";
+
+/// What comes before its end.
+pub const TO: &str = " to slot ";
+
+/// What comes before the number of its whole broadcasts.
+pub const WHOLE: &str = ", whole broadcasts: ";
+
+/// What comes after that number, where phones show the message.
+pub const SHOWN: &str = ", shown";
+
+/// The same where they don't.
+pub const NOT_SHOWN: &str = ", not shown";
+
+/// The front of the bar, up to its start.
+pub const BAR: &str = "</desc>\n<rect class=\"bar\" height=\"10\" x=\"";
+
+/// What comes before its width.
+pub const WIDTH: &str = "\" width=\"";
+
+/// What comes after the bar, up to the marks.
+pub const BAR_END: &str = "\"/>\n<path class=\"whole\" d=\"";
+
+/// The end of a line.
+pub const LINE_END: &str = "\"/></svg></div>\n";
+
+/// What comes before the slot of a refusal.
+pub const REFUSED_AT: &str = "refused at slot ";
+
+/// What comes before its cause.
+pub const COLON: &str = ": ";
+
+/// The front of its mark, up to the slot.
+pub const REFUSAL: &str = "</desc>\n<path class=\"refusal\" d=\"M";
+
+/// The end of its mark and of the line.
+pub const REFUSAL_END: &str = " 0v10\"/></svg></div>\n";
+
+/// Appends what a row is of.
+#[tactic(auto, unfolding(crate::specs::ChartText::name_text))]
+fn push_name(page: &mut Page, row: &Row) -> Result<(), AllocError>
+    ensures { OnOk result (page.new ≡ page.old ++ name_text row.now) }
+{
+    page.number(u64::from(row.id))?;
+    page.markup(SPACE)?;
+    page.digits(row.serial.number().to_be_bytes().as_slice())
+}
+
+/// Appends the front of a row's picture.
+#[tactic(auto, unfolding(crate::specs::ChartText::picture_front))]
+fn push_picture_front(page: &mut Page, slots: u16, row: &Row) -> Result<(), AllocError>
+    ensures { OnOk result (page.new ≡ page.old ++ picture_front slots row.now) }
+{
+    page.markup(PICTURE)?;
+    page.number(u64::from(slots))?;
+    page.markup(TITLE)?;
+    push_name(page, row)?;
+    page.markup(TITLE_END)
+}
+
+/// Appends the description of an accepted message's picture.
+#[tactic(auto, unfolding(crate::specs::ChartText::description))]
+fn push_description(page: &mut Page, row: &Row, outcome: &'static str) -> Result<(), AllocError>
+    ensures { OnOk result (page.new ≡ page.old ++ description row.now outcome.now) }
+{
+    page.markup(FROM)?;
+    page.number(u64::from(row.start))?;
+    page.markup(TO)?;
+    page.number(u64::from(row.end))?;
+    page.markup(WHOLE)?;
+    page.number(u64::from(row.completed))?;
+    page.markup(outcome)
+}
+
+/// Appends the bar of an accepted message.
+#[tactic(auto, unfolding(crate::specs::ChartText::bar))]
+fn push_bar(page: &mut Page, row: &Row) -> Result<(), AllocError>
+    ensures { OnOk result (page.new ≡ page.old ++ bar row.now) }
+{
+    page.markup(BAR)?;
+    page.number(u64::from(row.start))?;
+    page.markup(WIDTH)?;
+    page.number(u64::from(u32::from(row.end).saturating_sub(row.start)))?;
+    page.markup(BAR_END)
+}
+
+/// Appends the name of an accepted message and its category.
+#[tactic(auto, unfolding(crate::specs::ChartText::message_name))]
+fn push_message_name(
+    page: &mut Page,
+    row: &Row,
+    found: Option<KeptMessage>,
+) -> Result<(), AllocError>
+    ensures { OnOk result (page.new ≡ page.old ++ message_name row.now (option_map accepted_kept found)) }
+{
+    page.markup(LINE)?;
+    push_name(page, row)?;
+    page.markup(NAME_END)?;
+    page.markup(category_words(found))?;
+    page.markup(TEXT)
+}
+
+/// Appends what is said of an accepted message.
+#[tactic(auto, unfolding(crate::specs::ChartText::message_front))]
+fn push_message_front(
+    page: &mut Page,
+    row: &Row,
+    found: Option<KeptMessage>,
+    text: &str,
+) -> Result<(), AllocError>
+    ensures { OnOk result (page.new ≡ page.old
+        ++ message_front row.now (option_map accepted_kept found) text.now) }
+{
+    push_message_name(page, row, found)?;
+    page.text(text)?;
+    page.markup(TEXT_END)
+}
+
+/// Appends what is said of a refused order.
+#[tactic(auto, unfolding(crate::specs::ChartText::refusal_front))]
+fn push_refusal_front(page: &mut Page, row: &Row, cause: u8) -> Result<(), AllocError>
+    ensures { OnOk result (page.new ≡ page.old ++ refusal_front row.now cause) }
+{
+    page.markup(LINE)?;
+    push_name(page, row)?;
+    page.markup(REFUSED)?;
+    push_cause(page, cause)?;
+    page.markup(CAUSE_END)
+}
+
+/// Appends the description of a refused order's picture.
+#[tactic(auto, unfolding(crate::specs::ChartText::refusal_description))]
+fn push_refusal_description(page: &mut Page, row: &Row, cause: u8) -> Result<(), AllocError>
+    ensures { OnOk result (page.new ≡ page.old ++ refusal_description row.now cause) }
+{
+    page.markup(REFUSED_AT)?;
+    page.number(u64::from(row.start))?;
+    page.markup(COLON)?;
+    push_cause(page, cause)
+}
+
+/// Appends the picture of a refused order.
+#[tactic(auto, unfolding(crate::specs::ChartText::refusal_picture))]
+fn push_refusal_picture(page: &mut Page, slots: u16, row: &Row, cause: u8) -> Result<(), AllocError>
+    ensures { OnOk result (page.new ≡ page.old ++ refusal_picture slots row.now cause) }
+{
+    push_picture_front(page, slots, row)?;
+    push_refusal_description(page, row, cause)?;
+    page.markup(REFUSAL)?;
+    page.number(u64::from(row.start))?;
+    page.markup(REFUSAL_END)
+}
+
+/// What the lines of a cell have in common: its record, what a handset shows of its blocks, and the messages that its
+/// log accepted.
+#[derive(Clone, Copy)]
+pub(crate) struct CellContext<'a> {
+    pub(crate) run: &'a CellRecord,
+    pub(crate) shown: &'a [Shown],
+    pub(crate) messages: &'a [KeptMessage],
+}
+
+impl<'a> CellContext<'a> {
+    ghost use Rattle.chart.specs.LineSteps.{IsContext};
+
+    /// Appends the line of an accepted message.
+    fn push_message(
+        &self,
+        page: &mut Page,
+        row: &Row,
+        outcome: &'static str,
+    ) -> Result<(), AllocError>
+        requires { IsContext self.now }
+        ensures { OnOk result (page.new ≡ page.old ++ message_line self.now.run.now row.now
+            (accepted_named row.now.id row.now.serial self.now.run.now.log)
+            (text_shown (messages_of self.now.shown.now) row.now.id row.now.serial) outcome.now) }
+    {
+        let found = named(self.messages, row.id, row.serial.number());
+        push_message_front(page, row, found, text_shown(self.shown, row.id, row.serial))?;
+        push_picture_front(page, self.run.slots(), row)?;
+        push_description(page, row, outcome)?;
+        push_bar(page, row)?;
+        push_marks(page, self.run.air(), found)?;
+        page.markup(LINE_END)
+    }
+
+    /// Appends the line of a refused order.
+    fn push_refusal(&self, page: &mut Page, row: &Row, cause: u8) -> Result<(), AllocError>
+        ensures { OnOk result (page.new ≡ page.old
+            ++ refusal_line self.now.run.now.slots row.now cause) }
+    {
+        push_refusal_front(page, row, cause)?;
+        push_refusal_picture(page, self.run.slots(), row, cause)
+    }
+
+    /// Appends the line of a row.
+    fn push_line(&self, page: &mut Page, row: &Row) -> Result<(), AllocError>
+        requires { IsContext self.now }
+        ensures { OnOk result (page.new ≡ page.old
+            ++ line_of self.now.run.now (messages_of self.now.shown.now) row.now) }
+    {
+        match row.shown {
+            Showing::Yes => self.push_message(page, row, SHOWN),
+            Showing::No => self.push_message(page, row, NOT_SHOWN),
+            Showing::Refused(cause) => self.push_refusal(page, row, cause),
+        }
+    }
+
+    /// Appends the lines of rows.
+    pub(crate) fn push_lines(&self, page: &mut Page, rows: &[Row]) -> Result<(), AllocError>
+        requires { IsContext self.now }
+        ensures { OnOk result (page.new ≡ page.old
+            ++ flat_map (line_of self.now.run.now (messages_of self.now.shown.now)) rows.now) }
+    {
+        for row in rows {
+            self.push_line(page, row)?;
+        }
+        Ok(())
+    }
+}

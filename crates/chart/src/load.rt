@@ -1,0 +1,151 @@
+//! The loads that a cell has reserved, over the slots of its run.
+
+ghost use Rattle.std.specs.Prelude.{◌≡◌, ◌+◌, ◌<◌, ◌≤◌, ◌++◌, ℕ, List, length, slice_index, IfOk, OnOk};
+ghost use Rattle.std.specs.List.{flat_map, range_with_len};
+ghost use Rattle.admission.specs.declared.measure.TheConstants.{SCALE};
+ghost use Rattle.bsc_table.specs.Claim.{Claim, claim_at, share_at};
+ghost use Rattle.bsc_table.specs.Record.{Record, claim_of, claims_in, claims_of};
+ghost use Rattle.bsc_table.specs.Room.{ClaimsFit};
+ghost use Rattle.chart.specs.ChartText.{load_end, load_front, load_picture};
+ghost use Rattle.chart.specs.Kept.{accepted_kept, all_kept, HavePeriods};
+ghost use Rattle.chart.specs.Load.{AreLoads, step_at, step_text};
+ghost use Rattle.chart.specs.Message.{end_within};
+
+use crate::kept::KeptMessage;
+use crate::page::Page;
+use admission::SCALE;
+use std::alloc::{AllocError, Global};
+
+/// The front of the picture of the loads, up to its width.
+pub const LOAD: &str = "<div class=\"line\"><p>Reserved load</p>\n<svg class=\"loads\" viewBox=\"0 0 ";
+
+/// What comes after its width: it is as high as [`SCALE`], and the line begins at the bottom.
+pub const LOAD_BOX: &str = " 232792560\" preserveAspectRatio=\"none\" role=\"img\"><title>Reserved load</title>\n\
+    <path class=\"load\" d=\"M0 232792560";
+
+/// What comes before a slot to which the line goes on.
+pub const TO_SLOT: &str = "H";
+
+/// What comes before a height to which it goes on.
+pub const TO_LOAD: &str = "V";
+
+/// The end of the picture.
+pub const LOAD_END: &str = "V232792560z\"/></svg></div>\n";
+
+/// The first slot after a message's reservation, or after the run.
+pub(crate) fn end_within(kept: &KeptMessage, slots: usize) -> usize
+    requires { 0 < kept.now.period }
+    ensures end { result ≡ end_within slots (accepted_kept kept.now).message }
+    ensures within { result ≤ slots }
+{
+    match kept.end() {
+        None => slots,
+        Some(end) => end.min(slots as u64) as usize,
+    }
+}
+
+/// What a message reserves at a slot of its reservation.
+fn share_at(kept: &KeptMessage, slot: usize) -> u64
+    requires { 0 < kept.now.period }
+    ensures { result ≡ share_at slot (claim_of (accepted_kept kept.now)) }
+{
+    if (slot as u64) < u64::from(kept.start) {
+        kept.excess
+    } else {
+        kept.load()
+    }
+}
+
+/// Adds what a message reserves at each slot to what others do.
+fn add_claim(loads: &mut [u64], kept: &KeptMessage)
+    requires period { 0 < kept.now.period }
+    requires room { (slot : ℕ) → slot < length loads.old
+        → slice_index loads.old slot + claim_at slot (claim_of (accepted_kept kept.now)) ≤ SCALE }
+    ensures same { length loads.new ≡ length loads.old }
+    ensures each { (slot : ℕ) → slot < length loads.old
+        → slice_index loads.new slot ≡ slice_index loads.old slot
+        + claim_at slot (claim_of (accepted_kept kept.now)) }
+{
+    let end = end_within(kept, loads.len());
+    for slot in usize::from(kept.accepted)..end {
+        loads[slot] += share_at(kept, slot);
+    }
+}
+
+/// The loads that these messages have reserved at each slot of a run, in parts of `SCALE`. The only error is out of
+/// memory.
+pub(crate) fn loads_of(
+    alloc: Global,
+    all: &[KeptMessage],
+    slots: u16,
+) -> Result<Vec<u64>, AllocError>
+    requires periods { HavePeriods all.now }
+    requires fit { ClaimsFit (claims_of (all_kept all.now)) }
+    ensures slots { IfOk result (λ loads. length loads.items ≡ slots) }
+    ensures loads { IfOk result (λ loads. AreLoads (claims_of (all_kept all.now)) loads.items) }
+{
+    let mut loads = vec![in alloc; 0; usize::from(slots)]?;
+    for kept in all {
+        if kept.reserves() {
+            add_claim(loads.as_mut_slice(), kept);
+        }
+    }
+    Ok(loads)
+}
+
+/// Appends the line at a slot.
+fn push_step(page: &mut Page, slot: usize, before: u64, load: u64) -> Result<(), AllocError>
+    ensures { OnOk result (page.new ≡ page.old ++ step_text slot before load) }
+{
+    if load == before {
+        return Ok(());
+    }
+    page.markup(TO_SLOT)?;
+    page.number(slot as u64)?;
+    page.markup(TO_LOAD)?;
+    page.number(SCALE.saturating_sub(load))
+}
+
+/// Appends the line over all slots.
+fn push_line(page: &mut Page, loads: &[u64]) -> Result<(), AllocError>
+    ensures { OnOk result ((claims : List Claim) → AreLoads claims loads.now
+        → page.new ≡ page.old ++ flat_map (step_at claims) (range_with_len 0 (length loads.now))) }
+{
+    let mut before = 0;
+    for (slot, load) in loads.iter().enumerate() {
+        push_step(page, slot, before, *load)?;
+        before = *load;
+    }
+    Ok(())
+}
+
+/// Appends the front of the picture of the loads.
+#[tactic(auto, unfolding(crate::specs::ChartText::load_front))]
+fn push_front(page: &mut Page, slots: u16) -> Result<(), AllocError>
+    ensures { OnOk result (page.new ≡ page.old ++ load_front slots) }
+{
+    page.markup(LOAD)?;
+    page.number(u64::from(slots))?;
+    page.markup(LOAD_BOX)
+}
+
+/// Appends the end of the picture of the loads.
+#[tactic(auto, unfolding(crate::specs::ChartText::load_end))]
+fn push_end(page: &mut Page, slots: u16) -> Result<(), AllocError>
+    ensures { OnOk result (page.new ≡ page.old ++ load_end slots) }
+{
+    page.markup(TO_SLOT)?;
+    page.number(u64::from(slots))?;
+    page.markup(LOAD_END)
+}
+
+/// Appends the picture of the loads that are reserved at each slot.
+pub(crate) fn push_loads(page: &mut Page, slots: u16, loads: &[u64]) -> Result<(), AllocError>
+    requires { length loads.now ≡ slots }
+    ensures { OnOk result ((r : Record) → r.slots ≡ slots → AreLoads (claims_in r.log) loads.now
+        → page.new ≡ page.old ++ load_picture r) }
+{
+    push_front(page, slots)?;
+    push_line(page, loads)?;
+    push_end(page, slots)
+}

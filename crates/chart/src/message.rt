@@ -1,0 +1,106 @@
+//! What is drawn of an accepted message beside its row.
+
+ghost use Rattle.std.specs.Prelude.{◌≡◌, ◌++◌, ◌<◌, IfSome, OnOk, Some, false, length};
+ghost use Rattle.std.specs.Option.{option_map, option_map_or};
+ghost use Rattle.scheduler.specs.Pages.{airs_page};
+ghost use Rattle.bsc_table.specs.Book.{air_pairs, aired_pair};
+ghost use Rattle.handset.specs.Keeping.{messages_of};
+ghost use Rattle.chart.specs.Kept.{accepted_kept};
+ghost use Rattle.chart.specs.Message.{category_words, mark_at, marks_of, text_shown};
+
+use crate::kept::KeptMessage;
+use crate::load::end_within;
+use crate::page::Page;
+use bsc_table::{Aired, Category};
+use cbs_page::Serial;
+use handset::Shown;
+use std::alloc::AllocError;
+
+/// The high category.
+pub const HIGH: &str = "high";
+
+/// The normal category.
+pub const NORMAL: &str = "normal";
+
+/// Background.
+pub const BACKGROUND: &str = "background";
+
+/// What comes before the slot of a mark.
+pub const MARK: &str = "M";
+
+/// What comes after it: the mark is drawn downwards.
+pub const MARK_END: &str = " 0v10";
+
+/// The category of a message in words; nothing of none.
+pub(crate) fn category_words(found: Option<KeptMessage>) -> &'static str
+    ensures { result.now ≡ category_words (option_map accepted_kept found) }
+{
+    match found {
+        None => "",
+        Some(kept) => match kept.category {
+            Category::High => HIGH,
+            Category::Normal => NORMAL,
+            Category::Background => BACKGROUND,
+        },
+    }
+}
+
+/// The text that a handset shows of a message, if it shows one.
+pub(crate) fn text_shown(shown: &[Shown], id: u16, serial: Serial) -> &str
+    ensures { result.now ≡ text_shown (messages_of shown.now) id serial }
+{
+    for message in shown {
+        if message.id == id && message.serial == serial {
+            return message.text.as_str();
+        }
+    }
+    ""
+}
+
+/// Whether a slot airs the last page of a message.
+fn is_last_page(aired: Option<Aired>, kept: &KeptMessage) -> bool
+    ensures { result ≡ option_map_or (airs_page kept.now.entry kept.now.pages) (Some (aired_pair aired)) false }
+{
+    match aired {
+        None => false,
+        Some(aired) => aired.entry == kept.entry && aired.page == kept.pages,
+    }
+}
+
+/// Appends the mark of a slot, if it has one.
+fn push_mark(
+    page: &mut Page,
+    air: &[Option<Aired>],
+    kept: &KeptMessage,
+    slot: usize,
+) -> Result<(), AllocError>
+    requires { slot < length air.now }
+    ensures { OnOk result (page.new ≡ page.old
+        ++ mark_at (air_pairs air.now) (accepted_kept kept.now).message slot) }
+{
+    if is_last_page(air[slot], kept) {
+        page.markup(MARK)?;
+        page.number(slot as u64 + 1)?;
+        page.markup(MARK_END)?;
+    }
+    Ok(())
+}
+
+/// Appends the marks of a message: one for each broadcast, after the slot that makes it whole.
+pub(crate) fn push_marks(
+    page: &mut Page,
+    air: &[Option<Aired>],
+    found: Option<KeptMessage>,
+) -> Result<(), AllocError>
+    requires { IfSome found (λ k. 0 < k.period) }
+    ensures { OnOk result (page.new ≡ page.old
+        ++ marks_of (length air.now) (air_pairs air.now) (option_map accepted_kept found)) }
+{
+    let Some(kept) = found else {
+        return Ok(());
+    };
+    for slot in kept.start as usize..end_within(&kept, air.len()) {
+        push_mark(page, air, &kept, slot)?;
+    }
+    Ok(())
+}

@@ -1,0 +1,116 @@
+//! Runs of `chart` on books. What is expected of bars, marks and refusals is what the rows of `report` say of these books,
+//! which `books` has, and loads are those of a message's pages over its period, in parts of 232,792,560.
+
+use crate::rows::expect_rows;
+use std::test::Fail;
+
+const CHART: &str = "
+# an alert that takes up a cell, and one that finds no room; the first is stopped, and the cell is free again
+in cell,1,1
+in write,0,a,1,0,1,en,0,1,0,*,One
+in write,1,b,2,0,2,en,0,1,0,*,Two
+in stop,3,a,*
+args chart --slots 4
+run -> 0
+out -> <!DOCTYPE html>
+past <p>A run of 4 slots of 1.883 s, 0.1 minutes. -> yes
+past it is full.</p> -> yes
+out -> <details open>
+out -> <summary>Cell 1-1</summary>
+out -> <div class=\"line\"><p><b>1 0010</b> <i>high</i> <bdi>One</bdi></p>
+out -> <svg viewBox=\"0 0 4 10\" preserveAspectRatio=\"none\" role=\"img\"><title>1 0010</title>
+out -> <desc>from slot 0 to slot 3, whole broadcasts: 3, shown</desc>
+out -> <rect class=\"bar\" height=\"10\" x=\"0\" width=\"3\"/>
+out -> <path class=\"whole\" d=\"M1 0v10M2 0v10M3 0v10\"/></svg></div>
+out -> <div class=\"line\"><p><b>2 0020</b> refused: BSC capacity exceeded (06)</p>
+out -> <svg viewBox=\"0 0 4 10\" preserveAspectRatio=\"none\" role=\"img\"><title>2 0020</title>
+out -> <desc>refused at slot 1: BSC capacity exceeded (06)</desc>
+out -> <path class=\"refusal\" d=\"M1 0v10\"/></svg></div>
+out -> <div class=\"line\"><p>Reserved load</p>
+out -> <svg class=\"loads\" viewBox=\"0 0 4 232792560\" preserveAspectRatio=\"none\" role=\"img\"><title>Reserved load</title>
+out -> <path class=\"load\" d=\"M0 232792560H0V0H3V232792560H4V232792560z\"/></svg></div>
+out -> <div class=\"line\"><p>Slot, time</p><p class=\"axis\">
+out -> <span>0<br>0.0 min</span>
+out -> <span>1<br>0.0 min</span>
+out -> <span>2<br>0.0 min</span>
+out -> <span>3<br>0.0 min</span>
+out -> <span>4<br>0.1 min</span>
+out -> </p></div>
+out -> </details>
+out -> </body>
+out -> </html>
+
+# the second cell alone: at slot 1 the first alert's period isn't over, and the one in its place has started; background
+# reserves nothing; the text means nothing to the page
+in cell,1,1
+in cell,1,2
+in write,0,a,4370,0,1,en,2,2,0,*,One
+in write,0,b,4371,0,2,en,1,2,0,1-2,Two
+in update,1,a,en,2,2,0,*,<script>alert(\"1\")</script> & 'so'
+args chart --slots 4 --cell 1-2 --workers 2
+run -> 0
+past it is full.</p> -> yes
+out -> <details open>
+out -> <summary>Cell 1-2</summary>
+past <b>4370 0010</b> <i>normal</i> <bdi>One</bdi> -> yes
+past <rect class=\"bar\" height=\"10\" x=\"0\" width=\"1\"/> -> yes
+past <b>4371 0020</b> <i>background</i> <bdi>Two</bdi> -> yes
+past <rect class=\"bar\" height=\"10\" x=\"0\" width=\"4\"/> -> yes
+past <i>normal</i> <bdi>&lt;script&gt;alert(&quot;1&quot;)&lt;/script&gt; &amp; &#39;so&#39;</bdi> -> yes
+past <rect class=\"bar\" height=\"10\" x=\"1\" width=\"3\"/> -> yes
+past d=\"M0 232792560H0V116396280H1V0H2V116396280H4V232792560z\" -> yes
+past </details> -> yes
+out -> </body>
+out -> </html>
+
+# the update finds no room until the first alert's period is over at slot 4: till then it holds what it has over that
+# one, a quarter of the cell
+in cell,1,1
+in write,0,a,1,0,1,en,2,4,0,*,One
+in write,0,b,2,0,2,en,2,2,0,*,Two
+in update,1,a,en,2,2,0,*,Three
+args chart --slots 8
+run -> 0
+past <bdi>Three</bdi> -> yes
+past <rect class=\"bar\" height=\"10\" x=\"4\" width=\"4\"/> -> yes
+past d=\"M0 232792560H0V58198140H1V0H8V232792560z\" -> yes
+past </html> -> yes
+
+# a cell that the book doesn't have, and a book without cells
+in cell,1,1
+args chart --slots 4 --cell=1-2
+run -> 0
+past it is full.</p> -> yes
+out -> </body>
+out -> </html>
+args chart --slots 1
+in-none
+run -> 0
+past A run of 1 slots of 1.883 s, 0.0 minutes -> yes
+past it is full.</p> -> yes
+out -> </body>
+out -> </html>
+
+in cell,1
+fails -> 1 warnc: row 1: columns
+in cell,1,1
+args chart --slots 2
+reads 0 9 -> 3 warnc: read failed
+writer 15 1
+run -> 3
+err -> warnc: write failed
+out -> <!DOCTYPE html>
+args chart --slots 4 --cell 1
+usage -> 2 error:
+args chart --slots 4 --cell 1-2-3
+usage -> 2 warnc:
+args chart --slots 4 --cell 1-65536
+usage -> 2 error:
+args chart --cell 1-2
+usage -> 2 error:
+";
+
+#[test]
+fn books_give_charts(rt: HostRuntime) -> Result<(), Fail> {
+    expect_rows(&rt, CHART)
+}
