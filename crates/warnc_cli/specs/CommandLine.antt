@@ -154,6 +154,13 @@ pub record AsksForChart (words : List (List ℕ)) (slots : ℕ) (wanted : Option
   pub wanted_given : GivesWanted words wanted
   pub workers_given : GivesThreads words (codes "--workers") workers
 
+-- the words ask for `verify` with this number of slots, of octets of the book, and of workers
+pub record AsksForVerify (words : List (List ℕ)) (slots octets workers : ℕ) : Type 0 where
+  pub command : slice_get words 1 ≡ Some (codes "verify")
+  pub slots_given : GivesSlots words slots
+  pub book_given : GivesNumber words (codes "--book-octets") octets
+  pub workers_given : GivesThreads words (codes "--workers") workers
+
 -- the words ask for `live` with this number of slots, of sessions and of workers
 pub record AsksForLive (words : List (List ℕ)) (slots sessions workers : ℕ) : Type 0 where
   pub command : slice_get words 1 ≡ Some (codes "live")

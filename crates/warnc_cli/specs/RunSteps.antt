@@ -6,10 +6,11 @@ use Rattle.device_ends.specs.Sink.{sink_failed}
 use Rattle.device_ends.specs.declared.reading.Source.{Source}
 use Rattle.device_ends.specs.declared.writing.Sink.{Sink}
 use Rattle.warnc_cli.specs.CommandLine.{AsksForChart, AsksForCompile, AsksForLive, AsksForPage, AsksForPcap}
-use Rattle.warnc_cli.specs.CommandLine.{AsksForRead, AsksForReport, AsksForTape}
+use Rattle.warnc_cli.specs.CommandLine.{AsksForRead, AsksForReport, AsksForTape, AsksForVerify}
 use Rattle.warnc_cli.specs.Status.{OneHasFailed, status_of_book_fault}
 use Rattle.warnc_cli.specs.declared.command.Task.{Task}
 use Rattle.warnc_cli.specs.declared.command.Task.TheVariants.{Chart, Compile, Live, Page, Pcap, Read, Report, Tape}
+use Rattle.warnc_cli.specs.declared.command.Task.TheVariants.{Verify}
 use Rattle.order_desk.specs.declared.fault.DeskFault.{DeskFault}
 use Rattle.order_desk.specs.declared.fault.DeskFault.TheVariants as desk
 use Rattle.order_desk.specs.declared.settle.SettleFault.{SettleFault}
@@ -26,6 +27,10 @@ use Rattle.warnc_air.specs.declared.pcap.PcapFault.{PcapFault}
 use Rattle.warnc_air.specs.declared.pcap.PcapFault.TheVariants as pcap
 use Rattle.warnc_air.specs.declared.tape.TapeCommandFault.{TapeCommandFault}
 use Rattle.warnc_air.specs.declared.tape.TapeCommandFault.TheVariants as tape
+use Rattle.handset.specs.declared.tape.TapeFault.{TapeFault}
+use Rattle.handset.specs.declared.tape.TapeFault.TheVariants as tapes
+use Rattle.warnc_verify.specs.declared.fault.VerifyFault.{VerifyFault}
+use Rattle.warnc_verify.specs.declared.fault.VerifyFault.TheVariants as verify
 
 -- the words ask for what `order` says
 abbrev pub IsTaskOf : (words : List (List ℕ)) → Task → Type 0
@@ -35,6 +40,7 @@ IsTaskOf words (Pcap settings) = AsksForPcap words settings
 IsTaskOf words (Tape wanted) = AsksForTape words wanted
 IsTaskOf words (Compile slots workers) = AsksForCompile words slots workers.number
 IsTaskOf words (Report slots workers) = AsksForReport words slots workers.number
+IsTaskOf words (Verify slots octets workers) = AsksForVerify words slots octets workers.number
 IsTaskOf words (Chart slots wanted workers) = AsksForChart words slots wanted workers.number
 IsTaskOf words (Live slots sessions workers) = AsksForLive words slots sessions.number workers.number
 
@@ -92,6 +98,22 @@ status_of_report_fault report.Cells = 1
 status_of_report_fault report.WriteFailed = 3
 status_of_report_fault report.Refused = 4
 
+-- the status of a fault of tapes
+abbrev pub status_of_tapes_fault : TapeFault → ℕ
+status_of_tapes_fault tapes.Short = 1
+status_of_tapes_fault tapes.Long = 1
+status_of_tapes_fault tapes.ReadFailed = 3
+status_of_tapes_fault tapes.Refused = 4
+
+-- the status of a fault of `verify`: that of the run's or of the tapes' fault, and 1 if there are differences
+abbrev pub status_of_verify_fault : VerifyFault → ℕ
+status_of_verify_fault (verify.Run f) = status_of_run_fault f
+status_of_verify_fault verify.ShortBook = 1
+status_of_verify_fault (verify.Tapes f) = status_of_tapes_fault f
+status_of_verify_fault (verify.Differences count) = 1
+status_of_verify_fault verify.Refused = 4
+status_of_verify_fault verify.WriteFailed = 3
+
 -- what a status says of a sink: `old` and `new` are the sink before and after, and `before` and `after` what its writer
 -- holds
 pub record IsStatusOfSink {W : Type 0} (status : ℕ) (old new : Sink W) (before after : Option (List ℕ)) : Type 0 where
@@ -111,4 +133,17 @@ pub record IsRunBetween {R W : Type 0} (status : ℕ) (source : Source R) (old n
   -- it is 3 only if one of the ends has failed
   pub device : status ≡ 3 → OneHasFailed source new
   -- and always if one has, if the sink had not failed before
+  pub failed : sink_failed old ≡ false → OneHasFailed source new → status ≡ 3
+
+-- the same of `verify`, which writes the differences with status 1
+pub record IsVerifyRunBetween {R W : Type 0} (status : ℕ) (source : Source R) (old new : Sink W)
+    (before after : Option (List ℕ)) : Type 0 where
+  pub statuses : status ≤ 4
+  -- with 2 and 4 nothing was written, and the sink is as it was
+  pub nothing_written : status ≢ 0 → status ≢ 1 → status ≢ 3 → Keeps before after
+  pub untouched : status ≢ 0 → status ≢ 1 → status ≢ 3 → new ≡ old
+  -- it is no mistake of the words
+  pub understood : status ≢ 2
+  -- it is 3 exactly if one of the ends has failed
+  pub device : status ≡ 3 → OneHasFailed source new
   pub failed : sink_failed old ≡ false → OneHasFailed source new → status ≡ 3

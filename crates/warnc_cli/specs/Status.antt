@@ -1,6 +1,7 @@
 -- The program's statuses. Own.
-use Rattle.std.specs.Prelude.{◌≡◌, ℕ, ◌<◌, ◌==◌, ◌⊎◌, true, if◌then◌else◌, List, length, Option, IfSome}
-use Rattle.std.specs.Io.KnownBytes.{Appends}
+use Rattle.std.specs.Prelude.{◌≡◌, ℕ, ◌<◌, ◌==◌, ◌⊎◌, true, if◌then◌else◌, List, length, Option, Some, IfSome}
+use Rattle.std.specs.Prelude.{codes, drop, slice_get, take}
+use Rattle.std.specs.Io.KnownBytes.{Appends, Keeps}
 use Rattle.device_ends.specs.Moves.{WritesOutput}
 use Rattle.device_ends.specs.Sink.{sink_failed}
 use Rattle.device_ends.specs.Source.{source_failed}
@@ -18,8 +19,10 @@ use Rattle.alert_book.specs.declared.fault.BookFault.{BookFault}
 use Rattle.alert_book.specs.declared.fault.BookFaultKind.{BookFaultKind}
 use Rattle.alert_book.specs.declared.fault.BookFaultKind.TheVariants as kinds
 use Rattle.warnc_cli.specs.CommandLine.{asks_for_text, AsksForChart, AsksForCompile, AsksForLive, AsksForPage}
-use Rattle.warnc_cli.specs.CommandLine.{AsksForPcap, AsksForRead, AsksForReport, AsksForTape}
+use Rattle.warnc_cli.specs.CommandLine.{AsksForPcap, AsksForRead, AsksForReport, AsksForTape, AsksForVerify}
+use Rattle.verification.specs.declared.row.Row.{Row}
 use Rattle.warnc_run.specs.declared.fault.RunFault.{RunFault}
+use Rattle.warnc_verify.specs.Input.{DiffersBy, HasDifferences, IsVerified}
 use Rattle.cbsp_wire.specs.declared.message.Cell.{Cell}
 use Rattle.warnc_run.specs.Charted.{IsCharted}
 use Rattle.warnc_run.specs.Compiled.{IsCompiled, StopsRun}
@@ -70,6 +73,12 @@ IsNoBook input = (max_input < length input)
 abbrev pub IsNoRun : (slots parts : ℕ) (input : List ℕ) → Type 0
 IsNoRun slots parts input = IsNoBook input
     ⊎ ((book : Contents) × IsBook input book × ((fault : RunFault) × StopsRun book slots parts fault))
+
+-- the input has no tapes that keep its book: it is shorter than the book is said to be, or the book is none or has no
+-- run, or what follows it is no whole tapes, or there is a difference
+abbrev pub IsNotVerified : (slots octets : ℕ) (input : List ℕ) → Type 0
+IsNotVerified slots octets input = (length input < octets) ⊎ (IsNoRun slots 1 (take octets input)
+    ⊎ (IsNoTapes (drop octets input) ⊎ ((rows : List Row) × DiffersBy slots octets rows input × (0 < length rows))))
 
 -- the input is refused: it is too long for a capture, or no capture file that has a tape
 abbrev pub IsNoAir : Wanted → (input : List ℕ) → Type 0
@@ -147,11 +156,21 @@ pub record WroteChart (words : List (List ℕ)) (input old new : Option (List �
   pub asked : AsksForChart words slots wanted workers
   pub wrote : WritesOutput (IsCharted slots wanted) input old new
 
+-- the words ask for `verify`, and what was written is the table without a difference, of a book of as many octets as
+-- the words say and of the tapes after it
+pub record WroteVerified (words : List (List ℕ)) (input old new : Option (List ℕ)) : Type 0 where
+  pub slots : ℕ
+  pub octets : ℕ
+  pub workers : ℕ
+  pub asked : AsksForVerify words slots octets workers
+  pub wrote : WritesOutput (IsVerified slots octets) input old new
+
 abbrev pub WroteWhatIsAsked : (words : List (List ℕ)) (input old new : Option (List ℕ)) → Type 0
 WroteWhatIsAsked words input old new = WroteText words old new ⊎
     (WrotePages words input old new ⊎ (WroteTable words input old new ⊎ (WroteCapture words input old new
     ⊎ (WroteTape words input old new ⊎ (WroteTapes words input old new
-    ⊎ (WroteLiveTapes words input old new ⊎ (WroteReport words input old new ⊎ WroteChart words input old new)))))))
+    ⊎ (WroteLiveTapes words input old new ⊎ (WroteReport words input old new
+    ⊎ (WroteChart words input old new ⊎ WroteVerified words input old new))))))))
 
 -- What status 1 says: the command that the words ask for refuses the input.
 
@@ -210,11 +229,37 @@ pub record RefusesChartedAlerts (words : List (List ℕ)) (input : Option (List 
   pub asked : AsksForChart words slots wanted workers
   pub refused : IfSome input (IsNoRun slots 1)
 
+-- the words ask for `verify`, and the input has a fault or a difference
+pub record RefusesVerified (words : List (List ℕ)) (input : Option (List ℕ)) : Type 0 where
+  pub slots : ℕ
+  pub octets : ℕ
+  pub workers : ℕ
+  pub asked : AsksForVerify words slots octets workers
+  pub refused : IfSome input (IsNotVerified slots octets)
+
 abbrev pub RefusesInput : (words : List (List ℕ)) (input : Option (List ℕ)) → Type 0
 RefusesInput words input =
     RefusesText words input ⊎ (RefusesTapes words input ⊎ (RefusesCapture words input ⊎ (RefusesAir words input
     ⊎ (RefusesAlerts words input ⊎ (RefusesLiveAlerts words input ⊎ (RefusesReportedAlerts words input
-    ⊎ RefusesChartedAlerts words input))))))
+    ⊎ (RefusesChartedAlerts words input ⊎ RefusesVerified words input)))))))
+
+-- What may be written with a status.
+
+-- something may be written with 0 and 3, and with 1 by `verify` alone
+abbrev pub MayWrite : (words : List (List ℕ)) → (status : ℕ) → Type 0
+MayWrite words status =
+    (status ≡ 0) ⊎ ((status ≡ 3) ⊎ ((status ≡ 1) × (slice_get words 1 ≡ Some (codes "verify"))))
+
+-- the words ask for `verify`, and what was written is the table of the differences, of which there is one at least
+pub record WroteDifferences (words : List (List ℕ)) (input old new : Option (List ℕ)) : Type 0 where
+  pub slots : ℕ
+  pub octets : ℕ
+  pub workers : ℕ
+  pub asked : AsksForVerify words slots octets workers
+  pub wrote : WritesOutput (HasDifferences slots octets) input old new
+
+abbrev pub WroteNoneOrDifferences : (words : List (List ℕ)) (input old new : Option (List ℕ)) → Type 0
+WroteNoneOrDifferences words input old new = Keeps old new ⊎ WroteDifferences words input old new
 
 -- one of the two ends has failed
 abbrev pub OneHasFailed : {R W : Type 0} → Source R → Sink W → Type 0

@@ -54,6 +54,15 @@ pub enum Task<'a> {
         /// How many workers play the cells and make their tapes.
         workers: Workers,
     },
+    /// `verify`.
+    Verify {
+        /// How many slots each cell's run has, at least 1.
+        slots: u16,
+        /// How many octets of the input are the book.
+        book_octets: u32,
+        /// How many workers play the cells.
+        workers: Workers,
+    },
     /// `chart`.
     Chart {
         /// How many slots each cell's run has, at least 1.
@@ -115,6 +124,11 @@ fn task_in<'a, S: AsStr>(words: &'a [S]) -> Option<Task<'a>>
         }),
         "report" => Some(Task::Report {
             slots: slots_in(words)?,
+            workers: workers_in(words)?,
+        }),
+        "verify" => Some(Task::Verify {
+            slots: slots_in(words)?,
+            book_octets: book_octets_in(words)?,
             workers: workers_in(words)?,
         }),
         "chart" => Some(Task::Chart {
@@ -262,6 +276,13 @@ fn slots_in<S: AsStr>(words: &[S]) -> Option<u16>
     Some(slots)
 }
 
+/// The number of octets of the book that the words give.
+fn book_octets_in<S: AsStr>(words: &[S]) -> Option<u32>
+    ensures { IfSome result (GivesNumber (map S.text words.now) (codes "--book-octets")) }
+{
+    value_of(words, "--book-octets")?.parse().ok()
+}
+
 /// The number of workers that the words give, 1 if they give none.
 fn workers_in<S: AsStr>(words: &[S]) -> Option<Workers>
     ensures { IfSome result (λ workers.
@@ -369,7 +390,8 @@ fn warnc<'a>(alloc: Global) -> Result<Command<'a>, AllocError> {
         .subcommand(pcap(alloc)?)?
         .subcommand(read(alloc))?
         .subcommand(report(alloc)?)?
-        .subcommand(tape(alloc)?)
+        .subcommand(tape(alloc)?)?
+        .subcommand(verify(alloc)?)
 }
 
 /// The command line of `read`.
@@ -507,6 +529,31 @@ fn live<'a>(alloc: Global) -> Result<Command<'a>, AllocError> {
         .arg(slots(alloc))?
         .arg(sessions(alloc))?
         .arg(workers(alloc))
+}
+
+/// The command line of `verify`.
+fn verify<'a>(alloc: Global) -> Result<Command<'a>, AllocError> {
+    Command::new(alloc, "verify")
+        .about(
+            "Reads a book of alerts and then tapes, also of another sender's, and writes what these have otherwise, as CSV",
+        )
+        .after_help(
+            "Example: cat book.csv tapes | warnc verify --slots 4096 --book-octets $(wc -c < book.csv)",
+        )
+        .arg(slots(alloc))?
+        .arg(book_octets(alloc))?
+        .arg(workers(alloc))
+}
+
+/// The option of the number of octets of the book.
+fn book_octets<'a>(alloc: Global) -> Arg<'a> {
+    option(
+        alloc,
+        "book-octets",
+        "OCTETS",
+        "How many octets of the input are the book, 0 to 16777216; the tapes follow them",
+    )
+    .value_parser(value_parser!(u32).range(0..=16777216))
 }
 
 /// The option of the number of sessions.

@@ -13,9 +13,10 @@ ghost use Rattle.gsmtap.specs.Capture.{IsCapture};
 ghost use Rattle.gsmtap.specs.TapeOfCapture.{IsTapeOfCapture};
 ghost use Rattle.warnc_inspect.specs.PageOutput.{IsPageOutput};
 ghost use Rattle.warnc_inspect.specs.ReadOutput.{IsReadOutput};
-ghost use Rattle.warnc_cli.specs.RunSteps.{IsRunBetween, IsStatusOfSink};
+ghost use Rattle.warnc_verify.specs.Input.{HasDifferences, IsVerified};
+ghost use Rattle.warnc_cli.specs.RunSteps.{IsRunBetween, IsStatusOfSink, IsVerifyRunBetween};
 ghost use Rattle.warnc_cli.specs.Status.{IsNoAir, IsNoRun, IsNoTapes, IsRefused, OneHasFailed, RefusesInput};
-ghost use Rattle.warnc_cli.specs.Status.{WritesSome};
+ghost use Rattle.warnc_cli.specs.Status.{IsNotVerified, MayWrite, WritesSome, WroteNoneOrDifferences};
 ghost use Rattle.warnc_cli.specs.Status.{WroteWhatIsAsked};
 
 use crate::command::{PageOptions, Task, asks_for_text, task_of};
@@ -37,6 +38,7 @@ use warnc_inspect::page::page_stream;
 use warnc_inspect::read::read_stream;
 use warnc_run::{ReportRunFault, Sessions, Workers};
 use warnc_run::{chart_stream, compile_stream, live_stream, report_stream};
+use warnc_verify::verify_input;
 
 /// Runs the command that the words ask for (the first is the program's name), from a reader to a writer, and returns
 /// the status: 0 done, 1 refused input, 2 command line, 3 device, 4 memory. A fault is one line for `faults`, `warnc: `
@@ -58,7 +60,8 @@ pub fn run<T: AllocGlobal + Threads + Wait + Sync, S: AsStr, R: Read, W: Write, 
     run_between(rt, words, &mut source, &mut sink, faults)
 }
 
-/// The same, between two ends. With status 0 what the words ask for is written, with 1, 2 and 4 nothing is. That is one
+/// The same, between two ends. With status 0 what the words ask for is written, with 2 and 4 nothing is, and with 1 the
+/// differences, if the words ask for `verify` and there are some, and else nothing. That is one
 /// octet at least, but for `compile` and `live`: a book without cells has no tapes.
 pub fn run_between<T: AllocGlobal + Threads + Wait + Sync, S: AsStr, R: Read, W: Write, F: Write>(
     rt: &T,
@@ -72,9 +75,12 @@ pub fn run_between<T: AllocGlobal + Threads + Wait + Sync, S: AsStr, R: Read, W:
     ensures wrote { result ≡ DONE → slice_get (map S.text words.now) 1 ≢ Some (codes "compile")
         → slice_get (map S.text words.now) 1 ≢ Some (codes "live")
         → WritesSome (W.contents (writer_of sink.old)) (W.contents (writer_of sink.new)) }
-    ensures nothing_written { (result ≢ DONE) → (result ≢ DEVICE)
+    ensures nothing_written { (MayWrite (map S.text words.now) result → ⊥)
         → Keeps (W.contents (writer_of sink.old)) (W.contents (writer_of sink.new)) }
-    ensures untouched { (result ≢ DONE) → (result ≢ DEVICE) → sink.new ≡ sink.old }
+    ensures untouched { (MayWrite (map S.text words.now) result → ⊥) → sink.new ≡ sink.old }
+    ensures differences { result ≡ REFUSED_INPUT
+        → WroteNoneOrDifferences (map S.text words.now) (R.remaining (reader_of source.old))
+        (W.contents (writer_of sink.old)) (W.contents (writer_of sink.new)) }
     ensures refused { result ≡ REFUSED_INPUT
         → RefusesInput (map S.text words.now) (R.remaining (reader_of source.old)) }
     ensures device { result ≡ DEVICE → OneHasFailed source.new sink.new }
@@ -96,6 +102,11 @@ pub fn run_between<T: AllocGlobal + Threads + Wait + Sync, S: AsStr, R: Read, W:
             Task::Report { slots, workers } => {
                 run_report(rt, slots, workers, source, sink, faults)
             }
+            Task::Verify {
+                slots,
+                book_octets,
+                workers,
+            } => run_verify(rt, slots, book_octets, workers, source, sink, faults),
             Task::Chart {
                 slots,
                 wanted,
@@ -303,6 +314,33 @@ fn run_chart<T: AllocGlobal + Threads + Wait + Sync, R: Read, W: Write, F: Write
         Ok(()) => DONE,
         Err(ReportRunFault::Run(fault)) => failed(&fault, faults),
         Err(ReportRunFault::Report(fault)) => failed(&fault, faults),
+    }
+}
+
+/// Runs `verify`, and returns the status.
+fn run_verify<T: AllocGlobal + Threads + Wait + Sync, R: Read, W: Write, F: Write>(
+    rt: &T,
+    slots: u16,
+    book_octets: u32,
+    workers: Workers,
+    source: &mut Source<R>,
+    sink: &mut Sink<W>,
+    faults: &mut F,
+) -> u8
+    ensures done { result ≡ DONE → WritesOutput (IsVerified slots book_octets)
+        (R.remaining (reader_of source.old)) (W.contents (writer_of sink.old)) (W.contents (writer_of sink.new)) }
+    ensures any_ends { IsVerifyRunBetween result source.new sink.old sink.new
+        (W.contents (writer_of sink.old)) (W.contents (writer_of sink.new)) }
+    ensures wrote { result ≡ DONE → WritesSome (W.contents (writer_of sink.old)) (W.contents (writer_of sink.new)) }
+    ensures refused { result ≡ REFUSED_INPUT → IfSome (R.remaining (reader_of source.old))
+        (IsNotVerified slots book_octets) }
+    ensures differences { result ≡ REFUSED_INPUT → Keeps (W.contents (writer_of sink.old))
+        (W.contents (writer_of sink.new)) ⊎ WritesOutput (HasDifferences slots book_octets)
+        (R.remaining (reader_of source.old)) (W.contents (writer_of sink.old)) (W.contents (writer_of sink.new)) }
+{
+    match verify_input(rt, source, sink, book_octets, slots, workers) {
+        Ok(()) => DONE,
+        Err(fault) => failed(&fault, faults),
     }
 }
 

@@ -2,11 +2,13 @@
 
 ghost use Rattle.std.specs.Prelude.{◌≡◌, ℕ};
 ghost use Rattle.warnc_cli.specs.RunSteps.{status_of_pcap_fault, status_of_read_fault, status_of_report_fault};
-ghost use Rattle.warnc_cli.specs.RunSteps.{status_of_run_fault, status_of_tape_fault};
+ghost use Rattle.warnc_cli.specs.RunSteps.{status_of_run_fault, status_of_tape_fault, status_of_tapes_fault};
+ghost use Rattle.warnc_cli.specs.RunSteps.{status_of_verify_fault};
 ghost use Rattle.warnc_cli.specs.Status.{status_of_book_fault, status_of_page_fault};
 
 use alert_book::{BookFault, BookFaultKind};
 use cbs_page::TextFault;
+use handset::TapeFault;
 use order_desk::{DeskFault, SettleFault};
 use parallel_compile::CompileFault;
 use report::ReportFault;
@@ -17,11 +19,12 @@ use warnc_air::tape::TapeCommandFault;
 use warnc_inspect::page::PageFault;
 use warnc_inspect::read::ReadCommandFault;
 use warnc_run::RunFault;
+use warnc_verify::VerifyFault;
 
 /// All was done, or help was written.
 pub const DONE: u8 = 0;
 
-/// The input is refused.
+/// The input is refused, or has a difference.
 pub const REFUSED_INPUT: u8 = 1;
 
 /// The words are no command line.
@@ -112,6 +115,32 @@ impl Fault for RunFault {
             RunFault::Settle(SettleFault::Refused) => MEMORY,
             RunFault::Compile(CompileFault::Refused) | RunFault::Refused => MEMORY,
             RunFault::Desk(_) | RunFault::Settle(_) | RunFault::Compile(_) => REFUSED_INPUT,
+        }
+    }
+}
+
+impl Fault for TapeFault {
+    ghost status_of = { status_of_tapes_fault };
+
+    fn status(&self) -> u8 {
+        match *self {
+            TapeFault::Short | TapeFault::Long => REFUSED_INPUT,
+            TapeFault::ReadFailed => DEVICE,
+            TapeFault::Refused => MEMORY,
+        }
+    }
+}
+
+impl Fault for VerifyFault {
+    ghost status_of = { status_of_verify_fault };
+
+    fn status(&self) -> u8 {
+        match *self {
+            VerifyFault::Run(fault) => fault.status(),
+            VerifyFault::Tapes(fault) => fault.status(),
+            VerifyFault::ShortBook | VerifyFault::Differences(_) => REFUSED_INPUT,
+            VerifyFault::Refused => MEMORY,
+            VerifyFault::WriteFailed => DEVICE,
         }
     }
 }
