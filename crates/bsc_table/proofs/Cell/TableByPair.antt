@@ -119,7 +119,7 @@ gap_where_parted pairs pair rising at parted apart = record {
   behind = λ k d le inside.
       let here = at_most le inside in
       let great = greatest _ (parted.behind at d (omega arith) here)
-          (λ equal. apart d here (same_pair _ pair equal)) in
+      (λ equal. apart d here (same_pair _ pair equal)) in
       greatest_from _ _ great
       (comparisons_rise compare_pairs compare_pairs-total pair_kept pairs rising pair at k d le inside);
 }
