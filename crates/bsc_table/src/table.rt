@@ -180,13 +180,37 @@ fn search(pairs: &[Pair], id: u16, serial: Serial) -> Result<usize, usize>
     }
 }
 
-/// The place of the message of a number, if there is one.
-fn place_of(messages: &[AcceptedMessage], entry: u16) -> Option<usize>
+/// Whether the message of a number stands at a place.
+fn is_at(messages: &[AcceptedMessage], place: usize, entry: u16) -> bool
+    ensures { result ≡ true → IsPlaceFound entry messages.now (Some place) }
+{
+    match messages.get(place) {
+        Some(message) => message.entry == entry,
+        None => false,
+    }
+}
+
+/// The place of the message of a number, if there is one, by a search.
+fn place_by_search(messages: &[AcceptedMessage], entry: u16) -> Option<usize>
     requires { AreRisingMessages messages.now }
     ensures { IsPlaceFound entry messages.now result }
 {
     match messages.binary_search_by_key(&entry, |message| message.entry) {
         Ok(at) => Some(at),
         Err(_) => None,
+    }
+}
+
+/// The place of the message of a number, if there is one. That of its number is looked at first, since it stands there
+/// if every command before it was accepted.
+fn place_of(messages: &[AcceptedMessage], entry: u16) -> Option<usize>
+    requires { AreRisingMessages messages.now }
+    ensures { IsPlaceFound entry messages.now result }
+{
+    let own = usize::from(entry);
+    if is_at(messages, own, entry) {
+        Some(own)
+    } else {
+        place_by_search(messages, entry)
     }
 }
