@@ -2,7 +2,7 @@
 
 ghost use Rattle.std.specs.Prelude.{◌≡◌, IfOk};
 ghost use Rattle.std.specs.Cmp.{partial_equiv_from_equiv};
-ghost use Rattle.cbsp_wire.specs.Same.{same_contents, same_contents_equiv};
+ghost use Rattle.cbsp_wire.specs.Same.{same_content, same_contents, same_contents_equiv};
 
 use cbs_page::{Content, Dcs, Serial};
 use std::alloc::{AllocError, Global};
@@ -147,13 +147,39 @@ impl Contents {
     }
 }
 
+/// Whether two contents are the same. Their octets are compared as slices, which looks at many of them at a time.
+fn is_same(one: &Content, other: &Content) -> bool
+    ensures { result ≡ same_content one.now other.now }
+{
+    one.used == other.used && one.octets.as_slice() == other.octets.as_slice()
+}
+
+/// Whether contents are the same, in the same order.
+fn are_same(one: &[Content], other: &[Content]) -> bool
+    ensures { result ≡ same_contents one.now other.now }
+{
+    let mut left = one;
+    let mut other_left = other;
+    'contents: while let [content, rest @ ..] = left {
+        let [other_content, other_rest @ ..] = other_left else {
+            return false;
+        };
+        if !is_same(content, other_content) {
+            return false;
+        }
+        left = rest;
+        other_left = other_rest;
+    }
+    other_left.is_empty()
+}
+
 impl PartialEq for Contents {
     ghost eq = { same_contents };
 
     ghost laws = { partial_equiv_from_equiv same_contents_equiv };
 
     fn eq(&self, other: &Contents) -> bool {
-        self.as_slice() == other.as_slice()
+        are_same(self.as_slice(), other.as_slice())
     }
 }
 
