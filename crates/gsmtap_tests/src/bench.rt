@@ -6,20 +6,22 @@
 //! `capture SLOTS CHANNEL` makes the capture of the octets, of `all` slots or the `used` ones, for channel 51 or 52;
 //! `tape LAC CI N` their tape of N slots, and `tape LAC CI N ADDRESS` that of the packets from the address of these
 //! eight digits. The answer is `as wanted`, or how many octets come out, or the fault. An output that is as wanted
-//! becomes the octets, and nothing more is wanted. `fronts N M LAC CI SLOTS` makes tapes of each front of N to M
+//! becomes the octets, and nothing more is wanted. After `scarce` hardly any memory is left to either, and more and more
+//! until that is enough: the answer is then `refused; ` and what came in the end. `fronts N M LAC CI SLOTS` makes tapes of each front of N to M
 //! octets, and the answer is that of all of them.
 
 use gsmtap::{Channel, Settings, Slots, Wanted, capture_of, tape_of_capture};
 use std::alloc::Global;
 use std::process::Abort;
 use std::test::Fail;
-use test_support::{Row, Words, octets_of};
+use test_support::{Drought, Row, Words, after_refusals, octets_of};
 
 /// The octets of a run, and those that have to come out.
 #[derive(Drop)]
 pub struct Bench {
     octets: Vec<u8>,
     wanted: Vec<u8>,
+    drought: Drought,
 }
 
 /// Adds the octets of words of hexadecimal digits, at most eight.
@@ -70,7 +72,10 @@ fn capture(alloc: Global, bench: &mut Bench, words: &mut Words) -> Result<String
         52 => Channel::Extended,
         _ => Channel::Basic,
     };
-    match capture_of(alloc, &bench.octets, Settings { channel, slots }) {
+    bench.drought.begin(alloc);
+    let outcome = capture_of(alloc, &bench.octets, Settings { channel, slots });
+    bench.drought.end();
+    match outcome {
         Ok(output) => judged(alloc, bench, output),
         Err(fault) => Ok(fault.to_string(alloc)?),
     }
@@ -91,11 +96,19 @@ fn wanted_in(words: &mut Words) -> Result<Wanted, Fail> {
 }
 
 /// The tape of octets, or the text of the fault.
-fn tape_in(alloc: Global, octets: &[u8], wanted: &Wanted) -> Result<Result<Vec<u8>, String>, Fail> {
+fn tape_in(
+    alloc: Global,
+    drought: &mut Drought,
+    octets: &[u8],
+    wanted: &Wanted,
+) -> Result<Result<Vec<u8>, String>, Fail> {
     if octets.len() > 1_000_000 {
         return Err(Fail::new("too many octets for a test"));
     }
-    match tape_of_capture(alloc, octets, wanted) {
+    drought.begin(alloc);
+    let outcome = tape_of_capture(alloc, octets, wanted);
+    drought.end();
+    match outcome {
         Ok(output) => Ok(Ok(output)),
         Err(fault) => Ok(Err(fault.to_string(alloc)?)),
     }
@@ -104,7 +117,7 @@ fn tape_in(alloc: Global, octets: &[u8], wanted: &Wanted) -> Result<Result<Vec<u
 /// Makes the tape of the octets.
 fn tape(alloc: Global, bench: &mut Bench, words: &mut Words) -> Result<String, Fail> {
     let wanted = wanted_in(words)?;
-    match tape_in(alloc, &bench.octets, &wanted)? {
+    match tape_in(alloc, &mut bench.drought, &bench.octets, &wanted)? {
         Ok(output) => judged(alloc, bench, output),
         Err(text) => Ok(text),
     }
@@ -117,7 +130,8 @@ fn fronts(alloc: Global, bench: &mut Bench, words: &mut Words) -> Result<String,
     let mut all = String::new(alloc);
     for length in first..=last {
         let front = bench.octets.get(..usize::from(length));
-        let text = match tape_in(alloc, front.unwrap_or(&bench.octets), &wanted)? {
+        let front = front.unwrap_or(&bench.octets);
+        let text = match tape_in(alloc, &mut bench.drought, front, &wanted)? {
             Ok(_) => String::from_str(alloc, "a tape")?,
             Err(text) => text,
         };
@@ -145,16 +159,27 @@ fn done(alloc: Global, bench: &mut Bench, verb: &str, words: &mut Words) -> Resu
     Ok(String::new(alloc))
 }
 
-/// Expects what a row says. Its words are all read.
-fn expect_row(rt: &impl Abort, alloc: Global, bench: &mut Bench, row: Row) -> Result<(), Fail> {
-    let mut words = Words::of(row.action);
-    let verb = words.word();
-    let found = done(alloc, bench, verb, &mut words)?;
-    assert_eq!(rt; found.as_str(), row.wanted, "{}", row.action);
-    if words.word().is_empty() {
-        return Ok(());
+/// What comes of an action whose words are all read, with more and more memory until that is enough.
+fn outcome(alloc: Global, bench: &mut Bench, action: &str) -> Result<String, Fail> {
+    for refused in 0..Drought::MOST {
+        let mut words = Words::of(action);
+        let verb = bench.drought.verb(&mut words, refused);
+        let found = done(alloc, bench, verb, &mut words)?;
+        if !words.word().is_empty() {
+            return Err(Fail::new("words are left over"));
+        }
+        if found != "out of memory" {
+            return after_refusals(alloc, refused, found);
+        }
     }
-    Err(Fail::new("words are left over"))
+    Err(Fail::new("it is refused to the end"))
+}
+
+/// Expects what a row says.
+fn expect_row(rt: &impl Abort, alloc: Global, bench: &mut Bench, row: Row) -> Result<(), Fail> {
+    let found = outcome(alloc, bench, row.action)?;
+    assert_eq!(rt; found.as_str(), row.wanted, "{}", row.action);
+    Ok(())
 }
 
 /// Expects what the rows of a table say, which are so many at least.
@@ -162,6 +187,7 @@ pub fn expect_rows(rt: &impl Abort, alloc: Global, table: &str, least: u16) -> R
     let mut bench = Bench {
         octets: Vec::new(alloc),
         wanted: Vec::new(alloc),
+        drought: Drought::new(alloc)?,
     };
     let mut rows = 0_u16;
     for line in table.split('\n') {

@@ -7,4 +7,6 @@ mod bench;
 #[cfg(test)]
 mod captures;
 #[cfg(test)]
+mod memory;
+#[cfg(test)]
 mod tapes;

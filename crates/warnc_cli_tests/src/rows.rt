@@ -20,7 +20,8 @@
 //! - `usage -> STATUS WORD`: all that it writes is faults that begin with this word;
 //! - `fronts N M -> STATUS LINE`: it `fails` so on each front of the input that has N to M octets;
 //! - `reads N M -> STATUS LINE`: it `fails` so with a reader of an octet a call that fails after N to M calls;
-//! - `scarce -> STATUS OUTPUT`: it runs with more and more memory until that is enough.
+//! - `scarce -> STATUS OUTPUT`: it runs with more and more memory until that is enough. Without worked octets, the
+//!   status is all that is told.
 
 use crate::bench::{Bench, Pace, runs};
 use crate::octets::Written;

@@ -18,9 +18,9 @@ const BLOCK: usize = 512;
 #[derive(Drop)]
 struct Slate {
     status: u8,
-    output: [u8; 600],
+    output: [u8; 3000],
     output_left: usize,
-    faults: [u8; 600],
+    faults: [u8; 3000],
     faults_left: usize,
 }
 
@@ -29,21 +29,21 @@ impl Slate {
     fn new() -> Slate {
         Slate {
             status: 0,
-            output: [0; 600],
-            output_left: 600,
-            faults: [0; 600],
-            faults_left: 600,
+            output: [0; 3000],
+            output_left: 3000,
+            faults: [0; 3000],
+            faults_left: 3000,
         }
     }
 
     /// What went to the output.
     fn output(&self) -> &[u8] {
-        &self.output[..600_usize.saturating_sub(self.output_left)]
+        &self.output[..3000_usize.saturating_sub(self.output_left)]
     }
 
     /// Whether the run was refused memory, and said so, and wrote nothing.
     fn is_out_of_memory(&self) -> bool {
-        let faults = &self.faults[..600_usize.saturating_sub(self.faults_left)];
+        let faults = &self.faults[..3000_usize.saturating_sub(self.faults_left)];
         self.status == 4
             && self.output().is_empty()
             && faults == b"warnc: out of memory\n".as_slice()
@@ -99,7 +99,7 @@ fn refusals<T: AllocGlobal + Threads + Wait + Sync>(
     Ok(refused)
 }
 
-/// The status and the output of the run that wasn't refused memory, if at least four before it were.
+/// The status of the run that wasn't refused memory, and its output if there are worked octets, if at least four before it were.
 pub fn scarce<T: AllocGlobal + Threads + Wait + Sync>(
     rt: &T,
     bench: &mut Bench,
@@ -111,6 +111,9 @@ pub fn scarce<T: AllocGlobal + Threads + Wait + Sync>(
     bench.renew();
     if refused < 4 {
         return Ok(format!(in alloc; "{refused} refusals")?);
+    }
+    if bench.worked.octets.is_empty() {
+        return Ok(slate.status.to_string(alloc)?);
     }
     let output = part_of(alloc, slate.output(), &bench.worked.octets)?;
     Ok(format!(in alloc; "{} {output}", slate.status)?)
@@ -173,6 +176,41 @@ worked 1,1,4370,0010,0,2,1,yes
 scarce -> 0 worked
 ";
 
+const CAPTURES: &str = "
+args pcap
+in-hex 0001 0001 00000001
+in-hex 200010111201118046a3d168341a8d46a3d168341a8d46
+in-hex 21a3d168341a8d46a3d168341a8d46a3d168341a8d46a3
+in-hex 22d168341a8d46a3d168341a8d46a3d168341a8d46a3d1
+in-hex 3368341a8d46a3d168341a8d46a3d168341a8d46a3d100
+worked-hex d4c3b2a1020004000000000000000000ffff0000e4000000
+worked-hex 00000000000000004300000043000000 4500004300000000401170a9000100010a000000
+worked-hex 12791279002f0000 0204010000000000000000200f000200 200010111201118046a3d168341a8d46a3d168341a8d46
+worked-hex 00000000789703004300000043000000 4500004300000000401170a9000100010a000000
+worked-hex 12791279002f0000 0204010000000000000000530f000200 21a3d168341a8d46a3d168341a8d46a3d168341a8d46a3
+worked-hex 00000000f12e07004300000043000000 4500004300000000401170a9000100010a000000
+worked-hex 12791279002f0000 0204010000000000000000860f000200 22d168341a8d46a3d168341a8d46a3d168341a8d46a3d1
+worked-hex 0000000069c60a004300000043000000 4500004300000000401170a9000100010a000000
+worked-hex 12791279002f0000 0204010000000000000000b90f000200 3368341a8d46a3d168341a8d46a3d168341a8d46a3d100
+scarce -> 0 worked
+
+args tape --cell 1-1 --slots 1
+in-worked
+worked-hex 0001 0001 00000001
+worked-hex 200010111201118046a3d168341a8d46a3d168341a8d46
+worked-hex 21a3d168341a8d46a3d168341a8d46a3d168341a8d46a3
+worked-hex 22d168341a8d46a3d168341a8d46a3d168341a8d46a3d1
+worked-hex 3368341a8d46a3d168341a8d46a3d168341a8d46a3d100
+scarce -> 0 worked
+";
+
+const CHART: &str = "
+args chart --slots 2
+in cell,1,1
+in write,0,a,4370,0,1,en,2,2,0,1-1,@
+scarce -> 0
+";
+
 /// Two cells, two pages, two sessions and two workers. The tapes are those of a program that isn't ours.
 const TWO: &str = "
 args compile --slots 2 --workers 2
@@ -214,6 +252,11 @@ fn runs_without_memory_are_status_4(rt: HostRuntime) -> Result<(), Fail> {
     expect_rows(&rt, SCARCE)
 }
 
+#[test]
+fn captures_without_memory_are_status_4(rt: HostRuntime) -> Result<(), Fail> {
+    expect_rows(&rt, CAPTURES)
+}
+
 // Threads keep memory of a process, so what starts some has a process of its own.
 
 #[test]
@@ -224,6 +267,11 @@ fn sessions_without_memory_are_status_4(rt: HostRuntime) -> Result<(), Fail> {
 #[test]
 fn a_report_without_memory_is_status_4(rt: HostRuntime) -> Result<(), Fail> {
     expect_rows(&rt, REPORT)
+}
+
+#[test]
+fn a_chart_without_memory_is_status_4(rt: HostRuntime) -> Result<(), Fail> {
+    expect_rows(&rt, CHART)
 }
 
 #[test]

@@ -1,0 +1,222 @@
+#!/usr/bin/env python3
+"""Compares the charts of a built program with its reports, and with what a browser makes of them.
+
+Usage: chart_check.py PROGRAM [BOOKS]            makes so many random books (20 if no number is given) and one by hand
+       chart_check.py PROGRAM --picture FILE     writes a picture of the chart of the book by hand (PNG)
+
+Of each chart the bars, marks, refusals, texts and loads are counted and compared with the rows of `report`, with what
+`read` shows of the tapes of `compile`; the lines of the loads have to stay within the cell's room. Chromium, where it is
+installed, opens each page: it has to find the same bars, and no element that the program didn't write, whatever the
+texts say.
+"""
+import csv
+import html.parser
+import io
+import os
+import random
+import re
+import shutil
+import subprocess
+import sys
+import tempfile
+
+SCALE = 232792560
+ELEMENTS = set("html head meta title style body h1 p details summary div b i bdi svg desc rect path span br".split())
+TEXTS = [
+    "Stay in!",
+    "<script>document.title='wrong'</script>",
+    "\"><img src=x onerror=\"document.title='wrong'\">",
+    "</bdi></svg></details><h1>'&amp;' & \"&lt;\"</h1>",
+    "Вода поднимается! Идите в школу.",
+]
+BY_HAND = """\
+cell,1,1
+cell,1,2
+write,0,fire,4370,0,1,en,0,4,0,*,Fire in the old town. Stay inside and close the windows.
+write,2,flood,4371,0,2,ru,2,8,0,1-2,Вода поднимается! Идите сейчас же в школу.
+write,3,storm,4372,0,3,en,2,2,6,1-1,Storm warning until six.
+write,8,<script>,4373,0,4,en,1,6,0,*,<script>alert('A text is a text.')</script>
+update,14,fire,en,0,3,0,*,The fire is under control. Keep the windows closed.
+write,16,works,4374,0,5,en,2,1,0,1-1,Road works on bridge 7.
+stop,30,fire,1-1
+stop,34,flood,1-2
+"""
+SLOTS_BY_HAND = 48
+
+
+class Page(html.parser.HTMLParser):
+    """What stands in a page: its cells, each with its lines, in order."""
+
+    def __init__(self, text):
+        super().__init__()
+        self.cells, self.elements, self.inside, self.title = [], set(), [], ""
+        self.feed(text)
+
+    def handle_starttag(self, tag, attributes):
+        self.elements.add(tag)
+        values = dict(attributes)
+        kind = values.get("class")
+        if tag == "details":
+            self.cells.append({"name": "", "lines": []})
+        if tag == "div" and kind == "line":
+            self.cells[-1]["lines"].append({"text": "", "said": "", "title": ""})
+        if tag == "rect":
+            self.cells[-1]["lines"][-1]["bar"] = (int(values["x"]), int(values["width"]))
+        if tag == "path":
+            self.cells[-1]["lines"][-1][kind] = values["d"]
+        if tag not in ("meta", "br", "img"):
+            self.inside.append(tag)
+
+    def handle_endtag(self, tag):
+        while self.inside and self.inside.pop() != tag:
+            pass
+
+    def handle_data(self, text):
+        inside = self.inside[-1] if self.inside else ""
+        if inside == "summary":
+            self.cells[-1]["name"] += text
+        elif inside == "title" and "svg" not in self.inside:
+            self.title += text
+        elif inside in ("bdi", "desc", "title"):
+            name = {"bdi": "text", "desc": "said", "title": "title"}[inside]
+            self.cells[-1]["lines"][-1][name] += text
+
+
+def run(program, words, given):
+    """Returns what the program writes for an input."""
+    done = subprocess.run([program, *words], input=given, stdout=subprocess.PIPE, check=True)
+    return done.stdout
+
+
+def rows_of(program, words, given):
+    return list(csv.DictReader(io.StringIO(run(program, words, given).decode(), newline="")))
+
+
+def random_book(chance):
+    """Returns a book of a few cells and orders, whose texts are hostile."""
+    cells = [f"1-{ci}" for ci in range(1, chance.randint(2, 5))]
+    lines = [f"cell,1,{cell[2:]}" for cell in cells]
+    names, at = [], 0
+    for number in range(chance.randint(1, 25)):
+        at += chance.choice((0, 0, 1, 2, 7))
+        where = chance.choice(("*", cells[0], cells[-1]))
+        text = chance.choice(TEXTS)
+        quoted = '"' + text.replace('"', '""') + '"'
+        order = f"{'ru' if text.startswith('В') else 'en'},{chance.randint(0, 2)},{chance.randint(1, 9)},{chance.choice((0, 0, 3))}"
+        verb = chance.choice(("write", "write", "update", "stop")) if names else "write"
+        if verb == "write":
+            names.append(f"n{number}")
+            lines.append(f"write,{at},n{number},{4370 + number % 5},0,{number},{order},{where},{quoted}")
+        elif verb == "update":
+            lines.append(f"update,{at},{chance.choice(names)},{order},{where},{quoted}")
+        else:
+            lines.append(f"stop,{at},{chance.choice(names)},{where}")
+    return "\n".join(lines) + "\n"
+
+
+def expected(rows, shown):
+    """Returns by cell what the lines of its rows have to be: a bar, its marks and its text, or a refusal."""
+    cells = {}
+    for row in rows:
+        cell = f"Cell {row['lac']}-{row['ci']}"
+        start, end = int(row["start"]), int(row["end"])
+        title = f"{row['id']} {row['serial']}"
+        if row["shown"].startswith("refused"):
+            line = (title, "refusal", start, row["shown"][-2:])
+        else:
+            text = shown.get((row["lac"], row["ci"], row["id"], row["serial"]), "")
+            line = (title, (start, max(0, end - start)), int(row["completed"]), text)
+        cells.setdefault(cell, []).append(line)
+    return cells
+
+
+def found(page):
+    """Returns the same of a page."""
+    cells = {}
+    for cell in page.cells:
+        for line in cell["lines"]:
+            if "bar" in line:
+                marks = re.findall(r"M(\d+) 0v10", line["whole"])
+                cells.setdefault(cell["name"], []).append((line["title"], line["bar"], len(marks), line["text"]))
+            elif "refusal" in line:
+                slot = re.fullmatch(r"M(\d+) 0v10", line["refusal"])[1]
+                cause = re.search(r"\((..)\)$", line["said"])[1]
+                cells.setdefault(cell["name"], []).append((line["title"], "refusal", int(slot), cause))
+    return cells
+
+
+def wrong_loads(page, slots):
+    """Yields what is wrong with the lines of the loads: each has to go over all slots, and within the cell's room."""
+    for cell in page.cells:
+        line = next(it["load"] for it in cell["lines"] if "load" in it)
+        steps = [(int(a), int(b)) for a, b in re.findall(r"H(\d+)V(\d+)", line)]
+        if not re.fullmatch(rf"M0 {SCALE}(H\d+V\d+)+z", line) or steps[-1] != (slots, SCALE):
+            yield f"{cell['name']}: {line} isn't a line over {slots} slots"
+        if any(height > SCALE for _, height in steps) or steps != sorted(set(steps)):
+            yield f"{cell['name']}: {line} leaves the picture"
+
+
+def dom_of(browser, path):
+    """Returns the page as a browser has it once it is loaded."""
+    with tempfile.TemporaryDirectory() as profile:
+        words = [browser, "--headless=new", "--no-sandbox", "--disable-gpu", f"--user-data-dir={profile}"]
+        return subprocess.run([*words, "--virtual-time-budget=2000", "--dump-dom", f"file://{path}"],
+                              stdout=subprocess.PIPE, stderr=subprocess.DEVNULL, check=True).stdout.decode()
+
+
+def differences(program, browser, book, slots):
+    """Yields in what the chart of a book differs from its report."""
+    given = book.encode()
+    rows = rows_of(program, ["report", "--slots", str(slots)], given)
+    tapes = run(program, ["compile", "--slots", str(slots)], given)
+    shown = {(it["lac"], it["ci"], it["id"], it["serial"]): it["text"] for it in rows_of(program, ["read"], tapes)}
+    chart = run(program, ["chart", "--slots", str(slots)], given)
+    wanted = expected(rows, shown)
+    pages = [("the chart", Page(chart.decode()))]
+    if browser:
+        with tempfile.TemporaryDirectory() as folder:
+            path = os.path.join(folder, "chart.html")
+            with open(path, "wb") as file:
+                file.write(chart)
+            pages.append(("the browser", Page(dom_of(browser, path))))
+    for name, page in pages:
+        if found(page) != wanted:
+            yield f"{name} has {found(page)}, the report {wanted}"
+        if page.elements - ELEMENTS:
+            yield f"{name} has elements {page.elements - ELEMENTS}"
+        if page.title != "Warnings by cell":
+            yield f"{name} has the title {page.title}"
+        yield from wrong_loads(page, slots)
+
+
+def take_picture(program, browser, path):
+    """Writes a picture of the chart of the book by hand."""
+    with tempfile.TemporaryDirectory() as folder:
+        chart = os.path.join(folder, "chart.html")
+        with open(chart, "wb") as file:
+            file.write(run(program, ["chart", "--slots", str(SLOTS_BY_HAND)], BY_HAND.encode()))
+        words = [browser, "--headless=new", "--no-sandbox", "--disable-gpu", f"--user-data-dir={folder}/profile"]
+        subprocess.run([*words, "--hide-scrollbars", "--window-size=1000,640", f"--screenshot={os.path.abspath(path)}",
+                        f"file://{chart}"], stderr=subprocess.DEVNULL, stdout=subprocess.DEVNULL, check=True)
+
+
+def main(words):
+    if not words:
+        sys.exit(__doc__)
+    program = os.path.abspath(words[0])
+    browser = shutil.which("chromium") or shutil.which("chromium-browser")
+    if not browser:
+        print("chart_check.py: SKIPPED what a browser makes of charts: Chromium isn't installed")
+    if words[1:2] == ["--picture"]:
+        if browser:
+            take_picture(program, browser, words[2])
+        return 0
+    chance = random.Random(41)
+    books = [BY_HAND, *(random_book(chance) for _ in range(int(words[1]) if words[1:] else 20))]
+    wrong = [it for book in books for it in differences(program, browser, book, SLOTS_BY_HAND)]
+    print("\n".join(wrong) or f"{len(books)} charts are as their reports{', in the browser too' if browser else ''}")
+    return 1 if wrong else 0
+
+
+if __name__ == "__main__":
+    sys.exit(main(sys.argv[1:]))
