@@ -25,4 +25,6 @@ mod rows;
 #[cfg(test)]
 mod scarce;
 #[cfg(test)]
+mod verify;
+#[cfg(test)]
 mod words;

@@ -211,6 +211,19 @@ in write,0,a,4370,0,1,en,2,2,0,1-1,@
 scarce -> 0
 ";
 
+const VERIFY: &str = "
+args verify --slots 1 --book-octets 41
+in cell,1,1
+in write,0,a,4370,0,1,en,2,2,1,*,@
+in-hex 0001 0001 00000001
+in-hex 2f2b2b2b2b2b2b2b2b2b2b2b2b2b2b2b2b2b2b2b2b2b2b
+in-hex 2f2b2b2b2b2b2b2b2b2b2b2b2b2b2b2b2b2b2b2b2b2b2b
+in-hex 2f2b2b2b2b2b2b2b2b2b2b2b2b2b2b2b2b2b2b2b2b2b2b
+in-hex 2f2b2b2b2b2b2b2b2b2b2b2b2b2b2b2b2b2b2b2b2b2b2b
+worked lac,ci,id,serial,slot,difference
+scarce -> 0 worked
+";
+
 /// Two cells, two pages, two sessions and two workers. The tapes are those of a program that isn't ours.
 const TWO: &str = "
 args compile --slots 2 --workers 2
@@ -272,6 +285,11 @@ fn a_report_without_memory_is_status_4(rt: HostRuntime) -> Result<(), Fail> {
 #[test]
 fn a_chart_without_memory_is_status_4(rt: HostRuntime) -> Result<(), Fail> {
     expect_rows(&rt, CHART)
+}
+
+#[test]
+fn a_verification_without_memory_is_status_4(rt: HostRuntime) -> Result<(), Fail> {
+    expect_rows(&rt, VERIFY)
 }
 
 #[test]
