@@ -1,5 +1,5 @@
-//! Runs of `verify` on books and tapes whose octets were put together by hand, as docs/formats.md describes them. The page is
-//! that of the text `@`.
+//! Runs of `verify` on books and tapes whose octets were put together by hand, as docs/formats.md describes them. The
+//! page is that of the text `@`.
 
 use crate::rows::expect_rows;
 use std::test::Fail;
@@ -13,7 +13,8 @@ in-hex 200010111201118046a3d168341a8d46a3d168341a8d46
 in-hex 21a3d168341a8d46a3d168341a8d46a3d168341a8d46a3
 in-hex 22d168341a8d46a3d168341a8d46a3d168341a8d46a3d1
 in-hex 3368341a8d46a3d168341a8d46a3d168341a8d46a3d100
-in-hex 2f2b2b2b2b2b2b2b2b2b2b2b2b2b2b2b2b2b2b2b2b2b2b 2f2b2b2b2b2b2b2b2b2b2b2b2b2b2b2b2b2b2b2b2b2b2b 2f2b2b2b2b2b2b2b2b2b2b2b2b2b2b2b2b2b2b2b2b2b2b 2f2b2b2b2b2b2b2b2b2b2b2b2b2b2b2b2b2b2b2b2b2b2b
+in-hex 2f2b2b2b2b2b2b2b2b2b2b2b2b2b2b2b2b2b2b2b2b2b2b 2f2b2b2b2b2b2b2b2b2b2b2b2b2b2b2b2b2b2b2b2b2b2b
+in-hex 2f2b2b2b2b2b2b2b2b2b2b2b2b2b2b2b2b2b2b2b2b2b2b 2f2b2b2b2b2b2b2b2b2b2b2b2b2b2b2b2b2b2b2b2b2b2b
 args verify --slots 2 --book-octets 41
 run -> 0
 out -> lac,ci,id,serial,slot,difference
@@ -21,7 +22,8 @@ out -> lac,ci,id,serial,slot,difference
 in cell,1,1
 in write,0,a,4370,0,1,en,2,2,1,*,@
 in-hex 00010001 00000002
-in-hex 2f2b2b2b2b2b2b2b2b2b2b2b2b2b2b2b2b2b2b2b2b2b2b 2f2b2b2b2b2b2b2b2b2b2b2b2b2b2b2b2b2b2b2b2b2b2b 2f2b2b2b2b2b2b2b2b2b2b2b2b2b2b2b2b2b2b2b2b2b2b 2f2b2b2b2b2b2b2b2b2b2b2b2b2b2b2b2b2b2b2b2b2b2b
+in-hex 2f2b2b2b2b2b2b2b2b2b2b2b2b2b2b2b2b2b2b2b2b2b2b 2f2b2b2b2b2b2b2b2b2b2b2b2b2b2b2b2b2b2b2b2b2b2b
+in-hex 2f2b2b2b2b2b2b2b2b2b2b2b2b2b2b2b2b2b2b2b2b2b2b 2f2b2b2b2b2b2b2b2b2b2b2b2b2b2b2b2b2b2b2b2b2b2b
 in-hex 200010111201118046a3d168341a8d46a3d168341a8d46
 in-hex 21a3d168341a8d46a3d168341a8d46a3d168341a8d46a3
 in-hex 22d168341a8d46a3d168341a8d46a3d168341a8d46a3d1
@@ -33,8 +35,10 @@ out -> lac,ci,id,serial,slot,difference
 in cell,1,1
 in write,0,a,4370,0,1,en,2,2,1,*,@
 in-hex 00010001 00000002
-in-hex 2f2b2b2b2b2b2b2b2b2b2b2b2b2b2b2b2b2b2b2b2b2b2b 2f2b2b2b2b2b2b2b2b2b2b2b2b2b2b2b2b2b2b2b2b2b2b 2f2b2b2b2b2b2b2b2b2b2b2b2b2b2b2b2b2b2b2b2b2b2b 2f2b2b2b2b2b2b2b2b2b2b2b2b2b2b2b2b2b2b2b2b2b2b
-in-hex 2f2b2b2b2b2b2b2b2b2b2b2b2b2b2b2b2b2b2b2b2b2b2b 2f2b2b2b2b2b2b2b2b2b2b2b2b2b2b2b2b2b2b2b2b2b2b 2f2b2b2b2b2b2b2b2b2b2b2b2b2b2b2b2b2b2b2b2b2b2b 2f2b2b2b2b2b2b2b2b2b2b2b2b2b2b2b2b2b2b2b2b2b2b
+in-hex 2f2b2b2b2b2b2b2b2b2b2b2b2b2b2b2b2b2b2b2b2b2b2b 2f2b2b2b2b2b2b2b2b2b2b2b2b2b2b2b2b2b2b2b2b2b2b
+in-hex 2f2b2b2b2b2b2b2b2b2b2b2b2b2b2b2b2b2b2b2b2b2b2b 2f2b2b2b2b2b2b2b2b2b2b2b2b2b2b2b2b2b2b2b2b2b2b
+in-hex 2f2b2b2b2b2b2b2b2b2b2b2b2b2b2b2b2b2b2b2b2b2b2b 2f2b2b2b2b2b2b2b2b2b2b2b2b2b2b2b2b2b2b2b2b2b2b
+in-hex 2f2b2b2b2b2b2b2b2b2b2b2b2b2b2b2b2b2b2b2b2b2b2b 2f2b2b2b2b2b2b2b2b2b2b2b2b2b2b2b2b2b2b2b2b2b2b
 run -> 1
 out -> lac,ci,id,serial,slot,difference
 out -> 1,1,4370,0010,2,broadcast 0 not whole
@@ -48,7 +52,8 @@ in-hex 200010111201118146a3d168341a8d46a3d168341a8d46
 in-hex 21a3d168341a8d46a3d168341a8d46a3d168341a8d46a3
 in-hex 22d168341a8d46a3d168341a8d46a3d168341a8d46a3d1
 in-hex 3368341a8d46a3d168341a8d46a3d168341a8d46a3d100
-in-hex 2f2b2b2b2b2b2b2b2b2b2b2b2b2b2b2b2b2b2b2b2b2b2b 2f2b2b2b2b2b2b2b2b2b2b2b2b2b2b2b2b2b2b2b2b2b2b 2f2b2b2b2b2b2b2b2b2b2b2b2b2b2b2b2b2b2b2b2b2b2b 2f2b2b2b2b2b2b2b2b2b2b2b2b2b2b2b2b2b2b2b2b2b2b
+in-hex 2f2b2b2b2b2b2b2b2b2b2b2b2b2b2b2b2b2b2b2b2b2b2b 2f2b2b2b2b2b2b2b2b2b2b2b2b2b2b2b2b2b2b2b2b2b2b
+in-hex 2f2b2b2b2b2b2b2b2b2b2b2b2b2b2b2b2b2b2b2b2b2b2b 2f2b2b2b2b2b2b2b2b2b2b2b2b2b2b2b2b2b2b2b2b2b2b
 run -> 1
 out -> lac,ci,id,serial,slot,difference
 out -> 1,1,4370,0010,0,page 1 reads otherwise
@@ -71,7 +76,8 @@ in-hex 200010111201118046a3d168341a8d46a3d168341a8d46
 in-hex 21a3d168341a8d46a3d168341a8d46a3d168341a8d46a3
 in-hex 22d168341a8d46a3d168341a8d46a3d168341a8d46a3d1
 in-hex 3368341a8d46a3d168341a8d46a3d168341a8d46a3d100
-in-hex 2f2b2b2b2b2b2b2b2b2b2b2b2b2b2b2b2b2b2b2b2b2b2b 2f2b2b2b2b2b2b2b2b2b2b2b2b2b2b2b2b2b2b2b2b2b2b 2f2b2b2b2b2b2b2b2b2b2b2b2b2b2b2b2b2b2b2b2b2b2b 2f2b2b2b2b2b2b2b2b2b2b2b2b2b2b2b2b2b2b2b2b2b2b
+in-hex 2f2b2b2b2b2b2b2b2b2b2b2b2b2b2b2b2b2b2b2b2b2b2b 2f2b2b2b2b2b2b2b2b2b2b2b2b2b2b2b2b2b2b2b2b2b2b
+in-hex 2f2b2b2b2b2b2b2b2b2b2b2b2b2b2b2b2b2b2b2b2b2b2b 2f2b2b2b2b2b2b2b2b2b2b2b2b2b2b2b2b2b2b2b2b2b2b
 args verify --slots 4 --book-octets 41 --workers 2
 run -> 1
 out -> lac,ci,id,serial,slot,difference
@@ -130,7 +136,8 @@ in-hex 21a3d168341a8d46a3d168341a8d46a3d168341a8d46a3
 in-hex 22d168341a8d46a3d168341a8d46a3d168341a8d46a3d1
 in-hex 3368341a8d46a3d168341a8d46a3d168341a8d46a3d100
 in-hex 00010002 00000001
-in-hex 2f2b2b2b2b2b2b2b2b2b2b2b2b2b2b2b2b2b2b2b2b2b2b 2f2b2b2b2b2b2b2b2b2b2b2b2b2b2b2b2b2b2b2b2b2b2b 2f2b2b2b2b2b2b2b2b2b2b2b2b2b2b2b2b2b2b2b2b2b2b 2f2b2b2b2b2b2b2b2b2b2b2b2b2b2b2b2b2b2b2b2b2b2b
+in-hex 2f2b2b2b2b2b2b2b2b2b2b2b2b2b2b2b2b2b2b2b2b2b2b 2f2b2b2b2b2b2b2b2b2b2b2b2b2b2b2b2b2b2b2b2b2b2b
+in-hex 2f2b2b2b2b2b2b2b2b2b2b2b2b2b2b2b2b2b2b2b2b2b2b 2f2b2b2b2b2b2b2b2b2b2b2b2b2b2b2b2b2b2b2b2b2b2b
 in-hex 00010001 00000001
 in-hex 200010111201118046a3d168341a8d46a3d168341a8d46
 in-hex 21a3d168341a8d46a3d168341a8d46a3d168341a8d46a3
