@@ -20,7 +20,7 @@ TEXTS = {
     "tools/completions/warnc.fish": (r"^complete -c warnc -n '__fish_seen_subcommand_from (\w+)'([^\n]*)", r"__fish_use_subcommand -a (\w+)"),
 }
 # An option as it is typed, or as fish has it.
-OPTION = r"(?<![\w-])(?:--|-l )(\w+)"
+OPTION = r"(?<![\w-])(?:--|-l )(\w[\w-]*)"
 
 
 def read(path):
@@ -51,7 +51,7 @@ def of_source():
     for command in given(bodies["warnc"], "subcommand"):
         options = (bodies[it] for it in given(bodies[command], "arg"))
         name = only(r'Command::new\(alloc, "(\w+)"\)', bodies[command])
-        commands[name] = {only(r'\b(?:option|optional|threads|flag)\(\s*alloc,\s*"(\w+)"', it) for it in options}
+        commands[name] = {only(r'\b(?:option|optional|threads|flag)\(\s*alloc,\s*"([\w-]+)"', it) for it in options}
     return commands, plain(only(r"\"The text's language: ([^\"]*)\"", bodies["language"]))
 
 

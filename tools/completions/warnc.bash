@@ -10,7 +10,7 @@ _warnc() {
         before=${COMP_WORDS[COMP_CWORD - 2]}
     fi
     if [ "$COMP_CWORD" -eq 1 ]; then
-        words="compile live read pcap tape report chart page help -h --help -V --version"
+        words="compile live read pcap tape report chart verify page help -h --help -V --version"
     else
         case $before in
         --lang) words="de en it fr es nl sv da pt fi no el tr hu pl und cs he ar ru is" ;;
@@ -32,8 +32,9 @@ _warnc() {
             tape) words="--cell --slots --from -h --help" ;;
             report) words="--slots --workers -h --help" ;;
             chart) words="--slots --cell --workers -h --help" ;;
+            verify) words="--slots --book-octets --workers -h --help" ;;
             page) words="--lang --id --scope --code --update -h --help" ;;
-            help) words="compile live read pcap tape report chart page" ;;
+            help) words="compile live read pcap tape report chart verify page" ;;
             esac
             ;;
         esac

@@ -12,6 +12,7 @@ complete -c warnc -n __fish_use_subcommand -a pcap -d 'Write the blocks of tapes
 complete -c warnc -n __fish_use_subcommand -a tape -d 'Write a tape of a capture file'
 complete -c warnc -n __fish_use_subcommand -a report -d 'Write what became of each order in each cell'
 complete -c warnc -n __fish_use_subcommand -a chart -d 'Write the same as a page to look at'
+complete -c warnc -n __fish_use_subcommand -a verify -d 'Write what tapes have otherwise than a book asks'
 complete -c warnc -n __fish_use_subcommand -a page -d 'Write the blocks of a text'
 complete -c warnc -n __fish_use_subcommand -a help -d 'Print what a command takes'
 
@@ -31,6 +32,9 @@ complete -c warnc -n '__fish_seen_subcommand_from report' -x -l workers -d 'How 
 complete -c warnc -n '__fish_seen_subcommand_from chart' -x -l slots -d 'How many slots each run has, 1 to 65535'
 complete -c warnc -n '__fish_seen_subcommand_from chart' -x -l cell -d 'Cell that is drawn alone, as 1-1'
 complete -c warnc -n '__fish_seen_subcommand_from chart' -x -l workers -d 'How many workers play cells, 1 to 64'
+complete -c warnc -n '__fish_seen_subcommand_from verify' -x -l slots -d 'How many slots each run has, 1 to 65535'
+complete -c warnc -n '__fish_seen_subcommand_from verify' -x -l book-octets -d 'Octets of the book, 0 to 16777216'
+complete -c warnc -n '__fish_seen_subcommand_from verify' -x -l workers -d 'How many workers play cells, 1 to 64'
 complete -c warnc -n '__fish_seen_subcommand_from page' -x -l lang -d 'Language of the text' \
     -a 'de en it fr es nl sv da pt fi no el tr hu pl und cs he ar ru is'
 complete -c warnc -n '__fish_seen_subcommand_from page' -x -l id -d 'Message identifier, 0 to 65535'
@@ -38,4 +42,4 @@ complete -c warnc -n '__fish_seen_subcommand_from page' -x -l scope -d 'Geograph
 complete -c warnc -n '__fish_seen_subcommand_from page' -x -l code -d 'Message code, 0 to 1023'
 complete -c warnc -n '__fish_seen_subcommand_from page' -x -l update -d 'Update number' \
     -a '0 1 2 3 4 5 6 7 8 9 10 11 12 13 14 15'
-complete -c warnc -n '__fish_seen_subcommand_from help' -a 'compile live read pcap tape report chart page'
+complete -c warnc -n '__fish_seen_subcommand_from help' -a 'compile live read pcap tape report chart verify page'
