@@ -11,14 +11,18 @@
 //! tape of these digits. `fronts N M` reads each front of N to M octets both ways. `fails N CALLS` reads both ways with
 //! a reader of N octets a call that fails after 0 to CALLS calls, and once more after the fault.
 //!
-//! `scarce one` and `scarce all` read with hardly any memory, with one block more each time until it isn't refused.
+//! `record` reads them as tapes and keeps what these hold: the answer has the types of the blocks instead of the
+//! messages. `record N CALLS` is with a reader that fails.
+//!
+//! `scarce one`, `scarce all` and `scarce record` read with hardly any memory, with one block more each time until it isn't refused.
 //! After each refusal the source must not have failed, and the octets are read by a source and into a list made anew,
 //! with all memory.
 
 use crate::worked::{IDLE, WORKED};
 use device_ends::Source;
 use device_ends::memory::MemoryReader;
-use handset::{Reading, Refused, Shown, TapeFault, read_each, read_tape, read_tapes};
+use handset::{Reading, Recording, Refused, Shown, TapeFault};
+use handset::{read_each, read_tape, read_tapes, record_each};
 use std::alloc::{AllocError, Global};
 use std::process::Abort;
 use std::test::Fail;
@@ -85,6 +89,28 @@ text Long -> tape is long
 text ReadFailed -> read failed
 text OutOfMemory -> out of memory
 text Refused -> memory allocation failed
+";
+
+/// What tapes hold, and which faults there are, as for readings.
+const RECORDED: &str = "
+tape 2
+record -> 1-1 2 slots: 20 21 22 33 2f 2f 2f 2f
+record 1 193 -> 1-1 2 slots: 20 21 22 33 2f 2f 2f 2f, 0 left
+record 1 192 -> ReadFailed, source failed
+hex 1234 5678 00000000
+record -> 1-1 2 slots: 20 21 22 33 2f 2f 2f 2f; 4660-22136 0 slots:
+scarce record -> refused; 1-1 2 slots: 20 21 22 33 2f 2f 2f 2f; 4660-22136 0 slots:
+hex 00
+record -> Short
+new
+record ->
+hex 0001 0001 00010000
+record 1000 1 -> Long, 0 left
+new
+hex 1234 5678 00000000
+repeat 64
+hex 0001
+record 1000 65 -> Long, 1 left
 ";
 
 /// A reader that is asked once more than it has to be would be told as failed.
@@ -323,11 +349,68 @@ fn read_octets(
     let mut reader = MemoryReader::new(octets, pace.0.max(1), pace.1);
     let mut source = Source::new(&mut reader);
     let text = read_text(alloc, drought, kind, &mut source)?;
-    match (pace.1, source.failed()) {
-        (None, false) => Ok(text),
-        (_, false) => Ok(format!(in alloc; "{text}, {} left", reader.rest().len())?),
-        (_, true) => Ok(format!(in alloc; "{text}, source failed")?),
+    let failed = source.failed();
+    Ok(with_rest(alloc, text, pace.1.is_some() || failed, failed, reader.rest().len())?)
+}
+
+/// What was read, and with a reader that can fail what it still has, or that it failed.
+fn with_rest(
+    alloc: Global,
+    text: String,
+    can_fail: bool,
+    failed: bool,
+    rest: usize,
+) -> Result<String, AllocError> {
+    match (can_fail, failed) {
+        (false, _) => Ok(text),
+        (true, false) => format!(in alloc; "{text}, {rest} left"),
+        (true, true) => format!(in alloc; "{text}, source failed"),
     }
+}
+
+/// Puts what a tape holds.
+fn put_recording(alloc: Global, text: &mut String, tape: &Recording) -> Result<(), AllocError> {
+    let between = if text.is_empty() { "" } else { "; " };
+    let (cell, slots) = (tape.cell(), tape.slots());
+    text.push_str(&format!(in alloc; "{between}{}-{} {slots} slots:", cell.lac, cell.ci)?)?;
+    for block in tape.blocks() {
+        text.push_str(&format!(in alloc; " {:02x}", block[0])?)?;
+    }
+    Ok(())
+}
+
+/// What the tapes of a source hold, or the fault.
+fn recorded_text(
+    alloc: Global,
+    drought: &mut Drought,
+    source: &mut Source<&mut MemoryReader>,
+) -> Result<String, AllocError> {
+    let mut tapes: Vec<Recording> = Vec::new(alloc);
+    drought.begin(alloc);
+    let result = record_each(alloc, source, &mut tapes);
+    drought.end();
+    if let Err(fault) = result {
+        return format!(in alloc; "{fault:?}");
+    }
+    let mut text = String::new(alloc);
+    for tape in &tapes {
+        put_recording(alloc, &mut text, tape)?;
+    }
+    Ok(text)
+}
+
+/// What the tapes hold that these octets are.
+fn recorded(
+    alloc: Global,
+    drought: &mut Drought,
+    octets: &[u8],
+    pace: (usize, Option<usize>),
+) -> Result<String, Fail> {
+    let mut reader = MemoryReader::new(octets, pace.0.max(1), pace.1);
+    let mut source = Source::new(&mut reader);
+    let text = recorded_text(alloc, drought, &mut source)?;
+    let failed = source.failed();
+    Ok(with_rest(alloc, text, pace.1.is_some() || failed, failed, reader.rest().len())?)
 }
 
 /// The pace that words say, if there are any.
@@ -458,6 +541,7 @@ fn done(
     match verb {
         "one" => read_octets(alloc, drought, Kind::One, octets, pace_of(words)?),
         "all" => read_octets(alloc, drought, Kind::All, octets, pace_of(words)?),
+        "record" => recorded(alloc, drought, octets, pace_of(words)?),
         "length" => Ok(octets.len().to_string(alloc)?),
         "count" => count(alloc, octets),
         "fails" => fails(alloc, octets, words),
@@ -545,6 +629,11 @@ fn tapes_are_read(rt: HostRuntime) -> Result<(), Fail> {
 #[test]
 fn short_and_long_tapes_have_faults(rt: HostRuntime) -> Result<(), Fail> {
     expect_rows(&rt, rt.alloc(), FAULTS, 11)
+}
+
+#[test]
+fn tapes_are_recorded(rt: HostRuntime) -> Result<(), Fail> {
+    expect_rows(&rt, rt.alloc(), RECORDED, 11)
 }
 
 #[test]
