@@ -1,5 +1,5 @@
 -- An escaped text neither begins nor ends a tag.
-use Rattle.std.proofs.Common.{◌≡◌, ℕ, ◌==◌, ◌&&◌, true, [], ◌∷◌, List, ap₂, refl, rules, ◌∙◌}
+use Rattle.std.proofs.Common.{◌≡◌, ℕ, ◌&&◌, true, [], ◌∷◌, ap₂, refl, rules, ◌∙◌}
 use Rattle.std.proofs.lemmas.List.Folds.{list_all-append}
 use Rattle.std.specs.List.{list_all}
 use Rattle.chart.specs.Escape.{escaped, escaped_octet, is_plain, EscapedIsPlain}

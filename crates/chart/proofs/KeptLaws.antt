@@ -1,5 +1,6 @@
 -- Messages that are kept, after one more entry.
-use Rattle.std.proofs.Common.{◌≡◌, ◌<◌, ◌++◌, ◌∙◌, ℕ, [], ◌∷◌, List, All, Option, Some, None, map, ap, ap₂, refl, sym, subst}
+use Rattle.std.proofs.Common.{◌≡◌, ◌<◌, ◌++◌, ◌∙◌, ℕ, [], ◌∷◌, List, Option, Some, None, map, ap, ap₂, refl}
+use Rattle.std.proofs.Common.{sym, subst}
 use Rattle.std.proofs.lemmas.List.{map-append}
 use Rattle.std.specs.Option.{option_map, option_to_list}
 use Rattle.std.proofs.lemmas.List.Elements.{All-append, All-cons, All-map, All-nil}
@@ -23,7 +24,8 @@ periods_stopped e kept periods = All-map (λ (k : KeptMessage). 0 < k.period) (k
 pub added_after : (place : ℕ) (e : Entry) (old stopped new : List KeptMessage) (added : Option KeptMessage)
     → stopped ≡ map (kept_stopped e) old
     → new ≡ stopped ++ option_to_list added
-    → option_to_list (option_map accepted_kept added) ≡ added_by (all_kept old) place e.slot (start_of e.answer) e.command
+    → option_to_list (option_map accepted_kept added)
+    ≡ added_by (all_kept old) place e.slot (start_of e.answer) e.command
     → all_kept new ≡ accepted_after (all_kept old) place e
 added_after place e old stopped new added are is adds =
     ap all_kept is
@@ -45,4 +47,5 @@ pub periods_added : (e : Entry) (old stopped new : List KeptMessage) (added : Ke
 periods_added e old stopped new added are is periods period =
     subst HavePeriods (sym is)
     (All-append (λ (k : KeptMessage). 0 < k.period) stopped (added ∷ [])
-    (subst HavePeriods (sym are) (periods_stopped e old periods)) (All-cons (λ (k : KeptMessage). 0 < k.period) added [] period (All-nil (λ (k : KeptMessage). 0 < k.period))))
+    (subst HavePeriods (sym are) (periods_stopped e old periods))
+    (All-cons (λ (k : KeptMessage). 0 < k.period) added [] period (All-nil (λ (k : KeptMessage). 0 < k.period))))

@@ -1,5 +1,5 @@
 -- What is drawn slot by slot.
-use Rattle.std.proofs.Common.{◌≡◌, ◌<◌, ◌+◌, ◌-◌, ◌++◌, ◌∙◌, ℕ, suc, List, ap, append_assoc, sym, refl}
+use Rattle.std.proofs.Common.{◌≡◌, ◌<◌, ◌+◌, ◌-◌, ◌++◌, ◌∙◌, ℕ, suc, List, ap, append_assoc}
 use native.Mathlib.Omega.{arith}
 use Rattle.std.specs.List.{flat_map, range_with_len}
 

@@ -1,6 +1,6 @@
 -- The sections of cells, one after the other.
-use Rattle.std.proofs.Common.{◌≡◌, ◌≢◌, ◌<◌, ◌+◌, ◌++◌, ◌∙◌, ◌∷◌, ℕ, List, Option, ap, ap₂, append_assoc, drop, get_or, length}
-use Rattle.std.proofs.Common.{map, subst, sym}
+use Rattle.std.proofs.Common.{◌≡◌, ◌≢◌, ◌<◌, ◌+◌, ◌++◌, ◌∙◌, ◌∷◌, ℕ, List, Option, ap, ap₂, append_assoc, drop, get_or}
+use Rattle.std.proofs.Common.{length, subst, sym}
 use Rattle.std.proofs.lemmas.List.{drop_more, get_or-map, length-map}
 use Rattle.cbsp_wire.specs.declared.message.Cell.{Cell}
 use Rattle.bsc_table.specs.Record.{Record}
@@ -20,15 +20,18 @@ pub section_drawn : (wanted : Option Cell) (records : List Record) (readings : L
     → after ≡ page ++ section_if wanted r (messages_of reading.shown.items)
     → page ++ sections_of wanted (drop place records) (readings_of (drop place readings)) ≡ whole
     → after ++ sections_of wanted (drop (place + 1) records) (readings_of (drop (place + 1) readings)) ≡ whole
-section_drawn wanted records readings place r reading page after whole in_records in_readings r_is reading_is is so_far =
+section_drawn wanted records readings place r reading page after whole in_records in_readings r_is reading_is is
+    so_far =
     let left = sections_of wanted (drop (place + 1) records) (readings_of (drop (place + 1) readings)) in
     let front : drop place records ≡ r ∷ drop (place + 1) records =
     drop_more records place r in_records ∙ ap (λ (x : Record). x ∷ drop (place + 1) records) (sym r_is) in
     let read : drop place readings ≡ reading ∷ drop (place + 1) readings =
-    drop_more readings place reading in_readings ∙ ap (λ (x : Reading). x ∷ drop (place + 1) readings) (sym reading_is) in
+    drop_more readings place reading in_readings
+    ∙ ap (λ (x : Reading). x ∷ drop (place + 1) readings) (sym reading_is) in
     ap (λ (octets : List ℕ). octets ++ left) is
     ∙ append_assoc page (section_if wanted r (messages_of reading.shown.items)) left
-    ∙ ap₂ (λ (rs : List Record) (xs : List Reading). page ++ sections_of wanted rs (readings_of xs)) (sym front) (sym read)
+    ∙ ap₂ (λ (rs : List Record) (xs : List Reading). page ++ sections_of wanted rs (readings_of xs)) (sym front)
+    (sym read)
     ∙ so_far
 
 -- where one cell differs, the cells do

@@ -1,5 +1,5 @@
 -- A chart has octets.
-use Rattle.std.proofs.Common.{◌≡◌, ◌<◌, ℕ, List, Option, length, arith}
+use Rattle.std.proofs.Common.{◌<◌, ℕ, List, Option, length, arith}
 use Rattle.cbsp_wire.specs.declared.message.Cell.{Cell}
 use Rattle.bsc_table.specs.Record.{Record}
 use Rattle.handset.specs.Tape.{TapeReading}

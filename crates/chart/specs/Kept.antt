@@ -1,5 +1,5 @@
 -- What is kept of an accepted message as a log is walked (own). The contracts of private functions alone speak of it.
-use Rattle.std.specs.Prelude.{◌<◌, ℕ, List, map, All}
+use Rattle.std.specs.Prelude.{◌<◌, List, map, All}
 use Rattle.bsc_table.specs.declared.entry.Entry.{Entry}
 use Rattle.bsc_table.specs.Record.{Accepted, is_stop_of, rank_of, stop_after}
 use Rattle.chart.specs.declared.kept.KeptMessage.{KeptMessage}

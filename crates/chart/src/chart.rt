@@ -48,7 +48,9 @@ path{vector-effect:non-scaling-stroke}
 .bar,.load{fill:var(--bar)}
 .whole{stroke:var(--whole)}
 .refusal{stroke:var(--refusal);stroke-width:4px}
-.line .axis{color:var(--faint);display:flex;font-size:.85em;justify-content:space-between}
+.line .axis{color:var(--faint);display:flex;font-size:.85em;justify-content:space-between;overflow:visible}
+.axis span{width:0}
+.axis span:last-child{margin-left:-5em;text-align:right;width:5em}
 </style>
 </head>
 <body>
@@ -59,7 +61,8 @@ path{vector-effect:non-scaling-stroke}
 pub const SLOTS: &str = " slots of 1.883 s, ";
 
 /// What comes after their time.
-pub const INTRODUCTION: &str = r#" minutes. A bar is a message from its start to its end, with a mark wherever a
+pub const INTRODUCTION: &str =
+    r#" minutes. A bar is a message from its start to its end, with a mark wherever a
 broadcast of it is whole; a red mark is a refused order. Below is the load that the cell has reserved: at the red edge
 it is full.</p>
 "#;

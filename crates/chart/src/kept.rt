@@ -74,14 +74,18 @@ fn is_stop_of(id: u16, serial: u16, entry: &Entry) -> bool
             id: of,
             serial: stopped,
         } => {
-            matches!(entry.answer, Answer::Stopped { .. }) && id == *of && serial == stopped.number()
+            matches!(entry.answer, Answer::Stopped { .. })
+                && id == *of
+                && serial == stopped.number()
         }
         Command::Write {
             id: of,
             replaces: Some(stopped),
             ..
         } => {
-            matches!(entry.answer, Answer::Replaced { .. }) && id == *of && serial == stopped.number()
+            matches!(entry.answer, Answer::Replaced { .. })
+                && id == *of
+                && serial == stopped.number()
         }
         _ => false,
     }
@@ -174,7 +178,7 @@ pub fn named(all: &[KeptMessage], id: u16, serial: u16) -> Option<KeptMessage>
     None
 }
 
-/// The number of the message behind which one waits that was accepted at `slot` with that start, in place of the message
+/// The number of the message behind which one waits that was accepted at `slot` with that start, in place of the one
 /// that it replaces.
 fn behind_of(
     all: &[KeptMessage],

@@ -17,10 +17,12 @@ use admission::SCALE;
 use std::alloc::{AllocError, Global};
 
 /// The front of the picture of the loads, up to its width.
-pub const LOAD: &str = "<div class=\"line\"><p>Reserved load</p>\n<svg class=\"loads\" viewBox=\"0 0 ";
+pub const LOAD: &str =
+    "<div class=\"line\"><p>Reserved load</p>\n<svg class=\"loads\" viewBox=\"0 0 ";
 
 /// What comes after its width: it is as high as [`SCALE`], and the line begins at the bottom.
-pub const LOAD_BOX: &str = " 232792560\" preserveAspectRatio=\"none\" role=\"img\"><title>Reserved load</title>\n\
+pub const LOAD_BOX: &str =
+    " 232792560\" preserveAspectRatio=\"none\" role=\"img\"><title>Reserved load</title>\n\
     <path class=\"load\" d=\"M0 232792560";
 
 /// What comes before a slot to which the line goes on.

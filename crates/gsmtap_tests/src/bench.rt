@@ -6,9 +6,9 @@
 //! `capture SLOTS CHANNEL` makes the capture of the octets, of `all` slots or the `used` ones, for channel 51 or 52;
 //! `tape LAC CI N` their tape of N slots, and `tape LAC CI N ADDRESS` that of the packets from the address of these
 //! eight digits. The answer is `as wanted`, or how many octets come out, or the fault. An output that is as wanted
-//! becomes the octets, and nothing more is wanted. After `scarce` hardly any memory is left to either, and more and more
-//! until that is enough: the answer is then `refused; ` and what came in the end. `fronts N M LAC CI SLOTS` makes tapes of each front of N to M
-//! octets, and the answer is that of all of them.
+//! becomes the octets, and nothing more is wanted. After `scarce` hardly any memory is left to either, and more and
+//! more until that is enough: the answer is then `refused; ` and what came in the end. `fronts N M LAC CI SLOTS` makes
+//! tapes of each front of N to M octets, and the answer is that of all of them.
 
 use gsmtap::{Channel, Settings, Slots, Wanted, capture_of, tape_of_capture};
 use std::alloc::Global;
@@ -168,7 +168,7 @@ fn outcome(alloc: Global, bench: &mut Bench, action: &str) -> Result<String, Fai
         if !words.word().is_empty() {
             return Err(Fail::new("words are left over"));
         }
-        if found != "out of memory" {
+        if found.as_str() != "out of memory" {
             return after_refusals(alloc, refused, found);
         }
     }

@@ -1,5 +1,5 @@
-//! Runs of `chart` on books. What is expected of bars, marks and refusals is what the rows of `report` say of these books,
-//! which `books` has, and loads are those of a message's pages over its period, in parts of 232,792,560.
+//! Runs of `chart` on books. What is expected of bars, marks and refusals is what the rows of `report` say of such
+//! books (`books`), and loads are those of a message's pages over its period, in parts of 232,792,560.
 
 use crate::rows::expect_rows;
 use std::test::Fail;
@@ -96,7 +96,7 @@ fails -> 1 warnc: row 1: columns
 in cell,1,1
 args chart --slots 2
 reads 0 9 -> 3 warnc: read failed
-writer 15 1
+writer 16 1
 run -> 3
 err -> warnc: write failed
 out -> <!DOCTYPE html>

@@ -12,10 +12,10 @@
 //! The program runs:
 //!
 //! - `run -> STATUS`. Lines say then what it wrote: `out -> LINE`, the next line of the output; `out N -> LINE`, the
-//!   next N lines, which are the same; `starts TEXT -> yes`, the next line begins so; `all -> worked` or
-//!   `all -> N of M`, how much of the worked octets it is; `past TEXT -> yes`, a line has the text, and the next line
-//!   is the one after it; `says TEXT -> yes` and `lists COMMAND -> yes`, all that is left of it does; `err -> LINE`, the next line of the faults. If no line speaks of an octet, the next run is no
-//!   action;
+//!   next N lines, which are the same; `starts TEXT -> yes`, the next line begins so; `past TEXT -> yes`, a line has
+//!   the text, and the line after it is the next; `all -> worked` or `all -> N of M`, how much of the worked octets it
+//!   is; `says TEXT -> yes` and `lists COMMAND -> yes`, all that is left of it does; `err -> LINE`, the next line of
+//!   the faults. If no line speaks of an octet, the next run is no action;
 //! - `fails -> STATUS LINE`: all that it writes is a line of faults;
 //! - `usage -> STATUS WORD`: all that it writes is faults that begin with this word;
 //! - `fronts N M -> STATUS LINE`: it `fails` so on each front of the input that has N to M octets;

@@ -99,7 +99,8 @@ fn refusals<T: AllocGlobal + Threads + Wait + Sync>(
     Ok(refused)
 }
 
-/// The status of the run that wasn't refused memory, and its output if there are worked octets, if at least four before it were.
+/// The status of the run that wasn't refused memory, and its output if there are worked octets, if at least four before
+/// it were.
 pub fn scarce<T: AllocGlobal + Threads + Wait + Sync>(
     rt: &T,
     bench: &mut Bench,

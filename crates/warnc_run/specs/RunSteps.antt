@@ -79,9 +79,10 @@ pub record AreTapesOf (book : Contents) (slots parts : ℕ) (tapes : List (List 
   pub made : tapes ≡ map tape_of_record records
 
 -- these are the records of such a run of one session, and what handsets read of their blocks
-pub record AreReadings (book : Contents) (slots : ℕ) (records : List Record) (readings : List TapeReading) : Type 0 where
-  pub live : HaveRunLive book slots 1 records
-  pub read : readings ≡ map reading_of_record records
+pub record AreReadings (book : Contents) (slots : ℕ) (records : List Record) (readings : List TapeReading) : Type 0
+  where
+    pub live : HaveRunLive book slots 1 records
+    pub read : readings ≡ map reading_of_record records
 
 -- these are the rows of the report of a run of one session
 pub record AreReportRows (book : Contents) (slots : ℕ) (rows : List Row) : Type 0 where

@@ -1,4 +1,4 @@
-use Rattle.std.proofs.Common.{◌≡◌, ◌<◌, length, rules}
+use Rattle.std.proofs.Common.{◌≡◌, rules}
 use native.Mathlib.Omega.{arith}
 use Rattle.report.specs.declared.fault.ReportFault.TheVariants as cells
 use Rattle.chart.proofs.SectionLaws.{cells_differ, section_drawn}

@@ -1,4 +1,4 @@
-use Rattle.std.proofs.Common.{◌≡◌, ◌+◌, ◌-◌, ◌*◌, ◌/◌, ◌<◌, ◌≤◌, ◌++◌, ◌&&◌, List, Some, ℕ, drop, take, length, map, slice_index, nat_le, nat_lt, if◌then◌else◌}
+use Rattle.std.proofs.Common.{◌≡◌, drop}
 use Rattle.bsc_table.specs.Record.{accepted_from, accepted_in}
 use Rattle.chart.specs.Kept.{all_kept, HavePeriods}
 use Rattle.chart.proofs.kept.accepted_in.Given as goal

@@ -1,4 +1,4 @@
-use Rattle.std.proofs.Common.{◌≡◌, ◌++◌, List, Option, Some, None, append-nil, ap, subst, sym, ◌∙◌}
+use Rattle.std.proofs.Common.{List, Option, Some, None, append-nil, ap, subst, sym, ◌∙◌}
 use Rattle.std.specs.Option.{option_map, option_to_list}
 use Rattle.bsc_table.specs.Record.{added_by, start_of}
 use Rattle.chart.specs.declared.kept.KeptMessage.{KeptMessage}

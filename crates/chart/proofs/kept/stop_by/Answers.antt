@@ -1,5 +1,4 @@
 use Rattle.std.proofs.Common.{arith, length, ◌<◌}
-use Rattle.std.proofs.lemmas.List.{get_or_default}
 use Rattle.std.proofs.lemmas.List.Edits.{map_over_more}
 use Rattle.chart.specs.Kept.{kept_stopped}
 use Rattle.chart.proofs.kept.stop_by.Goals as goal

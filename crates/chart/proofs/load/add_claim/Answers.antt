@@ -1,4 +1,4 @@
-use Rattle.std.proofs.Common.{◌≡◌, ◌<◌, ◌≤◌, ◌+◌, ◌∙◌, ℕ, ap, length, slice_index, subst, sym}
+use Rattle.std.proofs.Common.{◌+◌, ◌∙◌, ℕ, ap, length, slice_index}
 use native.Mathlib.Omega.{arith}
 use Rattle.bsc_table.specs.Record.{claim_of}
 use Rattle.chart.specs.Kept.{accepted_kept}

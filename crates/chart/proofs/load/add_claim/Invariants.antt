@@ -1,4 +1,4 @@
-use Rattle.std.proofs.Common.{◌≡◌, ◌+◌, ◌-◌, ◌*◌, ◌/◌, ◌<◌, ◌≤◌, ◌++◌, ◌&&◌, List, Some, ℕ, drop, take, length, map, slice_index, nat_le, nat_lt, if◌then◌else◌}
+use Rattle.std.proofs.Common.{◌≡◌, ◌+◌, ◌<◌, ◌≤◌, ◌&&◌, ℕ, length, slice_index, nat_le, nat_lt, if◌then◌else◌}
 use Rattle.bsc_table.specs.Claim.{share_at}
 use Rattle.bsc_table.specs.Record.{claim_of}
 use Rattle.chart.specs.Kept.{accepted_kept}
@@ -10,5 +10,6 @@ invariant-loop-slot l = record {
   before : l.end ≤ l.kept.accepted → l.slot ≤ l.kept.accepted;
   same : length l.loads ≡ length l.fn.loads;
   each : (slot : ℕ) → slot < length l.fn.loads → slice_index l.loads slot ≡ slice_index l.fn.loads slot
-      + (if nat_le l.kept.accepted slot && nat_lt slot l.slot then share_at slot (claim_of (accepted_kept l.kept)) else 0);
+      + (if nat_le l.kept.accepted slot && nat_lt slot l.slot
+      then share_at slot (claim_of (accepted_kept l.kept)) else 0);
 }

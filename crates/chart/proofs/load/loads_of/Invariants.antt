@@ -1,4 +1,4 @@
-use Rattle.std.proofs.Common.{◌≡◌, ◌+◌, ◌-◌, ◌*◌, ◌/◌, ◌<◌, ◌≤◌, ◌++◌, ◌&&◌, List, Some, ℕ, drop, take, length, map, slice_index, nat_le, nat_lt, if◌then◌else◌}
+use Rattle.std.proofs.Common.{◌≡◌, ◌+◌, ◌<◌, ℕ, drop, length, slice_index}
 use Rattle.bsc_table.specs.Claim.{claimed_at}
 use Rattle.bsc_table.specs.Record.{claims_of}
 use Rattle.chart.specs.Kept.{all_kept}

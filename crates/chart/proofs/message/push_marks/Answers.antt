@@ -1,4 +1,4 @@
-use Rattle.std.proofs.Common.{◌≡◌, ◌++◌, ap, length, sym, subst}
+use Rattle.std.proofs.Common.{length}
 use native.Mathlib.Omega.{arith}
 use Rattle.bsc_table.specs.Book.{air_pairs}
 use Rattle.chart.specs.Kept.{accepted_kept}

@@ -1,4 +1,4 @@
-use Rattle.std.proofs.Common.{◌≡◌, ◌+◌, ◌-◌, ◌*◌, ◌/◌, ◌<◌, ◌≤◌, ◌++◌, ◌&&◌, List, Some, ℕ, drop, take, length, map, slice_index, nat_le, nat_lt, if◌then◌else◌}
+use Rattle.std.proofs.Common.{◌≡◌, drop}
 use Rattle.handset.specs.Keeping.{messages_of}
 use Rattle.chart.specs.Message.{text_shown}
 use Rattle.chart.proofs.message.text_shown.Given as goal

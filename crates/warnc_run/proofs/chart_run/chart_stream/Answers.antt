@@ -19,7 +19,8 @@ returns-in-Ok-write_chart-clause-ok g c =
       read = read.consumed;
       ended = read.ended;
       meant = charted c.session_laws.ensures.one c.run_laws.ensures c.order_laws.ensures read.input c.in-Ok.book
-          c.args.slots c.args.wanted c.in_ok-records.records.items c.deref.result.now (readings_of c.in_ok-records.readings.items)
+          c.args.slots c.args.wanted c.in_ok-records.records.items c.deref.result.now
+          (readings_of c.in_ok-records.readings.items)
           (readings_of c.deref-2.result.now) few read.meant c.in_ok-records.ensures.ok c.deref.ensures.value
           (ap readings_of c.deref-2.ensures.value);
       appended = c.in-Ok-write_chart.ensures.ok;
@@ -31,7 +32,8 @@ returns-clause-err g c =
     let wrote = c.in-Err-write_chart.ensures in
     let few : c.args.slots ≤ 65535 = omega (arith, c.ranges.slots.fits) in
     fault_of_report c.args.slots (IsCharted c.args.slots c.args.wanted) _ _ _ _ c.in-Err-write_chart.fault
-    (never_cells c.in-Err-write_chart.fault c.in_ok-records.records.items c.deref.result.now (readings_of c.in_ok-records.readings.items)
+    (never_cells c.in-Err-write_chart.fault c.in_ok-records.records.items c.deref.result.now
+    (readings_of c.in_ok-records.readings.items)
     (readings_of c.deref-2.result.now) c.deref.ensures.value c.in_ok-records.ensures.ok.read
     (ap readings_of c.deref-2.ensures.value) (λ is. wrote.cells (ap Err is)))
     (λ is. record {
@@ -40,7 +42,8 @@ returns-clause-err g c =
       read = read.consumed;
       ended = read.ended;
       meant = charted c.session_laws.ensures.one c.run_laws.ensures c.order_laws.ensures read.input c.in-Ok.book
-          c.args.slots c.args.wanted c.in_ok-records.records.items c.deref.result.now (readings_of c.in_ok-records.readings.items)
+          c.args.slots c.args.wanted c.in_ok-records.records.items c.deref.result.now
+          (readings_of c.in_ok-records.readings.items)
           (readings_of c.deref-2.result.now) few read.meant c.in_ok-records.ensures.ok c.deref.ensures.value
           (ap readings_of c.deref-2.ensures.value);
       front = wrote.front (ap Err is);

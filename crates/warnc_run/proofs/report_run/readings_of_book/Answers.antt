@@ -1,7 +1,5 @@
-use Rattle.std.proofs.Common.{◌≤◌, ◌∙◌, ap, map}
+use Rattle.std.proofs.Common.{◌≤◌}
 use native.Mathlib.Omega.{arith}
-use Rattle.bsc_table.specs.Record.{Record}
-use Rattle.warnc_run.specs.Reported.{reading_of_record}
 use Rattle.warnc_run.proofs.Readings.{run_has_tapes}
 use Rattle.warnc_run.proofs.Written.{records_are_few}
 use Rattle.warnc_run.proofs.report_run.readings_of_book.Goals as goal
