@@ -1,5 +1,5 @@
 -- What is kept of the tapes of a run so far (own), and when that stands for a list of tapes.
-use Rattle.std.specs.Prelude.{◌≡◌, ⊤, ℕ, Bool, true, false, ◌==◌, Option, Some, None, List, [], map, find, All}
+use Rattle.std.specs.Prelude.{◌≡◌, ℕ, true, false, ◌==◌, Option, Some, None, List, [], map, find, All}
 use Rattle.cbsp_wire.specs.declared.message.Cell.{Cell}
 use Rattle.bsc_table.specs.Record.{Record}
 use Rattle.verification.specs.declared.findings.CellFinding.{CellFinding}

@@ -5,16 +5,14 @@ use Rattle.std.specs.Prelude.{⊤, ◌||◌}
 use Rattle.std.specs.Option.{option_map}
 use Rattle.std.specs.List.{AllByRecursion, Contains, list_any, slice_get}
 use Rattle.std.proofs.lemmas.List.{length_push}
-use Rattle.cbs_page.specs.declared.content.Content.{Content}
 use Rattle.scheduler.specs.Air.{layer, layer_of}
 use Rattle.bsc_table.specs.declared.command.Category.{Category}
 use Rattle.bsc_table.specs.declared.command.Category.TheVariants.{High, Normal, Background}
 use Rattle.bsc_table.specs.declared.command.Command.{Command}
 use Rattle.bsc_table.specs.declared.command.Command.TheVariants as commands
 use Rattle.bsc_table.specs.declared.entry.Entry.{Entry}
-use Rattle.bsc_table.specs.Record.{Accepted, accepted_after, accepted_from, accepted_in, added_by, behind_of}
-use Rattle.bsc_table.specs.Record.{is_background, is_stop_of, rank_of, replaced_in, start_of, stop_after, stopped_by}
-use Rattle.bsc_table.specs.Record.{written_behind}
+use Rattle.bsc_table.specs.Record.{Accepted, accepted_after, accepted_from, accepted_in, added_by}
+use Rattle.bsc_table.specs.Record.{is_background, is_stop_of, rank_of, start_of, stop_after, stopped_by}
 use Rattle.cbch_blocks.specs.RecordBlocks.{pages_from, pages_of_command, pages_of_entry}
 use Rattle.verification.specs.Asked.{AskedMessage, asked_by, asked_from, asked_in, stop_among}
 

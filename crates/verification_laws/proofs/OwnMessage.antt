@@ -1,33 +1,22 @@
 -- The message of an aired page, by its pair and by its number.
-use Rattle.std.proofs.Common.{◌≡◌, ℕ, ◌+◌, ◌-◌, ◌≤◌, ◌<◌, Bool, true, false, Option, Some, None, List, [], ◌∷◌, length, map, get_or}
-use Rattle.std.proofs.Common.{refl, sym, ap, subst, ◌∙◌, arith, inl, inr, eqb, count_by}
-use Rattle.std.specs.Prelude.{◌&&◌, ◌||◌, ◌==◌, ◌⊎◌, not, nat_le, nat_lt}
-use Rattle.std.specs.List.{All, AllPairs, AllByRecursion, Contains, list_all, list_any, range_with_len, slice_get, slice_range}
-use Rattle.std.proofs.lemmas.Bool.{and_parts, cases_Bool, cases_eq, cases_lt, eq-eqb, eqb-true, or_cases}
-use Rattle.std.proofs.lemmas.Bool.Decides.{nat_tests}
-use Rattle.std.proofs.lemmas.List.{get_or_default, length-map, get_or-map}
-use Rattle.std.proofs.lemmas.List.Elements.{All-contains}
+use Rattle.std.proofs.Common.{◌≡◌, ℕ, true, None, List, [], get_or}
+use Rattle.std.proofs.Common.{sym, ap, subst, ◌∙◌, arith, inl, inr}
+use Rattle.std.specs.Prelude.{◌==◌}
+use Rattle.std.specs.List.{Contains}
+use Rattle.std.proofs.lemmas.Bool.{and_parts, cases_eq, cases_lt, eq-eqb, eqb-true}
+use Rattle.std.proofs.lemmas.List.{get_or_default}
 use Rattle.cbs_page.specs.declared.octets.PageView.{PageView}
-use Rattle.scheduler.specs.Message.{ScheduledMessage, IsBeforeStop, release, due}
-use Rattle.scheduler.specs.Air.{Air, IsPending, airs, layer}
-use Rattle.scheduler.specs.Background.{foreground}
-use Rattle.scheduler.specs.Pages.{airs_page, times_between}
+use Rattle.scheduler.specs.Air.{airs}
 use Rattle.bsc_table.specs.declared.entry.Entry.{Entry}
-use Rattle.bsc_table.specs.Guarantee.{IsUncut, IsUpToStop}
 use Rattle.bsc_table.specs.Legal.{IsLegal}
-use Rattle.bsc_table.specs.Promised.{LegalPagesAreAiredOnce}
 use Rattle.bsc_table.specs.Record.{Record, Accepted, accepted_in, messages_in}
-use Rattle.bsc_table.proofs.History.Ranks.{Contains-filter}
-use Rattle.composition.proofs.Aired.{AreSound, IsAired, IsAiredAs, all_aired, same_pair}
+use Rattle.composition.proofs.Aired.{AreSound, IsAiredAs, same_pair}
 use Rattle.composition.proofs.Composed.{message_there, messages_rise}
 use Rattle.composition.proofs.Laws.{Laws}
 use Rattle.composition.proofs.Sent.{sent_by}
-use Rattle.verification.specs.declared.difference.Kind.TheVariants as kinds
-use Rattle.verification.specs.declared.judged.JudgedPage.{JudgedPage}
 use Rattle.verification.specs.declared.sent.SentPage.{SentPage}
 use Rattle.verification.specs.Asked.{AskedMessage, is_page_of}
-use Rattle.verification.specs.Difference as wanted
-use Rattle.verification.specs.Judged.{is_right, judged, judged_in}
+use Rattle.verification.specs.Judged.{is_right, judged}
 use Rattle.verification_laws.proofs.AskedOf.{IsComing}
 use Rattle.verification_laws.proofs.RightPages.{IsKept, kept-in-time, right-page}
 use Rattle.verification_laws.proofs.Slots.{IsOwn}

@@ -1,8 +1,8 @@
 -- A cell's own tape has no difference.
-use Rattle.std.proofs.Common.{◌≡◌, ℕ, ◌+◌, ◌<◌, ◌≤◌, Bool, true, false, cond, List, [], ◌∷◌, ◌++◌, length, map, refl, sym, ap, subst}
+use Rattle.std.proofs.Common.{◌≡◌, ◌+◌, Bool, true, cond, List, [], ◌∷◌, ◌++◌, map, refl, sym, ap, subst}
 use Rattle.std.proofs.Common.{◌∙◌, arith, get_or, None}
 use Rattle.std.specs.Prelude.{◌&&◌, ◌||◌, ◌==◌}
-use Rattle.std.specs.List.{AllByRecursion, Contains, flat_map, list_any}
+use Rattle.std.specs.List.{AllByRecursion, flat_map, list_any}
 use Rattle.std.specs.List.Sorted.{IsPermutation}
 use Rattle.std.proofs.lemmas.Bool.{eq-eqb}
 use Rattle.std.proofs.lemmas.List.Concat.{flat_map-cons}
@@ -12,7 +12,7 @@ use Rattle.std.proofs.lemmas.List.Sorted.{length_permutation}
 use Rattle.cbs_page.specs.declared.octets.PageView.{PageView}
 use Rattle.bsc_table.specs.Legal.{IsLegal}
 use Rattle.bsc_table.specs.Promised.{LegalPagesAreAiredOnce}
-use Rattle.bsc_table.specs.Record.{Record, Accepted, accepted_in}
+use Rattle.bsc_table.specs.Record.{Record, accepted_in}
 use Rattle.cbch_blocks.specs.RecordBlocks.{blocks_of, blocks_of_slot, page_aired}
 use Rattle.composition.proofs.Aired.{AreSound, IsAired, all_aired, can_send_aired}
 use Rattle.composition.proofs.Composed.{sound_of}
@@ -21,16 +21,16 @@ use Rattle.verification.specs.declared.difference.Difference.{Difference}
 use Rattle.verification.specs.declared.difference.Kind.TheVariants as kinds
 use Rattle.verification.specs.declared.sent.SentPage.{SentPage}
 use Rattle.verification.specs.Asked.{AskedMessage, asked_in, is_asked, is_page_of}
-use Rattle.verification.specs.Difference.{AreDifferences, all_differences, broadcast_differences, is_named_as}
-use Rattle.verification.specs.Difference.{message_differences, not_ordered_after, page_differences}
+use Rattle.verification.specs.Difference.{all_differences, broadcast_differences, is_named_as}
+use Rattle.verification.specs.Difference.{message_differences, not_ordered_after}
 use Rattle.verification.specs.Judged.{judged_in}
 use Rattle.verification.specs.Sent.{sent_in}
 use Rattle.verification_laws.specs.OwnTapes.{NothingIsFound, OwnTapesDifferNowhere}
-use Rattle.verification_laws.proofs.AskedOf.{IsAsked, IsComing, all_asked, asked_are_accepted, some_asked}
+use Rattle.verification_laws.proofs.AskedOf.{IsAsked, all_asked, asked_are_accepted, some_asked}
 use Rattle.verification_laws.proofs.OwedPages.{broadcasts-keep, sent_by_air}
 use Rattle.verification_laws.proofs.OwnMessage.{own-kept}
 use Rattle.verification_laws.proofs.RightPages.{all-judged, pages-keep}
-use Rattle.verification_laws.proofs.Slots.{IsOwn, StandAt, all_own, sent_of_slots}
+use Rattle.verification_laws.proofs.Slots.{IsOwn, all_own, sent_of_slots}
 
 -- what the blocks send is what the slots aired
 aired : (r : Record) → AreSound r.log → IsLegal r → AllByRecursion (IsAired r.log) r.air

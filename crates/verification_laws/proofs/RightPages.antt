@@ -1,13 +1,12 @@
 -- The pages of a message that the cell aired are right, and come in its time.
 use Rattle.std.proofs.Common.{◌≡◌, ℕ, zero, suc, ◌+◌, ◌-◌, ◌*◌, ◌<◌, ◌≤◌, Bool, true, false, cond, Option, Some, None, List}
 use Rattle.std.proofs.Common.{[], ◌∷◌, ◌++◌, length, map, filter, find, get_or, refl, sym, ap, subst, ◌∙◌, arith, inl, inr}
-use Rattle.std.proofs.Common.{eqb, ⊎_elim}
-use Rattle.std.specs.Prelude.{◌&&◌, ◌||◌, ◌==◌, ◌⊎◌, not, nat_le, nat_lt, encode_utf8_all}
+use Rattle.std.specs.Prelude.{◌&&◌, ◌==◌, ◌⊎◌, not, nat_le, nat_lt, encode_utf8_all}
 use Rattle.std.specs.Option.{option_map, option_to_list}
-use Rattle.std.specs.List.{AllByRecursion, Contains, flat_map, list_any, range_with_len, slice_get}
+use Rattle.std.specs.List.{AllByRecursion, Contains, flat_map, slice_get}
 use Rattle.std.specs.Str.{bytes_eq}
 use Rattle.std.proofs.Math.Nat.{mul-le-mul_right}
-use Rattle.std.proofs.lemmas.Bool.{and_parts, eq-eqb, eqb-true}
+use Rattle.std.proofs.lemmas.Bool.{eq-eqb}
 use Rattle.std.proofs.lemmas.Bool.Decides.{nat_tests}
 use Rattle.std.proofs.lemmas.Cmp.{nat_list_eq_equiv}
 use Rattle.std.proofs.lemmas.List.Concat.{flat_map-cons}
@@ -15,12 +14,11 @@ use Rattle.cbs_page.specs.declared.content.Content.{Content}
 use Rattle.cbs_page.specs.declared.octets.PageView.{PageView}
 use Rattle.cbs_page.specs.Coding.{alphabet_of}
 use Rattle.cbs_page.specs.Text.{text_in, text_of_page}
-use Rattle.scheduler.specs.Message.{ScheduledMessage, IsBeforeStop}
+use Rattle.scheduler.specs.Message.{IsBeforeStop}
 use Rattle.scheduler.specs.Air.{Air, IsPending}
 use Rattle.bsc_table.specs.declared.entry.Entry.{Entry}
 use Rattle.bsc_table.specs.Record.{Accepted}
 use Rattle.cbch_blocks.specs.RecordBlocks.{pages_from}
-use Rattle.verification.specs.declared.difference.Difference.{Difference}
 use Rattle.verification.specs.declared.difference.Kind.{Kind}
 use Rattle.verification.specs.declared.difference.Kind.TheVariants as kinds
 use Rattle.verification.specs.declared.judged.JudgedPage.{JudgedPage}

@@ -5,7 +5,7 @@ use Rattle.verification.specs.declared.difference.Difference.{Difference}
 use Rattle.verification.specs.declared.difference.Kind.TheVariants as kinds
 use Rattle.verification.specs.declared.sent.SentPage.{SentPage}
 use Rattle.verification.specs.Asked.{AskedMessage}
-use Rattle.verification.specs.Difference.{not_ordered, not_ordered_after}
+use Rattle.verification.specs.Difference.{not_ordered_after}
 use Rattle.verification.specs.Kept.{asked_of}
 use Rattle.verification.specs.Names.{AreNames, Pair, has_name, is_pair}
 use Rattle.verification.proofs.ListLaws.{rest-more}

@@ -1,5 +1,5 @@
-use Rattle.std.proofs.Common.{◌≡◌, ◌≤◌, ◌∙◌, ◌+◌, ◌++◌, [], ◌∷◌, List, Option, All, IsTrue, ap, sym, subst, arith, drop, length}
-use Rattle.std.proofs.Common.{map, filter, append-nil, cond, true, false, ℕ}
+use Rattle.std.proofs.Common.{◌≡◌, ◌≤◌, ◌∙◌, ◌+◌, ◌++◌, [], ◌∷◌, List, Option, All, IsTrue, ap, sym, subst, arith, drop}
+use Rattle.std.proofs.Common.{map, filter, append-nil, true, false}
 use Rattle.std.specs.List.{AllPairs}
 use Rattle.std.specs.Option.{option_to_list}
 use Rattle.std.proofs.lemmas.List.{drop_all, take_rest}
