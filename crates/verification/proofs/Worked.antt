@@ -72,7 +72,8 @@ unfolding encode
 worked_late = refl
 
 worked_stopped :
-    found 12 (write ∷ kill 7 ∷ []) (whole ++ (idle ++ (idle ++ (idle ++ (page_of 0x10 0x12 65 ++ page_of 0x10 0x22 66)))))
+    found 12 (write ∷ kill 7 ∷ []) (whole ++ (idle ++ (idle ++
+    (idle ++ (page_of 0x10 0x12 65 ++ page_of 0x10 0x22 66)))))
     ≡ at 7 kinds.AfterStop ∷ []
 unfolding encode
 worked_stopped = refl

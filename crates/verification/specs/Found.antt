@@ -10,7 +10,8 @@ use Rattle.verification.specs.Difference.{AreDifferences}
 use Rattle.handset.specs.Recording.{TapeRecording}
 use Rattle.verification.specs.Rows.{is_tape_of, other_rows}
 
--- the cells of the run, each with what was found of it, the cells of the tapes, and the rows of tapes that aren't judged
+-- the cells of the run, each with what was found of it, the cells of the tapes, and the rows of tapes that aren't
+-- judged
 pub record FindingsState : Type 0 where
   pub cells : List CellState
   pub seen : List Cell

@@ -1,5 +1,6 @@
 -- The messages that were asked are those that the cell accepted, one for one.
-use Rattle.std.proofs.Common.{◌≡◌, ℕ, zero, suc, ◌+◌, ◌<◌, Bool, true, false, cond, Option, Some, None, List, [], ◌∷◌, ◌++◌}
+use Rattle.std.proofs.Common.{◌≡◌, ℕ, zero, suc, ◌+◌, ◌<◌, Bool, true, false, cond, Option, Some, None, List, [], ◌∷◌}
+use Rattle.std.proofs.Common.{◌++◌}
 use Rattle.std.proofs.Common.{length, map, find, get_or, refl, sym, ap, subst, ◌∙◌, arith, append-nil, append_assoc}
 use Rattle.std.specs.Prelude.{⊤, ◌||◌}
 use Rattle.std.specs.Option.{option_map}
@@ -93,7 +94,8 @@ foreground High is = refl
 foreground Normal is = refl
 foreground Background is = cc
 
-added : (log later : List Entry) (all : List Accepted) (place slot : ℕ) (start : Option ℕ) (command : Command) (e : Entry)
+added : (log later : List Entry) (all : List Accepted) (place slot : ℕ) (start : Option ℕ) (command : Command)
+    (e : Entry)
     → slice_get log place ≡ Some e → e.command ≡ command →
     AreComing log later (asked_from start command later) (added_by all place slot start command)
 added log later all place slot None (commands.Write id serial replaces category period broadcasts dcs contents) e there

@@ -5,3 +5,4 @@ pub mod Lists
 pub mod OwnMessage
 pub mod OwedPages
 pub mod OwnTapes
+pub mod OwnRuns

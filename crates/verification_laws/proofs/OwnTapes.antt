@@ -43,7 +43,11 @@ sent-is r sound legal =
 
 own-all : (r : Record) → AreSound r.log → IsLegal r → AllByRecursion (IsOwn r.log r.air) (sent_by_air r)
 own-all r sound legal =
-    all_own r.log r.air 0 r.air (λ i within. (omega arith, ap (λ k. get_or r.air k None) (let e : 0 + i ≡ i = omega arith in e)))
+    all_own r.log r.air 0 r.air (λ i within. (
+      omega arith,
+      ap (λ k. get_or r.air k None)
+          (let e : 0 + i ≡ i = omega arith in e),
+    ))
     (aired r sound legal)
 
 -- a message that was asked

@@ -1,6 +1,8 @@
 -- The pages of a message that the cell aired are right, and come in its time.
-use Rattle.std.proofs.Common.{◌≡◌, ℕ, zero, suc, ◌+◌, ◌-◌, ◌*◌, ◌<◌, ◌≤◌, Bool, true, false, cond, Option, Some, None, List}
-use Rattle.std.proofs.Common.{[], ◌∷◌, ◌++◌, length, map, filter, find, get_or, refl, sym, ap, subst, ◌∙◌, arith, inl, inr}
+use Rattle.std.proofs.Common.{◌≡◌, ℕ, zero, suc, ◌+◌, ◌-◌, ◌*◌, ◌<◌, ◌≤◌, Bool, true, false, cond, Option, Some, None}
+use Rattle.std.proofs.Common.{List}
+use Rattle.std.proofs.Common.{[], ◌∷◌, ◌++◌, length, map, filter, find, get_or, refl, sym, ap, subst, ◌∙◌, arith, inl}
+use Rattle.std.proofs.Common.{inr}
 use Rattle.std.specs.Prelude.{◌&&◌, ◌==◌, ◌⊎◌, not, nat_le, nat_lt, encode_utf8_all}
 use Rattle.std.specs.Option.{option_map, option_to_list}
 use Rattle.std.specs.List.{AllByRecursion, Contains, flat_map, slice_get}
@@ -24,7 +26,8 @@ use Rattle.verification.specs.declared.difference.Kind.TheVariants as kinds
 use Rattle.verification.specs.declared.judged.JudgedPage.{JudgedPage}
 use Rattle.verification.specs.declared.sent.SentPage.{SentPage}
 use Rattle.verification.specs.Asked.{AskedMessage, is_page_of}
-use Rattle.verification.specs.Difference.{difference_of, differs, first_difference, is_over, is_stopped, page_differences}
+use Rattle.verification.specs.Difference.{difference_of, differs, first_difference, is_over, is_stopped}
+use Rattle.verification.specs.Difference.{page_differences}
 use Rattle.verification.specs.Difference.{page_numbers}
 use Rattle.verification.specs.Judged.{is_right, judged, judged_in, reads_as}
 use Rattle.verification_laws.proofs.AskedOf.{IsComing}

@@ -1,5 +1,6 @@
 -- The pages that the blocks of slots send, each with its slot.
-use Rattle.std.proofs.Common.{◌≡◌, ℕ, zero, suc, ◌+◌, ◌*◌, ◌/◌, ◌<◌, Bool, true, false, cond, Option, Some, None, List, []}
+use Rattle.std.proofs.Common.{◌≡◌, ℕ, zero, suc, ◌+◌, ◌*◌, ◌/◌, ◌<◌, Bool, true, false, cond, Option, Some, None, List}
+use Rattle.std.proofs.Common.{[]}
 use Rattle.std.proofs.Common.{◌∷◌, ◌++◌, length, map, filter, get_or, refl, sym, ap, subst, ◌∙◌, arith}
 use Rattle.std.specs.Prelude.{◌||◌}
 use Rattle.std.specs.Option.{option_to_list}

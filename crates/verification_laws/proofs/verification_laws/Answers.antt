@@ -1,5 +1,7 @@
 use Rattle.composition.proofs.Laws.{Laws}
 use Rattle.bsc_table.specs.Promised.{LegalPagesAreAiredOnce}
+use Rattle.verification_laws.specs.OwnTapes.{NothingIsFound, OwnTapesKeepTheirCells}
+use Rattle.verification_laws.proofs.OwnRuns.{kept-cells, no-rows-found, runs-kept}
 use Rattle.verification_laws.proofs.OwnTapes.{nothing-found, own-tapes}
 use Rattle.verification_laws.proofs.verification_laws.Goals as goal
 
@@ -28,7 +30,12 @@ returns c =
       made = c.tape_laws.ensures.made;
     } in
     let once : LegalPagesAreAiredOnce = c.legal_histories.ensures.legal_pages_are_aired_once in
+    let kept : OwnTapesKeepTheirCells = kept-cells (own-tapes laws once) in
+    let nothing : NothingIsFound = nothing-found laws once in
     record {
       own_tapes_differ_nowhere = own-tapes laws once;
-      nothing_is_found = nothing-found laws once;
+      own_tapes_keep_their_cells = kept;
+      nothing_is_found = nothing;
+      own_tapes_have_no_rows = runs-kept kept;
+      no_rows_are_found = no-rows-found nothing;
     }

@@ -1,4 +1,5 @@
-use Rattle.std.proofs.Common.{◌≡◌, ◌∙◌, ◌+◌, ◌<◌, ◌++◌, [], ◌∷◌, true, false, map, length, sym, ap, arith, append-nil, subst}
+use Rattle.std.proofs.Common.{◌≡◌, ◌∙◌, ◌+◌, ◌<◌, ◌++◌, [], ◌∷◌, true, false, map, length, sym, ap, arith, append-nil}
+use Rattle.std.proofs.Common.{subst}
 use Rattle.std.proofs.Common.{List, take, drop, cond, Bool}
 use Rattle.std.specs.Prelude.{◌||◌}
 use Rattle.verification.specs.declared.difference.Difference.{Difference}

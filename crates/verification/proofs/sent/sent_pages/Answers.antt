@@ -26,7 +26,8 @@ step : (c : goal.Joined-page_in_front) (new more : List SentPage) → new ≡ c.
     new ++ sent_from (c.loop-place.place + 1) (drop (c.loop-place.place + 1) c.args.blocks.now)
     ≡ sent_in c.args.blocks.now
 step c new more added here =
-    rest-more c.loop-place.sent.items new more (sent_from c.loop-place.place (drop c.loop-place.place c.args.blocks.now))
+    rest-more c.loop-place.sent.items new more (sent_from c.loop-place.place
+    (drop c.loop-place.place c.args.blocks.now))
     (sent_from (c.loop-place.place + 1) (drop (c.loop-place.place + 1) c.args.blocks.now)) (sent_in c.args.blocks.now)
     c.loop-place.invariant
     (sent-next c.args.blocks.now c.loop-place.place (omega arith)

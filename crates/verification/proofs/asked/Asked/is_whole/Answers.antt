@@ -10,7 +10,8 @@ use Rattle.verification.proofs.asked.Asked.is_whole.Goals as goal
 
 pub returns-then-not-has_right_page : goal.returns-then-not-has_right_page
 returns-then-not-has_right_page c =
-    sym (sym c.loop-place.invariant ∙ any-missing (has_page (asked_of c.args.self.now) c.args.pages.now c.args.broadcast)
+    sym (sym c.loop-place.invariant ∙ any-missing (has_page (asked_of c.args.self.now) c.args.pages.now
+    c.args.broadcast)
     (c.loop-place.place + 1) (length c.args.self.now.contents.now - c.loop-place.place)
     (length c.args.self.now.contents.now - (c.loop-place.place + 1)) (omega arith)
     (has_page-in_time (asked_of c.args.self.now) c.args.pages.now c.args.broadcast (c.loop-place.place + 1)
