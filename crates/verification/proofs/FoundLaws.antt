@@ -1,5 +1,5 @@
 -- What is kept of tapes, after none and after one more.
-use Rattle.std.proofs.Common.{◌≡◌, ℕ, ◌<◌, Bool, true, false, cond, not, Option, Some, None, List, [], ◌∷◌, ◌++◌, length}
+use Rattle.std.proofs.Common.{◌≡◌, ◌<◌, Bool, true, false, cond, Option, Some, None, List, [], ◌∷◌, ◌++◌, length}
 use Rattle.std.proofs.Common.{map, find, get_or, refl, sym, ◌∙◌, ap, subst, arith, All, append-nil, append_assoc}
 use Rattle.std.specs.Prelude.{◌&&◌, ◌||◌, ◌==◌, MatchBool, if◌then◌else◌}
 use Rattle.std.specs.List.{AllByRecursion, flat_map, list_any}
@@ -76,7 +76,7 @@ find-new test (y ∷ xs) x none passes =
     (λ rest. find-new test xs x rest passes)
 
 -- cells are compared either way
-cell-symm : (a b : Cell) → is_cell a b ≡ is_cell b a
+pub cell-symm : (a b : Cell) → is_cell a b ≡ is_cell b a
 cell-symm a b =
     ap (λ (x : Bool). x && (a.ci == b.ci)) (nat_eq_equiv.symm a.lac b.lac)
     ∙ ap (λ (x : Bool). (b.lac == a.lac) && x) (nat_eq_equiv.symm a.ci b.ci)
@@ -88,7 +88,8 @@ stays tapes tape c other is =
     subst (λ o. IsFoundBy c.run o c.finding) (sym (find-same (is_tape_of c.run.cell) tapes tape other)) is
 
 -- a cell that had a tape, if this tape is of it
-stays-seen : (tapes : List TapeRecording) (tape : TapeRecording) (c : CellState) → list_any (is_tape_of tape.cell) tapes ≡ true →
+stays-seen : (tapes : List TapeRecording) (tape : TapeRecording) (c : CellState)
+    → list_any (is_tape_of tape.cell) tapes ≡ true →
     IsFound tapes c → IsFound (tapes ++ tape ∷ []) c
 stays-seen tapes tape c seen is = by_test (is_cell c.run.cell tape.cell) refl
   where
@@ -119,7 +120,8 @@ judged-first tapes tape old new unseen judged is =
         (sym (find-new (is_tape_of old.run.cell) tapes tape none same)) found
     by_test false other =
         let kept : new.finding ≡ old.finding =
-        subst (λ b. MatchBool b (IsFoundIn old.run tape.slots tape.blocks new.finding) (new.finding ≡ old.finding)) other
+        subst (λ b. MatchBool b (IsFoundIn old.run tape.slots tape.blocks new.finding) (new.finding ≡ old.finding))
+        other
         judged.finding in
         subst (λ f. IsFoundBy old.run (find (is_tape_of old.run.cell) (tapes ++ tape ∷ [])) f) (sym kept)
         (stays tapes tape old other is)
@@ -156,7 +158,8 @@ seen-more : (f : FindingsState) (tapes : List TapeRecording) (tape : TapeRecordi
     f.seen ≡ map (λ (t : TapeRecording). t.cell) tapes → seen ≡ f.seen ++ tape.cell ∷ [] →
     seen ≡ map (λ (t : TapeRecording). t.cell) (tapes ++ tape ∷ [])
 seen-more f tapes tape seen are more =
-    more ∙ ap (λ cells. cells ++ tape.cell ∷ []) are ∙ sym (map-append (λ (t : TapeRecording). t.cell) tapes (tape ∷ []))
+    more ∙ ap (λ cells. cells ++ tape.cell ∷ []) are ∙ sym (map-append (λ (t : TapeRecording). t.cell) tapes
+    (tape ∷ []))
 
 seen-any : (cell : Cell) (tapes : List TapeRecording) →
     list_any (is_cell cell) (map (λ (t : TapeRecording). t.cell) tapes) ≡ list_any (is_tape_of cell) tapes
@@ -181,7 +184,8 @@ known-of : (records : List Record) (f : FindingsState) (cell : Cell) (known : Bo
     is_known records cell ≡ known
 known-of records f cell known cells is = ap (λ rs. is_known rs cell) (sym cells) ∙ is
 
-pub taken-unknown : (records : List Record) (old new : FindingsState) (tapes : List TapeRecording) (tape : TapeRecording) →
+pub taken-unknown : (records : List Record) (old new : FindingsState) (tapes : List TapeRecording)
+    (tape : TapeRecording) →
     HasTaken records old tapes → is_known (map (λ (c : CellState). c.run) old.cells) tape.cell ≡ false →
     new.cells ≡ old.cells → new.seen ≡ old.seen ++ tape.cell ∷ [] →
     new.others ≡ old.others ++ row_of tape.cell findings.UnknownCell ∷ [] → HasTaken records new (tapes ++ tape ∷ [])
@@ -198,7 +202,8 @@ taken-unknown records old new tapes tape taken unknown cells seen others = recor
       ∙ sym (others-more records [] tapes tape);
 }
 
-pub taken-second : (records : List Record) (old new : FindingsState) (tapes : List TapeRecording) (tape : TapeRecording) →
+pub taken-second : (records : List Record) (old new : FindingsState) (tapes : List TapeRecording)
+    (tape : TapeRecording) →
     HasTaken records old tapes → is_known (map (λ (c : CellState). c.run) old.cells) tape.cell ≡ true →
     list_any (is_cell tape.cell) old.seen ≡ true →
     new.cells ≡ old.cells → new.seen ≡ old.seen ++ tape.cell ∷ [] →
@@ -229,9 +234,11 @@ runs-same tape (c ∷ old) new judged =
     (λ i within.
     let in_new : i < length new = omega (arith, length-map new run) in
     let in_old : i < length (c ∷ old) = omega (arith, judged.long) in
-    get_or-map run new i c c.run in_new ∙ (judged.each i c in_old).run ∙ sym (get_or-map run (c ∷ old) i c c.run in_old))
+    get_or-map run new i c c.run in_new ∙ (judged.each i c in_old).run
+    ∙ sym (get_or-map run (c ∷ old) i c c.run in_old))
 
-pub taken-first : (records : List Record) (old new : FindingsState) (tapes : List TapeRecording) (tape : TapeRecording) →
+pub taken-first : (records : List Record) (old new : FindingsState) (tapes : List TapeRecording) (tape : TapeRecording)
+    →
     HasTaken records old tapes → is_known (map (λ (c : CellState). c.run) old.cells) tape.cell ≡ true →
     list_any (is_cell tape.cell) old.seen ≡ false →
     AreJudgedBy tape old.cells new.cells → new.seen ≡ old.seen ++ tape.cell ∷ [] →

@@ -4,3 +4,4 @@ pub mod NameLaws
 pub mod SentLaws
 pub mod TimeLaws
 pub mod FoundLaws
+mod Worked

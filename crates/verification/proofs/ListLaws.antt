@@ -1,6 +1,6 @@
 -- Lists that are read from a place on: what is done and what is left are the whole.
-use Rattle.std.proofs.Common.{◌≡◌, ℕ, ◌+◌, ◌<◌, Bool, true, false, cond, Option, Some, List, [], ◌∷◌, ◌++◌, length, drop}
-use Rattle.std.proofs.Common.{drop-cons, get_or, find, suc, refl, sym, ◌∙◌, ap, arith, append_assoc, append-nil, map}
+use Rattle.std.proofs.Common.{◌≡◌, ℕ, ◌+◌, ◌<◌, Bool, true, false, cond, Some, List, [], ◌∷◌, ◌++◌, length, drop}
+use Rattle.std.proofs.Common.{drop-cons, get_or, find, suc, sym, ◌∙◌, ap, arith, append_assoc, append-nil, map}
 use Rattle.std.specs.Prelude.{◌&&◌}
 use Rattle.std.specs.List.{flat_map, list_all, range_with_len}
 use Rattle.std.proofs.lemmas.List.Concat.{flat_map-cons}

@@ -1,14 +1,12 @@
 -- The pages that are sent from a block on.
-use Rattle.std.proofs.Common.{◌≡◌, ℕ, ◌+◌, ◌<◌, Bool, true, false, cond, Option, Some, None, List, [], ◌∷◌, ◌++◌, length}
-use Rattle.std.proofs.Common.{drop, drop-cons, get_or, map, filter, refl, sym, ◌∙◌, ap, subst, arith, suc, All, IsTrue}
-use Rattle.std.specs.Option.{option_to_list}
-use Rattle.std.specs.List.{AllByRecursion}
+use Rattle.std.proofs.Common.{◌≡◌, ℕ, ◌+◌, ◌<◌, Bool, true, false, cond, List, [], ◌∷◌, ◌++◌, length}
+use Rattle.std.proofs.Common.{drop, drop-cons, get_or, map, filter, refl, sym, ◌∙◌, ap, arith, suc, All, IsTrue}
 use Rattle.std.proofs.lemmas.List.Elements.{All-append, All-nil, All-cons}
 use Rattle.cbs_page.specs.declared.octets.PageView.{PageView}
 use Rattle.cbs_page.specs.Page.{is_readable}
 use Rattle.handset.specs.Reception.{page_in_front}
 use Rattle.verification.specs.declared.sent.SentPage.{SentPage}
-use Rattle.verification.specs.Sent.{sent_at, sent_from, sent_in}
+use Rattle.verification.specs.Sent.{sent_at, sent_from}
 
 -- the page at a place, and those of the blocks after it
 pub sent-next : (blocks : List (List ℕ)) (place : ℕ) → place < length blocks →

@@ -1,13 +1,14 @@
 -- Pages whose slots never fall, and those of them that were sent in a time.
-use Rattle.std.proofs.Common.{◌≡◌, ℕ, ◌+◌, ◌/◌, ◌<◌, ◌≤◌, Bool, true, false, cond, List, [], ◌∷◌, ◌++◌, length, take, drop}
-use Rattle.std.proofs.Common.{map, filter, get_or, zero, suc, refl, sym, ◌∙◌, ap, subst, arith, All, inl, inr}
+use Rattle.std.proofs.Common.{◌≡◌, ℕ, ◌+◌, ◌/◌, ◌<◌, ◌≤◌, Bool, true, false, cond, List, [], ◌∷◌, ◌++◌, length, take}
+use Rattle.std.proofs.Common.{drop}
+use Rattle.std.proofs.Common.{map, filter, get_or, zero, suc, refl, sym, ◌∙◌, ap, arith, All, inl, inr}
 use Rattle.std.specs.Prelude.{◌==◌, ◌&&◌, ◌||◌, nat_le, nat_lt}
 use Rattle.std.specs.List.{AllPairs, AllWithin, list_any}
 use Rattle.std.specs.List.Sorted.{IsNonDecreasingBy}
 use Rattle.std.proofs.lemmas.Bool.{cases_eq}
 use Rattle.std.proofs.lemmas.Bool.Decides.{nat_tests}
 use Rattle.std.proofs.lemmas.List.{get_or-drop, get_or-map, length-drop, length-map}
-use Rattle.std.proofs.lemmas.List.Elements.{All-append, All-cons, All-nil, All-weaker}
+use Rattle.std.proofs.lemmas.List.Elements.{All-append, All-cons, All-nil}
 use Rattle.std.proofs.lemmas.List.Kept.{AllPairs-cons, AllPairs-filter}
 use Rattle.cbs_page.specs.declared.octets.PageView.{PageView}
 use Rattle.cbs_page.specs.Page.{is_readable}
@@ -112,7 +113,8 @@ between-points a j first count pages within also early begun inside late =
     (λ k d low high. too-late (release a j) (due a j) (get_or (drop first pages) k d).slot (late k d low high))
 
 -- the slots of the pages that a tape sends never fall
-front-from : (place : ℕ) (pages : List PageView) → All (λ (s : SentPage). place / 4 ≤ s.slot) (map (sent_at place) pages)
+front-from : (place : ℕ) (pages : List PageView) → All (λ (s : SentPage). place / 4 ≤ s.slot)
+    (map (sent_at place) pages)
 front-from place [] = All-nil (λ (s : SentPage). place / 4 ≤ s.slot)
 front-from place (page ∷ pages) =
     All-cons (λ (s : SentPage). place / 4 ≤ s.slot) (sent_at place page) (map (sent_at place) pages) (omega arith)

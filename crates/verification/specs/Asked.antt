@@ -1,5 +1,5 @@
 -- What a cell was asked to broadcast (own): the messages that it accepted.
-use Rattle.std.specs.Prelude.{ℕ, Bool, Option, Some, None, List, [], ◌∷◌, ◌++◌, find, ◌==◌, ◌&&◌}
+use Rattle.std.specs.Prelude.{ℕ, Bool, Option, Some, List, [], ◌∷◌, ◌++◌, find, ◌==◌, ◌&&◌}
 use Rattle.std.specs.Option.{option_map}
 use Rattle.std.specs.List.{list_any}
 use Rattle.cbs_page.specs.declared.content.Content.{Content}

@@ -1,5 +1,5 @@
 -- What is kept of the tapes of a run so far (own), and when that stands for a list of tapes.
-use Rattle.std.specs.Prelude.{◌≡◌, ⊤, ℕ, Bool, true, false, ◌==◌, Option, Some, None, List, [], map, find, All}
+use Rattle.std.specs.Prelude.{◌≡◌, ℕ, true, false, ◌==◌, Option, Some, None, List, [], map, find, All}
 use Rattle.cbsp_wire.specs.declared.message.Cell.{Cell}
 use Rattle.bsc_table.specs.Record.{Record}
 use Rattle.verification.specs.declared.findings.CellFinding.{CellFinding}
@@ -10,7 +10,8 @@ use Rattle.verification.specs.Difference.{AreDifferences}
 use Rattle.handset.specs.Recording.{TapeRecording}
 use Rattle.verification.specs.Rows.{is_tape_of, other_rows}
 
--- the cells of the run, each with what was found of it, the cells of the tapes, and the rows of tapes that aren't judged
+-- the cells of the run, each with what was found of it, the cells of the tapes, and the rows of tapes that aren't
+-- judged
 pub record FindingsState : Type 0 where
   pub cells : List CellState
   pub seen : List Cell

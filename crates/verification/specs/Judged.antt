@@ -1,5 +1,5 @@
 -- The pages of a message that were sent, each right or not (own).
-use Rattle.std.specs.Prelude.{ℕ, ◌-◌, Bool, false, ◌==◌, ◌&&◌, Option, Some, None, List, length, map, filter}
+use Rattle.std.specs.Prelude.{◌-◌, Bool, false, ◌==◌, ◌&&◌, Option, Some, None, List, length, map, filter}
 use Rattle.std.specs.Prelude.{encode_utf8_all}
 use Rattle.std.specs.List.{slice_get}
 use Rattle.std.specs.Str.{bytes_eq}

@@ -1,6 +1,6 @@
 -- What tapes have of what the cells of a run were asked (own): the rows of the cells in the order of their records, of
 -- each by the first of its tapes, and then those of the tapes of no cell and of cells that had one.
-use Rattle.std.specs.Prelude.{◌≡◌, ⊤, ℕ, ◌<◌, Bool, true, false, not, ◌==◌, if◌then◌else◌, Option, Some, None, List, []}
+use Rattle.std.specs.Prelude.{◌≡◌, ℕ, Bool, ◌==◌, if◌then◌else◌, Option, Some, None, List, []}
 use Rattle.std.specs.Prelude.{◌∷◌, ◌++◌, map, find, MatchBool}
 use Rattle.std.specs.List.{list_any}
 use Rattle.cbsp_wire.specs.declared.message.Cell.{Cell}

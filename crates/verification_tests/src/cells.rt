@@ -1,7 +1,8 @@
 //! Runs of cells, tapes, and what these have of what was asked, by lines.
 //!
 //! - `cell CI SLOTS` opens the book of a cell of location area 1.
-//! - `write ID SERIAL REPLACED CATEGORY PERIOD BROADCASTS LANGUAGE TEXT` and `kill ID SERIAL` are commands to it; serial
+//! - `write ID SERIAL REPLACED CATEGORY PERIOD BROADCASTS LANGUAGE TEXT` and `kill ID SERIAL` are commands to it;
+//! serial
 //!   numbers are hexadecimal, `-` stands for no message that is replaced, categories are high, normal and background,
 //!   and `/` ends each page of the text but the last. `play SLOTS` plays slots, and `end` the others.
 //! - `tape` takes the last run's own tape, and `blank` one of no slots. `idle SLOTS` and

@@ -1,4 +1,5 @@
-use Rattle.std.proofs.Common.{◌≡◌, ◌+◌, ◌-◌, ◌∙◌, ◌++◌, [], ◌∷◌, true, false, cond, sym, ap, arith, append-nil, List, Bool, refl}
+use Rattle.std.proofs.Common.{◌≡◌, ◌+◌, ◌-◌, ◌∙◌, ◌++◌, [], ◌∷◌, true, false, cond, sym, ap, arith, append-nil, List}
+use Rattle.std.proofs.Common.{Bool, refl}
 use Rattle.std.proofs.Common.{ℕ}
 use Rattle.std.specs.Prelude.{not, ◌&&◌, if◌then◌else◌}
 use Rattle.std.specs.List.{flat_map, range_with_len}

@@ -1,4 +1,4 @@
-use Rattle.std.proofs.Common.{◌≡◌, ◌∙◌, ◌+◌, ◌++◌, ap, sym, arith, List, drop, map, append_assoc}
+use Rattle.std.proofs.Common.{◌≡◌, ◌∙◌, ◌+◌, ◌++◌, ap, arith, List, drop, map, append_assoc}
 use Rattle.std.specs.List.{flat_map}
 use Rattle.verification.specs.declared.difference.Difference.{Difference}
 use Rattle.verification.specs.declared.judged.JudgedPage.{JudgedPage}

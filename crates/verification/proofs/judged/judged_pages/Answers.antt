@@ -1,4 +1,4 @@
-use Rattle.std.proofs.Common.{◌≡◌, ◌≤◌, ◌∙◌, ap, sym, subst, arith, drop}
+use Rattle.std.proofs.Common.{◌≤◌, ap, sym, subst, arith, drop}
 use Rattle.std.specs.List.{AllPairs}
 use Rattle.std.proofs.lemmas.List.{drop_all}
 use Rattle.verification.specs.declared.judged.JudgedPage.{JudgedPage}

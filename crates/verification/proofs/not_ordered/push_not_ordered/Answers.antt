@@ -1,11 +1,12 @@
-use Rattle.std.proofs.Common.{◌≡◌, ◌∙◌, ◌+◌, ◌<◌, ◌++◌, [], ◌∷◌, true, false, map, length, sym, ap, arith, append-nil, subst}
+use Rattle.std.proofs.Common.{◌≡◌, ◌∙◌, ◌+◌, ◌<◌, ◌++◌, [], ◌∷◌, true, false, map, length, sym, ap, arith, append-nil}
+use Rattle.std.proofs.Common.{subst}
 use Rattle.std.proofs.Common.{List, take, drop, cond, Bool}
 use Rattle.std.specs.Prelude.{◌||◌}
 use Rattle.verification.specs.declared.difference.Difference.{Difference}
 use Rattle.verification.specs.declared.difference.Kind.TheVariants as kinds
 use Rattle.verification.specs.declared.sent.SentPage.{SentPage}
 use Rattle.verification.specs.Asked.{AskedMessage}
-use Rattle.verification.specs.Difference.{not_ordered, not_ordered_after}
+use Rattle.verification.specs.Difference.{not_ordered_after}
 use Rattle.verification.specs.Kept.{asked_of}
 use Rattle.verification.specs.Names.{AreNames, Pair, has_name, is_pair}
 use Rattle.verification.proofs.ListLaws.{rest-more}

@@ -1,5 +1,5 @@
-use Rattle.std.proofs.Common.{◌≡◌, ◌≤◌, ◌∙◌, ◌+◌, ◌++◌, [], ◌∷◌, List, Option, All, IsTrue, ap, sym, subst, arith, drop, length}
-use Rattle.std.proofs.Common.{map, filter, append-nil, cond, true, false, ℕ}
+use Rattle.std.proofs.Common.{◌≡◌, ◌≤◌, ◌∙◌, ◌+◌, ◌++◌, [], ◌∷◌, List, Option, All, IsTrue, ap, sym, subst, arith, drop}
+use Rattle.std.proofs.Common.{map, filter, append-nil, true, false}
 use Rattle.std.specs.List.{AllPairs}
 use Rattle.std.specs.Option.{option_to_list}
 use Rattle.std.proofs.lemmas.List.{drop_all, take_rest}
@@ -26,7 +26,8 @@ step : (c : goal.Joined-page_in_front) (new more : List SentPage) → new ≡ c.
     new ++ sent_from (c.loop-place.place + 1) (drop (c.loop-place.place + 1) c.args.blocks.now)
     ≡ sent_in c.args.blocks.now
 step c new more added here =
-    rest-more c.loop-place.sent.items new more (sent_from c.loop-place.place (drop c.loop-place.place c.args.blocks.now))
+    rest-more c.loop-place.sent.items new more (sent_from c.loop-place.place
+    (drop c.loop-place.place c.args.blocks.now))
     (sent_from (c.loop-place.place + 1) (drop (c.loop-place.place + 1) c.args.blocks.now)) (sent_in c.args.blocks.now)
     c.loop-place.invariant
     (sent-next c.args.blocks.now c.loop-place.place (omega arith)

@@ -1,9 +1,8 @@
-use Rattle.std.proofs.Common.{◌≡◌, ◌≤◌, ◌∙◌, ◌-◌, ℕ, Bool, true, false, List, length, take, drop, ltb, ap, sym, subst, arith, rules}
+use Rattle.std.proofs.Common.{◌≡◌, ◌≤◌, ◌∙◌, ℕ, true, false, List, length, take, drop, ltb, ap, sym, subst, rules}
 use Rattle.std.specs.List.Sorted.{IsNonDecreasingBy, IsPartitionPoint}
 use Rattle.std.proofs.lemmas.List.{take_rest}
 use Rattle.std.proofs.lemmas.List.Sorted.{IsNonDecreasingBy-drop, IsPartitionPoint-from_clause, IsPartitionedBy-ltb}
 use Rattle.verification.specs.declared.judged.JudgedPage.{JudgedPage}
-use Rattle.verification.specs.Difference.{due, release}
 use Rattle.verification.specs.Asked.{AskedMessage}
 use Rattle.verification.specs.Kept.{asked_of}
 use Rattle.verification.proofs.TimeLaws.{between-points, rising-by}

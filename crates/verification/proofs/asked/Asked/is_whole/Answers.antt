@@ -1,4 +1,4 @@
-use Rattle.std.proofs.Common.{◌≡◌, ◌+◌, ◌-◌, ◌∙◌, true, false, sym, ap, arith, length}
+use Rattle.std.proofs.Common.{◌≡◌, ◌+◌, ◌-◌, ◌∙◌, true, sym, ap, arith, length}
 use Rattle.std.specs.Prelude.{◌==◌, ◌&&◌}
 use Rattle.std.specs.List.{list_any}
 use Rattle.verification.specs.declared.judged.JudgedPage.{JudgedPage}
@@ -10,7 +10,8 @@ use Rattle.verification.proofs.asked.Asked.is_whole.Goals as goal
 
 pub returns-then-not-has_right_page : goal.returns-then-not-has_right_page
 returns-then-not-has_right_page c =
-    sym (sym c.loop-place.invariant ∙ any-missing (has_page (asked_of c.args.self.now) c.args.pages.now c.args.broadcast)
+    sym (sym c.loop-place.invariant ∙ any-missing (has_page (asked_of c.args.self.now) c.args.pages.now
+    c.args.broadcast)
     (c.loop-place.place + 1) (length c.args.self.now.contents.now - c.loop-place.place)
     (length c.args.self.now.contents.now - (c.loop-place.place + 1)) (omega arith)
     (has_page-in_time (asked_of c.args.self.now) c.args.pages.now c.args.broadcast (c.loop-place.place + 1)

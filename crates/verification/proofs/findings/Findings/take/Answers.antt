@@ -1,4 +1,4 @@
-use Rattle.std.proofs.Common.{◌≡◌, ◌∙◌, ◌++◌, ◌∷◌, [], List, Bool, true, false, ap, sym, subst, map, refl}
+use Rattle.std.proofs.Common.{◌≡◌, ◌∙◌, ◌++◌, ◌∷◌, [], ap, sym, subst, map, refl}
 use Rattle.std.specs.List.{list_any}
 use Rattle.std.proofs.lemmas.List.{with_items_is}
 use Rattle.cbsp_wire.specs.Range.{is_cell}
@@ -55,7 +55,8 @@ returns c = λ records tapes taken. elim c.if-not-is_known.branch [
       ∙ ap (λ (f : FindingsState). f.seen ++ c.args.cell ∷ []) c.self.view_is)
       (ap (λ (i : Inside). i.others.items) w.self-inside-is ∙ w.in_ok-push-2.ensures.items
       ∙ ap (λ (f : FindingsState). f.others ++ row_of c.args.cell findings.SecondTape ∷ []) c.self.view_is)
-  | else-not-is_known+else-is_among+in_ok-judge_cells w ↦ taken-first records c.args.self.now (new c) tapes (tape c) taken
+  | else-not-is_known+else-is_among+in_ok-judge_cells w ↦ taken-first records c.args.self.now (new c) tapes (tape c)
+      taken
       (known c ∙ w.if-not-is_known.false)
       (ap (λ (f : FindingsState). list_any (is_cell c.args.cell) f.seen) (sym c.self.view_is)
       ∙ ap (list_any (is_cell c.args.cell)) (sym w.deref-else-not-is_known.ensures.value)

@@ -1,4 +1,4 @@
-use Rattle.std.proofs.Common.{◌≡◌, ◌∙◌, true, cond, ap}
+use Rattle.std.proofs.Common.{◌∙◌, true, cond, ap}
 use Rattle.std.specs.Prelude.{◌||◌}
 use Rattle.verification.specs.Names.{has_name, is_pair}
 use Rattle.verification.proofs.NameLaws.{either, pair-symm}

@@ -1,0 +1,86 @@
+-- What some tapes have of what was asked, computed. The pages are in UCS-2, so that their octets are the text's own.
+use Rattle.std.proofs.Common.{◌≡◌, ℕ, ◌++◌, List, [], ◌∷◌, None, replicate, refl}
+use Rattle.std.specs.List.{flat_map}
+use Rattle.cbs_page.specs.declared.content.Content.{Content}
+use Rattle.bsc_table.specs.declared.command.Category.TheVariants.{Normal}
+use Rattle.bsc_table.specs.declared.command.Command.TheVariants as commands
+use Rattle.bsc_table.specs.declared.entry.Answer.TheVariants as answers
+use Rattle.bsc_table.specs.declared.entry.Entry.{Entry}
+use Rattle.verification.specs.declared.difference.Difference.{Difference}
+use Rattle.verification.specs.declared.difference.Kind.{Kind}
+use Rattle.verification.specs.declared.difference.Kind.TheVariants as kinds
+use Rattle.verification.specs.Asked.{asked_in}
+use Rattle.verification.specs.Difference.{all_differences}
+use Rattle.verification.specs.Sent.{sent_in}
+use lib.Utf8.{encode}
+
+-- so many of the carriage returns that fill a page
+abbrev filling : ℕ → List ℕ
+filling units = flat_map {X = ℕ} (λ unit. 0x00 ∷ 0x0D ∷ []) (replicate units 0)
+
+-- a content with this letter, and the blocks of a page with it: of message 1112, serial number and page parameter
+abbrev content : ℕ → Content
+content letter = record { used = 2; octets = 0x00 ∷ letter ∷ filling 40 }
+
+abbrev page_of : ℕ → ℕ → ℕ → List (List ℕ)
+page_of serial parameter letter =
+    (0x20 ∷ 0x00 ∷ serial ∷ 0x11 ∷ 0x12 ∷ 0x48 ∷ parameter ∷ 0x00 ∷ letter ∷ filling 7)
+    ∷ (0x21 ∷ filling 11) ∷ (0x22 ∷ filling 11) ∷ (0x33 ∷ filling 11) ∷ []
+
+abbrev idle : List (List ℕ)
+idle = (0x2F ∷ []) ∷ (0x2F ∷ []) ∷ (0x2F ∷ []) ∷ (0x2F ∷ []) ∷ []
+
+-- message 1112, serial number 0010, of the pages A and B, twice from slot 0 on in periods of four slots; killed at the
+-- slot, if one is given
+abbrev write : Entry
+write = record {
+  command = commands.Write 0x1112 0x0010 None Normal 4 2 (record { 0 = 0x48 }) (content 65 ∷ content 66 ∷ []);
+  slot = 0;
+  answer = answers.Started 0;
+}
+
+abbrev kill : ℕ → Entry
+kill slot = record { command = commands.Kill 0x1112 0x0010; slot = slot; answer = answers.Stopped 1 }
+
+abbrev found : (slots : ℕ) → List Entry → List (List ℕ) → List Difference
+found slots log blocks = all_differences slots (asked_in log) (sent_in blocks)
+
+abbrev at : ℕ → Kind → Difference
+at slot kind = record { slot = slot; id = 0x1112; serial = 0x0010; kind = kind }
+
+abbrev whole : List (List ℕ)
+whole = page_of 0x10 0x12 65 ++ (page_of 0x10 0x22 66 ++ (idle ++ idle))
+
+-- the message, twice
+worked_kept : found 8 (write ∷ []) (whole ++ whole) ≡ []
+unfolding encode
+worked_kept = refl
+
+-- another letter on the second page, and then the pages the other way round
+worked_otherwise :
+    found 8 (write ∷ [])
+    (page_of 0x10 0x12 65 ++ (page_of 0x10 0x22 67 ++ (idle ++ (idle ++ (idle ++ (page_of 0x10 0x22 66
+    ++ page_of 0x10 0x12 65))))))
+    ≡ at 1 (kinds.Otherwise 2) ∷ at 4 (kinds.NotWhole 0) ∷ []
+unfolding encode
+worked_otherwise = refl
+
+-- a page too late, after the last broadcast or after the stop: of the stopped one only the first broadcast is owed
+worked_late :
+    found 12 (write ∷ []) (whole ++ (whole ++ page_of 0x10 0x12 65)) ≡ at 8 kinds.AfterLast ∷ []
+unfolding encode
+worked_late = refl
+
+worked_stopped :
+    found 12 (write ∷ kill 7 ∷ []) (whole ++ (idle ++ (idle ++
+    (idle ++ (page_of 0x10 0x12 65 ++ page_of 0x10 0x22 66)))))
+    ≡ at 7 kinds.AfterStop ∷ []
+unfolding encode
+worked_stopped = refl
+
+-- another serial number, twice
+worked_not_ordered :
+    found 4 (write ∷ []) (whole ++ (page_of 0x11 0x11 65 ++ page_of 0x11 0x11 65))
+    ≡ record { slot = 4; id = 0x1112; serial = 0x0011; kind = kinds.NotOrdered } ∷ []
+unfolding encode
+worked_not_ordered = refl

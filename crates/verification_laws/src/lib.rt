@@ -1,0 +1,30 @@
+//! A cell's own tape keeps what the cell was asked: of a legal history whose run is over no difference is found, and of
+//! the tapes of such records no row.
+//!
+//! Nothing here runs: the crate is one law over the definitions of the crates below it.
+#![tactic(auto)]
+
+ghost use Rattle.verification_laws.specs.OwnTapes.{NoRowsAreFound, NothingIsFound, OwnTapesDifferNowhere};
+ghost use Rattle.verification_laws.specs.OwnTapes.{OwnTapesHaveNoRows, OwnTapesKeepTheirCells};
+
+/// States, as its contract, what is found of a cell's own tape. That the history is legal, and that its run is over,
+/// are the only premises. Own rules, of no standard.
+///
+/// Does nothing: its contract is the law, and its body names the laws that carry it.
+pub fn verification_laws()
+    // The blocks of a legal history have none of the differences.
+    ensures own_tapes_differ_nowhere { OwnTapesDifferNowhere }
+
+    // So nothing is what is found of them, and nothing else is.
+    ensures own_tapes_keep_their_cells { OwnTapesKeepTheirCells }
+    ensures nothing_is_found { NothingIsFound }
+
+    // And the tapes of such records of distinct cells, in any order, have no rows.
+    ensures own_tapes_have_no_rows { OwnTapesHaveNoRows }
+    ensures no_rows_are_found { NoRowsAreFound }
+{
+    scheduler::air_laws();
+    bsc_table::legal_histories();
+    handset::reading_laws();
+    handset::tape_laws();
+}
