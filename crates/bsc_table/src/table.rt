@@ -1,8 +1,8 @@
 //! The table of the messages that a cell accepted. A message is found by its number, and by its pair of an identifier
 //! and a serial number, in as many steps as the number of messages has binary digits.
 
-ghost use Rattle.std.specs.Prelude.{◌≡◌, ◌↔◌, ℕ, ◌<◌, ◌==◌, ◌&&◌, ◌++◌, ◌∷◌, [], false, Some, None, All, OnOk, length, map};
-ghost use Rattle.std.specs.Prelude.{slice_index_or, true};
+ghost use Rattle.std.specs.Prelude.{◌≡◌, ◌↔◌, ℕ, ◌<◌, ◌==◌, ◌&&◌, ◌++◌, ◌∷◌, [], false, true, Some, None, All, OnOk};
+ghost use Rattle.std.specs.Prelude.{length, map, slice_index_or};
 ghost use Rattle.std.specs.List.{find, HoldsAt};
 ghost use Rattle.bsc_table.specs.declared.table.Pair.{Pair};
 ghost use Rattle.std.specs.declared.cmp.Ordering.TheVariants.{Less};
