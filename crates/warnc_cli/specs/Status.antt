@@ -20,9 +20,8 @@ use Rattle.alert_book.specs.declared.fault.BookFaultKind.{BookFaultKind}
 use Rattle.alert_book.specs.declared.fault.BookFaultKind.TheVariants as kinds
 use Rattle.warnc_cli.specs.CommandLine.{asks_for_text, AsksForChart, AsksForCompile, AsksForLive, AsksForPage}
 use Rattle.warnc_cli.specs.CommandLine.{AsksForPcap, AsksForRead, AsksForReport, AsksForTape, AsksForVerify}
-use Rattle.verification.specs.declared.row.Row.{Row}
 use Rattle.warnc_run.specs.declared.fault.RunFault.{RunFault}
-use Rattle.warnc_verify.specs.Input.{DiffersBy, HasDifferences, IsVerified}
+use Rattle.warnc_verify.specs.Input.{Differs, HasDifferences, IsVerified}
 use Rattle.cbsp_wire.specs.declared.message.Cell.{Cell}
 use Rattle.warnc_run.specs.Charted.{IsCharted}
 use Rattle.warnc_run.specs.Compiled.{IsCompiled, StopsRun}
@@ -78,7 +77,7 @@ IsNoRun slots parts input = IsNoBook input
 -- run, or what follows it is no whole tapes, or there is a difference
 abbrev pub IsNotVerified : (slots octets : ℕ) (input : List ℕ) → Type 0
 IsNotVerified slots octets input = (length input < octets) ⊎ (IsNoRun slots 1 (take octets input)
-    ⊎ (IsNoTapes (drop octets input) ⊎ ((rows : List Row) × DiffersBy slots octets rows input × (0 < length rows))))
+    ⊎ (IsNoTapes (drop octets input) ⊎ Differs slots octets input))
 
 -- the input is refused: it is too long for a capture, or no capture file that has a tape
 abbrev pub IsNoAir : Wanted → (input : List ℕ) → Type 0

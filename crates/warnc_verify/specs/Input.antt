@@ -31,7 +31,11 @@ pub record DiffersBy (slots count : ℕ) (rows : List Row) (input : List ℕ) : 
   pub tapes_are : AreRecordings (drop count input) tapes
   pub rows_are : AreRows records tapes rows
 
--- and this is the table of the rows
+-- there is one at least
+abbrev pub Differs : (slots count : ℕ) (input : List ℕ) → Type 0
+Differs slots count input = (rows : List Row) × DiffersBy slots count rows input × (0 < length rows)
+
+-- there are these differences, and this is their table
 abbrev pub IsTableOf : (slots count : ℕ) → List Row → (input output : List ℕ) → Type 0
 IsTableOf slots count rows input output = DiffersBy slots count rows input × (output ≡ rows_text rows)
 
