@@ -12,10 +12,11 @@ use Rattle.handset.specs.declared.tape.TapeFault.TheVariants as tape
 use Rattle.bsc_table.specs.Record.{Record}
 use Rattle.verification.specs.RowText.{rows_text}
 use Rattle.verification.specs.declared.row.Row.{Row}
-use Rattle.warnc_run.specs.Records.{AreRecordsOf, HasRunBook, IsRecordsFault}
+use Rattle.warnc_run.specs.Records.{AreRecordsOf, HasRunBook}
 use Rattle.warnc_run.specs.declared.fault.RunFault.{RunFault}
 use Rattle.warnc_verify.specs.Input.{DiffersBy, HasDifferences, IsInputFault, IsTableOf, IsTapesPartFault, IsVerified}
-use Rattle.warnc_verify.specs.Verified.{Readers, Finds, FindsAndWrites, IsDifference, IsVerifyFault, RunsBook, Writes}
+use Rattle.warnc_verify.specs.Verified.{Readers, Finds, FindsAndWrites, IsBookFault, IsDifference, IsVerifyFault}
+use Rattle.warnc_verify.specs.Verified.{RunsBook, Writes}
 use Rattle.warnc_verify.specs.declared.fault.VerifyFault.{VerifyFault}
 use Rattle.warnc_verify.specs.declared.fault.VerifyFault.TheVariants as faults
 
@@ -181,7 +182,7 @@ pub fault_of_input : (slots count : ℕ) (first old new : Option (List ℕ)) (en
 fault_of_input slots count first old new ends book (faults.Run f) parts why kept =
     of_whole _ first ends.tapes_first book parts.read (λ left is. (
       ends.book_last,
-      subst (λ (octets : Option (List ℕ)). IsRecordsFault slots octets ends.book_last f)
+      subst (λ (octets : Option (List ℕ)). IsBookFault slots octets ends.book_last f)
           (parts.book_is ∙ ap (λ (octets : List ℕ). Some octets) (sym (front_is book left count parts.long))) why,
       kept (λ w. w),
     ))
@@ -227,3 +228,11 @@ pub by_both : {T E : Type 0} (P Q S : E → Type 0) (r : Result T E) → ((e : E
     → IfErr r S
 by_both P Q S (Ok x) both p q = tt
 by_both P Q S (Err e) both p q = both e p q
+
+-- a table isn't empty
+longer : (x : ℕ) (xs : List ℕ) → 0 < length (x ∷ xs)
+longer x xs = omega arith
+
+pub some_table : (slots count : ℕ) (input output : List ℕ) → IsVerified slots count input output → 0 < length output
+some_table slots count input output is =
+    subst (λ (octets : List ℕ). 0 < length octets) (sym is.1) (longer 108 _)

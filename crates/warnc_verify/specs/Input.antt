@@ -16,8 +16,8 @@ use Rattle.bsc_table.specs.Record.{Record}
 use Rattle.verification.specs.Rows.{AreRows}
 use Rattle.verification.specs.RowText.{rows_text}
 use Rattle.verification.specs.declared.row.Row.{Row}
-use Rattle.warnc_run.specs.Records.{AreRecordsOf, IsRecordsFault}
-use Rattle.warnc_verify.specs.Verified.{IsDifference, Writes}
+use Rattle.warnc_run.specs.Records.{AreRecordsOf}
+use Rattle.warnc_verify.specs.Verified.{IsBookFault, IsDifference, Writes}
 use Rattle.warnc_verify.specs.declared.fault.VerifyFault.{VerifyFault}
 use Rattle.warnc_verify.specs.declared.fault.VerifyFault.TheVariants as faults
 
@@ -57,7 +57,7 @@ IsTapesPartFault slots count input other =
 
 abbrev pub IsInputFault : (slots count : ℕ) → (input : List ℕ) (old new : Option (List ℕ)) → VerifyFault → Type 0
 IsInputFault slots count input old new (faults.Run f) =
-    (last : Option (List ℕ)) × IsRecordsFault slots (Some (take count input)) last f × Keeps old new
+    (last : Option (List ℕ)) × IsBookFault slots (Some (take count input)) last f × Keeps old new
 IsInputFault slots count input old new faults.ShortBook = (length input < count) × Keeps old new
 IsInputFault slots count input old new (faults.Tapes f) = IsTapesPartFault slots count input f × Keeps old new
 IsInputFault slots count input old new (faults.Differences n) =

@@ -6,8 +6,8 @@ use Rattle.warnc_verify.specs.declared.fault.VerifyFault.{VerifyFault}
 use Rattle.warnc_verify.specs.declared.fault.VerifyFault.TheVariants as faults
 
 -- why the octets of a book aren't there
-abbrev pub IsBookFault : VerifyFault → Type 0
-IsBookFault faults.ShortBook = ⊤
-IsBookFault (faults.Tapes f) = f ≡ tape.ReadFailed
-IsBookFault faults.Refused = ⊤
-IsBookFault other = ⊥
+abbrev pub IsFrontFault : VerifyFault → Type 0
+IsFrontFault faults.ShortBook = ⊤
+IsFrontFault (faults.Tapes f) = f ≡ tape.ReadFailed
+IsFrontFault faults.Refused = ⊤
+IsFrontFault other = ⊥

@@ -1,5 +1,5 @@
 -- What `warnc verify` makes of a book and of tapes: the table of what the tapes have otherwise. Own.
-use Rattle.std.specs.Prelude.{◌≡◌, ⊤, ℕ, ◌<◌, List, Option, IfSome, length}
+use Rattle.std.specs.Prelude.{◌≡◌, ◌≢◌, ⊤, ℕ, ◌<◌, List, Option, IfSome, length}
 use Rattle.std.specs.Io.KnownBytes.{Appends, IsAtEnd}
 use Rattle.device_ends.specs.Moves.{AppendsFront}
 use Rattle.device_ends.specs.Sink.{writer_of}
@@ -12,7 +12,10 @@ use Rattle.bsc_table.specs.Record.{Record}
 use Rattle.verification.specs.Rows.{AreRows}
 use Rattle.verification.specs.RowText.{rows_text}
 use Rattle.verification.specs.declared.row.Row.{Row}
+use Rattle.parallel_compile.specs.declared.fault.CompileFault.TheVariants as compile
 use Rattle.warnc_run.specs.Records.{HasRunBook, IsRecordsFault}
+use Rattle.warnc_run.specs.declared.fault.RunFault.{RunFault}
+use Rattle.warnc_run.specs.declared.fault.RunFault.TheVariants as run
 use Rattle.warnc_verify.specs.declared.fault.VerifyFault.{VerifyFault}
 use Rattle.warnc_verify.specs.declared.fault.VerifyFault.TheVariants as faults
 
@@ -54,10 +57,14 @@ FindsAndWrites slots ends old new rows = Finds slots ends rows × Appends old ne
 abbrev pub FindsAndWritesFront : (slots : ℕ) → Readers → (old new : Option (List ℕ)) → List Row → Type 0
 FindsAndWritesFront slots ends old new rows = Finds slots ends rows × AppendsFront old new (rows_text rows)
 
+-- why there are no records of a book; there can be so many workers
+abbrev pub IsBookFault : (slots : ℕ) (first last : Option (List ℕ)) → RunFault → Type 0
+IsBookFault slots first last f = (f ≢ run.Compile compile.Workers) × IsRecordsFault slots first last f
+
 -- why it isn't so that there are no differences: the book has no run; or it has one, and the tapes are none; or there
 -- are as many differences, one or more, and they were written; or memory ran out; or the writer failed
 abbrev pub IsVerifyFault : (slots : ℕ) → Readers → (old new : Option (List ℕ)) → VerifyFault → Type 0
-IsVerifyFault slots ends old new (faults.Run f) = IsRecordsFault slots ends.book_first ends.book_last f
+IsVerifyFault slots ends old new (faults.Run f) = IsBookFault slots ends.book_first ends.book_last f
 IsVerifyFault slots ends old new (faults.Tapes f) =
     (records : List Record) × RunsBook slots ends records × IfSome ends.tapes_first (λ input. IsTapesFault input f)
 IsVerifyFault slots ends old new (faults.Differences count) =

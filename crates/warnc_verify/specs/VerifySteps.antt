@@ -5,14 +5,13 @@ use Rattle.handset.specs.Tape.{IsTapesFault}
 use Rattle.bsc_table.specs.Record.{Record}
 use Rattle.verification.specs.RowText.{rows_text}
 use Rattle.verification.specs.declared.row.Row.{Row}
-use Rattle.warnc_run.specs.Records.{IsRecordsFault}
-use Rattle.warnc_verify.specs.Verified.{Readers, RunsBook}
+use Rattle.warnc_verify.specs.Verified.{Readers, IsBookFault, RunsBook}
 use Rattle.warnc_verify.specs.declared.fault.VerifyFault.{VerifyFault}
 use Rattle.warnc_verify.specs.declared.fault.VerifyFault.TheVariants as faults
 
 -- why there are no rows
 abbrev pub IsRowsFault : (slots : ℕ) → Readers → VerifyFault → Type 0
-IsRowsFault slots ends (faults.Run f) = IsRecordsFault slots ends.book_first ends.book_last f
+IsRowsFault slots ends (faults.Run f) = IsBookFault slots ends.book_first ends.book_last f
 IsRowsFault slots ends (faults.Tapes f) =
     (records : List Record) × RunsBook slots ends records × IfSome ends.tapes_first (λ input. IsTapesFault input f)
 IsRowsFault slots ends faults.Refused = ⊤

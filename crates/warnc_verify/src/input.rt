@@ -7,7 +7,7 @@ ghost use Rattle.device_ends.specs.Stream.{FaultOfInput, OutputOfInput, Reads};
 ghost use Rattle.handset.specs.declared.tape.TapeFault.TheVariants as tape;
 ghost use Rattle.warnc_verify.specs.Input.{HasDifferences, IsInputFault, IsVerified, IsVerifyBetween};
 ghost use Rattle.warnc_verify.specs.Verified.{IsDifference};
-ghost use Rattle.warnc_verify.specs.InputSteps.{IsBookFault};
+ghost use Rattle.warnc_verify.specs.InputSteps.{IsFrontFault};
 ghost use Rattle.warnc_verify.specs.declared.fault.VerifyFault.TheVariants as faults;
 
 use crate::fault::VerifyFault;
@@ -58,7 +58,7 @@ fn first_octets<R: Read>(
     ensures ok { IfOk result (λ octets. Reads R.remaining (λ old new. Consumes old new octets.items)
         source.old source.new) }
     ensures long { IfOk result (λ octets. length octets.items ≡ wanted) }
-    ensures err { IfErr result IsBookFault }
+    ensures err { IfErr result IsFrontFault }
     ensures short { IsErrOf result faults.ShortBook
         → IfSome (R.remaining (reader_of source.old)) (λ left. length left < wanted) }
     ensures failed { IsErrOf result (faults.Tapes tape.ReadFailed) ↔ IsTrue (source_failed source.new) }
