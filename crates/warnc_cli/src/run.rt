@@ -35,8 +35,9 @@ use warnc_air::pcap::pcap_stream;
 use warnc_air::tape::tape_stream;
 use warnc_inspect::page::page_stream;
 use warnc_inspect::read::read_stream;
-use warnc_run::{ReportRunFault, Sessions, Workers};
-use warnc_run::{chart_stream, compile_stream, live_stream, report_stream};
+use warnc_run::{
+    ReportRunFault, Sessions, Workers, chart_stream, compile_stream, live_stream, report_stream,
+};
 
 /// Runs the command that the words ask for (the first is the program's name), from a reader to a writer, and returns
 /// the status: 0 done, 1 refused input, 2 command line, 3 device, 4 memory. A fault is one line for `faults`, `warnc: `
