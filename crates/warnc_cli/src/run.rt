@@ -36,8 +36,9 @@ use warnc_air::pcap::pcap_stream;
 use warnc_air::tape::tape_stream;
 use warnc_inspect::page::page_stream;
 use warnc_inspect::read::read_stream;
-use warnc_run::{ReportRunFault, Sessions, Workers};
-use warnc_run::{chart_stream, compile_stream, live_stream, report_stream};
+use warnc_run::{
+    ReportRunFault, Sessions, Workers, chart_stream, compile_stream, live_stream, report_stream,
+};
 use warnc_verify::verify_input;
 
 /// Runs the command that the words ask for (the first is the program's name), from a reader to a writer, and returns

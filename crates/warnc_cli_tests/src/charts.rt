@@ -101,9 +101,9 @@ run -> 3
 err -> warnc: write failed
 out -> <!DOCTYPE html>
 args chart --slots 4 --cell 1
-usage -> 2 error:
+fails -> 2 warnc: no such cell or address
 args chart --slots 4 --cell 1-2-3
-usage -> 2 warnc:
+fails -> 2 warnc: no such cell or address
 args chart --slots 4 --cell 1-65536
 usage -> 2 error:
 args chart --cell 1-2
