@@ -6,3 +6,4 @@ pub mod OwnMessage
 pub mod OwedPages
 pub mod OwnTapes
 pub mod OwnRuns
+pub mod NoOthers
