@@ -7,3 +7,5 @@ pub mod OwedPages
 pub mod OwnTapes
 pub mod OwnRuns
 pub mod NoOthers
+pub mod OctetPages
+pub mod OwedShown

@@ -1,34 +1,34 @@
 -- Of blocks without a difference no message is shown that the cell didn't accept.
-use Rattle.std.proofs.Common.{◌≡◌, ℕ, zero, suc, ◌+◌, ◌<◌, Bool, true, false, cond, not, Option, Some, None, List, [], ◌∷◌}
-use Rattle.std.proofs.Common.{◌++◌, length, map, filter, find, get_or, is_some, refl, sym, ap, subst, ◌∙◌, arith, All}
+use Rattle.std.proofs.Common.{◌≡◌, ℕ, ◌+◌, Bool, true, false, cond, not, List, [], ◌∷◌}
+use Rattle.std.proofs.Common.{◌++◌, map, filter, find, get_or, is_some, refl, sym, ap, ◌∙◌, arith}
 use Rattle.std.proofs.Common.{inl, inr}
 use Rattle.std.specs.Prelude.{◌&&◌, ◌||◌, ◌==◌}
-use Rattle.std.specs.List.{AllByRecursion, Any, flat_map, list_all, list_any, range_with_len}
+use Rattle.std.specs.List.{AllByRecursion, flat_map, list_all, list_any, range_with_len}
 use Rattle.std.specs.List.Sorted.{IsPermutation}
 use Rattle.std.proofs.lemmas.Bool.{and_parts, cases_Bool, eqb-true}
 use Rattle.std.proofs.lemmas.List.{map-append}
 use Rattle.std.proofs.lemmas.List.Concat.{flat_map-cons}
-use Rattle.std.proofs.lemmas.List.Elements.{All-from_recursion, filter-append}
+use Rattle.std.proofs.lemmas.List.Elements.{filter-append}
 use Rattle.std.proofs.lemmas.List.Folds.{Any-from_list_any}
 use Rattle.std.proofs.lemmas.List.Sorted.{length_permutation}
 use Rattle.cbs_page.specs.declared.octets.PageView.{PageView}
 use Rattle.cbs_page.specs.Page.{is_readable}
 use Rattle.bsc_table.specs.declared.entry.Entry.{Entry}
 use Rattle.bsc_table.specs.Record.{Record, Accepted, accepted_in}
-use Rattle.handset.specs.Reception.{Name, ShownMessage, agreeing, is_complete, is_of, page_in_front, pages_named, pages_read}
+use Rattle.handset.specs.Reception.{Name, agreeing, is_complete, is_of, page_in_front, pages_read}
 use Rattle.handset.specs.Reception.{readable_pages, shown_in, total_in}
 use Rattle.handset.specs.Laws.{ShownAreTheComplete}
 use Rattle.handset.specs.Showing.{name_shown}
 use Rattle.verification.specs.declared.difference.Difference.{Difference}
 use Rattle.verification.specs.declared.difference.Kind.TheVariants as kinds
 use Rattle.verification.specs.declared.sent.SentPage.{SentPage}
-use Rattle.verification.specs.Asked.{AskedMessage, asked_in, is_asked, is_page_of}
+use Rattle.verification.specs.Asked.{AskedMessage, asked_in, is_asked}
 use Rattle.verification.specs.Difference.{AreDifferences, all_differences, is_named_as, message_differences}
 use Rattle.verification.specs.Difference.{not_ordered, not_ordered_after}
 use Rattle.verification.specs.Judged.{judged_in}
 use Rattle.verification.specs.Sent.{sent_at, sent_from, sent_in}
 use Rattle.verification_laws.specs.Shown.{NoOthersAreShown}
-use Rattle.verification_laws.proofs.AskedOf.{AreComing, IsComing, asked_are_accepted}
+use Rattle.verification_laws.proofs.AskedOf.{AreComing, asked_are_accepted}
 
 -- nothing stays where nothing is
 none-before : {X : Type 0} (xs : List X) → IsPermutation xs [] → xs ≡ []

@@ -1,3 +1,4 @@
+use Rattle.verification_laws.proofs.OwedShown.{owed-shown}
 use Rattle.composition.proofs.Laws.{Laws}
 use Rattle.bsc_table.specs.Promised.{LegalPagesAreAiredOnce}
 use Rattle.verification_laws.specs.OwnTapes.{NothingIsFound, OwnTapesKeepTheirCells}
@@ -40,4 +41,5 @@ returns c =
       own_tapes_have_no_rows = runs-kept kept;
       no_rows_are_found = no-rows-found nothing;
       no_others_are_shown = no-others c.reading_laws.ensures.shown_are_the_complete;
+      owed_are_shown = owed-shown laws;
     }
