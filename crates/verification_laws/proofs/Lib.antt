@@ -6,3 +6,6 @@ pub mod OwnMessage
 pub mod OwedPages
 pub mod OwnTapes
 pub mod OwnRuns
+pub mod NoOthers
+pub mod OctetPages
+pub mod OwedShown

@@ -1,16 +1,16 @@
 -- The own tapes of cells have no rows.
-use Rattle.std.proofs.Common.{◌≡◌, ℕ, zero, suc, ◌+◌, ◌<◌, Bool, true, false, cond, not, Option, Some, None, List, [], ◌∷◌}
+use Rattle.std.proofs.Common.{◌≡◌, ℕ, ◌<◌, Bool, true, false, cond, not, Option, Some, List, [], ◌∷◌}
 use Rattle.std.proofs.Common.{◌++◌, length, map, find, get_or, refl, sym, ap, subst, ◌∙◌, arith, All, inl, inr}
-use Rattle.std.specs.Prelude.{◌&&◌, ◌||◌, ◌==◌, MatchBool, if◌then◌else◌}
+use Rattle.std.specs.Prelude.{◌||◌, MatchBool, if◌then◌else◌}
 use Rattle.std.specs.List.{AllByRecursion, Contains, IsDistinct, list_any}
-use Rattle.std.specs.List.Sorted.{IsPermutation, IsSortedByKey}
+use Rattle.std.specs.List.Sorted.{IsPermutation}
 use Rattle.std.proofs.lemmas.Bool.{and_parts, cases_eq, cases_lt, eq-eqb}
 use Rattle.std.proofs.lemmas.List.{get_or-map, get_or_default, length-map}
 use Rattle.std.proofs.lemmas.List.Elements.{All-map, recursion_from_All}
 use Rattle.std.proofs.lemmas.List.Folds.{list_any-append, list_any_at}
 use Rattle.std.proofs.lemmas.List.Sorted.{All-permutation, Contains-permutation, IsPermutation-map}
 use Rattle.std.proofs.lemmas.List.Sorted.{IsPermutation-refl}
-use Rattle.std.proofs.lemmas.Map.Keys.{IsDistinct-IsPermutation, IsDistinct-cons, IsDistinct-head, IsDistinct-tail}
+use Rattle.std.proofs.lemmas.Map.Keys.{IsDistinct-IsPermutation, IsDistinct-head, IsDistinct-tail}
 use Rattle.std.proofs.lemmas.Map.Keys.{apart_from_distinct}
 use Rattle.cbsp_wire.specs.declared.message.Cell.{Cell}
 use Rattle.cbsp_wire.specs.Range.{are_distinct, is_cell}
@@ -22,9 +22,8 @@ use Rattle.handset.specs.Recording.{TapeRecording}
 use Rattle.verification.specs.declared.difference.Difference.{Difference}
 use Rattle.verification.specs.declared.row.Finding.TheVariants as findings
 use Rattle.verification.specs.declared.row.Row.{Row}
-use Rattle.verification.specs.Difference.{AreDifferences, key_of, key_order}
-use Rattle.verification.specs.Rows.{AreCellRows, AreJudged, AreRows, AreRowsBy, AreRowsOfCells, AreTapeRows}
-use Rattle.verification.specs.Rows.{difference_row, is_known, is_tape_of, other_row, other_rows, row_of}
+use Rattle.verification.specs.Rows.{AreCellRows, AreJudged, AreRowsBy, AreRowsOfCells}
+use Rattle.verification.specs.Rows.{difference_row, is_known, is_tape_of, other_rows, row_of}
 use Rattle.verification.proofs.FoundLaws.{cell-symm}
 use Rattle.verification_laws.specs.OwnTapes.{AreOwnTapes, NoRowsAreFound, NothingIsFound, OwnTapesDifferNowhere}
 use Rattle.verification_laws.specs.OwnTapes.{OwnTapesHaveNoRows, OwnTapesKeepTheirCells, recording_of}

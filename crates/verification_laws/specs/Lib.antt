@@ -1,1 +1,2 @@
 pub mod OwnTapes
+pub mod Shown

@@ -6,6 +6,7 @@
 
 ghost use Rattle.verification_laws.specs.OwnTapes.{NoRowsAreFound, NothingIsFound, OwnTapesDifferNowhere};
 ghost use Rattle.verification_laws.specs.OwnTapes.{OwnTapesHaveNoRows, OwnTapesKeepTheirCells};
+ghost use Rattle.verification_laws.specs.Shown.{NoOthersAreShown, OwedAreShown};
 
 /// States, as its contract, what is found of a cell's own tape. That the history is legal, and that its run is over,
 /// are the only premises. Own rules, of no standard.
@@ -22,6 +23,11 @@ pub fn verification_laws()
     // And the tapes of such records of distinct cells, in any order, have no rows.
     ensures own_tapes_have_no_rows { OwnTapesHaveNoRows }
     ensures no_rows_are_found { NoRowsAreFound }
+
+    // Of blocks that have no difference, whoever sent them, no message is shown that the cell didn't accept, and each
+    // that isn't background and stood for a whole period is shown, with the text that was asked.
+    ensures no_others_are_shown { NoOthersAreShown }
+    ensures owed_are_shown { OwedAreShown }
 {
     scheduler::air_laws();
     bsc_table::legal_histories();

@@ -1,6 +1,8 @@
+use Rattle.verification_laws.proofs.OwedShown.{owed-shown}
 use Rattle.composition.proofs.Laws.{Laws}
 use Rattle.bsc_table.specs.Promised.{LegalPagesAreAiredOnce}
 use Rattle.verification_laws.specs.OwnTapes.{NothingIsFound, OwnTapesKeepTheirCells}
+use Rattle.verification_laws.proofs.NoOthers.{no-others}
 use Rattle.verification_laws.proofs.OwnRuns.{kept-cells, no-rows-found, runs-kept}
 use Rattle.verification_laws.proofs.OwnTapes.{nothing-found, own-tapes}
 use Rattle.verification_laws.proofs.verification_laws.Goals as goal
@@ -38,4 +40,6 @@ returns c =
       nothing_is_found = nothing;
       own_tapes_have_no_rows = runs-kept kept;
       no_rows_are_found = no-rows-found nothing;
+      no_others_are_shown = no-others c.reading_laws.ensures.shown_are_the_complete;
+      owed_are_shown = owed-shown laws;
     }
