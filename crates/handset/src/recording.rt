@@ -34,10 +34,10 @@ impl Model for Recording {
     ghost Value = { TapeRecording };
 
     ghost view = { λ r. record {
-          cell = r.cell;
-          slots = r.slots;
-          blocks = first_chunks 23 (4 * r.slots) r.octets.items;
-        } };
+      cell = r.cell;
+      slots = r.slots;
+      blocks = first_chunks 23 (4 * r.slots) r.octets.items;
+    } };
 
     ghost invariant = { λ r. length r.octets.items ≡ 92 * r.slots };
 }

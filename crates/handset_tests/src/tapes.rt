@@ -21,8 +21,9 @@
 use crate::worked::{IDLE, WORKED};
 use device_ends::Source;
 use device_ends::memory::MemoryReader;
-use handset::{Reading, Recording, Refused, Shown, TapeFault};
-use handset::{read_each, read_tape, read_tapes, record_each};
+use handset::{
+    Reading, Recording, Refused, Shown, TapeFault, read_each, read_tape, read_tapes, record_each,
+};
 use std::alloc::{AllocError, Global};
 use std::process::Abort;
 use std::test::Fail;
@@ -350,7 +351,13 @@ fn read_octets(
     let mut source = Source::new(&mut reader);
     let text = read_text(alloc, drought, kind, &mut source)?;
     let failed = source.failed();
-    Ok(with_rest(alloc, text, pace.1.is_some() || failed, failed, reader.rest().len())?)
+    Ok(with_rest(
+        alloc,
+        text,
+        pace.1.is_some() || failed,
+        failed,
+        reader.rest().len(),
+    )?)
 }
 
 /// What was read, and with a reader that can fail what it still has, or that it failed.
@@ -410,7 +417,13 @@ fn recorded(
     let mut source = Source::new(&mut reader);
     let text = recorded_text(alloc, drought, &mut source)?;
     let failed = source.failed();
-    Ok(with_rest(alloc, text, pace.1.is_some() || failed, failed, reader.rest().len())?)
+    Ok(with_rest(
+        alloc,
+        text,
+        pace.1.is_some() || failed,
+        failed,
+        reader.rest().len(),
+    )?)
 }
 
 /// The pace that words say, if there are any.

@@ -47,8 +47,12 @@ no_book book last f refuses is = by_why refuses.why
     by_why (inr (inl unread)) = absurd (omega (arith, sym (ap status_of_book_fault unread) ∙ is))
     by_why (inr (inr (inl long))) = inl (no_longer book refuses.input last refuses.consumed long.1)
     by_why (inr (inr (inr wrong))) =
-        inr (f, subst (λ (octets : List ℕ). IsWrong octets f)
-        (all_read book refuses.input last refuses.consumed wrong.0) wrong.1, is)
+        inr (
+          f,
+          subst (λ (octets : List ℕ). IsWrong octets f)
+              (all_read book refuses.input last refuses.consumed wrong.0) wrong.1,
+          is,
+        )
 
 -- a book that was read, and whose run ended early
 book_read : (book : List ℕ) (last : Option (List ℕ)) (read : HasReadBook (Some book) last) → IsBook book read.book

@@ -46,7 +46,14 @@ pub fn verify_input<T: AllocGlobal + Threads + Wait + Sync, R: Read, W: Write>(
     ensures any_ends { IsVerifyBetween result source.old source.new sink.old sink.new }
 {
     let book = first_octets(source, rt.alloc(), book_octets)?;
-    verify_stream(rt, &mut Source::new(book.as_slice()), source, sink, slots, workers)
+    verify_stream(
+        rt,
+        &mut Source::new(book.as_slice()),
+        source,
+        sink,
+        slots,
+        workers,
+    )
 }
 
 /// Reads as many octets.
