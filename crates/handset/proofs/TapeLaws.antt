@@ -40,7 +40,8 @@ behind P Q (Some input) None octets consumed left all = absurd consumed
 behind P Q (Some input) (Some rest) octets consumed left all = subst Q (sym consumed) (all rest left)
 
 -- nothing is left of it
-pub at_end : (Q : List ℕ → Type 0) (a b : Option (List ℕ)) (octets : List ℕ) → Consumes a b octets → IsAtEnd b → Q octets →
+pub at_end : (Q : List ℕ → Type 0) (a b : Option (List ℕ)) (octets : List ℕ) → Consumes a b octets → IsAtEnd b
+    → Q octets →
     IfSome a Q
 at_end Q None b octets consumed end all = tt
 at_end Q (Some input) None octets consumed end all = absurd consumed

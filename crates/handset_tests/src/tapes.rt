@@ -14,7 +14,8 @@
 //! `record` reads them as tapes and keeps what these hold: the answer has the types of the blocks instead of the
 //! messages. `record N CALLS` is with a reader that fails.
 //!
-//! `scarce one`, `scarce all` and `scarce record` read with hardly any memory, with one block more each time until it isn't refused.
+//! `scarce one`, `scarce all` and `scarce record` read with hardly any memory, with one block more each time until it
+//! isn't refused.
 //! After each refusal the source must not have failed, and the octets are read by a source and into a list made anew,
 //! with all memory.
 

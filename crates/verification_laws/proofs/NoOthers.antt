@@ -49,14 +49,16 @@ each-none f (x ∷ xs) is =
 
 -- no message has a difference, and no page is of another
 pub record AreNone (r : Record) (blocks : List (List ℕ)) : Type 0 where
-  pub messages : AllByRecursion (λ a. message_differences r.slots a (judged_in a (sent_in blocks)) ≡ []) (asked_in r.log)
+  pub messages : AllByRecursion (λ a. message_differences r.slots a (judged_in a (sent_in blocks)) ≡ []) (asked_in
+      r.log)
   pub others : not_ordered_after (asked_in r.log) [] (sent_in blocks) ≡ []
 
 pub are-none : (r : Record) (blocks : List (List ℕ)) → AreDifferences r blocks [] → AreNone r blocks
 are-none r blocks are =
     let of_message : AskedMessage → List Difference =
     λ a. message_differences r.slots a (judged_in a (sent_in blocks)) in
-    let both = none-joined (flat_map of_message (asked_in r.log)) (not_ordered_after (asked_in r.log) [] (sent_in blocks))
+    let both = none-joined (flat_map of_message (asked_in r.log)) (not_ordered_after (asked_in r.log) [] (sent_in
+        blocks))
     (none-before (all_differences r.slots (asked_in r.log) (sent_in blocks)) are.all) in
     record {
       messages = each-none of_message (asked_in r.log) both.0;
@@ -85,7 +87,8 @@ named-asked asked page (s ∷ before) some all =
           (ap (λ (x : Bool). x || list_any (is_named_as page) before) (sym other) ∙ some) all.1
     ]
 
-pushed : {X : Type 0} (P : X → Type 0) (xs : List X) (x : X) → AllByRecursion P xs → P x → AllByRecursion P (xs ++ x ∷ [])
+pushed : {X : Type 0} (P : X → Type 0) (xs : List X) (x : X) → AllByRecursion P xs → P x
+    → AllByRecursion P (xs ++ x ∷ [])
 pushed P [] x all is = (is, tt)
 pushed P (y ∷ xs) x all is = (all.0, pushed P xs x all.1 is)
 
@@ -207,7 +210,8 @@ no-others complete r blocks are = λ k d within.
     let sent : list_any (λ s. is_of name s.page) (sent_in blocks) ≡ true =
     sym (any-map (is_of name) (λ (s : SentPage). s.page) (sent_in blocks))
     ∙ ap (list_any (is_of name)) (sent-are-read blocks) ∙ read in
-    let asked : list_any (λ (a : AskedMessage). (name.id == a.id) && (name.serial == a.serial)) (asked_in r.log) ≡ true =
+    let asked : list_any (λ (a : AskedMessage). (name.id == a.id) && (name.serial == a.serial)) (asked_in r.log) ≡
+        true =
     asked-page (asked_in r.log) name (sent_in blocks) sent
     (all-asked-after (asked_in r.log) [] (sent_in blocks) tt none.others) in
     let accepted = Any-from_list_any (λ (b : Accepted). (name.id == b.id) && (name.serial == b.serial))

@@ -97,7 +97,8 @@ sent-numbered place (page ∷ pages) all =
     here true rest = (all.0, rest)
     here false rest = rest
 
-pub all-numbered : (place : ℕ) (blocks : List (List ℕ)) → AllByRecursion (AllByRecursion (λ octet. octet < 256)) blocks →
+pub all-numbered : (place : ℕ) (blocks : List (List ℕ)) → AllByRecursion (AllByRecursion (λ octet. octet < 256))
+    blocks →
     AllByRecursion (λ (s : SentPage). IsNumbered s.page) (sent_from place blocks)
 all-numbered place [] all = tt
 all-numbered place (block ∷ rest) all =

@@ -1,6 +1,8 @@
 -- Of blocks without a difference a handset shows each message that was owed a broadcast, with its text.
-use Rattle.std.proofs.Common.{◌≡◌, ℕ, zero, suc, ◌+◌, ◌-◌, ◌*◌, ◌<◌, ◌≤◌, Bool, true, false, cond, not, Option, Some, None}
-use Rattle.std.proofs.Common.{List, [], ◌∷◌, ◌++◌, length, map, filter, find, get_or, is_some, refl, sym, ap, subst, ◌∙◌}
+use Rattle.std.proofs.Common.{◌≡◌, ℕ, zero, suc, ◌+◌, ◌-◌, ◌*◌, ◌<◌, ◌≤◌, Bool, true, false, cond, not, Option, Some}
+use Rattle.std.proofs.Common.{None}
+use Rattle.std.proofs.Common.{List, [], ◌∷◌, ◌++◌, length, map, filter, find, get_or, is_some, refl, sym, ap, subst}
+use Rattle.std.proofs.Common.{◌∙◌}
 use Rattle.std.proofs.Common.{arith, leb-true}
 use Rattle.std.specs.Prelude.{◌&&◌, ◌||◌, ◌==◌, nat_le, nat_lt, encode_utf8_all, if◌then◌else◌}
 use Rattle.std.specs.Option.{option_map, option_map_or, option_to_list}
@@ -26,8 +28,10 @@ use Rattle.verification.specs.declared.difference.Kind.TheVariants as kinds
 use Rattle.verification.specs.declared.judged.JudgedPage.{JudgedPage}
 use Rattle.verification.specs.declared.sent.SentPage.{SentPage}
 use Rattle.verification.specs.Asked.{AskedMessage, asked_in, is_page_of}
-use Rattle.verification.specs.Difference.{broadcast_difference, broadcast_differences, difference_of, differs, due, first_difference}
-use Rattle.verification.specs.Difference.{has_page, is_by, is_in_time, is_owed, is_whole, message_differences, page_differences}
+use Rattle.verification.specs.Difference.{broadcast_difference, broadcast_differences, difference_of, differs, due}
+use Rattle.verification.specs.Difference.{first_difference}
+use Rattle.verification.specs.Difference.{has_page, is_by, is_in_time, is_owed, is_whole, message_differences}
+use Rattle.verification.specs.Difference.{page_differences}
 use Rattle.verification.specs.Difference.{page_numbers}
 use Rattle.verification.specs.Judged.{is_right, judged, judged_in, reads_as}
 use Rattle.verification.specs.Sent.{sent_in}
@@ -55,7 +59,8 @@ all-in-range test a (suc n) is =
     let both = and_parts (test a) (list_all test (range_with_len (a + 1) n)) is in
     (both.0, all-in-range test (a + 1) n both.1)
 
-none-found : {X : Type 0} (test : X → Bool) (xs : List X) → find test xs ≡ None → AllByRecursion (λ x. test x ≡ false) xs
+none-found : {X : Type 0} (test : X → Bool) (xs : List X) → find test xs ≡ None
+    → AllByRecursion (λ x. test x ≡ false) xs
 none-found test [] none = tt
 none-found test (x ∷ xs) none = here (test x) refl none (λ found. none-found test xs found)
   where
@@ -91,7 +96,8 @@ right-judged a pages none p k within at low high =
     let here : first_difference a pages (kinds.Otherwise p.number) ≡ [] =
     in-range (λ number. first_difference a pages (kinds.Otherwise number) ≡ []) 1 15 p.number
     (each-none of_number page_numbers numbers.0) low (omega arith) in
-    let found = no-first (difference_of a (kinds.Otherwise p.number)) (find (differs a (kinds.Otherwise p.number)) pages)
+    let found = no-first (difference_of a (kinds.Otherwise p.number)) (find (differs a (kinds.Otherwise p.number))
+        pages)
     here in
     let all = All-from_recursion (λ (q : JudgedPage). differs a (kinds.Otherwise p.number) q ≡ false) pages
     (none-found (differs a (kinds.Otherwise p.number)) pages found) in
@@ -271,7 +277,8 @@ kept-total : (a : AskedMessage) (read : List PageView) → IsRead a (pages_named
     total_of (name_asked a) read ≡ length a.contents
 kept-total a read is =
     ap total_in (kept-pages a read is)
-    ∙ total-is a (pages_named (name_asked a) read) (λ page. page.number == 1) (is.numbers 1 (omega arith) is.some) is.right
+    ∙ total-is a (pages_named (name_asked a) read) (λ page. page.number == 1) (is.numbers 1 (omega arith) is.some)
+        is.right
 
 complete : (a : AskedMessage) (read : List PageView) → IsRead a (pages_named (name_asked a) read) →
     is_complete (name_asked a) read ≡ true
@@ -285,9 +292,11 @@ complete a read is =
     ne_eqb (length a.contents) 0 (λ e. let s = is.some in let less : ⊥ = omega (arith, s, e) in less) in
     same
     ∙ ap (λ x. not x
-    && list_all (λ number. is_some (find (λ (page : PageView). page.number == number) (pages_named (name_asked a) read)))
+    && list_all (λ number. is_some (find (λ (page : PageView). page.number == number) (pages_named (name_asked a)
+        read)))
     (range_with_len 1 (length a.contents))) some
-    ∙ all-range (λ number. is_some (find (λ (page : PageView). page.number == number) (pages_named (name_asked a) read))) 1
+    ∙ all-range (λ number. is_some (find (λ (page : PageView). page.number == number) (pages_named (name_asked a)
+        read))) 1
     (length a.contents)
     (λ number low high. some-found (λ (page : PageView). page.number == number) (pages_named (name_asked a) read)
     ∙ is.numbers number low (omega arith))
@@ -349,8 +358,10 @@ texts-are : (T : ℕ → List ℕ) (G : Content → List ℕ) (n : ℕ) (rest : 
 texts-are T G n [] one = refl
 texts-are T G n (c ∷ rest) one =
     let e : n + 0 ≡ n = omega arith in
-    let first : encode_utf8_all (T n) ≡ encode_utf8_all (G c) = ap (λ k. encode_utf8_all (T k)) (sym e) ∙ one 0 c refl in
-    let later : encode_utf8_all (flat_map T (range_with_len (n + 1) (length rest))) ≡ encode_utf8_all (flat_map G rest) =
+    let first : encode_utf8_all (T n) ≡ encode_utf8_all (G c) = ap (λ k. encode_utf8_all (T k)) (sym e)
+        ∙ one 0 c refl in
+    let later : encode_utf8_all (flat_map T (range_with_len (n + 1) (length rest))) ≡ encode_utf8_all (flat_map G
+        rest) =
     texts-are T G (n + 1) rest
     (λ k d there. let more : n + 1 + k ≡ n + suc k = omega arith in
     ap (λ m. encode_utf8_all (T m)) more ∙ one (suc k) d there) in

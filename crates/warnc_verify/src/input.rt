@@ -25,7 +25,8 @@ use warnc_run::Workers;
 ///
 /// # Errors
 ///
-/// Those of [`verify_stream`](crate::verify_stream), and [`VerifyFault::ShortBook`] if the input ends before; the reader
+/// Those of [`verify_stream`](crate::verify_stream), and [`VerifyFault::ShortBook`] if the input ends before; the
+/// reader
 /// is that of the tapes, if it fails.
 pub fn verify_input<T: AllocGlobal + Threads + Wait + Sync, R: Read, W: Write>(
     rt: &T,

@@ -10,7 +10,8 @@ ghost use Rattle.handset.specs.declared.tape.TapeFault.TheVariants as tape;
 ghost use Rattle.warnc_run.specs.declared.fault.RunFault.TheVariants as run;
 ghost use Rattle.verification.specs.RowText.{rows_text};
 ghost use Rattle.warnc_verify.specs.VerifySteps.{IsRowsFault, IsTableFault};
-ghost use Rattle.warnc_verify.specs.Verified.{readers_of, Finds, FindsAndWrites, IsDifference, IsOfRun, IsVerifyFault, Writes};
+ghost use Rattle.warnc_verify.specs.Verified.{readers_of, Finds, FindsAndWrites, IsDifference, IsOfRun, IsVerifyFault};
+ghost use Rattle.warnc_verify.specs.Verified.{Writes};
 ghost use Rattle.warnc_verify.specs.declared.fault.VerifyFault.TheVariants as faults;
 
 use crate::fault::VerifyFault;
@@ -25,7 +26,8 @@ use verification::{Findings, Row, text_of};
 use warnc_run::{Workers, run_book};
 
 /// Reads a book, has its cells carry out what its one session orders, in runs of `slots` slots, as
-/// [`compile_stream`](warnc_run::compile_stream) does, reads tapes up to their end, and writes a row for each difference
+/// [`compile_stream`](warnc_run::compile_stream) does, reads tapes up to their end, and writes a row for each
+/// difference
 /// between what the cells were asked and what the tapes send, and for each cell without a tape and tape without a cell
 /// (`AreRows`). Nothing is written before all is known. `workers` workers play the cells.
 ///
