@@ -1,4 +1,5 @@
 pub mod Walks
+pub mod Places
 pub mod ItemLemmas
 pub mod WalkLaws
 pub mod MeaningLaws

@@ -12,4 +12,6 @@ pub mod Meaning
 pub mod Laws
 pub mod Written
 pub mod ReadingSteps
+pub mod Body
+pub mod Places
 pub mod WritingSteps

@@ -1,6 +1,7 @@
 //! Reading a message.
 
 ghost use Rattle.std.specs.Prelude.{◌≡◌, IfOk, IfErr, IfSome, MatchResult};
+ghost use Rattle.cbsp_wire.specs.Body.{elements_in};
 ghost use Rattle.cbsp_wire.specs.Walk.{walk_of};
 ghost use Rattle.cbsp_wire.specs.Refusals.{fault_of_walk, first_fault, reported_fault};
 ghost use Rattle.cbsp_wire.specs.ReadingSteps.{HasHeader};
@@ -10,62 +11,65 @@ use crate::cause;
 use crate::fault::WireFault;
 use crate::message::Message;
 use crate::message::message_type::MessageType;
-use crate::reading::elements::{WalkEnd, end_of_walk};
+use crate::reading::elements::WalkEnd;
+use crate::reading::places::Elements;
 use crate::reading::range::{elements_are_valid, has_mandatory};
 use crate::reading::value::message_from_elements;
 use std::alloc::Global;
 
 pub(crate) mod elements;
+pub(crate) mod places;
 pub(crate) mod range;
 pub(crate) mod value;
 
 /// The first fault of a message's elements.
-fn fault_of_elements(message_type: MessageType, elements: &[u8]) -> Option<WireFault>
-    ensures first { result ≡ fault_of_walk message_type (walk_of message_type elements.now).elements
-        (walk_of message_type elements.now).stop }
+fn fault_of_elements(elements: &Elements<'_>) -> Option<WireFault>
+    ensures first { result ≡ fault_of_walk elements.now.message_type (elements_in elements.now)
+        (walk_of elements.now.message_type elements.now.octets).stop }
     ensures reported { IfSome result (λ fault. reported_fault fault ≡ Some fault) }
 {
-    let stop = end_of_walk(message_type, elements);
-    if stop == WalkEnd::CutOff {
+    let end = elements.end();
+    if end == WalkEnd::CutOff {
         return Some(WireFault::Truncated);
     }
-    if !has_mandatory(message_type, elements) {
+    if !has_mandatory(elements) {
         return Some(WireFault::Cause(cause::MISSING_MANDATORY_ELEMENT));
     }
-    if stop == WalkEnd::UnexpectedElement {
+    if end == WalkEnd::UnexpectedElement {
         return Some(WireFault::Cause(cause::PARAMETER_NOT_RECOGNISED));
     }
-    if elements_are_valid(message_type, elements) {
+    if elements_are_valid(elements) {
         None
     } else {
         Some(WireFault::Cause(cause::PARAMETER_VALUE_INVALID))
     }
 }
 
-/// The type of a message without a fault and the octets of its elements, or its first fault.
+/// The elements of a message without a fault, or its first fault.
 #[tactic(auto, unfolding(crate::specs::Refusals::first_fault))]
-fn split_header(octets: &[u8]) -> Result<(MessageType, &[u8]), WireFault>
+fn faultless(octets: &[u8]) -> Result<Elements<'_>, WireFault>
     ensures faultless { IfOk result (λ _. first_fault octets.now ≡ None) }
-    ensures header { IfOk result (λ x. HasHeader octets.now x.0 x.1.now) }
+    ensures header { IfOk result (λ elements. HasHeader octets.now elements.message_type elements.octets) }
     ensures fault { IfErr result (λ fault. first_fault octets.now ≡ Some fault) }
     ensures reported { IfErr result (λ fault. reported_fault fault ≡ Some fault) }
 {
-    let [octet, a, b, c, elements @ ..] = octets else {
+    let [octet, a, b, c, rest @ ..] = octets else {
         return Err(WireFault::Truncated);
     };
     let length = usize::from(*a) * 65536 + usize::from(*b) * 256 + usize::from(*c);
-    if elements.len() < length {
+    if rest.len() < length {
         return Err(WireFault::Truncated);
     }
-    if length < elements.len() {
+    if length < rest.len() {
         return Err(WireFault::TrailingBytes);
     }
     let Some(message_type) = MessageType::from_octet(*octet) else {
         return Err(WireFault::Cause(cause::UNRECOGNISED_MESSAGE));
     };
-    match fault_of_elements(message_type, elements) {
+    let elements = Elements::take(message_type, rest);
+    match fault_of_elements(&elements) {
         Some(fault) => Err(fault),
-        None => Ok((message_type, elements)),
+        None => Ok(elements),
     }
 }
 
@@ -95,8 +99,8 @@ pub fn read(alloc: Global, octets: &[u8]) -> Result<Message, WireFault>
     // Out of memory is reported only if the octets mean something.
     ensures memory_last { IfErr result (λ fault. fault ≡ WireFault.Refused → (m : Message) × IsMessage octets.now m) }
 {
-    let (message_type, elements) = split_header(octets)?;
-    match message_from_elements(alloc, message_type, elements) {
+    let elements = faultless(octets)?;
+    match message_from_elements(alloc, &elements) {
         Ok(message) => Ok(message),
         Err(_) => Err(WireFault::Refused),
     }

@@ -6,7 +6,7 @@ use std::test::Fail;
 
 /// Octets that are read.
 const READ: &str = "
-# A kill in nine cells, for which the list of cells grows twice.
+# A kill in nine cells.
 scarce means 0400002e 0e1112 020010 04002501000100010001000200010003000100040001000500010006000100070001000800010009 \
     -> refused; kill id=4370 new=- old=0010 failures=- completed=- cells=1-1,1-2,1-3,1-4,1-5,1-6,1-7,1-8,1-9 channel=-
 # Nine completed broadcasts.

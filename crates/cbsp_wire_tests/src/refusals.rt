@@ -34,6 +34,9 @@ read 040000100e111202001004000501000100011201 -> read
 read 040000110e111202001004000501000100010e1112 -> cause 01
 read 040000110e11120200100400050100010001020010 -> cause 01
 read 040000160e111202001004000501000100010400050100010001 -> cause 01
+# One that comes three times, and one that comes again past an element that isn't of the message.
+read 040000140e11120e11120e11120200100400050100010001 -> cause 01
+read 040000130e111202001004000501000100010f010e1112 -> cause 00
 # A list with no discriminator, no items, a part of an item, another discriminator, a cell twice.
 read 040000090e1112020010040000 -> cause 01
 read 0400000a0e111202001004000101 -> cause 01
@@ -59,7 +62,7 @@ read 050000090e1112020010030010 -> cause 00
 
 #[test]
 fn octets_are_refused_at_their_first_fault(rt: HostRuntime) -> Result<(), Fail> {
-    expect_rows(&rt, rt.alloc(), REFUSED, 36)
+    expect_rows(&rt, rt.alloc(), REFUSED, 38)
 }
 
 /// The octets of causes, by 3GPP TS 48.049, 8.2, Cause.

@@ -217,7 +217,7 @@ pub(crate) fn put_items<T: ListItem>(out: &mut Vec<u8>, items: &[T])
 pub(crate) fn read_items<T: ListItem>(alloc: Global, octets: &[u8]) -> Result<Vec<T>, AllocError>
     ensures { IfOk result (λ items. items.items ≡ T.items_in octets.now) }
 {
-    let mut items = Vec::new(alloc);
+    let mut items = Vec::with_capacity(alloc, octets.len() / usize::from(T::SIZE))?;
     let mut left = octets;
     'items: while let Some((item, rest)) = T::first_of(left) {
         items.push(item)?;

@@ -133,12 +133,13 @@ fn size(number: u8, octets: &[u8]) -> usize
 }
 
 /// The element at the front: its number, its body, and the octets after it.
-fn front(message_type: MessageType, octets: &[u8]) -> Result<(u8, &[u8], &[u8]), WalkEnd>
+pub(crate) fn front(message_type: MessageType, octets: &[u8]) -> Result<(u8, &[u8], &[u8]), WalkEnd>
     ensures taken { IfOk result
         (λ x. front_of message_type octets.now ≡ Ok (record { number = x.0; body = x.1.now }, x.2.now)) }
     ensures ended { IfErr result (λ s. front_of message_type octets.now ≡ Err s) }
     ensures shorter { IfOk result (λ x. length x.2.now < length octets.now) }
     ensures sized { IfOk result (λ x. length x.1.now ≡ size_of x.0 x.1.now) }
+    ensures low { IfOk result (λ x. x.0 < 20) }
 {
     let [number, after @ ..] = octets else {
         return Err(WalkEnd::Complete);
@@ -152,19 +153,6 @@ fn front(message_type: MessageType, octets: &[u8]) -> Result<(u8, &[u8], &[u8]),
     }
     let (body, rest) = after.split_at(size);
     Ok((*number, body, rest))
-}
-
-/// Why the walk over the elements ends.
-pub(crate) fn end_of_walk(message_type: MessageType, octets: &[u8]) -> WalkEnd
-    ensures { result ≡ (walk_of message_type octets.now).stop }
-{
-    let mut left = octets;
-    'walk: loop {
-        match front(message_type, left) {
-            Ok((_, _, rest)) => left = rest,
-            Err(stop) => return stop,
-        }
-    }
 }
 
 /// The first element taken with this number: its body, and the octets after it.
