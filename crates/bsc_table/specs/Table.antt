@@ -49,6 +49,13 @@ state_of t = record {
   room = min (vec_capacity t.messages - vec_len t.messages) (vec_capacity t.by_pair - vec_len t.by_pair);
 }
 
+-- the lesser pairs stand before the place, and no others
+pub record ArePartedAt (pair : ℕ × ℕ) (pairs : List Pair) (at : ℕ) : Type 0 where
+  pub within : at ≤ length pairs
+  pub before : (k : ℕ) (d : Pair) → k < at → compare_pairs (pair_kept (slice_index_or pairs k d)) pair ≡ Less
+  pub behind : (k : ℕ) (d : Pair) → at ≤ k → k < length pairs
+      → compare_pairs (pair_kept (slice_index_or pairs k d)) pair ≢ Less
+
 -- a pair would go to the place: lesser ones stand before it, and greater ones from it on
 pub record IsGapFor (pair : ℕ × ℕ) (pairs : List Pair) (at : ℕ) : Type 0 where
   pub within : at ≤ length pairs

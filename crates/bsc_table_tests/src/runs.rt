@@ -59,6 +59,22 @@ write 0001 every 1 -> started at 6
 play 4 -> 6..10
 air -> 0/1 - - 0/1 - - 3/1 3/1 3/1 3/1
 
+# Pairs that come in no order, with refusals between: each is found by its pair, and stopped by its number.
+cell 1-1 8
+write 0005 every 8 -> started at 0
+kill 0004 -> refused: message reference not identified
+write 0003 every 8 -> started at 0
+write 0005 every 8 -> refused: message reference already used
+write 0007 every 8 -> started at 0
+write 0001 every 8 -> started at 0
+play 2 -> 0..2
+kill 0007 -> stopped, 0 completed
+kill 0005 -> stopped, 1 completed
+kill 0003 -> stopped, 1 completed
+kill 0001 -> stopped, 0 completed
+kill 0003 -> refused: message reference not identified
+air -> 0/1 2/1
+
 # High comes before normal.
 cell 1-1 2
 write 0001 every 2 -> started at 0

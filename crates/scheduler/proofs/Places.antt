@@ -88,3 +88,14 @@ pub same_place : (nodes : List Node) (i j : ℕ) (d : Node) → AreRising nodes 
     → (get_or nodes i d).kept.scheduled.item.entry ≡ (get_or nodes j d).kept.scheduled.item.entry → i ≡ j
 same_place nodes i j d rising first second named =
     rising-same (λ (n : Node). n.kept.scheduled.item.entry) nodes rising i j d first second named
+
+-- where the numbers rise, the place of a message is that of its number
+pub place_where_it_stands : (nodes : List Node) (place entry : ℕ) → AreRising nodes → place < length nodes
+    → ((d : Node) → (get_or nodes place d).kept.scheduled.item.entry ≡ entry)
+    → IsPlaceOf entry nodes place
+place_where_it_stands nodes place entry rising within stands = record {
+  within = omega (arith, within);
+  before = λ k d before. omega (arith, rising k place d before within, stands d);
+  behind = λ k d behind inside. no_lesser_behind nodes place entry d rising within (omega (arith, stands d)) k d
+      behind inside;
+}

@@ -291,8 +291,8 @@ fn near_end(nodes: &[Node], entry: u16) -> usize
     }
 }
 
-/// The place of the message of `entry`, where there is one: those before it have lesser numbers.
-fn place_of(nodes: &[Node], entry: u16) -> usize
+/// The place of the message of `entry`, where there is one, by a search: those before it have lesser numbers.
+fn place_by_search(nodes: &[Node], entry: u16) -> usize
     requires { AreRising nodes.now }
     ensures { IsPlaceOf entry nodes.now result }
 {
@@ -307,6 +307,28 @@ fn place_of(nodes: &[Node], entry: u16) -> usize
         }
     }
     low
+}
+
+/// Whether a message of `entry` stands at a place.
+fn stands_at(nodes: &[Node], place: usize, entry: u16) -> bool
+    ensures { result ≡ true → (place < length nodes.now)
+        × ((d : Node) → (slice_index_or nodes.now place d).kept.scheduled.item.entry ≡ entry) }
+{
+    place < nodes.len() && nodes[place].kept.scheduled.item.entry == entry
+}
+
+/// The place of the message of `entry`, where there is one: those before it have lesser numbers. That of its number is
+/// looked at first, since it stands there if all numbers below were given to messages.
+fn place_of(nodes: &[Node], entry: u16) -> usize
+    requires { AreRising nodes.now }
+    ensures { IsPlaceOf entry nodes.now result }
+{
+    let own = usize::from(entry);
+    if stands_at(nodes, own, entry) {
+        own
+    } else {
+        place_by_search(nodes, entry)
+    }
 }
 
 /// What `slot` airs, the next page of the message whose turn is the first, and what is kept after the slot.

@@ -123,17 +123,19 @@ fn some_item(numbers: &mut Numbers, entry: u16, start: u32) -> Item {
     }
 }
 
-/// Adds a message to both, that stands from the slot asked next, or from one that is up to `ahead` slots later.
+/// Adds a message to both, that stands from the slot asked next, or from one that is up to `ahead` slots later. The
+/// numbers of messages rise by `step`: with 1 each stands at the place of its number.
 fn add_both(
     plan: &mut Plan,
     scanned: &mut Vec<Scanned>,
     numbers: &mut Numbers,
     ahead: u16,
+    step: u16,
 ) -> Result<(), Fail> {
     let Ok(places) = u16::try_from(scanned.len()) else {
         return Ok(());
     };
-    let entry = places.saturating_mul(2);
+    let entry = places.saturating_mul(step);
     let later = numbers.below(ahead.saturating_add(1));
     let start = u32::from(plan.next_slot()).saturating_add(u32::from(later));
     let item = add_item(plan, some_item(numbers, entry, start)).ok_or("not added")?;
@@ -164,15 +166,16 @@ fn change_both(
     plan: &mut Plan,
     scanned: &mut Vec<Scanned>,
     numbers: &mut Numbers,
+    step: u16,
 ) -> Result<(), Fail> {
     let place = usize::from(numbers.below(64));
     match numbers.below(6) {
-        0 => add_both(plan, scanned, numbers, 0)?,
-        1 => add_both(plan, scanned, numbers, 30)?,
+        0 => add_both(plan, scanned, numbers, 0, step)?,
+        1 => add_both(plan, scanned, numbers, 30, step)?,
         2 => stop_both(rt, plan, scanned.as_mut_slice(), place),
         3 => {
             stop_both(rt, plan, scanned.as_mut_slice(), place);
-            add_both(plan, scanned, numbers, 12)?;
+            add_both(plan, scanned, numbers, 12, step)?;
         }
         _ => {}
     }
@@ -180,12 +183,12 @@ fn change_both(
 }
 
 /// That a run of 200 slots airs, and completes, what the walk does.
-fn expect_scan(rt: &impl Abort, alloc: Global, seed: u64) -> Result<(), Fail> {
+fn expect_scan(rt: &impl Abort, alloc: Global, seed: u64, step: u16) -> Result<(), Fail> {
     let mut numbers = Numbers { state: seed };
     let mut plan = Plan::new(alloc);
     let mut scanned: Vec<Scanned> = Vec::new(alloc);
     for slot in 0..200 {
-        change_both(rt, &mut plan, &mut scanned, &mut numbers)?;
+        change_both(rt, &mut plan, &mut scanned, &mut numbers, step)?;
         let used = scan(scanned.as_slice(), slot);
         assert_eq!(rt; air(&mut plan), used);
         pass(scanned.as_mut_slice(), slot, used);
@@ -198,8 +201,9 @@ fn expect_scan(rt: &impl Abort, alloc: Global, seed: u64) -> Result<(), Fail> {
 
 #[test]
 fn answers_as_a_walk_does(rt: HostRuntime) -> Result<(), Fail> {
-    for seed in 0..40 {
-        expect_scan(&rt, rt.alloc(), seed)?;
+    for seed in 0..20 {
+        expect_scan(&rt, rt.alloc(), seed, 1)?;
+        expect_scan(&rt, rt.alloc(), seed + 20, 2)?;
     }
     Ok(())
 }

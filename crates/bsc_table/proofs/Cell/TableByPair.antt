@@ -22,7 +22,7 @@ use Rattle.std.proofs.lemmas.Cmp.{nat_cmp_total, on_total, then_total, tied_itse
 use Rattle.std.proofs.lemmas.List.Edits.{length-insert, get_or-insert_below, get_or-insert_at, get_or-insert_above}
 use Rattle.bsc_table.specs.declared.accepted.AcceptedMessage.{AcceptedMessage}
 use Rattle.bsc_table.specs.declared.table.Pair.{Pair}
-use Rattle.bsc_table.specs.Table.{compare_pairs, pair_kept, AreRisingPairs, IsPairFound, IsGapFor}
+use Rattle.bsc_table.specs.Table.{compare_pairs, pair_kept, AreRisingPairs, IsPairFound, IsGapFor, ArePartedAt}
 use Rattle.bsc_table.specs.Table.{AreRisingMessages, AreByPair, IsPlaceFound, pair_of}
 use Rattle.bsc_table.specs.Record.{Accepted, is_of_pair}
 use Rattle.bsc_table.specs.Accepted.{accepted_of}
@@ -72,18 +72,60 @@ same_pair a b is = elim (cases_eq a.0 b.0) [
     pair_is : (a b : ℕ × ℕ) → a.0 ≡ b.0 → a.1 ≡ b.1 → a ≡ b
     pair_is a b first second = ap (λ x. (x, a.1)) first ∙ ap (λ y. (b.0, y)) second
 
--- what a search among pairs in order finds
-pub searched_pair : (pairs : List Pair) (pair : ℕ × ℕ) → AreRisingPairs pairs → (r : Result ℕ ℕ)
-    → IsSearchInRange r (length pairs) → IsBinarySearchResult (λ p. compare_pairs (pair_kept p) pair) pairs r
-    → IsPairFound pair pairs r
-searched_pair pairs pair rising (Ok at) within is = (within, λ d. same_pair _ pair (is d))
-searched_pair pairs pair rising (Err at) within parted =
-    let parts = parted (comparisons_rise compare_pairs compare_pairs-total pair_kept pairs rising pair) in
-    record {
-      within = within;
-      before = λ k d less. parts.0 k d (omega arith) less;
-      behind = λ k d le inside. parts.1 k d le inside;
-    }
+least_is_less : (o : Ordering) → ordering_index o ≤ 0 → o ≡ Less
+least_is_less Less le = refl
+least_is_less Equal le = absurd (omega (arith, le))
+least_is_less Greater le = absurd (omega (arith, le))
+
+-- pairs up to a lesser one are lesser
+pub less_up_to : (pairs : List Pair) (pair : ℕ × ℕ) → AreRisingPairs pairs → (middle : ℕ) (d : Pair)
+    → middle < length pairs
+    → compare_pairs (pair_kept (get_or pairs middle d)) pair ≡ Less
+    → (k : ℕ) (e : Pair) → k ≤ middle
+    → compare_pairs (pair_kept (get_or pairs k e)) pair ≡ Less
+less_up_to pairs pair rising middle d inside less k e le =
+    let there : compare_pairs (pair_kept (get_or pairs middle e)) pair ≡ Less =
+    rw (get_or_default pairs middle e d inside) less in
+    let rise = comparisons_rise compare_pairs compare_pairs-total pair_kept pairs rising pair k middle e le inside in
+    least_is_less _ (rw there at rise)
+
+-- and from one that isn't lesser on none is
+pub none_less_from : (pairs : List Pair) (pair : ℕ × ℕ) → AreRisingPairs pairs → (middle : ℕ) (d : Pair)
+    → middle < length pairs
+    → (compare_pairs (pair_kept (get_or pairs middle d)) pair ≡ Less → ⊥)
+    → (k : ℕ) (e : Pair) → middle ≤ k → k < length pairs
+    → compare_pairs (pair_kept (get_or pairs k e)) pair ≢ Less
+none_less_from pairs pair rising middle d inside not k e le within less =
+    not (less_up_to pairs pair rising k e within less middle d le)
+
+greatest : (o : Ordering) → o ≢ Less → o ≢ Equal → o ≡ Greater
+greatest Less less equal = absurd (less refl)
+greatest Equal less equal = absurd (equal refl)
+greatest Greater less equal = refl
+
+greatest_from : (o p : Ordering) → o ≡ Greater → ordering_index o ≤ ordering_index p → p ≡ Greater
+greatest_from o Less is le = absurd (omega (arith, rw is at le))
+greatest_from o Equal is le = absurd (omega (arith, rw is at le))
+greatest_from o Greater is le = refl
+
+-- a pair that doesn't stand where the lesser ones end would go there
+pub gap_where_parted : (pairs : List Pair) (pair : ℕ × ℕ) → AreRisingPairs pairs → (at : ℕ)
+    → ArePartedAt pair pairs at
+    → ((d : Pair) → at < length pairs → pair_kept (get_or pairs at d) ≡ pair → ⊥)
+    → IsGapFor pair pairs at
+gap_where_parted pairs pair rising at parted apart = record {
+  within = parted.within;
+  before = parted.before;
+  behind = λ k d le inside.
+      let here = at_most le inside in
+      let great = greatest _ (parted.behind at d (omega arith) here)
+      (λ equal. apart d here (same_pair _ pair equal)) in
+      greatest_from _ _ great
+      (comparisons_rise compare_pairs compare_pairs-total pair_kept pairs rising pair at k d le inside);
+}
+  where
+    at_most : {k : ℕ} → at ≤ k → k < length pairs → at < length pairs
+    at_most le inside = omega (arith, le, inside)
 
 -- what a search among messages in the order of their numbers finds
 pub searched_number : (messages : List AcceptedMessage) (entry : ℕ) → AreRisingMessages messages → (r : Result ℕ ℕ)

@@ -1,11 +1,7 @@
-use Rattle.std.proofs.Common.{rules}
-use Rattle.std.proofs.lemmas.List.Sorted.{answers_always}
-use Rattle.bsc_table.specs.Table.{pair_kept}
-use Rattle.bsc_table.proofs.Cell.TableByPair.{searched_pair}
+use Rattle.bsc_table.proofs.Cell.TableByPair.{gap_where_parted}
 use Rattle.bsc_table.proofs.table.search.Goals as goal
 
-pub returns : goal.returns
-returns c =
-    let facts = c.binary_search_by_key.ensures in
-    let by_key = facts.position pair_kept (answers_always _ _ _ (λ f a r g called. search rules)) in
-    searched_pair c.args.pairs.now (c.args.id, c.args.serial) c.requires _ facts.bound (rw c.number.ensures at by_key)
+pub returns-else-stands_at : goal.returns-else-stands_at
+returns-else-stands_at c =
+    rw c.number-serial.ensures at (gap_where_parted c.args.pairs.now _ c.requires _ c.gap_for-at.ensures
+    (c.stands_at.ensures.apart c.if-stands_at.false))

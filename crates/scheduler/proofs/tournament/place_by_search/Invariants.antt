@@ -1,6 +1,6 @@
 use Rattle.std.proofs.Common.{ℕ, ◌-◌, ◌<◌, ◌≤◌, length, get_or}
 use Rattle.scheduler.specs.declared.tournament.Node.{Node}
-use Rattle.scheduler.proofs.tournament.place_of.Given as goal
+use Rattle.scheduler.proofs.tournament.place_by_search.Given as goal
 
 abbrev pub decreases-loop-low : goal.decreases-loop-low
 decreases-loop-low l = l.high - l.low

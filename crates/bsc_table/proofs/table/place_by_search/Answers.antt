@@ -2,7 +2,7 @@ use Rattle.std.proofs.Common.{rules, Ok, Err}
 use Rattle.std.proofs.lemmas.List.Sorted.{answers_always}
 use Rattle.bsc_table.specs.declared.accepted.AcceptedMessage.{AcceptedMessage}
 use Rattle.bsc_table.proofs.Cell.TableByPair.{searched_number}
-use Rattle.bsc_table.proofs.table.place_of.Goals as goal
+use Rattle.bsc_table.proofs.table.place_by_search.Goals as goal
 
 pub returns-in-Ok : goal.returns-in-Ok
 returns-in-Ok c =
