@@ -1,6 +1,7 @@
 pub mod PartLaws
 pub mod TextLaws
 pub mod RowLaws
+pub mod NameLaws
 pub mod PageLaws
 pub mod BookLaws
 mod Worked

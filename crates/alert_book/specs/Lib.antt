@@ -11,6 +11,7 @@ pub mod TurnLaws
 pub mod LastAccepted
 pub mod SendableSteps
 pub mod RowSteps
+pub mod NameSteps
 pub mod PackingSteps
 pub mod SessionSteps
 pub mod VersionSteps

@@ -1,5 +1,6 @@
 -- What a session believes and does (own). Contracts of private functions alone speak of it.
-use Rattle.std.specs.Prelude.{◌≡◌, ℕ, Option, Some, None, List, [], filter, if◌then◌else◌, map}
+use Rattle.std.specs.Prelude.{◌≡◌, ℕ, Bool, false, true, Option, Some, None, List, [], filter, if◌then◌else◌, map}
+use Rattle.std.specs.Prelude.{slice_index_or}
 use Rattle.cbs_page.specs.declared.paging.Paged.{Paged}
 use Rattle.cbsp_wire.specs.declared.message.Cell.{Cell}
 use Rattle.alert_book.specs.declared.session.live_versions.LiveVersions.{LiveVersions}
@@ -27,6 +28,10 @@ cell_version live number cell = record { cell = cell; version = live number cell
 
 abbrev pub cells_found : (version : ℕ) → List CellVersion → List Cell
 cells_found version found = map (λ f. f.cell) (filter (λ f. is_version version f.version) found)
+
+-- marks by version: of those without one no cell was found
+abbrev pub AreMarked : List Bool → List CellVersion → Type 0
+AreMarked marks found = (version : ℕ) → slice_index_or marks version true ≡ false → cells_found version found ≡ []
 
 -- the requests that a row gives, if its order is of this part
 abbrev pub requests_in : (live : ℕ → Cell → Option ℕ) → (part parts : ℕ) → Order → Option Paged → List Request

@@ -7,6 +7,7 @@ ghost use Rattle.alert_book.specs.Book.{fault_at, kind_of, refused, unread, AreR
 ghost use Rattle.alert_book.specs.Book.{ReadsBook, RefusesBook};
 ghost use Rattle.alert_book.specs.SendableSteps.{IsSendable};
 
+use crate::book::names::Names;
 use crate::book::order::Order;
 use crate::book::packing::all_pages;
 use crate::book::row::{Row, row_of};
@@ -22,6 +23,7 @@ use std::thread::Threads;
 
 pub(crate) mod cells;
 pub(crate) mod fields;
+pub(crate) mod names;
 pub(crate) mod number;
 pub(crate) mod order;
 pub(crate) mod packing;
@@ -83,6 +85,7 @@ impl Book {
 struct RowsSoFar {
     cells: Vec<Cell>,
     orders: Vec<Order>,
+    names: Names,
 }
 
 impl Model for RowsSoFar {
@@ -93,9 +96,10 @@ impl Model for RowsSoFar {
     ghost view = { λ known. record { cells = known.cells.items; orders = known.orders.items } };
 
     ghost use Rattle.std.specs.Prelude.{All};
+    ghost use Rattle.alert_book.specs.NameSteps.{AreNames};
     ghost use Rattle.alert_book.specs.SendableSteps.{IsSendable};
 
-    ghost invariant = { λ known. All IsSendable known.orders.items };
+    ghost invariant = { λ known. All IsSendable known.orders.items × AreNames known.names known.orders.items };
 }
 
 impl RowsSoFar {
@@ -114,9 +118,13 @@ impl RowsSoFar {
         ensures err { IfErr result (λ fault. fault ≢ RowFault.Refused →
             row_of row self.old.cells self.old.orders (fields_of fields) ≡ Err fault) }
     {
-        match row_of(alloc, row, &self.cells, &self.orders, fields)? {
+        match row_of(alloc, row, &self.cells, &self.orders, &self.names, fields)? {
             Row::Declare(cell) => self.cells.push(cell)?,
-            Row::Give(order) => self.orders.push(order)?,
+            Row::Give(order) => {
+                self.orders.reserve(1)?;
+                self.names.add(alloc, &self.orders, &order)?;
+                self.orders.push_reserved(order);
+            }
         }
         Ok(())
     }
@@ -143,6 +151,7 @@ fn read_rows(alloc: Global, octets: &[u8]) -> Result<RowsSoFar, BookFault>
     let mut known = RowsSoFar {
         cells: Vec::new(alloc),
         orders: Vec::new(alloc),
+        names: Names::new(alloc),
     };
     let mut row = 0;
     let reader = ReaderBuilder::new()

@@ -159,6 +159,16 @@ book | -> read
 book update,1,a,en,2,2,0,*,Two| -> row 18: too many updates
 book update,1,a,en,2,2,0,1-2,Two| -> row 18: unknown cell
 
+# The updates of each name count alone, here of two that begin alike, with stops between.
+before cell,1,1|write,0,a,4370,0,1,en,2,2,0,*,One|write,0,aa,4371,0,2,en,2,2,0,*,One|
+times 15 update,1,a,en,2,2,0,*,Two|stop,1,aa,*|update,1,aa,en,2,2,0,*,Two|
+book write,1,b,4372,0,3,en,2,2,0,*,One| -> read
+book update,1,a,en,2,2,0,*,Two| -> row 49: too many updates
+book update,1,aa,en,2,2,0,*,Two| -> row 49: too many updates
+book update,1,b,en,2,2,0,*,Two| -> row 49: unknown name
+book write,1,aa,4372,0,3,en,2,2,0,*,One| -> row 49: named twice
+book stop,1,aa,*| -> read
+
 # A book declares 64 cells at most. A 65th has its columns looked at first, and its numbers last.
 before
 cells 64

@@ -5,9 +5,11 @@ ghost use Rattle.std.specs.Option.{option_copied};
 ghost use Rattle.csv.specs.Records.{fields_of};
 ghost use Rattle.alert_book.specs.Fields.{alert_at, are_texts, category, column, first_order, is_named, known_name};
 ghost use Rattle.alert_book.specs.Fields.{new_name, number, sending_at};
+ghost use Rattle.alert_book.specs.NameSteps.{AreNames};
 ghost use Rattle.alert_book.specs.SendableSteps.{HasSerials, IsSendable};
 
 use crate::book::cells::cells_of_field;
+use crate::book::names::Names;
 use crate::book::number::number_within;
 use crate::book::order::{Alert, Order, Sending, Text};
 use crate::fault::RowFault;
@@ -64,42 +66,45 @@ fn category(field: &str) -> Result<u8, RowFault>
     Ok(value as u8)
 }
 
-/// Whether an order is for the alert of this name.
-pub(crate) fn is_named(name: &str, order: &Order) -> bool
-    ensures { result ≡ is_named name.now order.now }
-{
-    order.name.text.as_str() == name
-}
-
 /// The first order of a name.
-fn first_order<'a>(orders: &'a [Order], name: &str) -> Option<&'a Order>
+fn first_order<'a>(orders: &'a [Order], names: &Names, name: &str) -> Option<&'a Order>
+    requires { AreNames names.now orders.now }
     ensures first { option_copied result ≡ first_order orders.now name.now }
     ensures sendable { IfSome result (λ order. All IsSendable orders.now → IsSendable order.now) }
 {
-    orders.iter().find(|order| is_named(name, order))
+    match names.known(name) {
+        Some(known) => orders.get(usize::from(known.first)),
+        None => None,
+    }
 }
 
 /// Whether a row may write this name.
-pub(crate) fn check_new_name(orders: &[Order], name: &str) -> Result<(), RowFault>
+pub(crate) fn check_new_name(orders: &[Order], names: &Names, name: &str) -> Result<(), RowFault>
+    requires { AreNames names.now orders.now }
     ensures ok { IfOk result (λ _. new_name orders.now name.now ≡ Ok name.now) }
     ensures err { IfErr result (λ fault. new_name orders.now name.now ≡ Err fault) }
 {
     if name.is_empty() {
         return Err(RowFault::UnknownName);
     }
-    if first_order(orders, name).is_some() {
+    if first_order(orders, names, name).is_some() {
         return Err(RowFault::TwiceNamed);
     }
     Ok(())
 }
 
 /// The first order of a name that a row may update or stop.
-pub(crate) fn known_name<'a>(orders: &'a [Order], name: &str) -> Result<&'a Order, RowFault>
+pub(crate) fn known_name<'a>(
+    orders: &'a [Order],
+    names: &Names,
+    name: &str,
+) -> Result<&'a Order, RowFault>
+    requires { AreNames names.now orders.now }
     ensures ok { IfOk result (λ order. known_name orders.now name.now ≡ Ok order.now) }
     ensures sendable { IfOk result (λ order. All IsSendable orders.now → IsSendable order.now) }
     ensures err { IfErr result (λ fault. known_name orders.now name.now ≡ Err fault) }
 {
-    match first_order(orders, name) {
+    match first_order(orders, names, name) {
         Some(order) => Ok(order),
         None => Err(RowFault::UnknownName),
     }

@@ -4,14 +4,16 @@ ghost use Rattle.std.specs.Prelude.{◌≡◌, ◌≢◌, ◌≤◌, Ok, Err, Al
 ghost use Rattle.csv.specs.Records.{fields_of};
 ghost use Rattle.alert_book.specs.Fields.{column};
 ghost use Rattle.alert_book.specs.SendableSteps.{HasSerials, IsSendable};
+ghost use Rattle.alert_book.specs.NameSteps.{AreNames};
 ghost use Rattle.alert_book.specs.RowSteps.{IsFine};
 ghost use Rattle.alert_book.specs.Row.{cell_row, columns_of, is_update_of, is_write, row_after_verb, row_of};
 ghost use Rattle.alert_book.specs.Row.{row_of_verb, stop_row, update_row, update_with, verb_of, write_row};
 
 use crate::book::cells::{cells_of_field, is_among};
 use crate::book::fields::{
-    alert_at, check_new_name, column, copy_of, is_named, known_name, number, sending_at, texts_of,
+    alert_at, check_new_name, column, copy_of, known_name, number, sending_at, texts_of,
 };
+use crate::book::names::Names;
 use crate::book::order::{Action, Order, Sending};
 use crate::fault::RowFault;
 use cbsp_wire::Cell;
@@ -81,9 +83,11 @@ pub(crate) fn row_of(
     row: u16,
     declared: &[Cell],
     orders: &[Order],
+    names: &Names,
     fields: ByteRecord,
 ) -> Result<Row, RowFault>
-    requires { length orders.now ≤ 4096 }
+    requires few { length orders.now ≤ 4096 }
+    requires names { AreNames names.now orders.now }
     ensures ok { IfOk result (λ meant. row_of row declared.now orders.now (fields_of fields) ≡ Ok meant) }
     ensures sendable { IfOk result (λ meant. All IsSendable orders.now → IsFine meant) }
     ensures err { IfErr result (λ fault. fault ≢ RowFault.Refused →
@@ -93,7 +97,7 @@ pub(crate) fn row_of(
         return Err(RowFault::TooManyRows);
     }
     let fields = texts_of(fields)?;
-    row_after_verb(alloc, row, declared, orders, &fields)
+    row_after_verb(alloc, row, declared, orders, names, &fields)
 }
 
 /// The same of a row of text.
@@ -102,9 +106,11 @@ fn row_after_verb(
     row: u16,
     declared: &[Cell],
     orders: &[Order],
+    names: &Names,
     fields: &StringRecord,
 ) -> Result<Row, RowFault>
-    requires { length orders.now ≤ 4096 }
+    requires few { length orders.now ≤ 4096 }
+    requires names { AreNames names.now orders.now }
     ensures ok { IfOk result (λ meant.
         row_after_verb (verb_of (column (fields_of fields.now) 0)) row declared.now orders.now (fields_of fields.now)
         ≡ Ok meant) }
@@ -121,9 +127,9 @@ fn row_after_verb(
     }
     match verb {
         Verb::Cell => cell_row(declared, fields),
-        Verb::Write => write_row(alloc, row, declared, orders, fields),
-        Verb::Update => update_row(alloc, row, declared, orders, fields),
-        Verb::Stop => stop_row(alloc, row, declared, orders, fields),
+        Verb::Write => write_row(alloc, row, declared, orders, names, fields),
+        Verb::Update => update_row(alloc, row, declared, orders, names, fields),
+        Verb::Stop => stop_row(alloc, row, declared, orders, names, fields),
     }
 }
 
@@ -156,20 +162,15 @@ fn count_of_writes(orders: &[Order]) -> usize
 }
 
 /// How many orders update a name.
-fn count_of_updates(orders: &[Order], name: &str) -> usize
+#[tactic(auto, using(crate::proofs::NameLaws::none_updates))]
+fn count_of_updates(orders: &[Order], names: &Names, name: &str) -> usize
+    requires { AreNames names.now orders.now }
     ensures { result ≡ count_by (is_update_of name.now) orders.now }
 {
-    orders
-        .iter()
-        .filter(|order| is_update_of(name, order))
-        .count()
-}
-
-/// Whether an order updates the alert of this name.
-fn is_update_of(name: &str, order: &Order) -> bool
-    ensures { result ≡ is_update_of name.now order.now }
-{
-    matches!(order.action, Action::Update { .. }) && is_named(name, order)
+    match names.known(name) {
+        Some(known) => usize::from(known.updates),
+        None => 0,
+    }
 }
 
 /// A row that writes an alert.
@@ -178,9 +179,11 @@ fn write_row(
     row: u16,
     declared: &[Cell],
     orders: &[Order],
+    names: &Names,
     fields: &StringRecord,
 ) -> Result<Row, RowFault>
-    requires { length orders.now ≤ 4096 }
+    requires few { length orders.now ≤ 4096 }
+    requires names { AreNames names.now orders.now }
     ensures ok { IfOk result (λ meant. write_row row declared.now orders.now (fields_of fields.now) ≡ Ok meant) }
     ensures sendable { IfOk result (λ meant. All IsSendable orders.now → IsFine meant) }
     ensures err { IfErr result (λ fault. fault ≢ RowFault.Refused →
@@ -188,7 +191,7 @@ fn write_row(
 {
     let at = number(column(fields, 1), 0, u16::MAX)?;
     let name = column(fields, 2);
-    check_new_name(orders, name)?;
+    check_new_name(orders, names, name)?;
     let alert = alert_at(fields, 3)?;
     let sending = sending_at(alloc, declared, fields, 6)?;
     Ok(Row::Give(Order {
@@ -207,8 +210,10 @@ fn update_row(
     row: u16,
     declared: &[Cell],
     orders: &[Order],
+    names: &Names,
     fields: &StringRecord,
 ) -> Result<Row, RowFault>
+    requires { AreNames names.now orders.now }
     ensures ok { IfOk result (λ meant. update_row row declared.now orders.now (fields_of fields.now) ≡ Ok meant) }
     ensures sendable { IfOk result (λ meant. All IsSendable orders.now → IsFine meant) }
     ensures err { IfErr result (λ fault. fault ≢ RowFault.Refused →
@@ -216,9 +221,9 @@ fn update_row(
 {
     let at = number(column(fields, 1), 0, u16::MAX)?;
     let name = column(fields, 2);
-    let first = known_name(orders, name)?;
+    let first = known_name(orders, names, name)?;
     let sending = sending_at(alloc, declared, fields, 3)?;
-    let earlier = count_of_updates(orders, name);
+    let earlier = count_of_updates(orders, names, name);
     let meant = update_with(alloc, row, at, name, first, earlier, sending)?;
     Ok(meant)
 }
@@ -258,8 +263,10 @@ fn stop_row(
     row: u16,
     declared: &[Cell],
     orders: &[Order],
+    names: &Names,
     fields: &StringRecord,
 ) -> Result<Row, RowFault>
+    requires { AreNames names.now orders.now }
     ensures ok { IfOk result (λ meant. stop_row row declared.now orders.now (fields_of fields.now) ≡ Ok meant) }
     ensures sendable { IfOk result (λ meant. All IsSendable orders.now → IsFine meant) }
     ensures err { IfErr result (λ fault. fault ≢ RowFault.Refused →
@@ -267,7 +274,7 @@ fn stop_row(
 {
     let at = number(column(fields, 1), 0, u16::MAX)?;
     let name = column(fields, 2);
-    let first = known_name(orders, name)?;
+    let first = known_name(orders, names, name)?;
     let cells = cells_of_field(alloc, declared, column(fields, 3))?;
     Ok(Row::Give(Order {
         row,

@@ -1,10 +1,11 @@
 //! The requests that a row's order comes to: messages, each to the cells that have one version of its alert.
 
+ghost use Rattle.std.specs.Prelude.{ℕ, false, slice_index_or, true};
 ghost use Rattle.std.specs.Prelude.{◌≡◌, ◌<◌, ◌∷◌, ◌++◌, [], Some, None, All, map, IfOk, IfSome, OnOk, if◌then◌else◌};
 ghost use Rattle.alert_book.specs.Session.{has_cells, is_version, requests_of, targets_of, serial_if};
 ghost use Rattle.alert_book.specs.Session.{serial_of};
 ghost use Rattle.alert_book.specs.Session.{request_with, stop_request, update_request, write_of};
-ghost use Rattle.alert_book.specs.SessionSteps.{cell_version, cells_found, live_by};
+ghost use Rattle.alert_book.specs.SessionSteps.{cell_version, cells_found, live_by, AreMarked};
 ghost use Rattle.alert_book.specs.SendableSteps.{HasSerials, IsSendable};
 
 use crate::book::cells::list_of;
@@ -17,6 +18,9 @@ use std::collections::VecDeque;
 
 /// Out of memory.
 pub use std::alloc::AllocError as Refused;
+
+/// How many versions an alert has at most, the first among them.
+const VERSIONS: usize = 16;
 
 /// A message of a session.
 #[derive(Debug, Drop)]
@@ -101,6 +105,51 @@ fn versions_in(
     Ok(found)
 }
 
+/// Marks a version, if there is one.
+fn mark(marks: &mut [bool; VERSIONS], version: Option<u8>)
+    ensures { (other : ℕ) → slice_index_or marks.new other true ≡ false
+        → (slice_index_or marks.old other true ≡ false) × (is_version other version ≡ false) }
+{
+    if let Some(version) = version {
+        let index = usize::from(version);
+        if index < VERSIONS {
+            marks[index] = true;
+        }
+    }
+}
+
+/// The versions that are live in some of these cells, by a walk over them: mostly there is one.
+fn marks_of(found: &[CellVersion]) -> [bool; VERSIONS]
+    ensures { AreMarked result found.now }
+{
+    let mut marks = [false; VERSIONS];
+    let mut left = found;
+    'found: while let [one, rest @ ..] = left {
+        mark(&mut marks, one.version);
+        left = rest;
+    }
+    marks
+}
+
+/// Of some cells those that have this version, which are looked for only if it is marked.
+fn cells_if_marked(
+    alloc: Global,
+    marks: &[bool; VERSIONS],
+    found: &[CellVersion],
+    version: u8,
+) -> Result<Cells, Refused>
+    requires { AreMarked marks.now found.now }
+    ensures { IfOk result (λ cells. cells ≡ cells_found version found.now) }
+{
+    let index = usize::from(version);
+    if index < VERSIONS && !marks[index] {
+        return Ok(Cells {
+            list: Vec::new(alloc),
+        });
+    }
+    cells_with(alloc, found, version)
+}
+
 /// Of some cells those that have this version.
 fn cells_with(alloc: Global, found: &[CellVersion], version: u8) -> Result<Cells, Refused>
     ensures { IfOk result (λ cells. cells ≡ cells_found version found.now) }
@@ -179,9 +228,10 @@ fn targets_of(
     ensures versions { IfOk result (λ targets. All (λ t. t.version < 16) targets.items) }
 {
     let found = versions_in(alloc, live, number, cells)?;
+    let marks = marks_of(&found);
     let mut targets = Vec::new(alloc);
     for version in 0..16 {
-        let cells = cells_with(alloc, &found, version)?;
+        let cells = cells_if_marked(alloc, &marks, &found, version)?;
         push_target(&mut targets, Target { version, cells })?;
     }
     Ok(targets)

@@ -7,7 +7,7 @@ use Rattle.alert_book.proofs.book.book_of.Goals as goal
 
 pub invariant_of-result : goal.invariant_of-result
 invariant_of-result g c = (
-  c.known.invariant,
+  c.known.invariant.0,
   pages_length c.known.inside.orders.items c.in_ok-pages.pages.items
       (subst (λ (orders : List Order). HavePages orders c.in_ok-pages.pages.items) c.deref.ensures.value
       c.in_ok-pages.ensures.ok),

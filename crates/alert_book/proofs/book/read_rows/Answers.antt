@@ -16,10 +16,10 @@ loop-record-init c =
     let rdr = c.into_byte_records-record-items.ensures.rdr in
     let left = c.into_byte_records-record-items.ensures.left in
     rw (start, rdr) record {
-      trim = rw e at fr.trim ∙ c.new-3.ensures.trim;
+      trim = rw e at fr.trim ∙ c.new-4.ensures.trim;
       ready = inr (inr (rw e at fr.has_headers, fr.headers));
       turns = left;
-      config = rw e at fr.config ∙ c.new-3.ensures.config;
+      config = rw e at fr.config ∙ c.new-4.ensures.config;
       left = strip_bom c.args.octets.now;
       source = fr.source;
       seen = [];

@@ -37,8 +37,9 @@ loop-version-preserved c =
     let live = live_by c.args.live.now in
     c.in_ok-push_target.ensures
     ∙ ap (λ (cells : List Cell). more c.loop-version.targets.items c.loop-version.version cells)
-    (c.in_ok-cells.ensures ∙ found_with live c.args.number c.loop-version.version c.args.cells.now c.deref.result.now
-    (c.deref.ensures.value ∙ c.in_ok-found.ensures))
+    (c.in_ok-cells.ensures
+    ∙ found_with live c.args.number c.loop-version.version c.args.cells.now c.deref-in-loop-version.result.now
+    (c.deref-in-loop-version.ensures.value ∙ c.in_ok-found.ensures))
     ∙ ap (λ (targets : List Target). more targets c.loop-version.version
     (target_of live c.args.number c.args.cells.now c.loop-version.version).cells) c.loop-version.invariant
     ∙ sym (filter_of_map_range_with_len_more has_cells (target_of live c.args.number c.args.cells.now) 0
