@@ -366,21 +366,16 @@ fn end_at(table: &mut [Held], entry: u16, slot: u32)
     ensures { table.new ≡ ends_at entry slot table.old }
 {
     for held in table.iter_mut() {
-        *held = ended(*held, entry, slot);
+        end_if(held, entry, slot);
     }
 }
 
-/// A reservation, with its end at `slot` where it is of `entry`.
-fn ended(held: Held, entry: u16, slot: u32) -> Held
-    ensures { result ≡ ends_if (held.entry == entry) slot held }
+/// Lets a reservation end at `slot` if it is of `entry`. Others aren't written.
+fn end_if(held: &mut Held, entry: u16, slot: u32)
+    ensures { held.new ≡ ends_if (held.old.entry == entry) slot held.old }
 {
     if held.entry == entry {
-        Held {
-            end: Some(slot),
-            ..held
-        }
-    } else {
-        held
+        held.end = Some(slot);
     }
 }
 

@@ -1,6 +1,13 @@
 -- The record of a cell among the records of a run, and what a note of the cell says by it.
 use Rattle.std.proofs.Common.{◌≡◌, ℕ, Bool, true, false, cond, ◌||◌, List, [], ◌∷◌, ◌++◌, All, refl, sym, subst, ap}
-use Rattle.std.proofs.Common.{◌∙◌}
+use Rattle.std.proofs.Common.{◌∙◌, zero, suc, ◌<◌, Some, length, get_or, arith, inl, inr}
+use Rattle.std.specs.List.{slice_get}
+use Rattle.std.proofs.lemmas.Bool.{cases_Bool}
+use Rattle.std.proofs.lemmas.List.{get_or-map, length-map}
+use Rattle.std.proofs.lemmas.List.Elements.{All-cons}
+use Rattle.std.proofs.lemmas.Option.{get_or_from_slice_get, none-some, slice_get_within}
+use Rattle.cbsp_wire.specs.CellLists.{AreDistinct}
+use Rattle.cbsp_wire.proofs.CellLists.{same_cell}
 use Rattle.std.specs.List.{AllByRecursion}
 use Rattle.std.proofs.lemmas.List.Elements.{recursion_from_All}
 use Rattle.cbsp_wire.specs.declared.message.Cell.{Cell}
@@ -105,3 +112,41 @@ note_by_one records cell r at command (notes.Event of number entry) answer found
     )
 note_by_one records cell r at command (notes.Played of from to) answer found noted = noted
 note_by_one records cell r at command (notes.Full of) answer found noted = noted
+
+some_is : (x r : Record) → Some x ≡ Some r → x ≡ r
+some_is x r is = cc
+
+-- of records of different cells the one at a place is the first of its cell
+pub record_at : (records : List Record) (place : ℕ) (cell : Cell) (r : Record) → AreDistinct (cells_of records)
+    → slice_get records place ≡ Some r → is_cell cell r.cell ≡ true → IsRecordOf records cell r
+record_at [] place cell r distinct there own = absurd (none-some r there)
+record_at (x ∷ records) zero cell r distinct there own = record {
+  before = [];
+  after = records;
+  split = ap (λ (y : Record). y ∷ records) (some_is x r there);
+  others = λ k d less. absurd (omega (arith, less));
+  own = own;
+}
+record_at (x ∷ records) (suc place) cell r distinct there own =
+    let rest = record_at records place cell r (λ i j d less inside. distinct (suc i) (suc j) d (omega (arith, less))
+    (omega (arith, inside))) there own in
+    let inside : place < length records = slice_get_within records place r there in
+    let here : get_or (cells_of records) place r.cell ≡ r.cell =
+    get_or-map (λ (y : Record). y.cell) records place r r.cell inside
+    ∙ ap (λ (y : Record). y.cell) (get_or_from_slice_get records place r r there) in
+    let apart : x.cell ≡ r.cell → ⊥ = λ same. distinct 0 (suc place) r.cell (omega arith)
+    (omega (arith, inside, length-map records (λ (y : Record). y.cell))) (same ∙ sym here) in
+    record {
+      before = x ∷ rest.before;
+      after = rest.after;
+      split = ap (λ (ys : List Record). x ∷ ys) rest.split;
+      others = All-cons (λ (other : Record). is_cell cell other.cell ≡ false) x rest.before (other_cell x apart)
+          rest.others;
+      own = own;
+    }
+  where
+    other_cell : (x : Record) → (x.cell ≡ r.cell → ⊥) → is_cell cell x.cell ≡ false
+    other_cell x apart = elim (cases_Bool (is_cell cell x.cell)) [
+      | inl is ↦ absurd (apart (sym (same_cell cell x.cell is) ∙ same_cell cell r.cell own))
+      | inr other ↦ other
+    ]

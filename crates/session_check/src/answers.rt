@@ -3,6 +3,7 @@
 ghost use Rattle.std.specs.Prelude.{◌≡◌, ◌↔◌, List, false, true, Some, IfNone, IfOk, IfSome, IsTrue, All};
 ghost use Rattle.std.specs.List.{slice_get};
 ghost use Rattle.cbsp_wire.specs.declared.message.Cell.{Cell};
+ghost use Rattle.cbsp_wire.specs.CellLists.{AreDistinct};
 ghost use Rattle.cbsp_wire.specs.Range.{is_cell};
 ghost use Rattle.bsc_table.specs.declared.entry.Answer.{Answer};
 ghost use Rattle.order_desk.specs.declared.note.Note.{Note};
@@ -19,8 +20,8 @@ use cbsp_wire::{Cell, cause};
 use order_desk::Note;
 use std::alloc::{AllocError as Refused, Global};
 
-/// The record of a cell, if it is of the run.
-fn record_of(records: &[CellRecord], cell: Cell) -> Option<&CellRecord>
+/// The record of a cell, if it is of the run, by a look at all.
+fn record_by_search(records: &[CellRecord], cell: Cell) -> Option<&CellRecord>
     ensures none { IfNone result (is_among (cells_of records.now) cell ≡ false) }
     ensures some { IfSome result (λ found. IsRecordOf records.now cell found.now) }
 {
@@ -30,6 +31,40 @@ fn record_of(records: &[CellRecord], cell: Cell) -> Option<&CellRecord>
         }
     }
     None
+}
+
+/// The record at a place, if it is the cell's, and no two records are of one cell.
+fn record_at(
+    records: &[CellRecord],
+    is_distinct: bool,
+    cell: Cell,
+    place: usize,
+) -> Option<&CellRecord>
+    requires { is_distinct ≡ true → AreDistinct (cells_of records.now) }
+    ensures { IfSome result (λ found. IsRecordOf records.now cell found.now) }
+{
+    match records.get(place) {
+        Some(record) if is_distinct && cell == record.cell() => Some(record),
+        _ => None,
+    }
+}
+
+/// The record of a cell, if it is of the run. Where no two records are of one cell, that at a place is looked at first:
+/// orders mostly name the cells in their records' order.
+fn record_of(
+    records: &[CellRecord],
+    is_distinct: bool,
+    cell: Cell,
+    place: usize,
+) -> Option<&CellRecord>
+    requires { is_distinct ≡ true → AreDistinct (cells_of records.now) }
+    ensures none { IfNone result (is_among (cells_of records.now) cell ≡ false) }
+    ensures some { IfSome result (λ found. IsRecordOf records.now cell found.now) }
+{
+    match record_at(records, is_distinct, cell, place) {
+        Some(record) => Some(record),
+        None => record_by_search(records, cell),
+    }
 }
 
 /// The slot of the entry before that of a number; 0 if there is none.
@@ -110,14 +145,18 @@ fn answer_noted(
 }
 
 /// The answer of a cell to a command that it was asked from slot `at` on, by the first of some notes, and the notes
-/// after it. Of a cell that isn't of the run nothing is noted: it is not identified.
+/// after it. Of a cell that isn't of the run nothing is noted: it is not identified. Its record is looked for at a
+/// place first.
 fn answer_in<'a>(
     records: &[CellRecord],
+    is_distinct: bool,
     at: u16,
     cell: Cell,
+    place: usize,
     command: &Command,
     notes: &'a [Note],
 ) -> Option<(Answer, &'a [Note])>
+    requires distinct { is_distinct ≡ true → AreDistinct (cells_of records.now) }
     requires ordered { IsOrdered command.now }
     requires standing { AreStanding records.now (commands_in notes.now) }
     ensures noted { IfSome result (λ given. IsAnswerNoted records.now at command.now (cell, given.0)
@@ -126,7 +165,7 @@ fn answer_in<'a>(
     ensures none { IfNone result ((answer : Answer) (left : List Note)
         → IsAnswerNoted records.now at command.now (cell, answer) (commands_in notes.now) left → ⊥) }
 {
-    let Some(record) = record_of(records, cell) else {
+    let Some(record) = record_of(records, is_distinct, cell, place) else {
         return Some((Answer::Cause(cause::CELL_IDENTITY_NOT_VALID), notes));
     };
     let Some((note, rest)) = next_command(notes) else {
@@ -143,11 +182,13 @@ fn answer_in<'a>(
 pub(crate) fn answers_in<'a>(
     alloc: Global,
     records: &[CellRecord],
+    is_distinct: bool,
     at: u16,
     cells: &[Cell],
     command: &Command,
     notes: &'a [Note],
 ) -> Result<Option<(Vec<(Cell, Answer)>, &'a [Note])>, Refused>
+    requires distinct { is_distinct ≡ true → AreDistinct (cells_of records.now) }
     requires ordered { IsOrdered command.now }
     requires standing { AreStanding records.now (commands_in notes.now) }
     ensures answered { IfOk result (λ found. IfSome found (λ given. cells_answered given.0.items ≡ cells.now)) }
@@ -162,7 +203,9 @@ pub(crate) fn answers_in<'a>(
     let mut answers = Vec::with_capacity(alloc, cells.len())?;
     let mut left = notes;
     for cell in cells {
-        let Some((answer, rest)) = answer_in(records, at, *cell, command, left) else {
+        let place = answers.len();
+        let Some((answer, rest)) = answer_in(records, is_distinct, at, *cell, place, command, left)
+        else {
             return Ok(None);
         };
         answers.push((*cell, answer))?;

@@ -1,6 +1,7 @@
 //! A session that is served again, by the notes of its pass.
 
-ghost use Rattle.std.specs.Prelude.{◌≡◌, ◌↔◌, ◌<◌, List, IfNone, IfOk, IfSome, IsTrue, MatchOption};
+ghost use Rattle.std.specs.Prelude.{◌≡◌, ◌↔◌, ◌<◌, List, IfNone, IfOk, IfSome, IsTrue, MatchOption, true};
+ghost use Rattle.cbsp_wire.specs.CellLists.{AreDistinct};
 ghost use Rattle.cbsp_wire.specs.declared.message.Cell.{Cell};
 ghost use Rattle.bsc_table.specs.declared.command.Command.{Command};
 ghost use Rattle.order_desk.specs.Desk.{IsOrderOf};
@@ -41,10 +42,12 @@ fn order_meant(alloc: Global, octets: &[u8]) -> Result<Option<(Vec<Cell>, Comman
 fn reply_in<'a>(
     alloc: Global,
     records: &[CellRecord],
+    is_distinct: bool,
     at: u16,
     octets: &[u8],
     notes: &'a [Note],
 ) -> Result<Option<(Vec<u8>, &'a [Note])>, Refused>
+    requires distinct { is_distinct ≡ true → AreDistinct (cells_of records.now) }
     requires standing { AreStanding records.now (commands_in notes.now) }
     ensures some { IfOk result (λ found. IfSome found (λ given. IsTurnNoted records.now at octets.now given.0.items
         (commands_in notes.now) (commands_in given.1.now))) }
@@ -56,7 +59,16 @@ fn reply_in<'a>(
     let Some((cells, command)) = order_meant(alloc, octets)? else {
         return Ok(None);
     };
-    let Some((answers, rest)) = answers_in(alloc, records, at, &cells, &command, notes)? else {
+    let Some((answers, rest)) = answers_in(
+        alloc,
+        records,
+        is_distinct,
+        at,
+        &cells,
+        &command,
+        notes,
+    )?
+    else {
         return Ok(None);
     };
     let reply = reply_of(alloc, &command, &answers)?;
@@ -71,8 +83,10 @@ pub(crate) fn is_pass_of_session(
     part: u16,
     parts: u16,
     records: &[CellRecord],
+    is_distinct: bool,
     pass: &[Note],
 ) -> Result<bool, Refused>
+    requires distinct { is_distinct ≡ true → AreDistinct (cells_of records.now) }
     requires part { part < parts }
     requires cells { cells_of records.now ≡ book.now.cells }
     requires standing { AreStanding records.now (commands_in pass.now) }
@@ -86,7 +100,7 @@ pub(crate) fn is_pass_of_session(
     let mut session = Session::new(alloc, book, part, parts)?;
     let mut next = session.next(None)?;
     while let Some((at, octets)) = next {
-        let Some((reply, rest)) = reply_in(alloc, records, at, &octets, left)? else {
+        let Some((reply, rest)) = reply_in(alloc, records, is_distinct, at, &octets, left)? else {
             return Ok(false);
         };
         left = rest;

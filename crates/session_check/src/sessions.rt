@@ -1,8 +1,10 @@
 //! The sessions of a book, each with the pass of its part.
 
 ghost use Rattle.std.specs.Prelude.{◌≡◌, ◌≢◌, ◌↔◌, ◌<◌, ◌≤◌, length, All, IfErr, IfOk, IsOk, IsTrue, slice_index_or};
+ghost use Rattle.std.specs.Prelude.{true};
 ghost use Rattle.order_desk.specs.declared.settle.SettleFault.TheVariants as faults;
 ghost use Rattle.book_runs.specs.Sessions.{AreSessions, IsRightPass};
+ghost use Rattle.cbsp_wire.specs.CellLists.{AreDistinct};
 ghost use Rattle.session_check.specs.Checked.{HasRightNumbers, IsFirstWrongPass};
 ghost use Rattle.session_check.specs.NotedSteps.{cells_of};
 
@@ -10,6 +12,7 @@ use crate::notes::has_no_commands;
 use crate::session::is_pass_of_session;
 use alert_book::Book;
 use bsc_table::CellRecord;
+use cbsp_wire::cells::are_distinct;
 use order_desk::{Pass, SettleFault};
 use std::alloc::{AllocError as Refused, Global};
 
@@ -20,9 +23,11 @@ fn is_right_pass(
     book: &Book,
     parts: u16,
     records: &[CellRecord],
+    is_distinct: bool,
     passes: &[Pass],
     place: usize,
 ) -> Result<bool, Refused>
+    requires distinct { is_distinct ≡ true → AreDistinct (cells_of records.now) }
     requires within { place < length passes.now }
     requires cells { cells_of records.now ≡ book.now.cells }
     requires agree { All (HasRightNumbers passes.now) records.now }
@@ -30,7 +35,15 @@ fn is_right_pass(
 {
     let notes = passes[place].notes();
     if place < usize::from(parts) {
-        return is_pass_of_session(alloc, book, place as u16, parts, records, notes);
+        return is_pass_of_session(
+            alloc,
+            book,
+            place as u16,
+            parts,
+            records,
+            is_distinct,
+            notes,
+        );
     }
     Ok(has_no_commands(notes))
 }
@@ -61,8 +74,9 @@ pub fn check_sessions(
     ensures err { IfErr result (λ fault. fault ≢ faults.Refused
         → IsFirstWrongPass book.now parts records.now passes.now fault) }
 {
+    let is_distinct = are_distinct(book.cells());
     for place in 0..passes.len() {
-        match is_right_pass(alloc, book, parts, records, passes, place) {
+        match is_right_pass(alloc, book, parts, records, is_distinct, passes, place) {
             Ok(true) => {}
             Ok(false) => {
                 let part = place.min(usize::from(parts)) as u16;

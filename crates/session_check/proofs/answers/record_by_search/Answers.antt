@@ -4,7 +4,7 @@ use Rattle.std.proofs.lemmas.List.Elements.{All-push}
 use Rattle.cbsp_wire.specs.Range.{is_cell}
 use Rattle.bsc_table.specs.Record.{Record}
 use Rattle.session_check.proofs.Found.{among_none}
-use Rattle.session_check.proofs.answers.record_of.Goals as goal
+use Rattle.session_check.proofs.answers.record_by_search.Goals as goal
 
 pub returns-then-eq-clause-some : goal.returns-then-eq-clause-some
 returns-then-eq-clause-some c =
