@@ -135,8 +135,8 @@ fn is_before(pair: &Pair, id: u16, serial: u16) -> bool
     pair.id < id || (pair.id == id && pair.serial < serial)
 }
 
-/// Where a pair would go among others in order: the lesser ones stand before it. `binary_search_by_key` takes three
-/// times as long.
+/// Where a pair would go among others in order: the lesser ones stand before it. `binary_search_by_key` compares
+/// tuples, and takes nearly twice as many instructions.
 fn gap_for(pairs: &[Pair], id: u16, serial: u16) -> usize
     requires { AreRisingPairs pairs.now }
     ensures { ArePartedAt (id, serial) pairs.now result }
