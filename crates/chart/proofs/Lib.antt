@@ -1,6 +1,7 @@
 mod EscapeLaws
 mod KeptLaws
 mod LoadLaws
+mod MarkLaws
 mod RangeLaws
 mod SectionLaws
 pub mod SomeChart

@@ -4,3 +4,4 @@ pub mod Message
 pub mod ChartText
 pub mod Kept
 pub mod LineSteps
+pub mod Laws

@@ -1,6 +1,6 @@
 -- What is drawn of an accepted message beside its row (own).
 use Rattle.std.specs.Prelude.{ℕ, ◌+◌, ◌-◌, ◌==◌, ◌&&◌, if◌then◌else◌, min, Option, Some, None, List, [], ◌++◌, find}
-use Rattle.std.specs.Prelude.{false, slice_get}
+use Rattle.std.specs.Prelude.{Bool, false, slice_get}
 use Rattle.std.specs.Fmt.{decimal}
 use Rattle.std.specs.List.{flat_map, range_with_len}
 use Rattle.std.specs.Option.{option_map_or, unwrap_or}
@@ -32,11 +32,13 @@ category_words (Some a) = rank_words a.message.rank
 abbrev pub end_within : (slots : ℕ) → ScheduledMessage → ℕ
 end_within slots m = min (unwrap_or (end_of m) slots) slots
 
--- a mark after a slot that sends the last page of a message: a broadcast of it is whole then
+-- whether a slot sends the last page of a message: a broadcast of it is whole then
+abbrev pub is_marked : Air → ScheduledMessage → (slot : ℕ) → Bool
+is_marked air m slot = option_map_or (airs_page m.entry m.pages) (slice_get air slot) false
+
+-- the mark after such a slot
 abbrev pub mark_at : Air → ScheduledMessage → (slot : ℕ) → List ℕ
-mark_at air m slot =
-    if option_map_or (airs_page m.entry m.pages) (slice_get air slot) false
-    then MARK.now ++ decimal (slot + 1) ++ MARK_END.now else []
+mark_at air m slot = if is_marked air m slot then MARK.now ++ decimal (slot + 1) ++ MARK_END.now else []
 
 abbrev pub marks_of : (slots : ℕ) → Air → Option Accepted → List ℕ
 marks_of slots air None = []

@@ -1,9 +1,17 @@
 //! Laws of a chart.
 
 ghost use Rattle.chart.specs.Escape.{EscapedIsPlain};
+ghost use Rattle.chart.specs.Laws.{MarksAreCompleted};
 
-/// States, as its contract, what no text does in a page. It does nothing.
+/// States, as its contract, what texts and marks are in a page. Does nothing: its body names the laws that carry it.
 pub fn chart_laws()
     // No text begins or ends a tag, or the value of an attribute.
-    ensures { EscapedIsPlain }
-{}
+    ensures escaped { EscapedIsPlain }
+
+    // A message has as many marks as broadcasts of it were completed.
+    ensures marks { MarksAreCompleted }
+{
+    bsc_table::guarantee();
+    bsc_table::legal_histories();
+    scheduler::air_laws();
+}

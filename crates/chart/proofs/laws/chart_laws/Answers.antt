@@ -1,5 +1,15 @@
 use Rattle.chart.proofs.EscapeLaws.{escaped_is_plain}
+use Rattle.chart.proofs.MarkLaws.{marks_are_completed}
 use Rattle.chart.proofs.laws.chart_laws.Goals as goal
 
 pub returns : goal.returns
-returns c = escaped_is_plain
+returns c = record {
+  escaped = escaped_is_plain;
+  marks = marks_are_completed (record {
+    rise = c.legal_histories.ensures.accepted_rise;
+    loads = c.legal_histories.ensures.accepted_have_loads;
+    cover = c.guarantee.ensures.reservations_cover_broadcasts;
+    order = c.air_laws.ensures.in_order;
+    last = c.air_laws.ensures.last_page_counts;
+  });
+}
