@@ -1,10 +1,12 @@
 //! The command `verify` with one input, which has the book before the tapes.
 
-ghost use Rattle.std.specs.Prelude.{◌≡◌, ◌↔◌, ◌<◌, false, true, length, IfErr, IfOk, IfSome, IsErrOf, IsTrue, OnOk};
+ghost use Rattle.std.specs.Prelude.{◌≡◌, ◌↔◌, ◌⊎◌, ◌<◌, false, true, length, Err, IfErr, IfOk, IfSome, IsErrOf, IsTrue, OnOk};
 ghost use Rattle.std.specs.Io.KnownBytes.{Consumes};
 ghost use Rattle.device_ends.specs.Source.{reader_of, source_failed};
 ghost use Rattle.device_ends.specs.Stream.{FaultOfInput, OutputOfInput, Reads};
+ghost use Rattle.alert_book.specs.Book.{unread};
 ghost use Rattle.handset.specs.declared.tape.TapeFault.TheVariants as tape;
+ghost use Rattle.warnc_run.specs.declared.fault.RunFault.TheVariants as run;
 ghost use Rattle.warnc_verify.specs.Input.{HasDifferences, IsInputFault, IsVerified, IsVerifyBetween};
 ghost use Rattle.warnc_verify.specs.Verified.{IsDifference};
 ghost use Rattle.warnc_verify.specs.InputSteps.{IsFrontFault};
@@ -12,13 +14,14 @@ ghost use Rattle.warnc_verify.specs.declared.fault.VerifyFault.TheVariants as fa
 
 use crate::fault::VerifyFault;
 use crate::verify::verify_stream;
+use alert_book::{BookFault, BookFaultKind};
 use device_ends::{ReadFault, Sink, Source, read_up_to};
 use handset::TapeFault;
 use std::alloc::{AllocGlobal, Global};
 use std::io::{Read, Write};
 use std::sync::Wait;
 use std::thread::Threads;
-use warnc_run::Workers;
+use warnc_run::{RunFault, Workers};
 
 /// Does what [`verify_stream`](crate::verify_stream) does, of one input: its first `book_octets` octets are the book,
 /// and what follows is the tapes.
@@ -45,6 +48,34 @@ pub fn verify_input<T: AllocGlobal + Threads + Wait + Sync, R: Read, W: Write>(
 
     // At any reader and any writer.
     ensures any_ends { IsVerifyBetween result source.old source.new sink.old sink.new }
+    ensures book { IsErrOf result (faults.Run (run.Book unread)) → ⊥ }
+{
+    of_memory(verify_parts(
+        rt,
+        source,
+        sink,
+        book_octets,
+        slots,
+        workers,
+    ))
+}
+
+/// The same, also if the book, which is in memory, fails to be read.
+fn verify_parts<T: AllocGlobal + Threads + Wait + Sync, R: Read, W: Write>(
+    rt: &T,
+    source: &mut Source<R>,
+    sink: &mut Sink<W>,
+    book_octets: u32,
+    slots: u16,
+    workers: Workers,
+) -> Result<(), VerifyFault>
+    ensures ok { OnOk result (OutputOfInput R.remaining W.contents (IsVerified slots book_octets) source.old sink.old
+        sink.new) }
+    ensures err { IfErr result (FaultOfInput R.remaining W.contents (IsInputFault slots book_octets) source.old sink.old
+        sink.new) }
+    ensures differences { IfErr result (λ fault. IsDifference fault → OutputOfInput R.remaining W.contents
+        (HasDifferences slots book_octets) source.old sink.old sink.new) }
+    ensures any_ends { IsVerifyBetween result source.old source.new sink.old sink.new }
 {
     let book = first_octets(source, rt.alloc(), book_octets)?;
     verify_stream(
@@ -55,6 +86,22 @@ pub fn verify_input<T: AllocGlobal + Threads + Wait + Sync, R: Read, W: Write>(
         slots,
         workers,
     )
+}
+
+/// What comes of a book that is in memory. That never fails to be read, though no contract of a reader says so: only
+/// memory to read to can be refused.
+fn of_memory(outcome: Result<(), VerifyFault>) -> Result<(), VerifyFault>
+    ensures same { (result ≡ outcome) ⊎ ((outcome ≡ Err (faults.Run (run.Book unread)))
+        × (result ≡ Err faults.Refused)) }
+    ensures book { IsErrOf result (faults.Run (run.Book unread)) → ⊥ }
+{
+    match outcome {
+        Err(VerifyFault::Run(RunFault::Book(BookFault {
+            row: 0,
+            kind: BookFaultKind::ReadFailed,
+        }))) => Err(VerifyFault::Refused),
+        outcome => outcome,
+    }
 }
 
 /// Reads as many octets.

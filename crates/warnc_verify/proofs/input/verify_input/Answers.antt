@@ -1,50 +1,18 @@
-use Rattle.std.proofs.Common.{◌≡◌, [], List, ℕ, Option, Some, rules, sym, subst}
-use Rattle.std.proofs.KnownBytes.{Keeps-refl}
-use Rattle.std.proofs.lemmas.Result.{on_ok_weaker}
-use Rattle.std.specs.Io.KnownBytes.{Keeps}
-use Rattle.device_ends.specs.Sink.{writer_of}
 use Rattle.device_ends.specs.Source.{reader_of}
-use Rattle.warnc_verify.specs.Verified.{readers_of}
-use Rattle.warnc_verify.proofs.Inputs.{ArePartsOf, by_both, differences_of_input, fault_of_input, table_of_input}
+use Rattle.warnc_verify.proofs.Memory.{between_of, err_of, keeps_of, ok_of}
 use Rattle.warnc_verify.proofs.input.verify_input.Goals as goal
 
 pub returns-clause-ok : goal.returns-clause-ok
-returns-clause-ok g c =
-    let first : Option (List ℕ) = g.R.Read.remaining (reader_of c.args.source.now) in
-    let parts : ArePartsOf c.args.book_octets first _ c.in_ok-book.book.items = record {
-      book_is = search (rules, c.new.ensures, c.as_slice.ensures);
-      long = c.in_ok-book.ensures.long;
-      read = c.in_ok-book.ensures.ok;
-    } in
-    on_ok_weaker c.verify_stream.result
-    (table_of_input c.args.slots c.args.book_octets first _ _ _ c.in_ok-book.book.items [] parts)
-    c.verify_stream.ensures.ok
+returns-clause-ok g c = ok_of _ _ _ c.of_memory.ensures.same c.verify_parts.ensures.ok
 
 pub returns-clause-err : goal.returns-clause-err
 returns-clause-err g c =
-    let first : Option (List ℕ) = g.R.Read.remaining (reader_of c.args.source.now) in
-    let held = g.W.Write.contents in
-    let parts : ArePartsOf c.args.book_octets first _ c.in_ok-book.book.items = record {
-      book_is = search (rules, c.new.ensures, c.as_slice.ensures);
-      long = c.in_ok-book.ensures.long;
-      read = c.in_ok-book.ensures.ok;
-    } in
-    by_both _ _ _ c.verify_stream.result
-    (λ fault why untouched.
-    fault_of_input c.args.slots c.args.book_octets first _ _ _ c.in_ok-book.book.items fault parts why
-    (λ no. subst (λ sink. Keeps (held (writer_of c.args.sink.now)) (held (writer_of sink))) (sym (untouched no))
-    (Keeps-refl _)))
-    c.verify_stream.ensures.err c.verify_stream.ensures.nothing_written
+    err_of _ _ _ c.of_memory.ensures.same
+    (keeps_of _ _ (g.R.Read.remaining (reader_of c.args.source.now))) c.verify_parts.ensures.err
 
 pub returns-clause-differences : goal.returns-clause-differences
 returns-clause-differences g c =
-    let first : Option (List ℕ) = g.R.Read.remaining (reader_of c.args.source.now) in
-    let parts : ArePartsOf c.args.book_octets first _ c.in_ok-book.book.items = record {
-      book_is = search (rules, c.new.ensures, c.as_slice.ensures);
-      long = c.in_ok-book.ensures.long;
-      read = c.in_ok-book.ensures.ok;
-    } in
-    by_both _ _ _ c.verify_stream.result
-    (λ fault why _. λ is.
-    differences_of_input c.args.slots c.args.book_octets first _ _ _ c.in_ok-book.book.items fault parts why is)
-    c.verify_stream.ensures.err c.verify_stream.ensures.err
+    err_of _ _ _ c.of_memory.ensures.same (λ no. absurd no) c.verify_parts.ensures.differences
+
+pub returns-clause-any_ends : goal.returns-clause-any_ends
+returns-clause-any_ends g c = between_of _ _ _ _ _ _ c.of_memory.ensures.same c.verify_parts.ensures.any_ends

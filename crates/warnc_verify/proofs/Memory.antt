@@ -1,0 +1,66 @@
+-- What comes of a book that is in memory.
+use Rattle.std.proofs.Common.{◌≡◌, ◌⊎◌, ◌↔◌, ℕ, List, Option, None, Some, IfSome, Result, Err, IfErr, IsErrOf, IsTrue, OnOk, inl, inr, rules, sym, subst}
+use Rattle.alert_book.specs.Book.{unread}
+use Rattle.device_ends.specs.declared.reading.Source.{Source}
+use Rattle.device_ends.specs.declared.writing.Sink.{Sink}
+use Rattle.handset.specs.declared.tape.TapeFault.TheVariants as tape
+use Rattle.warnc_run.specs.declared.fault.RunFault.TheVariants as run
+use Rattle.warnc_verify.specs.Input.{IsVerifyBetween}
+use Rattle.warnc_verify.specs.declared.fault.VerifyFault.{VerifyFault}
+use Rattle.warnc_verify.specs.declared.fault.VerifyFault.TheVariants as faults
+
+-- the same result, or out of memory in place of a book that failed to be read
+abbrev pub IsOfMemory : (outcome result : Result (Unit {0}) VerifyFault) → Type 0
+IsOfMemory outcome result = (result ≡ outcome) ⊎ ((outcome ≡ Err (faults.Run (run.Book unread)))
+    × (result ≡ Err faults.Refused))
+
+pub ok_of : (P : Type 0) (outcome result : Result (Unit {0}) VerifyFault) → IsOfMemory outcome result → OnOk outcome P
+    → OnOk result P
+ok_of P outcome result (inl same) holds = subst (λ (r : Result (Unit {0}) VerifyFault). OnOk r P) (sym same) holds
+ok_of P outcome result (inr other) holds =
+    subst (λ (r : Result (Unit {0}) VerifyFault). OnOk r P) (sym other.1) tt
+
+pub err_of : (P : VerifyFault → Type 0) (outcome result : Result (Unit {0}) VerifyFault) → IsOfMemory outcome result
+    → (P (faults.Run (run.Book unread)) → P faults.Refused)
+    → IfErr outcome P
+    → IfErr result P
+err_of P outcome result (inl same) refused holds =
+    subst (λ (r : Result (Unit {0}) VerifyFault). IfErr r P) (sym same) holds
+err_of P outcome result (inr other) refused holds =
+    subst (λ (r : Result (Unit {0}) VerifyFault). IfErr r P) (sym other.1)
+    (refused (subst (λ (r : Result (Unit {0}) VerifyFault). IfErr r P) other.0 holds))
+
+unlike : {R W : Type 0} (first last : Source R) (old new : Sink W)
+    → IsVerifyBetween (Err (faults.Run (run.Book unread))) first last old new
+    → IsVerifyBetween (Err faults.Refused) first last old new
+unlike first last old new between = record {
+  not_failed = tt;
+  written = λ difference. absurd difference;
+  untouched = λ no. between.untouched (λ writes. writes);
+  read = (λ is. search (rules, is), λ failed. absurd (never (between.read.1 failed)));
+  write = λ is. search (rules, is);
+  source_stays = between.source_stays;
+  sink_stays = between.sink_stays;
+}
+  where
+    never : IsErrOf {Unit {0}} {VerifyFault} (Err (faults.Run (run.Book unread))) (faults.Tapes tape.ReadFailed) → ⊥
+    never is = search (rules, is)
+
+pub between_of : {R W : Type 0} (outcome result : Result (Unit {0}) VerifyFault) (first last : Source R)
+    (old new : Sink W)
+    → IsOfMemory outcome result
+    → IsVerifyBetween outcome first last old new
+    → IsVerifyBetween result first last old new
+between_of outcome result first last old new (inl same) between =
+    subst (λ (r : Result (Unit {0}) VerifyFault). IsVerifyBetween r first last old new) (sym same) between
+between_of outcome result first last old new (inr other) between =
+    subst (λ (r : Result (Unit {0}) VerifyFault). IsVerifyBetween r first last old new) (sym other.1)
+    (unlike first last old new
+    (subst (λ (r : Result (Unit {0}) VerifyFault). IsVerifyBetween r first last old new) other.0 between))
+
+-- what the fault says of the writer alone
+pub keeps_of : {A : Type 0} (K : Type 0) (P : List ℕ → A → Type 0) (first : Option (List ℕ))
+    → IfSome first (λ input. (x : A) × P input x × K)
+    → IfSome first (λ _. K)
+keeps_of K P None told = tt
+keeps_of K P (Some input) told = told.2
