@@ -1,5 +1,5 @@
 -- What comes of a book that is in memory.
-use Rattle.std.proofs.Common.{◌≡◌, ◌⊎◌, ◌↔◌, ℕ, List, Option, None, Some, IfSome, Result, Err, IfErr, IsErrOf, IsTrue, OnOk, inl, inr, rules, sym, subst}
+use Rattle.std.proofs.Common.{◌≡◌, ◌⊎◌, ◌↔◌, ℕ, List, Option, None, Some, IfSome, Result, Err, IfErr, IsErrOf, IsTrue, OnOk, inl, inr, refl, rules, sym, subst}
 use Rattle.alert_book.specs.Book.{unread}
 use Rattle.device_ends.specs.declared.reading.Source.{Source}
 use Rattle.device_ends.specs.declared.writing.Sink.{Sink}
@@ -37,14 +37,16 @@ unlike first last old new between = record {
   not_failed = tt;
   written = λ difference. absurd difference;
   untouched = λ no. between.untouched (λ writes. writes);
-  read = (λ is. search (rules, is), λ failed. absurd (never (between.read.1 failed)));
+  read = (λ is. search (rules, is), λ failed. absurd (never _ refl (between.read.1 failed)));
   write = λ is. search (rules, is);
   source_stays = between.source_stays;
   sink_stays = between.sink_stays;
 }
   where
-    never : IsErrOf {Unit {0}} {VerifyFault} (Err (faults.Run (run.Book unread))) (faults.Tapes tape.ReadFailed) → ⊥
-    never is = search (rules, is)
+    never : (r : Result (Unit {0}) VerifyFault) → r ≡ Err (faults.Run (run.Book unread))
+        → IsErrOf r (faults.Tapes tape.ReadFailed)
+        → ⊥
+    never r is other = search (rules, is, other)
 
 pub between_of : {R W : Type 0} (outcome result : Result (Unit {0}) VerifyFault) (first last : Source R)
     (old new : Sink W)

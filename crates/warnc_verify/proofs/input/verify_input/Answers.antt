@@ -12,7 +12,7 @@ returns-clause-err g c =
 
 pub returns-clause-differences : goal.returns-clause-differences
 returns-clause-differences g c =
-    err_of _ _ _ c.of_memory.ensures.same (λ no. absurd no) c.verify_parts.ensures.differences
+    err_of _ _ _ c.of_memory.ensures.same (λ told. λ no. absurd no) c.verify_parts.ensures.differences
 
 pub returns-clause-any_ends : goal.returns-clause-any_ends
 returns-clause-any_ends g c = between_of _ _ _ _ _ _ c.of_memory.ensures.same c.verify_parts.ensures.any_ends
