@@ -1,11 +1,14 @@
 -- What comes of a book that is in memory.
-use Rattle.std.proofs.Common.{◌≡◌, ◌⊎◌, ◌↔◌, ℕ, List, Option, None, Some, IfSome, Result, Err, IfErr, IsErrOf, IsTrue, OnOk, inl, inr, refl, rules, sym, subst}
+use Rattle.std.proofs.Common.{◌≡◌, ◌⊎◌, ◌↔◌, ℕ, List, Option, None, Some, IfSome, Result, Ok, Err, ap, IfErr, IsErrOf, IsTrue, OnOk, inl, inr, refl, rules, sym, subst}
 use Rattle.alert_book.specs.Book.{unread}
 use Rattle.device_ends.specs.declared.reading.Source.{Source}
 use Rattle.device_ends.specs.declared.writing.Sink.{Sink}
 use Rattle.handset.specs.declared.tape.TapeFault.TheVariants as tape
 use Rattle.warnc_run.specs.declared.fault.RunFault.TheVariants as run
-use Rattle.warnc_verify.specs.Input.{IsVerifyBetween}
+use Rattle.alert_book.specs.declared.fault.BookFault.{BookFault}
+use Rattle.warnc_verify.specs.Input.{IsOfInput, IsVerifyBetween}
+use Rattle.warnc_verify.specs.InputSteps.{IsUnwritten}
+use Rattle.warnc_verify.specs.Verified.{Readers, IsVerifyFault}
 use Rattle.warnc_verify.specs.declared.fault.VerifyFault.{VerifyFault}
 use Rattle.warnc_verify.specs.declared.fault.VerifyFault.TheVariants as faults
 
@@ -66,3 +69,37 @@ pub keeps_of : {A : Type 0} (K : Type 0) (P : List ℕ → A → Type 0) (first 
     → IfSome first (λ _. K)
 keeps_of K P None told = tt
 keeps_of K P (Some input) told = told.2
+
+-- a fault of what was verified isn't of a run that writes
+pub unwritten : (slots : ℕ) (ends : Readers) (old new : Option (List ℕ)) (why : VerifyFault)
+    → IsVerifyFault slots ends old new why
+    → IsUnwritten why
+unwritten slots ends old new (faults.Run (run.Book f)) is = tt
+unwritten slots ends old new (faults.Run (run.Desk f)) is = tt
+unwritten slots ends old new (faults.Run (run.Settle f)) is = tt
+unwritten slots ends old new (faults.Run (run.Compile f)) is = tt
+unwritten slots ends old new (faults.Run (run.Write failed)) is = is.1
+unwritten slots ends old new (faults.Run run.Refused) is = tt
+unwritten slots ends old new faults.ShortBook is = tt
+unwritten slots ends old new (faults.Tapes f) is = tt
+unwritten slots ends old new (faults.Differences n) is = tt
+unwritten slots ends old new faults.Refused is = tt
+unwritten slots ends old new faults.WriteFailed is = tt
+
+-- nor is one of a book in memory a failed read of it
+pub of_input : (result : Result (Unit {0}) VerifyFault) → IfErr result IsUnwritten
+    → (IsErrOf result (faults.Run (run.Book unread)) → ⊥)
+    → IfErr result IsOfInput
+of_input (Ok done) quiet never = tt
+of_input (Err (faults.Run (run.Book f))) quiet never =
+    λ same. never (ap (λ (b : BookFault). Err (faults.Run (run.Book b))) same)
+of_input (Err (faults.Run (run.Desk f))) quiet never = tt
+of_input (Err (faults.Run (run.Settle f))) quiet never = tt
+of_input (Err (faults.Run (run.Compile f))) quiet never = tt
+of_input (Err (faults.Run (run.Write failed))) quiet never = quiet
+of_input (Err (faults.Run run.Refused)) quiet never = tt
+of_input (Err faults.ShortBook) quiet never = tt
+of_input (Err (faults.Tapes f)) quiet never = tt
+of_input (Err (faults.Differences n)) quiet never = tt
+of_input (Err faults.Refused) quiet never = tt
+of_input (Err faults.WriteFailed) quiet never = tt

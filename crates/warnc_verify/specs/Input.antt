@@ -1,6 +1,6 @@
 -- A book and tapes in one input: the first octets, as many as the caller says, are the book, and all others the tapes.
 -- Own.
-use Rattle.std.specs.Prelude.{◌≡◌, ⊤, ℕ, ◌<◌, ◌≤◌, ◌↔◌, false, true, List, [], Option, Some, Result, length, take, drop}
+use Rattle.std.specs.Prelude.{◌≡◌, ◌≢◌, ⊤, ℕ, ◌<◌, ◌≤◌, ◌↔◌, false, true, List, [], Option, Some, Result, length, take, drop}
 use Rattle.std.specs.Prelude.{IfErr, IsErrOf, IsTrue, OnOk}
 use Rattle.std.specs.Io.KnownBytes.{Appends, Keeps}
 use Rattle.device_ends.specs.Moves.{AppendsFront}
@@ -13,10 +13,13 @@ use Rattle.handset.specs.Tape.{IsTapesFault}
 use Rattle.handset.specs.declared.tape.TapeFault.{TapeFault}
 use Rattle.handset.specs.declared.tape.TapeFault.TheVariants as tape
 use Rattle.bsc_table.specs.Record.{Record}
+use Rattle.alert_book.specs.Book.{unread}
 use Rattle.verification.specs.Rows.{AreRows}
 use Rattle.verification.specs.RowText.{rows_text}
 use Rattle.verification.specs.declared.row.Row.{Row}
 use Rattle.warnc_run.specs.Records.{AreRecordsOf}
+use Rattle.warnc_run.specs.declared.fault.RunFault.{RunFault}
+use Rattle.warnc_run.specs.declared.fault.RunFault.TheVariants as run
 use Rattle.warnc_verify.specs.Verified.{IsBookFault, IsDifference, Writes}
 use Rattle.warnc_verify.specs.declared.fault.VerifyFault.{VerifyFault}
 use Rattle.warnc_verify.specs.declared.fault.VerifyFault.TheVariants as faults
@@ -66,6 +69,16 @@ IsInputFault slots count input old new (faults.Differences n) =
 IsInputFault slots count input old new faults.Refused = Keeps old new
 IsInputFault slots count input old new faults.WriteFailed =
     (rows : List Row) × (output : List ℕ) × IsTableOf slots count rows input output × AppendsFront old new output
+
+-- a fault of the run of a book that is in memory: it didn't fail to be read, and nothing was to be written
+abbrev pub IsRunInMemory : RunFault → Type 0
+IsRunInMemory (run.Book f) = f ≢ unread
+IsRunInMemory (run.Write failed) = ⊥
+IsRunInMemory other = ⊤
+
+abbrev pub IsOfInput : VerifyFault → Type 0
+IsOfInput (faults.Run f) = IsRunInMemory f
+IsOfInput other = ⊤
 
 -- what is so at any reader and any writer
 pub record IsVerifyBetween {R W : Type 0} (result : Result (Unit {0}) VerifyFault) (first last : Source R)

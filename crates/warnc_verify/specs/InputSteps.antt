@@ -2,6 +2,8 @@
 use Rattle.std.specs.Prelude.{◌≡◌, ⊤}
 use Rattle.handset.specs.declared.tape.TapeFault.{TapeFault}
 use Rattle.handset.specs.declared.tape.TapeFault.TheVariants as tape
+use Rattle.warnc_run.specs.declared.fault.RunFault.{RunFault}
+use Rattle.warnc_run.specs.declared.fault.RunFault.TheVariants as run
 use Rattle.warnc_verify.specs.declared.fault.VerifyFault.{VerifyFault}
 use Rattle.warnc_verify.specs.declared.fault.VerifyFault.TheVariants as faults
 
@@ -11,3 +13,12 @@ IsFrontFault faults.ShortBook = ⊤
 IsFrontFault (faults.Tapes f) = f ≡ tape.ReadFailed
 IsFrontFault faults.Refused = ⊤
 IsFrontFault other = ⊥
+
+-- a fault that isn't of a run that writes
+abbrev pub IsRunUnwritten : RunFault → Type 0
+IsRunUnwritten (run.Write failed) = ⊥
+IsRunUnwritten other = ⊤
+
+abbrev pub IsUnwritten : VerifyFault → Type 0
+IsUnwritten (faults.Run f) = IsRunUnwritten f
+IsUnwritten other = ⊤

@@ -7,9 +7,9 @@ ghost use Rattle.device_ends.specs.Stream.{FaultOfInput, OutputOfInput, Reads};
 ghost use Rattle.alert_book.specs.Book.{unread};
 ghost use Rattle.handset.specs.declared.tape.TapeFault.TheVariants as tape;
 ghost use Rattle.warnc_run.specs.declared.fault.RunFault.TheVariants as run;
-ghost use Rattle.warnc_verify.specs.Input.{HasDifferences, IsInputFault, IsVerified, IsVerifyBetween};
+ghost use Rattle.warnc_verify.specs.Input.{HasDifferences, IsInputFault, IsOfInput, IsVerified, IsVerifyBetween};
 ghost use Rattle.warnc_verify.specs.Verified.{IsDifference};
-ghost use Rattle.warnc_verify.specs.InputSteps.{IsFrontFault};
+ghost use Rattle.warnc_verify.specs.InputSteps.{IsFrontFault, IsUnwritten};
 ghost use Rattle.warnc_verify.specs.declared.fault.VerifyFault.TheVariants as faults;
 
 use crate::fault::VerifyFault;
@@ -48,7 +48,7 @@ pub fn verify_input<T: AllocGlobal + Threads + Wait + Sync, R: Read, W: Write>(
 
     // At any reader and any writer.
     ensures any_ends { IsVerifyBetween result source.old source.new sink.old sink.new }
-    ensures book { IsErrOf result (faults.Run (run.Book unread)) → ⊥ }
+    ensures run { IfErr result IsOfInput }
 {
     of_memory(verify_parts(
         rt,
@@ -76,6 +76,7 @@ fn verify_parts<T: AllocGlobal + Threads + Wait + Sync, R: Read, W: Write>(
     ensures differences { IfErr result (λ fault. IsDifference fault → OutputOfInput R.remaining W.contents
         (HasDifferences slots book_octets) source.old sink.old sink.new) }
     ensures any_ends { IsVerifyBetween result source.old source.new sink.old sink.new }
+    ensures unwritten { IfErr result IsUnwritten }
 {
     let book = first_octets(source, rt.alloc(), book_octets)?;
     verify_stream(

@@ -1,5 +1,5 @@
 use Rattle.device_ends.specs.Source.{reader_of}
-use Rattle.warnc_verify.proofs.Memory.{between_of, err_of, keeps_of, ok_of}
+use Rattle.warnc_verify.proofs.Memory.{between_of, err_of, keeps_of, of_input, ok_of}
 use Rattle.warnc_verify.proofs.input.verify_input.Goals as goal
 
 pub returns-clause-ok : goal.returns-clause-ok
@@ -16,3 +16,8 @@ returns-clause-differences g c =
 
 pub returns-clause-any_ends : goal.returns-clause-any_ends
 returns-clause-any_ends g c = between_of _ _ _ _ _ _ c.of_memory.ensures.same c.verify_parts.ensures.any_ends
+
+pub returns-clause-run : goal.returns-clause-run
+returns-clause-run g c =
+    of_input _
+    (err_of _ _ _ c.of_memory.ensures.same (λ told. tt) c.verify_parts.ensures.unwritten) c.of_memory.ensures.book

@@ -1,6 +1,7 @@
 use Rattle.std.proofs.Common.{◌≡◌, [], List, ℕ, Option, Some, rules, sym, subst}
 use Rattle.std.proofs.KnownBytes.{Keeps-refl}
-use Rattle.std.proofs.lemmas.Result.{on_ok_weaker}
+use Rattle.std.proofs.lemmas.Result.{IfErr-weaker, on_ok_weaker}
+use Rattle.warnc_verify.proofs.Memory.{unwritten}
 use Rattle.std.specs.Io.KnownBytes.{Keeps}
 use Rattle.device_ends.specs.Sink.{writer_of}
 use Rattle.device_ends.specs.Source.{reader_of}
@@ -48,3 +49,7 @@ returns-clause-differences g c =
     (λ fault why _. λ is.
     differences_of_input c.args.slots c.args.book_octets first _ _ _ c.in_ok-book.book.items fault parts why is)
     c.verify_stream.ensures.err c.verify_stream.ensures.err
+
+pub returns-clause-unwritten : goal.returns-clause-unwritten
+returns-clause-unwritten g c =
+    IfErr-weaker c.verify_stream.result _ _ (unwritten c.args.slots _ _ _) c.verify_stream.ensures.err
