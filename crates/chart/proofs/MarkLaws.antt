@@ -1,6 +1,5 @@
 -- A message has as many marks as broadcasts of it were completed: its last page is aired as often, and never outside
--- its
--- reservation.
+-- its reservation.
 use Rattle.std.proofs.Common.{◌≡◌, ◌<◌, ◌≤◌, ◌+◌, ◌-◌, ◌==◌, ◌∙◌, ◌∷◌, [], ℕ, suc, zero, Bool, true, false, List}
 use Rattle.std.proofs.Common.{Option, None, Some, ap, ap₂, cond, drop, get_or, length, min, refl, sym, take}
 use native.Mathlib.Omega.{arith}
@@ -9,8 +8,8 @@ use Rattle.std.specs.Option.{option_map_or, unwrap_or}
 use Rattle.std.proofs.lemmas.Bool.{and_parts, false_from_ne_true}
 use Rattle.std.proofs.lemmas.List.Sums.{sum_by-cons, sum_by-take-drop}
 use Rattle.std.proofs.lemmas.Option.{slice_get-get_or}
-use Rattle.std.proofs.lemmas.List.{drop_more, get_or_default, get_or-drop, get_or-map, get_or-take, length-drop}
-use Rattle.std.proofs.lemmas.List.{length-map, length-take, take_all}
+use Rattle.std.proofs.lemmas.List.{drop_more, get_or_default, get_or-drop, get_or-map, get_or-take}
+use Rattle.std.proofs.lemmas.List.{length-drop, length-map, length-take, take_all}
 use Rattle.admission.specs.Reservation.{IsBeforeEnd}
 use Rattle.scheduler.specs.Air.{Air, airs}
 use Rattle.scheduler.specs.AirLaws.{LastPagesAreCompletedBroadcasts, NumbersRise, PagesComeInOrder}
@@ -105,7 +104,7 @@ in_reservation laws messages air m slots i rise here rule long within aired =
     let sent = laws.order messages air i m rise here rule within (airs_of used aired) in
     let pending = sent.1 in
     let kept = laws.cover m sent.0 i pending.requested (earlier sent.0 m.stop pending.released pending.standing)
-        pending.released pending.not_due
+    pending.released pending.not_due
     in
     (kept.0, before (end_of m) kept.1)
   where
@@ -145,7 +144,7 @@ marks_are_completed laws r legal played k d within =
     counted_at p None r.air m.start (end - m.start) (omega (arith, slots))
     ∙ counted_between p None r.air m.start end
     (λ i inside aired. in_reservation laws (messages_in r.log) r.air m r.slots i rise there legal.aired slots inside
-        aired)
+    aired)
     ∙ ap (count_by p) (sym (take_all (length r.air) r.air (omega arith)))
     ∙ laws.last (messages_in r.log) r.air m (length r.air) rise there load.0 load.1 legal.aired (omega arith)
     ∙ ap (completed m r.air) slots
