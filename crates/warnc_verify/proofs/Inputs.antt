@@ -236,4 +236,4 @@ longer x xs = omega arith
 
 pub some_table : (slots count : ℕ) (input output : List ℕ) → IsVerified slots count input output → 0 < length output
 some_table slots count input output is =
-    subst (λ (octets : List ℕ). 0 < length octets) (sym is.1) (longer 108 _)
+    subst (λ (octets : List ℕ). 0 < length octets) (sym is.1) (longer 108 (drop 1 (rows_text [])))
