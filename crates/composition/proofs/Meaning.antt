@@ -97,7 +97,7 @@ four_of : (slot : Option PageView) (rest : List (List ℕ)) → length (blocks_o
 four_of None rest = omega arith
 four_of (Some page) rest = omega arith
 
-are_slots : (slots : List (Option PageView)) → AllByRecursion CanSend slots
+pub are_slots : (slots : List (Option PageView)) → AllByRecursion CanSend slots
     → AreSlots (length slots) (flat_map blocks_of_slot slots)
 are_slots [] can = record { four = refl; each = tt }
 are_slots (slot ∷ slots) can =

@@ -9,3 +9,4 @@ pub mod OwnRuns
 pub mod NoOthers
 pub mod OctetPages
 pub mod OwedShown
+pub mod OwnSlots

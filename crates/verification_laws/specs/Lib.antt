@@ -1,2 +1,3 @@
 pub mod OwnTapes
 pub mod Shown
+pub mod Recorded

@@ -6,6 +6,7 @@
 
 ghost use Rattle.verification_laws.specs.OwnTapes.{NoRowsAreFound, NothingIsFound, OwnTapesDifferNowhere};
 ghost use Rattle.verification_laws.specs.OwnTapes.{OwnTapesHaveNoRows, OwnTapesKeepTheirCells};
+ghost use Rattle.verification_laws.specs.Recorded.{RecordsAreRecorded};
 ghost use Rattle.verification_laws.specs.Shown.{NoOthersAreShown, OwedAreShown};
 
 /// States, as its contract, what is found of a cell's own tape. That the history is legal, and that its run is over,
@@ -24,6 +25,9 @@ pub fn verification_laws()
     ensures own_tapes_have_no_rows { OwnTapesHaveNoRows }
     ensures no_rows_are_found { NoRowsAreFound }
 
+    // The tape of such a record holds its blocks.
+    ensures records_are_recorded { RecordsAreRecorded }
+
     // Of blocks that have no difference, whoever sent them, no message is shown that the cell didn't accept, and each
     // that isn't background and stood for a whole period is shown, with the text that was asked.
     ensures no_others_are_shown { NoOthersAreShown }
@@ -33,4 +37,5 @@ pub fn verification_laws()
     bsc_table::legal_histories();
     handset::reading_laws();
     handset::tape_laws();
+    handset::recording_laws();
 }

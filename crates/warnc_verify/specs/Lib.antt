@@ -2,3 +2,4 @@ pub mod Verified
 pub mod VerifySteps
 pub mod Input
 pub mod InputSteps
+pub mod Laws

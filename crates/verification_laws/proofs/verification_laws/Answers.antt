@@ -4,6 +4,7 @@ use Rattle.bsc_table.specs.Promised.{LegalPagesAreAiredOnce}
 use Rattle.verification_laws.specs.OwnTapes.{NothingIsFound, OwnTapesKeepTheirCells}
 use Rattle.verification_laws.proofs.NoOthers.{no-others}
 use Rattle.verification_laws.proofs.OwnRuns.{kept-cells, no-rows-found, runs-kept}
+use Rattle.verification_laws.proofs.OwnSlots.{recorded}
 use Rattle.verification_laws.proofs.OwnTapes.{nothing-found, own-tapes}
 use Rattle.verification_laws.proofs.verification_laws.Goals as goal
 
@@ -40,6 +41,7 @@ returns c =
       nothing_is_found = nothing;
       own_tapes_have_no_rows = runs-kept kept;
       no_rows_are_found = no-rows-found nothing;
+      records_are_recorded = recorded laws c.recording_laws.ensures.made;
       no_others_are_shown = no-others c.reading_laws.ensures.shown_are_the_complete;
       owed_are_shown = owed-shown laws;
     }
