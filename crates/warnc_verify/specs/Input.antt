@@ -1,6 +1,7 @@
 -- A book and tapes in one input: the first octets, as many as the caller says, are the book, and all others the tapes.
 -- Own.
-use Rattle.std.specs.Prelude.{◌≡◌, ◌≢◌, ⊤, ℕ, ◌<◌, ◌≤◌, ◌↔◌, false, true, List, [], Option, Some, Result, length, take, drop}
+use Rattle.std.specs.Prelude.{◌≡◌, ◌≢◌, ⊤, ℕ, ◌<◌, ◌≤◌, ◌↔◌, false, true, List, [], Option, Some, Result, length, take}
+use Rattle.std.specs.Prelude.{drop}
 use Rattle.std.specs.Prelude.{IfErr, IsErrOf, IsTrue, OnOk}
 use Rattle.std.specs.Io.KnownBytes.{Appends, Keeps}
 use Rattle.device_ends.specs.Moves.{AppendsFront}
