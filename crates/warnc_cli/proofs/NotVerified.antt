@@ -1,9 +1,17 @@
 -- What `verify` refuses: a fault of status 1 is one of the input.
-use Rattle.std.proofs.Common.{◌≡◌, ◌≢◌, ◌⊎◌, ℕ, ◌<◌, List, ◌++◌, Option, None, Some, IfSome, length, take, drop, refl}
+use Rattle.std.proofs.Common.{◌≡◌, ◌≢◌, ◌⊎◌, ℕ, ◌+◌, ◌<◌, ◌≤◌, List, ◌++◌, Option, None, Some, IfSome, length, take, drop, refl, zero, suc}
+use Rattle.std.proofs.Common.{true, false, Err, IsErrOf, IsTrue}
 use Rattle.std.proofs.Common.{sym, ap, ◌∙◌, subst, arith, inl, inr, append-nil, rules}
 use Rattle.std.proofs.lemmas.List.{length-append}
-use Rattle.std.specs.Io.KnownBytes.{Consumes, IsAtEnd}
-use Rattle.alert_book.specs.Book.{IsBook, IsWrong, RefusesBook, max_input}
+use Rattle.std.specs.Io.KnownBytes.{Consumes, IsAtEnd, Keeps}
+use Rattle.alert_book.specs.Book.{IsBook, IsWrong, fault_at, max_input, refused, too_long, unread}
+use Rattle.alert_book.specs.declared.fault.BookFaultKind.{BookFaultKind}
+use Rattle.alert_book.specs.declared.fault.BookFaultKind.TheVariants as kinds
+use Rattle.cbs_page.specs.declared.paging.TextFault.TheVariants as text
+use Rattle.device_ends.specs.Sink.{sink_failed}
+use Rattle.device_ends.specs.Source.{source_failed}
+use Rattle.device_ends.specs.declared.reading.Source.{Source}
+use Rattle.device_ends.specs.declared.writing.Sink.{Sink}
 use Rattle.alert_book.specs.declared.fault.BookFault.{BookFault}
 use Rattle.handset.specs.declared.tape.TapeFault.TheVariants as tape
 use Rattle.order_desk.specs.declared.fault.DeskFault.{DeskFault}
@@ -14,12 +22,13 @@ use Rattle.parallel_compile.specs.declared.fault.CompileFault.TheVariants as com
 use Rattle.warnc_run.specs.Compiled.{HasReadBook, IsDeskFault, IsSettleFault}
 use Rattle.warnc_run.specs.declared.fault.RunFault.{RunFault}
 use Rattle.warnc_run.specs.declared.fault.RunFault.TheVariants as run
-use Rattle.warnc_verify.specs.Input.{IsInputFault}
+use Rattle.warnc_verify.specs.Input.{IsInputFault, IsOfInput, IsRunInMemory, IsVerifyBetween}
 use Rattle.warnc_verify.specs.Verified.{IsBookFault, IsDifference, Writes}
 use Rattle.warnc_verify.specs.declared.fault.VerifyFault.{VerifyFault}
 use Rattle.warnc_verify.specs.declared.fault.VerifyFault.TheVariants as fault
-use Rattle.warnc_cli.specs.RunSteps.{status_of_run_fault, status_of_settle_fault, status_of_verify_fault}
-use Rattle.warnc_cli.specs.Status.{IsNoBook, IsNoRun, IsNotVerified, status_of_book_fault}
+use Rattle.warnc_cli.specs.RunSteps.{status_of_compile_fault, status_of_desk_fault, status_of_run_fault}
+use Rattle.warnc_cli.specs.RunSteps.{status_of_settle_fault, status_of_verify_fault, IsVerifyRunBetween}
+use Rattle.warnc_cli.specs.Status.{IsNoBook, IsNoRun, IsNotVerified, OneHasFailed, status_of_book_fault, status_of_book_kind}
 
 -- what was read of octets up to their end is all of them
 all_read : (book input : List ℕ) (last : Option (List ℕ)) → Consumes (Some book) last input → IsAtEnd last
@@ -37,22 +46,16 @@ no_longer book input (Some rest) read long =
     let both = length-append input rest in
     omega (arith, whole, both, long)
 
-no_book : (book : List ℕ) (last : Option (List ℕ)) (f : BookFault) → RefusesBook (Some book) last f
+no_book : (book input : List ℕ) (last : Option (List ℕ)) (f : BookFault) → Consumes (Some book) last input
+    → (f ≡ refused) ⊎ ((f ≡ unread) ⊎ (((f ≡ too_long) × (length input ≡ max_input + 1))
+    ⊎ (IsAtEnd last × IsWrong input f)))
     → status_of_book_fault f ≡ 1
     → IsNoBook book
-no_book book last f refuses is = by_why refuses.why
-  where
-    by_why : _ → IsNoBook book
-    by_why (inl refused) = absurd (omega (arith, sym (ap status_of_book_fault refused) ∙ is))
-    by_why (inr (inl unread)) = absurd (omega (arith, sym (ap status_of_book_fault unread) ∙ is))
-    by_why (inr (inr (inl long))) = inl (no_longer book refuses.input last refuses.consumed long.1)
-    by_why (inr (inr (inr wrong))) =
-        inr (
-          f,
-          subst (λ (octets : List ℕ). IsWrong octets f)
-              (all_read book refuses.input last refuses.consumed wrong.0) wrong.1,
-          is,
-        )
+no_book book input last f read (inl same) is = absurd (omega (arith, sym (ap status_of_book_fault same) ∙ is))
+no_book book input last f read (inr (inl same)) is = absurd (omega (arith, sym (ap status_of_book_fault same) ∙ is))
+no_book book input last f read (inr (inr (inl long))) is = inl (no_longer book input last read long.1)
+no_book book input last f read (inr (inr (inr wrong))) is =
+    inr (f, subst (λ (octets : List ℕ). IsWrong octets f) (all_read book input last read wrong.0) wrong.1, is)
 
 -- a book that was read, and whose run ended early
 book_read : (book : List ℕ) (last : Option (List ℕ)) (read : HasReadBook (Some book) last) → IsBook book read.book
@@ -72,13 +75,14 @@ stopped_desk slots book last other why read is = absurd why
 no_run : (slots : ℕ) (book : List ℕ) (last : Option (List ℕ)) (f : RunFault) → IsBookFault slots (Some book) last f
     → status_of_run_fault f ≡ 1
     → IsNoRun slots 1 book
-no_run slots book last (run.Book f) why is = inl (no_book book last f why.1 is)
-no_run slots book last (run.Desk f) why is = stopped_desk slots book last f why.1 why.2 is
+no_run slots book last (run.Book f) why is =
+    inl (no_book book why.1.input last f why.1.consumed why.1.why is)
+no_run slots book last (run.Desk f) why is = stopped_desk slots book last f why.1.0 why.1.1 is
 no_run slots book last (run.Settle f) why is =
-    let read = why.1 in
+    let read = why.1.0 in
     let other : f ≢ settle.Refused =
     λ same. omega (arith, sym (ap status_of_settle_fault same) ∙ is) in
-    inr (read.book, book_read book last read, (run.Settle f, (other, why.2)))
+    inr (read.book, book_read book last read, (run.Settle f, (other, why.1.1)))
 no_run slots book last (run.Compile compile.Workers) why is = absurd (why.0 refl)
 no_run slots book last (run.Compile compile.Refused) why is = absurd (omega (arith, is))
 no_run slots book last (run.Compile (compile.Piece index)) why is = absurd why.1
@@ -119,3 +123,127 @@ kept_or_differs Kept Differ (fault.Tapes f) kept differs is = inl (kept (λ w. w
 kept_or_differs Kept Differ (fault.Differences n) kept differs is = inr (differs tt)
 kept_or_differs Kept Differ fault.Refused kept differs is = inl (kept (λ w. w))
 kept_or_differs Kept Differ fault.WriteFailed kept differs is = absurd (omega (arith, is))
+
+-- a status of 1 or 4
+abbrev OneOrFour : ℕ → Type 0
+OneOrFour status = (status ≡ 1) ⊎ (status ≡ 4)
+
+book_status : (row : ℕ) (kind : BookFaultKind) → fault_at row kind ≢ unread
+    → OneOrFour (status_of_book_fault (fault_at row kind))
+book_status zero kinds.ReadFailed other = absurd (other refl)
+book_status (suc row) kinds.ReadFailed other = inl refl
+book_status row kinds.Refused other = inr refl
+book_status row (kinds.Text text.Refused) other = inr refl
+book_status row (kinds.Text fault) other = inl refl
+book_status row kind other = inl refl
+
+desk_status : (f : DeskFault) → OneOrFour (status_of_desk_fault f)
+desk_status (desk.Memory done) = inr refl
+desk_status other = inl refl
+
+settle_status : (f : SettleFault) → OneOrFour (status_of_settle_fault f)
+settle_status settle.Refused = inr refl
+settle_status other = inl refl
+
+run_status : (f : RunFault) → IsRunInMemory f → OneOrFour (status_of_run_fault f)
+run_status (run.Book f) is = book_status f.row f.kind is
+run_status (run.Desk f) is = desk_status f
+run_status (run.Settle f) is = settle_status f
+run_status (run.Compile compile.Refused) is = inr refl
+run_status (run.Compile compile.Workers) is = inl refl
+run_status (run.Compile (compile.Piece index)) is = inl refl
+run_status (run.Write failed) is = absurd is
+run_status run.Refused is = inr refl
+
+-- neither end failed, and nothing was written
+quiet : {R W : Type 0} (status : ℕ) (last : Source R) (old new : Sink W) (before after : Option (List ℕ))
+    → OneOrFour status
+    → (IsTrue (source_failed last) → ⊥)
+    → new ≡ old
+    → (new ≡ old → Keeps before after)
+    → IsVerifyRunBetween status last old new before after
+quiet status last old new before after one_or_four read same kept = record {
+  statuses = bound one_or_four;
+  nothing_written = λ _ _ _. kept same;
+  untouched = λ _ _ _. same;
+  understood = λ is. search (rules, arith, is, one_or_four);
+  device = λ is. search (rules, arith, is, one_or_four);
+  failed = λ sound failed. absurd (neither sound failed);
+}
+  where
+    bound : OneOrFour status → status ≤ 4
+    bound (inl is) = omega (arith, is)
+    bound (inr is) = omega (arith, is)
+
+    neither : sink_failed old ≡ false → OneHasFailed last new → ⊥
+    neither sound (inl failed) = read (search (rules, failed))
+    neither sound (inr failed) =
+        let now : sink_failed old ≡ true = subst (λ (s : Sink W). sink_failed s ≡ true) same failed in
+        search (rules, now, sound)
+
+-- an end failed
+failing : {R W : Type 0} (status : ℕ) (last : Source R) (old new : Sink W) (before after : Option (List ℕ))
+    → status ≡ 3
+    → OneHasFailed last new
+    → IsVerifyRunBetween status last old new before after
+failing status last old new before after is failed = record {
+  statuses = omega (arith, is);
+  nothing_written = λ _ _ other. absurd (other is);
+  untouched = λ _ _ other. absurd (other is);
+  understood = λ two. omega (arith, is, two);
+  device = λ _. failed;
+  failed = λ _ _. is;
+}
+
+-- the differences were written
+written : {R W : Type 0} (status : ℕ) (last : Source R) (old new : Sink W) (before after : Option (List ℕ))
+    → status ≡ 1
+    → (IsTrue (source_failed last) → ⊥)
+    → sink_failed new ≡ false
+    → IsVerifyRunBetween status last old new before after
+written status last old new before after is read sound = record {
+  statuses = omega (arith, is);
+  nothing_written = λ _ other _. absurd (other is);
+  untouched = λ _ other _. absurd (other is);
+  understood = λ two. omega (arith, is, two);
+  device = λ three. absurd (omega (arith, is, three));
+  failed = λ _ failed. absurd (neither failed);
+}
+  where
+    neither : OneHasFailed last new → ⊥
+    neither (inl failed) = read (search (rules, failed))
+    neither (inr failed) = search (rules, failed, sound)
+
+pub between : {R W : Type 0} (why : VerifyFault) (status : ℕ) (first last : Source R) (old new : Sink W)
+    (before after : Option (List ℕ))
+    → status ≡ status_of_verify_fault why
+    → IsOfInput why
+    → IsVerifyBetween (Err why) first last old new
+    → (new ≡ old → Keeps before after)
+    → IsVerifyRunBetween status last old new before after
+between (fault.Run f) status first last old new before after is of b kept =
+    quiet status last old new before after (subst OneOrFour (sym is) (run_status f of))
+    (λ failed. let never = b.read.1 failed in search (rules, never)) (b.untouched (λ w. w)) kept
+between fault.ShortBook status first last old new before after is of b kept =
+    quiet status last old new before after (inl is)
+    (λ failed. let never = b.read.1 failed in search (rules, never)) (b.untouched (λ w. w)) kept
+between (fault.Tapes tape.Short) status first last old new before after is of b kept =
+    quiet status last old new before after (inl is)
+    (λ failed. let never = b.read.1 failed in search (rules, never)) (b.untouched (λ w. w)) kept
+between (fault.Tapes tape.Long) status first last old new before after is of b kept =
+    quiet status last old new before after (inl is)
+    (λ failed. let never = b.read.1 failed in search (rules, never)) (b.untouched (λ w. w)) kept
+between (fault.Tapes tape.ReadFailed) status first last old new before after is of b kept =
+    let failed = b.read.0 refl in
+    failing status last old new before after is (inl (search (rules, failed)))
+between (fault.Tapes tape.Refused) status first last old new before after is of b kept =
+    quiet status last old new before after (inr is)
+    (λ failed. let never = b.read.1 failed in search (rules, never)) (b.untouched (λ w. w)) kept
+between (fault.Differences n) status first last old new before after is of b kept =
+    written status last old new before after is
+    (λ failed. let never = b.read.1 failed in search (rules, never)) (b.written tt)
+between fault.Refused status first last old new before after is of b kept =
+    quiet status last old new before after (inr is)
+    (λ failed. let never = b.read.1 failed in search (rules, never)) (b.untouched (λ w. w)) kept
+between fault.WriteFailed status first last old new before after is of b kept =
+    failing status last old new before after is (inr (b.write refl))
