@@ -1,10 +1,9 @@
-use Rattle.std.proofs.Common.{sym, ◌∙◌, subst, Err}
+use Rattle.std.proofs.Common.{sym, ◌∙◌, subst}
 use Rattle.std.proofs.KnownBytes.{Keeps-refl}
 use Rattle.std.specs.Io.KnownBytes.{Keeps}
 use Rattle.device_ends.specs.Sink.{writer_of}
 use Rattle.warnc_verify.proofs.Inputs.{some_table}
 use Rattle.warnc_cli.specs.Status.{WritesSome}
-use Rattle.warnc_verify.specs.Input.{IsVerifyBetween}
 use Rattle.warnc_cli.proofs.NotVerified.{between, kept_or_differs, refused_verification}
 use Rattle.warnc_cli.proofs.run.run_verify.Goals as goal
 
@@ -31,9 +30,7 @@ returns-in-Err-clause-differences g c =
 pub returns-in-Err-clause-any_ends : goal.returns-in-Err-clause-any_ends
 returns-in-Err-clause-any_ends g c =
     let held = g.W.Write.contents in
-    let ends : IsVerifyBetween (Err c.in-Err.fault) c.args.source.now c.verify_input.new.source c.args.sink.now
-        c.verify_input.new.sink = subst (λ result. IsVerifyBetween result c.args.source.now c.verify_input.new.source
-        c.args.sink.now c.verify_input.new.sink) c.in-Err.is c.verify_input.ensures.any_ends in
-    between c.in-Err.fault c.failed.result _ _ _ _ _ _ c.failed.ensures c.in-Err.ensures.run ends
+    between c.in-Err.fault c.failed.result _ _ _ _ _ _ c.failed.ensures c.in-Err.ensures.run
+    c.in-Err.ensures.any_ends
     (λ same. subst (λ sink. Keeps (held (writer_of c.args.sink.now)) (held (writer_of sink))) (sym same)
     (Keeps-refl _))
