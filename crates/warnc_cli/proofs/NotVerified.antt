@@ -131,7 +131,7 @@ OneOrFour status = (status ≡ 1) ⊎ (status ≡ 4)
 book_status : (row : ℕ) (kind : BookFaultKind) → fault_at row kind ≢ unread
     → OneOrFour (status_of_book_fault (fault_at row kind))
 book_status zero kinds.ReadFailed other = absurd (other refl)
-book_status (suc row) kinds.ReadFailed other = inl refl
+book_status (suc row) kinds.ReadFailed other = inl (search rules)
 book_status row kinds.Refused other = inr refl
 book_status row (kinds.Text text.Refused) other = inr refl
 book_status row (kinds.Text fault) other = inl refl
@@ -162,7 +162,7 @@ quiet : {R W : Type 0} (status : ℕ) (last : Source R) (old new : Sink W) (befo
     → new ≡ old
     → (new ≡ old → Keeps before after)
     → IsVerifyRunBetween status last old new before after
-quiet status last old new before after one_or_four read same kept = record {
+quiet {W = W} status last old new before after one_or_four read same kept = record {
   statuses = bound one_or_four;
   nothing_written = λ _ _ _. kept same;
   untouched = λ _ _ _. same;
