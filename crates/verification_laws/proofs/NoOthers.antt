@@ -58,7 +58,7 @@ are-none r blocks are =
     let of_message : AskedMessage → List Difference =
     λ a. message_differences r.slots a (judged_in a (sent_in blocks)) in
     let both = none-joined (flat_map of_message (asked_in r.log)) (not_ordered_after (asked_in r.log) [] (sent_in
-        blocks))
+    blocks))
     (none-before (all_differences r.slots (asked_in r.log) (sent_in blocks)) are.all) in
     record {
       messages = each-none of_message (asked_in r.log) both.0;
@@ -211,7 +211,7 @@ no-others complete r blocks are = λ k d within.
     sym (any-map (is_of name) (λ (s : SentPage). s.page) (sent_in blocks))
     ∙ ap (list_any (is_of name)) (sent-are-read blocks) ∙ read in
     let asked : list_any (λ (a : AskedMessage). (name.id == a.id) && (name.serial == a.serial)) (asked_in r.log) ≡
-        true =
+    true =
     asked-page (asked_in r.log) name (sent_in blocks) sent
     (all-asked-after (asked_in r.log) [] (sent_in blocks) tt none.others) in
     let accepted = Any-from_list_any (λ (b : Accepted). (name.id == b.id) && (name.serial == b.serial))

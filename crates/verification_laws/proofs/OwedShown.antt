@@ -97,7 +97,7 @@ right-judged a pages none p k within at low high =
     in-range (λ number. first_difference a pages (kinds.Otherwise number) ≡ []) 1 15 p.number
     (each-none of_number page_numbers numbers.0) low (omega arith) in
     let found = no-first (difference_of a (kinds.Otherwise p.number)) (find (differs a (kinds.Otherwise p.number))
-        pages)
+    pages)
     here in
     let all = All-from_recursion (λ (q : JudgedPage). differs a (kinds.Otherwise p.number) q ≡ false) pages
     (none-found (differs a (kinds.Otherwise p.number)) pages found) in
@@ -278,7 +278,7 @@ kept-total : (a : AskedMessage) (read : List PageView) → IsRead a (pages_named
 kept-total a read is =
     ap total_in (kept-pages a read is)
     ∙ total-is a (pages_named (name_asked a) read) (λ page. page.number == 1) (is.numbers 1 (omega arith) is.some)
-        is.right
+    is.right
 
 complete : (a : AskedMessage) (read : List PageView) → IsRead a (pages_named (name_asked a) read) →
     is_complete (name_asked a) read ≡ true
@@ -293,10 +293,10 @@ complete a read is =
     same
     ∙ ap (λ x. not x
     && list_all (λ number. is_some (find (λ (page : PageView). page.number == number) (pages_named (name_asked a)
-        read)))
+    read)))
     (range_with_len 1 (length a.contents))) some
     ∙ all-range (λ number. is_some (find (λ (page : PageView). page.number == number) (pages_named (name_asked a)
-        read))) 1
+    read))) 1
     (length a.contents)
     (λ number low high. some-found (λ (page : PageView). page.number == number) (pages_named (name_asked a) read)
     ∙ is.numbers number low (omega arith))
@@ -359,9 +359,9 @@ texts-are T G n [] one = refl
 texts-are T G n (c ∷ rest) one =
     let e : n + 0 ≡ n = omega arith in
     let first : encode_utf8_all (T n) ≡ encode_utf8_all (G c) = ap (λ k. encode_utf8_all (T k)) (sym e)
-        ∙ one 0 c refl in
+    ∙ one 0 c refl in
     let later : encode_utf8_all (flat_map T (range_with_len (n + 1) (length rest))) ≡ encode_utf8_all (flat_map G
-        rest) =
+    rest) =
     texts-are T G (n + 1) rest
     (λ k d there. let more : n + 1 + k ≡ n + suc k = omega arith in
     ap (λ m. encode_utf8_all (T m)) more ∙ one (suc k) d there) in

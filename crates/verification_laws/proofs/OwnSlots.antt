@@ -1,20 +1,18 @@
 -- A record's own tape holds its blocks.
-use Rattle.std.proofs.Common.{◌≡◌, ℕ, ◌≤◌, List, length, map, subst, ◌∙◌}
+use Rattle.std.proofs.Common.{◌≡◌, length, map, subst, ◌∙◌}
 use Rattle.std.specs.List.{flat_map}
 use Rattle.std.proofs.lemmas.List.{length-map}
 use Rattle.std.proofs.lemmas.List.Elements.{recursion_from_All}
 use Rattle.std.proofs.lemmas.List.Folds.{flat_map-map}
 use Rattle.bsc_table.specs.Legal.{IsLegal}
 use Rattle.bsc_table.specs.Record.{Record}
-use Rattle.cbch_blocks.specs.RecordBlocks.{blocks_of, blocks_of_slot, page_aired, tape_of_record}
+use Rattle.cbch_blocks.specs.RecordBlocks.{blocks_of, blocks_of_slot, page_aired}
 use Rattle.composition.proofs.Aired.{AreSound, IsAired, all_aired, can_send_aired}
 use Rattle.composition.proofs.Composed.{sound_of}
 use Rattle.composition.proofs.Laws.{Laws}
 use Rattle.composition.proofs.Meaning.{are_slots}
 use Rattle.handset.specs.Laws.{MadeAreRecordings}
-use Rattle.handset.specs.Recording.{HoldsRecording}
-use Rattle.handset.specs.Tape.{AreSlots, max_slots}
-use Rattle.verification_laws.specs.OwnTapes.{recording_of}
+use Rattle.handset.specs.Tape.{AreSlots}
 use Rattle.verification_laws.specs.Recorded.{RecordsAreRecorded}
 
 own-slots : Laws → (r : Record) → IsLegal r → r.clock ≡ r.slots → AreSlots r.slots (blocks_of r)
