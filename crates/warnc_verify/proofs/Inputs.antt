@@ -1,12 +1,12 @@
 -- A book and tapes in one input: what was found of the two parts was found of the input.
-use Rattle.std.proofs.Common.{◌≡◌, ℕ, ◌<◌, ◌≤◌, List, [], ◌∷◌, ◌++◌, Option, None, Some, IfSome, IfErr, OnOk, Result}
+use Rattle.std.proofs.Common.{◌≡◌, ℕ, ◌<◌, ◌≤◌, List, [], ◌∷◌, ◌++◌, Option, None, Some, IfSome, IfErr, Result}
 use Rattle.std.proofs.Common.{Ok, Err}
 use Rattle.std.proofs.Common.{length, take, drop, refl, sym, ap, ◌∙◌, subst, arith, append-nil}
 use Rattle.std.proofs.Math.Seq.{drop-append_seam, take-append_seam}
 use Rattle.std.proofs.lemmas.List.{length-append}
 use Rattle.std.specs.Io.KnownBytes.{Appends, Consumes, IsAtEnd, Keeps}
-use Rattle.device_ends.specs.Moves.{AppendsFront, WritesOutput}
-use Rattle.handset.specs.Recording.{TapeRecording, AreRecordings}
+use Rattle.device_ends.specs.Moves.{WritesOutput}
+use Rattle.handset.specs.Recording.{AreRecordings}
 use Rattle.handset.specs.Tape.{IsTapesFault}
 use Rattle.handset.specs.declared.tape.TapeFault.{TapeFault}
 use Rattle.handset.specs.declared.tape.TapeFault.TheVariants as tape
@@ -14,7 +14,6 @@ use Rattle.bsc_table.specs.Record.{Record}
 use Rattle.verification.specs.RowText.{rows_text}
 use Rattle.verification.specs.declared.row.Row.{Row}
 use Rattle.warnc_run.specs.Records.{AreRecordsOf, HasRunBook}
-use Rattle.warnc_run.specs.declared.fault.RunFault.{RunFault}
 use Rattle.warnc_verify.specs.Input.{DiffersBy, HasDifferences, IsInputFault, IsTableOf, IsTapesPartFault, IsVerified}
 use Rattle.warnc_verify.specs.Verified.{Readers, Finds, FindsAndWrites, IsBookFault, IsDifference, IsVerifyFault}
 use Rattle.warnc_verify.specs.Verified.{RunsBook, Writes}

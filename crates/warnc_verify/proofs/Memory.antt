@@ -1,6 +1,6 @@
 -- What comes of a book that is in memory.
-use Rattle.std.proofs.Common.{◌≡◌, ◌⊎◌, ◌↔◌, ℕ, List, Option, None, Some, IfSome, Result, Ok, Err, ap, IfErr, IsErrOf}
-use Rattle.std.proofs.Common.{IsTrue, OnOk, inl, inr, refl, rules, sym, subst}
+use Rattle.std.proofs.Common.{◌≡◌, ◌⊎◌, ℕ, List, Option, None, Some, IfSome, Result, Ok, Err, ap, IfErr, IsErrOf}
+use Rattle.std.proofs.Common.{OnOk, inl, inr, refl, rules, sym, subst}
 use Rattle.alert_book.specs.Book.{unread}
 use Rattle.device_ends.specs.declared.reading.Source.{Source}
 use Rattle.device_ends.specs.declared.writing.Sink.{Sink}

@@ -1,5 +1,5 @@
 -- What was found, and the table of it.
-use Rattle.std.proofs.Common.{◌≡◌, ℕ, ◌<◌, List, [], ◌∷◌, Option, length, refl, subst, arith, sym}
+use Rattle.std.proofs.Common.{◌≡◌, ℕ, ◌<◌, List, [], ◌∷◌, Option, length, subst, arith}
 use Rattle.std.specs.Io.KnownBytes.{Appends}
 use Rattle.device_ends.specs.Moves.{AppendsFront}
 use Rattle.verification.specs.RowText.{rows_text}

@@ -1,6 +1,5 @@
 -- Steps over an input with a book before the tapes (own). The contracts of private functions alone speak of them.
 use Rattle.std.specs.Prelude.{◌≡◌, ⊤}
-use Rattle.handset.specs.declared.tape.TapeFault.{TapeFault}
 use Rattle.handset.specs.declared.tape.TapeFault.TheVariants as tape
 use Rattle.warnc_run.specs.declared.fault.RunFault.{RunFault}
 use Rattle.warnc_run.specs.declared.fault.RunFault.TheVariants as run

@@ -2,10 +2,8 @@
 use Rattle.std.specs.Prelude.{◌≡◌, ◌≢◌, ⊤, ℕ, ◌<◌, List, Option, IfSome, length}
 use Rattle.std.specs.Io.KnownBytes.{Appends, IsAtEnd}
 use Rattle.device_ends.specs.Moves.{AppendsFront}
-use Rattle.device_ends.specs.Sink.{writer_of}
 use Rattle.device_ends.specs.Source.{reader_of}
 use Rattle.device_ends.specs.declared.reading.Source.{Source}
-use Rattle.device_ends.specs.declared.writing.Sink.{Sink}
 use Rattle.handset.specs.Recording.{TapeRecording, AreRecordings}
 use Rattle.handset.specs.Tape.{IsTapesFault}
 use Rattle.bsc_table.specs.Record.{Record}

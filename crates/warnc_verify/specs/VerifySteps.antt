@@ -1,5 +1,5 @@
 -- Steps of a verification (own). The contracts of private functions alone speak of them.
-use Rattle.std.specs.Prelude.{◌≡◌, ⊤, ℕ, List, Option, IfSome}
+use Rattle.std.specs.Prelude.{⊤, ℕ, List, Option, IfSome}
 use Rattle.device_ends.specs.Moves.{AppendsFront}
 use Rattle.handset.specs.Tape.{IsTapesFault}
 use Rattle.bsc_table.specs.Record.{Record}

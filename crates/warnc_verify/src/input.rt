@@ -51,14 +51,7 @@ pub fn verify_input<T: AllocGlobal + Threads + Wait + Sync, R: Read, W: Write>(
     ensures any_ends { IsVerifyBetween result source.old source.new sink.old sink.new }
     ensures run { IfErr result IsOfInput }
 {
-    of_memory(verify_parts(
-        rt,
-        source,
-        sink,
-        book_octets,
-        slots,
-        workers,
-    ))
+    of_memory(verify_parts(rt, source, sink, book_octets, slots, workers))
 }
 
 /// The same, also if the book, which is in memory, fails to be read.
@@ -98,10 +91,16 @@ fn of_memory(outcome: Result<(), VerifyFault>) -> Result<(), VerifyFault>
     ensures book { IsErrOf result (faults.Run (run.Book unread)) → ⊥ }
 {
     match outcome {
-        Err(VerifyFault::Run(RunFault::Book(BookFault {
-            row: 0,
-            kind: BookFaultKind::ReadFailed,
-        }))) => Err(VerifyFault::Refused),
+        Err(
+            VerifyFault::Run(
+                RunFault::Book(
+                    BookFault {
+                        row: 0,
+                        kind: BookFaultKind::ReadFailed,
+                    },
+                ),
+            ),
+        ) => Err(VerifyFault::Refused),
         outcome => outcome,
     }
 }

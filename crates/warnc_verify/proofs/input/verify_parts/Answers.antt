@@ -1,11 +1,10 @@
-use Rattle.std.proofs.Common.{◌≡◌, [], List, ℕ, Option, Some, rules, sym, subst}
+use Rattle.std.proofs.Common.{[], List, ℕ, Option, rules, sym, subst}
 use Rattle.std.proofs.KnownBytes.{Keeps-refl}
 use Rattle.std.proofs.lemmas.Result.{IfErr-weaker, on_ok_weaker}
 use Rattle.warnc_verify.proofs.Memory.{unwritten}
 use Rattle.std.specs.Io.KnownBytes.{Keeps}
 use Rattle.device_ends.specs.Sink.{writer_of}
 use Rattle.device_ends.specs.Source.{reader_of}
-use Rattle.warnc_verify.specs.Verified.{readers_of}
 use Rattle.warnc_verify.proofs.Inputs.{ArePartsOf, by_both, differences_of_input, fault_of_input, table_of_input}
 use Rattle.warnc_verify.proofs.input.verify_parts.Goals as goal
 
