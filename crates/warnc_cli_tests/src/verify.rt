@@ -172,10 +172,10 @@ in cell,1,1
 reads 0 9 -> 3 warnc: read failed
 in cell,1,1
 in-hex 00010001 00000000
-writer 20 1
+writer 33 1
 run -> 3
 err -> warnc: write failed
-starts lac,ci,id,serial,slo -> yes
+out -> lac,ci,id,serial,slot,difference
 args verify --slots 1
 usage -> 2 error:
 args verify --book-octets 1
