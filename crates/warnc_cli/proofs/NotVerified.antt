@@ -1,5 +1,6 @@
 -- What `verify` refuses: a fault of status 1 is one of the input.
-use Rattle.std.proofs.Common.{◌≡◌, ◌≢◌, ◌⊎◌, ℕ, ◌+◌, ◌<◌, ◌≤◌, List, ◌++◌, Option, None, Some, IfSome, length, take, drop, refl, zero, suc}
+use Rattle.std.proofs.Common.{◌≡◌, ◌≢◌, ◌⊎◌, ℕ, ◌+◌, ◌<◌, ◌≤◌, List, ◌++◌, Option, None, Some, IfSome, length, take}
+use Rattle.std.proofs.Common.{drop, refl, zero, suc}
 use Rattle.std.proofs.Common.{true, false, Err, IsErrOf, IsTrue}
 use Rattle.std.proofs.Common.{sym, ap, ◌∙◌, subst, arith, inl, inr, append-nil, rules}
 use Rattle.std.proofs.lemmas.List.{length-append}
@@ -28,7 +29,8 @@ use Rattle.warnc_verify.specs.declared.fault.VerifyFault.{VerifyFault}
 use Rattle.warnc_verify.specs.declared.fault.VerifyFault.TheVariants as fault
 use Rattle.warnc_cli.specs.RunSteps.{status_of_compile_fault, status_of_desk_fault, status_of_run_fault}
 use Rattle.warnc_cli.specs.RunSteps.{status_of_settle_fault, status_of_verify_fault, IsVerifyRunBetween}
-use Rattle.warnc_cli.specs.Status.{IsNoBook, IsNoRun, IsNotVerified, OneHasFailed, status_of_book_fault, status_of_book_kind}
+use Rattle.warnc_cli.specs.Status.{IsNoBook, IsNoRun, IsNotVerified, OneHasFailed, status_of_book_fault}
+use Rattle.warnc_cli.specs.Status.{status_of_book_kind}
 
 -- what was read of octets up to their end is all of them
 all_read : (book input : List ℕ) (last : Option (List ℕ)) → Consumes (Some book) last input → IsAtEnd last
