@@ -154,9 +154,12 @@ def batches(crate, edits, size):
 
 
 def is_refused_alone(room, edit):
+    """Whether an edit alone is refused. A check that broke off, as of another checkout's changed library, says nothing."""
     texts = {}
     edit.put_into(texts, room.original)
     said = room.check(texts, "--allow-holes")
+    if "holes=" not in said:
+        print(f"{edit.name}: the check broke off, and says nothing: {said[-400:]}")
     return bool(re.search(r"^fn \S+: (no proof|not proved)", said, re.M))
 
 

@@ -3,7 +3,7 @@
 
 ghost use Rattle.std.specs.Prelude.{◌≡◌, ◌≢◌, ◌↔◌, ◌++◌, ◌∷◌, [], drop, IsTrue};
 ghost use Rattle.std.specs.Option.{option_to_list};
-ghost use Rattle.handset.specs.Reception.{page_octets, type_of};
+ghost use Rattle.handset.specs.Reception.{page_in_front, page_octets, type_of};
 ghost use Rattle.handset.specs.Keeping.{blocks_of};
 ghost use Rattle.handset.specs.KeepingSteps.{under_way_with, page_ended};
 
@@ -103,6 +103,20 @@ impl PartialPage {
             _ => None,
         }
     }
+}
+
+/// The page that stands at the front of some blocks, if their first four have the types of a page's. The blocks are of
+/// type and 22 octets each (3GPP TS 44.012), and the page may be any, also one that can't be read.
+pub fn page_in_front(blocks: &[[u8; 23]]) -> Option<PageView>
+    ensures { option_to_list result ≡ page_in_front blocks.now }
+{
+    let [first, second, third, last, ..] = blocks else {
+        return None;
+    };
+    if first[0] != FIRST || second[0] != SECOND || third[0] != THIRD || last[0] != LAST {
+        return None;
+    }
+    Some(read_page(&octets_of(first, second, third, last)))
 }
 
 /// The octets that four blocks carry: all but the type of each.

@@ -15,6 +15,7 @@ mod pages;
 mod recording;
 mod tape;
 
+pub use blocks::page_in_front;
 pub use handset::Handset;
 pub use laws::{reading_laws, recording_laws, tape_laws};
 pub use messages::{Refused, Shown};

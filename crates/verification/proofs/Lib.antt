@@ -3,5 +3,6 @@ pub mod OwedLaws
 pub mod NameLaws
 pub mod SentLaws
 pub mod TimeLaws
+pub mod ByNameLaws
 pub mod FoundLaws
 mod Worked

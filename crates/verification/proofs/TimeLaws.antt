@@ -38,7 +38,7 @@ has_page-in_time a pages j number =
     any-filter (is_in_time a j) (λ (page : JudgedPage). (page.number == number) && page.right) pages
 
 -- what passes a test that the first elements fail, or that they alone pass
-filter-fails : {X : Type 0} (p : X → Bool) (n : ℕ) (xs : List X) → AllWithin (λ x. p x ≡ false) xs 0 n →
+pub filter-fails : {X : Type 0} (p : X → Bool) (n : ℕ) (xs : List X) → AllWithin (λ x. p x ≡ false) xs 0 n →
     filter p xs ≡ filter p (drop n xs)
 filter-fails p zero xs fails = refl
 filter-fails p (suc n) [] fails = refl
@@ -46,7 +46,7 @@ filter-fails p (suc n) (x ∷ xs) fails =
     ap (λ here. cond here (x ∷ filter p xs) (filter p xs)) (fails 0 x (omega arith) (omega arith))
     ∙ filter-fails p n xs (λ k d low high. fails (suc k) d (omega arith) (omega arith))
 
-filter-none : {X : Type 0} (p : X → Bool) (xs : List X) → AllWithin (λ x. p x ≡ false) xs 0 (length xs) →
+pub filter-none : {X : Type 0} (p : X → Bool) (xs : List X) → AllWithin (λ x. p x ≡ false) xs 0 (length xs) →
     filter p xs ≡ []
 filter-none p [] fails = refl
 filter-none p (x ∷ xs) fails =

@@ -1,8 +1,8 @@
 //! The differences of a cell.
 
-ghost use Rattle.std.specs.Prelude.{◌≡◌, ◌++◌, ◌≤◌, All, AllPairs, IfOk, IsTrue, OnOk, map};
+ghost use Rattle.std.specs.Prelude.{◌≡◌, ◌++◌, IfOk, OnOk, map};
 ghost use Rattle.std.specs.List.{flat_map};
-ghost use Rattle.cbs_page.specs.Page.{is_readable};
+ghost use Rattle.verification.specs.ByName.{AreByName};
 ghost use Rattle.verification.specs.Difference.{AreDifferences, message_differences};
 ghost use Rattle.verification.specs.Judged.{judged_in};
 ghost use Rattle.verification.specs.Kept.{asked_of};
@@ -13,11 +13,11 @@ use crate::difference::Difference;
 use crate::judged::judged_pages;
 use crate::not_ordered::push_not_ordered;
 use crate::pages::push_page_differences;
-use crate::sent::{SentPage, sent_pages};
+use crate::sent::{SentPage, sent_pages, sort_by_name};
 use bsc_table::CellRecord;
 use std::alloc::{AllocError, Global};
 
-/// Appends the differences of messages. The only error is out of memory.
+/// Appends the differences of messages, by the pages that were sent, by name. The only error is out of memory.
 fn push_messages(
     alloc: Global,
     found: &mut Vec<Difference>,
@@ -25,8 +25,7 @@ fn push_messages(
     messages: &[Asked],
     sent: &[SentPage],
 ) -> Result<(), AllocError>
-    requires readable { All (λ s. IsTrue (is_readable s.page)) sent.now }
-    requires rising { AllPairs (λ a b. a.slot ≤ b.slot) sent.now }
+    requires { AreByName sent.now }
     ensures { OnOk result (found.new.items ≡ found.old.items
         ++ flat_map (λ a. message_differences slots a (judged_in a sent.now)) (map asked_of messages.now)) }
 {
@@ -54,10 +53,11 @@ pub fn differences(
     ensures { IfOk result (λ found. AreDifferences run.now blocks.now found.items) }
 {
     let messages = asked_messages(alloc, run.log())?;
-    let sent = sent_pages(alloc, blocks)?;
+    let mut sent = sent_pages(alloc, blocks)?;
     let mut found = Vec::new(alloc);
-    push_messages(alloc, &mut found, run.slots(), &messages, &sent)?;
     push_not_ordered(alloc, &mut found, &messages, &sent)?;
+    sort_by_name(&mut sent)?;
+    push_messages(alloc, &mut found, run.slots(), &messages, &sent)?;
     found.sort_by_key(|difference| difference.key())?;
     Ok(found)
 }

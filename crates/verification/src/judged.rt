@@ -1,13 +1,14 @@
 //! The pages of a message that were sent, each right or not.
 
-ghost use Rattle.std.specs.Prelude.{◌≡◌, ◌-◌, ◌≤◌, All, AllPairs, IfOk, IsTrue, Some, encode_utf8_all};
+ghost use Rattle.std.specs.Prelude.{◌≡◌, ◌-◌, All, IfOk, IsTrue, Some, encode_utf8_all};
 ghost use Rattle.std.specs.List.{slice_get};
 ghost use Rattle.cbs_page.specs.Page.{is_readable};
+ghost use Rattle.verification.specs.ByName.{AreByName};
 ghost use Rattle.verification.specs.Judged.{is_right, judged, judged_in, reads_as};
 ghost use Rattle.verification.specs.Kept.{asked_of};
 
 use crate::asked::Asked;
-use crate::sent::SentPage;
+use crate::sent::{SentPage, name_number};
 use cbs_page::{Content, PageView, page_text};
 use std::alloc::{AllocError, Global};
 
@@ -68,19 +69,31 @@ fn judged_page(alloc: Global, asked: &Asked, sent: &SentPage) -> Result<JudgedPa
     })
 }
 
-/// Of the pages that were sent those of a message, each judged. The only error is out of memory.
+/// Of pages by name those among which all of a message are.
+fn near<'p>(asked: &Asked, sent: &'p [SentPage]) -> &'p [SentPage]
+    requires { AreByName sent.now }
+    ensures same { judged_in (asked_of asked.now) result.now ≡ judged_in (asked_of asked.now) sent.now }
+    ensures readable { All (λ s. IsTrue (is_readable s.page)) result.now }
+{
+    let name = name_number(asked.id, asked.serial);
+    let first = sent.partition_point(|page| page.name_number() < name);
+    let later = &sent[first..];
+    let count = later.partition_point(|page| page.name_number() <= name);
+    &later[..count]
+}
+
+/// Of the pages that were sent, by name, those of a message, each judged. The only error is out of memory.
 pub fn judged_pages(
     alloc: Global,
     asked: &Asked,
     sent: &[SentPage],
 ) -> Result<Vec<JudgedPage>, AllocError>
-    requires readable { All (λ s. IsTrue (is_readable s.page)) sent.now }
-    requires rising { AllPairs (λ a b. a.slot ≤ b.slot) sent.now }
-    ensures pages { IfOk result (λ pages. pages.items ≡ judged_in (asked_of asked.now) sent.now) }
-    ensures rising { IfOk result (λ pages. AllPairs (λ a b. a.slot ≤ b.slot) pages.items) }
+    requires { AreByName sent.now }
+    ensures { IfOk result (λ pages. pages.items ≡ judged_in (asked_of asked.now) sent.now) }
 {
+    let candidates = near(asked, sent);
     let mut pages = Vec::new(alloc);
-    for sent_page in sent {
+    for sent_page in candidates {
         if asked.has_name_of(&sent_page.page) {
             pages.push(judged_page(alloc, asked, sent_page)?)?;
         }

@@ -1,12 +1,14 @@
 //! The pages that a tape sends.
 
-ghost use Rattle.std.specs.Prelude.{◌≡◌, ◌∷◌, ◌++◌, [], drop, ◌≤◌, All, AllPairs, IfOk, IsTrue};
-ghost use Rattle.std.specs.Option.{option_to_list};
+ghost use Rattle.std.specs.Prelude.{◌≡◌, ◌≤◌, All, AllPairs, IfOk, IsTrue, OnOk};
 ghost use Rattle.cbs_page.specs.Page.{is_readable};
-ghost use Rattle.handset.specs.Reception.{page_in_front, page_octets};
+ghost use Rattle.verification.specs.Asked.{AskedMessage};
+ghost use Rattle.verification.specs.ByName.{AreByName, name_number};
+ghost use Rattle.verification.specs.Judged.{judged_in};
 ghost use Rattle.verification.specs.Sent.{sent_in};
 
-use cbs_page::{PageView, read_page};
+use cbs_page::PageView;
+use handset::page_in_front;
 use std::alloc::{AllocError, Global};
 
 /// How many blocks a slot has.
@@ -21,38 +23,20 @@ pub struct SentPage {
     pub page: PageView,
 }
 
-/// The octets that four blocks carry: all but the type of each.
-fn octets_of(first: &[u8; 23], second: &[u8; 23], third: &[u8; 23], last: &[u8; 23]) -> [u8; 88]
-    ensures { result ≡ page_octets (first.now ∷ second.now ∷ third.now ∷ last.now ∷ []) }
+/// A number for an identifier and a serial number, another one for each two.
+pub fn name_number(id: u16, serial: u16) -> u32
+    ensures { result ≡ name_number id serial }
 {
-    let mut octets = [0; 88];
-    octets[..44].copy_from_slice(&joined(first, second));
-    octets[44..].copy_from_slice(&joined(third, last));
-    octets
+    u32::from(id) * 0x1_0000 + u32::from(serial)
 }
 
-/// The octets that two blocks carry.
-fn joined(block: &[u8; 23], next: &[u8; 23]) -> [u8; 44]
-    ensures { result ≡ drop 1 block.now ++ drop 1 next.now }
-{
-    let mut octets = [0; 44];
-    octets[..22].copy_from_slice(&block[1..]);
-    octets[22..].copy_from_slice(&next[1..]);
-    octets
-}
-
-/// The page that stands in front, if one does: that of the next four blocks, by their types (3GPP TS 44.012).
-fn page_in_front(blocks: &[[u8; 23]]) -> Option<PageView>
-    ensures { option_to_list result ≡ page_in_front blocks.now }
-{
-    if blocks.len() < BLOCKS {
-        return None;
+impl SentPage {
+    /// The number of its identifier and serial number.
+    pub fn name_number(&self) -> u32
+        ensures { result ≡ name_number self.now.page.id self.now.page.serial }
+    {
+        name_number(self.page.id, self.page.serial.number())
     }
-    let (first, second, third, last) = (&blocks[0], &blocks[1], &blocks[2], &blocks[3]);
-    if first[0] != 0x20 || second[0] != 0x21 || third[0] != 0x22 || last[0] != 0x33 {
-        return None;
-    }
-    Some(read_page(&octets_of(first, second, third, last)))
 }
 
 /// The readable pages in a tape's blocks, in order.
@@ -73,4 +57,20 @@ pub fn sent_pages(alloc: Global, blocks: &[[u8; 23]]) -> Result<Vec<SentPage>, A
         }
     }
     Ok(sent)
+}
+
+/// Puts pages by identifier and serial number, so that those of one message stand together, in the order in which they
+/// were sent.
+///
+/// # Errors
+///
+/// Out of memory.
+pub fn sort_by_name(sent: &mut Vec<SentPage>) -> Result<(), AllocError>
+    requires readable { All (λ s. IsTrue (is_readable s.page)) sent.old.items }
+    requires rising { AllPairs (λ a b. a.slot ≤ b.slot) sent.old.items }
+    ensures same { OnOk result ((a : AskedMessage) → judged_in a sent.new.items ≡ judged_in a sent.old.items) }
+    ensures stand { OnOk result (AreByName sent.new.items) }
+{
+    sent.sort_by_key(|page| page.name_number())?;
+    Ok(())
 }

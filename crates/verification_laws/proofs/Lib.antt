@@ -10,3 +10,5 @@ pub mod NoOthers
 pub mod OctetPages
 pub mod OwedShown
 pub mod OwnSlots
+pub mod OneList
+pub mod OneOrder

@@ -1,3 +1,4 @@
 pub mod OwnTapes
 pub mod Shown
 pub mod Recorded
+pub mod OneList

@@ -27,26 +27,20 @@ use Rattle.warnc_verify.specs.Input.{IsInputFault, IsOfInput, IsRunInMemory, IsV
 use Rattle.warnc_verify.specs.Verified.{IsBookFault, IsDifference, Writes}
 use Rattle.warnc_verify.specs.declared.fault.VerifyFault.{VerifyFault}
 use Rattle.warnc_verify.specs.declared.fault.VerifyFault.TheVariants as fault
+use Rattle.warnc_verify.proofs.Inputs.{whole}
 use Rattle.warnc_cli.specs.RunSteps.{status_of_compile_fault, status_of_desk_fault, status_of_run_fault}
 use Rattle.warnc_cli.specs.RunSteps.{status_of_settle_fault, status_of_verify_fault, IsVerifyRunBetween}
 use Rattle.warnc_cli.specs.Status.{IsNoBook, IsNoRun, IsNotVerified, OneHasFailed, status_of_book_fault}
 use Rattle.warnc_cli.specs.Status.{status_of_book_kind}
-
--- what was read of octets up to their end is all of them
-all_read : (book input : List ℕ) (last : Option (List ℕ)) → Consumes (Some book) last input → IsAtEnd last
-    → input ≡ book
-all_read book input None read ended = absurd read
-all_read book input (Some rest) read ended =
-    sym (read ∙ ap (λ (r : List ℕ). input ++ r) ended ∙ append-nil input)
 
 no_longer : (book input : List ℕ) (last : Option (List ℕ)) → Consumes (Some book) last input
     → length input ≡ max_input + 1
     → max_input < length book
 no_longer book input None read long = absurd read
 no_longer book input (Some rest) read long =
-    let whole = ap length read in
+    let all = ap length read in
     let both = length-append input rest in
-    omega (arith, whole, both, long)
+    omega (arith, all, both, long)
 
 no_book : (book input : List ℕ) (last : Option (List ℕ)) (f : BookFault) → Consumes (Some book) last input
     → (f ≡ refused) ⊎ ((f ≡ unread) ⊎ (((f ≡ too_long) × (length input ≡ max_input + 1))
@@ -57,12 +51,12 @@ no_book book input last f read (inl same) is = absurd (omega (arith, sym (ap sta
 no_book book input last f read (inr (inl same)) is = absurd (omega (arith, sym (ap status_of_book_fault same) ∙ is))
 no_book book input last f read (inr (inr (inl long))) is = inl (no_longer book input last read long.1)
 no_book book input last f read (inr (inr (inr wrong))) is =
-    inr (f, subst (λ (octets : List ℕ). IsWrong octets f) (all_read book input last read wrong.0) wrong.1, is)
+    inr (f, subst (λ (octets : List ℕ). IsWrong octets f) (whole book input last read wrong.0) wrong.1, is)
 
 -- a book that was read, and whose run ended early
 book_read : (book : List ℕ) (last : Option (List ℕ)) (read : HasReadBook (Some book) last) → IsBook book read.book
 book_read book last read =
-    subst (λ (octets : List ℕ). IsBook octets read.book) (all_read book read.input last read.read read.ended)
+    subst (λ (octets : List ℕ). IsBook octets read.book) (whole book read.input last read.read read.ended)
     read.is_book
 
 stopped_desk : (slots : ℕ) (book : List ℕ) (last : Option (List ℕ)) (f : DeskFault) → IsDeskFault f

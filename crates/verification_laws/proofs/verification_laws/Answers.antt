@@ -3,6 +3,7 @@ use Rattle.composition.proofs.Laws.{Laws}
 use Rattle.bsc_table.specs.Promised.{LegalPagesAreAiredOnce}
 use Rattle.verification_laws.specs.OwnTapes.{NothingIsFound, OwnTapesKeepTheirCells}
 use Rattle.verification_laws.proofs.NoOthers.{no-others}
+use Rattle.verification_laws.proofs.OneOrder.{one-list-of-differences}
 use Rattle.verification_laws.proofs.OwnRuns.{kept-cells, no-rows-found, runs-kept}
 use Rattle.verification_laws.proofs.OwnSlots.{recorded}
 use Rattle.verification_laws.proofs.OwnTapes.{nothing-found, own-tapes}
@@ -36,6 +37,7 @@ returns c =
     let kept : OwnTapesKeepTheirCells = kept-cells (own-tapes laws once) in
     let nothing : NothingIsFound = nothing-found laws once in
     record {
+      cells_differ_in_one_list = one-list-of-differences;
       own_tapes_differ_nowhere = own-tapes laws once;
       own_tapes_keep_their_cells = kept;
       nothing_is_found = nothing;

@@ -14,9 +14,9 @@ loop-asked-preserved c =
     let a : AskedMessage = asked_of c.asked-item.result in
     let pages : List JudgedPage = judged_in a c.args.sent.now in
     let f : AskedMessage → List Difference = λ x. message_differences c.args.slots x (judged_in x c.args.sent.now) in
-    let seen : c.deref.result.now ≡ pages = c.deref.ensures.value ∙ c.in_ok-pages.ensures.pages in
+    let seen : c.deref.result.now ≡ pages = c.deref.ensures.value ∙ c.in_ok-pages.ensures in
     let also : c.deref-in-loop-asked.result.now ≡ pages =
-    c.deref-in-loop-asked.ensures.value ∙ c.in_ok-pages.ensures.pages in
+    c.deref-in-loop-asked.ensures.value ∙ c.in_ok-pages.ensures in
     let added : c.push_broadcast_differences.new.found.items ≡ c.loop-asked.found.items ++ f a =
     c.in_ok-push_broadcast_differences.ensures
     ∙ ap (λ ds. ds ++ broadcast_differences c.args.slots a c.deref-in-loop-asked.result.now)

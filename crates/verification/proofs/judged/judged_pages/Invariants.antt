@@ -5,4 +5,5 @@ use Rattle.verification.proofs.judged.judged_pages.Given as goal
 
 abbrev pub invariant-loop-sent_page : goal.invariant-loop-sent_page
 invariant-loop-sent_page l =
-    l.pages.items ++ judged_in (asked_of l.asked) (drop l.sent_page-index l.sent) ≡ judged_in (asked_of l.asked) l.sent
+    l.pages.items ++ judged_in (asked_of l.asked) (drop l.sent_page-index l.candidates)
+    ≡ judged_in (asked_of l.asked) l.candidates
