@@ -12,3 +12,4 @@ pub mod OwedShown
 pub mod OwnSlots
 pub mod OneList
 pub mod OneOrder
+pub mod OneRows

@@ -1,5 +1,5 @@
 -- A list that is sorted by an order in which no two elements tie is the only one of its elements.
-use Rattle.std.proofs.Common.{◌≡◌, ◌<◌, ◌≤◌, ◌+◌, ◌∙◌, ℕ, Bool, true, false, cond, List, [], ◌∷◌, length, zero, suc}
+use Rattle.std.proofs.Common.{◌≡◌, ◌<◌, ◌+◌, ◌∙◌, ℕ, Bool, true, false, cond, List, [], ◌∷◌, length, suc}
 use Rattle.std.proofs.Common.{get_or, refl, subst, sym, ap, arith}
 use Rattle.std.specs.Prelude.{not, ◌&&◌}
 use Rattle.std.specs.List.{sum_by}

@@ -1,5 +1,5 @@
 -- No two differences have one place in their order, so that a cell's differences are one list.
-use Rattle.std.proofs.Common.{◌≡◌, ◌∙◌, ℕ, Bool, true, false, cond, List, refl, sym, ap}
+use Rattle.std.proofs.Common.{◌≡◌, ◌∙◌, ℕ, false, cond, refl, sym, ap}
 use Rattle.std.specs.Prelude.{◌==◌}
 use Rattle.std.specs.Ordering.{is_eq, is_lt, nat_cmp, ordering_reverse, ordering_then}
 use Rattle.std.specs.declared.cmp.Ordering.{Ordering}
@@ -8,13 +8,12 @@ use Rattle.std.specs.Cmp.{IsTotalOrder, unsigned_ties}
 use Rattle.std.proofs.Common.{eqb-true}
 use Rattle.std.proofs.lemmas.Cmp.{nat_cmp_total, on_total, then_total}
 use Rattle.std.proofs.lemmas.List.Sorted.{ranks_by}
-use Rattle.bsc_table.specs.Record.{Record}
 use Rattle.verification.specs.declared.difference.Difference.{Difference}
 use Rattle.verification.specs.declared.difference.Kind.{Kind}
 use Rattle.verification.specs.declared.difference.Kind.TheVariants as kinds
 use Rattle.verification.specs.Asked.{asked_in}
 use Rattle.verification.specs.Sent.{sent_in}
-use Rattle.verification.specs.Difference.{AreDifferences, Key, all_differences, key_of, key_order, kind_number, kind_place}
+use Rattle.verification.specs.Difference.{Key, all_differences, key_of, key_order, kind_number, kind_place}
 use Rattle.verification_laws.specs.OneList.{CellsDifferInOneList}
 use Rattle.verification_laws.proofs.OneList.{one-list}
 
@@ -26,7 +25,7 @@ total =
     (on_total (λ (k : Key). k.3) nat_cmp_total)) (on_total (λ (k : Key). k.4) nat_cmp_total)
 
 -- a difference is what its key says
-kind_from : (place number : ℕ) → Kind
+abbrev kind_from : (place number : ℕ) → Kind
 kind_from place number =
     cond (place == 0) (kinds.Otherwise number)
     (cond (place == 1) kinds.BeforeStart
@@ -42,7 +41,7 @@ kind_again kinds.AfterLast = refl
 kind_again (kinds.NotWhole broadcast) = refl
 kind_again kinds.NotOrdered = refl
 
-made : (slot id serial place number : ℕ) → Difference
+abbrev made : (slot id serial place number : ℕ) → Difference
 made slot id serial place number = record { slot = slot; id = id; serial = serial; kind = kind_from place number }
 
 made_again : (d : Difference) → made d.slot d.id d.serial (kind_place d.kind) (kind_number d.kind) ≡ d

@@ -4,7 +4,7 @@
 //! Nothing here runs: the crate is one law over the definitions of the crates below it.
 #![tactic(auto)]
 
-ghost use Rattle.verification_laws.specs.OneList.{CellsDifferInOneList};
+ghost use Rattle.verification_laws.specs.OneList.{CellsDifferInOneList, TapesHaveOneListOfRows};
 ghost use Rattle.verification_laws.specs.OwnTapes.{NoRowsAreFound, NothingIsFound, OwnTapesDifferNowhere};
 ghost use Rattle.verification_laws.specs.OwnTapes.{OwnTapesHaveNoRows, OwnTapesKeepTheirCells};
 ghost use Rattle.verification_laws.specs.Recorded.{RecordsAreRecorded};
@@ -15,8 +15,9 @@ ghost use Rattle.verification_laws.specs.Shown.{NoOthersAreShown, OwedAreShown};
 ///
 /// Does nothing: its contract is the law, and its body names the laws that carry it.
 pub fn verification_laws()
-    // The differences of a cell's tape are one list.
+    // The differences of a cell's tape are one list, and so are the rows of all tapes.
     ensures cells_differ_in_one_list { CellsDifferInOneList }
+    ensures tapes_have_one_list_of_rows { TapesHaveOneListOfRows }
 
     // The blocks of a legal history have none of the differences.
     ensures own_tapes_differ_nowhere { OwnTapesDifferNowhere }
