@@ -1,5 +1,5 @@
 #!/usr/bin/env python3
-"""Judges tapes by a book, as docs/definitions.md says what differs: a second program against which `warnc verify` is compared. Which
+"""Judges tapes by a book, as docs/formats.md says what differs: a second program against which `warnc verify` is compared. Which
 orders a cell accepted, and from when to when, it takes from `warnc report`; all else it finds by itself.
 
 Usage: verify_reference.py PROGRAM [RUNS]    random books, whose tapes are left as they are in every third run, and else spoilt: octets

@@ -1,4 +1,4 @@
-//! Books as tables: what is read, and the line of each fault beside the book mended. docs/formats.md has these rows.
+//! Books as tables: what is read, and the line of each fault beside the book mended.
 //!
 //! `|` is the line feed that ends a row, and `%` with two digits an octet that a table can't show.
 
