@@ -100,8 +100,8 @@ filter-front p (suc n) (x ∷ xs) fails =
     (filter-front p n xs (λ k d low high. fails (suc k) d (omega arith) (omega arith)))
 
 -- a page of another number isn't of the message
-other : (a : AskedMessage) (s : SentPage) (is : Bool) → is_its a s ≡ is → (number_of s ≡ name_number a.id a.serial → ⊥) →
-    is_its a s ≡ false
+other : (a : AskedMessage) (s : SentPage) (is : Bool) → is_its a s ≡ is →
+    (number_of s ≡ name_number a.id a.serial → ⊥) → is_its a s ≡ false
 other a s true is differs = absurd (differs (its-number a s is))
 other a s false is differs = is
 
@@ -116,11 +116,13 @@ between-names a first count sent within before after =
     (filter-front (is_its a) count (drop first sent)
     (λ k d low high. let s : SentPage = get_or (drop first sent) k d in
     let late : leb (number_of s) (name_number a.id a.serial) ≡ false = after k d low high in
-    other a s (is_its a s) refl (λ same. let none : ⊥ = later (number_of s) (name_number a.id a.serial) late same in none))
+    other a s (is_its a s) refl
+    (λ same. let none : ⊥ = later (number_of s) (name_number a.id a.serial) late same in none))
     ∙ sym (filter-fails (is_its a) first sent
     (λ k d low high. let s : SentPage = get_or sent k d in
     let early : ltb (number_of s) (name_number a.id a.serial) ≡ true = before k d low high in
-    other a s (is_its a s) refl (λ same. let none : ⊥ = earlier (number_of s) (name_number a.id a.serial) early same in none))))
+    other a s (is_its a s) refl
+    (λ same. let none : ⊥ = earlier (number_of s) (name_number a.id a.serial) early same in none))))
   where
     later : (m n : ℕ) → leb m n ≡ false → m ≡ n → ⊥
     later m n late same = grind (arith, nat_tests)

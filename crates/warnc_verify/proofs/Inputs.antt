@@ -21,7 +21,8 @@ use Rattle.warnc_verify.specs.declared.fault.VerifyFault.{VerifyFault}
 use Rattle.warnc_verify.specs.declared.fault.VerifyFault.TheVariants as faults
 
 -- what was read of octets to their end is these octets
-pub whole : (book input : List ℕ) (last : Option (List ℕ)) → Consumes (Some book) last input → IsAtEnd last → input ≡ book
+pub whole : (book input : List ℕ) (last : Option (List ℕ)) → Consumes (Some book) last input → IsAtEnd last
+    → input ≡ book
 whole book input None read ended = absurd read
 whole book input (Some rest) read ended =
     sym (read ∙ ap (λ (r : List ℕ). input ++ r) ended ∙ append-nil input)
