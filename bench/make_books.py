@@ -1,8 +1,9 @@
 #!/usr/bin/env python3
-"""Writes alert books for bench/compile.sh: 64 cells. make_books.py SEED KIND, where KIND is one of
+"""Writes alert books for bench/compile.sh and bench/verify.sh: 64 cells. make_books.py SEED KIND, where KIND is one of
 
 typical   200 rows: alerts in two languages with updates and stops, each in some of the cells
 full      4,096 rows: every cell is busy in most of its slots, and many orders are refused
+background  4,096 rows: each cell accepts thousands of background messages, and sends some of them
 
 It uses nothing of warnc.
 """
@@ -58,13 +59,21 @@ def rows(chance, count, periods):
             yield ["stop", at, chance.choice(list(updates)), cells_of(chance)]
 
 
+def background_rows(chance):
+    for ci in range(1, CELLS + 1):
+        yield ["cell", 1, ci]
+    for number in range(4096 - CELLS):
+        text = text_of(chance, "en")
+        yield ["write", 0, f"notice{number}", number, 0, 1, "en", 1, chance.randint(1, 1024), 0, "*", text]
+
+
 KINDS = {"typical": (200, (30, 60, 120, 240)), "full": (4096, (4, 8, 30, 120, 1024))}
 
 
 def main():
     chance = random.Random(int(sys.argv[1]))
-    count, periods = KINDS[sys.argv[2]]
-    for row in rows(chance, count, periods):
+    made = background_rows(chance) if sys.argv[2] == "background" else rows(chance, *KINDS[sys.argv[2]])
+    for row in made:
         fields = [str(field) for field in row]
         print(",".join('"' + field.replace('"', '""') + '"' if "," in field else field for field in fields))
 
