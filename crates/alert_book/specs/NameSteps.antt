@@ -1,11 +1,11 @@
 -- What is kept of the names of a book's rows so far (own). Contracts of private functions alone speak of it.
-use Rattle.std.specs.Prelude.{◌≡◌, ℕ, ◌+◌, ◌<◌, ◌++◌, if◌then◌else◌, Option, Some, None, List, length, count_by}
-use Rattle.std.specs.List.{find, slice_get}
+use Rattle.std.specs.Prelude.{◌≡◌, ℕ, ◌+◌, ◌<◌, if◌then◌else◌, Option, Some, None, List, length, count_by}
+use Rattle.std.specs.List.{slice_get}
 use Rattle.std.specs.HashMap.{get_by_text}
 use Rattle.alert_book.specs.declared.book.names.Known.{Known}
 use Rattle.alert_book.specs.declared.book.names.Names.{Names}
 use Rattle.alert_book.specs.declared.book.order.Order.{Order}
-use Rattle.alert_book.specs.Fields.{first_order, is_named}
+use Rattle.alert_book.specs.Fields.{first_order}
 use Rattle.alert_book.specs.Row.{is_update_of, updates}
 
 -- what is known of a name is true of some orders

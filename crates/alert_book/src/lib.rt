@@ -14,4 +14,5 @@ pub use book::{Book, MAX_INPUT, read_book};
 pub use fault::{BookFault, BookFaultKind};
 pub use laws::{book_laws, session_laws, text_laws};
 pub use session::Session;
-pub use session::request::Refused;
+pub use session::outcome::Outcome;
+pub use session::request::{Refused, Request};

@@ -109,6 +109,31 @@ impl<'a> Session<'a> {
         Ok(given)
     }
 
+    /// Goes on to the next request ([`Session::sent`]) as [`Session::next`] does, by what the reply to the request
+    /// before says in place of its octets: None if there was none, or none to that request. For checks: no octets are
+    /// written or read.
+    ///
+    /// # Errors
+    ///
+    /// `Refused` if out of memory. The session then stands where it stood, and may be asked again.
+    pub fn go_on(&mut self, said: Option<Outcome>) -> Result<(), Refused>
+        ensures next { OnOk result ((reply : Option Message) → said ≡ outcome_in self.old.sent reply
+            → Advances reply self.old self.new) }
+        ensures refused { OnErr result (Stays self.old self.new) }
+    {
+        let found = self.found(&said)?;
+        make_places_if(&mut self.versions, first_due(&found, &self.due))?;
+        self.advance(&said, found);
+        Ok(())
+    }
+
+    /// The request that was given last, whose reply is to come; None before the first one and after the last.
+    pub fn sent(&self) -> Option<&Request>
+        ensures { option_copied result ≡ self.now.sent }
+    {
+        self.sent.as_ref()
+    }
+
     /// Keeps what the reply to the last request says, and takes the next one as sent, for whose versions there are
     /// places.
     fn advance(&mut self, outcome: &Option<Outcome>, found: Option<NextRequests>)
@@ -259,6 +284,17 @@ fn make_places(versions: &mut Versions, request: &Request) -> Result<(), Refused
         versions.make_place(request.number, *cell)?;
     }
     Ok(())
+}
+
+/// The same if there is a request.
+fn make_places_if(versions: &mut Versions, next: Option<&Request>) -> Result<(), Refused>
+    ensures keeps { KeepsVersions versions.old versions.new }
+    ensures made { OnOk result (HavePlaces versions.new (option_copied next.entry)) }
+{
+    match next {
+        Some(request) => make_places(versions, request),
+        None => Ok(()),
+    }
 }
 
 /// Keeps what the reply to a request says.

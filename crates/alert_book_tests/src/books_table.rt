@@ -14,8 +14,10 @@
 //! - `failing_after CALLS`: the fault of a book whose reader fails after so many calls, and whether the source says so;
 //!   `line_failing_after CALLS`: the line of that fault;
 //! - `cells_of ROWS`: the cells that it declares; `sent ROWS`: these, the message that its session sends first, and
-//!   what follows that; `session PART PARTS STEP ..`: what the steps of a session give, as sessions.rt says.
+//!   what follows that; `session PART PARTS STEP ..`: what the steps of a session give, as sessions.rt says; and
+//!   `goes PART PARTS STEP ..`, as going.rt says.
 
+use crate::going::tell_going;
 use crate::long_books::{END, long_book};
 use crate::reading::{Outcome, add_rows, book_of, outcome_of};
 use crate::sessions::{tell_cells, tell_session};
@@ -68,7 +70,7 @@ fn octets_of(alloc: Global, given: &Given, verb: &str, rest: &str) -> Result<Vec
     match verb {
         "line_feeds" | "line_feeds_left" => octets.resize(rest.parse::<usize>()?, b'\n')?,
         "long_book" => octets.extend_from_slice(long_book(alloc, 2, END, rest)?.as_bytes())?,
-        "session" | "failing_after" | "line_failing_after" => octets.extend_from_slice(
+        "session" | "goes" | "failing_after" | "line_failing_after" => octets.extend_from_slice(
             &given.before,
         )?,
         _ => {
@@ -105,6 +107,9 @@ fn tell_book(
     if verb == "session" {
         return tell_session(alloc, told, book, &mut Words::of(steps));
     }
+    if verb == "goes" {
+        return tell_going(alloc, told, book, &mut Words::of(steps));
+    }
     tell_cells(told, book.cells())?;
     if verb == "sent" {
         return tell_session(alloc, told, book, &mut Words::of("0 1 - -"));
@@ -127,7 +132,7 @@ fn carry_out<T: AllocGlobal + Threads + Sync>(
     };
     let octets = octets_of(rt.alloc(), given, verb, rest)?;
     match verb {
-        "cells_of" | "sent" | "session" => {
+        "cells_of" | "sent" | "session" | "goes" => {
             let book = book_of(rt, &octets, given.most)?;
             let result = tell_book(rt.alloc(), told, verb, rest, &book);
             drop(book);

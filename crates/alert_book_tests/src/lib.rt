@@ -1,11 +1,13 @@
 //! Tests of `alert_book` by its public calls, most of them as tables of lines: books with the line of each fault,
-//! sessions, books whose many texts several threads pack, and refused memory.
+//! sessions by octets and without them, books whose many texts several threads pack, and refused memory.
 #![tactic(auto)]
 
 #[cfg(test)]
 mod books;
 #[cfg(test)]
 mod books_table;
+#[cfg(test)]
+mod going;
 #[cfg(test)]
 mod long_books;
 #[cfg(test)]

@@ -1,23 +1,21 @@
 -- How the exchanges of a session go on: by one more turn, exactly where the notes are of that turn.
 use Rattle.std.proofs.Common.{◌≡◌, ◌↔◌, ℕ, List, [], ◌∷◌, ◌++◌, map}
-use Rattle.std.proofs.Common.{All, Option, Some, None, Ok, Err, Result, refl, sym, subst, ap, ◌∙◌, Vec}
-use Rattle.std.specs.Global.{Global}
+use Rattle.std.proofs.Common.{All, Some, None, Ok, refl, sym, subst, ap, ◌∙◌}
 use Rattle.std.specs.List.{AllZip}
 use Rattle.std.proofs.lemmas.List.Elements.{All-cons, All-from_recursion, All-head, All-nil, All-tail}
 use Rattle.std.proofs.lemmas.List.Elements.{recursion_from_All}
 use Rattle.std.proofs.lemmas.Option.{same_Some}
 use Rattle.cbsp_wire.specs.declared.message.Cell.{Cell}
 use Rattle.cbsp_wire.specs.declared.message.Message.{Message}
-use Rattle.cbsp_wire.specs.Laws.{OneMeaning}
+use Rattle.alert_book.specs.declared.session.outcome.Outcome.{Outcome}
 use Rattle.alert_book.specs.declared.session.request.Request.{Request}
 use Rattle.alert_book.specs.Book.{Contents}
-use Rattle.alert_book.specs.Session.{after_reply, GivesRequest, IsGiven, Standing}
+use Rattle.alert_book.specs.Session.{after_reply, Standing}
 use Rattle.alert_book.specs.Turns.{begun, GoesTo}
 use Rattle.bsc_table.specs.declared.command.Command.{Command}
 use Rattle.bsc_table.specs.Orders.{order_of}
 use Rattle.bsc_table.specs.Record.{Record}
 use Rattle.order_desk.specs.declared.note.Note.{Note}
-use Rattle.order_desk.specs.Desk.{IsOrderOf}
 use Rattle.order_desk.specs.Reply.{cells_answered, reply_message}
 use Rattle.book_runs.specs.Run.{Exchange, IsExchange}
 use Rattle.book_runs.specs.Sessions.{IsNoteOf, IsSessionOf, asks_in, asks_of}
@@ -25,6 +23,7 @@ use Rattle.session_check.specs.NotedSteps.{AreAnswersNoted, cells_of, commands_i
 use Rattle.session_check.specs.ReplaySteps.{GoesOnBy, IsNoTurn, IsTurnNoted}
 use Rattle.session_check.proofs.Noted.{IsForeignUnknown, all_noted_one, asks_of_noted, foreign_of_noted, noted_of_asks}
 use Rattle.session_check.proofs.Noted.{some_none}
+use Rattle.session_check.proofs.OrderSays.{orders_are_one}
 
 -- a fact of two lists, place by place, in two parts
 zip_append : {X Y : Type 0} (R : X → Y → Type 0) (xs more : List X) (ys others : List Y)
@@ -44,36 +43,6 @@ zip_parts R (x ∷ xs) more [] zip = absurd zip
 zip_parts R (x ∷ xs) more (y ∷ all) zip =
     let rest = zip_parts R xs more all zip.1 in
     (y ∷ rest.0, rest.1, ap (λ (ys : List _). y ∷ ys) rest.2, (zip.0, rest.3), rest.4)
-
--- the request to which a given message belongs
-pub sent_is : (sent : Option Request) (given : ℕ × Vec ℕ Global) → IsGiven sent (Some given)
-    → (request : Request) × (sent ≡ Some request) × GivesRequest request given.0 given.1.items
-sent_is None given is = absurd is
-sent_is (Some request) given is = (request, refl, is)
-
--- two orders of one message are one
-order_or : (List Cell × Command) → Result (List Cell × Command) ℕ → List Cell × Command
-order_or other (Ok order) = order
-order_or other (Err cause) = other
-
-one_order : (r : Result (List Cell × Command) ℕ) (cells named : List Cell) (command asked : Command)
-    → r ≡ Ok (named, asked)
-    → r ≡ Ok (cells, command)
-    → (named ≡ cells) × (asked ≡ command)
-unfolding order_or
-one_order r cells named command asked first then =
-    let h = sym first ∙ then in (
-      ap (λ (x : Result (List Cell × Command) ℕ). (order_or (named, asked) x).0) h,
-      ap (λ (x : Result (List Cell × Command) ℕ). (order_or (named, asked) x).1) h,
-    )
-
-pub orders_are_one : OneMeaning → (octets : List ℕ) (cells named : List Cell) (command asked : Command)
-    → IsOrderOf octets cells command
-    → IsOrderOf octets named asked
-    → (cells ≡ named) × (command ≡ asked)
-orders_are_one meaning octets cells named command asked one other =
-    one_order (order_of one.message) named cells asked command one.ordered
-    (ap order_of (meaning octets one.message other.message one.meant other.meant) ∙ other.ordered)
 
 -- a session that has a request goes on to its end by the exchange of that request, and then from the standing after it
 pub record GoesOnByOne (records : List Record) (from : Standing) (request : Request) (given : List Note) : Type 0 where
@@ -124,56 +93,45 @@ goes_on_by_one records from request given sent by =
     first_turn records from by.reached request given by.exchanges sent by.gone by.over by.exchanged by.noted
 
 -- what was noted of a turn that a session takes next: its order, with its answers
-one_is_order : (records : List Record) (from : Standing) (request : Request) (at : ℕ) (octets : List ℕ)
-    (given : List Note)
-    → GivesRequest request at octets
+one_is_order : (records : List Record) (from : Standing) (request : Request) (given : List Note)
     → (one : GoesOnByOne records from request given)
-    → IsOrderOf octets (cells_answered one.x.answers) one.x.command
-one_is_order records from request at octets given gives one = record {
-  message = request.message;
-  meant = gives.meant;
-  ordered = ap (λ (r : Request). order_of r.message) one.same ∙ one.is_exchange.asked;
-}
+    → order_of request.message ≡ Ok (cells_answered one.x.answers, one.x.command)
+one_is_order records from request given one =
+    ap (λ (r : Request). order_of r.message) one.same ∙ one.is_exchange.asked
 
-one_at : (records : List Record) (from : Standing) (request : Request) (at : ℕ) (octets : List ℕ)
-    (given : List Note)
-    → GivesRequest request at octets
+one_at : (records : List Record) (from : Standing) (request : Request) (given : List Note)
     → (one : GoesOnByOne records from request given)
-    → AreAnswersNoted records at one.x.command one.x.answers given one.left
-one_at records from request at octets given gives one =
+    → AreAnswersNoted records request.at one.x.command one.x.answers given one.left
+one_at records from request given one =
     subst (λ n. AreAnswersNoted records n one.x.command one.x.answers given one.left)
-    (sym (gives.slot ∙ ap (λ (r : Request). r.at) one.same)) one.noted
+    (sym (ap (λ (r : Request). r.at) one.same)) one.noted
 
 -- where the notes are of no such turn, the session doesn't go on by them
-pub goes_no_further : (records : List Record) (from : Standing) (given : ℕ × Vec ℕ Global) (before : List Note)
-    → IsGiven from.sent (Some given)
-    → IsNoTurn records given.0 given.1.items before
+pub goes_no_further : (records : List Record) (from : Standing) (request : Request) (before : List Note)
+    → from.sent ≡ Some request
+    → IsNoTurn records request before
     → GoesOnBy records from before
     → ⊥
-goes_no_further records from given before is nothing by =
-    let sent = sent_is from.sent given is in
-    let one = goes_on_by_one records from sent.0 before sent.1 by in
-    nothing one.x.command one.x.answers one.left
-    (one_is_order records from sent.0 given.0 given.1.items before sent.2 one)
-    (one_at records from sent.0 given.0 given.1.items before sent.2 one)
+goes_no_further records from request before sent nothing by =
+    let one = goes_on_by_one records from request before sent by in
+    nothing one.x.command one.x.answers one.left (one_is_order records from request before one)
+    (one_at records from request before one)
 
 -- where they are of the turn, it goes on after it by what is left
-pub goes_after : OneMeaning → (records : List Record) (from : Standing) (given : ℕ × Vec ℕ Global)
-    (octets : List ℕ) (before left : List Note)
-    → IsGiven from.sent (Some given)
-    → (turn : IsTurnNoted records given.0 given.1.items octets before left)
+pub goes_after : (records : List Record) (from : Standing) (request : Request) (said : Outcome)
+    (before left : List Note)
+    → from.sent ≡ Some request
+    → (turn : IsTurnNoted records request said before left)
     → GoesOnBy records from before
     → GoesOnBy records (after_reply (Some (reply_message turn.command turn.answers)) from) left
-goes_after meaning records from given octets before left is turn by =
-    let sent = sent_is from.sent given is in
-    let one = goes_on_by_one records from sent.0 before sent.1 by in
+goes_after records from request said before left sent turn by =
+    let one = goes_on_by_one records from request before sent by in
     let x = one.x in
-    let order = one_is_order records from sent.0 given.0 given.1.items before sent.2 one in
-    let same = orders_are_one meaning given.1.items (cells_answered turn.answers) (cells_answered x.answers)
-    turn.command x.command turn.order order in
-    let answered = all_noted_one records given.0 x.command turn.answers x.answers before left one.left
-    (subst (λ (c : Command). AreAnswersNoted records given.0 c turn.answers before left) same.1 turn.noted)
-    (one_at records from sent.0 given.0 given.1.items before sent.2 one) same.0 in
+    let same = orders_are_one request.message (cells_answered turn.answers) (cells_answered x.answers) turn.command
+    x.command turn.order (one_is_order records from request before one) in
+    let answered = all_noted_one records request.at x.command turn.answers x.answers before left one.left
+    (subst (λ (c : Command). AreAnswersNoted records request.at c turn.answers before left) same.1 turn.noted)
+    (one_at records from request before one) same.0 in
     let reply : x.turn.reply ≡ reply_message turn.command turn.answers =
     one.is_exchange.replied ∙ ap (λ (c : Command). reply_message c x.answers) (sym same.1)
     ∙ ap (reply_message turn.command) (sym answered.0) in
@@ -182,41 +140,33 @@ goes_after meaning records from given octets before left is turn by =
     (subst (λ (m : Message). GoesOnBy records (after_reply (Some m) from) one.left) reply one.goes_on)
 
 -- and the other way round
-pub goes_before : OneMeaning → (records : List Record) (from : Standing) (given : ℕ × Vec ℕ Global)
-    (octets : List ℕ) (before left : List Note)
-    → IsGiven from.sent (Some given)
-    → (turn : IsTurnNoted records given.0 given.1.items octets before left)
+pub goes_before : (records : List Record) (from : Standing) (request : Request) (said : Outcome)
+    (before left : List Note)
+    → from.sent ≡ Some request
+    → (turn : IsTurnNoted records request said before left)
     → GoesOnBy records (after_reply (Some (reply_message turn.command turn.answers)) from) left
     → GoesOnBy records from before
-goes_before meaning records from given octets before left is turn by =
+goes_before records from request said before left sent turn by =
     let cells = cells_of records in
-    let sent = sent_is from.sent given is in
-    let request = sent.0 in
-    let said = reply_message turn.command turn.answers in
     let x : Exchange = record {
-      turn = record { request = request; reply = said };
+      turn = record { request = request; reply = reply_message turn.command turn.answers };
       command = turn.command;
       answers = turn.answers;
     } in
-    let message = meaning given.1.items request.message turn.order.message sent.2.meant turn.order.meant in
-    let asks = asks_of_noted records given.0 turn.command turn.answers before left turn.noted in
-    let own : AllZip (IsNoteOf records) (asks_in cells x) asks.0 =
-    subst (λ n. AllZip (IsNoteOf records) (asks_in cells (record x {
-      turn = record { request = record request { at = n }; reply = said };
-    })) asks.0) sent.2.slot asks.2 in
+    let asks = asks_of_noted records request.at turn.command turn.answers before left turn.noted in
     let is_exchange : IsExchange cells x = record {
-      asked = ap order_of message ∙ turn.order.ordered;
+      asked = turn.order;
       replied = refl;
       foreign = All-from_recursion (IsForeignUnknown cells) turn.answers
-          (foreign_of_noted records given.0 turn.command turn.answers before left turn.noted);
+          (foreign_of_noted records request.at turn.command turn.answers before left turn.noted);
     } in record {
       exchanges = x ∷ by.exchanges;
       reached = by.reached;
-      gone = (sent.1, by.gone);
+      gone = (sent, by.gone);
       over = by.over;
       exchanged = All-cons (IsExchange cells) x by.exchanges is_exchange by.exchanged;
       noted = subst (AllZip (IsNoteOf records) (asks_in cells x ++ asks_of cells by.exchanges)) (sym asks.1)
-          (zip_append (IsNoteOf records) (asks_in cells x) (asks_of cells by.exchanges) asks.0 left own by.noted);
+          (zip_append (IsNoteOf records) (asks_in cells x) (asks_of cells by.exchanges) asks.0 left asks.2 by.noted);
     }
 
 -- where a session has no request, it goes on by no notes alone
@@ -230,23 +180,19 @@ no_asks records from reached (note ∷ given) [] over gone noted = absurd noted
 no_asks records from reached given (x ∷ later) over gone noted =
     absurd (some_none x.turn.request (sym gone.0 ∙ over))
 
-no_request : (sent : Option Request) → IsGiven sent None → sent ≡ None
-no_request None is = refl
-no_request (Some request) is = absurd is
-
 pub ends_by : (records : List Record) (from : Standing) (given : List Note)
-    → IsGiven from.sent None
+    → from.sent ≡ None
     → (given ≡ []) ↔ GoesOnBy records from given
 ends_by records from given is = (
   λ none. subst (GoesOnBy records from) (sym none) (record {
     exchanges = [];
     reached = from;
     gone = refl;
-    over = no_request from.sent is;
+    over = is;
     exchanged = All-nil (IsExchange (cells_of records));
     noted = tt;
   }),
-  λ by. no_asks records from by.reached given by.exchanges (no_request from.sent is) by.gone by.noted,
+  λ by. no_asks records from by.reached given by.exchanges is by.gone by.noted,
 )
 
 -- a pass is a session's exactly where the session goes on by its notes of commands from its beginning

@@ -7,6 +7,7 @@
 
 mod answers;
 mod notes;
+mod said;
 mod session;
 pub mod sessions;
 

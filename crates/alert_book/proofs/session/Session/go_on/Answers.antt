@@ -1,0 +1,38 @@
+use Rattle.std.proofs.Common.{◌≡◌, Option, refl, sym, subst}
+use Rattle.alert_book.specs.AdvancingSteps.{due_with, HasAdvanced}
+use Rattle.alert_book.specs.declared.session.outcome.Outcome.{Outcome}
+use Rattle.alert_book.specs.Session.{due_requests, outcome_in}
+use Rattle.alert_book.specs.SessionSteps.{live_with}
+use Rattle.alert_book.specs.Stands.{left_in, Advances, SessionState}
+use Rattle.alert_book.proofs.StandsLaws.{due_same, has_advanced}
+use Rattle.alert_book.proofs.session.Session.go_on.Goals as goal
+
+pub returns-clause-next : goal.returns-clause-next
+returns-clause-next c = λ reply says.
+    let s = c.self.inside in
+    let old : SessionState = record {
+      versions = s.versions;
+      sent = s.sent;
+      row = s.row;
+      due = s.due.items;
+      book = s.book.now;
+      part = s.part;
+      parts = s.parts;
+      place = s.place;
+    } in
+    let said = c.args.said in
+    let found = c.in_ok-found.found in
+    let same = subst (λ (x : SessionState). said ≡ outcome_in x.sent reply) (sym c.self.view_is) says in
+    let due : due_requests (live_with old.versions old.sent (outcome_in old.sent reply)) old.due (left_in old) ≡
+    due_with old found =
+    subst (λ (outcome : Option Outcome). due_requests (live_with old.versions old.sent outcome) old.due (left_in old) ≡
+    due_with old found) same
+    (subst (λ (x : SessionState). due_requests (live_with x.versions x.sent said) x.due (left_in x) ≡ due_with x found)
+    (sym c.self.view_is) c.in_ok-found.ensures) in
+    subst (λ (x : SessionState). Advances reply x c.advance.new.self) c.self.view_is
+    (has_advanced old (record old { versions = c.make_places_if.new.versions }) c.advance.new.self reply
+    (due_with old found) c.make_places_if.ensures.keeps refl refl due
+    (subst (λ (outcome : Option Outcome). HasAdvanced (record old { versions = c.make_places_if.new.versions })
+    c.advance.new.self outcome (due_with old found)) same
+    (subst (HasAdvanced (record old { versions = c.make_places_if.new.versions }) c.advance.new.self said)
+    (due_same old c.make_places_if.new.versions found) c.advance.ensures)))
