@@ -54,10 +54,12 @@ fn octets_are_counted(rt: HostRuntime) {
 fn errors_pass(rt: HostRuntime) {
     let written = AtomicU64::new(0);
     let progress = Progress::new(Screen { written: &written });
+    let mut counted = CountedWriter::new(&progress, Interrupted);
+    let mut ending = EndingWriter::new(&rt, &progress, Interrupted);
     let read = CountedReader::new(&progress, Interrupted).read(&mut [0; 4]);
-    let wrote = CountedWriter::new(&progress, Interrupted).write(b"warning");
-    let ended = EndingWriter::new(&rt, &progress, Interrupted).write(b"warning");
-    assert!(rt; is_interrupted(read) && is_interrupted(wrote) && is_interrupted(ended));
+    assert!(rt; is_interrupted(read));
+    assert!(rt; is_interrupted(counted.write(b"warning")) && is_interrupted(counted.flush()));
+    assert!(rt; is_interrupted(ending.write(b"warning")) && is_interrupted(ending.flush()));
 }
 
 #[test]
