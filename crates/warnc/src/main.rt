@@ -1,16 +1,35 @@
 //! `warnc`: cell broadcast warnings to the blocks that cells send, and back.
 #![tactic(auto)]
 
-ghost use Rattle.std.specs.Prelude.{◌≡◌, ◌⊎◌, IfErr};
+ghost use Rattle.std.specs.Prelude.{◌≡◌, ◌≤◌, ◌⊎◌, map, IfErr};
+ghost use Rattle.warnc_cli.specs.Status.{RefusesInput};
 
-use std::io::Write;
+use progress::{CountedReader, CountedWriter, EndingWriter, Progress, watched};
+use std::alloc::AllocGlobal;
+use std::convert::AsStr;
+use std::io::{IsTerminal, Read, Write};
 use std::process::ExitCode;
+use std::sync::Wait;
+use std::thread::Threads;
+use std::time::Clock;
 use std::{env, io};
 use warnc_cli::run::run;
-use warnc_cli::status::{MEMORY, USAGE};
+use warnc_cli::status::{MEMORY, REFUSED_INPUT, USAGE};
 
 fn main(rt: HostRuntime) -> ExitCode {
     let status = match words_of(&rt) {
+        Ok(words) if shows_progress(&rt) => {
+            let words = words.as_slice();
+            let progress = Progress::new(rt.stderr());
+            let mut faults = EndingWriter::new(&rt, &progress, rt.stderr());
+            if rt.stdout().is_terminal() {
+                let mut writer = EndingWriter::new(&rt, &progress, rt.stdout());
+                run_watched(&rt, words, &progress, rt.stdin(), &mut writer, &mut faults)
+            } else {
+                let mut writer = CountedWriter::new(&progress, rt.stdout());
+                run_watched(&rt, words, &progress, rt.stdin(), &mut writer, &mut faults)
+            }
+        }
         Ok(words) => run(
             &rt,
             words.as_slice(),
@@ -21,6 +40,27 @@ fn main(rt: HostRuntime) -> ExitCode {
         Err(status) => status,
     };
     ExitCode::from(status)
+}
+
+/// Whether progress is drawn: standard error is a terminal, and standard input isn't one, where somebody types.
+fn shows_progress(rt: &HostRuntime) -> bool {
+    rt.stderr().is_terminal() && !rt.stdin().is_terminal()
+}
+
+/// Does what [`run`] does, while a thread of its own draws the progress.
+fn run_watched<
+    S: AsStr,
+    T: AllocGlobal + Threads + Wait + Clock + Sync,
+    E: Write + Send,
+    R: Read + Drop,
+    W: Write,
+    F: Write,
+>(rt: &T, words: &[S], progress: &Progress<E>, reader: R, writer: &mut W, faults: &mut F) -> u8
+    ensures refused { result ≡ REFUSED_INPUT → RefusesInput (map S.text words.now) (R.remaining reader) }
+    ensures statuses { result ≤ 4 }
+{
+    let mut reader = CountedReader::new(progress, reader);
+    watched(rt, progress, || run(rt, words, &mut reader, writer, faults))
 }
 
 /// The words of the process, or the status if they can't be had.
