@@ -68,7 +68,7 @@ fn is_kill_of(id: u16, old: Serial, message: &Message) -> bool
 fn cells_counted(alloc: Global, completed: &[Count]) -> Result<Cells, Refused>
     ensures { IfOk result (λ cells. cells ≡ cells_counted completed.now) }
 {
-    let mut list = Vec::new(alloc);
+    let mut list = Vec::with_capacity(alloc, completed.len())?;
     for count in completed {
         list.push(count.cell)?;
     }

@@ -154,7 +154,7 @@ fn cells_if_marked(
 fn cells_with(alloc: Global, found: &[CellVersion], version: u8) -> Result<Cells, Refused>
     ensures { IfOk result (λ cells. cells ≡ cells_found version found.now) }
 {
-    let mut list = Vec::new(alloc);
+    let mut list = Vec::with_capacity(alloc, found.len())?;
     for one in found {
         if is_version(version, one.version) {
             list.push(one.cell)?;
