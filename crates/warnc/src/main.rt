@@ -1,8 +1,7 @@
 //! `warnc`: cell broadcast warnings to the blocks that cells send, and back.
 #![tactic(auto)]
 
-ghost use Rattle.std.specs.Prelude.{◌≡◌, ◌≤◌, ◌⊎◌, map, IfErr};
-ghost use Rattle.warnc_cli.specs.Status.{RefusesInput};
+ghost use Rattle.std.specs.Prelude.{◌≡◌, ◌≤◌, ◌⊎◌, IfErr};
 
 use progress::{CountedReader, CountedWriter, EndingWriter, Progress, watched};
 use std::alloc::AllocGlobal;
@@ -14,7 +13,7 @@ use std::thread::Threads;
 use std::time::Clock;
 use std::{env, io};
 use warnc_cli::run::run;
-use warnc_cli::status::{MEMORY, REFUSED_INPUT, USAGE};
+use warnc_cli::status::{MEMORY, USAGE};
 
 fn main(rt: HostRuntime) -> ExitCode {
     let status = match words_of(&rt) {
@@ -56,8 +55,7 @@ fn run_watched<
     W: Write,
     F: Write,
 >(rt: &T, words: &[S], progress: &Progress<E>, reader: R, writer: &mut W, faults: &mut F) -> u8
-    ensures refused { result ≡ REFUSED_INPUT → RefusesInput (map S.text words.now) (R.remaining reader) }
-    ensures statuses { result ≤ 4 }
+    ensures { result ≤ 4 }
 {
     let mut reader = CountedReader::new(progress, reader);
     watched(rt, progress, || run(rt, words, &mut reader, writer, faults))
