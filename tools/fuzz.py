@@ -1,5 +1,5 @@
 #!/usr/bin/env python3
-"""Runs warnc on mutated books, tapes, texts and command lines, and reports what breaks a promise of docs/formats.md.
+"""Runs warnc on mutated books, tapes, captures, texts and command lines, and reports what breaks a promise of docs/formats.md.
 
 Usage: fuzz.py [--minutes M] [--seed N] [--jobs J] [--warnc PROGRAM] [--keep FOLDER]
        fuzz.py --replay FILE [--shrink] [--warnc PROGRAM]
@@ -12,20 +12,24 @@ Each finding has a folder with the input, the words, and what came out; of one k
 that has it too. The same --seed gives the same inputs in the same order; only how many of them are tried depends on
 the time and the machine.
 
-Inputs come from the seeds in tools/fuzz/ and from makers of whole books, tapes and texts. They are mutated by grammar
-(rows, columns, numbers, languages, characters, quotes, slots, blocks) and by octet (flip, insert, delete, cut, splice).
+Inputs come from the seeds in tools/fuzz/ and from makers of whole books, tapes, captures and texts. They are mutated by
+grammar (rows, columns, numbers, languages, characters, quotes, slots, blocks, packets) and by octet (flip, insert,
+delete, cut, splice).
 The first inputs are the seeds as they stand.
 
 A finding is one of these:
 - a status that isn't 0 to 4, or that nothing in the run can give: 2 with good words, 3 with sound devices, 4 with ample
   memory; a fault of `compile`, `live` or `report` of which docs/formats.md says that no run is known that has it;
 - a signal, or a run that is past its bound of time twice;
-- octets on standard output with status 1, 2 or 4, or with `read failed`; with status 0 other output than the command's;
+- octets on standard output with status 1 (but for the differences of `verify`), 2 or 4, or with `read failed`; with
+  status 0 other output than the command's;
   with `write failed` anything but a front of the output;
 - a fault line that is missing, is not alone or has another form; anything on standard error with status 0;
 - two answers that should be one: of the same input twice; with 1 worker and with several; of `live` with one session
   and `compile`; of an input that comes in pieces; with little memory, unless it is `out of memory`;
-- tapes of `compile` or `live` that `read` refuses, or a text of `page` that isn't shown as it was given.
+- tapes of `compile` or `live` that `read` refuses, or in which `verify` finds a difference from their book, in any
+  order; another fault of tapes in `verify` or `pcap` than in `read`; a number of differences that isn't that of rows;
+- a tape that isn't the same again after `pcap` and `tape`, or a text of `page` that isn't shown as it was given.
 
 Memory is bounded by RLIMIT_AS. It is ample with 1 GiB and 80 MiB for each thread (a stack of 8 MiB, and 64 MiB that the
 C library sets aside for the thread's blocks). A tight bound lies up to 96 MiB above the least at which the program
@@ -42,6 +46,7 @@ import argparse
 import csv
 import dataclasses
 import fcntl
+import html.parser
 import io
 import json
 import multiprocessing
@@ -58,11 +63,15 @@ import tempfile
 import termios
 import time
 
+import capture_reference
+
 TOP = os.path.dirname(os.path.dirname(os.path.realpath(__file__)))
 PROGRAM = os.path.join(TOP, "crates", "warnc", "out", "warnc")
 SEEDS = os.path.join(TOP, "tools", "fuzz")
-COMMANDS = ("page", "read", "compile", "live", "report")
-OF_BOOKS = ("compile", "live", "report")
+COMMANDS = ("page", "read", "compile", "live", "report", "chart", "verify", "pcap", "tape")
+OF_BOOKS = ("compile", "live", "report", "chart")
+# an option without which clap refuses a command
+NEEDED = {"page": "--lang", "tape": "--cell", "verify": "--slots", **dict.fromkeys(OF_BOOKS, "--slots")}
 MEBI = 1 << 20
 # seconds that a run may take
 BOUND = 20
@@ -101,8 +110,13 @@ ODD_NUMBERS = (b"", b"-1", b"+1", b" 1", b"1 ", b"00001", b"000001", b"99999", b
 TEXT_FAULT = r"unknown language|text is empty|bad character at \d+|too many pages"
 ROW_FAULT = (r"row 0: too many rows|row [1-9]\d*: (?:columns|verb|number|unknown cell|named twice|unknown name"
              rf"|too many updates|too many rows|{TEXT_FAULT})")
-FAULTS = {"page": TEXT_FAULT + "|text is not UTF-8|text is too long", "read": "tape is short|tape is long",
-          **dict.fromkeys(OF_BOOKS, ROW_FAULT)}
+TAPE_FAULT = "tape is short|tape is long"
+FAULTS = {"page": TEXT_FAULT + "|text is not UTF-8|text is too long", "read": TAPE_FAULT, "pcap": TAPE_FAULT,
+          "tape": r"not a capture file|unknown link type|packet [1-9]\d*: (?:capture is short|block differs|steps back)",
+          "verify": rf"{ROW_FAULT}|{TAPE_FAULT}|book is short|differences: [1-9]\d*", **dict.fromkeys(OF_BOOKS, ROW_FAULT)}
+DIFFERENCE = re.compile(
+    rb"\d+,\d+,(?:,,,(?:no tape|other slots|second tape|unknown cell)|\d+,[0-9a-f]{4},\d+,(?:page (?:[1-9]|1[0-5]) reads otherwise"
+    rb"|before its start|after its stop|after its last broadcast|broadcast \d+ not whole|not ordered))")
 REPORT_ROW = re.compile(rb"\d+,\d+,\d+,[0-9a-f]{4},\d+,\d+,\d+,(?:yes|no|refused [0-9a-f]{2})")
 
 
@@ -357,6 +371,47 @@ def is_table(out):
         len(row) == 5 and re.fullmatch(r"\d+,\d+,\d+,[0-9a-f]{4}", ",".join(row[:4])) for row in rows[1:])
 
 
+class Page(html.parser.HTMLParser):
+    """A page in HTML, as far as it is well-formed: its open elements, and whether one was closed that isn't the last."""
+
+    VOID = ("meta", "link", "br", "hr", "img", "input")
+
+    def __init__(self):
+        super().__init__()
+        self.open = []
+        self.is_right = True
+
+    def handle_starttag(self, tag, attrs):
+        self.is_right &= tag != "script" and not any(name.startswith("on") or name in ("src", "href") for name, _ in attrs)
+        if tag not in self.VOID:
+            self.open.append(tag)
+
+    def handle_startendtag(self, tag, attrs):
+        self.is_right &= tag != "script"
+
+    def handle_endtag(self, tag):
+        self.is_right &= bool(self.open) and self.open.pop() == tag
+
+
+def is_chart(out):
+    """Whether an output is that of `chart`: a page whose elements are closed in order, with nothing that runs or loads."""
+    page = Page()
+    page.feed(out.decode(errors="replace"))
+    return out.startswith(b"<!DOCTYPE html>\n") and out.endswith(b"</html>\n") and page.is_right and not page.open
+
+
+def differences_in(out):
+    """Returns how many rows of differences an output has, or None if it isn't a table of them."""
+    rows = out.split(b"\n")
+    is_right = rows[0] == b"lac,ci,id,serial,slot,difference" and rows[-1] == b"" and len(rows) > 1
+    return len(rows) - 2 if is_right and all(DIFFERENCE.fullmatch(row) for row in rows[1:-1]) else None
+
+
+def is_capture(out):
+    """Whether an output is a capture file, of packets of one block each."""
+    return out[:4] == b"\xd4\xc3\xb2\xa1" and (len(out) - 24) % (16 + 67) == 0
+
+
 def is_shown(run, out):
     """Whether an output is that of `page`: 4 to 60 blocks, and the text that was given."""
     text = run.data.removesuffix(b"\n")
@@ -371,10 +426,10 @@ def is_output(run, out):
     """Whether an output has the form of the command's."""
     if run.wanted == "text":
         return bool(out)
-    command = run.command()
-    if command == "page":
-        return is_shown(run, out)
-    return is_table(out) if command == "read" else is_report(out) if command == "report" else is_tapes(run, out)
+    forms = {"page": lambda: is_shown(run, out), "read": lambda: is_table(out), "report": lambda: is_report(out),
+             "chart": lambda: is_chart(out), "verify": lambda: differences_in(out) == 0, "pcap": lambda: is_capture(out),
+             "tape": lambda: is_tapes(run, out) or len(out) == 8 + 92 * run.number("--slots", 0)}
+    return forms.get(run.command(), lambda: is_tapes(run, out))()
 
 
 def statuses_of(run):
@@ -390,7 +445,8 @@ def statuses_of(run):
 def line_fault(run, ran):
     """Returns what is wrong with standard error, or None."""
     if ran.status == 2:
-        right = ran.err.startswith((b"error: ", b"warnc: words are not UTF-8\n")) or not run.words and ran.err
+        fronts = b"error: ", b"warnc: words are not UTF-8\n", b"warnc: no such cell or address\n"
+        right = ran.err.startswith(fronts) or not run.words and ran.err
     else:
         reader = "read failed" if run.reader in ("folder", "shut") else "write failed"
         texts = {0: None, 1: FAULTS.get(run.command(), "[]"), 3: reader, 4: "out of memory"}
@@ -403,6 +459,10 @@ def output_fault(run, ran):
     """Returns what is wrong with standard output, or None."""
     if ran.status == 0 and run.writer == "pipe" and not is_output(run, ran.out):
         return "the output of status {0} has another form"
+    if ran.status == 1 and run.command() == "verify" and ran.out:
+        count = differences_in(ran.out) if run.writer == "pipe" else 1
+        right = count and (run.faults != "pipe" or run.writer != "pipe" or ran.err == b"warnc: differences: %d\n" % count)
+        return None if right else "the rows of differences have another form or number"
     if (ran.status in (1, 2, 4) or run.reader in ("folder", "shut")) and ran.out:
         return "there is an output with status {0}"
     return None
@@ -478,7 +538,7 @@ def plain(run, command, *words):
 
 
 def check_workers(checked, case):
-    """`compile` and `report` don't depend on the number of workers, nor does `live` with one session."""
+    """`compile`, `report` and `chart` don't depend on the number of workers, nor does `live` with one session."""
     for command in OF_BOOKS:
         one = checked.run(plain(case.run, command))
         other = plain(case.run, command, "--workers", str(case.size))
@@ -502,7 +562,7 @@ def check_tapes(checked, case):
     shown = None
     for run in (plain(case.run, "compile"), case.run):
         tapes = checked.run(run)
-        if tapes.status == 0 and run.command() != "report":
+        if tapes.status == 0 and run.command() in ("compile", "live"):
             other = Run(["read"], tapes.out)
             table = checked.run(other)
             checked.expect(table.status == 0, other, table, "read refuses tapes that were written")
@@ -527,6 +587,48 @@ def check_round(checked, case):
         table = checked.run(other)
         said = ["1", "2"] + one.out.split(b"\n", len(blocks))[-1].decode()[:-1].split(" ", 2)
         checked.expect(table_in(table.out)[1:] == [said], other, table, "read shows another text than page")
+
+
+def check_verify(checked, case):
+    """`verify` finds nothing in a book's own tapes, in any order, and in spoilt ones what `read` refuses, or rows."""
+    tapes, book = checked.run(plain(case.run, "compile")), case.run.data
+    if tapes.status != 0:
+        return
+    chance = random.Random(case.number)
+    each = tapes_of(tapes.out)
+    chance.shuffle(each)
+    words = "--book-octets", str(len(book)), "--workers", str(case.size)
+    own = plain(case.run, "verify", *words).but(data=book + joined(each))
+    ran = checked.run(own)
+    checked.expect(ran.status == 0, own, ran, f"verify finds differences in a book's own tapes: {ran.said()}")
+    spoilt = joined(change_tapes(chance, each))
+    if chance.random() < 0.2:
+        spoilt = change_octets(chance, spoilt, [tapes.out])
+    refused_alike(checked, own.but(data=book + spoilt), spoilt)
+
+
+def refused_alike(checked, run, tapes):
+    """Runs what reads tapes too, and expects that it refuses them with the same line as `read`, or doesn't as `read`."""
+    other = Run(["read"], tapes)
+    shown, ran = checked.run(other), checked.run(run)
+    right = ran.err == shown.err if shown.status == 1 else ran.status == 0 or ran.err.startswith(b"warnc: differences: ")
+    checked.expect(right, run, ran, f"another fault of tapes than read: {shown.said()} and {ran.said()}")
+    return ran
+
+
+def check_captures(checked, case):
+    """A capture of tapes has each tape of a cell of its own again; `pcap` refuses what `read` refuses."""
+    words = "--channel", str(case.size)
+    capture = refused_alike(checked, Run(["pcap", *words], case.run.data), case.run.data)
+    tapes = tapes_of(case.run.data) if capture.status == 0 else []
+    for cell, count, slots in tapes[:3]:
+        if count and [it[0] for it in tapes].count(cell) == 1:
+            lac, ci = int.from_bytes(cell[:2]), int.from_bytes(cell[2:])
+            source = ".".join(str(octet) for octet in cell)
+            other = Run(["tape", "--cell", f"{lac}-{ci}", "--slots", str(count), "--from", source], capture.out)
+            ran = checked.run(other)
+            right = ran.out == joined([[cell, count, slots]])
+            checked.expect(right, other, ran, f"a tape is another after pcap and tape: {ran.said()}")
 
 
 def check_tight(checked, case):
@@ -556,7 +658,7 @@ def check_devices(checked, case):
             right = ran.status in (3, one.status)
         else:
             fits = writer == "bounded" and len(one.out) <= case.size
-            right = ran.status == (3 if one.status == 0 and one.out and not fits else one.status)
+            right = ran.status == (3 if one.out and not fits else one.status)
         right = right and (is_chance(case.run) or one.out.startswith(ran.out))
         whole = {"left": min(case.size, len(one.out)), "bounded": min(case.size, len(one.out))}.get(writer, 0)
         right = right and len(ran.out) == whole
@@ -575,12 +677,13 @@ def check_words(checked, case):
 
 
 CHECKS = {it.__name__.removeprefix("check_"): it for it in (
-    check_twice, check_pieces, check_workers, check_sessions, check_tapes, check_round, check_tight, check_devices,
-    check_words)}
+    check_twice, check_pieces, check_workers, check_sessions, check_tapes, check_verify, check_captures, check_round,
+    check_tight, check_devices, check_words)}
 # how often each check is made of an input
 SHARES = {
-    "book": {"workers": 4, "sessions": 5, "tapes": 4, "tight": 4, "devices": 2, "pieces": 1, "twice": 2},
-    "tape": {"twice": 4, "tight": 2, "devices": 1, "pieces": 2},
+    "book": {"workers": 4, "sessions": 5, "tapes": 4, "verify": 4, "tight": 4, "devices": 2, "pieces": 1, "twice": 2},
+    "tape": {"twice": 4, "captures": 4, "tight": 2, "devices": 1, "pieces": 2},
+    "capture": {"twice": 3, "tight": 2, "devices": 1, "pieces": 1},
     "text": {"round": 5, "tight": 2, "devices": 1, "pieces": 1},
 }
 
@@ -921,8 +1024,25 @@ def change_slot(chance, tape, kind):
 
 def some_tapes(chance, seeds):
     tapes = make_tapes(chance) if chance.random() < 0.6 else tapes_of(chance.choice(seeds))
-    changed = change_tapes(chance, tapes)
-    return b"".join(cell + (count & 0xffffffff).to_bytes(4) + b"".join(slots) for cell, count, slots in changed)
+    return joined(change_tapes(chance, tapes))
+
+
+def joined(tapes):
+    """Returns the octets of tapes."""
+    return b"".join(cell + (count & 0xffffffff).to_bytes(4) + b"".join(slots) for cell, count, slots in tapes)
+
+
+# Captures: those of one random tape, as a network may give them, or of some tapes
+
+
+def some_capture(chance, seeds):
+    kind = chance.random()
+    if kind < 0.6:
+        slots = chance.choice((1, 2, 7, 40, 300))
+        return capture_reference.random_file(chance, capture_reference.random_tape(chance, slots))
+    if kind < 0.8:
+        return capture_reference.capture_of(joined(make_tapes(chance)[:64]), chance.random() < 0.5)
+    return chance.choice(seeds)
 
 
 def some_text(chance, seeds):
@@ -968,6 +1088,8 @@ def number_word(chance, low, high):
 
 
 def option(chance, name, value):
+    if value is None:
+        return [name]
     return [f"{name}={value}"] if chance.random() < 0.2 else [name, value]
 
 
@@ -1001,19 +1123,47 @@ def book_options(chance, command, book):
         options["--workers"] = threads_word(chance)
     if command == "live" and chance.random() < 0.8:
         options["--sessions"] = threads_word(chance)
+    if command == "chart" and chance.random() < 0.3:
+        options["--cell"] = cell_word(chance)
+    if command == "verify":
+        options["--book-octets"] = str(chance.choice((len(book), len(book), len(book) // 2, len(book) + 1, 0)))
+    return options
+
+
+def cell_word(chance):
+    return f"{number_word(chance, 0, 65535)}-{number_word(chance, 0, 65535)}" if chance.random() < 0.3 else "1-1"
+
+
+def capture_options(chance):
+    """Returns the options of `tape`."""
+    options = {"--cell": cell_word(chance), "--slots": str(chance.choice((1, 2, 7, 40, 300, 65535)))}
+    if chance.random() < 0.3:
+        options["--from"] = chance.choice(("0.1.0.1", "0.0.0.0", "255.255.255.255"))
+    return options
+
+
+def tape_options(chance, command):
+    """Returns the options of `read` and `pcap`."""
+    options = {}
+    if command == "pcap" and chance.random() < 0.5:
+        options["--used"] = None
+    if command == "pcap" and chance.random() < 0.5:
+        options["--channel"] = chance.choice(("51", "52"))
     return options
 
 
 def good_options(chance, command, data):
     if command == "page":
         return page_options(chance)
-    return {} if command == "read" else book_options(chance, command, data)
+    if command == "tape":
+        return capture_options(chance)
+    return tape_options(chance, command) if command in ("read", "pcap") else book_options(chance, command, data)
 
 
 def spoilt_words(chance, command, options):
     """Returns words that clap refuses."""
     limits = {"--id": 65536, "--scope": 4, "--code": 1024, "--update": 16, "--slots": 65536, "--workers": 65,
-              "--sessions": 65}
+              "--sessions": 65, "--book-octets": 16777217, "--channel": 53, "--cell": "1-65536", "--from": "1.2.3.256"}
     kind = chance.randrange(6)
     numbers = [name for name in options if name in limits]
     if kind == 0 and numbers:
@@ -1021,14 +1171,14 @@ def spoilt_words(chance, command, options):
         odd = str(limits[name]), "-1", "", "x", "1 ", " 1", "1.0", "0x1", "99999999999999999999", "١"
         options[name] = chance.choice(odd)
         return [command, *words_of(chance, options)]
-    if kind == 1 and command != "read":
-        options.pop("--lang" if command == "page" else "--slots")
+    if kind == 1 and command in NEEDED:
+        options.pop(NEEDED[command])
         return [command, *words_of(chance, options)]
     if kind == 2:
         return chance.choice(([], ["sell"], [""], ["Page"], ["--slots"], ["-x"], ["\udcff"], ["--", command]))
     words = [command, *words_of(chance, options)]
-    if kind == 3 and command != "read":
-        return words + words[1:3]
+    if kind == 3 and command in NEEDED:
+        return words + words[1:2 if "=" in words[1] else 3]
     place = chance.randint(1, len(words)) if kind == 4 else len(words)
     strange = "--no-such-option", "-x", "\udcff", "\udcc3", "--slots" if command == "page" else "--lang"
     return words[:place] + [chance.choice(strange)] + words[place:]
@@ -1057,16 +1207,18 @@ def read_seeds():
             with open(os.path.join(folder, name), "rb") as file:
                 octets = file.read()
             found[kind].append(bytes.fromhex(octets.decode()) if name.endswith(".hex") else octets)
+    chance = random.Random(0)
+    found["capture"] = [capture_reference.random_file(chance, capture_reference.random_tape(chance, 7)) for _ in range(4)]
     return found
 
 
 # how many workers or sessions, octets of a piece, or octets that a writer takes
 SIZES = {"workers": (2, 3, 4, 4, 64), "sessions": (2, 2, 3, 64), "pieces": (1, 2, 7, 64),
-         "devices": (1, 7, 8, 9, 92, 100, 192, 4096, 8192, 20_000)}
+         "devices": (1, 7, 8, 9, 92, 100, 192, 4096, 8192, 20_000), "verify": (1, 2, 4), "captures": (51, 52)}
 # kibioctets over the floor
 SPARES = (0, 1, 4, 16, 64, 256, 1024, 4096, 16384, 98304)
-COMMANDS_OF = {"book": OF_BOOKS, "tape": ("read",), "text": ("page",)}
-MAKERS = {"book": some_book, "tape": some_tapes, "text": some_text}
+COMMANDS_OF = {"book": (*OF_BOOKS, "verify"), "tape": ("read", "pcap"), "text": ("page",), "capture": ("tape",)}
+MAKERS = {"book": some_book, "tape": some_tapes, "text": some_text, "capture": some_capture}
 
 
 def case_of(chance, number, kind, data):
@@ -1088,7 +1240,7 @@ def make_case(seed, number, seeds):
         return case_of(chance, number, *plain_ones[number])
     if chance.random() < 0.03:
         return words_case(chance, number)
-    kind = chance.choices(("book", "tape", "text"), (6, 2, 2))[0]
+    kind = chance.choices(("book", "tape", "text", "capture"), (6, 2, 2, 1))[0]
     data = MAKERS[kind](chance, seeds[kind])
     if chance.random() < (0.12 if kind == "book" else 0.25):
         data = change_octets(chance, data, seeds[kind])
