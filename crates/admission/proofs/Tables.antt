@@ -19,7 +19,7 @@ use Rattle.admission.specs.declared.budget.NoRoom.TheVariants as no_rooms
 use Rattle.admission.specs.declared.measure.TheConstants.{SCALE}
 use Rattle.admission.specs.Reservation.{is_before_end}
 use Rattle.admission.specs.Waiting.{behind_of, held_now, HandsOver, waits_at, started_at}
-use Rattle.admission.specs.Table.{IsAdmitted, answer_of, load_for, load_in, excess_over, ends_at, ends_if}
+use Rattle.admission.specs.Table.{IsAdmitted, room_answer, load_for, load_in, excess_over, ends_at, ends_if}
 use Rattle.admission.specs.TableSteps.{HasPlace}
 use Rattle.admission.specs.Table.{passed}
 use Rattle.admission.proofs.Rising.{no_slot_over_now, passed_is_held}
@@ -242,7 +242,7 @@ decided true true done is = (refl, refl)
 decided true false done is = absurd (cc)
 decided false fits done is = absurd (cc)
 
-pub has_room : (places total load : ℕ) (done : Unit {0}) → answer_of places total load ≡ Ok done → (places < 64)
+pub has_room : (places total load : ℕ) (done : Unit {0}) → room_answer places total load ≡ Ok done → (places < 64)
     × (total + load ≤ SCALE)
 has_room places total load done is =
     let both = decided (ltb places 64) (leb (total + load) SCALE) done is in

@@ -20,13 +20,13 @@ pub record IsAdmitted (table : List Held) : Type 0 where
 
 -- whether a load has room beside so many reserved messages that hold so much: `Table` where they are 64, else `Load`
 -- where the sum with the load would be over SCALE
-abbrev pub answer_of : ℕ → ℕ → ℕ → Result (Unit {0}) NoRoom
-answer_of places total load =
+abbrev pub room_answer : ℕ → ℕ → ℕ → Result (Unit {0}) NoRoom
+room_answer places total load =
     if nat_lt places 64 then (if nat_le (total + load) SCALE then Ok tt else Err Load) else Err Table
 
 -- whether a load has room beside a table
-abbrev pub answer_for : List Held → ℕ → Result (Unit {0}) NoRoom
-answer_for table load = answer_of (length table) (sum_by held_now table) load
+abbrev pub room_answer_for : List Held → ℕ → Result (Unit {0}) NoRoom
+room_answer_for table load = room_answer (length table) (sum_by held_now table) load
 
 -- the table without the entry that is leaving, if one is
 abbrev pub remaining_without : Option ℕ → List Held → List Held

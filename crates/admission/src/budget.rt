@@ -4,7 +4,7 @@ ghost use Rattle.std.specs.Prelude.{◌≡◌, ◌≢◌, ℕ, ◌==◌, ◌≤�
 ghost use Rattle.std.specs.Prelude.{Any};
 ghost use Rattle.std.specs.Prelude.{OnOk, OnErr, MatchBool};
 ghost use Rattle.std.specs.Option.{option_map};
-ghost use Rattle.admission.specs.Table.{answer_for, answer_of, remaining_without, load_for, excess_over, ends_at};
+ghost use Rattle.admission.specs.Table.{room_answer_for, room_answer, remaining_without, load_for, excess_over, ends_at};
 ghost use Rattle.admission.specs.Table.{ends_if, passed, IsAdmitted};
 ghost use Rattle.std.specs.List.{list_all};
 ghost use Rattle.admission.specs.TableSteps.{HasPlace, goes_on, stays_at};
@@ -110,7 +110,7 @@ impl Budget {
     ///
     /// `NoRoom` if it couldn't.
     pub fn fits(&self, load: u64, leaving: Option<u16>) -> Result<(), NoRoom>
-        ensures { result ≡ answer_for (remaining_without leaving self.now) load }
+        ensures { result ≡ room_answer_for (remaining_without leaving self.now) load }
     {
         match leaving {
             None => room(self.table.len(), total(self.table.as_slice()), load),
@@ -130,7 +130,7 @@ impl Budget {
     /// `NoRoom` if it couldn't.
     pub fn fits_behind(&self, load: u64, behind: u16, leaving: Option<u16>) -> Result<(), NoRoom>
         requires { Any (λ h. (h.entry ≡ behind) × (h.waits ≡ None)) self.now }
-        ensures { result ≡ answer_for (remaining_without leaving self.now) (excess_over behind load self.now) }
+        ensures { result ≡ room_answer_for (remaining_without leaving self.now) (excess_over behind load self.now) }
     {
         let excess = excess_over(self.table.as_slice(), behind, load);
         self.fits(excess, leaving)
@@ -143,7 +143,7 @@ impl Budget {
     /// `NoRoom` if there is no room for it; nothing changes then.
     pub fn reserve(&mut self, entry: u16, load: u64, until: Option<u32>) -> Result<(), NoRoom>
         requires { All (λ h. h.entry ≢ entry) self.old }
-        ensures answer { result ≡ answer_for self.old load }
+        ensures answer { result ≡ room_answer_for self.old load }
         ensures reserved { OnOk result
             (self.new ≡ self.old ++ record { entry = entry; load = load; end = until; waits = None } ∷ []) }
         ensures refused { OnErr result (self.new ≡ self.old) }
@@ -177,7 +177,7 @@ impl Budget {
         requires new { All (λ h. h.entry ≢ entry) self.old }
         requires ends { Any (λ h. (h.entry ≡ behind) × (h.waits ≡ None) × (h.end ≡ Some start)) self.old }
         requires free { All (λ h. behind_of h ≢ Some behind) self.old }
-        ensures answer { result ≡ answer_for self.old (excess_over behind load self.old) }
+        ensures answer { result ≡ room_answer_for self.old (excess_over behind load self.old) }
         ensures reserved { OnOk result
             (self.new ≡ self.old ++ record {
               entry = entry;
@@ -271,7 +271,7 @@ impl Budget {
     fn add(&mut self, held: Held) -> Result<(), NoRoom>
         requires new { All (λ h. h.entry ≢ held.entry) self.old }
         requires handed { HasPlace held.load held.waits self.old }
-        ensures answer { result ≡ answer_for self.old (held_now held) }
+        ensures answer { result ≡ room_answer_for self.old (held_now held) }
         ensures added { OnOk result (self.new ≡ self.old ++ held ∷ []) }
         ensures refused { OnErr result (self.new ≡ self.old) }
     {
@@ -350,7 +350,7 @@ fn count_without(table: &[Held], entry: u16) -> usize
 /// Whether a load has room beside `places` reserved messages that hold `sum`.
 fn room(places: usize, sum: u64, load: u64) -> Result<(), NoRoom>
     requires { sum ≤ SCALE }
-    ensures { result ≡ answer_of places sum load }
+    ensures { result ≡ room_answer places sum load }
 {
     if places >= MAX_RESERVED {
         return Err(NoRoom::Table);

@@ -28,7 +28,7 @@ use Rattle.alert_book.specs.Row.{is_update_of, is_write, new_cell, order_with, r
 use Rattle.alert_book.proofs.FewRows.{rows_keep, valid_with}
 use Rattle.alert_book.specs.Cells.{cell_with, all_named, all_of, before_all, cell_named, cells_listed, cells_of_field}
 use Rattle.alert_book.specs.Cells.{is_among}
-use Rattle.alert_book.specs.Cells.{is_space, judged, parts_after}
+use Rattle.alert_book.specs.Cells.{is_space, cells_judged, parts_after}
 use Rattle.alert_book.specs.Fields.{category, column, if_right, number, sending_at, sending_with}
 use Rattle.alert_book.specs.Number.{in_range, is_number, number_within}
 use Rattle.alert_book.proofs.TurnsAsk.{cell_same, filter_more, one_if}
@@ -146,7 +146,7 @@ all_asked (c ∷ cs) cells valid is =
 
 judged_asked : (declared : List Cell) (named : Option (List Cell)) (cells : List Cell) →
     cells_are_valid declared ≡ true → ((listed : List Cell) → named ≡ Some listed → is_nothing listed ≡ false) →
-    judged declared named ≡ Ok cells → AreAsked cells
+    cells_judged declared named ≡ Ok cells → AreAsked cells
 judged_asked declared None cells valid some is = absurd (cc is)
 judged_asked declared (Some listed) cells valid some is =
     let few = and_parts (nat_le (length declared) 64) (are_distinct declared) valid in

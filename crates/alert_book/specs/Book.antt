@@ -26,8 +26,8 @@ use Rattle.alert_book.specs.declared.book.row.Row.TheVariants as rows
 use Rattle.alert_book.specs.Row.{row_of}
 
 -- the most octets of a book
-abbrev pub max_input : ℕ
-max_input = 16777216
+abbrev pub max_book : ℕ
+max_book = 16777216
 
 -- what rows declare and give, in their order
 pub record Rows : Type 0 where
@@ -127,7 +127,7 @@ pub record Contents : Type 0 where
 
 -- the octets are a book, and mean this
 pub record IsBook (input : List ℕ) (book : Contents) : Type 0 where
-  pub bounded : length input ≤ max_input
+  pub bounded : length input ≤ max_book
   pub rows : AreRowsOf input (rows_with book.cells book.orders)
   pub paged : HavePages book.orders book.pages
 
@@ -148,7 +148,7 @@ too_long = fault_at 0 fault.TooManyRows
 
 -- why octets within the bound are no book, out of memory aside: a row's fault, or else a text's
 abbrev pub IsWrong : List ℕ → BookFault → Type 0
-IsWrong input f = (length input ≤ max_input) × (IsRowFault input f ⊎ HasTextFault input f)
+IsWrong input f = (length input ≤ max_book) × (IsRowFault input f ⊎ HasTextFault input f)
 
 -- a book was read: its octets are gone from the reader, and it is at its end
 pub record ReadsBook (old new : Option (List ℕ)) (book : Contents) : Type 0 where
@@ -162,6 +162,6 @@ pub record ReadsBook (old new : Option (List ℕ)) (book : Contents) : Type 0 wh
 pub record RefusesBook (old new : Option (List ℕ)) (f : BookFault) : Type 0 where
   pub input : List ℕ
   pub consumed : Consumes old new input
-  pub bounded : length input ≤ max_input + 1
-  pub why : (f ≡ refused) ⊎ (f ≡ unread) ⊎ ((f ≡ too_long) × (length input ≡ max_input + 1))
+  pub bounded : length input ≤ max_book + 1
+  pub why : (f ≡ refused) ⊎ (f ≡ unread) ⊎ ((f ≡ too_long) × (length input ≡ max_book + 1))
       ⊎ (IsAtEnd new × IsWrong input f)

@@ -57,9 +57,9 @@ abbrev pub is_among : List Cell → Cell → Bool
 is_among declared cell = list_any (λ c. is_cell c cell) declared
 
 -- cells that a row lists: the first of these faults that applies
-abbrev pub judged : List Cell → Option (List Cell) → Result (List Cell) RowFault
-judged declared None = Err fault.Number
-judged declared (Some cells) =
+abbrev pub cells_judged : List Cell → Option (List Cell) → Result (List Cell) RowFault
+cells_judged declared None = Err fault.Number
+cells_judged declared (Some cells) =
     if list_all (is_among declared) cells then (if are_distinct cells then Ok cells else Err fault.TwiceNamed)
     else Err fault.UnknownCell
 
@@ -70,4 +70,4 @@ all_of (cell ∷ cells) = Ok (cell ∷ cells)
 -- the cells of a row's field, where earlier rows declare these
 abbrev pub cells_of_field : List Cell → List ℕ → Result (List Cell) RowFault
 cells_of_field declared field =
-    if bytes_eq field (codes "*") then all_of declared else judged declared (cells_listed field)
+    if bytes_eq field (codes "*") then all_of declared else cells_judged declared (cells_listed field)

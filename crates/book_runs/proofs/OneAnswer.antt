@@ -15,7 +15,7 @@ use Rattle.bsc_table.specs.declared.command.Command.{Command}
 use Rattle.bsc_table.specs.declared.entry.Answer.{Answer}
 use Rattle.bsc_table.specs.declared.entry.Entry.{Entry}
 use Rattle.bsc_table.specs.Answer.{answer_of}
-use Rattle.bsc_table.specs.Legal.{IsAnswered, IsLegal}
+use Rattle.bsc_table.specs.Legal.{HasItsAnswer, IsLegal}
 use Rattle.bsc_table.specs.Record.{Accepted, Record, accepted_in, messages_in}
 use Rattle.bsc_table.proofs.History.EntryNumbers.{numbers_rise}
 use Rattle.bsc_table.proofs.History.LegalIsSound.{HasLoad, outcome_at, slots_before, sound_at}
@@ -143,8 +143,8 @@ pub answer_is : (laws : OneRunLaws) (r : Record) (before later : List Entry) (e 
 answer_is laws r before later e legal is =
     let k : ℕ = length before in
     let right = legal.answered k e (within r.log before later e is) in
-    let at_it = subst (IsAnswered r.slots (take k r.log) r.air) (here r.log before later e is) right in
-    let answered : IsAnswered r.slots before r.air e =
-    subst (λ (log : List Entry). IsAnswered r.slots log r.air e) (front r.log before later e is) at_it in
+    let at_it = subst (HasItsAnswer r.slots (take k r.log) r.air) (here r.log before later e is) right in
+    let answered : HasItsAnswer r.slots before r.air e =
+    subst (λ (log : List Entry). HasItsAnswer r.slots log r.air e) (front r.log before later e is) at_it in
     answered
     ∙ ap (λ (air : Air). answer_of r.slots before air e.slot e.command) (aired_before laws r before later e legal is)

@@ -27,7 +27,7 @@ use Rattle.order_desk.specs.Reply.{cells_answered}
 use Rattle.book_runs.specs.Live.{IsLiveRun, IsRunBy}
 use Rattle.book_runs.specs.LiveLaws.{LiveRunsAcceptWhatWasOrdered}
 use Rattle.book_runs.specs.Meant.{IsOfOrder}
-use Rattle.book_runs.specs.Ordered.{AreThoseStarted, ComesOfExchange, HasAccepted, RunsAcceptWhatWasOrdered}
+use Rattle.book_runs.specs.Ordered.{AreThoseStarted, ComesOfExchange, StartIsAccepted, RunsAcceptWhatWasOrdered}
 use Rattle.book_runs.specs.Ordered.{StartsMessage}
 use Rattle.book_runs.specs.Run.{Exchange, IsExchange, IsRunOfBook}
 use Rattle.book_runs.proofs.Accepted.{accepted_of}
@@ -120,7 +120,7 @@ comes laws book slots exchanges r utf8 asked run k d within =
 
 -- and each answer that starts a write's message has it accepted
 has_accepted : (slots : ℕ) (exchanges : List Exchange) (r : Record) → HasLogOf slots exchanges r
-    → All (λ x. All (HasAccepted r x) x.answers) exchanges
+    → All (λ x. All (StartIsAccepted r x) x.answers) exchanges
 has_accepted slots exchanges r run k d within j g there cell write start is =
     let x : Exchange = get_or exchanges k d in
     let Is : Command → Answer → Type 0 = λ command answer.

@@ -23,14 +23,14 @@ pub record ComesOfExchange (book : Contents) (r : Record) (a : Accepted) (x : Ex
   pub ordered : Any (λ order. ComesOf x.turn.request order × IsOfOrder (message_accepted r.log a) order) book.orders
 
 -- an answer of the cell that starts a message of a write has it among the accepted ones
-abbrev pub HasAccepted : Record → Exchange → Cell × Answer → Type 0
-HasAccepted r x given = is_cell r.cell given.0 ≡ true → IsWrite x.command → (start : ℕ) → start_of given.1 ≡ Some start
+abbrev pub StartIsAccepted : Record → Exchange → Cell × Answer → Type 0
+StartIsAccepted r x given = is_cell r.cell given.0 ≡ true → IsWrite x.command → (start : ℕ) → start_of given.1 ≡ Some start
     → Any (λ a. IsWriteBy a x.command (Some start)) (accepted_in r.log)
 
 -- the accepted messages of a record are those that its cell started in the exchanges, and no others
 pub record AreThoseStarted (book : Contents) (exchanges : List Exchange) (r : Record) : Type 0 where
   pub each : All (λ a. Any (ComesOfExchange book r a) exchanges) (accepted_in r.log)
-  pub every : All (λ x. All (HasAccepted r x) x.answers) exchanges
+  pub every : All (λ x. All (StartIsAccepted r x) x.answers) exchanges
 
 -- of each run of a book
 abbrev pub RunsAcceptWhatWasOrdered : Type 0

@@ -29,7 +29,7 @@ use Rattle.bsc_table.specs.declared.entry.State.{State}
 use Rattle.bsc_table.specs.declared.entry.Entry.{Entry}
 use Rattle.bsc_table.specs.Claim.{Claim, is_claimed_at, claimed_at, stop_claims}
 use Rattle.bsc_table.specs.Handover.{Place}
-use Rattle.bsc_table.specs.Record.{Accepted, accepted_named, message_named, claims_in, is_background, place_after}
+use Rattle.bsc_table.specs.Record.{Accepted, accepted_named, message_named, claims_in, is_background_category, place_after}
 use Rattle.bsc_table.specs.Record.{is_live, state_at}
 
 -- 6, where the load doesn't fit now: it starts later, at the place that it may take over, where its excess fits now;
@@ -50,7 +50,7 @@ admit_or_refuse claims slot load place accepts =
 -- 5 and 6 by the category: a background message is accepted at once
 abbrev pub answer_for : Category → List Claim → ℕ → ℕ → Option Place → (ℕ → Answer) → Answer
 answer_for category claims slot load place accepts =
-    if is_background category then accepts slot else admit_or_refuse claims slot load place accepts
+    if is_background_category category then accepts slot else admit_or_refuse claims slot load place accepts
 
 -- a write in the place of no message: there is no place that it may take over
 abbrev pub answer_to_new : List Entry → ℕ → Category → ℕ → Answer

@@ -52,7 +52,7 @@ reservations_at slot claims = map (reservation_for slot) (filter (is_claimed_at 
 
 -- a book: its record is a legal history, it keeps the accepted messages, its plan follows them and what was aired, its
 -- budget holds what they have reserved at the clock, and there is room for what all slots will air
-pub record IsBook (b : Inside) : Type 0 where
+pub record IsCellBook (b : Inside) : Type 0 where
   pub legal : IsLegal (record_of b)
   pub short : b.slots ≤ 65535
   pub kept : b.accepted.all ≡ accepted_in b.log.items

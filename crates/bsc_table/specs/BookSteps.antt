@@ -9,7 +9,7 @@ use Rattle.admission.specs.declared.measure.TheConstants.{SCALE}
 use Rattle.admission.specs.Reservation.{end_of_stopped}
 use Rattle.std.specs.Option.{option_map}
 use Rattle.admission.specs.Waiting.{behind_of}
-use Rattle.admission.specs.Table.{answer_of, answer_for, excess_over}
+use Rattle.admission.specs.Table.{room_answer, room_answer_for, excess_over}
 use Rattle.scheduler.specs.Message.{ScheduledMessage, stopped_if}
 use Rattle.scheduler.specs.Air.{Air, IsAirOf}
 use Rattle.scheduler.specs.Follows.{PlanState, Follows, next_slot}
@@ -44,7 +44,7 @@ abbrev pub stop_numbered : ℕ → ℕ → Accepted → Accepted
 stop_numbered entry slot a = record a { message = stopped_if (a.message.entry == entry) slot a.message }
 
 -- an entry that is to come next: at the clock, with the right answer to a well-formed command, where the log has room
-pub record IsNext (r : Record) (e : Entry) : Type 0 where
+pub record IsNextEntry (r : Record) (e : Entry) : Type 0 where
   pub now : e.slot ≡ r.clock
   pub room : length r.log < 4096
   pub formed : IsWellFormed e.command
@@ -126,10 +126,10 @@ pub record IsHeldFor (reservations : List Held) (load behind start excess : ℕ)
 -- the reservations of a budget have room for a claim, by the one behind which it waits: for its load where it starts by
 -- the slot; else for its excess, behind that one
 abbrev pub HasRoomFor : ℕ → List Held → Claim → Option ℕ → Type 0
-HasRoomFor slot reservations c None = (c.message.start ≤ slot) × (answer_for reservations (own_load c.message) ≡ Ok tt)
+HasRoomFor slot reservations c None = (c.message.start ≤ slot) × (room_answer_for reservations (own_load c.message) ≡ Ok tt)
 HasRoomFor slot reservations c (Some behind) =
     (slot < c.message.start)
-    × (answer_for reservations c.excess ≡ Ok tt)
+    × (room_answer_for reservations c.excess ≡ Ok tt)
     × IsHeldFor reservations (own_load c.message) behind c.message.start c.excess
 
 -- no message of a pair is live, and one is
@@ -160,15 +160,15 @@ pub record HasRoom (claims : List Claim) (slot load : ℕ) : Type 0 where
 
 -- whether it has, as a budget answers: a write is answered so, and accepted now only where the load has room
 pub record IsRoom (claims : List Claim) (slot load : ℕ) (room : Result (Unit {0}) NoRoom) : Type 0 where
-  pub says : room ≡ answer_of (length (filter (is_claimed_at slot) claims)) (claimed_at claims slot) load
+  pub says : room ≡ room_answer (length (filter (is_claimed_at slot) claims)) (claimed_at claims slot) load
   pub answered : (place : Option Place) (accepts : ℕ → Answer)
       → admit_or_refuse claims slot load place accepts ≡ by_room room (accepts slot)
       (answer_at claims slot accepts place)
   pub fits : OnOk room (HasRoom claims slot load)
 
 -- a place as it is kept
-abbrev pub place_of : FoundPlace → Place
-place_of p = record { behind = p.behind; start = p.start; excess = p.excess }
+abbrev pub place_found : FoundPlace → Place
+place_found p = record { behind = p.behind; start = p.start; excess = p.excess }
 
 -- the end of the reservation of a message that is kept, where it was stopped
 abbrev pub stopped_end : AcceptedMessage → Option ℕ
@@ -189,7 +189,7 @@ pub record IsLater (r : Record) (old : Accepted) (load : ℕ) (later : Option Fo
   pub answered : (accepts : ℕ → Answer)
       → answer_at (left_by r old) r.clock accepts (place_after (left_by r old) r.clock old load) ≡ by_place later
       accepts
-  pub there : IfSome later (λ p. place_after (left_by r old) r.clock old load ≡ Some (place_of p))
+  pub there : IfSome later (λ p. place_after (left_by r old) r.clock old load ≡ Some (place_found p))
   pub fits : IfSome later (λ p. claimed_at (left_by r old) r.clock + p.excess ≤ SCALE)
   pub soon : IfSome later (λ p. p.start < LATEST_START)
 

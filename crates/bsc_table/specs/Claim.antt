@@ -34,11 +34,11 @@ abbrev pub reserves : Claim → Bool
 reserves c = layer c.message == 0
 
 -- the load that it reserves at a slot: the excess before its start, its own load from its start on
-abbrev pub share_at : ℕ → Claim → ℕ
-share_at slot c = if nat_lt slot c.message.start then c.excess else own_load c.message
+abbrev pub claim_share_at : ℕ → Claim → ℕ
+claim_share_at slot c = if nat_lt slot c.message.start then c.excess else own_load c.message
 
 abbrev pub claim_at : ℕ → Claim → ℕ
-claim_at slot c = if is_claimed_at slot c then share_at slot c else 0
+claim_at slot c = if is_claimed_at slot c then claim_share_at slot c else 0
 
 -- the loads reserved at a slot
 abbrev pub claimed_at : List Claim → ℕ → ℕ

@@ -60,10 +60,10 @@ rank_of High = ranks.High
 rank_of Normal = ranks.Normal
 rank_of Background = ranks.Background
 
-abbrev pub is_background : Category → Bool
-is_background High = false
-is_background Normal = false
-is_background Background = true
+abbrev pub is_background_category : Category → Bool
+is_background_category High = false
+is_background_category Normal = false
+is_background_category Background = true
 
 -- whether an entry stopped the message of this pair: a kill of it that was answered `Stopped`, or a write in its place
 -- that was answered `Replaced`
@@ -104,9 +104,9 @@ replaced_in all id (Some serial) = find (is_of_pair id serial) all
 
 -- behind which message one waits that was accepted at the slot with that start: none where it starts at once; else the
 -- one that it replaces where that has started, or the one behind which that waits
-abbrev pub behind_of : ℕ → ℕ → Option Accepted → Option ℕ
-behind_of slot start None = None
-behind_of slot start (Some old) = if start == slot then None else ahead_of slot (claim_of old)
+abbrev pub predecessor_of : ℕ → ℕ → Option Accepted → Option ℕ
+predecessor_of slot start None = None
+predecessor_of slot start (Some old) = if start == slot then None else ahead_of slot (claim_of old)
 
 -- the place that a replacement of the old message may take over at the slot, in claims in which the old one is stopped:
 -- none where that is background, behind which nothing waits
@@ -114,9 +114,9 @@ abbrev pub place_after : List Claim → ℕ → Accepted → ℕ → Option Plac
 place_after claims slot old load = if layer old.message == 0 then handover claims slot (claim_of old) load else None
 
 -- what a load has over that of the message behind which it waits; 0 where there is none, or where it has less
-abbrev pub excess_over : ℕ → Option Claim → ℕ
-excess_over load None = 0
-excess_over load (Some p) = load - own_load p.message
+abbrev pub excess_beyond : ℕ → Option Claim → ℕ
+excess_beyond load None = 0
+excess_beyond load (Some p) = load - own_load p.message
 
 -- a write's message, which stands: its place in the log, the slots of its acceptance and of its start, behind which it
 -- waits and with what excess, its pair, and what is broadcast
@@ -141,14 +141,14 @@ write_message place slot start behind excess id serial pages period broadcasts r
 -- the message that a write of the pair adds to those accepted before, by the message behind which it waits
 abbrev pub written_behind : List Accepted → ℕ → ℕ → ℕ → Option ℕ → ℕ → ℕ → ℕ → ℕ → ℕ → Rank → Accepted
 written_behind all place slot start behind id serial pages period broadcasts rank =
-    let excess = excess_over (load_of pages period) (numbered behind (claims_of all)) in
+    let excess = excess_beyond (load_of pages period) (numbered behind (claims_of all)) in
     write_message place slot start behind excess id serial pages period broadcasts rank
 
 -- the message that an entry at this place of the log and at this slot adds to those accepted before, by its start and
 -- its command: a write's that was accepted
 abbrev pub added_by : List Accepted → ℕ → ℕ → Option ℕ → Command → List Accepted
 added_by all place slot (Some start) (commands.Write id serial replaces category period broadcasts dcs contents) =
-    let behind = behind_of slot start (replaced_in all id replaces) in
+    let behind = predecessor_of slot start (replaced_in all id replaces) in
     written_behind all place slot start behind id serial (length contents) period broadcasts (rank_of category) ∷ []
 added_by all place slot start command = []
 

@@ -9,13 +9,13 @@ use Rattle.bsc_table.specs.declared.entry.Answer.{Answer}
 use Rattle.bsc_table.specs.declared.entry.Answer.TheVariants as answers
 
 -- an answer that kills
-abbrev pub is_stopped : Answer → Bool
-is_stopped (answers.Stopped completed) = true
-is_stopped other = false
+abbrev pub is_kill_answer : Answer → Bool
+is_kill_answer (answers.Stopped completed) = true
+is_kill_answer other = false
 
 -- an answer that accepts a write or a kill
 abbrev pub is_accepting : Answer → Bool
-is_accepting answer = is_some (start_of answer) || is_stopped answer
+is_accepting answer = is_some (start_of answer) || is_kill_answer answer
 
 -- an entry that was accepted: a write that starts a message, or a kill that stops one
 abbrev pub is_accepted : Entry → Bool

@@ -8,7 +8,7 @@ use Rattle.bsc_table.specs.Handover.{Place, handover, IsPlacedAt}
 
 -- p hands its slots over to w: p had started when w was accepted, p is stopped, p's reservation ends where w starts,
 -- and until then w reserves what its load has over p's
-pub record HandsOver (p w : Claim) : Type 0 where
+pub record HandsOverTo (p w : Claim) : Type 0 where
   pub named : w.behind ≡ Some p.message.entry
   pub there : p.accepted ≤ w.accepted
   pub started : p.message.start ≤ w.accepted
@@ -23,7 +23,7 @@ pub record AreInOrder (claims : List Claim) (now : ℕ) : Type 0 where
   pub accepted : All (λ c. c.accepted ≤ now) claims
   pub forward : All (λ c. c.accepted ≤ c.message.start) claims
   pub periods : All (λ c. 0 < c.message.period) claims
-  pub handed : All (λ w. IsWaiting now w → Any (λ p. HandsOver p w) claims) claims
+  pub handed : All (λ w. IsWaiting now w → Any (λ p. HandsOverTo p w) claims) claims
   pub alone : AllPairs (λ v w. IsWaiting now v → IsWaiting now w → v.behind ≢ w.behind) claims
 
 -- from now on the loads reserved never rise

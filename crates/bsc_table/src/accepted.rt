@@ -9,7 +9,7 @@ ghost use Rattle.bsc_table.specs.Record.{is_live, state_at, claim_of};
 ghost use Rattle.bsc_table.specs.Handover.{ahead_of, place_before};
 ghost use Rattle.bsc_table.specs.declared.accepted.TheConstants.{LATEST_START};
 ghost use Rattle.bsc_table.specs.Accepted.{accepted_of};
-ghost use Rattle.bsc_table.specs.BookSteps.{accepted_stopped, place_of, stopped_end};
+ghost use Rattle.bsc_table.specs.BookSteps.{accepted_stopped, place_found, stopped_end};
 
 use crate::command::Category;
 use crate::entry::State;
@@ -156,7 +156,7 @@ impl AcceptedMessage {
     /// reserved beyond that slot.
     pub fn place_behind(&self, slot: u16, load: u64) -> Option<Place>
         requires { 0 < self.now.period }
-        ensures place { option_map place_of result
+        ensures place { option_map place_found result
             ≡ place_before slot load (claim_of (accepted_of self.now)) (stopped_end self.now) }
         ensures soon { IfSome result (λ place. place.start < LATEST_START) }
     {

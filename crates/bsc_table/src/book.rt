@@ -13,7 +13,7 @@ ghost use Rattle.cbsp_wire.specs.declared.cause.TheConstants.{BSC_MEMORY_EXCEEDE
 ghost use Rattle.bsc_table.specs.declared.accepted.TheConstants.{LATEST_START};
 ghost use Rattle.bsc_table.specs.Claim.{stop_claims, is_claimed_at};
 ghost use Rattle.admission.specs.Load.{load_of};
-ghost use Rattle.bsc_table.specs.Record.{Record, accepted_in, is_of_pair, is_background, place_after, message_named};
+ghost use Rattle.bsc_table.specs.Record.{Record, accepted_in, is_of_pair, is_background_category, place_after, message_named};
 ghost use Rattle.bsc_table.specs.Record.{claim_of, claims_in};
 ghost use Rattle.bsc_table.specs.Answer.{status_of, status_answer, answer_to_kill, answer_to_write, before_end};
 ghost use Rattle.bsc_table.specs.Answer.{answer_with_room, answer_of};
@@ -24,9 +24,9 @@ ghost use Rattle.bsc_table.specs.Transitions.{opened, entry_by, with_entry, answ
 ghost use Rattle.bsc_table.specs.Transitions.{Ask, IsStep, Play};
 ghost use Rattle.bsc_table.specs.Accepted.{accepted_of};
 ghost use Rattle.bsc_table.specs.Book.{air_pairs, reservation_for};
-ghost use Rattle.bsc_table.specs.BookSteps.{AreAired, IsNotLive, IsLiveAs, IsLiveIn, IsNext, IsStop, IsStart};
+ghost use Rattle.bsc_table.specs.BookSteps.{AreAired, IsNotLive, IsLiveAs, IsLiveIn, IsNextEntry, IsStop, IsStart};
 ghost use Rattle.bsc_table.specs.BookSteps.{IsReplacement, IsOffered, IsRoom, IsLater, Decides, DecidesWrites};
-ghost use Rattle.bsc_table.specs.BookSteps.{decided_answer, cause_of, left_by, place_of, HasRoomFor};
+ghost use Rattle.bsc_table.specs.BookSteps.{decided_answer, cause_of, left_by, place_found, HasRoomFor};
 ghost use Rattle.bsc_table.specs.Refusals.{is_accepting};
 ghost use Rattle.admission.specs.Reservation.{end_of_stopped};
 ghost use Rattle.admission.specs.Waiting.{behind_of};
@@ -68,11 +68,11 @@ impl Model for CellBook {
 
     ghost Value = { Record };
 
-    ghost use Rattle.bsc_table.specs.Book.{record_of, IsBook};
+    ghost use Rattle.bsc_table.specs.Book.{record_of, IsCellBook};
 
     ghost view = { record_of };
 
-    ghost invariant = { IsBook };
+    ghost invariant = { IsCellBook };
 }
 
 impl CellBook {
@@ -250,7 +250,7 @@ impl CellBook {
 
     /// Enters an entry that stops and starts nothing.
     fn enter_alone(&mut self, entry: Entry) -> Result<(), Refused>
-        requires next { IsNext self.old entry }
+        requires next { IsNextEntry self.old entry }
         requires noted { is_accepting entry.answer ≡ false }
         ensures entered { OnOk result (self.new ≡ with_entry entry self.old) }
         ensures refused { OnErr result (self.new ≡ self.old) }
@@ -262,7 +262,7 @@ impl CellBook {
 
     /// Enters an entry that stops a message.
     fn enter_stop(&mut self, entry: Entry, old: &AcceptedMessage) -> Result<(), Refused>
-        requires next { IsNext self.old entry }
+        requires next { IsNextEntry self.old entry }
         requires stop { IsStop self.old entry (accepted_of old.now) }
         ensures entered { OnOk result (self.new ≡ with_entry entry self.old) }
         ensures refused { OnErr result (self.new ≡ self.old) }
@@ -277,7 +277,7 @@ impl CellBook {
 
     /// Enters an entry that starts a message.
     fn enter_new(&mut self, entry: Entry, new: AcceptedMessage) -> Result<(), Refused>
-        requires next { IsNext self.old entry }
+        requires next { IsNextEntry self.old entry }
         requires start { IsStart self.old entry (accepted_of new) }
         ensures entered { OnOk result (self.new ≡ with_entry entry self.old) }
         ensures refused { OnErr result (self.new ≡ self.old) }
@@ -298,7 +298,7 @@ impl CellBook {
         old: &AcceptedMessage,
         new: AcceptedMessage,
     ) -> Result<(), Refused>
-        requires next { IsNext self.old entry }
+        requires next { IsNextEntry self.old entry }
         requires replacement { IsReplacement self.old entry (accepted_of old.now) (accepted_of new) }
         requires soon { new.start < LATEST_START }
         ensures entered { OnOk result (self.new ≡ with_entry entry self.old) }
@@ -526,7 +526,7 @@ impl CellBook {
     /// else behind the one behind which it waits.
     fn place_after(&self, old: &AcceptedMessage, load: u64) -> Option<Place>
         requires { IsLiveIn self.now (accepted_of old.now) }
-        ensures place { option_map place_of result
+        ensures place { option_map place_found result
             ≡ place_after (left_by self.now (accepted_of old.now)) self.now.clock (accepted_of old.now) load }
         ensures soon { IfSome result (λ place. place.start < LATEST_START) }
     {
@@ -544,7 +544,7 @@ impl CellBook {
     fn room_behind(&self, old: &AcceptedMessage, load: u64, place: Place) -> Result<(), NoRoom>
         requires live { IsLiveIn self.now (accepted_of old.now) }
         requires place { place_after (left_by self.now (accepted_of old.now)) self.now.clock (accepted_of old.now) load
-            ≡ Some (place_of place) }
+            ≡ Some (place_found place) }
         ensures { IsRoom (left_by self.now (accepted_of old.now)) self.now.clock place.excess result }
     {
         self.budget
@@ -575,9 +575,9 @@ impl CellBook {
 /// waits behind a message that is stopped now.
 fn release(budget: &mut Budget, old: &AcceptedMessage, slot: u16)
     requires period { 0 < old.now.period }
-    requires reserved { is_background old.now.category ≡ false → Any (λ h. h.entry ≡ old.now.entry) budget.old }
-    requires free { is_background old.now.category ≡ false → All (λ h. behind_of h ≢ Some old.now.entry) budget.old }
-    ensures { budget.new ≡ (if is_background old.now.category then budget.old
+    requires reserved { is_background_category old.now.category ≡ false → Any (λ h. h.entry ≡ old.now.entry) budget.old }
+    requires free { is_background_category old.now.category ≡ false → All (λ h. behind_of h ≢ Some old.now.entry) budget.old }
+    ensures { budget.new ≡ (if is_background_category old.now.category then budget.old
         else passed slot (ends_at old.now.entry (end_of_stopped old.now.start old.now.period slot) budget.old)) }
 {
     if old.category.is_background() {
@@ -594,9 +594,9 @@ fn reserve_for(budget: &mut Budget, new: &AcceptedMessage, slot: u16)
     requires soon { new.now.start < LATEST_START }
     requires standing { new.now.stop ≡ None }
     requires unreserved { All (λ h. h.entry ≢ new.now.entry) budget.old }
-    requires room { is_background new.now.category ≡ false
+    requires room { is_background_category new.now.category ≡ false
         → HasRoomFor slot budget.old (claim_of (accepted_of new.now)) new.now.behind }
-    ensures { budget.new ≡ (if is_background new.now.category then budget.old
+    ensures { budget.new ≡ (if is_background_category new.now.category then budget.old
         else budget.old ++ reservation_for slot (claim_of (accepted_of new.now)) ∷ []) }
 {
     if new.category.is_background() {

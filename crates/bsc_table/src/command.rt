@@ -2,7 +2,7 @@
 
 ghost use Rattle.std.specs.Prelude.{◌≡◌, IfOk, IfErr};
 ghost use Rattle.bsc_table.specs.Orders.{IsWrite};
-ghost use Rattle.bsc_table.specs.Record.{rank_of, is_background};
+ghost use Rattle.bsc_table.specs.Record.{rank_of, is_background_category};
 
 use cbs_page::{Dcs, Serial};
 use cbsp_wire::Contents;
@@ -38,7 +38,7 @@ impl Category {
 
     /// Whether its messages reserve nothing, and are aired only where nothing else is pending.
     pub(crate) fn is_background(self) -> bool
-        ensures { result ≡ is_background self }
+        ensures { result ≡ is_background_category self }
     {
         match self {
             Category::High | Category::Normal => false,

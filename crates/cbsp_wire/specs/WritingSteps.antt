@@ -7,8 +7,8 @@ use Rattle.cbsp_wire.specs.Value.{Fields}
 use Rattle.cbsp_wire.specs.Written.{bodies_in, element}
 
 -- a vector into which octets fit without memory
-abbrev pub HasRoom : Vec ℕ → List ℕ → Type 0
-HasRoom v octets = vec_len v + length octets ≤ vec_capacity v
+abbrev pub HasRoomIn : Vec ℕ → List ℕ → Type 0
+HasRoomIn v octets = vec_len v + length octets ≤ vec_capacity v
 
 -- the octets of the elements with a number
 abbrev pub element_octets : ℕ → List (List ℕ) → List ℕ

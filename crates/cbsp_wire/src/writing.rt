@@ -4,7 +4,7 @@ ghost use Rattle.std.specs.Prelude.{◌≡◌, ◌+◌, ◌*◌, ◌/◌, ◌%�
 ghost use Rattle.std.specs.Prelude.{IfErr, IfSome, vec_len, vec_capacity};
 ghost use Rattle.std.specs.List.{flat_map};
 ghost use Rattle.cbsp_wire.specs.Meaning.{IsMessage, IsUnwritten};
-ghost use Rattle.cbsp_wire.specs.WritingSteps.{HasRoom};
+ghost use Rattle.cbsp_wire.specs.WritingSteps.{HasRoomIn};
 ghost use Rattle.cbsp_wire.specs.Range.{is_writable};
 ghost use Rattle.cbsp_wire.specs.Written.{number_octets, number_bodies, octet_bodies, list_head, list_bodies};
 ghost use Rattle.cbsp_wire.specs.Written.{cell_octets, count_octets, failure_octets, content_body};
@@ -25,7 +25,7 @@ pub(crate) mod fields;
 /// Appends octets to a vector that has room for them, one by one, so that no memory is taken: `extend_from_slice`
 /// doesn't promise that the capacity stays.
 pub(crate) fn put(out: &mut Vec<u8>, octets: &[u8])
-    requires { HasRoom out.old octets.now }
+    requires { HasRoomIn out.old octets.now }
     ensures appended { out.new.items ≡ out.old.items ++ octets.now }
     ensures room { vec_capacity out.new ≡ vec_capacity out.old }
 {
@@ -43,7 +43,7 @@ pub(crate) fn octets_of_number(number: u16) -> [u8; 2]
 
 /// Appends an element of two octets, if there is one.
 fn put_number(out: &mut Vec<u8>, element: u8, number: Option<u16>)
-    requires { HasRoom out.old (element_octets element (number_bodies number)) }
+    requires { HasRoomIn out.old (element_octets element (number_bodies number)) }
     ensures appended { out.new.items ≡ out.old.items ++ element_octets element (number_bodies number) }
     ensures room { vec_capacity out.new ≡ vec_capacity out.old }
 {
@@ -55,7 +55,7 @@ fn put_number(out: &mut Vec<u8>, element: u8, number: Option<u16>)
 
 /// Appends an element of one octet, if there is one.
 fn put_octet(out: &mut Vec<u8>, element: u8, octet: Option<u8>)
-    requires { HasRoom out.old (element_octets element (octet_bodies octet)) }
+    requires { HasRoomIn out.old (element_octets element (octet_bodies octet)) }
     ensures appended { out.new.items ≡ out.old.items ++ element_octets element (octet_bodies octet) }
     ensures room { vec_capacity out.new ≡ vec_capacity out.old }
 {
@@ -68,7 +68,7 @@ fn put_octet(out: &mut Vec<u8>, element: u8, octet: Option<u8>)
 /// one.
 fn put_list_head(out: &mut Vec<u8>, element: u8, discriminator: Discriminator, items_len: u16)
     requires fits { items_len < 65535 }
-    requires room { HasRoom out.old (element ∷ list_head discriminator items_len) }
+    requires room { HasRoomIn out.old (element ∷ list_head discriminator items_len) }
     ensures appended { out.new.items ≡ out.old.items ++ element ∷ list_head discriminator items_len }
     ensures room { vec_capacity out.new ≡ vec_capacity out.old }
 {
@@ -84,7 +84,7 @@ fn put_list_head(out: &mut Vec<u8>, element: u8, discriminator: Discriminator, i
 /// Appends a list, if it has items.
 fn put_list<T: ListItem>(out: &mut Vec<u8>, element: u8, items: &[T])
     requires short { length items.now ≤ 64 }
-    requires room { HasRoom out.old (element_octets element (list_bodies T.DISCRIMINATOR T.octets_of items.now)) }
+    requires room { HasRoomIn out.old (element_octets element (list_bodies T.DISCRIMINATOR T.octets_of items.now)) }
     ensures appended { out.new.items
         ≡ out.old.items ++ element_octets element (list_bodies T.DISCRIMINATOR T.octets_of items.now) }
     ensures room { vec_capacity out.new ≡ vec_capacity out.old }
@@ -99,7 +99,7 @@ fn put_list<T: ListItem>(out: &mut Vec<u8>, element: u8, items: &[T])
 /// Appends the number of pages, if it is given.
 fn put_pages(out: &mut Vec<u8>, element: u8, pages: Option<usize>)
     requires few { IfSome pages (λ n. n ≤ 15) }
-    requires room { HasRoom out.old (element_octets element (octet_bodies pages)) }
+    requires room { HasRoomIn out.old (element_octets element (octet_bodies pages)) }
     ensures appended { out.new.items ≡ out.old.items ++ element_octets element (octet_bodies pages) }
     ensures room { vec_capacity out.new ≡ vec_capacity out.old }
 {
@@ -110,7 +110,7 @@ fn put_pages(out: &mut Vec<u8>, element: u8, pages: Option<usize>)
 
 /// Appends the contents.
 fn put_contents(out: &mut Vec<u8>, element: u8, contents: &[Content])
-    requires { HasRoom out.old (element_octets element (map content_body contents.now)) }
+    requires { HasRoomIn out.old (element_octets element (map content_body contents.now)) }
     ensures appended { out.new.items ≡ out.old.items ++ element_octets element (map content_body contents.now) }
     ensures room { vec_capacity out.new ≡ vec_capacity out.old }
 {
@@ -145,7 +145,7 @@ macro_rules! put_for {
 #[tactic(auto, unfolding(crate::specs::Written::bodies_in))]
 fn put_elements_with(out: &mut Vec<u8>, fields: &Fields<'_>, number: u8)
     requires short { AreShort fields.now }
-    requires room { HasRoom out.old (field_octets fields.now number) }
+    requires room { HasRoomIn out.old (field_octets fields.now number) }
     ensures appended { out.new.items ≡ out.old.items ++ field_octets fields.now number }
     ensures room { vec_capacity out.new ≡ vec_capacity out.old }
 {
@@ -155,7 +155,7 @@ fn put_elements_with(out: &mut Vec<u8>, fields: &Fields<'_>, number: u8)
 /// Appends the elements with these numbers, in this order.
 fn put_elements(out: &mut Vec<u8>, fields: &Fields<'_>, numbers: &[u8])
     requires short { AreShort fields.now }
-    requires room { HasRoom out.old (flat_map (field_octets fields.now) numbers.now) }
+    requires room { HasRoomIn out.old (flat_map (field_octets fields.now) numbers.now) }
     ensures appended { out.new.items ≡ out.old.items ++ flat_map (field_octets fields.now) numbers.now }
     ensures room { vec_capacity out.new ≡ vec_capacity out.old }
 {

@@ -4,7 +4,7 @@ use Rattle.std.proofs.Common.{ap, sym}
 use native.Mathlib.Omega.{arith}
 use Rattle.std.specs.Option.{unwrap_or}
 use Rattle.admission.specs.Reservation.{is_before_end}
-use Rattle.bsc_table.specs.Claim.{Claim, claim_at, end_of, share_at}
+use Rattle.bsc_table.specs.Claim.{Claim, claim_at, end_of, claim_share_at}
 use Rattle.chart.specs.Message.{end_within}
 
 before_end : (end : Option ℕ) (slots slot : ℕ) → slot < slots
@@ -14,9 +14,9 @@ before_end (Some end) slots slot within = grind (arith, within)
 
 claimed_within : (slots slot : ℕ) (c : Claim) → slot < slots
     → claim_at slot c
-    ≡ (if nat_le c.accepted slot && nat_lt slot (end_within slots c.message) then share_at slot c else 0)
+    ≡ (if nat_le c.accepted slot && nat_lt slot (end_within slots c.message) then claim_share_at slot c else 0)
 claimed_within slots slot c within =
-    ap (λ (before : Bool). if nat_le c.accepted slot && before then share_at slot c else 0)
+    ap (λ (before : Bool). if nat_le c.accepted slot && before then claim_share_at slot c else 0)
     (before_end (end_of c.message) slots slot within)
 
 same_slots : (from last end slot : ℕ) → end ≤ last → (from ≤ end → last ≤ end) → (end ≤ from → last ≤ from)
@@ -29,8 +29,8 @@ pub claimed_so_far : (slots last slot : ℕ) (c : Claim) → slot < slots
     → end_within slots c.message ≤ last
     → (c.accepted ≤ end_within slots c.message → last ≤ end_within slots c.message)
     → (end_within slots c.message ≤ c.accepted → last ≤ c.accepted)
-    → (if nat_le c.accepted slot && nat_lt slot last then share_at slot c else 0) ≡ claim_at slot c
+    → (if nat_le c.accepted slot && nat_lt slot last then claim_share_at slot c else 0) ≡ claim_at slot c
 claimed_so_far slots last slot c within past inside before =
-    ap (λ (is : Bool). if is then share_at slot c else 0)
+    ap (λ (is : Bool). if is then claim_share_at slot c else 0)
     (same_slots c.accepted last (end_within slots c.message) slot past inside before)
     ∙ sym (claimed_within slots slot c within)

@@ -5,7 +5,7 @@ use Rattle.std.proofs.lemmas.List.{drop_more, get_or-map, length-map}
 use Rattle.cbsp_wire.specs.declared.message.Cell.{Cell}
 use Rattle.bsc_table.specs.Record.{Record}
 use Rattle.handset.specs.declared.tape.Reading.{Reading}
-use Rattle.handset.specs.Keeping.{messages_of}
+use Rattle.handset.specs.Keeping.{messages_shown}
 use Rattle.handset.specs.Tape.{TapeReading, reading_of, readings_of}
 use Rattle.report.specs.Rows.{AreOfOneCells}
 use Rattle.chart.specs.ChartText.{section_if, sections_of}
@@ -17,7 +17,7 @@ pub section_drawn : (wanted : Option Cell) (records : List Record) (readings : L
     → place < length readings
     → r ≡ get_or records place r
     → reading ≡ get_or readings place reading
-    → after ≡ page ++ section_if wanted r (messages_of reading.shown.items)
+    → after ≡ page ++ section_if wanted r (messages_shown reading.shown.items)
     → page ++ sections_of wanted (drop place records) (readings_of (drop place readings)) ≡ whole
     → after ++ sections_of wanted (drop (place + 1) records) (readings_of (drop (place + 1) readings)) ≡ whole
 section_drawn wanted records readings place r reading page after whole in_records in_readings r_is reading_is is
@@ -29,7 +29,7 @@ section_drawn wanted records readings place r reading page after whole in_record
     drop_more readings place reading in_readings
     ∙ ap (λ (x : Reading). x ∷ drop (place + 1) readings) (sym reading_is) in
     ap (λ (octets : List ℕ). octets ++ left) is
-    ∙ append_assoc page (section_if wanted r (messages_of reading.shown.items)) left
+    ∙ append_assoc page (section_if wanted r (messages_shown reading.shown.items)) left
     ∙ ap₂ (λ (rs : List Record) (xs : List Reading). page ++ sections_of wanted rs (readings_of xs)) (sym front)
     (sym read)
     ∙ so_far

@@ -1,7 +1,7 @@
 //! What is drawn of a cell.
 
 ghost use Rattle.std.specs.Prelude.{◌≡◌, ◌≢◌, ◌++◌, IfErr, OnOk};
-ghost use Rattle.handset.specs.Keeping.{messages_of};
+ghost use Rattle.handset.specs.Keeping.{messages_shown};
 ghost use Rattle.chart.specs.ChartText.{cell_front, cell_section};
 
 use crate::kept::accepted_in;
@@ -48,7 +48,7 @@ pub(crate) fn push_section(
     reading: &Reading,
 ) -> Result<(), ReportFault>
     ensures section { OnOk result (page.new
-        ≡ page.old ++ cell_section run.now (messages_of reading.now.shown.items)) }
+        ≡ page.old ++ cell_section run.now (messages_shown reading.now.shown.items)) }
     ensures cells { IfErr result (λ fault. fault ≡ ReportFault.Cells → run.now.cell ≢ reading.now.cell) }
     ensures faults { IfErr result (λ fault. fault ≢ ReportFault.WriteFailed) }
 {

@@ -5,7 +5,7 @@ ghost use Rattle.std.specs.Io.KnownBytes.{Appends};
 ghost use Rattle.device_ends.specs.Moves.{AppendsFront};
 ghost use Rattle.device_ends.specs.Sink.{sink_failed, writer_of};
 ghost use Rattle.device_ends.specs.Stream.{Writes};
-ghost use Rattle.handset.specs.Keeping.{messages_of};
+ghost use Rattle.handset.specs.Keeping.{messages_shown};
 ghost use Rattle.handset.specs.Tape.{readings_of};
 ghost use Rattle.report.specs.Rows.{AreOfOneCells};
 ghost use Rattle.chart.specs.ChartText.{chart_front, chart_text, head, introduction, is_wanted};
@@ -89,7 +89,7 @@ fn push_if_wanted(
     reading: &Reading,
 ) -> Result<(), ReportFault>
     ensures section { OnOk result (page.new
-        ≡ page.old ++ section_if wanted run.now (messages_of reading.now.shown.items)) }
+        ≡ page.old ++ section_if wanted run.now (messages_shown reading.now.shown.items)) }
     ensures cells { IfErr result (λ fault. fault ≡ ReportFault.Cells → run.now.cell ≢ reading.now.cell) }
     ensures faults { IfErr result (λ fault. fault ≢ ReportFault.WriteFailed) }
 {

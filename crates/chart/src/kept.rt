@@ -7,8 +7,8 @@ ghost use Rattle.admission.specs.Reservation.{end_of_stopped};
 ghost use Rattle.bsc_table.specs.Claim.{end_of, own_load, reserves};
 ghost use Rattle.bsc_table.specs.Handover.{ahead_of, numbered};
 ghost use Rattle.bsc_table.specs.Orders.{IsWellFormed};
-ghost use Rattle.bsc_table.specs.Record.{accepted_after, accepted_in, added_by, behind_of, claim_of, claims_of};
-ghost use Rattle.bsc_table.specs.Record.{excess_over, is_background, is_of_pair, is_stop_of, replaced_in, start_of};
+ghost use Rattle.bsc_table.specs.Record.{accepted_after, accepted_in, added_by, predecessor_of, claim_of, claims_of};
+ghost use Rattle.bsc_table.specs.Record.{excess_beyond, is_background_category, is_of_pair, is_stop_of, replaced_in, start_of};
 ghost use Rattle.chart.specs.Kept.{accepted_kept, all_kept, kept_stopped, HavePeriods};
 
 use bsc_table::{Answer, Category, Command, Entry};
@@ -46,7 +46,7 @@ pub struct KeptMessage {
 
 /// Whether a category reserves nothing.
 fn is_background(category: Category) -> bool
-    ensures { result ≡ is_background category }
+    ensures { result ≡ is_background_category category }
 {
     match category {
         Category::High | Category::Normal => false,
@@ -187,7 +187,7 @@ fn behind_of(
     id: u16,
     replaces: Option<Serial>,
 ) -> Option<u16>
-    ensures { result ≡ behind_of slot start (replaced_in (all_kept all.now) id replaces) }
+    ensures { result ≡ predecessor_of slot start (replaced_in (all_kept all.now) id replaces) }
 {
     let Some(serial) = replaces else {
         return None;
@@ -203,7 +203,7 @@ fn behind_of(
 /// What a load has over that of the message behind which it waits; 0 where there is none.
 fn excess_over(all: &[KeptMessage], behind: Option<u16>, load: u64) -> u64
     requires { HavePeriods all.now }
-    ensures { result ≡ excess_over load (numbered behind (claims_of (all_kept all.now))) }
+    ensures { result ≡ excess_beyond load (numbered behind (claims_of (all_kept all.now))) }
 {
     let Some(entry) = behind else {
         return 0;

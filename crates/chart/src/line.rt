@@ -6,7 +6,7 @@ ghost use Rattle.bsc_table.specs.Record.{accepted_named};
 ghost use Rattle.chart.specs.Message.{text_shown};
 ghost use Rattle.chart.specs.Kept.{accepted_kept};
 ghost use Rattle.std.specs.Option.{option_map};
-ghost use Rattle.handset.specs.Keeping.{messages_of};
+ghost use Rattle.handset.specs.Keeping.{messages_shown};
 ghost use Rattle.chart.specs.ChartText.{bar, description, line_of, message_front, message_line, message_name};
 ghost use Rattle.chart.specs.ChartText.{name_text, picture_front};
 ghost use Rattle.chart.specs.ChartText.{refusal_description, refusal_front, refusal_line, refusal_picture};
@@ -226,7 +226,7 @@ impl<'a> CellContext<'a> {
         requires { IsContext self.now }
         ensures { OnOk result (page.new ≡ page.old ++ message_line self.now.run.now row.now
             (accepted_named row.now.id row.now.serial self.now.run.now.log)
-            (text_shown (messages_of self.now.shown.now) row.now.id row.now.serial) outcome.now) }
+            (text_shown (messages_shown self.now.shown.now) row.now.id row.now.serial) outcome.now) }
     {
         let found = named(self.messages, row.id, row.serial.number());
         push_message_front(page, row, found, text_shown(self.shown, row.id, row.serial))?;
@@ -250,7 +250,7 @@ impl<'a> CellContext<'a> {
     fn push_line(&self, page: &mut Page, row: &Row) -> Result<(), AllocError>
         requires { IsContext self.now }
         ensures { OnOk result (page.new ≡ page.old
-            ++ line_of self.now.run.now (messages_of self.now.shown.now) row.now) }
+            ++ line_of self.now.run.now (messages_shown self.now.shown.now) row.now) }
     {
         match row.shown {
             Showing::Yes => self.push_message(page, row, SHOWN),
@@ -263,7 +263,7 @@ impl<'a> CellContext<'a> {
     pub(crate) fn push_lines(&self, page: &mut Page, rows: &[Row]) -> Result<(), AllocError>
         requires { IsContext self.now }
         ensures { OnOk result (page.new ≡ page.old
-            ++ flat_map (line_of self.now.run.now (messages_of self.now.shown.now)) rows.now) }
+            ++ flat_map (line_of self.now.run.now (messages_shown self.now.shown.now)) rows.now) }
     {
         for row in rows {
             self.push_line(page, row)?;

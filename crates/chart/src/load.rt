@@ -3,7 +3,7 @@
 ghost use Rattle.std.specs.Prelude.{◌≡◌, ◌+◌, ◌<◌, ◌≤◌, ◌++◌, ℕ, List, length, slice_index, IfOk, OnOk};
 ghost use Rattle.std.specs.List.{flat_map, range_with_len};
 ghost use Rattle.admission.specs.declared.measure.TheConstants.{SCALE};
-ghost use Rattle.bsc_table.specs.Claim.{Claim, claim_at, share_at};
+ghost use Rattle.bsc_table.specs.Claim.{Claim, claim_at, claim_share_at};
 ghost use Rattle.bsc_table.specs.Record.{Record, claim_of, claims_in, claims_of};
 ghost use Rattle.bsc_table.specs.Room.{ClaimsFit};
 ghost use Rattle.chart.specs.ChartText.{load_end, load_front, load_picture};
@@ -49,7 +49,7 @@ pub(crate) fn end_within(kept: &KeptMessage, slots: usize) -> usize
 /// What a message reserves at a slot of its reservation.
 fn share_at(kept: &KeptMessage, slot: usize) -> u64
     requires { 0 < kept.now.period }
-    ensures { result ≡ share_at slot (claim_of (accepted_kept kept.now)) }
+    ensures { result ≡ claim_share_at slot (claim_of (accepted_kept kept.now)) }
 {
     if (slot as u64) < u64::from(kept.start) {
         kept.excess

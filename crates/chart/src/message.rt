@@ -4,7 +4,7 @@ ghost use Rattle.std.specs.Prelude.{◌≡◌, ◌++◌, ◌<◌, IfSome, OnOk, 
 ghost use Rattle.std.specs.Option.{option_map, option_map_or};
 ghost use Rattle.scheduler.specs.Pages.{airs_page};
 ghost use Rattle.bsc_table.specs.Book.{air_pairs, aired_pair};
-ghost use Rattle.handset.specs.Keeping.{messages_of};
+ghost use Rattle.handset.specs.Keeping.{messages_shown};
 ghost use Rattle.chart.specs.Kept.{accepted_kept};
 ghost use Rattle.chart.specs.Message.{category_words, mark_at, marks_of, text_shown};
 
@@ -47,7 +47,7 @@ pub(crate) fn category_words(found: Option<KeptMessage>) -> &'static str
 
 /// The text that a handset shows of a message, if it shows one.
 pub(crate) fn text_shown(shown: &[Shown], id: u16, serial: Serial) -> &str
-    ensures { result.now ≡ text_shown (messages_of shown.now) id serial }
+    ensures { result.now ≡ text_shown (messages_shown shown.now) id serial }
 {
     for message in shown {
         if message.id == id && message.serial == serial {

@@ -14,7 +14,7 @@ use Rattle.cbs_page.specs.declared.octets.PageView.{PageView}
 use Rattle.scheduler.specs.Message.{ScheduledMessage}
 use Rattle.scheduler.specs.Air.{Air}
 use Rattle.scheduler.specs.Completed.{completed}
-use Rattle.handset.specs.Reception.{Name, is_of, pages_named, agreeing, total_in, is_complete, ShownMessage, message_of}
+use Rattle.handset.specs.Reception.{Name, is_of, pages_named, agreeing, total_in, is_complete, ShownMessage, shown_message}
 use Rattle.handset.specs.Reception.{readable_pages, shown_in}
 use Rattle.handset.specs.Counting.{whole_among}
 use Rattle.handset.specs.Showing.{name_shown, AreTheComplete}
@@ -208,7 +208,7 @@ shown_are_the_broadcast laws r slot legal by =
 
     message_is : (r : Record) (slot : ℕ) (a : Accepted) → IsSentMessage a (sent_by r.log a) → IsRead r slot a
         → is_complete (name_accepted a) (readable_pages (blocks_before slot r)) ≡ true
-        → message_of (name_accepted a) (readable_pages (blocks_before slot r)) ≡ message_accepted r.log a
+        → shown_message (name_accepted a) (readable_pages (blocks_before slot r)) ≡ message_accepted r.log a
     message_is r slot a sent read whole =
         let text = laws.text_is_the_messages (name_accepted a) (sent_by r.log a)
         (readable_pages (blocks_before slot r)) (is_message a (sent_by r.log a) sent) read.from whole in
@@ -217,7 +217,7 @@ shown_are_the_broadcast laws r slot legal by =
     each_is : (r : Record) (slot : ℕ) (m : ShownMessage) (a : Accepted) → Contains (accepted_in r.log) a
         → name_shown m ≡ name_accepted a → All (λ a. IsSentMessage a (sent_by r.log a) × IsRead r slot a)
         (accepted_in r.log) → is_complete (name_shown m) (readable_pages (blocks_before slot r)) ≡ true
-        → m ≡ message_of (name_shown m) (readable_pages (blocks_before slot r))
+        → m ≡ shown_message (name_shown m) (readable_pages (blocks_before slot r))
         → Any (λ a. (1 ≤ completed a.message r.air slot) × (m ≡ message_accepted r.log a)) (accepted_in r.log)
     each_is r slot m a there name read whole meant =
         let it = subst (λ x. IsSentMessage x (sent_by r.log x) × IsRead r slot x) there.2 (read there.0 a there.1) in
@@ -232,7 +232,7 @@ shown_are_the_broadcast laws r slot legal by =
           there.2,
           (
             one,
-            meant ∙ ap (λ n. message_of n (readable_pages (blocks_before slot r)))
+            meant ∙ ap (λ n. shown_message n (readable_pages (blocks_before slot r)))
                 name ∙ message_is r slot a it.0 it.1 complete,
           ),
         )

@@ -4,9 +4,9 @@ use Rattle.device_ends.specs.declared.fault.ReadFault.{ReadFault}
 use Rattle.device_ends.specs.declared.fault.ReadFault.TheVariants.{Device, Refused}
 
 -- what a fault is printed as
-abbrev pub text_of : ReadFault → List ℕ
-text_of Device = codes "device failed"
-text_of Refused = codes "memory refused"
+abbrev pub read_fault_text : ReadFault → List ℕ
+read_fault_text Device = codes "device failed"
+read_fault_text Refused = codes "memory refused"
 
 -- a result reports that the device failed
 abbrev pub reports_device : {T : Type 0} → Result T ReadFault → Bool

@@ -19,9 +19,9 @@ pub enum ReadFault {
 
 // By hand, as the conversions: what is derived has no contract.
 impl fmt::Display for ReadFault {
-    ghost use Rattle.device_ends.specs.ReadFault.{text_of};
+    ghost use Rattle.device_ends.specs.ReadFault.{read_fault_text};
 
-    ghost output = { λ fault. Some (text_of fault) };
+    ghost output = { λ fault. Some (read_fault_text fault) };
 
     fn fmt<W: fmt::Write>(&self, f: &mut fmt::Formatter<W>) -> fmt::Result {
         match self {

@@ -9,7 +9,7 @@ use Rattle.std.proofs.lemmas.List.{length-append, length-map, length-take-le, le
 use Rattle.handset.specs.Reception.{shown_in}
 use Rattle.handset.specs.Tape.{AreJoined, IsCut, IsLong, IsOversized, IsShort, IsTape, TapeReading}
 use Rattle.handset.specs.Tape.{cell_in, octets_of_blocks, slots_in}
-use Rattle.gsmtap.specs.Capture.{AreWhole, IsWhole, Tape, blocks_of_slot, capture, file_header, octets_of_tape}
+use Rattle.gsmtap.specs.Capture.{AreWhole, IsWhole, Tape, blocks_in_slot, capture, file_header, octets_of_tape}
 use Rattle.gsmtap.specs.Capture.{octets_of_tapes, packets_of_slots, packets_of_tapes}
 use Rattle.gsmtap.specs.CaptureSteps.{BeginsWithTape, PushesTape}
 use Rattle.gsmtap.specs.declared.capture.Settings.{Settings}
@@ -25,13 +25,13 @@ pub record ArePushed (settings : Settings) (input left : List ℕ) (number : ℕ
 
 -- the blocks of slots
 abbrev pub blocks_of_slots : List (List ℕ) → List (List ℕ)
-blocks_of_slots slots = flat_map blocks_of_slot slots
+blocks_of_slots slots = flat_map blocks_in_slot slots
 
 pub blocks_joined : (slots : List (List ℕ)) → AllByRecursion (λ slot. length slot ≡ 92) slots →
     octets_of_blocks (blocks_of_slots slots) ≡ flat_map (λ slot. slot) slots
 blocks_joined [] each = refl
 blocks_joined (slot ∷ slots) each =
-    flat_map-append (λ block. block) (blocks_of_slot slot) (blocks_of_slots slots)
+    flat_map-append (λ block. block) (blocks_in_slot slot) (blocks_of_slots slots)
     ∙ ap (λ octets. octets ++ octets_of_blocks (blocks_of_slots slots)) (chunks_joined 23 4 slot each.0)
     ∙ ap (λ octets. slot ++ octets) (blocks_joined slots each.1)
 
@@ -39,13 +39,13 @@ blocks_long : (slots : List (List ℕ)) → length (blocks_of_slots slots) ≡ 4
 blocks_long [] = refl
 blocks_long (slot ∷ slots) =
     let rest : length (blocks_of_slots slots) ≡ 4 * length slots = blocks_long slots in
-    omega (arith, length-append (blocks_of_slot slot) (blocks_of_slots slots), chunks_long 23 4 slot, rest)
+    omega (arith, length-append (blocks_in_slot slot) (blocks_of_slots slots), chunks_long 23 4 slot, rest)
 
 blocks_each : (slots : List (List ℕ)) → AllByRecursion (λ slot. length slot ≡ 92) slots →
     AllByRecursion (λ block. length block ≡ 23) (blocks_of_slots slots)
 blocks_each [] each = tt
 blocks_each (slot ∷ slots) each =
-    each-append (λ block. length block ≡ 23) (blocks_of_slot slot) (blocks_of_slots slots)
+    each-append (λ block. length block ≡ 23) (blocks_in_slot slot) (blocks_of_slots slots)
     (chunks_each 23 4 slot each.0) (blocks_each slots each.1)
 
 -- what a handset reads of a tape

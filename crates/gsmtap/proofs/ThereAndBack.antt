@@ -9,9 +9,9 @@ use Rattle.gsmtap.specs.TapeOfCapture.{after_packet, after_packets, after_sent, 
 use Rattle.gsmtap.specs.declared.track.Track.{Track}
 use Rattle.byteorder.specs.Numbers.{big_number-reads_back}
 use Rattle.gsmtap.specs.File.{ArePackets, IsPacket, Packet, length_said, link_of, octets_of_packet, octets_of_packets}
-use Rattle.gsmtap.specs.File.{order_of}
+use Rattle.gsmtap.specs.File.{octet_order_of}
 use Rattle.std.proofs.lemmas.Grind.{flat_map-append}
-use Rattle.gsmtap.specs.Capture.{blocks_of_slot, file_header, packets_of_blocks, packets_of_slot, packets_of_slots}
+use Rattle.gsmtap.specs.Capture.{blocks_in_slot, file_header, packets_of_blocks, packets_of_slot, packets_of_slots}
 use Rattle.gsmtap.specs.declared.capture.Slots.TheVariants.{All}
 use Rattle.gsmtap.proofs.Chunks.{chunks_each, chunks_long}
 use Rattle.gsmtap.proofs.TapeSteps.{blocks_joined, blocks_of_slots}
@@ -24,7 +24,7 @@ use Rattle.gsmtap.specs.declared.file.Link.{Link}
 use Rattle.gsmtap.specs.declared.file.Order.{Order}
 use Rattle.gsmtap.specs.Packet.{datagram_header, frame_number, internet_header, packet, record_header, tap_header}
 use Rattle.std.proofs.lemmas.List.{length-append, length_push, take_all}
-use Rattle.gsmtap.specs.Track.{Known, ahead, followed, nearest, place_in, put, put_at, slot_in, with_block}
+use Rattle.gsmtap.specs.Track.{Known, ahead, followed, nearest, place_in, put, put_at, slot_of_frame, with_block}
 use Rattle.gsmtap.specs.Tap.{block_of, datagram_of, internet_of, payload_of, sent_in}
 use Rattle.gsmtap.specs.declared.file.Link.TheVariants.{Internet}
 use Rattle.gsmtap.specs.declared.file.Order.TheVariants.{LowFirst}
@@ -32,7 +32,7 @@ use Rattle.gsmtap.specs.declared.packet.Channel.{Channel}
 use Rattle.gsmtap.specs.declared.packet.Channel.TheVariants.{Basic, Extended}
 use Rattle.gsmtap.specs.declared.packet.Place.{Place}
 
-header_order : order_of file_header ≡ Some LowFirst
+header_order : octet_order_of file_header ≡ Some LowFirst
 unfolding file_header
 header_order = refl
 
@@ -115,11 +115,11 @@ packet_whole channel place block long = record {
 place_there : (place : Place) → place.block < 4 → place_in (frame_number place) ≡ place.block
 place_there place few = omega arith
 
-slot_there : (place : Place) → place.block < 4 → slot_in (frame_number place) ≡ place.slot % 6656
+slot_there : (place : Place) → place.block < 4 → slot_of_frame (frame_number place) ≡ place.slot % 6656
 slot_there place few = omega arith
 
 follows_first : (place : Place) → place.block < 4 → place.slot ≡ 0 →
-    followed None (slot_in (frame_number place)) ≡ Some (record { first = 0; slot = 0 })
+    followed None (slot_of_frame (frame_number place)) ≡ Some (record { first = 0; slot = 0 })
 unfolding followed
 follows_first place few is =
     ap (λ (n : ℕ). Some (record { first = n; slot = 0 })) (slot_there place few ∙ ap (λ n. n % 6656) is)
@@ -209,7 +209,7 @@ packets_in channel cell slot block (octets ∷ rest) =
 abbrev pub packets_on : Channel → Cell → (slot : ℕ) → List (List ℕ) → List Packet
 packets_on channel cell slot [] = []
 packets_on channel cell slot (octets ∷ rest) =
-    packets_in channel cell slot 0 (blocks_of_slot octets) ++ packets_on channel cell (slot + 1) rest
+    packets_in channel cell slot 0 (blocks_in_slot octets) ++ packets_on channel cell (slot + 1) rest
 
 in_joined : (channel : Channel) (cell : Cell) (slot block : ℕ) (blocks : List (List ℕ)) →
     octets_of_packets (packets_in channel cell slot block blocks)
@@ -221,17 +221,17 @@ in_joined channel cell slot block (octets ∷ rest) =
     ∙ ap (λ xs. packet channel (at cell slot block) octets ++ xs) (in_joined channel cell slot (block + 1) rest)
 
 slot_joined : (channel : Channel) (cell : Cell) (slot : ℕ) (octets : List ℕ) →
-    octets_of_packets (packets_in channel cell slot 0 (blocks_of_slot octets))
+    octets_of_packets (packets_in channel cell slot 0 (blocks_in_slot octets))
     ≡ packets_of_slot channel 0 cell slot octets
 unfolding packets_of_slot
-slot_joined channel cell slot octets = in_joined channel cell slot 0 (blocks_of_slot octets)
+slot_joined channel cell slot octets = in_joined channel cell slot 0 (blocks_in_slot octets)
 
 on_joined : (channel : Channel) (cell : Cell) (slot : ℕ) (slots : List (List ℕ)) →
     octets_of_packets (packets_on channel cell slot slots)
     ≡ packets_of_slots (record { channel = channel; slots = All }) 0 cell slot slots
 on_joined channel cell slot [] = refl
 on_joined channel cell slot (octets ∷ rest) =
-    let front : List Packet = packets_in channel cell slot 0 (blocks_of_slot octets) in
+    let front : List Packet = packets_in channel cell slot 0 (blocks_in_slot octets) in
     let back : List Packet = packets_on channel cell (slot + 1) rest in
     flat_map-append octets_of_packet front back
     ∙ ap (λ xs. xs ++ octets_of_packets back) (slot_joined channel cell slot octets)
@@ -254,9 +254,9 @@ on_whole : (channel : Channel) (cell : Cell) (slot : ℕ) (slots : List (List �
     ArePackets LowFirst (packets_on channel cell slot slots)
 on_whole channel cell slot [] each = tt
 on_whole channel cell slot (octets ∷ rest) each =
-    are-append LowFirst (packets_in channel cell slot 0 (blocks_of_slot octets))
+    are-append LowFirst (packets_in channel cell slot 0 (blocks_in_slot octets))
     (packets_on channel cell (slot + 1) rest)
-    (in_whole channel cell slot 0 (blocks_of_slot octets) (chunks_each 23 4 octets each.0))
+    (in_whole channel cell slot 0 (blocks_in_slot octets) (chunks_each 23 4 octets each.0))
     (on_whole channel cell (slot + 1) rest each.1)
 
 -- packets one after another
@@ -284,10 +284,10 @@ slot_taken : (channel : Channel) (cell : Cell) (slot number : ℕ) (octets : Lis
     (done : List (List ℕ)) (left : ℕ) → length octets ≡ 92 → length done ≡ 4 * slot →
     followed track (slot % 6656) ≡ Some (record { first = 0; slot = slot }) →
     after_packets Internet None number (Ok (record { track = track; blocks = sofar done (suc (suc (suc (suc left)))) }))
-    (packets_in channel cell slot 0 (blocks_of_slot octets))
-    ≡ Ok (known_at slot (done ++ blocks_of_slot octets) left)
+    (packets_in channel cell slot 0 (blocks_in_slot octets))
+    ≡ Ok (known_at slot (done ++ blocks_in_slot octets) left)
 slot_taken channel cell slot number octets track done left long many leads =
-    let each : AllByRecursion (λ block. length block ≡ 23) (blocks_of_slot octets) = chunks_each 23 4 octets long in
+    let each : AllByRecursion (λ block. length block ≡ 23) (blocks_in_slot octets) = chunks_each 23 4 octets long in
     let a : List ℕ = take 23 octets in
     let b : List ℕ = take 23 (drop 23 octets) in
     let c : List ℕ = take 23 (drop 23 (drop 23 octets)) in
@@ -299,7 +299,7 @@ slot_taken channel cell slot number octets track done left long many leads =
     let many1 : length one ≡ 4 * slot + 1 = length_push done a ∙ ap (λ n. n + 1) many in
     let many2 : length two ≡ 4 * slot + 2 = length_push one b ∙ omega (arith, many1) in
     let many3 : length three ≡ 4 * slot + 3 = length_push two c ∙ omega (arith, many2) in
-    let whole : ((((done ++ a ∷ []) ++ b ∷ []) ++ c ∷ []) ++ d ∷ []) ≡ done ++ blocks_of_slot octets =
+    let whole : ((((done ++ a ∷ []) ++ b ∷ []) ++ c ∷ []) ++ d ∷ []) ≡ done ++ blocks_in_slot octets =
     simp append_assoc in
     ap (λ state. after_packets Internet None (number + 1) state (packets_in channel cell slot 1 (b ∷ c ∷ d ∷ [])))
     (next_packet channel cell slot 0 a track done (suc (suc (suc left))) each.0 (lit< tt) refl
@@ -326,7 +326,7 @@ all_taken channel cell slot number [] track done each many leads = (
   append-nil (map Some done) ∙ ap (map Some) (sym (append-nil done)),
 )
 all_taken channel cell slot number (octets ∷ rest) track done each many leads =
-    let blocks : List (List ℕ) = blocks_of_slot octets in
+    let blocks : List (List ℕ) = blocks_in_slot octets in
     let left : ℕ = 4 * length rest in
     let four : 4 * length (octets ∷ rest) ≡ suc (suc (suc (suc left))) = omega arith in
     let front : List Packet = packets_in channel cell slot 0 blocks in

@@ -37,8 +37,8 @@ abbrev pub AreWhole : List Tape → Type 0
 AreWhole tapes = AllByRecursion IsWhole tapes
 
 -- the four blocks of a slot
-abbrev pub blocks_of_slot : List ℕ → List (List ℕ)
-blocks_of_slot slot = first_chunks 23 4 slot
+abbrev pub blocks_in_slot : List ℕ → List (List ℕ)
+blocks_in_slot slot = first_chunks 23 4 slot
 
 -- the file's header: the magic number of microseconds, version 2.4, zone and accuracy 0, at most 65,535 octets of a
 -- packet, and link type 228, raw IPv4. Low octets stand first
@@ -60,7 +60,7 @@ packets_of_blocks channel tape cell slot block (octets ∷ rest) =
     ++ packets_of_blocks channel tape cell slot (block + 1) rest
 
 unfoldable pub packets_of_slot : Channel → (tape : ℕ) → Cell → (slot : ℕ) → List ℕ → List ℕ
-packets_of_slot channel tape cell slot octets = packets_of_blocks channel tape cell slot 0 (blocks_of_slot octets)
+packets_of_slot channel tape cell slot octets = packets_of_blocks channel tape cell slot 0 (blocks_in_slot octets)
 
 -- the packets of slots that follow each other on a tape, from this one on
 abbrev pub packets_of_slots : Settings → (tape : ℕ) → Cell → (slot : ℕ) → List (List ℕ) → List ℕ

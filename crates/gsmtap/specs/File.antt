@@ -19,8 +19,8 @@ abbrev pub is_magic : ℕ → Bool
 is_magic number = number == 0xA1B2C3D4 || number == 0xA1B23C4D
 
 -- the order of the octets of its numbers, by the magic number that a file begins with
-abbrev pub order_of : List ℕ → Option Order
-order_of header =
+abbrev pub octet_order_of : List ℕ → Option Order
+octet_order_of header =
     if is_magic (little_number 4 header) then Some LowFirst
     else (if is_magic (big_number 4 header) then Some HighFirst else None)
 
@@ -64,5 +64,5 @@ pub record Opens (input : List ℕ) (order : Order) (link : Link) (rest : List �
   pub header : List ℕ
   pub split : input ≡ header ++ rest
   pub long : length header ≡ 24
-  pub order_is : order_of header ≡ Some order
+  pub order_is : octet_order_of header ≡ Some order
   pub link_is : link_of order header ≡ Some link

@@ -4,7 +4,7 @@ use Rattle.std.specs.Prelude.{unwrap_or}
 use Rattle.std.specs.Prelude.{Option, Some, None, Result, Ok, Err}
 use Rattle.cbch_blocks.specs.Blocks.{idle_block}
 use Rattle.handset.specs.Tape.{tape_octets}
-use Rattle.gsmtap.specs.File.{ArePackets, IsCutPacket, Opens, Packet, link_of, octets_of_packets, order_of}
+use Rattle.gsmtap.specs.File.{ArePackets, IsCutPacket, Opens, Packet, link_of, octets_of_packets, octet_order_of}
 use Rattle.gsmtap.specs.Tap.{sent_in}
 use Rattle.gsmtap.specs.Track.{Known, with_block}
 use Rattle.gsmtap.specs.declared.fault.AirFault.{AirFault}
@@ -88,12 +88,12 @@ pub record IsTapeOfCapture (wanted : Wanted) (input output : List ℕ) : Type 0 
 
 -- the header is cut, or its magic number isn't known; or the link type isn't
 abbrev pub IsNoCapture : List ℕ → Type 0
-IsNoCapture input = (length input < 24) ⊎ (order_of (take 24 input) ≡ None)
+IsNoCapture input = (length input < 24) ⊎ (octet_order_of (take 24 input) ≡ None)
 
 pub record IsOtherLink (input : List ℕ) : Type 0 where
   pub long : 24 ≤ length input
   pub order : Order
-  pub order_is : order_of (take 24 input) ≡ Some order
+  pub order_is : octet_order_of (take 24 input) ≡ Some order
   pub link_is : link_of order (take 24 input) ≡ None
 
 -- why an input has no tape, but for out of memory

@@ -13,8 +13,8 @@ use Rattle.gsmtap.specs.declared.track.Track.{Track}
 abbrev pub multiframe_in : ℕ → ℕ
 multiframe_in frame = frame / 51 % 53248
 
-abbrev pub slot_in : ℕ → ℕ
-slot_in frame = multiframe_in frame / 8
+abbrev pub slot_of_frame : ℕ → ℕ
+slot_of_frame frame = multiframe_in frame / 8
 
 abbrev pub place_in : ℕ → ℕ
 place_in frame = multiframe_in frame % 8
@@ -62,5 +62,5 @@ put_on blocks sent (Some track) = put_result track (put blocks (4 * track.slot +
 -- one block more; those of the extended channel are passed over
 unfoldable pub with_block : Known → Sent → Result Known AirFaultKind
 with_block known sent =
-    if nat_lt (place_in sent.frame) 4 then put_on known.blocks sent (followed known.track (slot_in sent.frame))
+    if nat_lt (place_in sent.frame) 4 then put_on known.blocks sent (followed known.track (slot_of_frame sent.frame))
     else Ok known

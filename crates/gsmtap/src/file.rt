@@ -1,7 +1,7 @@
 //! Capture files in the classic format of libpcap: their header, and the packet that comes next.
 
 ghost use Rattle.std.specs.Prelude.{◌≡◌, ◌<◌, ◌≤◌, length};
-ghost use Rattle.gsmtap.specs.File.{is_magic, link_numbered, link_of, number_in, order_of};
+ghost use Rattle.gsmtap.specs.File.{is_magic, link_numbered, link_of, number_in, octet_order_of};
 
 use byteorder::{BigEndian, ByteOrder, LittleEndian};
 
@@ -44,7 +44,7 @@ fn is_magic(number: u32) -> bool
 /// The order of the octets of a file's numbers, by its header.
 pub fn order_of(header: &[u8]) -> Option<Order>
     requires { length header.now ≡ 24 }
-    ensures { result ≡ order_of header.now }
+    ensures { result ≡ octet_order_of header.now }
 {
     if is_magic(LittleEndian::read_u32(header)) {
         Some(Order::LowFirst)

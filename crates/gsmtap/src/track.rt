@@ -4,7 +4,7 @@ ghost use Rattle.std.specs.Prelude.{◌≡◌, ◌+◌, ◌*◌, ◌<◌, ◌≤
 ghost use Rattle.std.specs.Prelude.{Ok, Err, Some, None, MatchBool, vec_len};
 ghost use Rattle.gsmtap.specs.TapeOfCapture.{after_sent, nothing_known};
 ghost use Rattle.gsmtap.specs.TapeSteps.{IsBlockKind, known_of, last_slot};
-ghost use Rattle.gsmtap.specs.Track.{ahead, followed, nearest, place_in, put, slot_in, with_block};
+ghost use Rattle.gsmtap.specs.Track.{ahead, followed, nearest, place_in, put, slot_of_frame, with_block};
 
 use crate::fault::AirFaultKind;
 use crate::tap::Sent;
@@ -76,7 +76,7 @@ impl Air {
 
 /// The slot of a frame within the hyperframe.
 fn slot_in(frame: u32) -> u32
-    ensures slot { result ≡ slot_in frame }
+    ensures slot { result ≡ slot_of_frame frame }
     ensures bound { result < 6656 }
 {
     frame / 51 % MULTIFRAMES / 8

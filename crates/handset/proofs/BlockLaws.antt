@@ -4,14 +4,14 @@ use Rattle.std.proofs.Common.{sym, ◌∙◌, ap, arith, inl, inr, append-nil, a
 use Rattle.std.specs.Prelude.{◌⊎◌, ◌&&◌}
 use Rattle.std.proofs.lemmas.Bool.{cases_eq, ne_eqb}
 use Rattle.cbs_page.specs.Page.{view_of}
-use Rattle.handset.specs.Reception.{page_octets, type_of, page_types, pages_read}
+use Rattle.handset.specs.Reception.{page_octets, block_type, page_types, pages_read}
 use Rattle.handset.specs.Keeping.{IsUnderWay}
 use Rattle.handset.specs.KeepingSteps.{under_way_with, page_ended}
 
 -- what a block does to the blocks of a page that isn't whole
 record Steps (kept : List (List ℕ)) (block : List ℕ) : Type 0 where
   few : length (under_way_with kept block) ≤ 3
-  begun : map type_of (under_way_with kept block) ≡ take (length (under_way_with kept block)) page_types
+  begun : map block_type (under_way_with kept block) ≡ take (length (under_way_with kept block)) page_types
   goes_on :
       (more : List (List ℕ)) →
       pages_read (kept ++ block ∷ more) ≡ page_ended kept block ++ pages_read (under_way_with kept block ++ more)
@@ -41,7 +41,7 @@ of_type t =
       ]
     ]
 
-after_none : (b : List ℕ) → OfType (type_of b) → Steps [] b
+after_none : (b : List ℕ) → OfType (block_type b) → Steps [] b
 after_none b (inl t) = record { few = simp t (omega arith); begun = simp t refl; goes_on = λ more. simp t refl }
 after_none b (inr (inl t)) = record { few = simp t (omega arith); begun = simp t refl; goes_on = λ more. simp t refl }
 after_none b (inr (inr (inl t))) =
@@ -56,7 +56,7 @@ after_none b (inr (inr (inr (inr t)))) =
           λ more. simp (t.0, t.1, t.2, t.3) refl;
     }
 
-after_first : (x b : List ℕ) → type_of x ≡ 0x20 → OfType (type_of b) → Steps (x ∷ []) b
+after_first : (x b : List ℕ) → block_type x ≡ 0x20 → OfType (block_type b) → Steps (x ∷ []) b
 after_first x b one (inl t) =
     record { few = simp t (omega arith); begun = simp t refl; goes_on = λ more. simp (one, t) refl }
 after_first x b one (inr (inl t)) =
@@ -73,7 +73,7 @@ after_first x b one (inr (inr (inr (inr t)))) =
           λ more. simp (one, t.0, t.1, t.2, t.3) refl;
     }
 
-after_second : (x y b : List ℕ) → type_of x ≡ 0x20 → type_of y ≡ 0x21 → OfType (type_of b) → Steps (x ∷ y ∷ []) b
+after_second : (x y b : List ℕ) → block_type x ≡ 0x20 → block_type y ≡ 0x21 → OfType (block_type b) → Steps (x ∷ y ∷ []) b
 after_second x y b one two (inl t) =
     record { few = simp t (omega arith); begun = simp t refl; goes_on = λ more. simp (one, two, t) refl }
 after_second x y b one two (inr (inl t)) =
@@ -90,7 +90,7 @@ after_second x y b one two (inr (inr (inr (inr t)))) =
           λ more. simp (one, two, t.0, t.1, t.2, t.3) refl;
     }
 
-after_third : (x y z b : List ℕ) → type_of x ≡ 0x20 → type_of y ≡ 0x21 → type_of z ≡ 0x22 → OfType (type_of b) →
+after_third : (x y z b : List ℕ) → block_type x ≡ 0x20 → block_type y ≡ 0x21 → block_type z ≡ 0x22 → OfType (block_type b) →
     Steps (x ∷ y ∷ z ∷ []) b
 after_third x y z b one two three (inl t) =
     record { few = simp t (omega arith); begun = simp t refl; goes_on = λ more. simp (one, two, three, t) refl }
@@ -108,15 +108,15 @@ after_third x y z b one two three (inr (inr (inr (inr t)))) =
           λ more. simp (one, two, three, t.0, t.1, t.2, t.3) refl;
     }
 
-steps : (kept : List (List ℕ)) (b : List ℕ) → length kept ≤ 3 → map type_of kept ≡ take (length kept) page_types →
+steps : (kept : List (List ℕ)) (b : List ℕ) → length kept ≤ 3 → map block_type kept ≡ take (length kept) page_types →
     Steps kept b
-steps [] b few begun = after_none b (of_type (type_of b))
-steps (x ∷ []) b few begun = let e : type_of x ∷ [] ≡ 0x20 ∷ [] = begun in after_first x b (cc) (of_type (type_of b))
+steps [] b few begun = after_none b (of_type (block_type b))
+steps (x ∷ []) b few begun = let e : block_type x ∷ [] ≡ 0x20 ∷ [] = begun in after_first x b (cc) (of_type (block_type b))
 steps (x ∷ y ∷ []) b few begun =
-    let e : type_of x ∷ type_of y ∷ [] ≡ 0x20 ∷ 0x21 ∷ [] = begun in after_second x y b (cc) (cc) (of_type (type_of b))
+    let e : block_type x ∷ block_type y ∷ [] ≡ 0x20 ∷ 0x21 ∷ [] = begun in after_second x y b (cc) (cc) (of_type (block_type b))
 steps (x ∷ y ∷ z ∷ []) b few begun =
-    let e : type_of x ∷ type_of y ∷ type_of z ∷ [] ≡ 0x20 ∷ 0x21 ∷ 0x22 ∷ [] = begun in
-    after_third x y z b (cc) (cc) (cc) (of_type (type_of b))
+    let e : block_type x ∷ block_type y ∷ block_type z ∷ [] ≡ 0x20 ∷ 0x21 ∷ 0x22 ∷ [] = begun in
+    after_third x y z b (cc) (cc) (cc) (of_type (block_type b))
 steps (x ∷ y ∷ z ∷ w ∷ rest) b few begun = absurd (omega arith)
 
 and-false : (b : Bool) → (b && false) ≡ false
@@ -127,8 +127,8 @@ and-false false = refl
 pub ends_none : (block : List ℕ) → [] ≡ page_ended [] block
 ends_none block = simp and-false refl
 
-pub begins_none : (block : List ℕ) → type_of block ≢ 0x20 → [] ≡ under_way_with [] block
-begins_none block other = simp (ne_eqb (type_of block) 0x20 other, and-false) refl
+pub begins_none : (block : List ℕ) → block_type block ≢ 0x20 → [] ≡ under_way_with [] block
+begins_none block other = simp (ne_eqb (block_type block) 0x20 other, and-false) refl
 
 -- the blocks of a page that isn't whole have no page
 no_page : (kept : List (List ℕ)) → length kept ≤ 3 → pages_read kept ≡ []
@@ -166,11 +166,11 @@ under_way-more kept blocks b is =
 
 -- four blocks of a page at the front of a list are a page, and a block that begins none is no part of one
 pub pages_read-page : (first second third last : List ℕ) (rest : List (List ℕ)) →
-    type_of first ≡ 0x20 → type_of second ≡ 0x21 → type_of third ≡ 0x22 → type_of last ≡ 0x33 →
+    block_type first ≡ 0x20 → block_type second ≡ 0x21 → block_type third ≡ 0x22 → block_type last ≡ 0x33 →
     pages_read (first ∷ second ∷ third ∷ last ∷ rest) ≡ view_of
     (page_octets (first ∷ second ∷ third ∷ last ∷ [])) ∷ pages_read rest
 pages_read-page first second third last rest one two three four = simp (one, two, three, four) refl
 
-pub pages_read-other : (block : List ℕ) (rest : List (List ℕ)) → type_of block ≢ 0x20 →
+pub pages_read-other : (block : List ℕ) (rest : List (List ℕ)) → block_type block ≢ 0x20 →
     pages_read (block ∷ rest) ≡ pages_read rest
-pages_read-other block rest other = rw (ne_eqb (type_of block) 0x20 other) refl
+pages_read-other block rest other = rw (ne_eqb (block_type block) 0x20 other) refl

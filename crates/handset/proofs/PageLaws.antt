@@ -14,9 +14,9 @@ use Rattle.std.proofs.lemmas.List.FromFn.{length-range_with_len, get_or-range_wi
 use Rattle.cbs_page.specs.declared.octets.PageView.{PageView}
 use Rattle.cbs_page.specs.Text.{text_of_page}
 use Rattle.handset.specs.Reception.{Name, name_of, is_of, pages_named, agrees_with, agreeing, pages_of, page_numbered}
-use Rattle.handset.specs.Reception.{total_in, total_of, is_complete, text_of, ShownMessage, message_of, completed_by}
+use Rattle.handset.specs.Reception.{total_in, total_of, is_complete, text_of, ShownMessage, shown_message, completed_by}
 use Rattle.handset.specs.Keeping.{is_numbered, AreKept}
-use Rattle.handset.specs.KeepingSteps.{agrees_with_first, counts, pages_with, total_kept, is_whole, text_kept}
+use Rattle.handset.specs.KeepingSteps.{agrees_with_first, counts, pages_with, total_kept, is_kept_whole, text_kept}
 use Rattle.handset.specs.KeepingSteps.{message_kept, message_whole, message_ended}
 use Rattle.handset.proofs.Lists.{first_in, first_in-filter, found_by_first, option_or-some, option_or-none}
 
@@ -227,7 +227,7 @@ numbered_is : (name : Name) (kept pages : List PageView) → AreKept name kept p
 numbered_is name kept pages are = fun_ext (λ number. sym (are.numbered number))
 
 whole_is : (name : Name) (kept pages : List PageView) → AreKept name kept pages →
-    is_complete name pages ≡ is_whole name kept
+    is_complete name pages ≡ is_kept_whole name kept
 whole_is name kept pages are =
     ap (λ total. whole_by total (page_numbered name pages)) (total_is name kept pages are)
     ∙ ap (whole_by (total_kept name kept)) (numbered_is name kept pages are)
@@ -239,7 +239,7 @@ text_is name kept pages are =
     ∙ ap (text_by (total_kept name kept)) (numbered_is name kept pages are)
 
 message_is : (name : Name) (kept pages : List PageView) → AreKept name kept pages →
-    message_of name pages ≡ message_kept name kept
+    shown_message name pages ≡ message_kept name kept
 message_is name kept pages are =
     ap (λ text. let m : ShownMessage = record { id = name.id; serial = name.serial; text = encode_utf8_all text } in m)
     (text_is name kept pages are)
@@ -260,7 +260,7 @@ not_whole-missing total numbered number low high missing =
 -- before a page that counts its message isn't whole
 not_whole-before : (kept : List PageView) (page : PageView) → counts kept page ≡ true → 1 ≤ page.number →
     page.number ≤ page.total →
-    is_whole (name_of page) kept ≡ false
+    is_kept_whole (name_of page) kept ≡ false
 not_whole-before kept page counted low high =
     by_first (find (is_of (name_of page)) kept) parts.1
   where
@@ -297,11 +297,11 @@ completed-counted kept pages page are counted low high =
     let before : is_complete (name_of page) pages ≡ false =
     whole_is (name_of page) kept pages are ∙ not_whole-before kept page counted low high in
     ap (λ b. shown_by b (is_complete (name_of page) (pages ++ page ∷ []))
-    (message_of (name_of page) (pages ++ page ∷ [])))
+    (shown_message (name_of page) (pages ++ page ∷ [])))
     before
-    ∙ ap (λ b. shown_by false b (message_of (name_of page) (pages ++ page ∷ [])))
+    ∙ ap (λ b. shown_by false b (shown_message (name_of page) (pages ++ page ∷ [])))
     (whole_is (name_of page) (kept ++ page ∷ []) (pages ++ page ∷ []) after)
-    ∙ ap (shown_by false (is_whole (name_of page) (kept ++ page ∷ [])))
+    ∙ ap (shown_by false (is_kept_whole (name_of page) (kept ++ page ∷ [])))
     (message_is (name_of page) (kept ++ page ∷ []) (pages ++ page ∷ []) after)
 
 completed-left_out : (kept pages : List PageView) (page : PageView) → AreKept (name_of page) kept pages →
@@ -311,8 +311,8 @@ completed-left_out kept pages page are left_out =
     kept-stays (name_of page) kept pages page are (is_of-own page) left_out in
     let stays : is_complete (name_of page) (pages ++ page ∷ []) ≡ is_complete (name_of page) pages =
     whole_is (name_of page) kept (pages ++ page ∷ []) after ∙ sym (whole_is (name_of page) kept pages are) in
-    ap (λ b. shown_by (is_complete (name_of page) pages) b (message_of (name_of page) (pages ++ page ∷ []))) stays
-    ∙ not_twice (is_complete (name_of page) pages) (message_of (name_of page) (pages ++ page ∷ []))
+    ap (λ b. shown_by (is_complete (name_of page) pages) b (shown_message (name_of page) (pages ++ page ∷ []))) stays
+    ∙ not_twice (is_complete (name_of page) pages) (shown_message (name_of page) (pages ++ page ∷ []))
 
 -- one more page that can be shown, whether it is kept or left out
 pub kept-more : (kept : Name → List PageView) (pages : List PageView) (page : PageView) →

@@ -8,7 +8,7 @@ use Rattle.std.proofs.lemmas.List.Elements.{filter-append}
 use Rattle.cbs_page.specs.declared.octets.PageView.{PageView}
 use Rattle.cbs_page.specs.Page.{view_of, place_of, is_readable}
 use Rattle.cbs_page.specs.Coding.{alphabet_of}
-use Rattle.handset.specs.Reception.{Name, name_of, type_of, page_octets, pages_read, readable_pages, completed_by}
+use Rattle.handset.specs.Reception.{Name, name_of, block_type, page_octets, pages_read, readable_pages, completed_by}
 use Rattle.handset.specs.Reception.{completed_after, shown_in}
 use Rattle.handset.specs.Keeping.{HandsetState, kept_of, AreKept, IsUnderWay, HasRead}
 use Rattle.handset.specs.KeepingSteps.{under_way_with, page_ended, pages_with_read, TakesPage, message_ended_read}
@@ -40,7 +40,7 @@ place-from_one parameter =
 number-from_one : (kept : List (List ℕ)) (block : List ℕ) (page : PageView) → page ∷ [] ≡ page_ended kept block →
     1 ≤ page.number
 number-from_one kept block page ended =
-    by_test ((eqb (type_of block) 0x33) && (eqb (length kept) 3))
+    by_test ((eqb (block_type block) 0x33) && (eqb (length kept) 3))
     (view_of (page_octets (kept ++ block ∷ []))) refl ended
   where
     by_test : (ends : Bool) (view : PageView) → view ≡ view_of (page_octets (kept ++ block ∷ [])) →
@@ -112,7 +112,7 @@ reads_none handset after blocks block none under_way pages shown read =
 
 -- a block that begins no page, where none is under way: what is kept stays as it is
 pub reads_other : (handset : HandsetState) (blocks : List (List ℕ)) (block : List ℕ) → handset.under_way ≡ [] →
-    type_of block ≢ 0x20 → HasRead handset blocks → HasRead handset (blocks ++ block ∷ [])
+    block_type block ≢ 0x20 → HasRead handset blocks → HasRead handset (blocks ++ block ∷ [])
 reads_other handset blocks block none other read =
     reads_none handset handset blocks block (ends_none block ∙ ap (λ kept. page_ended kept block) (sym none))
     (none ∙ begins_none block other ∙ ap (λ kept. under_way_with kept block) (sym none)) refl refl read

@@ -12,7 +12,7 @@ use Rattle.std.proofs.lemmas.List.Folds.{find-append}
 use Rattle.cbs_page.specs.declared.octets.PageView.{PageView}
 use Rattle.cbs_page.specs.Text.{text_of_page}
 use Rattle.handset.specs.Reception.{Name, name_of, is_of, pages_named, agrees_with, agreeing, pages_of, total_in}
-use Rattle.handset.specs.Reception.{is_complete, ShownMessage, message_of, completed_by, completed_after}
+use Rattle.handset.specs.Reception.{is_complete, ShownMessage, shown_message, completed_by, completed_after}
 use Rattle.handset.specs.Reception.{readable_pages, shown_in}
 use Rattle.handset.specs.Laws.{ShownAreTheComplete, OnePageShowsOne}
 use Rattle.handset.specs.Showing.{name_shown}
@@ -90,7 +90,7 @@ message_with name text = record { id = name.id; serial = name.serial; text = enc
 
 -- the same of any pages
 pub complete_stays : (name : Name) (pages more : List PageView) → is_complete name pages ≡ true →
-    (is_complete name (pages ++ more) ≡ true) × (message_of name (pages ++ more) ≡ message_of name pages)
+    (is_complete name (pages ++ more) ≡ true) × (shown_message name (pages ++ more) ≡ shown_message name pages)
 complete_stays name pages more whole =
     let grown = pages_of-append name pages more in
     let stays = stays_by (pages_of name pages) grown.0 whole in
@@ -119,9 +119,9 @@ completes_its_own name before page lacked whole =
 record AreNew (before pages : List PageView) (shown : List ShownMessage) : Type 0 where
   fresh : All (λ m. is_complete (name_shown m) before ≡ false) shown
   complete : All (λ m. is_complete (name_shown m) pages ≡ true) shown
-  meant : All (λ m. m ≡ message_of (name_shown m) pages) shown
+  meant : All (λ m. m ≡ shown_message (name_shown m) pages) shown
   all : (name : Name) → is_complete name before ≡ false → is_complete name pages ≡ true →
-      Contains shown (message_of name pages)
+      Contains shown (shown_message name pages)
   once : AllPairs (λ a b. name_shown a ≢ name_shown b) shown
 
 -- what a list contains it contains with one more in front
@@ -134,7 +134,7 @@ new_none : (before : List PageView) → AreNew before before []
 new_none before = record {
   fresh = All-nil (λ m. is_complete (name_shown m) before ≡ false);
   complete = All-nil (λ m. is_complete (name_shown m) before ≡ true);
-  meant = All-nil (λ m. m ≡ message_of (name_shown m) before);
+  meant = All-nil (λ m. m ≡ shown_message (name_shown m) before);
   all = λ name lacked whole. absurd (false≢true (sym lacked ∙ whole));
   once = λ i j d before within. absurd (omega (arith, within));
 }
@@ -155,24 +155,24 @@ new_more before rest pages page tail joined new =
           let parts =
           and_parts (not (is_complete (name_of page) before))
           (is_complete (name_of page) (before ++ page ∷ [])) completes in
-          let m : ShownMessage = message_of (name_of page) (before ++ page ∷ []) in
+          let m : ShownMessage = shown_message (name_of page) (before ++ page ∷ []) in
           let stays = complete_stays (name_of page) (before ++ page ∷ []) rest parts.1 in
           let whole : is_complete (name_of page) pages ≡ true =
           ap (is_complete (name_of page)) (sym joined) ∙ stays.0 in
-          let same : message_of (name_of page) pages ≡ message_of (name_of page) (before ++ page ∷ []) =
-          ap (message_of (name_of page)) (sym joined) ∙ stays.1 in
+          let same : shown_message (name_of page) pages ≡ shown_message (name_of page) (before ++ page ∷ []) =
+          ap (shown_message (name_of page)) (sym joined) ∙ stays.1 in
           let shown : completed_by before page ++ tail ≡ m ∷ tail = rw completes refl in
           subst (AreNew before pages) (sym shown) (record {
             fresh = All-cons (λ x. is_complete (name_shown x) before ≡ false) m tail
                 (not-true (is_complete (name_of page) before) parts.0) fresh;
             complete = All-cons (λ x. is_complete (name_shown x) pages ≡ true) m tail whole new.complete;
-            meant = All-cons (λ x. x ≡ message_of (name_shown x) pages) m tail (sym same) new.meant;
+            meant = All-cons (λ x. x ≡ shown_message (name_shown x) pages) m tail (sym same) new.meant;
             all = λ n lacked all.
                 elim (cases_Bool (is_complete n (before ++ page ∷ []))) [
-                  | inr lacks ↦ Contains-later m tail (message_of n pages) (new.all n lacks all)
+                  | inr lacks ↦ Contains-later m tail (shown_message n pages) (new.all n lacks all)
                   | inl now ↦
                       let own : n ≡ name_of page = completes_its_own n before page lacked now in
-                      (0, omega arith, sym same ∙ ap (λ x. message_of x pages) (sym own))
+                      (0, omega arith, sym same ∙ ap (λ x. shown_message x pages) (sym own))
                 ];
             once = AllPairs-cons (λ a b. name_shown a ≢ name_shown b) m tail
                 (All-weaker (λ x. is_complete (name_shown x) (before ++ page ∷ []) ≡ false)
@@ -225,7 +225,7 @@ one_shown : (before : List PageView) (page : Option PageView) →
 one_shown before None = (None, refl)
 one_shown before (Some page) =
     elim (cases_Bool (not (is_complete (name_of page) before) && is_complete (name_of page) (before ++ page ∷ []))) [
-      | inl completes ↦ (Some (message_of (name_of page) (before ++ page ∷ [])), rw completes refl)
+      | inl completes ↦ (Some (shown_message (name_of page) (before ++ page ∷ [])), rw completes refl)
       | inr none ↦ (None, rw none refl)
     ]
 

@@ -17,7 +17,7 @@ use Rattle.handset.specs.declared.tape.TapeFault.TheVariants as fault
 use Rattle.handset.specs.Tape.{TapeReading, IsTapeFault, IsTapesFault, IsTape, IsLongTape, IsShortTape}
 use Rattle.handset.specs.Tape.{AreSlots, AreJoined, AreTapes, BeginsWith, IsShort, IsLong, IsCut, IsOversized}
 use Rattle.handset.specs.Tape.{octets_of_blocks, slots_in, reading_from, max_slots, max_tapes}
-use Rattle.handset.specs.TapeSteps.{IsNextFault, ReadsBlocks, ReadsPiece, ReadsTape}
+use Rattle.handset.specs.TapeSteps.{IsNextTapeFault, ReadsBlocks, ReadsPiece, ReadsTape}
 
 -- the reader gave the blocks of this many slots, and a handset has read them
 pub record Fed (old new : Option (List ℕ)) (slots : ℕ) (handset : HandsetState) : Type 0 where
@@ -273,7 +273,7 @@ end_is_short None end = tt
 end_is_short (Some input) end = λ headed. let none : length input ≡ 0 = ap length end in
     absurd (omega (arith, headed, none))
 
-pub next_is_tape : (a : Option (List ℕ)) (why : TapeFault) → IfSome a (λ left. IsNextFault left why) →
+pub next_is_tape : (a : Option (List ℕ)) (why : TapeFault) → IfSome a (λ left. IsNextTapeFault left why) →
     IfSome a (λ input. IsTapeFault input why)
 next_is_tape None why next = tt
 next_is_tape (Some input) fault.Short next = cut_is_short input next
@@ -356,7 +356,7 @@ tapes_go_on a b readings reads more all =
 
 pub next_is_tapes : (a b : Option (List ℕ)) (readings : List TapeReading) (why : TapeFault) → ReadsTapes a b readings →
     length readings < max_tapes →
-    IfSome b (λ left. IsNextFault left why) → IfSome a (λ input. IsTapesFault input why)
+    IfSome b (λ left. IsNextTapeFault left why) → IfSome a (λ input. IsTapesFault input why)
 next_is_tapes a b readings fault.Short reads few next = tapes_cut a b readings reads next few
 next_is_tapes a b readings fault.Long reads few next = tapes_oversized a b readings reads next few
 next_is_tapes None b readings fault.ReadFailed reads few next = tt

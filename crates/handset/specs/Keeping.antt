@@ -7,15 +7,15 @@ use Rattle.handset.specs.declared.blocks.PartialPage.{PartialPage}
 use Rattle.handset.specs.declared.blocks.Stage.{Stage}
 use Rattle.handset.specs.declared.blocks.Stage.TheVariants as stage
 use Rattle.handset.specs.declared.messages.Shown.{Shown}
-use Rattle.handset.specs.Reception.{type_of, page_types, pages_read, readable_pages, Name, is_of, page_numbered}
+use Rattle.handset.specs.Reception.{block_type, page_types, pages_read, readable_pages, Name, is_of, page_numbered}
 use Rattle.handset.specs.Reception.{ShownMessage, shown_in}
 
 -- the messages that were shown, as contracts see them
 abbrev pub message_shown : Shown → ShownMessage
 message_shown shown = record { id = shown.id; serial = shown.serial; text = string_bytes shown.text }
 
-abbrev pub messages_of : List Shown → List ShownMessage
-messages_of shown = map message_shown shown
+abbrev pub messages_shown : List Shown → List ShownMessage
+messages_shown shown = map message_shown shown
 
 -- two names are the same
 abbrev pub same_name : Name → Name → Bool
@@ -39,8 +39,8 @@ blocks_at stage.First first second third = first ∷ []
 blocks_at stage.Second first second third = first ∷ second ∷ []
 blocks_at stage.Third first second third = first ∷ second ∷ third ∷ []
 
-abbrev pub blocks_of : PartialPage → List (List ℕ)
-blocks_of page = blocks_at page.stage page.first page.second page.third
+abbrev pub blocks_kept : PartialPage → List (List ℕ)
+blocks_kept page = blocks_at page.stage page.first page.second page.third
 
 -- the page has this message's name and this number
 abbrev pub is_numbered : Name → ℕ → PageView → Bool
@@ -51,7 +51,7 @@ is_numbered name number page = is_of name page && (page.number == number)
 -- far, and then those that what comes makes with the blocks that are kept
 pub record IsUnderWay (kept blocks : List (List ℕ)) : Type 0 where
   pub few : length kept ≤ 3
-  pub begun : map type_of kept ≡ take (length kept) page_types
+  pub begun : map block_type kept ≡ take (length kept) page_types
   pub goes_on : (more : List (List ℕ)) → pages_read (blocks ++ more) ≡ pages_read blocks ++ pages_read (kept ++ more)
 
 -- the pages that are kept of a message: its first page, and the first of each number among those that agree with it

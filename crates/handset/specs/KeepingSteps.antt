@@ -6,20 +6,20 @@ use Rattle.std.specs.List.{flat_map, list_all, range_with_len}
 use Rattle.cbs_page.specs.declared.octets.PageView.{PageView}
 use Rattle.cbs_page.specs.Page.{view_of, is_readable}
 use Rattle.cbs_page.specs.Text.{text_of_page}
-use Rattle.handset.specs.Reception.{type_of, page_octets, Name, name_of, is_of, agrees_with, ShownMessage}
+use Rattle.handset.specs.Reception.{block_type, page_octets, Name, name_of, is_of, agrees_with, ShownMessage}
 use Rattle.handset.specs.Keeping.{is_numbered, kept_of}
 
 -- the blocks of a page that isn't whole, with one more: a first block begins a page, and the next one goes on with it
 abbrev pub under_way_with : List (List ℕ) → List ℕ → List (List ℕ)
 under_way_with blocks block =
-    if type_of block == 0x20 then block ∷ []
-    else if ((type_of block == 0x21) && (length blocks == 1)) || ((type_of block == 0x22) && (length blocks == 2))
+    if block_type block == 0x20 then block ∷ []
+    else if ((block_type block == 0x21) && (length blocks == 1)) || ((block_type block == 0x22) && (length blocks == 2))
     then blocks ++ block ∷ [] else []
 
 -- the page that a block makes whole
 abbrev pub page_ended : List (List ℕ) → List ℕ → List PageView
 page_ended blocks block =
-    if (type_of block == 0x33) && (length blocks == 3) then view_of (page_octets (blocks ++ block ∷ [])) ∷ [] else []
+    if (block_type block == 0x33) && (length blocks == 3) then view_of (page_octets (blocks ++ block ∷ [])) ∷ [] else []
 
 -- the page agrees with the first of its message, if there is one
 abbrev pub agrees_with_first : Option PageView → PageView → Bool
@@ -48,8 +48,8 @@ pages_with pages page = if counts (pages (name_of page)) page then pages_and pag
 abbrev pub total_kept : Name → List PageView → ℕ
 total_kept name pages = option_map_or (λ page. page.total) (find (is_of name) pages) 0
 
-abbrev pub is_whole : Name → List PageView → Bool
-is_whole name pages =
+abbrev pub is_kept_whole : Name → List PageView → Bool
+is_kept_whole name pages =
     not (total_kept name pages == 0)
     && list_all (λ number. is_some (find (is_numbered name number) pages)) (range_with_len 1 (total_kept name pages))
 
@@ -63,7 +63,7 @@ message_kept name pages = record { id = name.id; serial = name.serial; text = en
 
 -- the message that a page is of, where it is whole
 abbrev pub message_whole : List PageView → PageView → List ShownMessage
-message_whole pages page = if is_whole (name_of page) pages then message_kept (name_of page) pages ∷ [] else []
+message_whole pages page = if is_kept_whole (name_of page) pages then message_kept (name_of page) pages ∷ [] else []
 
 -- the message that a page makes whole
 abbrev pub message_ended : List PageView → PageView → List ShownMessage

@@ -10,8 +10,8 @@ use Rattle.cbs_page.specs.Page.{view_of, is_readable}
 use Rattle.cbs_page.specs.Text.{text_of_page}
 
 -- a block is its type octet and 22 more
-abbrev pub type_of : List ℕ → ℕ
-type_of block = slice_index block 0
+abbrev pub block_type : List ℕ → ℕ
+block_type block = slice_index block 0
 
 -- the types of the four blocks of a page: first, second, third, and fourth and last
 abbrev pub page_types : List ℕ
@@ -24,7 +24,7 @@ page_octets blocks = flat_map (drop 1) blocks
 -- the page that stands at the front of a list of blocks, where its next four have the types of a page's
 abbrev pub page_in_front : List (List ℕ) → List PageView
 page_in_front blocks =
-    if bytes_eq (map type_of (take 4 blocks)) page_types then view_of (page_octets (take 4 blocks)) ∷ [] else []
+    if bytes_eq (map block_type (take 4 blocks)) page_types then view_of (page_octets (take 4 blocks)) ∷ [] else []
 
 -- the pages in a list of blocks: at each place of it, the page that stands there, if one does
 abbrev pub pages_read : List (List ℕ) → List PageView
@@ -95,14 +95,14 @@ pub record ShownMessage : Type 0 where
   pub serial : ℕ
   pub text : List ℕ
 
-abbrev pub message_of : Name → List PageView → ShownMessage
-message_of name pages = record { id = name.id; serial = name.serial; text = encode_utf8_all (text_of name pages) }
+abbrev pub shown_message : Name → List PageView → ShownMessage
+shown_message name pages = record { id = name.id; serial = name.serial; text = encode_utf8_all (text_of name pages) }
 
 -- the message that this page makes complete, after those before it
 abbrev pub completed_by : List PageView → PageView → List ShownMessage
 completed_by before page =
     if not (is_complete (name_of page) before) && is_complete (name_of page) (before ++ page ∷ [])
-    then message_of (name_of page) (before ++ page ∷ []) ∷ [] else []
+    then shown_message (name_of page) (before ++ page ∷ []) ∷ [] else []
 
 -- the messages that these pages make complete, after those before them
 abbrev pub completed_after : List PageView → List PageView → List ShownMessage

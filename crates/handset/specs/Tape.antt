@@ -8,7 +8,7 @@ use Rattle.handset.specs.declared.tape.Reading.{Reading}
 use Rattle.handset.specs.declared.tape.TapeFault.{TapeFault}
 use Rattle.handset.specs.declared.tape.TapeFault.TheVariants as fault
 use Rattle.handset.specs.Reception.{ShownMessage, shown_in}
-use Rattle.handset.specs.Keeping.{messages_of}
+use Rattle.handset.specs.Keeping.{messages_shown}
 
 -- the most slots of a tape, and the most tapes of an input
 abbrev pub max_slots : ℕ
@@ -24,7 +24,7 @@ pub record TapeReading : Type 0 where
   pub shown : List ShownMessage
 
 abbrev pub reading_of : Reading → TapeReading
-reading_of reading = record { cell = reading.cell; slots = reading.slots; shown = messages_of reading.shown.items }
+reading_of reading = record { cell = reading.cell; slots = reading.slots; shown = messages_shown reading.shown.items }
 
 abbrev pub readings_of : List Reading → List TapeReading
 readings_of readings = map reading_of readings

@@ -59,11 +59,11 @@ NextStopsAt old new fault.Refused =
     × (8 ≤ length part → slots_in part ≤ max_slots) × (8 ≤ length part → length part ≤ tape_length part)
 
 -- why an input gives no next tape, but for out of memory and a reader that failed
-abbrev pub IsNextFault : List ℕ → TapeFault → Type 0
-IsNextFault input fault.Short = IsCut input
-IsNextFault input fault.Long = IsOversized input
-IsNextFault input fault.ReadFailed = Unit {0}
-IsNextFault input fault.Refused = Unit {0}
+abbrev pub IsNextTapeFault : List ℕ → TapeFault → Type 0
+IsNextTapeFault input fault.Short = IsCut input
+IsNextTapeFault input fault.Long = IsOversized input
+IsNextTapeFault input fault.ReadFailed = Unit {0}
+IsNextTapeFault input fault.Refused = Unit {0}
 
 -- the reader gave a header that may be
 pub record ReadsHeader (old new : Option (List ℕ)) (header : List ℕ) : Type 0 where

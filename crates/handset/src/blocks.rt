@@ -3,8 +3,8 @@
 
 ghost use Rattle.std.specs.Prelude.{◌≡◌, ◌≢◌, ◌↔◌, ◌++◌, ◌∷◌, [], drop, IsTrue};
 ghost use Rattle.std.specs.Option.{option_to_list};
-ghost use Rattle.handset.specs.Reception.{page_in_front, page_octets, type_of};
-ghost use Rattle.handset.specs.Keeping.{blocks_of};
+ghost use Rattle.handset.specs.Reception.{page_in_front, page_octets, block_type};
+ghost use Rattle.handset.specs.Keeping.{blocks_kept};
 ghost use Rattle.handset.specs.KeepingSteps.{under_way_with, page_ended};
 
 use cbs_page::{PageView, read_page};
@@ -47,7 +47,7 @@ pub struct PartialPage {
 impl PartialPage {
     /// No block.
     pub fn empty() -> PartialPage
-        ensures { blocks_of result ≡ [] }
+        ensures { blocks_kept result ≡ [] }
     {
         PartialPage {
             stage: Stage::Nothing,
@@ -59,7 +59,7 @@ impl PartialPage {
 
     /// Goes on with one more block.
     pub fn push(&mut self, block: &[u8; 23])
-        ensures { blocks_of self.new ≡ under_way_with (blocks_of self.old) block.now }
+        ensures { blocks_kept self.new ≡ under_way_with (blocks_kept self.old) block.now }
     {
         match (block[0], self.stage) {
             (FIRST, _) => {
@@ -81,7 +81,7 @@ impl PartialPage {
     /// Whether no page is under way and a block begins none, as in idle slots. Such a block completes no page, and none
     /// is under way after it.
     pub fn passes_over(&self, block: &[u8; 23]) -> bool
-        ensures { IsTrue result ↔ (blocks_of self.now ≡ []) × (type_of block.now ≢ 0x20) }
+        ensures { IsTrue result ↔ (blocks_kept self.now ≡ []) × (block_type block.now ≢ 0x20) }
     {
         match self.stage {
             Stage::Nothing => block[0] != FIRST,
@@ -93,7 +93,7 @@ impl PartialPage {
 
     /// The page that a block completes.
     pub fn complete_with(&self, block: &[u8; 23]) -> Option<PageView>
-        ensures { option_to_list result ≡ page_ended (blocks_of self.now) block.now }
+        ensures { option_to_list result ≡ page_ended (blocks_kept self.now) block.now }
     {
         match (block[0], self.stage) {
             (LAST, Stage::Third) => {

@@ -3,7 +3,7 @@
 
 ghost use Rattle.std.specs.Prelude.{◌≡◌, ◌++◌, ◌∷◌, [], ℕ, List, IfOk, IsTrue, OnErr, OnOk};
 ghost use Rattle.std.specs.Option.{option_to_list};
-ghost use Rattle.handset.specs.Keeping.{HasRead, kept_of, messages_of};
+ghost use Rattle.handset.specs.Keeping.{HasRead, kept_of, messages_shown};
 ghost use Rattle.handset.specs.KeepingSteps.{TakesPage, message_ended_read};
 ghost use Rattle.handset.specs.Reception.{name_of, shown_in};
 
@@ -28,12 +28,12 @@ pub struct Handset {
 }
 
 impl Model for Handset {
-    ghost use Rattle.handset.specs.Keeping.{HandsetState, blocks_of, messages_of};
+    ghost use Rattle.handset.specs.Keeping.{HandsetState, blocks_kept, messages_shown};
 
     ghost Value = { HandsetState };
 
     ghost view = { λ h.
-        record { under_way = blocks_of h.partial; pages = h.pages; shown = messages_of h.shown.items } };
+        record { under_way = blocks_kept h.partial; pages = h.pages; shown = messages_shown h.shown.items } };
 }
 
 impl Handset {
@@ -59,7 +59,7 @@ impl Handset {
         ensures read { OnOk result ((blocks : List (List ℕ)) → HasRead self.old blocks →
             HasRead self.new (blocks ++ block.now ∷ [])) }
         ensures answered { IfOk result (λ answer. (blocks : List (List ℕ)) → HasRead self.old blocks →
-            shown_in (blocks ++ block.now ∷ []) ≡ shown_in blocks ++ messages_of (option_to_list answer)) }
+            shown_in (blocks ++ block.now ∷ []) ≡ shown_in blocks ++ messages_shown (option_to_list answer)) }
         ensures refused { OnErr result (self.new ≡ self.old) }
     {
         let answer = self.message_with(block)?;
@@ -69,14 +69,14 @@ impl Handset {
 
     /// The messages that were shown, in order.
     pub fn shown(&self) -> &[Shown]
-        ensures { (blocks : List (List ℕ)) → HasRead self.now blocks → messages_of result.now ≡ shown_in blocks }
+        ensures { (blocks : List (List ℕ)) → HasRead self.now blocks → messages_shown result.now ≡ shown_in blocks }
     {
         &self.shown
     }
 
     /// The messages that were shown, in order, after which nothing more is read.
     pub fn into_shown(self) -> Vec<Shown>
-        ensures { (blocks : List (List ℕ)) → HasRead self blocks → messages_of result.items ≡ shown_in blocks }
+        ensures { (blocks : List (List ℕ)) → HasRead self blocks → messages_shown result.items ≡ shown_in blocks }
     {
         let Handset {
             alloc: _,
@@ -91,7 +91,7 @@ impl Handset {
     /// The message that a block would make complete. The only error is out of memory.
     fn message_with(&self, block: &[u8; 23]) -> Result<Option<Shown>, Refused>
         ensures { IfOk result (λ message. (blocks : List (List ℕ)) → HasRead self.now blocks →
-            shown_in (blocks ++ block.now ∷ []) ≡ shown_in blocks ++ messages_of (option_to_list message)) }
+            shown_in (blocks ++ block.now ∷ []) ≡ shown_in blocks ++ messages_shown (option_to_list message)) }
     {
         match self.partial.complete_with(block) {
             None => Ok(None),
@@ -141,7 +141,7 @@ impl Handset {
 /// The message that a page that was read makes complete.
 fn message_ended(alloc: Global, pages: &Pages, page: &PageView) -> Result<Option<Shown>, Refused>
     ensures { IfOk result (λ message.
-        messages_of (option_to_list message) ≡ message_ended_read (kept_of pages.now (name_of page.now)) page.now) }
+        messages_shown (option_to_list message) ≡ message_ended_read (kept_of pages.now (name_of page.now)) page.now) }
 {
     let kept = pages.of_message(page);
     if !is_counted(kept, page) {
@@ -159,8 +159,8 @@ fn take(
     page: &PageView,
 ) -> Result<(), Refused>
     ensures pages { OnOk result (TakesPage pages.old pages.new page.now) }
-    ensures shown { OnOk result (messages_of shown.new.items
-        ≡ messages_of shown.old.items ++ message_ended_read (kept_of pages.old (name_of page.now)) page.now) }
+    ensures shown { OnOk result (messages_shown shown.new.items
+        ≡ messages_shown shown.old.items ++ message_ended_read (kept_of pages.old (name_of page.now)) page.now) }
     ensures pages_stay { OnErr result (pages.new ≡ pages.old) }
     ensures shown_stay { OnErr result (shown.new.items ≡ shown.old.items) }
 {

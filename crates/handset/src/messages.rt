@@ -4,8 +4,8 @@ ghost use Rattle.std.specs.Prelude.{◌≡◌, ◌&&◌, ◌++◌, ◌∷◌, []
 ghost use Rattle.std.specs.Option.{option_copied, option_to_list};
 ghost use Rattle.cbs_page.specs.Page.{is_readable};
 ghost use Rattle.handset.specs.Reception.{name_of, is_of};
-ghost use Rattle.handset.specs.Keeping.{is_numbered, messages_of};
-ghost use Rattle.handset.specs.KeepingSteps.{agrees_with_first, counts, is_whole, message_whole, text_kept, total_kept};
+ghost use Rattle.handset.specs.Keeping.{is_numbered, messages_shown};
+ghost use Rattle.handset.specs.KeepingSteps.{agrees_with_first, counts, is_kept_whole, message_whole, text_kept, total_kept};
 
 use cbs_page::{PageView, Serial, page_text};
 use std::alloc::Global;
@@ -90,7 +90,7 @@ fn total_with(pages: &[PageView], last: &PageView) -> u8
 
 /// Whether the message of the last page has all its pages, with this last one.
 fn is_complete(pages: &[PageView], last: &PageView) -> bool
-    ensures { result ≡ is_whole (name_of last.now) (pages.now ++ last.now ∷ []) }
+    ensures { result ≡ is_kept_whole (name_of last.now) (pages.now ++ last.now ∷ []) }
 {
     let total = total_with(pages, last);
     // From the last number on: where pages come in order, that is the one that is missing.
@@ -117,7 +117,7 @@ pub fn message_if_complete(
     requires pages { All (λ p. IsTrue (is_readable p)) pages.now }
     requires last { IsTrue (is_readable last.now) }
     ensures { IfOk result (λ message.
-        messages_of (option_to_list message) ≡ message_whole (pages.now ++ last.now ∷ []) last.now) }
+        messages_shown (option_to_list message) ≡ message_whole (pages.now ++ last.now ∷ []) last.now) }
 {
     if !is_complete(pages, last) {
         return Ok(None);

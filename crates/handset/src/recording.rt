@@ -8,7 +8,7 @@ ghost use Rattle.device_ends.specs.Stream.{Reads};
 ghost use Rattle.handset.specs.Recording.{TapeRecording, AreRecorded};
 ghost use Rattle.handset.specs.Tape.{max_tapes, reports_read_failed, IsTapesFault};
 ghost use Rattle.handset.specs.TapeExtent.{StopsAt};
-ghost use Rattle.handset.specs.TapeSteps.{IsNextFault, NextStopsAt, ReadsRecording, StopsInOctets};
+ghost use Rattle.handset.specs.TapeSteps.{IsNextTapeFault, NextStopsAt, ReadsRecording, StopsInOctets};
 
 use crate::input::read_front;
 use crate::tape::{MAX_TAPES, SLOT, TapeFault, cell_of, is_at_end, next_header, slots_of, zeros};
@@ -150,7 +150,7 @@ fn next_recording<R: Read>(
     ensures extent { IfErr result (λ fault. NextStopsAt (R.remaining (reader_of source.old))
         (R.remaining (reader_of source.new)) fault) }
     ensures fault { IfErr result (λ fault. IfSome (R.remaining (reader_of source.old)) (λ left.
-        IsNextFault left fault)) }
+        IsNextTapeFault left fault)) }
     ensures failed { source_failed source.new ≡ reports_read_failed result }
 {
     let Some(header) = next_header(source)? else {

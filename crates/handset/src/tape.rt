@@ -10,13 +10,13 @@ ghost use Rattle.std.specs.Option.{option_to_list};
 ghost use Rattle.device_ends.specs.Source.{reader_of, source_failed};
 ghost use Rattle.device_ends.specs.Stream.{Reads};
 ghost use Rattle.handset.specs.Reception.{shown_in};
-ghost use Rattle.handset.specs.Keeping.{HasRead, messages_of};
+ghost use Rattle.handset.specs.Keeping.{HasRead, messages_shown};
 ghost use Rattle.handset.specs.Tape.{TapeReading, cell_in, slots_in, max_slots, max_tapes, reading_of, readings_of};
 ghost use Rattle.handset.specs.Tape.{AreTapes, AreTaken, reports_read_failed};
 ghost use Rattle.handset.specs.Tape.{IsTape, IsTapeFault, IsTapesFault};
 ghost use Rattle.handset.specs.declared.tape.TapeFault.TheVariants.{ReadFailed, Refused};
 ghost use Rattle.handset.specs.TapeExtent.{StopsAt};
-ghost use Rattle.handset.specs.TapeSteps.{IsNextFault, NextStopsAt, ReadsBlocks, ReadsCount, ReadsFewer, ReadsPiece};
+ghost use Rattle.handset.specs.TapeSteps.{IsNextTapeFault, NextStopsAt, ReadsBlocks, ReadsCount, ReadsFewer, ReadsPiece};
 ghost use Rattle.handset.specs.TapeSteps.{ReadsHeader, ReadsTape, StopsInOctets};
 
 use crate::input::read_front;
@@ -254,7 +254,7 @@ fn next_tape<R: Read>(
     ensures extent { IfErr result (λ fault. NextStopsAt (R.remaining (reader_of source.old))
         (R.remaining (reader_of source.new)) fault) }
     ensures fault { IfErr result (λ fault. IfSome (R.remaining (reader_of source.old)) (λ left.
-        IsNextFault left fault)) }
+        IsNextTapeFault left fault)) }
     ensures failed { source_failed source.new ≡ reports_read_failed result }
 {
     let Some(header) = next_header(source)? else {
@@ -279,7 +279,7 @@ pub(crate) fn next_header<R: Read>(source: &mut Source<R>) -> Result<Option<[u8;
     ensures extent { IfErr result (λ fault. NextStopsAt (R.remaining (reader_of source.old))
         (R.remaining (reader_of source.new)) fault) }
     ensures fault { IfErr result (λ fault. IfSome (R.remaining (reader_of source.old)) (λ left.
-        IsNextFault left fault)) }
+        IsNextTapeFault left fault)) }
     ensures failed { source_failed source.new ≡ reports_read_failed result }
 {
     let mut header = [0; 8];
@@ -324,7 +324,7 @@ fn read_slots<R: Read>(
     requires few { slots ≤ max_slots }
     requires piece { length piece.old ≡ 65504 }
     ensures shown { IfOk result (λ shown. ReadsBlocks (R.remaining (reader_of source.old))
-        (R.remaining (reader_of source.new)) slots (messages_of shown.items)) }
+        (R.remaining (reader_of source.new)) slots (messages_shown shown.items)) }
     ensures short { IfErr result (λ fault. fault ≡ TapeFault.Short
         → IfSome (R.remaining (reader_of source.old)) (λ left. length left < 92 * slots)) }
     ensures extent { IfErr result (λ fault. StopsInOctets (R.remaining (reader_of source.old))

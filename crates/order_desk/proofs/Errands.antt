@@ -23,7 +23,7 @@ use Rattle.order_desk.specs.DeskSteps.{AreCutShort, AreTasksDone, AreTasksDoneBe
 use Rattle.order_desk.specs.DeskSteps.{IsTaskDone}
 use Rattle.order_desk.specs.DeskSteps.{IsCellTask, IsPrepared, task_cell}
 use Rattle.order_desk.specs.Reply.{cells_answered, reply_message}
-use Rattle.order_desk.specs.ReplySteps.{HasRoomFor}
+use Rattle.order_desk.specs.ReplySteps.{HasReplyRoom}
 use Rattle.order_desk.specs.declared.desk.order.PreparedOrder.{PreparedOrder}
 use Rattle.order_desk.proofs.Holding.{has_placed}
 
@@ -241,9 +241,9 @@ refused_order desk at octets command list (faults.Cause cause) notes order each 
 pub room_of_answers : (own : List Cell) (octets : List ℕ) (order : PreparedOrder) (answers : List (Cell × Answer))
     → (prepared : IsPrepared own octets order)
     → cells_answered answers ≡ map task_cell order.errands.items
-    → HasRoomFor (length answers) order.room
+    → HasReplyRoom (length answers) order.room
 room_of_answers own octets order answers prepared named =
-    subst (λ n. HasRoomFor n order.room)
+    subst (λ n. HasReplyRoom n order.room)
     (ap (λ (cells : List Cell). length cells) (sym (named ∙ prepared.named))
     ∙ length-map answers (λ (a : Cell × Answer). a.0)) prepared.room_for_reply
 

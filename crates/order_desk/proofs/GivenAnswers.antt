@@ -18,7 +18,7 @@ use Rattle.bsc_table.specs.declared.entry.Answer.TheVariants as answers
 use Rattle.bsc_table.specs.declared.entry.Entry.{Entry}
 use Rattle.bsc_table.specs.Claim.{Claim, is_claimed_at, claimed_at, stop_claims}
 use Rattle.bsc_table.specs.Handover.{Place}
-use Rattle.bsc_table.specs.Record.{Accepted, accepted_named, message_named, claims_in, is_background, place_after}
+use Rattle.bsc_table.specs.Record.{Accepted, accepted_named, message_named, claims_in, is_background_category, place_after}
 use Rattle.bsc_table.specs.Record.{is_live}
 use Rattle.bsc_table.specs.Answer.{answer_at, admit_or_refuse, answer_for, answer_of, answer_to_new, answer_to_kill}
 use Rattle.bsc_table.specs.Answer.{answer_to_replacement, answer_to_write, answer_with_room, if_live, unless_accepted}
@@ -51,7 +51,7 @@ of_category fact refuses category claims slot load place accepts has =
     let beside : fact (admit_or_refuse claims slot load place accepts) = cond_both
     (leb 64 (length (filter (is_claimed_at slot) claims))) (answers.Cause 0x07) now fact (λ _. refuses 0x07 refl)
     (λ _. fits) in
-    cond_both (is_background category) (accepts slot) (admit_or_refuse claims slot load place accepts) fact
+    cond_both (is_background_category category) (accepts slot) (admit_or_refuse claims slot load place accepts) fact
     (λ _. has slot) (λ _. beside)
 
 of_pair : (fact : Answer → Type 0) → HasRefusals fact → (named : Option ScheduledMessage) (answer : Answer)

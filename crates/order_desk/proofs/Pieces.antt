@@ -7,7 +7,7 @@ use Rattle.bsc_table.specs.declared.entry.Aired.{Aired}
 use Rattle.bsc_table.specs.Book.{air_pairs, aired_pair}
 use Rattle.bsc_table.specs.Legal.{IsLegal}
 use Rattle.bsc_table.specs.Record.{Record}
-use Rattle.order_desk.specs.Pieces.{octets_aired, pages_aired}
+use Rattle.order_desk.specs.Pieces.{octets_aired, piece_pages}
 
 -- the items of a list from one on, k of them at most, as they are cut out of it
 pub cut_out : {X : Type 0} (xs : List X) (from k first long end : ℕ) → first ≡ min from (length xs)
@@ -23,14 +23,14 @@ cut_out xs from k first long end first_is long_is enough =
 
 -- the pages of some slots of an air list as it is stored
 pub are_pages : (r : Record) (air : List (Option Aired)) (from k : ℕ) → air_pairs air ≡ r.air
-    → map (λ used. octets_aired r.log (aired_pair used)) (take k (drop from air)) ≡ pages_aired from k r
+    → map (λ used. octets_aired r.log (aired_pair used)) (take k (drop from air)) ≡ piece_pages from k r
 are_pages r air from k same =
     sym (map-map (octets_aired r.log) aired_pair (take k (drop from air)))
     ∙ ap (map (octets_aired r.log)) (sym (take-map aired_pair k (drop from air))
     ∙ ap (take k) (sym (drop-map aired_pair from air) ∙ ap (drop from) same))
 
 -- a piece has the slots from one on that were played, k of them at most
-pub pages_long : (r : Record) (from k : ℕ) → IsLegal r → length (pages_aired from k r) ≡ min k (r.clock - from)
+pub pages_long : (r : Record) (from k : ℕ) → IsLegal r → length (piece_pages from k r) ≡ min k (r.clock - from)
 pages_long r from k legal =
     length-map (take k (drop from r.air)) (octets_aired r.log)
     ∙ length-take k (drop from r.air)

@@ -19,7 +19,7 @@ use Rattle.bsc_table.specs.declared.entry.Answer.{Answer}
 use Rattle.bsc_table.specs.declared.entry.Answer.TheVariants as answers
 use Rattle.bsc_table.specs.declared.command.Command.{Command}
 use Rattle.bsc_table.specs.declared.command.Command.TheVariants as commands
-use Rattle.order_desk.specs.Reply.{failure_by, cell_by, count_by, cells_answered, refused_in, accepted_in, counted_in}
+use Rattle.order_desk.specs.Reply.{failure_by, cell_by, count_by, cells_answered, refused_in, accepting_cells, counted_in}
 use Rattle.order_desk.specs.Reply.{write_reply, kill_reply, reply_message}
 
 -- both parts of an alternative that fails
@@ -152,9 +152,9 @@ pub moved : (cs ds : List Cell) → cs ≡ ds → cells_are_valid cs ≡ true �
 moved cs ds same h = cc
 
 pub accepted_valid : (xs : List (Cell × Answer)) → cells_are_valid (cells_answered xs) ≡ true
-    → cells_are_valid (accepted_in xs) ≡ true
+    → cells_are_valid (accepting_cells xs) ≡ true
 accepted_valid xs h =
-    moved (map (λ (c : Cell). c) (accepted_in xs)) (accepted_in xs) (map_same (accepted_in xs))
+    moved (map (λ (c : Cell). c) (accepting_cells xs)) (accepting_cells xs) (map_same (accepting_cells xs))
     (valid (λ a. cell_by a.0 a.1) (λ (c : Cell). c) xs (λ a. cell_names a.0 a.1) h)
 
 -- the replies
@@ -179,7 +179,7 @@ kill_reply-writable id old (failure ∷ failures) completed failed counted =
 pub reply_is_writable : (command : Command) (xs : List (Cell × Answer)) → cells_are_valid (cells_answered xs) ≡ true
     → is_writable (reply_message command xs) ≡ true
 reply_is_writable (commands.Write id serial None category period broadcasts dcs contents) xs h =
-    write_reply-writable id serial None (refused_in xs) [] (accepted_in xs) (refused_valid xs h) refl
+    write_reply-writable id serial None (refused_in xs) [] (accepting_cells xs) (refused_valid xs h) refl
     (accepted_valid xs h)
 reply_is_writable (commands.Write id serial (Some old) category period broadcasts dcs contents) xs h =
     write_reply-writable id serial (Some old) (refused_in xs) (counted_in xs) [] (refused_valid xs h)

@@ -21,7 +21,7 @@ use Rattle.order_desk.specs.declared.desk.order.CellFault.TheVariants as halts
 use Rattle.order_desk.specs.declared.desk.order.PreparedOrder.{PreparedOrder}
 use Rattle.order_desk.specs.Desk.{IsAtMostPlayed, IsHeld, IsOrderOf, DeskState, has_cell}
 use Rattle.order_desk.specs.Notes.{IsAsked, IsOrderServed}
-use Rattle.order_desk.specs.ReplySteps.{HasRoomFor}
+use Rattle.order_desk.specs.ReplySteps.{HasReplyRoom}
 use Rattle.cbsp_wire.specs.CellLists.{contains}
 use Rattle.cbsp_wire.specs.Range.{cells_are_valid}
 
@@ -60,7 +60,7 @@ pub record IsPrepared (own : List Cell) (octets : List ℕ) (order : PreparedOrd
   pub each : All (IsCellTask own order.command) order.errands.items
   pub no_answers : order.answers.items ≡ []
   pub room_for_answers : vec_len order.errands ≤ vec_capacity order.answers
-  pub room_for_reply : HasRoomFor (length cells) order.room
+  pub room_for_reply : HasReplyRoom (length cells) order.room
 
 -- an errand that a desk can do: its place has its cell, and its command is one that a message can ask for
 abbrev pub CanBeDone : DeskState → CellTask → Type 0

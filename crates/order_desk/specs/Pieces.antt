@@ -17,18 +17,18 @@ use Rattle.order_desk.specs.declared.desk.piece.Piece.{Piece}
 use Rattle.order_desk.specs.Desk.{IsHeld, DeskState, has_cell}
 
 -- the octets of a page of a write, of which the pages are numbered from 1 and are 15 at most
-abbrev pub page_octets : ℕ → Command → Option (List ℕ)
-page_octets page (commands.Write id serial replaces category period broadcasts dcs contents) =
+abbrev pub write_page_octets : ℕ → Command → Option (List ℕ)
+write_page_octets page (commands.Write id serial replaces category period broadcasts dcs contents) =
     if (page == 0) || nat_lt (length contents) page || nat_lt 15 (length contents)
     then None
     else option_map (λ (content : Content). octets_of_page id serial dcs.0 page (length contents) content.octets)
     (slice_get contents (page - 1))
-page_octets page (commands.Kill id serial) = None
-page_octets page (commands.Status id serial) = None
+write_page_octets page (commands.Kill id serial) = None
+write_page_octets page (commands.Status id serial) = None
 
 abbrev pub octets_of_entry : ℕ → Option Entry → Option (List ℕ)
 octets_of_entry page None = None
-octets_of_entry page (Some e) = page_octets page e.command
+octets_of_entry page (Some e) = write_page_octets page e.command
 
 -- the octets of the page that a slot aired: of the used entry, the page of the used number
 abbrev pub octets_aired : List Entry → Option (ℕ × ℕ) → Option (List ℕ)
@@ -36,8 +36,8 @@ octets_aired log None = None
 octets_aired log (Some used) = octets_of_entry used.1 (slice_get log used.0)
 
 -- what at most k slots from one on aired, of those that were played
-abbrev pub pages_aired : (from k : ℕ) → Record → List (Option (List ℕ))
-pages_aired from k r = map (octets_aired r.log) (take k (drop from r.air))
+abbrev pub piece_pages : (from k : ℕ) → Record → List (Option (List ℕ))
+piece_pages from k r = map (octets_aired r.log) (take k (drop from r.air))
 
 -- a piece of a cell of the desk from a slot on: of at most k slots, of those that were played
 pub record IsPieceOf (desk : DeskState) (cell : Cell) (from k : ℕ) (piece : Piece) : Type 0 where
@@ -46,7 +46,7 @@ pub record IsPieceOf (desk : DeskState) (cell : Cell) (from k : ℕ) (piece : Pi
   pub is_held : IsHeld desk cell held
   pub of_cell : piece.cell ≡ cell
   pub begins : piece.from ≡ from
-  pub aired : piece.pages.items ≡ pages_aired from k held
+  pub aired : piece.pages.items ≡ piece_pages from k held
   pub long : vec_len piece.pages ≡ min k (held.clock - from)
 
 -- why there is no piece: the cell isn't of the desk, or its lock holds a book of another; or the desk is out of memory

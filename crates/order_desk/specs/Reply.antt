@@ -60,8 +60,8 @@ count_by cell other = None
 abbrev pub refused_in : List (Cell × Answer) → List Failure
 refused_in answers = filter_map (λ answer. failure_by answer.0 answer.1) answers
 
-abbrev pub accepted_in : List (Cell × Answer) → List Cell
-accepted_in answers = filter_map (λ answer. cell_by answer.0 answer.1) answers
+abbrev pub accepting_cells : List (Cell × Answer) → List Cell
+accepting_cells answers = filter_map (λ answer. cell_by answer.0 answer.1) answers
 
 abbrev pub counted_in : List (Cell × Answer) → List Count
 counted_in answers = filter_map (λ answer. count_by answer.0 answer.1) answers
@@ -81,7 +81,7 @@ kill_reply id old (failure ∷ failures) completed = messages.KillFailed id old 
 -- with the completed broadcasts of the message that went. A status is of no order: what stands for it says nothing.
 abbrev pub reply_message : Command → List (Cell × Answer) → Message
 reply_message (commands.Write id serial None category period broadcasts dcs contents) answers =
-    write_reply id serial None (refused_in answers) [] (accepted_in answers)
+    write_reply id serial None (refused_in answers) [] (accepting_cells answers)
 reply_message (commands.Write id serial (Some old) category period broadcasts dcs contents) answers =
     write_reply id serial (Some old) (refused_in answers) (counted_in answers) []
 reply_message (commands.Kill id serial) answers = kill_reply id serial (refused_in answers) (counted_in answers)

@@ -11,7 +11,7 @@ use Rattle.bsc_table.specs.Answer.{answer_of}
 use Rattle.bsc_table.specs.Transitions.{has_entry}
 use Rattle.bsc_table.specs.declared.entry.Answer.{Answer}
 use Rattle.bsc_table.specs.declared.entry.Answer.TheVariants as answers
-use Rattle.order_desk.specs.Reply.{IsAnswerTo, accepted_in, cells_answered, counted_in, refused_in}
+use Rattle.order_desk.specs.Reply.{IsAnswerTo, accepting_cells, cells_answered, counted_in, refused_in}
 
 -- a refusal is told with its cell and its cause, between the refusals before and after it
 abbrev pub RefusalsAreListed : Type 0
@@ -34,7 +34,7 @@ OthersAreNotRefused = (cell : Cell) (answers : List (Cell × Answer))
 -- a cell that accepts a plain write is told as accepting, and the completed broadcasts of one that replaced a message
 abbrev pub AcceptedAreListed : Type 0
 AcceptedAreListed = (cell : Cell) (slot : ℕ) (before after : List (Cell × Answer))
-    → accepted_in (before ++ (cell, answers.Started slot) ∷ after) ≡ accepted_in before ++ cell ∷ accepted_in after
+    → accepting_cells (before ++ (cell, answers.Started slot) ∷ after) ≡ accepting_cells before ++ cell ∷ accepting_cells after
 
 abbrev pub ReplacedAreCounted : Type 0
 ReplacedAreCounted = (cell : Cell) (slot completed : ℕ) (before after : List (Cell × Answer))

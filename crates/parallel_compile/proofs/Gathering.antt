@@ -12,7 +12,7 @@ use mathlib.Core.Logic.{dite}
 use Rattle.order_desk.proofs.FirstNot.{first_same, first_of_both}
 use Rattle.order_desk.specs.SettleSteps.{IsLeastFailing, lesser}
 use Rattle.tickets.specs.Draws.{times, numbers_below, AreSame}
-use Rattle.parallel_compile.specs.Gathered.{AreGathered, IsLeastBad, IsAmongPieces, numbers_of}
+use Rattle.parallel_compile.specs.Gathered.{AreGathered, IsLeastBad, IsAmongPieces, piece_numbers}
 use Rattle.parallel_compile.specs.Places.{ArePut, IsWithin}
 use Rattle.parallel_compile.specs.Workers.{IsPieceOfRecord}
 use Rattle.bsc_table.specs.Record.{Record}
@@ -29,30 +29,30 @@ IsGood n numbers x = times x numbers ≡ times x (numbers_below n)
 -- A number is good that isn't given too often and whose place isn't free.
 pub good_if : (n : ℕ) (pieces : List (ℕ × List ℕ)) (places : List (Option (List ℕ))) (spoilt : Option ℕ)
     → ArePut n pieces places spoilt
-    → (x : ℕ) → IsWithin n (numbers_of pieces) x × IsTaken places x → IsGood n (numbers_of pieces) x
+    → (x : ℕ) → IsWithin n (piece_numbers pieces) x × IsTaken places x → IsGood n (piece_numbers pieces) x
 good_if n pieces places spoilt put x is = elim (slice_get_cases places x).1 [
   | inl there ↦
-      let some : 0 < times x (numbers_of pieces) = filled there.0 there.2 in
+      let some : 0 < times x (piece_numbers pieces) = filled there.0 there.2 in
       let once : times x (numbers_below n) ≡ 1 = once_below x n (subst (λ k. x < k) put.long there.1) in
-      let most : times x (numbers_of pieces) ≤ times x (numbers_below n) = is.0 in
+      let most : times x (piece_numbers pieces) ≤ times x (numbers_below n) = is.0 in
       omega arith
   | inr past ↦
       let none : times x (numbers_below n) ≡ 0 = none_from x n (subst (λ k. k ≤ x) put.long past.0) in
-      let most : times x (numbers_of pieces) ≤ times x (numbers_below n) = is.0 in
+      let most : times x (piece_numbers pieces) ≤ times x (numbers_below n) = is.0 in
       omega arith
 ]
   where
-    filled : (o : Option (List ℕ)) → slice_get places x ≡ Some o → 0 < times x (numbers_of pieces)
+    filled : (o : Option (List ℕ)) → slice_get places x ≡ Some o → 0 < times x (piece_numbers pieces)
     filled None free = absurd (is.1 free)
     filled (Some s) there = put.taken x s there
 
 pub only_if : (n : ℕ) (pieces : List (ℕ × List ℕ)) (places : List (Option (List ℕ))) (spoilt : Option ℕ)
     → ArePut n pieces places spoilt
-    → (x : ℕ) → IsGood n (numbers_of pieces) x → IsWithin n (numbers_of pieces) x × IsTaken places x
+    → (x : ℕ) → IsGood n (piece_numbers pieces) x → IsWithin n (piece_numbers pieces) x × IsTaken places x
 only_if n pieces places spoilt put x good = (
   omega arith,
   λ free.
-      let none : times x (numbers_of pieces) ≡ 0 = put.free x free in
+      let none : times x (piece_numbers pieces) ≡ 0 = put.free x free in
       let once : times x (numbers_below n) ≡ 1 =
       once_below x n (subst (λ k. x < k) put.long (slice_get_within places x None free)) in
       absurd (omega arith),
@@ -62,20 +62,20 @@ only_if n pieces places spoilt put x good = (
 pub first_bad : (n : ℕ) (pieces : List (ℕ × List ℕ)) (places : List (Option (List ℕ))) (spoilt missing : Option ℕ)
     → ArePut n pieces places spoilt
     → IsLeastFailing (IsTaken places) missing
-    → IsLeastFailing (IsGood n (numbers_of pieces)) (lesser spoilt missing)
+    → IsLeastFailing (IsGood n (piece_numbers pieces)) (lesser spoilt missing)
 first_bad n pieces places spoilt missing put free =
-    first_same (λ x. IsWithin n (numbers_of pieces) x × IsTaken places x) (IsGood n (numbers_of pieces))
+    first_same (λ x. IsWithin n (piece_numbers pieces) x × IsTaken places x) (IsGood n (piece_numbers pieces))
     (lesser spoilt missing) (good_if n pieces places spoilt put) (only_if n pieces places spoilt put)
-    (first_of_both (IsWithin n (numbers_of pieces)) (IsTaken places) spoilt missing put.least free)
+    (first_of_both (IsWithin n (piece_numbers pieces)) (IsTaken places) spoilt missing put.least free)
 
 pub least_bad : (n : ℕ) (pieces : List (ℕ × List ℕ)) (places : List (Option (List ℕ))) (spoilt missing : Option ℕ)
     (index : ℕ)
     → ArePut n pieces places spoilt
     → IsLeastFailing (IsTaken places) missing
     → lesser spoilt missing ≡ Some index
-    → IsLeastBad n (numbers_of pieces) index
+    → IsLeastBad n (piece_numbers pieces) index
 least_bad n pieces places spoilt missing index put free is =
-    subst (IsLeastFailing (IsGood n (numbers_of pieces))) is (first_bad n pieces places spoilt missing put free)
+    subst (IsLeastFailing (IsGood n (piece_numbers pieces))) is (first_bad n pieces places spoilt missing put free)
 
 -- neither number is there
 some_apart : {X : Type 0} (x : X) → Some x ≡ None → ⊥
@@ -111,7 +111,7 @@ pub gathered : (n : ℕ) (pieces : List (ℕ × List ℕ)) (places : List (Optio
     → places ≡ map Some tapes
     → AreGathered n pieces tapes
 gathered n pieces places spoilt missing tapes put free is made = record {
-  numbered = subst (IsLeastFailing (IsGood n (numbers_of pieces))) is
+  numbered = subst (IsLeastFailing (IsGood n (piece_numbers pieces))) is
       (first_bad n pieces places spoilt missing put free);
   long = sym (length-map tapes Some) ∙ ap length (sym made) ∙ put.long;
   placed = λ k d within. inner_is (slice_get tapes (slice_index_or pieces k d).0) (slice_index_or pieces k d).1
@@ -122,7 +122,7 @@ gathered n pieces places spoilt missing tapes put free is made = record {
 
 -- a piece that has a number
 found : (P Q : (ℕ × List ℕ) → Type 0) (i : ℕ) (pieces : List (ℕ × List ℕ))
-    → 0 < times i (numbers_of pieces) → AllByRecursion P pieces → AllByRecursion Q pieces
+    → 0 < times i (piece_numbers pieces) → AllByRecursion P pieces → AllByRecursion Q pieces
     → (piece : ℕ × List ℕ) × (piece.0 ≡ i) × P piece × Q piece
 found P Q i [] some one other = absurd (omega arith)
 found P Q i (piece ∷ pieces) some one other = dite (ℕ_discrete i piece.0)
@@ -134,7 +134,7 @@ found P Q i (piece ∷ pieces) some one other = dite (ℕ_discrete i piece.0)
 -- tapes of one length in which each piece is in its place, if no number below the length is missing
 pub same_tapes : (pieces : List (ℕ × List ℕ)) (one other : List (List ℕ))
     → length one ≡ length other
-    → AreSame (numbers_of pieces) (numbers_below (length one))
+    → AreSame (piece_numbers pieces) (numbers_below (length one))
     → All (IsAmongPieces one) pieces
     → All (IsAmongPieces other) pieces
     → one ≡ other
@@ -143,7 +143,7 @@ same_tapes pieces one other long numbered in_one in_other = ext_get_or [] one ot
     at : (i : ℕ) → i < length one → get_or one i [] ≡ get_or other i []
     at i within =
         let once : times i (numbers_below (length one)) ≡ 1 = once_below i (length one) within in
-        let same : times i (numbers_of pieces) ≡ times i (numbers_below (length one)) = numbered i in
+        let same : times i (piece_numbers pieces) ≡ times i (numbers_below (length one)) = numbered i in
         let is = found (IsAmongPieces one) (IsAmongPieces other) i pieces (omega arith)
         (recursion_from_All (IsAmongPieces one) pieces in_one)
         (recursion_from_All (IsAmongPieces other) pieces in_other) in
@@ -161,4 +161,4 @@ pub are_tapes : (records : List Record) (pieces : List (ℕ × List ℕ)) (tapes
     → tapes ≡ map tape_of_record records
 are_tapes records pieces tapes made is =
     same_tapes pieces tapes (map tape_of_record records) (is.long ∙ sym (length-map records tape_of_record))
-    (subst (λ k. AreSame (numbers_of pieces) (numbers_below k)) (sym is.long) is.numbered) is.placed made
+    (subst (λ k. AreSame (piece_numbers pieces) (numbers_below k)) (sym is.long) is.numbered) is.placed made

@@ -5,7 +5,7 @@ use Rattle.std.proofs.lemmas.Bool.{cases_lt, eq-eqb}
 use Rattle.std.proofs.lemmas.List.{map-append}
 use Rattle.tickets.specs.Draws.{times, numbers_below}
 use Rattle.tickets.proofs.Totals.{times_append, is_below}
-use Rattle.parallel_compile.specs.Gathered.{numbers_of}
+use Rattle.parallel_compile.specs.Gathered.{piece_numbers}
 
 -- no number from n on stands among those below n
 pub none_from : (x n : ℕ) → n ≤ x → times x (numbers_below n) ≡ 0
@@ -39,26 +39,26 @@ once_below x (suc n) less =
 
 -- one more piece
 pub numbers_more : (pieces : List (ℕ × List ℕ)) (i : ℕ) (t : List ℕ)
-    → numbers_of (pieces ++ (i, t) ∷ []) ≡ numbers_of pieces ++ i ∷ []
+    → piece_numbers (pieces ++ (i, t) ∷ []) ≡ piece_numbers pieces ++ i ∷ []
 numbers_more pieces i t = map-append (λ (piece : ℕ × List ℕ). piece.0) pieces ((i, t) ∷ [])
 
 pub counts_more : (pieces : List (ℕ × List ℕ)) (i : ℕ) (t : List ℕ) (x : ℕ) → x ≡ i
-    → times x (numbers_of (pieces ++ (i, t) ∷ [])) ≡ times x (numbers_of pieces) + 1
+    → times x (piece_numbers (pieces ++ (i, t) ∷ [])) ≡ times x (piece_numbers pieces) + 1
 counts_more pieces i t x same =
-    ap (times x) (numbers_more pieces i t) ∙ times_append x (numbers_of pieces) (i ∷ [])
-    ∙ ap (λ k. times x (numbers_of pieces) + k) (counts_itself x i same)
+    ap (times x) (numbers_more pieces i t) ∙ times_append x (piece_numbers pieces) (i ∷ [])
+    ∙ ap (λ k. times x (piece_numbers pieces) + k) (counts_itself x i same)
 
 pub counts_same : (pieces : List (ℕ × List ℕ)) (i : ℕ) (t : List ℕ) (x : ℕ) → x ≢ i
-    → times x (numbers_of (pieces ++ (i, t) ∷ [])) ≡ times x (numbers_of pieces)
+    → times x (piece_numbers (pieces ++ (i, t) ∷ [])) ≡ times x (piece_numbers pieces)
 counts_same pieces i t x apart =
-    let more : times x (numbers_of (pieces ++ (i, t) ∷ [])) ≡ times x (numbers_of pieces) + times x (i ∷ []) =
-    ap (times x) (numbers_more pieces i t) ∙ times_append x (numbers_of pieces) (i ∷ []) in
+    let more : times x (piece_numbers (pieces ++ (i, t) ∷ [])) ≡ times x (piece_numbers pieces) + times x (i ∷ []) =
+    ap (times x) (numbers_more pieces i t) ∙ times_append x (piece_numbers pieces) (i ∷ []) in
     let none : times x (i ∷ []) ≡ 0 = counts_no_other x i apart in
     omega arith
 
 pub no_fewer : (pieces : List (ℕ × List ℕ)) (i : ℕ) (t : List ℕ) (x : ℕ)
-    → times x (numbers_of pieces) ≤ times x (numbers_of (pieces ++ (i, t) ∷ []))
+    → times x (piece_numbers pieces) ≤ times x (piece_numbers (pieces ++ (i, t) ∷ []))
 no_fewer pieces i t x =
-    let more : times x (numbers_of (pieces ++ (i, t) ∷ [])) ≡ times x (numbers_of pieces) + times x (i ∷ []) =
-    ap (times x) (numbers_more pieces i t) ∙ times_append x (numbers_of pieces) (i ∷ []) in
+    let more : times x (piece_numbers (pieces ++ (i, t) ∷ [])) ≡ times x (piece_numbers pieces) + times x (i ∷ []) =
+    ap (times x) (numbers_more pieces i t) ∙ times_append x (piece_numbers pieces) (i ∷ []) in
     omega arith

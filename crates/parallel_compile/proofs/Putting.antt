@@ -11,7 +11,7 @@ use mathlib.Core.Logic.{dite}
 use Rattle.order_desk.proofs.FirstNot.{first_same, first_with}
 use Rattle.order_desk.specs.SettleSteps.{lesser}
 use Rattle.tickets.specs.Draws.{times, numbers_below}
-use Rattle.parallel_compile.specs.Gathered.{numbers_of}
+use Rattle.parallel_compile.specs.Gathered.{piece_numbers}
 use Rattle.parallel_compile.specs.Places.{ArePut, IsWithin}
 use Rattle.parallel_compile.proofs.Numbers.{once_below, none_from, counts_more, counts_same, no_fewer}
 
@@ -70,7 +70,7 @@ pub one_put : (n : ℕ) (pieces : List (ℕ × List ℕ)) (places : List (Option
     → ArePut n (pieces ++ (i, t) ∷ []) (set places i (Some t)) spoilt
 one_put n pieces places spoilt i t put there = record {
   long = length-set places i (Some t) ∙ put.long;
-  least = first_same (IsWithin n (numbers_of pieces)) (IsWithin n (numbers_of (pieces ++ (i, t) ∷ []))) spoilt
+  least = first_same (IsWithin n (piece_numbers pieces)) (IsWithin n (piece_numbers (pieces ++ (i, t) ∷ []))) spoilt
       still before put.least;
   free = free;
   taken = taken;
@@ -82,43 +82,43 @@ one_put n pieces places spoilt i t put there = record {
     within : i < n
     within = subst (λ k. i < k) put.long (slice_get_within places i None there)
 
-    still : (x : ℕ) → IsWithin n (numbers_of pieces) x → IsWithin n (numbers_of (pieces ++ (i, t) ∷ [])) x
+    still : (x : ℕ) → IsWithin n (piece_numbers pieces) x → IsWithin n (piece_numbers (pieces ++ (i, t) ∷ [])) x
     still x is = dite (ℕ_discrete x i)
         (λ same.
-        let more : times x (numbers_of (pieces ++ (i, t) ∷ [])) ≡ times x (numbers_of pieces) + 1 =
+        let more : times x (piece_numbers (pieces ++ (i, t) ∷ [])) ≡ times x (piece_numbers pieces) + 1 =
         counts_more pieces i t x same in
-        let none : times x (numbers_of pieces) ≡ 0 = put.free x (ap (slice_get places) same ∙ there) in
+        let none : times x (piece_numbers pieces) ≡ 0 = put.free x (ap (slice_get places) same ∙ there) in
         let once : times x (numbers_below n) ≡ 1 = once_below x n (subst (λ k. k < n) (sym same) within) in
         omega arith)
         (λ apart.
-        let same : times x (numbers_of (pieces ++ (i, t) ∷ [])) ≡ times x (numbers_of pieces) =
+        let same : times x (piece_numbers (pieces ++ (i, t) ∷ [])) ≡ times x (piece_numbers pieces) =
         counts_same pieces i t x apart in
         omega arith)
 
-    before : (x : ℕ) → IsWithin n (numbers_of (pieces ++ (i, t) ∷ [])) x → IsWithin n (numbers_of pieces) x
+    before : (x : ℕ) → IsWithin n (piece_numbers (pieces ++ (i, t) ∷ [])) x → IsWithin n (piece_numbers pieces) x
     before x is =
-        let least : times x (numbers_of pieces) ≤ times x (numbers_of (pieces ++ (i, t) ∷ [])) =
+        let least : times x (piece_numbers pieces) ≤ times x (piece_numbers (pieces ++ (i, t) ∷ [])) =
         no_fewer pieces i t x in
         omega arith
 
     free : (x : ℕ) → slice_get (set places i (Some t)) x ≡ Some None
-        → times x (numbers_of (pieces ++ (i, t) ∷ [])) ≡ 0
+        → times x (piece_numbers (pieces ++ (i, t) ∷ [])) ≡ 0
     free x is = dite (ℕ_discrete x i)
         (λ same. absurd (taken_apart t
         (sym (at_set places i None (Some t) there) ∙ ap (slice_get (set places i (Some t))) (sym same) ∙ is)))
         (λ apart. counts_same pieces i t x apart ∙ put.free x (sym (at_others places i x (Some t) apart) ∙ is))
 
     taken : (x : ℕ) (s : List ℕ) → slice_get (set places i (Some t)) x ≡ Some (Some s)
-        → 0 < times x (numbers_of (pieces ++ (i, t) ∷ []))
+        → 0 < times x (piece_numbers (pieces ++ (i, t) ∷ []))
     taken x s is = dite (ℕ_discrete x i)
         (λ same.
-        let more : times x (numbers_of (pieces ++ (i, t) ∷ [])) ≡ times x (numbers_of pieces) + 1 =
+        let more : times x (piece_numbers (pieces ++ (i, t) ∷ [])) ≡ times x (piece_numbers pieces) + 1 =
         counts_more pieces i t x same in
         omega arith)
         (λ apart.
-        let same : times x (numbers_of (pieces ++ (i, t) ∷ [])) ≡ times x (numbers_of pieces) =
+        let same : times x (piece_numbers (pieces ++ (i, t) ∷ [])) ≡ times x (piece_numbers pieces) =
         counts_same pieces i t x apart in
-        let some : 0 < times x (numbers_of pieces) =
+        let some : 0 < times x (piece_numbers pieces) =
         put.taken x s (sym (at_others places i x (Some t) apart) ∙ is) in
         omega arith)
 
@@ -134,42 +134,42 @@ pub one_left : (n : ℕ) (pieces : List (ℕ × List ℕ)) (places : List (Optio
     → ArePut n (pieces ++ (i, t) ∷ []) places (lesser spoilt (Some i))
 one_left n pieces places spoilt i t put full = record {
   long = put.long;
-  least = first_with (IsWithin n (numbers_of pieces)) (IsWithin n (numbers_of (pieces ++ (i, t) ∷ []))) spoilt i
+  least = first_with (IsWithin n (piece_numbers pieces)) (IsWithin n (piece_numbers (pieces ++ (i, t) ∷ []))) spoilt i
       beyond others before put.least;
   free = λ x is. counts_same pieces i t x (λ same. full (ap (slice_get places) (sym same) ∙ is))
       ∙ put.free x is;
   taken = λ x s is.
-      let more : times x (numbers_of pieces) ≤ times x (numbers_of (pieces ++ (i, t) ∷ [])) =
+      let more : times x (piece_numbers pieces) ≤ times x (piece_numbers (pieces ++ (i, t) ∷ [])) =
       no_fewer pieces i t x in
-      let some : 0 < times x (numbers_of pieces) = put.taken x s is in
+      let some : 0 < times x (piece_numbers pieces) = put.taken x s is in
       omega arith;
   placed = λ none. absurd (is_some_number spoilt none);
 }
   where
-    before : (x : ℕ) → IsWithin n (numbers_of (pieces ++ (i, t) ∷ [])) x → IsWithin n (numbers_of pieces) x
+    before : (x : ℕ) → IsWithin n (piece_numbers (pieces ++ (i, t) ∷ [])) x → IsWithin n (piece_numbers pieces) x
     before x is =
-        let least : times x (numbers_of pieces) ≤ times x (numbers_of (pieces ++ (i, t) ∷ [])) =
+        let least : times x (piece_numbers pieces) ≤ times x (piece_numbers (pieces ++ (i, t) ∷ [])) =
         no_fewer pieces i t x in
         omega arith
 
-    others : (x : ℕ) → (x ≡ i → ⊥) → IsWithin n (numbers_of pieces) x
-        → IsWithin n (numbers_of (pieces ++ (i, t) ∷ [])) x
+    others : (x : ℕ) → (x ≡ i → ⊥) → IsWithin n (piece_numbers pieces) x
+        → IsWithin n (piece_numbers (pieces ++ (i, t) ∷ [])) x
     others x apart is =
-        let same : times x (numbers_of (pieces ++ (i, t) ∷ [])) ≡ times x (numbers_of pieces) =
+        let same : times x (piece_numbers (pieces ++ (i, t) ∷ [])) ≡ times x (piece_numbers pieces) =
         counts_same pieces i t x apart in
         omega arith
 
-    twice : (o : Option (List ℕ)) → slice_get places i ≡ Some o → 0 < times i (numbers_of pieces)
+    twice : (o : Option (List ℕ)) → slice_get places i ≡ Some o → 0 < times i (piece_numbers pieces)
     twice None is = absurd (full is)
     twice (Some s) is = put.taken i s is
 
-    beyond : IsWithin n (numbers_of (pieces ++ (i, t) ∷ [])) i → ⊥
+    beyond : IsWithin n (piece_numbers (pieces ++ (i, t) ∷ [])) i → ⊥
     beyond is =
-        let more : times i (numbers_of (pieces ++ (i, t) ∷ [])) ≡ times i (numbers_of pieces) + 1 =
+        let more : times i (piece_numbers (pieces ++ (i, t) ∷ [])) ≡ times i (piece_numbers pieces) + 1 =
         counts_more pieces i t i refl in
         elim (slice_get_cases places i).1 [
           | inl there ↦
-              let some : 0 < times i (numbers_of pieces) = twice there.0 there.2 in
+              let some : 0 < times i (piece_numbers pieces) = twice there.0 there.2 in
               let within : i < n = subst (λ k. i < k) put.long there.1 in
               let once : times i (numbers_below n) ≡ 1 = once_below i n within in
               absurd (omega arith)

@@ -6,8 +6,8 @@ use Rattle.parallel_compile.specs.declared.fault.CompileFault.{CompileFault}
 use Rattle.parallel_compile.specs.declared.fault.CompileFault.TheVariants as fault
 
 -- the numbers of pieces
-abbrev pub numbers_of : List (ℕ × List ℕ) → List ℕ
-numbers_of pieces = map (λ (piece : ℕ × List ℕ). piece.0) pieces
+abbrev pub piece_numbers : List (ℕ × List ℕ) → List ℕ
+piece_numbers pieces = map (λ (piece : ℕ × List ℕ). piece.0) pieces
 
 -- the piece's tape is at the place of its number
 abbrev pub IsAmongPieces : List (List ℕ) → (ℕ × List ℕ) → Type 0
@@ -15,7 +15,7 @@ IsAmongPieces tapes piece = slice_get tapes piece.0 ≡ Some piece.1
 
 -- The numbers of the pieces are those below n, each once, and each piece is in its place.
 pub record AreGathered (n : ℕ) (pieces : List (ℕ × List ℕ)) (tapes : List (List ℕ)) : Type 0 where
-  pub numbered : AreSame (numbers_of pieces) (numbers_below n)
+  pub numbered : AreSame (piece_numbers pieces) (numbers_below n)
   pub long : length tapes ≡ n
   pub placed : All (IsAmongPieces tapes) pieces
 

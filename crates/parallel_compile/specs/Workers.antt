@@ -3,7 +3,7 @@ use Rattle.std.specs.Prelude.{◌≡◌, ◌<◌, ◌≤◌, ◌+◌, ◌⊎◌,
 use Rattle.cbch_blocks.specs.RecordBlocks.{tape_of_record}
 use Rattle.bsc_table.specs.Record.{Record}
 use Rattle.tickets.specs.Draws.{CounterState, SeatState, IsSeatOf}
-use Rattle.parallel_compile.specs.Gathered.{numbers_of, IsAmongPieces}
+use Rattle.parallel_compile.specs.Gathered.{piece_numbers, IsAmongPieces}
 use Rattle.parallel_compile.specs.declared.fault.CompileFault.{CompileFault}
 use Rattle.parallel_compile.specs.declared.fault.CompileFault.TheVariants as fault
 
@@ -29,5 +29,5 @@ pub record IsDone (counter : CounterState) (records : List Record) (parts : ℕ)
   pub of : IsSeatOf counter seat
   pub parts_are : seat.parts ≡ parts
   pub over_is : seat.over ≡ over
-  pub drawn : numbers_of pieces ≡ seat.drawn
+  pub drawn : piece_numbers pieces ≡ seat.drawn
   pub made : All (IsPieceOfRecord records) pieces

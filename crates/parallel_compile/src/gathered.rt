@@ -1,7 +1,7 @@
 //! Pieces, each a tape with its number, are put in order.
 
 ghost use Rattle.std.specs.Prelude.{◌≡◌, IfErr, IfOk};
-ghost use Rattle.parallel_compile.specs.Gathered.{AreGathered, IsOfPieces, numbers_of};
+ghost use Rattle.parallel_compile.specs.Gathered.{AreGathered, IsOfPieces, piece_numbers};
 
 use crate::fault::CompileFault;
 use crate::place::{first_free, free_places, lesser, put_all, unwrap_all};
@@ -18,7 +18,7 @@ use std::alloc::Global;
 /// if out of memory.
 pub fn gather(alloc: Global, n: usize, pieces: Vec<(u64, Tape)>) -> Result<Vec<Tape>, CompileFault>
     ensures ok { IfOk result (λ tapes. AreGathered n pieces.items tapes.items) }
-    ensures err { IfErr result (IsOfPieces n (numbers_of pieces.items)) }
+    ensures err { IfErr result (IsOfPieces n (piece_numbers pieces.items)) }
 {
     let mut places = free_places(alloc, n)?;
     let spoilt = put_all(&mut places, pieces);

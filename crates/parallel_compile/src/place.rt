@@ -4,7 +4,7 @@ ghost use Rattle.std.specs.Prelude.{◌≡◌, ◌≢◌, Option, Some, None, �
 ghost use Rattle.std.specs.Prelude.{length, replicate};
 ghost use Rattle.std.specs.List.{slice_get};
 ghost use Rattle.parallel_compile.specs.declared.fault.CompileFault.TheVariants as faults;
-ghost use Rattle.parallel_compile.specs.Gathered.{numbers_of};
+ghost use Rattle.parallel_compile.specs.Gathered.{piece_numbers};
 ghost use Rattle.order_desk.specs.SettleSteps.{IsLeastFailing, lesser as lesser_of};
 ghost use Rattle.parallel_compile.specs.Places.{ArePut};
 

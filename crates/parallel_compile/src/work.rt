@@ -3,7 +3,7 @@
 ghost use Rattle.std.specs.Prelude.{◌≡◌, ◌+◌, ◌≤◌, ◌<◌, All, IfErr, IfOk, length, [], true};
 ghost use Rattle.tickets.specs.Draws.{AreSame, IsSeatOf, first_seat, new_seat, numbers_below};
 ghost use Rattle.parallel_compile.specs.declared.fault.CompileFault.TheVariants as faults;
-ghost use Rattle.parallel_compile.specs.Gathered.{numbers_of};
+ghost use Rattle.parallel_compile.specs.Gathered.{piece_numbers};
 ghost use Rattle.parallel_compile.specs.Workers.{IsDone, IsPieceOfRecord, IsSplit};
 
 use crate::fault::CompileFault;
@@ -111,7 +111,7 @@ pub(crate) fn pieces_of<R: Threads + Sync, G: Gate>(
     requires records { length records.now ≤ 64 }
     requires some { 0 < workers }
     requires few { workers ≤ 64 }
-    ensures numbers { IfOk result (λ pieces. AreSame (numbers_of pieces.items) (numbers_below (length records.now))) }
+    ensures numbers { IfOk result (λ pieces. AreSame (piece_numbers pieces.items) (numbers_below (length records.now))) }
     ensures tapes { IfOk result (λ pieces. All (IsPieceOfRecord records.now) pieces.items) }
     ensures err { IfErr result (λ fault. fault ≡ faults.Refused) }
 {

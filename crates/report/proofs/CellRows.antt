@@ -17,13 +17,13 @@ use Rattle.bsc_table.specs.declared.entry.Answer.{Answer}
 use Rattle.bsc_table.specs.declared.entry.Answer.TheVariants as answers
 use Rattle.bsc_table.specs.declared.entry.Entry.{Entry}
 use Rattle.bsc_table.specs.Legal.{IsLegal}
-use Rattle.bsc_table.specs.Record.{Record, Accepted, added_by, accepted_in, behind_of, messages_in, rank_of}
+use Rattle.bsc_table.specs.Record.{Record, Accepted, added_by, accepted_in, predecessor_of, messages_in, rank_of}
 use Rattle.bsc_table.specs.Record.{replaced_in, start_of, written_behind}
 use Rattle.bsc_table.specs.Written.{AcceptedAreWrites, AcceptedHaveLoads, AcceptedRise}
 use Rattle.handset.specs.Reception.{ShownMessage}
 use Rattle.report.specs.declared.row.Row.{Row}
 use Rattle.report.specs.Rows.{accepted_at, cell_rows, entry_rows, is_at, message_row, refusal_rows, rows_from}
-use Rattle.report.specs.RowSteps.{last_pages, pages_of, row_at, row_by, rows_by, started_row, stop_at}
+use Rattle.report.specs.RowSteps.{last_pages, page_count_of, row_at, row_by, rows_by, started_row, stop_at}
 use Rattle.report.specs.RowSteps.{stop_in, stop_of_command}
 use Rattle.report.proofs.EntryRows.{message-at, stopped_after, stopped-first, with_stop}
 
@@ -85,7 +85,7 @@ started : Laws → (r : Record) (shown : List ShownMessage) → IsLegal r → r.
 started laws r shown legal ended before later slot start id serial replaces category period broadcasts dcs contents is =
     let all : List Accepted = accepted_in before in
     let a : Accepted = written_behind all (length before) slot start
-    (behind_of slot start (replaced_in all id replaces)) id serial (length contents) period broadcasts
+    (predecessor_of slot start (replaced_in all id replaces)) id serial (length contents) period broadcasts
     (rank_of category) in
     let b : Accepted = with_stop a (stop_in later (id, serial)) in
     let one : accepted_at (length before) r.log ≡ b ∷ [] =
@@ -104,7 +104,7 @@ by_parts : Laws → (r : Record) (shown : List ShownMessage) → IsLegal r → r
     (added_by (accepted_in before) (length before) slot (start_of answer) command) →
     map (message_row r shown) (accepted_at (length before) r.log) ++ refusal_rows r.cell slot answer command
     ≡ option_to_list (row_by r.cell r.slots shown (stop_of_command later command)
-    (times_aired (length before) (pages_of command) r.air (length r.air)) slot command answer)
+    (times_aired (length before) (page_count_of command) r.air (length r.air)) slot command answer)
 by_parts laws r shown legal ended before later slot
     (commands.Write id serial replaces category period broadcasts dcs contents) (answers.Started start) is =
     started laws r shown legal ended before later slot start id serial replaces category period broadcasts dcs contents
@@ -187,14 +187,14 @@ entry-is laws r shown stops counts legal ended noted before e later is =
     here
     ∙ ap (λ (log : List Entry). stop_of_command log e.command) after in
     let count : slice_index counts (length before)
-    ≡ times_aired (length before) (pages_of e.command) r.air (length r.air) =
+    ≡ times_aired (length before) (page_count_of e.command) r.air (length r.air) =
     noted.counts_are (length before) within
-    ∙ ap (λ found. times_aired (length before) (option_map_or (λ (x : Entry). pages_of x.command) found 0) r.air
+    ∙ ap (λ found. times_aired (length before) (option_map_or (λ (x : Entry). page_count_of x.command) found 0) r.air
     (length r.air)) here in
     by_parts laws r shown legal ended before later e.slot e.command e.answer
     (ap (accepted_at (length before)) is ∙ message-at laws.written before e later)
     ∙ ap (λ (n : Option ℕ). option_to_list (row_by r.cell r.slots shown n
-    (times_aired (length before) (pages_of e.command) r.air (length r.air)) e.slot e.command e.answer)) (sym stop)
+    (times_aired (length before) (page_count_of e.command) r.air (length r.air)) e.slot e.command e.answer)) (sym stop)
     ∙ ap (λ (n : ℕ). option_to_list (row_by r.cell r.slots shown (get_or stops (length before) None) n e.slot e.command
     e.answer)) (sym count)
     ∙ ap (row_at r.cell r.slots shown stops counts (length before)) (sym here)

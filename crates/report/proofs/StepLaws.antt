@@ -19,11 +19,11 @@ use Rattle.bsc_table.specs.Book.{aired_pair, air_pairs}
 use Rattle.bsc_table.specs.Record.{Record}
 use Rattle.handset.specs.declared.messages.Shown.{Shown}
 use Rattle.handset.specs.declared.tape.Reading.{Reading}
-use Rattle.handset.specs.Keeping.{message_shown, messages_of}
+use Rattle.handset.specs.Keeping.{message_shown, messages_shown}
 use Rattle.handset.specs.Reception.{ShownMessage}
 use Rattle.handset.specs.Tape.{TapeReading, reading_of, readings_of}
 use Rattle.report.specs.declared.row.Row.{Row}
-use Rattle.report.specs.Rows.{AreOfOneCells, cell_rows, is_shown, rows_of}
+use Rattle.report.specs.Rows.{AreOfOneCells, cell_rows, is_shown, report_rows}
 use Rattle.report.specs.RowSteps.{Pair, has_name, is_pair, stop_at, stop_of_command}
 use Rattle.report.proofs.ListLaws.{flat_map-place}
 
@@ -37,16 +37,16 @@ either false false = refl
 pub name-more : (names new : List Pair) (shown : List Shown) (i : ℕ) (m : Shown) (id serial : ℕ) → i < length shown →
     m ≡ get_or shown i m →
     has_name new id serial ≡ cond (is_pair (m.id, m.serial) (id, serial)) true (has_name names id serial) →
-    has_name names id serial ≡ is_shown (messages_of (take i shown)) id serial →
-    has_name new id serial ≡ is_shown (messages_of (take (i + 1) shown)) id serial
+    has_name names id serial ≡ is_shown (messages_shown (take i shown)) id serial →
+    has_name new id serial ≡ is_shown (messages_shown (take (i + 1) shown)) id serial
 name-more names new shown i m id serial within item updated before =
     let test : ShownMessage → Bool = λ x. is_pair (x.id, x.serial) (id, serial) in
-    let one_more : messages_of (take (i + 1) shown) ≡ messages_of (take i shown) ++ message_shown m ∷ [] =
+    let one_more : messages_shown (take (i + 1) shown) ≡ messages_shown (take i shown) ++ message_shown m ∷ [] =
     map_more message_shown shown i m within
-    ∙ ap (λ x. messages_of (take i shown) ++ message_shown x ∷ []) (sym item) in
+    ∙ ap (λ x. messages_shown (take i shown) ++ message_shown x ∷ []) (sym item) in
     updated ∙ ap (λ there. cond (is_pair (m.id, m.serial) (id, serial)) true there) before
-    ∙ either (is_pair (m.id, m.serial) (id, serial)) (is_shown (messages_of (take i shown)) id serial)
-    ∙ sym (list_any-append test (messages_of (take i shown)) (message_shown m ∷ []))
+    ∙ either (is_pair (m.id, m.serial) (id, serial)) (is_shown (messages_shown (take i shown)) id serial)
+    ∙ sym (list_any-append test (messages_shown (take i shown)) (message_shown m ∷ []))
     ∙ ap (list_any test) (sym one_more)
 
 -- one more slot
@@ -104,20 +104,20 @@ rows-next front rows new more f place before here is =
 -- the rows of one more cell
 rows_of-more : (records : List Record) (readings : List TapeReading) (r : Record) (reading : TapeReading) →
     length records ≡ length readings →
-    rows_of (records ++ r ∷ []) (readings ++ reading ∷ []) ≡ rows_of records readings ++ cell_rows r reading.shown
+    report_rows (records ++ r ∷ []) (readings ++ reading ∷ []) ≡ report_rows records readings ++ cell_rows r reading.shown
 rows_of-more [] [] r reading same = append-nil (cell_rows r reading.shown)
 rows_of-more [] (x ∷ readings) r reading same = absurd (let no : ⊥ = omega (arith, same) in no)
 rows_of-more (x ∷ records) [] r reading same = absurd (let no : ⊥ = omega (arith, same) in no)
 rows_of-more (x ∷ records) (y ∷ readings) r reading same =
     let shorter : length records ≡ length readings = omega (arith, same) in
     ap (λ rows. cell_rows x y.shown ++ rows) (rows_of-more records readings r reading shorter)
-    ∙ sym (append_assoc (cell_rows x y.shown) (rows_of records readings) (cell_rows r reading.shown))
+    ∙ sym (append_assoc (cell_rows x y.shown) (report_rows records readings) (cell_rows r reading.shown))
 
 pub cells-more : (records : List Record) (readings : List Reading) (i : ℕ) (r : Record) (reading : Reading) →
     length records ≡ length readings → i < length records → r ≡ get_or records i r →
     reading ≡ get_or readings i reading →
-    rows_of (take i records) (readings_of (take i readings)) ++ cell_rows r (messages_of reading.shown.items)
-    ≡ rows_of (take (i + 1) records) (readings_of (take (i + 1) readings))
+    report_rows (take i records) (readings_of (take i readings)) ++ cell_rows r (messages_shown reading.shown.items)
+    ≡ report_rows (take (i + 1) records) (readings_of (take (i + 1) readings))
 cells-more records readings i r reading same within is reads =
     let within_readings : i < length readings = omega (arith, same) in
     let front : length (take i records) ≡ i = length-take-le i records (omega arith) in
@@ -129,8 +129,8 @@ cells-more records readings i r reading same within is reads =
     let other : readings_of (take (i + 1) readings) ≡ readings_of (take i readings) ++ reading_of reading ∷ [] =
     map_more reading_of readings i reading within_readings
     ∙ ap (λ x. readings_of (take i readings) ++ reading_of x ∷ []) (sym reads) in
-    sym (ap (λ xs. rows_of xs (readings_of (take (i + 1) readings))) one
-    ∙ ap (λ xs. rows_of (take i records ++ r ∷ []) xs) other
+    sym (ap (λ xs. report_rows xs (readings_of (take (i + 1) readings))) one
+    ∙ ap (λ xs. report_rows (take i records ++ r ∷ []) xs) other
     ∙ rows_of-more (take i records) (readings_of (take i readings)) r (reading_of reading) long)
 
 -- cells that are compared as different aren't equal

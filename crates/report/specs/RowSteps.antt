@@ -18,14 +18,14 @@ use Rattle.report.specs.declared.row.Row.{Row}
 use Rattle.report.specs.Rows.{refusal_row, showing_of, is_shown}
 
 -- how many pages a command's message has: none, unless it is a write
-abbrev pub pages_of : Command → ℕ
-pages_of (commands.Write id serial replaces category period broadcasts dcs contents) = length contents
-pages_of (commands.Kill id serial) = 0
-pages_of (commands.Status id serial) = 0
+abbrev pub page_count_of : Command → ℕ
+page_count_of (commands.Write id serial replaces category period broadcasts dcs contents) = length contents
+page_count_of (commands.Kill id serial) = 0
+page_count_of (commands.Status id serial) = 0
 
 -- how many pages the entry at a place of the log has
 abbrev pub pages_at : List Entry → (place : ℕ) → ℕ
-pages_at log place = option_map_or (λ e. pages_of e.command) (slice_get log place) 0
+pages_at log place = option_map_or (λ e. page_count_of e.command) (slice_get log place) 0
 
 -- how often the slots of an air list air the last page of the entry at a place
 abbrev pub last_pages : List Entry → Air → (place : ℕ) → ℕ

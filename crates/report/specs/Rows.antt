@@ -95,10 +95,10 @@ abbrev pub cell_rows : Record → List ShownMessage → List Row
 cell_rows r shown = rows_from r shown 0 r.log
 
 -- the rows of cells, each with the reading of its blocks
-abbrev pub rows_of : List Record → List TapeReading → List Row
-rows_of [] readings = []
-rows_of (r ∷ records) [] = []
-rows_of (r ∷ records) (reading ∷ readings) = cell_rows r reading.shown ++ rows_of records readings
+abbrev pub report_rows : List Record → List TapeReading → List Row
+report_rows [] readings = []
+report_rows (r ∷ records) [] = []
+report_rows (r ∷ records) (reading ∷ readings) = cell_rows r reading.shown ++ report_rows records readings
 
 -- the readings are of the same cells as the records, in the same order
 abbrev pub AreOfOneCells : List Record → List TapeReading → Type 0

@@ -2,7 +2,7 @@
 
 ghost use Rattle.std.specs.Prelude.{◌≡◌, ◌++◌, List, OnOk, length};
 ghost use Rattle.handset.specs.Reception.{ShownMessage};
-ghost use Rattle.handset.specs.Keeping.{messages_of};
+ghost use Rattle.handset.specs.Keeping.{messages_shown};
 ghost use Rattle.report.specs.Rows.{cell_rows, is_shown, showing_of};
 ghost use Rattle.report.specs.RowSteps.{HasNames, end_slot, refused_row, row_by, rows_by, started_row};
 
@@ -161,7 +161,7 @@ pub fn push_cell(
     reading: &Reading,
 ) -> Result<(), AllocError>
     ensures { OnOk result (rows.new.items
-        ≡ rows.old.items ++ cell_rows run.now (messages_of reading.now.shown.items)) }
+        ≡ rows.old.items ++ cell_rows run.now (messages_shown reading.now.shown.items)) }
 {
     // The last page of an accepted message is aired as often as a broadcast of it is completed.
     bsc_table::legal_histories();

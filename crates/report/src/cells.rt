@@ -2,7 +2,7 @@
 
 ghost use Rattle.std.specs.Prelude.{◌≡◌, ◌↔◌, ◌≢◌, IfErr, IfOk, IsErrOf, IsTrue, OnOk, length};
 ghost use Rattle.handset.specs.Tape.{readings_of};
-ghost use Rattle.report.specs.Rows.{AreOfOneCells, rows_of};
+ghost use Rattle.report.specs.Rows.{AreOfOneCells, report_rows};
 
 use crate::cell::push_cell;
 use crate::fault::ReportFault;
@@ -33,7 +33,7 @@ fn all_rows(
     readings: &[Reading],
 ) -> Result<Vec<Row>, AllocError>
     requires { length records.now ≡ length readings.now }
-    ensures { IfOk result (λ rows. rows.items ≡ rows_of records.now (readings_of readings.now)) }
+    ensures { IfOk result (λ rows. rows.items ≡ report_rows records.now (readings_of readings.now)) }
 {
     let mut rows = Vec::new(alloc);
     for (place, record) in records.iter().enumerate() {
@@ -57,7 +57,7 @@ pub fn rows(
     readings: &[Reading],
 ) -> Result<Vec<Row>, ReportFault>
     // What the records and the readings say, and nothing else.
-    ensures rows { IfOk result (λ rows. rows.items ≡ rows_of records.now (readings_of readings.now)) }
+    ensures rows { IfOk result (λ rows. rows.items ≡ report_rows records.now (readings_of readings.now)) }
 
     // The cells are compared before anything else.
     ensures cells { IsErrOf result ReportFault.Cells ↔ ¬ AreOfOneCells records.now (readings_of readings.now) }

@@ -3,14 +3,14 @@
 ghost use Rattle.std.specs.Prelude.{◌≡◌, ◌+◌, ◌<◌, ◌≤◌, if◌then◌else◌, length, slice_index, EachIndex, IfOk, Some};
 ghost use Rattle.scheduler.specs.Pages.{airs_page};
 ghost use Rattle.bsc_table.specs.Book.{air_pairs};
-ghost use Rattle.report.specs.RowSteps.{last_pages, pages_at, pages_of};
+ghost use Rattle.report.specs.RowSteps.{last_pages, pages_at, page_count_of};
 
 use bsc_table::{Aired, Command, Entry};
 use std::alloc::{AllocError, Global};
 
 /// How many pages the message of a command has: none, unless it is a write.
 fn pages_of(command: &Command) -> usize
-    ensures { result ≡ pages_of command.now }
+    ensures { result ≡ page_count_of command.now }
 {
     match command {
         Command::Write { contents, .. } => contents.as_slice().len(),

@@ -1,7 +1,7 @@
 //! The identifiers and serial numbers of the messages that a handset shows.
 
 ghost use Rattle.std.specs.Prelude.{◌≡◌, IfOk, ℕ};
-ghost use Rattle.handset.specs.Keeping.{messages_of};
+ghost use Rattle.handset.specs.Keeping.{messages_shown};
 ghost use Rattle.report.specs.Rows.{is_shown};
 ghost use Rattle.report.specs.RowSteps.{has_name};
 
@@ -34,7 +34,7 @@ impl ShownIds {
     /// Out of memory.
     pub fn of(alloc: Global, shown: &[Shown]) -> Result<ShownIds, AllocError>
         ensures { IfOk result (λ names. (id serial : ℕ)
-            → has_name names id serial ≡ is_shown (messages_of shown.now) id serial) }
+            → has_name names id serial ≡ is_shown (messages_shown shown.now) id serial) }
     {
         let mut pairs = HashSet::new(alloc);
         for message in shown {

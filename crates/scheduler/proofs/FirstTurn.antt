@@ -16,7 +16,7 @@ use Rattle.scheduler.specs.Message.{due, broadcast_at}
 use Rattle.scheduler.specs.Air.{layer_of, class_of}
 use Rattle.scheduler.specs.Follows.{message_of}
 use Rattle.scheduler.specs.PlanSteps.{IsChoice, IsServedFirst, is_ready}
-use Rattle.scheduler.specs.QueueSteps.{kept_in, seen_in, seen, own, IsRight, IsTree, AreKept, AreRising}
+use Rattle.scheduler.specs.QueueSteps.{kept_in, seen_in, seen, own, IsRight, IsTree, AreKeptInOrder, AreRising}
 use Rattle.scheduler.specs.QueueSteps.{IsPlaceOf}
 use Rattle.scheduler.specs.QueueSteps.{HasTurn, ahead_at, turn_of, no_turn, nothing_ahead}
 use Rattle.scheduler.proofs.Turns.{IsAhead, ComesNoLater, no_later, is_turn}
@@ -114,7 +114,7 @@ pub record IsTurnOf (slot : ℕ) (nodes : List Node) (t place : ℕ) (d : Node) 
   pub ready : is_ready (get_or nodes place d).kept.scheduled slot ≡ true
 
 -- it stands at the place of its number
-pub first_at : (slot : ℕ) (nodes : List Node) (t place : ℕ) (d : Node) → AreKept slot nodes → AreRising nodes
+pub first_at : (slot : ℕ) (nodes : List Node) (t place : ℕ) (d : Node) → AreKeptInOrder slot nodes → AreRising nodes
     → slot < (ahead_at nodes 0).wake → (ahead_at nodes 0).first ≡ t → t < no_turn → IsPlaceOf (t % 65536) nodes place
     → IsTurnOf slot nodes t place d
 first_at slot nodes t place d kept rising awake is less found =
@@ -134,7 +134,7 @@ first_at slot nodes t place d kept rising awake is less found =
     })
 
 -- it is served no later than any that is ready
-first_of_ready : (slot : ℕ) (nodes : List Node) (t place : ℕ) (d : Node) → AreKept slot nodes
+first_of_ready : (slot : ℕ) (nodes : List Node) (t place : ℕ) (d : Node) → AreKeptInOrder slot nodes
     → slot < (ahead_at nodes 0).wake → (ahead_at nodes 0).first ≡ t → IsTurnOf slot nodes t place d
     → (k : ℕ) → k < length nodes → is_ready (get_or nodes k d).kept.scheduled slot ≡ true
     → IsServedFirst slot (get_or nodes place d).kept.scheduled (get_or nodes k d).kept.scheduled
@@ -153,7 +153,7 @@ first_of_ready slot nodes t place d kept awake is first k h ready =
     turns
 
 -- so what is aired of it is the choice of the slot
-pub choice_of_first : (slot : ℕ) (nodes : List Node) (t place : ℕ) (d : Node) → AreKept slot nodes
+pub choice_of_first : (slot : ℕ) (nodes : List Node) (t place : ℕ) (d : Node) → AreKeptInOrder slot nodes
     → slot < (ahead_at nodes 0).wake → (ahead_at nodes 0).first ≡ t → IsTurnOf slot nodes t place d
     → IsChoice (seen_in slot nodes) slot (Some (t % 65536, (get_or nodes place d).kept.scheduled.pages_aired + 1))
 choice_of_first slot nodes t place d kept awake is first =
@@ -184,7 +184,7 @@ choice_of_first slot nodes t place d kept awake is first =
     )
 
 -- and where there is no first turn, nothing is
-pub choice_of_none : (slot : ℕ) (nodes : List Node) → AreKept slot nodes
+pub choice_of_none : (slot : ℕ) (nodes : List Node) → AreKeptInOrder slot nodes
     → slot < (ahead_at nodes 0).wake → (ahead_at nodes 0).first ≡ no_turn → IsChoice (seen_in slot nodes) slot None
 choice_of_none slot nodes kept awake none = λ k e within.
     let d : Node = record { kept = record { scheduled = e; until = 0; is_open = false }; ahead = nothing_ahead } in
@@ -255,7 +255,7 @@ first_entry_some t entry false is one =
     (λ same. false≢true (sym is ∙ eq-eqb t no_turn same), same_Some (t % 65536) entry one)
 
 -- where there is none, nothing is aired
-pub choice_without : (slot : ℕ) (nodes : List Node) → AreKept slot nodes → slot < (ahead_at nodes 0).wake
+pub choice_without : (slot : ℕ) (nodes : List Node) → AreKeptInOrder slot nodes → slot < (ahead_at nodes 0).wake
     → (if (ahead_at nodes 0).first == no_turn then None else Some ((ahead_at nodes 0).first % 65536)) ≡ None
     → IsChoice (seen_in slot nodes) slot None
 choice_without slot nodes kept awake none =
@@ -266,7 +266,7 @@ pub record IsFirst (slot : ℕ) (nodes : List Node) (entry place : ℕ) : Type 0
   pub turn : IsTurnOf slot nodes (ahead_at nodes 0).first place blank
   pub named : (ahead_at nodes 0).first % 65536 ≡ entry
 
-pub first_found : (slot : ℕ) (nodes : List Node) (entry place : ℕ) → AreKept slot nodes → AreRising nodes
+pub first_found : (slot : ℕ) (nodes : List Node) (entry place : ℕ) → AreKeptInOrder slot nodes → AreRising nodes
     → slot < (ahead_at nodes 0).wake
     → (if (ahead_at nodes 0).first == no_turn then None else Some ((ahead_at nodes 0).first % 65536)) ≡ Some entry
     → IsPlaceOf entry nodes place → IsFirst slot nodes entry place
@@ -281,7 +281,7 @@ first_found slot nodes entry place kept rising awake one found =
     }
 
 -- and its next page is aired
-pub choice_found : (slot : ℕ) (nodes : List Node) (entry place page : ℕ) → AreKept slot nodes
+pub choice_found : (slot : ℕ) (nodes : List Node) (entry place page : ℕ) → AreKeptInOrder slot nodes
     → slot < (ahead_at nodes 0).wake → IsFirst slot nodes entry place
     → page ≡ (get_or nodes place blank).kept.scheduled.pages_aired + 1
     → IsChoice (seen_in slot nodes) slot (Some (entry, page))

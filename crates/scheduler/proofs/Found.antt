@@ -11,7 +11,7 @@ use Rattle.scheduler.specs.declared.progress.Progress.{Progress}
 use Rattle.scheduler.specs.declared.turn.First.{First}
 use Rattle.scheduler.specs.declared.scheduled.Scheduled.{Scheduled}
 use Rattle.scheduler.specs.PlanSteps.{scheduled_stopped}
-use Rattle.scheduler.specs.QueueSteps.{kept_in, seen_in, IsRight, IsTree, IsTreeBut, AreRising, IsPlaceOf, IsFound}
+use Rattle.scheduler.specs.QueueSteps.{kept_in, seen_in, IsRight, IsTree, IsTreeBut, AreRising, IsPlaceOf, IsFoundTurn}
 use Rattle.scheduler.specs.QueueSteps.{seen, aired, stopped, nothing_ahead, ahead_at, own_at, own, HasTurn}
 use Rattle.scheduler.proofs.Places.{kept_at, right_at, place_is, same_place}
 use Rattle.scheduler.proofs.FirstTurn.{seen_at, turn_at, blank}
@@ -21,7 +21,7 @@ use Rattle.scheduler.proofs.Windows.{IsRight-stopped}
 
 -- the message of a number is at its place, or nowhere
 pub not_there : (entry : ℕ) (nodes : List Node) (place : ℕ) (d : Node) → AreRising nodes → IsPlaceOf entry nodes place
-    → (place < length nodes → (get_or nodes place d).kept.scheduled.item.entry ≢ entry) → IsFound entry nodes None
+    → (place < length nodes → (get_or nodes place d).kept.scheduled.item.entry ≢ entry) → IsFoundTurn entry nodes None
 not_there entry nodes place d rising found other = λ k e within named.
     let at = place_is nodes entry place k e rising found within named in
     let inside : place < length nodes = omega (arith, at, within) in
@@ -47,21 +47,21 @@ seen_there slot nodes k h =
     omega (arith, h, length-map (kept_in nodes) (seen slot), length-map nodes (λ (n : Node). n.kept))
 
 -- where none has that number
-pub none_named : (entry slot : ℕ) (nodes : List Node) → IsFound entry nodes None
+pub none_named : (entry slot : ℕ) (nodes : List Node) → IsFoundTurn entry nodes None
     → All (λ t. t.item.entry ≢ entry) (seen_in slot nodes)
 none_named entry slot nodes none = λ k t within named.
     let at = seen_entry slot nodes k t within in
     none k blank at.0 (sym (ap (λ (x : Scheduled). x.item.entry) at.1) ∙ named)
 
 -- where one has it
-pub one_named : (entry slot : ℕ) (nodes : List Node) (place : ℕ) → IsFound entry nodes (Some place)
+pub one_named : (entry slot : ℕ) (nodes : List Node) (place : ℕ) → IsFoundTurn entry nodes (Some place)
     → Any (λ t. t.item.entry ≡ entry) (seen_in slot nodes)
 one_named entry slot nodes place found =
     let t = seen slot (get_or nodes place blank).kept in
     (place, t, seen_there slot nodes place found.0, seen_at slot nodes place blank t found.0, found.1 blank)
 
 -- and where it wasn't stopped, one stands
-pub one_standing : (entry slot : ℕ) (nodes : List Node) (place : ℕ) → IsFound entry nodes (Some place)
+pub one_standing : (entry slot : ℕ) (nodes : List Node) (place : ℕ) → IsFoundTurn entry nodes (Some place)
     → (get_or nodes place blank).kept.scheduled.stop ≡ None
     → Any (λ t. (t.item.entry ≡ entry) × (t.stop ≡ None)) (seen_in slot nodes)
 one_standing entry slot nodes place found standing =
@@ -74,7 +74,7 @@ one_standing entry slot nodes place found standing =
     )
 
 -- it is the only one
-pub only_named : (entry slot : ℕ) (nodes : List Node) (place : ℕ) → AreRising nodes → IsFound entry nodes (Some place)
+pub only_named : (entry slot : ℕ) (nodes : List Node) (place : ℕ) → AreRising nodes → IsFoundTurn entry nodes (Some place)
     → All (λ t. t.item.entry ≡ entry → t ≡ seen slot (get_or nodes place blank).kept) (seen_in slot nodes)
 only_named entry slot nodes place rising found = λ k t within. λ named.
     let at = seen_entry slot nodes k t within in
@@ -84,7 +84,7 @@ only_named entry slot nodes place rising found = λ k t within. λ named.
 
 -- and where it was stopped, none of that number stands
 pub one_stopped : (entry slot stop : ℕ) (nodes : List Node) (place : ℕ) → AreRising nodes
-    → IsFound entry nodes (Some place) → (get_or nodes place blank).kept.scheduled.stop ≡ Some stop
+    → IsFoundTurn entry nodes (Some place) → (get_or nodes place blank).kept.scheduled.stop ≡ Some stop
     → All (λ t. t.item.entry ≡ entry → t.stop ≢ None) (seen_in slot nodes)
 one_stopped entry slot stop nodes place rising found is = λ k t within. λ named none.
     let same = ap (λ (x : Scheduled). x.stop) (only_named entry slot nodes place rising found k t within named) in
@@ -113,7 +113,7 @@ any_behind entry slot nodes place found not_end =
     )
 
 -- a stop of a number that none has
-pub stopped_none : (entry slot : ℕ) (nodes : List Node) → IsFound entry nodes None
+pub stopped_none : (entry slot : ℕ) (nodes : List Node) → IsFoundTurn entry nodes None
     → seen_in slot nodes ≡ map (λ (t : Scheduled). scheduled_stopped (t.item.entry == entry) slot t)
     (seen_in slot nodes)
 stopped_none entry slot nodes none =
@@ -128,7 +128,7 @@ stopped_none entry slot nodes none =
     ∙ map_twice (λ (t : Scheduled). scheduled_stopped (t.item.entry == entry) slot t) (seen slot) (kept_in nodes)
 
 -- and of one that has it
-pub stopped_one : (entry slot : ℕ) (nodes : List Node) (place : ℕ) → AreRising nodes → IsFound entry nodes (Some place)
+pub stopped_one : (entry slot : ℕ) (nodes : List Node) (place : ℕ) → AreRising nodes → IsFoundTurn entry nodes (Some place)
     → map (seen slot) (set (kept_in nodes) place (stopped slot (get_or nodes place blank).kept)) ≡ map
     (λ (t : Scheduled). scheduled_stopped (t.item.entry == entry) slot t) (seen_in slot nodes)
 stopped_one entry slot nodes place rising found =

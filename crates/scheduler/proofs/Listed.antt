@@ -6,7 +6,7 @@ use Rattle.std.proofs.lemmas.List.{get_or-set_other, get_or-set_same, length-set
 use Rattle.std.proofs.lemmas.Bool.{cases_lt, cases_eq, leb-true, leb-false}
 use Rattle.scheduler.specs.declared.turn.First.{First}
 use Rattle.scheduler.specs.declared.tournament.Node.{Node}
-use Rattle.scheduler.specs.QueueSteps.{ahead_at, own_at, seen_in, kept_in, IsRight, HasTurn, AreKept}
+use Rattle.scheduler.specs.QueueSteps.{ahead_at, own_at, seen_in, kept_in, IsRight, HasTurn, AreKeptInOrder}
 use Rattle.scheduler.specs.QueueSteps.{IsNode, IsTree, KeepsNodesBut, IsDue, AreListed, AreDue}
 use Rattle.scheduler.proofs.Tree.{ahead_at-past, below_one, below_awake, node_awake, first_is_ahead}
 
@@ -251,7 +251,7 @@ pub record AreRenewed (slot : ℕ) (listed : List ℕ) (left : ℕ) (old new : L
 
 -- at first
 pub renewed_none : (slot : ℕ) (nodes : List Node) (listed : List ℕ) (count : ℕ) → AreDue slot nodes listed count
-    → AreKept slot nodes → AreRenewed slot listed count nodes nodes
+    → AreKeptInOrder slot nodes → AreRenewed slot listed count nodes nodes
 renewed_none slot nodes listed count due kept = record {
   long = refl;
   seen = refl;

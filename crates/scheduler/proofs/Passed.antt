@@ -9,7 +9,7 @@ use Rattle.scheduler.specs.declared.tournament.Node.{Node}
 use Rattle.scheduler.specs.declared.progress.Progress.{Progress}
 use Rattle.scheduler.specs.declared.scheduled.Scheduled.{Scheduled}
 use Rattle.scheduler.specs.PlanSteps.{IsChoice, is_ready, after_slot}
-use Rattle.scheduler.specs.QueueSteps.{kept_in, seen_in, IsRight, AreKept, AreRising, IsPlaceOf, seen, aired, ahead_at}
+use Rattle.scheduler.specs.QueueSteps.{kept_in, seen_in, IsRight, AreKeptInOrder, AreRising, IsPlaceOf, seen, aired, ahead_at}
 use Rattle.scheduler.proofs.Places.{kept_at, right_at, place_is, same_place}
 use Rattle.scheduler.proofs.FirstTurn.{all_awake, kept_awake, seen_at}
 use Rattle.scheduler.proofs.Windows.{seen_is, seen_after_other, seen_after_aired, IsRight-later, IsRight-aired}
@@ -48,7 +48,7 @@ pub record IsUsedAt (slot : ℕ) (nodes : List Node) (entry place : ℕ) (d : No
   pub ready : is_ready (get_or nodes place d).kept.scheduled slot ≡ true
 
 -- it stands at the place of its number
-pub used_at : (slot : ℕ) (nodes : List Node) (used : ℕ × ℕ) (place : ℕ) (d : Node) → AreKept slot nodes
+pub used_at : (slot : ℕ) (nodes : List Node) (used : ℕ × ℕ) (place : ℕ) (d : Node) → AreKeptInOrder slot nodes
     → AreRising nodes → slot < (ahead_at nodes 0).wake → IsChoice (seen_in slot nodes) slot (Some used)
     → IsPlaceOf used.0 nodes place → IsUsedAt slot nodes used.0 place d
 used_at slot nodes used place d kept rising awake choice found =
@@ -70,7 +70,7 @@ used_at slot nodes used place d kept rising awake choice found =
     })
 
 -- after a slot that airs nothing
-pub seen_after_none : (slot : ℕ) (nodes : List Node) → AreKept slot nodes → slot < (ahead_at nodes 0).wake
+pub seen_after_none : (slot : ℕ) (nodes : List Node) → AreKeptInOrder slot nodes → slot < (ahead_at nodes 0).wake
     → seen_in (slot + 1) nodes ≡ map (after_slot slot None) (seen_in slot nodes)
 seen_after_none slot nodes kept awake =
     map_same (seen (slot + 1)) (λ k. after_slot slot None (seen slot k)) (kept_in nodes)
@@ -79,13 +79,13 @@ seen_after_none slot nodes kept awake =
     ∙ map_twice (after_slot slot None) (seen slot) (kept_in nodes)
 
 -- what is kept of each message is right at the next slot
-pub right_later : (slot : ℕ) (nodes : List Node) → AreKept slot nodes → slot < (ahead_at nodes 0).wake
+pub right_later : (slot : ℕ) (nodes : List Node) → AreKeptInOrder slot nodes → slot < (ahead_at nodes 0).wake
     → All (IsRight (slot + 1)) (kept_in nodes)
 right_later slot nodes kept awake = λ k d h.
     IsRight-later (get_or (kept_in nodes) k d) slot (kept.right k d h) (kept_awake slot nodes k d kept.tree awake h)
 
 -- after a slot that airs the message at a place
-pub seen_after_used : (slot : ℕ) (nodes : List Node) (used : ℕ × ℕ) (place : ℕ) (d : Node) → AreKept slot nodes
+pub seen_after_used : (slot : ℕ) (nodes : List Node) (used : ℕ × ℕ) (place : ℕ) (d : Node) → AreKeptInOrder slot nodes
     → AreRising nodes → slot < (ahead_at nodes 0).wake → IsUsedAt slot nodes used.0 place d
     → map (seen (slot + 1)) (set (kept_in nodes) place (aired (get_or nodes place d).kept))
     ≡ map (after_slot slot (Some used)) (seen_in slot nodes)
@@ -111,7 +111,7 @@ seen_after_used slot nodes used place d kept rising awake here =
         same_place nodes k place d rising inside here.within (is ∙ (named ∙ sym here.named))
 
 -- and what is kept is right
-pub right_after_used : (slot : ℕ) (nodes : List Node) (used : ℕ × ℕ) (place : ℕ) (d : Node) → AreKept slot nodes
+pub right_after_used : (slot : ℕ) (nodes : List Node) (used : ℕ × ℕ) (place : ℕ) (d : Node) → AreKeptInOrder slot nodes
     → slot < (ahead_at nodes 0).wake → IsUsedAt slot nodes used.0 place d
     → All (IsRight (slot + 1)) (set (kept_in nodes) place (aired (get_or nodes place d).kept))
 right_after_used slot nodes used place d kept awake here =

@@ -14,7 +14,7 @@ use Rattle.scheduler.specs.Message.{HasBroadcast, has_broadcast, is_before_stop}
 use Rattle.scheduler.specs.Air.{airs}
 use Rattle.scheduler.specs.Follows.{message_of}
 use Rattle.scheduler.specs.PlanSteps.{IsFit, is_ready, after_slot}
-use Rattle.scheduler.specs.QueueSteps.{kept_new, begun, refreshed, aired, stopped, seen, IsRight}
+use Rattle.scheduler.specs.QueueSteps.{kept_new, progress_begun, refreshed, aired, stopped, seen, IsRight}
 use Rattle.scheduler.proofs.Air.{broadcast_at-released, broadcast_at-not_due, broadcast_at-only, next_release}
 use Rattle.scheduler.proofs.Air.{same_broadcast}
 use Rattle.scheduler.proofs.Message.{has_broadcast-says, has_broadcast-from}
@@ -158,11 +158,11 @@ seen_renewed k slot =
       | inl before ↦ rw (lt-ltb slot k.until before) (seen_is k slot before)
       | inr now ↦ rw (le-ltb slot k.until now) (
           ap (λ n. record k.scheduled { pages_aired = n })
-          (cond_zero (ltb slot (begun slot (record k.scheduled { pages_aired = 0 })).until)))
+          (cond_zero (ltb slot (progress_begun slot (record k.scheduled { pages_aired = 0 })).until)))
     ]
 
 -- and is not to be looked at again at that slot
-begun_awake : (t : Scheduled) (slot : ℕ) → 0 < t.item.period → slot < 65536 → slot < (begun slot t).until
+begun_awake : (t : Scheduled) (slot : ℕ) → 0 < t.item.period → slot < 65536 → slot < (progress_begun slot t).until
 begun_awake t slot period short =
     elim (cases_Bool (is_ready t slot)) [
       | inl ready ↦ rw ready (broadcast_at-not_due (message_of t) slot period (is_ready-started t slot ready))
@@ -195,7 +195,7 @@ not_stopped t slot s from stopped says = by_stop t.stop stopped says
 -- what begins at a slot is right from there
 begun_right : (t : Scheduled) (slot : ℕ) → IsFit t slot → t.pages_aired ≡ 0
     → ((stop : ℕ) → t.stop ≡ Some stop → stop ≤ slot) → slot < 65536
-    → IsRight slot (begun slot t)
+    → IsRight slot (progress_begun slot t)
 begun_right t slot fit none stopped short =
     elim (cases_Bool (is_ready t slot)) [
       | inl ready ↦ record {
@@ -260,7 +260,7 @@ begun_right t slot fit none stopped short =
         by_stop None before = refl
         by_stop (Some x) before = let one = ltb-true s x before in lt-ltb slot x (omega arith)
 
-    not_on : is_ready t slot ≡ false → (s : ℕ) → slot ≤ s → s < (begun slot t).until → is_ready t s ≡ false
+    not_on : is_ready t slot ≡ false → (s : ℕ) → slot ≤ s → s < (progress_begun slot t).until → is_ready t s ≡ false
     not_on not s from till = elim (cases_Bool (is_ready t s)) [
       | inr later ↦ later
       | inl ready ↦ elim (cases_lt slot t.item.start) [

@@ -51,8 +51,8 @@ kept_new item = record {
 }
 
 -- what begins at the slot, where nothing is known up to it
-abbrev pub begun : ℕ → Scheduled → Progress
-begun slot t = record {
+abbrev pub progress_begun : ℕ → Scheduled → Progress
+progress_begun slot t = record {
   scheduled = t;
   until = if is_ready t slot then due (message_of t) (broadcast_at (message_of t) slot) else
       (if nat_lt slot t.item.start then t.item.start else 4294967295);
@@ -61,7 +61,7 @@ begun slot t = record {
 
 -- what is kept of a message at the slot
 abbrev pub refreshed : ℕ → Progress → Progress
-refreshed slot k = if nat_lt slot k.until then k else begun slot (record k.scheduled { pages_aired = 0 })
+refreshed slot k = if nat_lt slot k.until then k else progress_begun slot (record k.scheduled { pages_aired = 0 })
 
 -- what is kept of a message once its next page was aired
 abbrev pub aired : Progress → Progress
@@ -170,7 +170,7 @@ pub record IsPlaceOf (entry : ℕ) (nodes : List Node) (place : ℕ) : Type 0 wh
       → entry ≤ (slice_index_or nodes k d).kept.scheduled.item.entry
 
 -- what is true of the messages of a plan at the slot that is asked next
-pub record AreKept (slot : ℕ) (nodes : List Node) : Type 0 where
+pub record AreKeptInOrder (slot : ℕ) (nodes : List Node) : Type 0 where
   pub right : All (IsRight slot) (kept_in nodes)
   pub turns : All HasTurn (kept_in nodes)
   pub tree : IsTree nodes
@@ -196,18 +196,18 @@ pub record AreDue (slot : ℕ) (nodes : List Node) (listed : List ℕ) (count : 
   pub all : (k : ℕ) → IsDue slot nodes k → (i : ℕ) × ((i < count) × (slice_index_or listed i 0 ≡ k))
 
 -- the message of that number stands at the place, or there is none
-abbrev pub IsFound : ℕ → List Node → Option ℕ → Type 0
-IsFound entry nodes None =
+abbrev pub IsFoundTurn : ℕ → List Node → Option ℕ → Type 0
+IsFoundTurn entry nodes None =
     (k : ℕ) (d : Node) → k < length nodes → (slice_index_or nodes k d).kept.scheduled.item.entry ≢ entry
-IsFound entry nodes (Some place) =
+IsFoundTurn entry nodes (Some place) =
     (place < length nodes) × ((d : Node) → (slice_index_or nodes place d).kept.scheduled.item.entry ≡ entry)
 
 -- what is true of a plan at the slot that is asked next
 pub record IsPlan (slot : ℕ) (nodes : List Node) : Type 0 where
   pub sound : IsSound (record { slot = slot; scheduled = seen_in slot nodes })
-  pub kept : AreKept slot nodes
+  pub kept : AreKeptInOrder slot nodes
 
 -- and of a plan with room for a list of its places
-pub record HasRoom (slot : ℕ) (nodes : List Node) (listed : List ℕ) : Type 0 where
+pub record HasQueueRoom (slot : ℕ) (nodes : List Node) (listed : List ℕ) : Type 0 where
   pub plan : IsPlan slot nodes
   pub room : length nodes ≤ length listed

@@ -85,13 +85,13 @@ pub struct Plan {
 
 impl Model for Plan {
     ghost use Rattle.scheduler.specs.Follows.{PlanState};
-    ghost use Rattle.scheduler.specs.QueueSteps.{HasRoom, seen_in};
+    ghost use Rattle.scheduler.specs.QueueSteps.{HasQueueRoom, seen_in};
 
     ghost Value = { PlanState };
 
     ghost view = { λ p. record { slot = p.slot; scheduled = seen_in p.slot p.nodes.items } };
 
-    ghost invariant = { λ p. HasRoom p.slot p.nodes.items p.listed.items };
+    ghost invariant = { λ p. HasQueueRoom p.slot p.nodes.items p.listed.items };
 }
 
 impl Plan {

@@ -10,9 +10,9 @@ ghost use Rattle.scheduler.specs.PlanSteps.{IsChoice, after_slot, scheduled_stop
 ghost use Rattle.scheduler.specs.declared.tournament.Node.{Node};
 ghost use Rattle.scheduler.specs.QueueSteps.{ahead_among, ahead_at, ahead_below, kept_in, seen_in};
 ghost use Rattle.scheduler.specs.QueueSteps.{IsNode, IsTree, HasTurn};
-ghost use Rattle.scheduler.specs.QueueSteps.{IsTreeBut, KeepsNodesBut, own, own_at, IsRight, IsPlaceOf, IsFound};
+ghost use Rattle.scheduler.specs.QueueSteps.{IsTreeBut, KeepsNodesBut, own, own_at, IsRight, IsPlaceOf, IsFoundTurn};
 ghost use Rattle.scheduler.specs.QueueSteps.{AreRising};
-ghost use Rattle.scheduler.specs.QueueSteps.{AreKept, AreListed, AreDue, kept_new, renewed_node};
+ghost use Rattle.scheduler.specs.QueueSteps.{AreKeptInOrder, AreListed, AreDue, kept_new, renewed_node};
 
 use crate::plan::{Item, Refused};
 use crate::progress::Progress;
@@ -251,9 +251,9 @@ fn list_due(nodes: &[Node], listed: &mut [usize], slot: u16) -> usize
 fn renew_listed(nodes: &mut [Node], listed: &[usize], count: usize, slot: u16)
     requires due { AreDue slot nodes.old listed.now count }
     requires room { count ≤ length listed.now }
-    requires kept { AreKept slot nodes.old }
+    requires kept { AreKeptInOrder slot nodes.old }
     ensures seen { seen_in slot nodes.new ≡ seen_in slot nodes.old }
-    ensures kept { AreKept slot nodes.new }
+    ensures kept { AreKeptInOrder slot nodes.new }
     ensures awake { slot < (ahead_at nodes.new 0).wake }
 {
     let mut left = count;
@@ -266,9 +266,9 @@ fn renew_listed(nodes: &mut [Node], listed: &[usize], count: usize, slot: u16)
 /// Looks again at each message for which `slot` is a slot to do so.
 fn renew_all(nodes: &mut [Node], listed: &mut [usize], slot: u16)
     requires room { length nodes.old ≤ length listed.old }
-    requires kept { AreKept slot nodes.old }
+    requires kept { AreKeptInOrder slot nodes.old }
     ensures seen { seen_in slot nodes.new ≡ seen_in slot nodes.old }
-    ensures kept { AreKept slot nodes.new }
+    ensures kept { AreKeptInOrder slot nodes.new }
     ensures awake { slot < (ahead_at nodes.new 0).wake }
 {
     let count = list_due(nodes, listed, slot);
@@ -334,12 +334,12 @@ fn place_of(nodes: &[Node], entry: u16) -> usize
 /// What `slot` airs, the next page of the message whose turn is the first, and what is kept after the slot.
 fn air_first(nodes: &mut [Node], slot: u16) -> Option<(u16, u8)>
     requires within { slot < 65535 }
-    requires kept { AreKept slot nodes.old }
+    requires kept { AreKeptInOrder slot nodes.old }
     requires rising { AreRising nodes.old }
     requires awake { slot < (ahead_at nodes.old 0).wake }
     ensures chosen { IsChoice (seen_in slot nodes.old) slot result }
     ensures seen { seen_in (slot + 1) nodes.new ≡ map (after_slot slot result) (seen_in slot nodes.old) }
-    ensures kept { AreKept (slot + 1) nodes.new }
+    ensures kept { AreKeptInOrder (slot + 1) nodes.new }
 {
     let entry = ahead_at(nodes, 0).first_entry()?;
     let place = place_of(nodes, entry);
@@ -352,11 +352,11 @@ fn air_first(nodes: &mut [Node], slot: u16) -> Option<(u16, u8)>
 pub(crate) fn play(nodes: &mut [Node], listed: &mut [usize], slot: u16) -> Option<(u16, u8)>
     requires within { slot < 65535 }
     requires room { length nodes.old ≤ length listed.old }
-    requires kept { AreKept slot nodes.old }
+    requires kept { AreKeptInOrder slot nodes.old }
     requires rising { AllPairs (λ a b. a.item.entry < b.item.entry) (seen_in slot nodes.old) }
     ensures chosen { IsChoice (seen_in slot nodes.old) slot result }
     ensures seen { seen_in (slot + 1) nodes.new ≡ map (after_slot slot result) (seen_in slot nodes.old) }
-    ensures kept { AreKept (slot + 1) nodes.new }
+    ensures kept { AreKeptInOrder (slot + 1) nodes.new }
 {
     renew_all(nodes, listed, slot);
     air_first(nodes, slot)
@@ -385,7 +385,7 @@ pub(crate) fn push(nodes: &mut Vec<Node>, item: Item) -> Result<(), Refused>
 /// The place of the message of `entry`, if there is one.
 fn find(nodes: &[Node], entry: u16) -> Option<usize>
     requires { AreRising nodes.now }
-    ensures { IsFound entry nodes.now result }
+    ensures { IsFoundTurn entry nodes.now result }
 {
     let place = place_of(nodes, entry);
     if place < nodes.len() && nodes[place].kept.scheduled.item.entry == entry {
@@ -397,11 +397,11 @@ fn find(nodes: &[Node], entry: u16) -> Option<usize>
 
 /// Stops the message of `entry` before `slot`.
 pub(crate) fn stop_at(nodes: &mut [Node], entry: u16, slot: u16)
-    requires kept { AreKept slot nodes.old }
+    requires kept { AreKeptInOrder slot nodes.old }
     requires rising { AreRising nodes.old }
     ensures seen { seen_in slot nodes.new ≡ map (λ t. scheduled_stopped (t.item.entry == entry) slot t)
         (seen_in slot nodes.old) }
-    ensures kept { AreKept slot nodes.new }
+    ensures kept { AreKeptInOrder slot nodes.new }
 {
     match find(nodes, entry) {
         None => {}

@@ -19,7 +19,7 @@ use Rattle.order_desk.specs.declared.note.Note.{Note}
 use Rattle.order_desk.specs.Reply.{cells_answered, reply_message}
 use Rattle.book_runs.specs.Run.{Exchange, IsExchange}
 use Rattle.book_runs.specs.Sessions.{IsNoteOf, IsSessionOf, asks_in, asks_of}
-use Rattle.session_check.specs.NotedSteps.{AreAnswersNoted, cells_of, commands_in}
+use Rattle.session_check.specs.NotedSteps.{AreAnswersNoted, record_cells, commands_in}
 use Rattle.session_check.specs.ReplaySteps.{GoesOnBy, IsNoTurn, IsTurnNoted}
 use Rattle.session_check.proofs.Noted.{IsForeignUnknown, all_noted_one, asks_of_noted, foreign_of_noted, noted_of_asks}
 use Rattle.session_check.proofs.Noted.{some_none}
@@ -49,7 +49,7 @@ pub record GoesOnByOne (records : List Record) (from : Standing) (request : Requ
   pub x : Exchange
   pub left : List Note
   pub same : request ≡ x.turn.request
-  pub is_exchange : IsExchange (cells_of records) x
+  pub is_exchange : IsExchange (record_cells records) x
   pub noted : AreAnswersNoted records x.turn.request.at x.command x.answers given left
   pub goes_on : GoesOnBy records (after_reply (Some x.turn.reply) from) left
 
@@ -58,13 +58,13 @@ first_turn : (records : List Record) (from reached : Standing) (request : Reques
     → from.sent ≡ Some request
     → GoesTo from (map (λ x. x.turn) exchanges) reached
     → reached.sent ≡ None
-    → All (IsExchange (cells_of records)) exchanges
-    → AllZip (IsNoteOf records) (asks_of (cells_of records) exchanges) given
+    → All (IsExchange (record_cells records)) exchanges
+    → AllZip (IsNoteOf records) (asks_of (record_cells records) exchanges) given
     → GoesOnByOne records from request given
 first_turn records from reached request given [] sent gone over exchanged noted =
     absurd (some_none request (sym sent ∙ ap (λ (s : Standing). s.sent) (sym gone) ∙ over))
 first_turn records from reached request given (x ∷ later) sent gone over exchanged noted =
-    let cells = cells_of records in
+    let cells = record_cells records in
     let is = All-head (IsExchange cells) x later exchanged in
     let parts = zip_parts (IsNoteOf records) (asks_in cells x) (asks_of cells later) given noted in
     let unknown = recursion_from_All (IsForeignUnknown cells) x.answers is.foreign in
@@ -147,7 +147,7 @@ pub goes_before : (records : List Record) (from : Standing) (request : Request) 
     → GoesOnBy records (after_reply (Some (reply_message turn.command turn.answers)) from) left
     → GoesOnBy records from before
 goes_before records from request said before left sent turn by =
-    let cells = cells_of records in
+    let cells = record_cells records in
     let x : Exchange = record {
       turn = record { request = request; reply = reply_message turn.command turn.answers };
       command = turn.command;
@@ -173,7 +173,7 @@ goes_before records from request said before left sent turn by =
 no_asks : (records : List Record) (from reached : Standing) (given : List Note) (exchanges : List Exchange)
     → from.sent ≡ None
     → GoesTo from (map (λ x. x.turn) exchanges) reached
-    → AllZip (IsNoteOf records) (asks_of (cells_of records) exchanges) given
+    → AllZip (IsNoteOf records) (asks_of (record_cells records) exchanges) given
     → given ≡ []
 no_asks records from reached [] [] over gone noted = refl
 no_asks records from reached (note ∷ given) [] over gone noted = absurd noted
@@ -189,7 +189,7 @@ ends_by records from given is = (
     reached = from;
     gone = refl;
     over = is;
-    exchanged = All-nil (IsExchange (cells_of records));
+    exchanged = All-nil (IsExchange (record_cells records));
     noted = tt;
   }),
   λ by. no_asks records from by.reached given by.exchanges is by.gone by.noted,
@@ -197,7 +197,7 @@ ends_by records from given is = (
 
 -- a pass is a session's exactly where the session goes on by its notes of commands from its beginning
 pub is_pass_of_session : (book : Contents) (part parts : ℕ) (records : List Record) (pass : List Note)
-    → cells_of records ≡ book.cells
+    → record_cells records ≡ book.cells
     → GoesOnBy records (begun book part parts) (commands_in pass)
     ↔ ((exchanges : List Exchange) × IsSessionOf book part parts records pass exchanges)
 is_pass_of_session book part parts records pass cells = (

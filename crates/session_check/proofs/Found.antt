@@ -20,7 +20,7 @@ use Rattle.order_desk.specs.declared.note.Note.{Note}
 use Rattle.order_desk.specs.declared.note.Note.TheVariants as notes
 use Rattle.book_runs.specs.Run.{is_among, given_slot}
 use Rattle.book_runs.specs.Sessions.{IsNoteOf, slot_before, slot_in}
-use Rattle.session_check.specs.NotedSteps.{IsRecordOf, NotesAnswer, asked_at, cells_of}
+use Rattle.session_check.specs.NotedSteps.{IsRecordOf, NotesAnswer, asked_at, record_cells}
 
 -- what holds of each record holds of one of them
 at_split : (P : Record → Type 0) (before after : List Record) (r : Record) → AllByRecursion P (before ++ r ∷ after)
@@ -41,26 +41,26 @@ or_true true = refl
 or_true false = refl
 
 among_split : (before after : List Record) (r : Record) (cell : Cell) → is_cell cell r.cell ≡ true
-    → is_among (cells_of (before ++ r ∷ after)) cell ≡ true
-among_split [] after r cell own = ap (λ b. b || is_among (cells_of after) cell) own
+    → is_among (record_cells (before ++ r ∷ after)) cell ≡ true
+among_split [] after r cell own = ap (λ b. b || is_among (record_cells after) cell) own
 among_split (b ∷ before) after r cell own =
     ap (λ t. is_cell cell b.cell || t) (among_split before after r cell own) ∙ or_true (is_cell cell b.cell)
 
 pub among_found : (records : List Record) (cell : Cell) (r : Record) → IsRecordOf records cell r
-    → is_among (cells_of records) cell ≡ true
+    → is_among (record_cells records) cell ≡ true
 among_found records cell r found =
-    ap (λ (rs : List Record). is_among (cells_of rs) cell) found.split
+    ap (λ (rs : List Record). is_among (record_cells rs) cell) found.split
     ∙ among_split found.before found.after r cell found.own
 
 -- and one without isn't
 none_by : (records : List Record) (cell : Cell) → AllByRecursion (λ r. is_cell cell r.cell ≡ false) records
-    → is_among (cells_of records) cell ≡ false
+    → is_among (record_cells records) cell ≡ false
 none_by [] cell others = refl
 none_by (r ∷ records) cell others =
-    ap (λ b. b || is_among (cells_of records) cell) others.0 ∙ none_by records cell others.1
+    ap (λ b. b || is_among (record_cells records) cell) others.0 ∙ none_by records cell others.1
 
 pub among_none : (records : List Record) (cell : Cell) → All (λ r. is_cell cell r.cell ≡ false) records
-    → is_among (cells_of records) cell ≡ false
+    → is_among (record_cells records) cell ≡ false
 among_none records cell others =
     none_by records cell (recursion_from_All (λ r. is_cell cell r.cell ≡ false) records others)
 
@@ -117,7 +117,7 @@ some_is : (x r : Record) → Some x ≡ Some r → x ≡ r
 some_is x r is = cc
 
 -- of records of different cells the one at a place is the first of its cell
-pub record_at : (records : List Record) (place : ℕ) (cell : Cell) (r : Record) → AreDistinct (cells_of records)
+pub record_at : (records : List Record) (place : ℕ) (cell : Cell) (r : Record) → AreDistinct (record_cells records)
     → slice_get records place ≡ Some r → is_cell cell r.cell ≡ true → IsRecordOf records cell r
 record_at [] place cell r distinct there own = absurd (none-some r there)
 record_at (x ∷ records) zero cell r distinct there own = record {
@@ -131,7 +131,7 @@ record_at (x ∷ records) (suc place) cell r distinct there own =
     let rest = record_at records place cell r (λ i j d less inside. distinct (suc i) (suc j) d (omega (arith, less))
     (omega (arith, inside))) there own in
     let inside : place < length records = slice_get_within records place r there in
-    let here : get_or (cells_of records) place r.cell ≡ r.cell =
+    let here : get_or (record_cells records) place r.cell ≡ r.cell =
     get_or-map (λ (y : Record). y.cell) records place r r.cell inside
     ∙ ap (λ (y : Record). y.cell) (get_or_from_slice_get records place r r there) in
     let apart : x.cell ≡ r.cell → ⊥ = λ same. distinct 0 (suc place) r.cell (omega arith)

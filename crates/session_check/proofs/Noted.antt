@@ -14,7 +14,7 @@ use Rattle.order_desk.specs.declared.note.Note.TheVariants as notes
 use Rattle.order_desk.specs.Reply.{cells_answered}
 use Rattle.book_runs.specs.Run.{Asked, is_among}
 use Rattle.book_runs.specs.Sessions.{IsNoteOf}
-use Rattle.session_check.specs.NotedSteps.{AreAnswersNoted, IsAnswerNoted, asked_at, cells_of}
+use Rattle.session_check.specs.NotedSteps.{AreAnswersNoted, IsAnswerNoted, asked_at, record_cells}
 
 -- a test is one or the other
 pub clash : (b : Bool) → b ≡ true → b ≡ false → ⊥
@@ -49,7 +49,7 @@ pub noted_one : (records : List Record) (at : ℕ) (command : Command) (cell : C
     → IsAnswerNoted records at command (cell, b) before rest
     → (a ≡ b) × (left ≡ rest)
 noted_one records at command cell a b before left rest one other =
-    elim (cases_Bool (is_among (cells_of records) cell)) [
+    elim (cases_Bool (is_among (record_cells records) cell)) [
       | inl among ↦
           let x = one.own among in
           let y = other.own among in
@@ -131,10 +131,10 @@ pub asks_of_noted : (records : List Record) (at : ℕ) (command : Command) (give
     (before left : List Note)
     → AreAnswersNoted records at command given before left
     → (own : List Note) × (before ≡ own ++ left)
-    × AllZip (IsNoteOf records) (asks_at (cells_of records) at command given) own
+    × AllZip (IsNoteOf records) (asks_at (record_cells records) at command given) own
 asks_of_noted records at command [] before left are = ([], sym are, tt)
 asks_of_noted records at command (a ∷ given) before left are =
-    let cells = cells_of records in
+    let cells = record_cells records in
     let rest = asks_of_noted records at command given are.0 left are.2 in
     elim (cases_Bool (is_among cells a.0)) [
       | inl among ↦
@@ -159,7 +159,7 @@ asks_of_noted records at command (a ∷ given) before left are =
 pub foreign_of_noted : (records : List Record) (at : ℕ) (command : Command) (given : List (Cell × Answer))
     (before left : List Note)
     → AreAnswersNoted records at command given before left
-    → AllByRecursion (IsForeignUnknown (cells_of records)) given
+    → AllByRecursion (IsForeignUnknown (record_cells records)) given
 foreign_of_noted records at command [] before left are = tt
 foreign_of_noted records at command (a ∷ given) before left are =
     (λ foreign. (are.1.foreign foreign).0, foreign_of_noted records at command given are.0 left are.2)
@@ -167,30 +167,30 @@ foreign_of_noted records at command (a ∷ given) before left are =
 -- and notes of what answers ask are of the answers
 own_noted : (records : List Record) (at : ℕ) (command : Command) (a : Cell × Answer) (given : List (Cell × Answer))
     (own left : List Note)
-    → is_among (cells_of records) a.0 ≡ true
-    → ((later : List Note) → AllZip (IsNoteOf records) (asks_at (cells_of records) at command given) later
+    → is_among (record_cells records) a.0 ≡ true
+    → ((later : List Note) → AllZip (IsNoteOf records) (asks_at (record_cells records) at command given) later
     → AreAnswersNoted records at command given (later ++ left) left)
-    → AllZip (IsNoteOf records) ((a.0, asked_at at command a.1) ∷ asks_at (cells_of records) at command given) own
+    → AllZip (IsNoteOf records) ((a.0, asked_at at command a.1) ∷ asks_at (record_cells records) at command given) own
     → AreAnswersNoted records at command (a ∷ given) (own ++ left) left
 own_noted records at command a given [] left among next all = absurd all
 own_noted records at command a given (note ∷ own) left among next all = (
   own ++ left,
   record {
     own = λ _. (note, refl, all.0);
-    foreign = λ foreign. absurd (clash (is_among (cells_of records) a.0) among foreign);
+    foreign = λ foreign. absurd (clash (is_among (record_cells records) a.0) among foreign);
   },
   next own all.1,
 )
 
 pub noted_of_asks : (records : List Record) (at : ℕ) (command : Command) (given : List (Cell × Answer))
     (own left : List Note)
-    → AllByRecursion (IsForeignUnknown (cells_of records)) given
-    → AllZip (IsNoteOf records) (asks_at (cells_of records) at command given) own
+    → AllByRecursion (IsForeignUnknown (record_cells records)) given
+    → AllZip (IsNoteOf records) (asks_at (record_cells records) at command given) own
     → AreAnswersNoted records at command given (own ++ left) left
 noted_of_asks records at command [] [] left unknown all = refl
 noted_of_asks records at command [] (note ∷ own) left unknown all = absurd all
 noted_of_asks records at command (a ∷ given) own left unknown all =
-    let cells = cells_of records in
+    let cells = record_cells records in
     elim (cases_Bool (is_among cells a.0)) [
       | inl among ↦ own_noted records at command a given own left among
           (λ later are. noted_of_asks records at command given later left unknown.1 are)

@@ -18,7 +18,7 @@ use Rattle.bsc_table.specs.declared.command.Command.TheVariants as commands
 use Rattle.bsc_table.specs.declared.entry.Answer.{Answer}
 use Rattle.bsc_table.specs.declared.entry.Answer.TheVariants as answers
 use Rattle.bsc_table.specs.Orders.{category_of, if_basic_channel, if_category_known, is_basic, order_of}
-use Rattle.order_desk.specs.Reply.{IsAnswerTo, IsAnswerToKill, IsAnswerToReplacement, accepted_in, counted_in}
+use Rattle.order_desk.specs.Reply.{IsAnswerTo, IsAnswerToKill, IsAnswerToReplacement, accepting_cells, counted_in}
 use Rattle.order_desk.specs.Reply.{kill_reply, refused_in, reply_message, write_reply}
 use Rattle.order_desk.specs.ReplyLaws.{IsOrdered}
 
@@ -48,8 +48,8 @@ no_start_of_kill answers.Refused is = tt
 -- where no cell answered so, the cells that accepted are those whose completed broadcasts are counted
 counted_more : (cell : Cell) (answer : Answer) (later : List (Cell × Answer))
     → IsNoStart answer
-    → cells_counted (counted_in later) ≡ accepted_in later
-    → cells_counted (counted_in ((cell, answer) ∷ later)) ≡ accepted_in ((cell, answer) ∷ later)
+    → cells_counted (counted_in later) ≡ accepting_cells later
+    → cells_counted (counted_in ((cell, answer) ∷ later)) ≡ accepting_cells ((cell, answer) ∷ later)
 counted_more cell (answers.Started slot) later unlike same = absurd unlike
 counted_more cell (answers.Replaced slot completed) later unlike same = ap (λ (cells : List Cell). cell ∷ cells) same
 counted_more cell (answers.Stopped completed) later unlike same = ap (λ (cells : List Cell). cell ∷ cells) same
@@ -60,7 +60,7 @@ counted_more cell answers.Refused later unlike same = same
 
 counted_all : (given : List (Cell × Answer))
     → AllByRecursion (λ a. IsNoStart a.1) given
-    → cells_counted (counted_in given) ≡ accepted_in given
+    → cells_counted (counted_in given) ≡ accepting_cells given
 counted_all [] unlike = refl
 counted_all (a ∷ later) unlike = counted_more a.0 a.1 later unlike.0 (counted_all later unlike.1)
 
@@ -87,11 +87,11 @@ kill_says id old m (failure ∷ refused) completed is =
 pub record OrderSays (m : Message) (command : Command) : Type 0 where
   pub ordered : IsOrdered command
   pub says : (given : List (Cell × Answer)) → All (λ a. IsAnswerTo command a.1) given
-      → outcome_of m (reply_message command given) ≡ Some (outcome_with (accepted_in given) (refused_in given))
+      → outcome_of m (reply_message command given) ≡ Some (outcome_with (accepting_cells given) (refused_in given))
 
 counted_says : (given : List (Cell × Answer)) → AllByRecursion (λ a. IsNoStart a.1) given
     → Some (outcome_with (cells_counted (counted_in given)) (refused_in given))
-    ≡ Some (outcome_with (accepted_in given) (refused_in given))
+    ≡ Some (outcome_with (accepting_cells given) (refused_in given))
 counted_says given unlike =
     ap (λ (cells : List Cell). Some (outcome_with cells (refused_in given))) (counted_all given unlike)
 
@@ -106,12 +106,12 @@ of_plain : (id new : ℕ) (m : Message) (command : Command)
     → is_write_of id new None m ≡ true
     → IsOrdered command
     → ((given : List (Cell × Answer))
-    → reply_message command given ≡ write_reply id new None (refused_in given) [] (accepted_in given))
+    → reply_message command given ≡ write_reply id new None (refused_in given) [] (accepting_cells given))
     → OrderSays m command
 of_plain id new m command is ordered replied = record {
   ordered = ordered;
   says = λ given fit. ap (outcome_of m) (replied given)
-      ∙ write_says id new None m (refused_in given) [] (accepted_in given) is;
+      ∙ write_says id new None m (refused_in given) [] (accepting_cells given) is;
 }
 
 of_counted : (m : Message) (command : Command)

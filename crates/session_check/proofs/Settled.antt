@@ -9,7 +9,7 @@ use Rattle.order_desk.specs.Agreement.{Agrees, IsRightNumber}
 use Rattle.order_desk.specs.declared.note.Note.{Note}
 use Rattle.order_desk.specs.Settled.{ClosedDesk, IsBookOf, IsPlayedOut, IsSettled}
 use Rattle.session_check.specs.Checked.{HasRightNumbers}
-use Rattle.session_check.specs.NotedSteps.{cells_of}
+use Rattle.session_check.specs.NotedSteps.{record_cells}
 
 still_agree : (passes : List (List Note)) (books records : List Record) → AllZip IsPlayedOut books records
     → All (Agrees passes) books
@@ -27,14 +27,14 @@ still_agree passes (r ∷ books) (s ∷ records) all agree =
 
 same_cells : (slots : ℕ) (cells : List Cell) (books records : List Record) → AllZip (IsBookOf slots) cells books
     → AllZip IsPlayedOut books records
-    → cells_of records ≡ cells
+    → record_cells records ≡ cells
 same_cells slots [] [] [] of all = refl
 same_cells slots [] [] (s ∷ records) of all = absurd all
 same_cells slots [] (r ∷ books) records of all = absurd of
 same_cells slots (c ∷ cells) [] records of all = absurd of
 same_cells slots (c ∷ cells) (r ∷ books) [] of all = absurd all
 same_cells slots (c ∷ cells) (r ∷ books) (s ∷ records) of all =
-    ap (λ (x : Cell). x ∷ cells_of records) (all.0.played.same_cell ∙ of.0.0)
+    ap (λ (x : Cell). x ∷ record_cells records) (all.0.played.same_cell ∙ of.0.0)
     ∙ ap (λ (xs : List Cell). c ∷ xs) (same_cells slots cells books records of.1 all.1)
 
 pub settled_agree : (desk : ClosedDesk) (passes : List (List Note)) (records : List Record)
@@ -44,6 +44,6 @@ settled_agree desk passes records settled = still_agree passes desk.books record
 
 pub settled_cells : (desk : ClosedDesk) (passes : List (List Note)) (records : List Record)
     → IsSettled desk passes records
-    → cells_of records ≡ desk.cells
+    → record_cells records ≡ desk.cells
 settled_cells desk passes records settled =
     same_cells desk.slots desk.cells desk.books records settled.right settled.played

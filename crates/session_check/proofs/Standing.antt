@@ -12,7 +12,7 @@ use Rattle.cbsp_wire.specs.Range.{is_cell}
 use Rattle.bsc_table.specs.declared.command.Command.{Command}
 use Rattle.bsc_table.specs.declared.entry.Answer.{Answer}
 use Rattle.bsc_table.specs.declared.entry.Entry.{Entry}
-use Rattle.bsc_table.specs.Legal.{IsAnswered, IsLegal}
+use Rattle.bsc_table.specs.Legal.{HasItsAnswer, IsLegal}
 use Rattle.bsc_table.specs.Record.{Record}
 use Rattle.order_desk.specs.Agreement.{AreInPlaceAt, IsInPlaceAt}
 use Rattle.order_desk.specs.declared.note.Note.{Note}
@@ -23,7 +23,7 @@ use Rattle.cbsp_wire.proofs.CellLists.{is_itself, same_cell}
 use Rattle.book_runs.specs.Run.{is_among}
 use Rattle.book_runs.specs.Sessions.{is_of_command}
 use Rattle.session_check.specs.Checked.{HasRightNumbers}
-use Rattle.session_check.specs.NotedSteps.{AreAnswersNoted, AreStanding, IsAnswerNoted, StandsIn, cells_of}
+use Rattle.session_check.specs.NotedSteps.{AreAnswersNoted, AreStanding, IsAnswerNoted, StandsIn, record_cells}
 use Rattle.session_check.specs.NotedSteps.{commands_in}
 
 -- a note that is in its place stands in the log
@@ -63,7 +63,7 @@ pub left_stand : (records : List Record) (at : ℕ) (command : Command) (given :
     → AreStanding records before
     → AreStanding records left
 left_stand records at command given before left is standing =
-    elim (cases_Bool (is_among (cells_of records) given.0)) [
+    elim (cases_Bool (is_among (record_cells records) given.0)) [
       | inl among ↦
           let own = is.own among in
           All-tail (λ note. All (StandsIn note) records) own.0 left (subst (AreStanding records) own.1 standing)
@@ -90,8 +90,8 @@ answer_fits law r number entry legal stands ordered =
     let within = slice_get_within r.log number entry stands in
     let is : get_or r.log number entry ≡ entry =
     same_Some _ _ (sym (slice_get-get_or r.log number entry within) ∙ stands) in
-    let answered : IsAnswered r.slots (take number r.log) r.air entry =
-    subst (IsAnswered r.slots (take number r.log) r.air) is (legal.answered number entry within) in
+    let answered : HasItsAnswer r.slots (take number r.log) r.air entry =
+    subst (HasItsAnswer r.slots (take number r.log) r.air) is (legal.answered number entry within) in
     subst (IsAnswerTo entry.command) (sym answered)
     (law r.slots (take number r.log) (take entry.slot r.air) entry.slot entry.command ordered
     (few (length r.log) (length (take number r.log)) within legal.few (length-take number r.log))).0

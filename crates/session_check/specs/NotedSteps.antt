@@ -16,8 +16,8 @@ use Rattle.book_runs.specs.Run.{Asked, is_among, given_slot}
 use Rattle.book_runs.specs.Sessions.{IsNoteOf, is_of_command, slot_before}
 
 -- the cells of records
-abbrev pub cells_of : List Record → List Cell
-cells_of records = map (λ r. r.cell) records
+abbrev pub record_cells : List Record → List Cell
+record_cells records = map (λ r. r.cell) records
 
 -- the notes of commands among some
 abbrev pub commands_in : List Note → List Note
@@ -61,9 +61,9 @@ NotesAnswer r at cell command (notes.Full of) answer = (of ≡ cell) × (answer 
 -- identified, and nothing is noted of it
 pub record IsAnswerNoted (records : List Record) (at : ℕ) (command : Command) (given : Cell × Answer)
     (before left : List Note) : Type 0 where
-  pub own : is_among (cells_of records) given.0 ≡ true
+  pub own : is_among (record_cells records) given.0 ≡ true
       → (note : Note) × (before ≡ note ∷ left) × IsNoteOf records (given.0, asked_at at command given.1) note
-  pub foreign : is_among (cells_of records) given.0 ≡ false
+  pub foreign : is_among (record_cells records) given.0 ≡ false
       → (given.1 ≡ answers.Cause CELL_IDENTITY_NOT_VALID) × (left ≡ before)
 
 -- and the answers of several, one after the other

@@ -15,7 +15,7 @@ use Rattle.order_desk.specs.declared.note.Note.{Note}
 use Rattle.order_desk.specs.Reply.{cells_answered, reply_message}
 use Rattle.book_runs.specs.Run.{Exchange, IsExchange}
 use Rattle.book_runs.specs.Sessions.{IsNoteOf, asks_of}
-use Rattle.session_check.specs.NotedSteps.{AreAnswersNoted, cells_of}
+use Rattle.session_check.specs.NotedSteps.{AreAnswersNoted, record_cells}
 
 -- the message of a request is carried out by the notes: the answers of its cells are read off them, and what is said
 -- is what the reply to the answers says
@@ -41,5 +41,5 @@ pub record GoesOnBy (records : List Record) (from : Standing) (given : List Note
   pub reached : Standing
   pub gone : GoesTo from (map (λ x. x.turn) exchanges) reached
   pub over : reached.sent ≡ None
-  pub exchanged : All (IsExchange (cells_of records)) exchanges
-  pub noted : AllZip (IsNoteOf records) (asks_of (cells_of records) exchanges) given
+  pub exchanged : All (IsExchange (record_cells records)) exchanges
+  pub noted : AllZip (IsNoteOf records) (asks_of (record_cells records) exchanges) given

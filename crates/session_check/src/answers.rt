@@ -12,7 +12,7 @@ ghost use Rattle.order_desk.specs.ReplyLaws.{IsOrdered};
 ghost use Rattle.book_runs.specs.Run.{is_among, given_slot};
 ghost use Rattle.book_runs.specs.Sessions.{slot_before};
 ghost use Rattle.session_check.specs.NotedSteps.{AreAnswersNoted, AreStanding, IsAnswerNoted, IsEntryOf, IsRecordOf};
-ghost use Rattle.session_check.specs.NotedSteps.{NotesAnswer, StandsIn, cells_of, commands_in};
+ghost use Rattle.session_check.specs.NotedSteps.{NotesAnswer, StandsIn, record_cells, commands_in};
 
 use crate::notes::next_command;
 use bsc_table::{Answer, CellRecord, Command, Entry};
@@ -22,7 +22,7 @@ use std::alloc::{AllocError as Refused, Global};
 
 /// The record of a cell, if it is of the run, by a look at all.
 fn record_by_search(records: &[CellRecord], cell: Cell) -> Option<&CellRecord>
-    ensures none { IfNone result (is_among (cells_of records.now) cell ≡ false) }
+    ensures none { IfNone result (is_among (record_cells records.now) cell ≡ false) }
     ensures some { IfSome result (λ found. IsRecordOf records.now cell found.now) }
 {
     for record in records {
@@ -40,7 +40,7 @@ fn record_at(
     cell: Cell,
     place: usize,
 ) -> Option<&CellRecord>
-    requires { is_distinct ≡ true → AreDistinct (cells_of records.now) }
+    requires { is_distinct ≡ true → AreDistinct (record_cells records.now) }
     ensures { IfSome result (λ found. IsRecordOf records.now cell found.now) }
 {
     match records.get(place) {
@@ -57,8 +57,8 @@ fn record_of(
     cell: Cell,
     place: usize,
 ) -> Option<&CellRecord>
-    requires { is_distinct ≡ true → AreDistinct (cells_of records.now) }
-    ensures none { IfNone result (is_among (cells_of records.now) cell ≡ false) }
+    requires { is_distinct ≡ true → AreDistinct (record_cells records.now) }
+    ensures none { IfNone result (is_among (record_cells records.now) cell ≡ false) }
     ensures some { IfSome result (λ found. IsRecordOf records.now cell found.now) }
 {
     match record_at(records, is_distinct, cell, place) {
@@ -156,7 +156,7 @@ fn answer_in<'a>(
     command: &Command,
     notes: &'a [Note],
 ) -> Option<(Answer, &'a [Note])>
-    requires distinct { is_distinct ≡ true → AreDistinct (cells_of records.now) }
+    requires distinct { is_distinct ≡ true → AreDistinct (record_cells records.now) }
     requires ordered { IsOrdered command.now }
     requires standing { AreStanding records.now (commands_in notes.now) }
     ensures noted { IfSome result (λ given. IsAnswerNoted records.now at command.now (cell, given.0)
@@ -188,7 +188,7 @@ pub(crate) fn answers_in<'a>(
     command: &Command,
     notes: &'a [Note],
 ) -> Result<Option<(Vec<(Cell, Answer)>, &'a [Note])>, Refused>
-    requires distinct { is_distinct ≡ true → AreDistinct (cells_of records.now) }
+    requires distinct { is_distinct ≡ true → AreDistinct (record_cells records.now) }
     requires ordered { IsOrdered command.now }
     requires standing { AreStanding records.now (commands_in notes.now) }
     ensures answered { IfOk result (λ found. IfSome found (λ given. cells_answered given.0.items ≡ cells.now)) }

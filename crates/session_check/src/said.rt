@@ -1,7 +1,7 @@
 //! What the answers of cells say to a session.
 
 ghost use Rattle.std.specs.Prelude.{◌≡◌, IfOk};
-ghost use Rattle.order_desk.specs.Reply.{accepted_in, cell_by, failure_by, refused_in};
+ghost use Rattle.order_desk.specs.Reply.{accepting_cells, cell_by, failure_by, refused_in};
 
 use alert_book::Outcome;
 use bsc_table::Answer;
@@ -45,7 +45,7 @@ fn refused_in(alloc: Global, answers: &[(Cell, Answer)]) -> Result<Failures, Ref
 
 /// The cells that accepted.
 fn accepted_in(alloc: Global, answers: &[(Cell, Answer)]) -> Result<Cells, Refused>
-    ensures { IfOk result (λ cells. cells ≡ accepted_in answers.now) }
+    ensures { IfOk result (λ cells. cells ≡ accepting_cells answers.now) }
 {
     let mut list = Vec::with_capacity(alloc, answers.len())?;
     let mut left = answers;
@@ -60,7 +60,7 @@ fn accepted_in(alloc: Global, answers: &[(Cell, Answer)]) -> Result<Cells, Refus
 
 /// What the reply to an order says, by the answers of its cells. The reply isn't made.
 pub(crate) fn said_by(alloc: Global, answers: &[(Cell, Answer)]) -> Result<Outcome, Refused>
-    ensures accepted { IfOk result (λ said. said.accepted ≡ accepted_in answers.now) }
+    ensures accepted { IfOk result (λ said. said.accepted ≡ accepting_cells answers.now) }
     ensures refused { IfOk result (λ said. said.refused ≡ refused_in answers.now) }
 {
     Ok(Outcome {

@@ -8,7 +8,7 @@ ghost use Rattle.bsc_table.specs.declared.command.Command.{Command};
 ghost use Rattle.bsc_table.specs.Orders.{order_of};
 ghost use Rattle.book_runs.specs.Run.{Exchange};
 ghost use Rattle.book_runs.specs.Sessions.{IsSessionOf};
-ghost use Rattle.session_check.specs.NotedSteps.{AreStanding, cells_of, commands_in};
+ghost use Rattle.session_check.specs.NotedSteps.{AreStanding, record_cells, commands_in};
 ghost use Rattle.session_check.specs.ReplaySteps.{IsNoTurn, IsTurnNoted};
 
 use crate::answers::answers_in;
@@ -98,7 +98,7 @@ fn turn_in<'a>(
     request: &Request,
     notes: &'a [Note],
 ) -> Result<Option<(Outcome, &'a [Note])>, Refused>
-    requires distinct { is_distinct ≡ true → AreDistinct (cells_of records.now) }
+    requires distinct { is_distinct ≡ true → AreDistinct (record_cells records.now) }
     requires standing { AreStanding records.now (commands_in notes.now) }
     ensures some { IfOk result (λ found. IfSome found (λ given. IsTurnNoted records.now request.now given.0
         (commands_in notes.now) (commands_in given.1.now))) }
@@ -134,9 +134,9 @@ pub(crate) fn is_pass_of_session(
     is_distinct: bool,
     pass: &[Note],
 ) -> Result<bool, Refused>
-    requires distinct { is_distinct ≡ true → AreDistinct (cells_of records.now) }
+    requires distinct { is_distinct ≡ true → AreDistinct (record_cells records.now) }
     requires part { part < parts }
-    requires cells { cells_of records.now ≡ book.now.cells }
+    requires cells { record_cells records.now ≡ book.now.cells }
     requires standing { AreStanding records.now (commands_in pass.now) }
     ensures { IfOk result (λ is. IsTrue is ↔ ((exchanges : List Exchange)
         × IsSessionOf book.now part parts records.now pass.now exchanges)) }

@@ -6,7 +6,7 @@ ghost use Rattle.order_desk.specs.declared.settle.SettleFault.TheVariants as fau
 ghost use Rattle.book_runs.specs.Sessions.{AreSessions, IsRightPass};
 ghost use Rattle.cbsp_wire.specs.CellLists.{AreDistinct};
 ghost use Rattle.session_check.specs.Checked.{HasRightNumbers, IsFirstWrongPass};
-ghost use Rattle.session_check.specs.NotedSteps.{cells_of};
+ghost use Rattle.session_check.specs.NotedSteps.{record_cells};
 
 use crate::notes::has_no_commands;
 use crate::session::is_pass_of_session;
@@ -27,9 +27,9 @@ fn is_right_pass(
     passes: &[Pass],
     place: usize,
 ) -> Result<bool, Refused>
-    requires distinct { is_distinct ≡ true → AreDistinct (cells_of records.now) }
+    requires distinct { is_distinct ≡ true → AreDistinct (record_cells records.now) }
     requires within { place < length passes.now }
-    requires cells { cells_of records.now ≡ book.now.cells }
+    requires cells { record_cells records.now ≡ book.now.cells }
     requires agree { All (HasRightNumbers passes.now) records.now }
     ensures { IfOk result (λ right. IsTrue right ↔ IsRightPass book.now parts records.now passes.now place) }
 {
@@ -68,7 +68,7 @@ pub fn check_sessions(
     passes: &[Pass],
 ) -> Result<(), SettleFault>
     requires passes { parts ≤ length passes.now }
-    requires cells { cells_of records.now ≡ book.now.cells }
+    requires cells { record_cells records.now ≡ book.now.cells }
     requires agree { All (HasRightNumbers passes.now) records.now }
     ensures ok { IsOk result → AreSessions book.now parts records.now passes.now }
     ensures err { IfErr result (λ fault. fault ≢ faults.Refused

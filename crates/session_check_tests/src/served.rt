@@ -2,7 +2,7 @@
 
 ghost use Rattle.std.specs.Prelude.{◌≡◌, ◌<◌, ◌≤◌, length, All, IfOk, OnOk};
 ghost use Rattle.session_check.specs.Checked.{HasRightNumbers};
-ghost use Rattle.session_check.specs.NotedSteps.{cells_of};
+ghost use Rattle.session_check.specs.NotedSteps.{record_cells};
 
 use alert_book::{Book, Session, read_book};
 use bsc_table::CellRecord;
@@ -116,7 +116,7 @@ pub fn served<T: AllocGlobal + Wait>(
 
 /// The records of a desk that is settled with passes.
 pub fn settled(alloc: Global, desk: Desk, passes: &[Pass]) -> Result<Vec<CellRecord>, Fail>
-    ensures cells { IfOk result (λ records. cells_of records.items ≡ desk.cells) }
+    ensures cells { IfOk result (λ records. record_cells records.items ≡ desk.cells) }
     ensures agree { IfOk result (λ records. All (HasRightNumbers passes.now) records.items) }
 {
     let closed = match desk.close() {
@@ -139,7 +139,7 @@ fn check_in(
     passes: &[Pass],
 ) -> Result<(), SettleFault>
     requires parts { parts ≤ length passes.now }
-    requires cells { cells_of records.now ≡ book.now.cells }
+    requires cells { record_cells records.now ≡ book.now.cells }
     requires agree { All (HasRightNumbers passes.now) records.now }
 {
     drought.begin(alloc);

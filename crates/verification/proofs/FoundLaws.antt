@@ -20,7 +20,7 @@ use Rattle.verification.specs.Found.{FindingsState, HasTaken, IsFound, IsFoundBy
 use Rattle.verification.specs.FoundSteps.{AreJudgedBy, IsJudgedBy, rows_of_finding, rows_of_state}
 use Rattle.handset.specs.Recording.{TapeRecording}
 use Rattle.verification.specs.Rows.{AreJudged, AreRows, AreRowsBy, AreRowsOfCells, AreTapeRows}
-use Rattle.verification.specs.Rows.{difference_row, is_known, is_tape_of, other_row, other_rows, row_of}
+use Rattle.verification.specs.Rows.{difference_row, is_known, is_tape_of, other_row, other_rows, finding_row}
 
 -- no tapes
 runs-of : (records : List Record) → map (λ (c : CellState). c.run) (map unjudged records) ≡ records
@@ -144,14 +144,14 @@ others-more records before (t ∷ tapes) tape =
 row-by : (records : List Record) (before : List TapeRecording) (tape : TapeRecording) (known second : Bool) →
     is_known records tape.cell ≡ known → list_any (is_tape_of tape.cell) before ≡ second →
     other_row records before tape
-    ≡ (if known then (if second then row_of tape.cell findings.SecondTape ∷ [] else [])
-    else row_of tape.cell findings.UnknownCell ∷ [])
+    ≡ (if known then (if second then finding_row tape.cell findings.SecondTape ∷ [] else [])
+    else finding_row tape.cell findings.UnknownCell ∷ [])
 row-by records before tape known second is_known_is is_second_is =
     ap (λ (x : Bool). if x
-    then (if list_any (is_tape_of tape.cell) before then row_of tape.cell findings.SecondTape ∷ [] else [])
-    else row_of tape.cell findings.UnknownCell ∷ []) is_known_is
-    ∙ ap (λ (x : Bool). if known then (if x then row_of tape.cell findings.SecondTape ∷ [] else [])
-    else row_of tape.cell findings.UnknownCell ∷ []) is_second_is
+    then (if list_any (is_tape_of tape.cell) before then finding_row tape.cell findings.SecondTape ∷ [] else [])
+    else finding_row tape.cell findings.UnknownCell ∷ []) is_known_is
+    ∙ ap (λ (x : Bool). if known then (if x then finding_row tape.cell findings.SecondTape ∷ [] else [])
+    else finding_row tape.cell findings.UnknownCell ∷ []) is_second_is
 
 -- the cells of the tapes
 seen-more : (f : FindingsState) (tapes : List TapeRecording) (tape : TapeRecording) (seen : List Cell) →
@@ -188,14 +188,14 @@ pub taken-unknown : (records : List Record) (old new : FindingsState) (tapes : L
     (tape : TapeRecording) →
     HasTaken records old tapes → is_known (map (λ (c : CellState). c.run) old.cells) tape.cell ≡ false →
     new.cells ≡ old.cells → new.seen ≡ old.seen ++ tape.cell ∷ [] →
-    new.others ≡ old.others ++ row_of tape.cell findings.UnknownCell ∷ [] → HasTaken records new (tapes ++ tape ∷ [])
+    new.others ≡ old.others ++ finding_row tape.cell findings.UnknownCell ∷ [] → HasTaken records new (tapes ++ tape ∷ [])
 taken-unknown records old new tapes tape taken unknown cells seen others = record {
   cells = ap (map (λ (c : CellState). c.run)) cells ∙ taken.cells;
   found = subst (All (IsFound (tapes ++ tape ∷ []))) (sym cells)
       (λ k d within. stays tapes tape (get_or old.cells k d) (apart old.cells tape.cell unknown k d within)
       (taken.found k d within));
   seen = seen-more old tapes tape new.seen taken.seen seen;
-  others = others ∙ ap (λ rows. rows ++ row_of tape.cell findings.UnknownCell ∷ []) taken.others
+  others = others ∙ ap (λ rows. rows ++ finding_row tape.cell findings.UnknownCell ∷ []) taken.others
       ∙ ap (λ rows. other_rows records [] tapes ++ rows)
       (sym (row-by records tapes tape false (list_any (is_tape_of tape.cell) tapes)
       (known-of records old tape.cell false taken.cells unknown) refl))
@@ -207,7 +207,7 @@ pub taken-second : (records : List Record) (old new : FindingsState) (tapes : Li
     HasTaken records old tapes → is_known (map (λ (c : CellState). c.run) old.cells) tape.cell ≡ true →
     list_any (is_cell tape.cell) old.seen ≡ true →
     new.cells ≡ old.cells → new.seen ≡ old.seen ++ tape.cell ∷ [] →
-    new.others ≡ old.others ++ row_of tape.cell findings.SecondTape ∷ [] → HasTaken records new (tapes ++ tape ∷ [])
+    new.others ≡ old.others ++ finding_row tape.cell findings.SecondTape ∷ [] → HasTaken records new (tapes ++ tape ∷ [])
 taken-second records old new tapes tape taken known second cells seen others =
     let had : list_any (is_tape_of tape.cell) tapes ≡ true =
     sym (seen-any tape.cell tapes) ∙ ap (list_any (is_cell tape.cell)) (sym taken.seen) ∙ second in
@@ -216,7 +216,7 @@ taken-second records old new tapes tape taken known second cells seen others =
       found = subst (All (IsFound (tapes ++ tape ∷ []))) (sym cells)
           (λ k d within. stays-seen tapes tape (get_or old.cells k d) had (taken.found k d within));
       seen = seen-more old tapes tape new.seen taken.seen seen;
-      others = others ∙ ap (λ rows. rows ++ row_of tape.cell findings.SecondTape ∷ []) taken.others
+      others = others ∙ ap (λ rows. rows ++ finding_row tape.cell findings.SecondTape ∷ []) taken.others
           ∙ ap (λ rows. other_rows records [] tapes ++ rows)
           (sym (row-by records tapes tape true true (known-of records old tape.cell true taken.cells known) had))
           ∙ sym (others-more records [] tapes tape);
@@ -264,11 +264,11 @@ of-tape : (r : Record) (tape : TapeRecording) (finding : CellFinding) → IsFoun
     AreTapeRows r tape (rows_of_finding r.cell finding)
 of-tape r tape found.NoTape is = absurd is
 of-tape r tape found.OtherSlots is =
-    subst (λ b. MatchBool b (AreJudged r tape.blocks (row_of r.cell findings.OtherSlots ∷ []))
-    (row_of r.cell findings.OtherSlots ∷ [] ≡ row_of r.cell findings.OtherSlots ∷ [])) (sym is) refl
+    subst (λ b. MatchBool b (AreJudged r tape.blocks (finding_row r.cell findings.OtherSlots ∷ []))
+    (finding_row r.cell findings.OtherSlots ∷ [] ≡ finding_row r.cell findings.OtherSlots ∷ [])) (sym is) refl
 of-tape r tape (found.Judged ds) is =
     subst (λ b. MatchBool b (AreJudged r tape.blocks (map (difference_row r.cell) ds.items))
-    (map (difference_row r.cell) ds.items ≡ row_of r.cell findings.OtherSlots ∷ [])) (sym is.0)
+    (map (difference_row r.cell) ds.items ≡ finding_row r.cell findings.OtherSlots ∷ [])) (sym is.0)
     (record { found = ds.items; differences = is.1; rows_are = refl })
 
 of-first : (r : Record) (first : Option TapeRecording) (finding : CellFinding) → IsFoundBy r first finding →

@@ -10,9 +10,9 @@ use Rattle.std.proofs.lemmas.List.Folds.{list_any-append}
 use Rattle.cbs_page.specs.declared.octets.PageView.{PageView}
 use Rattle.verification.specs.declared.difference.Kind.TheVariants as kinds
 use Rattle.verification.specs.declared.sent.SentPage.{SentPage}
-use Rattle.verification.specs.Asked.{AskedMessage, is_asked}
+use Rattle.verification.specs.Asked.{AskedMessage, is_page_of_any}
 use Rattle.verification.specs.Difference.{is_named_as, not_ordered, not_ordered_after}
-use Rattle.verification.specs.Names.{AreNames, Pair, has_name, is_pair}
+use Rattle.verification.specs.Names.{AreNames, Pair, names_page, is_pair}
 use Rattle.verification.proofs.ListLaws.{dropped}
 
 -- pairs are compared either way
@@ -29,7 +29,7 @@ either false false = refl
 
 -- the pages of one name are known or not together
 same-known : (pairs : List Pair) (page other : PageView) (id serial : Bool) → (page.id == other.id) ≡ id →
-    (page.serial == other.serial) ≡ serial → (id && serial) ≡ true → has_name pairs page ≡ has_name pairs other
+    (page.serial == other.serial) ≡ serial → (id && serial) ≡ true → names_page pairs page ≡ names_page pairs other
 same-known pairs page other true true id serial holds =
     ap (λ n. list_any (is_pair (n, page.serial)) pairs) (eqb-true page.id other.id id)
     ∙ ap (λ n. list_any (is_pair (other.id, n)) pairs) (eqb-true page.serial other.serial serial)
@@ -49,10 +49,10 @@ one-more page before s =
 
 -- a page whose name is known changes nothing
 pub known-stays : (asked : List AskedMessage) (before : List SentPage) (s : SentPage) (pairs : List Pair) →
-    AreNames asked before pairs → has_name pairs s.page ≡ true → AreNames asked (before ++ s ∷ []) pairs
+    AreNames asked before pairs → names_page pairs s.page ≡ true → AreNames asked (before ++ s ∷ []) pairs
 known-stays asked before s pairs are known page =
     by_test (is_named_as page s) refl
-    ∙ ap (λ x. is_asked asked page || x) (sym (one-more page before s))
+    ∙ ap (λ x. is_page_of_any asked page || x) (sym (one-more page before s))
   where
     absorbed : (a b here : Bool) → (a || b) ≡ true → true ≡ (a || (b || here))
     absorbed true b here holds = refl
@@ -65,27 +65,27 @@ known-stays asked before s pairs are known page =
     or-none false false = refl
 
     by_test : (here : Bool) → is_named_as page s ≡ here →
-        has_name pairs page ≡ (is_asked asked page || (list_any (is_named_as page) before || is_named_as page s))
+        names_page pairs page ≡ (is_page_of_any asked page || (list_any (is_named_as page) before || is_named_as page s))
     by_test true is =
-        let same : has_name pairs page ≡ true =
+        let same : names_page pairs page ≡ true =
         same-known pairs page s.page (page.id == s.page.id) (page.serial == s.page.serial) refl refl is ∙ known in
         same
-        ∙ absorbed (is_asked asked page) (list_any (is_named_as page) before) (is_named_as page s)
+        ∙ absorbed (is_page_of_any asked page) (list_any (is_named_as page) before) (is_named_as page s)
         (sym (are page) ∙ same)
     by_test false is =
-        are page ∙ or-none (is_asked asked page) (list_any (is_named_as page) before)
-        ∙ ap (λ x. is_asked asked page || (list_any (is_named_as page) before || x)) (sym is)
+        are page ∙ or-none (is_page_of_any asked page) (list_any (is_named_as page) before)
+        ∙ ap (λ x. is_page_of_any asked page || (list_any (is_named_as page) before || x)) (sym is)
 
 -- and one whose name isn't is added
 pub known-more : (asked : List AskedMessage) (before : List SentPage) (s : SentPage) (old new : List Pair) →
     AreNames asked before old →
-    ((page : PageView) → has_name new page
-    ≡ (has_name old page || is_pair (page.id, page.serial) (s.page.id, s.page.serial))) →
+    ((page : PageView) → names_page new page
+    ≡ (names_page old page || is_pair (page.id, page.serial) (s.page.id, s.page.serial))) →
     AreNames asked (before ++ s ∷ []) new
 known-more asked before s old new are added page =
     added page ∙ ap (λ x. x || is_named_as page s) (are page)
-    ∙ or-assoc (is_asked asked page) (list_any (is_named_as page) before) (is_named_as page s)
-    ∙ ap (λ x. is_asked asked page || x) (sym (one-more page before s))
+    ∙ or-assoc (is_page_of_any asked page) (list_any (is_named_as page) before) (is_named_as page s)
+    ∙ ap (λ x. is_page_of_any asked page || x) (sym (one-more page before s))
   where
     or-assoc : (a b c : Bool) → ((a || b) || c) ≡ (a || (b || c))
     or-assoc true b c = refl
@@ -111,7 +111,7 @@ fronted sent i s within is = sym (take_more sent i s within ∙ ap (λ x. take i
 
 -- the difference of a page, by whether its name is known
 pub by-known : (asked : List AskedMessage) (before : List SentPage) (s : SentPage) (known : Bool) →
-    (is_asked asked s.page || list_any (is_named_as s.page) before) ≡ known →
+    (is_page_of_any asked s.page || list_any (is_named_as s.page) before) ≡ known →
     not_ordered asked before s
     ≡ cond known []
     (record { slot = s.slot; id = s.page.id; serial = s.page.serial; kind = kinds.NotOrdered } ∷ [])

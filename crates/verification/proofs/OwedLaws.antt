@@ -9,7 +9,7 @@ use Rattle.verification.specs.declared.difference.Difference.{Difference}
 use Rattle.verification.specs.declared.difference.Kind.TheVariants as kinds
 use Rattle.verification.specs.declared.judged.JudgedPage.{JudgedPage}
 use Rattle.verification.specs.Asked.{AskedMessage}
-use Rattle.verification.specs.Difference.{broadcast_difference, difference_of, due, is_by, is_owed, is_whole}
+use Rattle.verification.specs.Difference.{broadcast_difference, difference_of, due_slot, is_by, is_owed, is_whole}
 
 -- a later slot fails each bound that an earlier one fails
 falls : (slots d e j broadcasts : ℕ) (stop : Option ℕ) → d ≤ e →
@@ -20,8 +20,8 @@ falls slots d e j broadcasts (Some stop) up fails = grind (arith, nat_tests)
 
 pub owed-falls : (slots : ℕ) (a : AskedMessage) (j : ℕ) → is_owed slots a j ≡ false → is_owed slots a (j + 1) ≡ false
 owed-falls slots a j fails =
-    let up : due a j ≤ due a (j + 1) = omega arith in
-    falls slots (due a j) (due a (j + 1)) j a.broadcasts a.stop up fails
+    let up : due_slot a j ≤ due_slot a (j + 1) = omega arith in
+    falls slots (due_slot a j) (due_slot a (j + 1)) j a.broadcasts a.stop up fails
 
 not_owed : (owed : Bool) (rest : Bool) (d : Difference) → owed ≡ false →
     (if owed && rest then d ∷ [] else []) ≡ []
@@ -34,5 +34,5 @@ owed-none slots a pages j zero fails = refl
 owed-none slots a pages j (suc n) fails =
     flat_map-cons (broadcast_difference slots a pages) j (range_with_len (j + 1) n)
     ∙ ap (λ ds. ds ++ flat_map (broadcast_difference slots a pages) (range_with_len (j + 1) n))
-    (not_owed (is_owed slots a j) (not (is_whole a pages j)) (difference_of a (kinds.NotWhole j) (due a j)) fails)
+    (not_owed (is_owed slots a j) (not (is_whole a pages j)) (difference_of a (kinds.NotWhole j) (due_slot a j)) fails)
     ∙ owed-none slots a pages (j + 1) n (owed-falls slots a j fails)

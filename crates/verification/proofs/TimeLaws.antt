@@ -16,7 +16,7 @@ use Rattle.handset.specs.Reception.{page_in_front}
 use Rattle.verification.specs.declared.judged.JudgedPage.{JudgedPage}
 use Rattle.verification.specs.declared.sent.SentPage.{SentPage}
 use Rattle.verification.specs.Asked.{AskedMessage, is_page_of}
-use Rattle.verification.specs.Difference.{due, has_page, is_in_time, release}
+use Rattle.verification.specs.Difference.{due_slot, has_page, is_in_time, release_slot}
 use Rattle.verification.specs.Judged.{judged, judged_in}
 use Rattle.verification.specs.Sent.{sent_at, sent_from}
 
@@ -83,34 +83,34 @@ time-between a j first count pages within also before inside after =
     ∙ filter-passes (is_in_time a j) count (drop first pages) also inside after)
 
 -- which pages are in time, by where their slots stand
-too-early : (release due slot : ℕ) → nat_lt slot release ≡ true → (nat_le release slot && nat_lt slot due) ≡ false
-too-early release due slot early = grind (arith, nat_tests)
+too-early : (release_slot due_slot slot : ℕ) → nat_lt slot release_slot ≡ true → (nat_le release_slot slot && nat_lt slot due_slot) ≡ false
+too-early release_slot due_slot slot early = grind (arith, nat_tests)
 
-just-in-time : (release due slot : ℕ) → nat_lt slot release ≡ false → nat_lt slot due ≡ true →
-    (nat_le release slot && nat_lt slot due) ≡ true
-just-in-time release due slot begun early = grind (arith, nat_tests)
+just-in-time : (release_slot due_slot slot : ℕ) → nat_lt slot release_slot ≡ false → nat_lt slot due_slot ≡ true →
+    (nat_le release_slot slot && nat_lt slot due_slot) ≡ true
+just-in-time release_slot due_slot slot begun early = grind (arith, nat_tests)
 
-too-late : (release due slot : ℕ) → nat_lt slot due ≡ false → (nat_le release slot && nat_lt slot due) ≡ false
-too-late release due slot late = grind (arith, nat_tests)
+too-late : (release_slot due_slot slot : ℕ) → nat_lt slot due_slot ≡ false → (nat_le release_slot slot && nat_lt slot due_slot) ≡ false
+too-late release_slot due_slot slot late = grind (arith, nat_tests)
 
 pub between-points : (a : AskedMessage) (j first count : ℕ) (pages : List JudgedPage) → first ≤ length pages →
     count ≤ length (drop first pages) →
-    AllWithin (λ (p : JudgedPage). nat_lt p.slot (release a j) ≡ true) pages 0 first →
-    AllWithin (λ (p : JudgedPage). nat_lt p.slot (release a j) ≡ false) pages first (length pages) →
-    AllWithin (λ (p : JudgedPage). nat_lt p.slot (due a j) ≡ true) (drop first pages) 0 count →
-    AllWithin (λ (p : JudgedPage). nat_lt p.slot (due a j) ≡ false) (drop first pages) count
+    AllWithin (λ (p : JudgedPage). nat_lt p.slot (release_slot a j) ≡ true) pages 0 first →
+    AllWithin (λ (p : JudgedPage). nat_lt p.slot (release_slot a j) ≡ false) pages first (length pages) →
+    AllWithin (λ (p : JudgedPage). nat_lt p.slot (due_slot a j) ≡ true) (drop first pages) 0 count →
+    AllWithin (λ (p : JudgedPage). nat_lt p.slot (due_slot a j) ≡ false) (drop first pages) count
     (length (drop first pages)) →
     take count (drop first pages) ≡ filter (is_in_time a j) pages
 between-points a j first count pages within also early begun inside late =
     let from : List JudgedPage = drop first pages in
     time-between a j first count pages within also
-    (λ k d low high. too-early (release a j) (due a j) (get_or pages k d).slot (early k d low high))
+    (λ k d low high. too-early (release_slot a j) (due_slot a j) (get_or pages k d).slot (early k d low high))
     (λ k d low high.
     let at : get_or (drop first pages) k d ≡ get_or pages (first + k) d = get_or-drop first pages k d in
-    let began : nat_lt (get_or (drop first pages) k d).slot (release a j) ≡ false =
+    let began : nat_lt (get_or (drop first pages) k d).slot (release_slot a j) ≡ false =
     rw at (begun (first + k) d (omega arith) (omega (arith, length-drop first pages))) in
-    just-in-time (release a j) (due a j) (get_or (drop first pages) k d).slot began (inside k d low high))
-    (λ k d low high. too-late (release a j) (due a j) (get_or (drop first pages) k d).slot (late k d low high))
+    just-in-time (release_slot a j) (due_slot a j) (get_or (drop first pages) k d).slot began (inside k d low high))
+    (λ k d low high. too-late (release_slot a j) (due_slot a j) (get_or (drop first pages) k d).slot (late k d low high))
 
 -- the slots of the pages that a tape sends never fall
 front-from : (place : ℕ) (pages : List PageView) → All (λ (s : SentPage). place / 4 ≤ s.slot)

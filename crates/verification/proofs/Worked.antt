@@ -9,7 +9,7 @@ use Rattle.bsc_table.specs.declared.entry.Entry.{Entry}
 use Rattle.verification.specs.declared.difference.Difference.{Difference}
 use Rattle.verification.specs.declared.difference.Kind.{Kind}
 use Rattle.verification.specs.declared.difference.Kind.TheVariants as kinds
-use Rattle.verification.specs.Asked.{asked_in}
+use Rattle.verification.specs.Asked.{asked_of_log}
 use Rattle.verification.specs.Difference.{all_differences}
 use Rattle.verification.specs.Sent.{sent_in}
 use lib.Utf8.{encode}
@@ -43,7 +43,7 @@ abbrev kill : ℕ → Entry
 kill slot = record { command = commands.Kill 0x1112 0x0010; slot = slot; answer = answers.Stopped 1 }
 
 abbrev found : (slots : ℕ) → List Entry → List (List ℕ) → List Difference
-found slots log blocks = all_differences slots (asked_in log) (sent_in blocks)
+found slots log blocks = all_differences slots (asked_of_log log) (sent_in blocks)
 
 abbrev at : ℕ → Kind → Difference
 at slot kind = record { slot = slot; id = 0x1112; serial = 0x0010; kind = kind }

@@ -7,7 +7,7 @@ use Rattle.cbs_page.specs.declared.octets.PageView.{PageView}
 use Rattle.bsc_table.specs.declared.command.Command.{Command}
 use Rattle.bsc_table.specs.declared.command.Command.TheVariants as commands
 use Rattle.bsc_table.specs.declared.entry.Entry.{Entry}
-use Rattle.bsc_table.specs.Record.{start_of, is_stop_of, is_background}
+use Rattle.bsc_table.specs.Record.{start_of, is_stop_of, is_background_category}
 
 -- a message that a cell accepted: its identifier and serial number, its data coding and what its pages hold, the slot
 -- from which it stands, its period, how many broadcasts were requested (0 where it stands until it is stopped), the
@@ -39,23 +39,23 @@ asked_from (Some start) (commands.Write id serial replaces category period broad
       period = period;
       broadcasts = broadcasts;
       stop = stop_among later id serial;
-      background = is_background category;
+      background = is_background_category category;
     } ∷ []
 asked_from start command later = []
 
 -- the message that an entry accepts, if it does
-abbrev pub asked_by : Entry → List Entry → List AskedMessage
-asked_by e later = asked_from (start_of e.answer) e.command later
+abbrev pub asked_of_entry : Entry → List Entry → List AskedMessage
+asked_of_entry e later = asked_from (start_of e.answer) e.command later
 
 -- the messages that a cell accepted, in the order of its log
-abbrev pub asked_in : List Entry → List AskedMessage
-asked_in [] = []
-asked_in (e ∷ later) = asked_by e later ++ asked_in later
+abbrev pub asked_of_log : List Entry → List AskedMessage
+asked_of_log [] = []
+asked_of_log (e ∷ later) = asked_of_entry e later ++ asked_of_log later
 
 -- a page has this message's identifier and serial number
 abbrev pub is_page_of : AskedMessage → PageView → Bool
 is_page_of a page = (page.id == a.id) && (page.serial == a.serial)
 
 -- a page has the identifier and serial number of one of these
-abbrev pub is_asked : List AskedMessage → PageView → Bool
-is_asked asked page = list_any (λ a. is_page_of a page) asked
+abbrev pub is_page_of_any : List AskedMessage → PageView → Bool
+is_page_of_any asked page = list_any (λ a. is_page_of a page) asked

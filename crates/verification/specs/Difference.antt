@@ -13,14 +13,14 @@ use Rattle.verification.specs.declared.difference.Kind.{Kind}
 use Rattle.verification.specs.declared.difference.Kind.TheVariants as kinds
 use Rattle.verification.specs.declared.sent.SentPage.{SentPage}
 use Rattle.verification.specs.declared.judged.JudgedPage.{JudgedPage}
-use Rattle.verification.specs.Asked.{AskedMessage, asked_in, is_asked}
+use Rattle.verification.specs.Asked.{AskedMessage, asked_of_log, is_page_of_any}
 use Rattle.verification.specs.Sent.{sent_in}
 use Rattle.verification.specs.Judged.{judged_in}
 
 -- a slot is that of the stop, if there is one, or comes after it
-abbrev pub is_stopped : Option ℕ → (slot : ℕ) → Bool
-is_stopped None slot = false
-is_stopped (Some stop) slot = nat_le stop slot
+abbrev pub is_past_stop : Option ℕ → (slot : ℕ) → Bool
+is_past_stop None slot = false
+is_past_stop (Some stop) slot = nat_le stop slot
 
 -- the periods of the requested broadcasts are over, if they have an end
 abbrev pub is_over : AskedMessage → (slot : ℕ) → Bool
@@ -30,8 +30,8 @@ is_over a slot = not (a.broadcasts == 0) && nat_le (a.start + a.broadcasts * a.p
 abbrev pub differs : AskedMessage → Kind → JudgedPage → Bool
 differs a (kinds.Otherwise number) page = (page.number == number) && not page.right
 differs a kinds.BeforeStart page = nat_lt page.slot a.start
-differs a kinds.AfterStop page = is_stopped a.stop page.slot
-differs a kinds.AfterLast page = is_over a page.slot && not (is_stopped a.stop page.slot)
+differs a kinds.AfterStop page = is_past_stop a.stop page.slot
+differs a kinds.AfterLast page = is_over a page.slot && not (is_past_stop a.stop page.slot)
 differs a (kinds.NotWhole broadcast) page = false
 differs a kinds.NotOrdered page = false
 
@@ -57,11 +57,11 @@ page_differences a pages =
     ++ first_difference a pages kinds.AfterLast
 
 -- the slot from which broadcast j may be sent, and that before which it is due
-abbrev pub release : AskedMessage → (j : ℕ) → ℕ
-release a j = a.start + j * a.period
+abbrev pub release_slot : AskedMessage → (j : ℕ) → ℕ
+release_slot a j = a.start + j * a.period
 
-abbrev pub due : AskedMessage → (j : ℕ) → ℕ
-due a j = a.start + (j + 1) * a.period
+abbrev pub due_slot : AskedMessage → (j : ℕ) → ℕ
+due_slot a j = a.start + (j + 1) * a.period
 
 -- broadcast j is owed: it was requested, and it is due by the stop, if there is one, and by the end of the run
 abbrev pub is_by : Option ℕ → (slot : ℕ) → Bool
@@ -70,11 +70,11 @@ is_by (Some stop) slot = nat_le slot stop
 
 abbrev pub is_owed : (slots : ℕ) → AskedMessage → (j : ℕ) → Bool
 is_owed slots a j =
-    nat_le (due a j) slots && (is_by a.stop (due a j) && ((a.broadcasts == 0) || nat_lt j a.broadcasts))
+    nat_le (due_slot a j) slots && (is_by a.stop (due_slot a j) && ((a.broadcasts == 0) || nat_lt j a.broadcasts))
 
 -- broadcast j is whole: each page of the message was sent, and was right, from its release up to its due slot
 abbrev pub is_in_time : AskedMessage → (j : ℕ) → JudgedPage → Bool
-is_in_time a j page = nat_le (release a j) page.slot && nat_lt page.slot (due a j)
+is_in_time a j page = nat_le (release_slot a j) page.slot && nat_lt page.slot (due_slot a j)
 
 abbrev pub has_page : AskedMessage → List JudgedPage → (j number : ℕ) → Bool
 has_page a pages j number = list_any (λ page. is_in_time a j page && ((page.number == number) && page.right)) pages
@@ -86,7 +86,7 @@ is_whole a pages j = list_all (has_page a pages j) (range_with_len 1 (length a.c
 -- one before it, so that fewer than the slots of the run are owed
 abbrev pub broadcast_difference : (slots : ℕ) → AskedMessage → List JudgedPage → (j : ℕ) → List Difference
 broadcast_difference slots a pages j =
-    if is_owed slots a j && not (is_whole a pages j) then difference_of a (kinds.NotWhole j) (due a j) ∷ [] else []
+    if is_owed slots a j && not (is_whole a pages j) then difference_of a (kinds.NotWhole j) (due_slot a j) ∷ [] else []
 
 abbrev pub broadcast_differences : (slots : ℕ) → AskedMessage → List JudgedPage → List Difference
 broadcast_differences slots a pages =
@@ -103,7 +103,7 @@ is_named_as page sent = (page.id == sent.page.id) && (page.serial == sent.page.s
 -- the first page of each identifier and serial number that the cell didn't accept, after pages that came before
 abbrev pub not_ordered : List AskedMessage → (before : List SentPage) → SentPage → List Difference
 not_ordered asked before sent =
-    if is_asked asked sent.page || list_any (is_named_as sent.page) before then []
+    if is_page_of_any asked sent.page || list_any (is_named_as sent.page) before then []
     else record { slot = sent.slot; id = sent.page.id; serial = sent.page.serial; kind = kinds.NotOrdered } ∷ []
 
 abbrev pub not_ordered_after : List AskedMessage → (before sent : List SentPage) → List Difference
@@ -133,19 +133,19 @@ kind_number kinds.AfterLast = 0
 kind_number (kinds.NotWhole broadcast) = broadcast
 kind_number kinds.NotOrdered = 0
 
-abbrev pub Key : Type 0
-Key = ℕ × ℕ × ℕ × ℕ × ℕ
+abbrev pub SortKey : Type 0
+SortKey = ℕ × ℕ × ℕ × ℕ × ℕ
 
-abbrev pub key_of : Difference → Key
-key_of d = (d.slot, d.id, d.serial, kind_place d.kind, kind_number d.kind)
+abbrev pub sort_key : Difference → SortKey
+sort_key d = (d.slot, d.id, d.serial, kind_place d.kind, kind_number d.kind)
 
 -- the first of these numbers that differ decide
-abbrev pub key_order : Key → Key → Ordering
+abbrev pub key_order : SortKey → SortKey → Ordering
 key_order a b =
     ordering_then (ordering_then (ordering_then (ordering_then (nat_cmp a.0 b.0) (nat_cmp a.1 b.1)) (nat_cmp a.2 b.2))
     (nat_cmp a.3 b.3)) (nat_cmp a.4 b.4)
 
 -- these are the differences between a cell's record and the blocks of its tape, in order
 pub record AreDifferences (r : Record) (blocks : List (List ℕ)) (found : List Difference) : Type 0 where
-  pub all : IsPermutation (all_differences r.slots (asked_in r.log) (sent_in blocks)) found
-  pub sorted : IsSortedByKey key_of key_order found
+  pub all : IsPermutation (all_differences r.slots (asked_of_log r.log) (sent_in blocks)) found
+  pub sorted : IsSortedByKey sort_key key_order found

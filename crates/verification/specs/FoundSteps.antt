@@ -9,7 +9,7 @@ use Rattle.verification.specs.declared.row.Finding.TheVariants as findings
 use Rattle.verification.specs.declared.row.Row.{Row}
 use Rattle.verification.specs.Found.{IsFoundIn}
 use Rattle.handset.specs.Recording.{TapeRecording}
-use Rattle.verification.specs.Rows.{difference_row, row_of}
+use Rattle.verification.specs.Rows.{difference_row, finding_row}
 
 -- the first tape of a cell is judged, and other cells stay as they are
 pub record IsJudgedBy (tape : TapeRecording) (old new : CellState) : Type 0 where
@@ -24,8 +24,8 @@ pub record AreJudgedBy (tape : TapeRecording) (old new : List CellState) : Type 
 
 -- the rows of a cell, by what was found of it
 abbrev pub rows_of_finding : Cell → CellFinding → List Row
-rows_of_finding cell found.NoTape = row_of cell findings.NoTape ∷ []
-rows_of_finding cell found.OtherSlots = row_of cell findings.OtherSlots ∷ []
+rows_of_finding cell found.NoTape = finding_row cell findings.NoTape ∷ []
+rows_of_finding cell found.OtherSlots = finding_row cell findings.OtherSlots ∷ []
 rows_of_finding cell (found.Judged differences) = map (difference_row cell) differences.items
 
 abbrev pub rows_of_state : CellState → List Row

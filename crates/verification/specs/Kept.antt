@@ -2,8 +2,8 @@
 use Rattle.verification.specs.declared.asked.Asked.{Asked}
 use Rattle.verification.specs.Asked.{AskedMessage}
 
-abbrev pub asked_of : Asked → AskedMessage
-asked_of k = record {
+abbrev pub asked_kept : Asked → AskedMessage
+asked_kept k = record {
   id = k.id;
   serial = k.serial;
   dcs = k.dcs.0;

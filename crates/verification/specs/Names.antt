@@ -4,7 +4,7 @@ use Rattle.std.specs.Prelude.{◌≡◌, ℕ, Bool, ◌==◌, ◌&&◌, ◌||◌
 use Rattle.std.specs.List.{list_any}
 use Rattle.cbs_page.specs.declared.octets.PageView.{PageView}
 use Rattle.verification.specs.declared.sent.SentPage.{SentPage}
-use Rattle.verification.specs.Asked.{AskedMessage, is_asked}
+use Rattle.verification.specs.Asked.{AskedMessage, is_page_of_any}
 use Rattle.verification.specs.Difference.{is_named_as}
 
 abbrev pub Pair : Type 0
@@ -13,10 +13,10 @@ Pair = ℕ × ℕ
 abbrev pub is_pair : Pair → Pair → Bool
 is_pair a b = (a.0 == b.0) && (a.1 == b.1)
 
-abbrev pub has_name : List Pair → PageView → Bool
-has_name pairs page = list_any (is_pair (page.id, page.serial)) pairs
+abbrev pub names_page : List Pair → PageView → Bool
+names_page pairs page = list_any (is_pair (page.id, page.serial)) pairs
 
 -- the names are those of some messages, and of the pages that came before
 abbrev pub AreNames : List AskedMessage → List SentPage → List Pair → Type 0
 AreNames asked before pairs =
-    (page : PageView) → has_name pairs page ≡ (is_asked asked page || list_any (is_named_as page) before)
+    (page : PageView) → names_page pairs page ≡ (is_page_of_any asked page || list_any (is_named_as page) before)

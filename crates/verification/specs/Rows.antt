@@ -19,11 +19,11 @@ tape_of cell slots blocks = record { cell = cell; slots = slots; blocks = blocks
 abbrev pub is_tape_of : Cell → TapeRecording → Bool
 is_tape_of cell tape = is_cell cell tape.cell
 
-abbrev pub row_of : Cell → Finding → Row
-row_of cell finding = record { cell = cell; finding = finding }
+abbrev pub finding_row : Cell → Finding → Row
+finding_row cell finding = record { cell = cell; finding = finding }
 
 abbrev pub difference_row : Cell → Difference → Row
-difference_row cell d = row_of cell (findings.Differs d)
+difference_row cell d = finding_row cell (findings.Differs d)
 
 -- the rows of a cell whose tape has these slots and blocks: nothing but its number of slots is judged if that isn't the
 -- run's
@@ -35,11 +35,11 @@ pub record AreJudged (r : Record) (blocks : List (List ℕ)) (rows : List Row) :
 abbrev pub AreTapeRows : Record → TapeRecording → List Row → Type 0
 AreTapeRows r tape rows =
     MatchBool (tape.slots == r.slots) (AreJudged r tape.blocks rows)
-    (rows ≡ row_of r.cell findings.OtherSlots ∷ [])
+    (rows ≡ finding_row r.cell findings.OtherSlots ∷ [])
 
 -- and by its first tape, if it has one
 abbrev pub AreRowsBy : Record → Option TapeRecording → List Row → Type 0
-AreRowsBy r None rows = rows ≡ row_of r.cell findings.NoTape ∷ []
+AreRowsBy r None rows = rows ≡ finding_row r.cell findings.NoTape ∷ []
 AreRowsBy r (Some tape) rows = AreTapeRows r tape rows
 
 abbrev pub AreCellRows : List TapeRecording → Record → List Row → Type 0
@@ -59,8 +59,8 @@ is_known records cell = list_any (λ r. is_cell cell r.cell) records
 abbrev pub other_row : List Record → (before : List TapeRecording) → TapeRecording → List Row
 other_row records before tape =
     if is_known records tape.cell
-    then (if list_any (is_tape_of tape.cell) before then row_of tape.cell findings.SecondTape ∷ [] else [])
-    else row_of tape.cell findings.UnknownCell ∷ []
+    then (if list_any (is_tape_of tape.cell) before then finding_row tape.cell findings.SecondTape ∷ [] else [])
+    else finding_row tape.cell findings.UnknownCell ∷ []
 
 abbrev pub other_rows : List Record → (before tapes : List TapeRecording) → List Row
 other_rows records before [] = []

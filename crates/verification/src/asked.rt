@@ -2,10 +2,10 @@
 
 ghost use Rattle.std.specs.Prelude.{◌≡◌, length, map, IfOk};
 ghost use Rattle.std.specs.Option.{option_to_list};
-ghost use Rattle.bsc_table.specs.Record.{is_stop_of, start_of, is_background};
-ghost use Rattle.verification.specs.Asked.{asked_by, asked_in, stop_among, is_page_of};
-ghost use Rattle.verification.specs.Kept.{asked_of};
-ghost use Rattle.verification.specs.Difference.{is_over, is_stopped};
+ghost use Rattle.bsc_table.specs.Record.{is_stop_of, start_of, is_background_category};
+ghost use Rattle.verification.specs.Asked.{asked_of_entry, asked_of_log, stop_among, is_page_of};
+ghost use Rattle.verification.specs.Kept.{asked_kept};
+ghost use Rattle.verification.specs.Difference.{is_over, is_past_stop};
 
 use bsc_table::{Answer, Category, Command, Entry};
 use cbs_page::{Dcs, PageView, Serial};
@@ -90,7 +90,7 @@ fn start_of(answer: Answer) -> Option<u32>
 
 /// Whether messages of a category are background messages.
 fn is_background(category: Category) -> bool
-    ensures { result ≡ is_background category }
+    ensures { result ≡ is_background_category category }
 {
     match category {
         Category::High | Category::Normal => false,
@@ -101,7 +101,7 @@ fn is_background(category: Category) -> bool
 impl<'a> Asked<'a> {
     /// The message that an entry of a log accepts, if it does, by the entries that come later.
     pub fn of(entry: &'a Entry, later: &[Entry]) -> Option<Asked<'a>>
-        ensures { map asked_of (option_to_list result) ≡ asked_by entry.now later.now }
+        ensures { map asked_kept (option_to_list result) ≡ asked_of_entry entry.now later.now }
     {
         let start = start_of(entry.answer)?;
         match &entry.command {
@@ -132,7 +132,7 @@ impl<'a> Asked<'a> {
 
     /// Whether a page has its identifier and serial number.
     pub fn has_name_of(&self, page: &PageView) -> bool
-        ensures { result ≡ is_page_of (asked_of self.now) page.now }
+        ensures { result ≡ is_page_of (asked_kept self.now) page.now }
     {
         page.id == self.id && page.serial.number() == self.serial
     }
@@ -146,7 +146,7 @@ impl<'a> Asked<'a> {
 
     /// Whether it is stopped at a slot.
     pub fn is_stopped(&self, slot: usize) -> bool
-        ensures { result ≡ is_stopped self.now.stop slot }
+        ensures { result ≡ is_past_stop self.now.stop slot }
     {
         match self.stop {
             Some(stop) => usize::from(stop) <= slot,
@@ -156,7 +156,7 @@ impl<'a> Asked<'a> {
 
     /// Whether the periods of its requested broadcasts are over at a slot.
     pub fn is_over(&self, slot: usize) -> bool
-        ensures { result ≡ is_over (asked_of self.now) slot }
+        ensures { result ≡ is_over (asked_kept self.now) slot }
     {
         let end = u64::from(self.start) + u64::from(self.broadcasts) * u64::from(self.period);
         self.broadcasts != 0 && end <= slot as u64
@@ -169,7 +169,7 @@ impl<'a> Asked<'a> {
 ///
 /// Out of memory.
 pub fn asked_messages<'a>(alloc: Global, log: &'a [Entry]) -> Result<Vec<Asked<'a>>, AllocError>
-    ensures { IfOk result (λ asked. map asked_of asked.items ≡ asked_in log.now) }
+    ensures { IfOk result (λ asked. map asked_kept asked.items ≡ asked_of_log log.now) }
 {
     let mut messages = Vec::new(alloc);
     for place in 0..log.len() {

@@ -2,9 +2,9 @@
 
 ghost use Rattle.std.specs.Prelude.{◌≡◌, ◌++◌, ◌+◌, ◌≤◌, ◌==◌, ◌&&◌, AllPairs, filter, OnOk};
 ghost use Rattle.std.specs.List.{list_any};
-ghost use Rattle.verification.specs.Difference.{broadcast_difference, broadcast_differences, due};
-ghost use Rattle.verification.specs.Difference.{is_by, is_in_time, is_owed, is_whole, release};
-ghost use Rattle.verification.specs.Kept.{asked_of};
+ghost use Rattle.verification.specs.Difference.{broadcast_difference, broadcast_differences, due_slot};
+ghost use Rattle.verification.specs.Difference.{is_by, is_in_time, is_owed, is_whole, release_slot};
+ghost use Rattle.verification.specs.Kept.{asked_kept};
 
 use crate::asked::Asked;
 use crate::difference::{Difference, Kind};
@@ -14,14 +14,14 @@ use std::alloc::AllocError;
 impl<'a> Asked<'a> {
     /// The slot from which a broadcast may be sent.
     fn release(&self, broadcast: u16) -> u64
-        ensures { result ≡ release (asked_of self.now) broadcast }
+        ensures { result ≡ release_slot (asked_kept self.now) broadcast }
     {
         u64::from(self.start) + u64::from(broadcast) * u64::from(self.period)
     }
 
     /// The slot before which a broadcast is due.
     fn due(&self, broadcast: u16) -> u64
-        ensures { result ≡ due (asked_of self.now) broadcast }
+        ensures { result ≡ due_slot (asked_kept self.now) broadcast }
     {
         let period = u64::from(self.period);
         u64::from(self.start) + u64::from(broadcast) * period + period
@@ -39,7 +39,7 @@ impl<'a> Asked<'a> {
 
     /// Whether a broadcast was requested and is due by the stop and by the end of a run.
     fn is_owed(&self, slots: u16, broadcast: u16) -> bool
-        ensures { result ≡ is_owed slots (asked_of self.now) broadcast }
+        ensures { result ≡ is_owed slots (asked_kept self.now) broadcast }
     {
         let due = self.due(broadcast);
         due <= u64::from(slots)
@@ -50,7 +50,7 @@ impl<'a> Asked<'a> {
     /// Of pages whose slots never fall, those that were sent from the release of a broadcast up to its due slot.
     fn in_time<'p>(&self, pages: &'p [JudgedPage], broadcast: u16) -> &'p [JudgedPage]
         requires { AllPairs (λ a b. a.slot ≤ b.slot) pages.now }
-        ensures { result.now ≡ filter (is_in_time (asked_of self.now) broadcast) pages.now }
+        ensures { result.now ≡ filter (is_in_time (asked_kept self.now) broadcast) pages.now }
     {
         let (release, due) = (self.release(broadcast), self.due(broadcast));
         let first = pages.partition_point(|page| (page.slot as u64) < release);
@@ -62,7 +62,7 @@ impl<'a> Asked<'a> {
     /// Whether each page of the message was sent for a broadcast, as it was asked.
     fn is_whole(&self, pages: &[JudgedPage], broadcast: u16) -> bool
         requires { AllPairs (λ a b. a.slot ≤ b.slot) pages.now }
-        ensures { result ≡ is_whole (asked_of self.now) pages.now broadcast }
+        ensures { result ≡ is_whole (asked_kept self.now) pages.now broadcast }
     {
         let in_time = self.in_time(pages, broadcast);
         for place in 0..self.pages() {
@@ -99,7 +99,7 @@ pub fn push_broadcast_differences(
 ) -> Result<(), AllocError>
     requires { AllPairs (λ a b. a.slot ≤ b.slot) pages.now }
     ensures { OnOk result (found.new.items
-        ≡ found.old.items ++ broadcast_differences slots (asked_of asked.now) pages.now) }
+        ≡ found.old.items ++ broadcast_differences slots (asked_kept asked.now) pages.now) }
 {
     if asked.background {
         return Ok(());

@@ -5,7 +5,7 @@ ghost use Rattle.std.specs.List.{flat_map};
 ghost use Rattle.verification.specs.ByName.{AreByName};
 ghost use Rattle.verification.specs.Difference.{AreDifferences, message_differences};
 ghost use Rattle.verification.specs.Judged.{judged_in};
-ghost use Rattle.verification.specs.Kept.{asked_of};
+ghost use Rattle.verification.specs.Kept.{asked_kept};
 
 use crate::asked::{Asked, asked_messages};
 use crate::broadcasts::push_broadcast_differences;
@@ -27,7 +27,7 @@ fn push_messages(
 ) -> Result<(), AllocError>
     requires { AreByName sent.now }
     ensures { OnOk result (found.new.items ≡ found.old.items
-        ++ flat_map (λ a. message_differences slots a (judged_in a sent.now)) (map asked_of messages.now)) }
+        ++ flat_map (λ a. message_differences slots a (judged_in a sent.now)) (map asked_kept messages.now)) }
 {
     for asked in messages {
         let pages = judged_pages(alloc, asked, sent)?;

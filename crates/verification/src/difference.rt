@@ -1,7 +1,7 @@
 //! A difference between what a cell was asked to broadcast and what its tape sends.
 
 ghost use Rattle.std.specs.Prelude.{◌≡◌};
-ghost use Rattle.verification.specs.Difference.{key_of, kind_number, kind_place};
+ghost use Rattle.verification.specs.Difference.{sort_key, kind_number, kind_place};
 
 use cbs_page::Serial;
 
@@ -61,7 +61,7 @@ impl Kind {
 impl Difference {
     /// What it is sorted by.
     pub(crate) fn key(&self) -> (usize, u16, u16, u8, u16)
-        ensures { result ≡ key_of self.now }
+        ensures { result ≡ sort_key self.now }
     {
         let (place, number) = self.kind.place();
         (self.slot, self.id, self.serial.number(), place, number)

@@ -5,7 +5,7 @@ ghost use Rattle.std.specs.List.{slice_get};
 ghost use Rattle.cbs_page.specs.Page.{is_readable};
 ghost use Rattle.verification.specs.ByName.{AreByName};
 ghost use Rattle.verification.specs.Judged.{is_right, judged, judged_in, reads_as};
-ghost use Rattle.verification.specs.Kept.{asked_of};
+ghost use Rattle.verification.specs.Kept.{asked_kept};
 
 use crate::asked::Asked;
 use crate::sent::{SentPage, name_number};
@@ -44,7 +44,7 @@ fn reads_as(alloc: Global, page: &PageView, content: &Content) -> Result<bool, A
 /// Whether a page of a message is as it was asked. The only error is out of memory.
 fn is_right(alloc: Global, asked: &Asked, page: &PageView) -> Result<bool, AllocError>
     requires { IsTrue (is_readable page.now) }
-    ensures { IfOk result (λ says. says ≡ is_right (asked_of asked.now) page.now) }
+    ensures { IfOk result (λ says. says ≡ is_right (asked_kept asked.now) page.now) }
 {
     let contents = asked.contents.as_slice();
     if usize::from(page.total) != contents.len() || page.dcs.0 != asked.dcs.0 {
@@ -60,7 +60,7 @@ fn is_right(alloc: Global, asked: &Asked, page: &PageView) -> Result<bool, Alloc
 /// A page of a message, judged. The only error is out of memory.
 fn judged_page(alloc: Global, asked: &Asked, sent: &SentPage) -> Result<JudgedPage, AllocError>
     requires { IsTrue (is_readable sent.now.page) }
-    ensures { IfOk result (λ page. page ≡ judged (asked_of asked.now) sent.now) }
+    ensures { IfOk result (λ page. page ≡ judged (asked_kept asked.now) sent.now) }
 {
     Ok(JudgedPage {
         slot: sent.slot,
@@ -72,7 +72,7 @@ fn judged_page(alloc: Global, asked: &Asked, sent: &SentPage) -> Result<JudgedPa
 /// Of pages by name those among which all of a message are.
 fn near<'p>(asked: &Asked, sent: &'p [SentPage]) -> &'p [SentPage]
     requires { AreByName sent.now }
-    ensures same { judged_in (asked_of asked.now) result.now ≡ judged_in (asked_of asked.now) sent.now }
+    ensures same { judged_in (asked_kept asked.now) result.now ≡ judged_in (asked_kept asked.now) sent.now }
     ensures readable { All (λ s. IsTrue (is_readable s.page)) result.now }
 {
     let name = name_number(asked.id, asked.serial);
@@ -89,7 +89,7 @@ pub fn judged_pages(
     sent: &[SentPage],
 ) -> Result<Vec<JudgedPage>, AllocError>
     requires { AreByName sent.now }
-    ensures { IfOk result (λ pages. pages.items ≡ judged_in (asked_of asked.now) sent.now) }
+    ensures { IfOk result (λ pages. pages.items ≡ judged_in (asked_kept asked.now) sent.now) }
 {
     let candidates = near(asked, sent);
     let mut pages = Vec::new(alloc);

@@ -2,7 +2,7 @@
 
 ghost use Rattle.std.specs.Prelude.{◌≡◌, ◌||◌, [], OnOk};
 ghost use Rattle.cbs_page.specs.declared.octets.PageView.{PageView};
-ghost use Rattle.verification.specs.Names.{has_name, is_pair};
+ghost use Rattle.verification.specs.Names.{names_page, is_pair};
 
 use cbs_page::PageView;
 use std::alloc::{AllocError, Global};
@@ -36,7 +36,7 @@ impl Names {
 
     /// Whether the pair of a page is among them.
     pub fn has(&self, page: &PageView) -> bool
-        ensures { result ≡ has_name self.now page.now }
+        ensures { result ≡ names_page self.now page.now }
     {
         self.pairs.contains(&(page.id, page.serial.number()))
     }
@@ -47,8 +47,8 @@ impl Names {
     ///
     /// Out of memory.
     pub fn add(&mut self, id: u16, serial: u16) -> Result<(), AllocError>
-        ensures { OnOk result ((page : PageView) → has_name self.new page
-            ≡ (has_name self.old page || is_pair (page.id, page.serial) (id, serial))) }
+        ensures { OnOk result ((page : PageView) → names_page self.new page
+            ≡ (names_page self.old page || is_pair (page.id, page.serial) (id, serial))) }
     {
         self.pairs.insert((id, serial))?;
         Ok(())

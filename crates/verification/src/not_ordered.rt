@@ -2,7 +2,7 @@
 
 ghost use Rattle.std.specs.Prelude.{◌≡◌, ◌++◌, [], map, IfOk, OnOk};
 ghost use Rattle.verification.specs.Difference.{not_ordered_after};
-ghost use Rattle.verification.specs.Kept.{asked_of};
+ghost use Rattle.verification.specs.Kept.{asked_kept};
 ghost use Rattle.verification.specs.Names.{AreNames};
 
 use crate::asked::Asked;
@@ -13,7 +13,7 @@ use std::alloc::{AllocError, Global};
 
 /// The identifiers and serial numbers of messages. The only error is out of memory.
 fn names_of(alloc: Global, messages: &[Asked]) -> Result<Names, AllocError>
-    ensures { IfOk result (AreNames (map asked_of messages.now) []) }
+    ensures { IfOk result (AreNames (map asked_kept messages.now) []) }
 {
     let mut names = Names::new(alloc);
     for asked in messages {
@@ -34,7 +34,7 @@ pub fn push_not_ordered(
     sent: &[SentPage],
 ) -> Result<(), AllocError>
     ensures { OnOk result (found.new.items
-        ≡ found.old.items ++ not_ordered_after (map asked_of messages.now) [] sent.now) }
+        ≡ found.old.items ++ not_ordered_after (map asked_kept messages.now) [] sent.now) }
 {
     let mut known = names_of(alloc, messages)?;
     for sent_page in sent {

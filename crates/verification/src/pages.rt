@@ -3,7 +3,7 @@
 ghost use Rattle.std.specs.Prelude.{◌≡◌, ◌++◌, OnOk};
 ghost use Rattle.verification.specs.Difference.{difference_of, differs, first_difference, first_slot};
 ghost use Rattle.verification.specs.Difference.{page_differences};
-ghost use Rattle.verification.specs.Kept.{asked_of};
+ghost use Rattle.verification.specs.Kept.{asked_kept};
 
 use crate::asked::Asked;
 use crate::difference::{Difference, Kind};
@@ -17,7 +17,7 @@ const MAX_PAGES: u8 = 15;
 impl<'a> Asked<'a> {
     /// A difference of the message at a slot.
     pub fn difference(&self, kind: Kind, slot: usize) -> Difference
-        ensures { result ≡ difference_of (asked_of self.now) kind slot }
+        ensures { result ≡ difference_of (asked_kept self.now) kind slot }
     {
         Difference {
             slot,
@@ -29,7 +29,7 @@ impl<'a> Asked<'a> {
 
     /// Whether a page of the message is such a page as a kind of difference tells of.
     fn differs(&self, kind: Kind, page: &JudgedPage) -> bool
-        ensures { result ≡ differs (asked_of self.now) kind page.now }
+        ensures { result ≡ differs (asked_kept self.now) kind page.now }
     {
         match kind {
             Kind::Otherwise { page: number } => page.number == number && !page.right,
@@ -43,7 +43,7 @@ impl<'a> Asked<'a> {
 
     /// The slot of the first of the message's pages of which a kind of difference tells.
     fn first_slot(&self, pages: &[JudgedPage], kind: Kind) -> Option<usize>
-        ensures { result ≡ first_slot (asked_of self.now) pages.now kind }
+        ensures { result ≡ first_slot (asked_kept self.now) pages.now kind }
     {
         for page in pages {
             if self.differs(kind, page) {
@@ -62,7 +62,7 @@ fn push_first(
     kind: Kind,
 ) -> Result<(), AllocError>
     ensures { OnOk result (found.new.items
-        ≡ found.old.items ++ first_difference (asked_of asked.now) pages.now kind) }
+        ≡ found.old.items ++ first_difference (asked_kept asked.now) pages.now kind) }
 {
     if let Some(slot) = asked.first_slot(pages, kind) {
         found.push(asked.difference(kind, slot))?;
@@ -80,7 +80,7 @@ pub fn push_page_differences(
     asked: &Asked,
     pages: &[JudgedPage],
 ) -> Result<(), AllocError>
-    ensures { OnOk result (found.new.items ≡ found.old.items ++ page_differences (asked_of asked.now) pages.now) }
+    ensures { OnOk result (found.new.items ≡ found.old.items ++ page_differences (asked_kept asked.now) pages.now) }
 {
     for place in 0..MAX_PAGES {
         push_first(found, asked, pages, Kind::Otherwise { page: place + 1 })?;

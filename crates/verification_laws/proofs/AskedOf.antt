@@ -13,9 +13,9 @@ use Rattle.bsc_table.specs.declared.command.Command.{Command}
 use Rattle.bsc_table.specs.declared.command.Command.TheVariants as commands
 use Rattle.bsc_table.specs.declared.entry.Entry.{Entry}
 use Rattle.bsc_table.specs.Record.{Accepted, accepted_after, accepted_from, accepted_in, added_by}
-use Rattle.bsc_table.specs.Record.{is_background, is_stop_of, rank_of, start_of, stop_after, stopped_by}
+use Rattle.bsc_table.specs.Record.{is_background_category, is_stop_of, rank_of, start_of, stop_after, stopped_by}
 use Rattle.cbch_blocks.specs.RecordBlocks.{pages_from, pages_of_command, pages_of_entry}
-use Rattle.verification.specs.Asked.{AskedMessage, asked_by, asked_from, asked_in, stop_among}
+use Rattle.verification.specs.Asked.{AskedMessage, asked_of_entry, asked_from, asked_of_log, stop_among}
 
 -- the stop of a message after later entries
 abbrev pub stop_later : List Entry → ℕ → ℕ → Option ℕ → Option ℕ
@@ -88,7 +88,7 @@ joined log later (a ∷ xs) more [] others all also = absurd all
 joined log later (a ∷ xs) more (b ∷ bs) others all also = (all.0, joined log later xs more bs others all.1 also)
 
 -- and adds what it adds
-foreground : (category : Category) → is_background category ≡ false →
+foreground : (category : Category) → is_background_category category ≡ false →
     layer_of (rank_of category) ≡ 0
 foreground High is = refl
 foreground Normal is = refl
@@ -126,25 +126,25 @@ entry-here [] e later = refl
 entry-here (x ∷ before) e later = entry-here before e later
 
 coming : (log before later : List Entry) (xs : List AskedMessage) (bs : List Accepted) → log ≡ before ++ later →
-    AreComing log later xs bs → AreComing log [] (xs ++ asked_in later) (accepted_from bs (length before) later)
+    AreComing log later xs bs → AreComing log [] (xs ++ asked_of_log later) (accepted_from bs (length before) later)
 coming log before [] xs bs is all = subst (λ ms. AreComing log [] ms bs) (sym (append-nil xs)) all
 coming log before (e ∷ later) xs bs is all =
     let there : slice_get log (length before) ≡ Some e =
     ap (λ all. slice_get all (length before)) is ∙ entry-here before e later in
     let after : List Accepted = accepted_after bs (length before) e in
-    let next : AreComing log later (xs ++ asked_by e later) (accepted_after bs (length before) e) =
-    joined log later xs (asked_by e later) (map (stopped_by e) bs)
+    let next : AreComing log later (xs ++ asked_of_entry e later) (accepted_after bs (length before) e) =
+    joined log later xs (asked_of_entry e later) (map (stopped_by e) bs)
     (added_by bs (length before) e.slot (start_of e.answer) e.command) (stopped log later e xs bs all)
     (added log later bs (length before) e.slot (start_of e.answer) e.command e there refl) in
     let longer : length (before ++ e ∷ []) ≡ length before + 1 = length_push before e in
     subst (λ ms. AreComing log [] ms (accepted_from (accepted_after bs (length before) e) (length before + 1) later))
-    (append_assoc xs (asked_by e later) (asked_in later))
-    (subst (λ n. AreComing log [] ((xs ++ asked_by e later) ++ asked_in later)
+    (append_assoc xs (asked_of_entry e later) (asked_of_log later))
+    (subst (λ n. AreComing log [] ((xs ++ asked_of_entry e later) ++ asked_of_log later)
     (accepted_from (accepted_after bs (length before) e) n later)) longer
-    (coming log (before ++ e ∷ []) later (xs ++ asked_by e later) (accepted_after bs (length before) e)
+    (coming log (before ++ e ∷ []) later (xs ++ asked_of_entry e later) (accepted_after bs (length before) e)
     (is ∙ sym (append_assoc before (e ∷ []) later)) next))
 
-pub asked_are_accepted : (log : List Entry) → AreComing log [] (asked_in log) (accepted_in log)
+pub asked_are_accepted : (log : List Entry) → AreComing log [] (asked_of_log log) (accepted_in log)
 asked_are_accepted log = coming log [] log [] [] refl tt
 
 -- so each that was asked was accepted, and each that was accepted was asked

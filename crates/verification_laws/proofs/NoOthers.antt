@@ -22,7 +22,7 @@ use Rattle.handset.specs.Showing.{name_shown}
 use Rattle.verification.specs.declared.difference.Difference.{Difference}
 use Rattle.verification.specs.declared.difference.Kind.TheVariants as kinds
 use Rattle.verification.specs.declared.sent.SentPage.{SentPage}
-use Rattle.verification.specs.Asked.{AskedMessage, asked_in, is_asked}
+use Rattle.verification.specs.Asked.{AskedMessage, asked_of_log, is_page_of_any}
 use Rattle.verification.specs.Difference.{AreDifferences, all_differences, is_named_as, message_differences}
 use Rattle.verification.specs.Difference.{not_ordered, not_ordered_after}
 use Rattle.verification.specs.Judged.{judged_in}
@@ -49,32 +49,32 @@ each-none f (x ∷ xs) is =
 
 -- no message has a difference, and no page is of another
 pub record AreNone (r : Record) (blocks : List (List ℕ)) : Type 0 where
-  pub messages : AllByRecursion (λ a. message_differences r.slots a (judged_in a (sent_in blocks)) ≡ []) (asked_in
+  pub messages : AllByRecursion (λ a. message_differences r.slots a (judged_in a (sent_in blocks)) ≡ []) (asked_of_log
       r.log)
-  pub others : not_ordered_after (asked_in r.log) [] (sent_in blocks) ≡ []
+  pub others : not_ordered_after (asked_of_log r.log) [] (sent_in blocks) ≡ []
 
 pub are-none : (r : Record) (blocks : List (List ℕ)) → AreDifferences r blocks [] → AreNone r blocks
 are-none r blocks are =
     let of_message : AskedMessage → List Difference =
     λ a. message_differences r.slots a (judged_in a (sent_in blocks)) in
-    let both = none-joined (flat_map of_message (asked_in r.log)) (not_ordered_after (asked_in r.log) [] (sent_in
+    let both = none-joined (flat_map of_message (asked_of_log r.log)) (not_ordered_after (asked_of_log r.log) [] (sent_in
     blocks))
-    (none-before (all_differences r.slots (asked_in r.log) (sent_in blocks)) are.all) in
+    (none-before (all_differences r.slots (asked_of_log r.log) (sent_in blocks)) are.all) in
     record {
-      messages = each-none of_message (asked_in r.log) both.0;
+      messages = each-none of_message (asked_of_log r.log) both.0;
       others = both.1;
     }
 
 -- each page is of a message that was asked
-asked-alike : (asked : List AskedMessage) (page other : PageView) → is_asked asked other ≡ true →
-    page.id ≡ other.id → page.serial ≡ other.serial → is_asked asked page ≡ true
+asked-alike : (asked : List AskedMessage) (page other : PageView) → is_page_of_any asked other ≡ true →
+    page.id ≡ other.id → page.serial ≡ other.serial → is_page_of_any asked page ≡ true
 asked-alike asked page other is id serial =
     ap (λ n. list_any (λ (a : AskedMessage). (n == a.id) && (page.serial == a.serial)) asked) id
     ∙ ap (λ n. list_any (λ (a : AskedMessage). (other.id == a.id) && (n == a.serial)) asked) serial ∙ is
 
 named-asked : (asked : List AskedMessage) (page : PageView) (before : List SentPage) →
-    list_any (is_named_as page) before ≡ true → AllByRecursion (λ s. is_asked asked s.page ≡ true) before →
-    is_asked asked page ≡ true
+    list_any (is_named_as page) before ≡ true → AllByRecursion (λ s. is_page_of_any asked s.page ≡ true) before →
+    is_page_of_any asked page ≡ true
 named-asked asked page [] some all = cc
 named-asked asked page (s ∷ before) some all =
     elim (cases_Bool (is_named_as page s)) [
@@ -101,19 +101,19 @@ or-known true b is later = refl
 or-known false b is later = later is
 
 all-asked-after : (asked : List AskedMessage) (before sent : List SentPage) →
-    AllByRecursion (λ s. is_asked asked s.page ≡ true) before → not_ordered_after asked before sent ≡ [] →
-    AllByRecursion (λ s. is_asked asked s.page ≡ true) sent
+    AllByRecursion (λ s. is_page_of_any asked s.page ≡ true) before → not_ordered_after asked before sent ≡ [] →
+    AllByRecursion (λ s. is_page_of_any asked s.page ≡ true) sent
 all-asked-after asked before [] all is = tt
 all-asked-after asked before (s ∷ sent) all is =
     let both = none-joined (not_ordered asked before s) (not_ordered_after asked (before ++ s ∷ []) sent) is in
-    let here : is_asked asked s.page ≡ true =
-    or-known (is_asked asked s.page) (list_any (is_named_as s.page) before)
-    (known-by (is_asked asked s.page || list_any (is_named_as s.page) before)
+    let here : is_page_of_any asked s.page ≡ true =
+    or-known (is_page_of_any asked s.page) (list_any (is_named_as s.page) before)
+    (known-by (is_page_of_any asked s.page || list_any (is_named_as s.page) before)
     (record { slot = s.slot; id = s.page.id; serial = s.page.serial; kind = kinds.NotOrdered }) both.0)
     (λ some. named-asked asked s.page before some all) in (
       here,
       all-asked-after asked (before ++ s ∷ []) sent
-          (pushed (λ (x : SentPage). is_asked asked x.page ≡ true) before s all here) both.1,
+          (pushed (λ (x : SentPage). is_page_of_any asked x.page ≡ true) before s all here) both.1,
     )
 
 -- the pages that are sent are those that a handset reads
@@ -168,7 +168,7 @@ any-map test f [] = refl
 any-map test f (x ∷ xs) = ap (λ rest. test (f x) || rest) (any-map test f xs)
 
 asked-page : (asked : List AskedMessage) (name : Name) (sent : List SentPage) →
-    list_any (λ s. is_of name s.page) sent ≡ true → AllByRecursion (λ s. is_asked asked s.page ≡ true) sent →
+    list_any (λ s. is_of name s.page) sent ≡ true → AllByRecursion (λ s. is_page_of_any asked s.page ≡ true) sent →
     list_any (λ (a : AskedMessage). (name.id == a.id) && (name.serial == a.serial)) asked ≡ true
 asked-page asked name [] some all = cc
 asked-page asked name (s ∷ sent) some all =
@@ -210,13 +210,13 @@ no-others complete r blocks are = λ k d within.
     let sent : list_any (λ s. is_of name s.page) (sent_in blocks) ≡ true =
     sym (any-map (is_of name) (λ (s : SentPage). s.page) (sent_in blocks))
     ∙ ap (list_any (is_of name)) (sent-are-read blocks) ∙ read in
-    let asked : list_any (λ (a : AskedMessage). (name.id == a.id) && (name.serial == a.serial)) (asked_in r.log) ≡
+    let asked : list_any (λ (a : AskedMessage). (name.id == a.id) && (name.serial == a.serial)) (asked_of_log r.log) ≡
     true =
-    asked-page (asked_in r.log) name (sent_in blocks) sent
-    (all-asked-after (asked_in r.log) [] (sent_in blocks) tt none.others) in
+    asked-page (asked_of_log r.log) name (sent_in blocks) sent
+    (all-asked-after (asked_of_log r.log) [] (sent_in blocks) tt none.others) in
     let accepted = Any-from_list_any (λ (b : Accepted). (name.id == b.id) && (name.serial == b.serial))
     (accepted_in r.log)
-    (sym (accepted-alike r.log name (asked_in r.log) (accepted_in r.log) (asked_are_accepted r.log)) ∙ asked) in
+    (sym (accepted-alike r.log name (asked_of_log r.log) (accepted_in r.log) (asked_are_accepted r.log)) ∙ asked) in
     let parts = and_parts (name.id == accepted.1.id) (name.serial == accepted.1.serial) accepted.4 in (
       accepted.0,
       accepted.1,

@@ -9,7 +9,7 @@ use Rattle.std.proofs.lemmas.List.Concat.{flat_map-cons}
 use Rattle.std.proofs.lemmas.List.Elements.{recursion_from_All}
 use Rattle.cbs_page.specs.declared.octets.PageView.{PageView}
 use Rattle.cbs_page.specs.Page.{is_readable, place_of, view_of}
-use Rattle.handset.specs.Reception.{page_in_front, page_octets, page_types, type_of}
+use Rattle.handset.specs.Reception.{page_in_front, page_octets, page_types, block_type}
 use Rattle.verification.specs.declared.sent.SentPage.{SentPage}
 use Rattle.verification.specs.Sent.{sent_at, sent_from}
 
@@ -74,7 +74,7 @@ octet-at (octet ∷ octets) (suc i) all = octet-at octets i all.1
 in-front : (blocks : List (List ℕ)) → AllByRecursion (AllByRecursion IsOctet) blocks →
     AllByRecursion IsNumbered (page_in_front blocks)
 in-front blocks all =
-    by_test (bytes_eq (map type_of (take 4 blocks)) page_types)
+    by_test (bytes_eq (map block_type (take 4 blocks)) page_types)
     (numbered (get_or (page_octets (take 4 blocks)) 5 0)
     (octet-at (page_octets (take 4 blocks)) 5 (carried (take 4 blocks) (taken (AllByRecursion IsOctet) 4 blocks all))))
   where

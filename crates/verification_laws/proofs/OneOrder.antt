@@ -11,18 +11,18 @@ use Rattle.std.proofs.lemmas.List.Sorted.{ranks_by}
 use Rattle.verification.specs.declared.difference.Difference.{Difference}
 use Rattle.verification.specs.declared.difference.Kind.{Kind}
 use Rattle.verification.specs.declared.difference.Kind.TheVariants as kinds
-use Rattle.verification.specs.Asked.{asked_in}
+use Rattle.verification.specs.Asked.{asked_of_log}
 use Rattle.verification.specs.Sent.{sent_in}
-use Rattle.verification.specs.Difference.{Key, all_differences, key_of, key_order, kind_number, kind_place}
+use Rattle.verification.specs.Difference.{SortKey, all_differences, sort_key, key_order, kind_number, kind_place}
 use Rattle.verification_laws.specs.OneList.{CellsDifferInOneList}
 use Rattle.verification_laws.proofs.OneList.{one-list}
 
 -- the order of differences is one
 total : IsTotalOrder key_order
 total =
-    then_total (then_total (then_total (then_total (on_total (λ (k : Key). k.0) nat_cmp_total)
-    (on_total (λ (k : Key). k.1) nat_cmp_total)) (on_total (λ (k : Key). k.2) nat_cmp_total))
-    (on_total (λ (k : Key). k.3) nat_cmp_total)) (on_total (λ (k : Key). k.4) nat_cmp_total)
+    then_total (then_total (then_total (then_total (on_total (λ (k : SortKey). k.0) nat_cmp_total)
+    (on_total (λ (k : SortKey). k.1) nat_cmp_total)) (on_total (λ (k : SortKey). k.2) nat_cmp_total))
+    (on_total (λ (k : SortKey). k.3) nat_cmp_total)) (on_total (λ (k : SortKey). k.4) nat_cmp_total)
 
 -- a difference is what its key says
 abbrev kind_from : (place number : ℕ) → Kind
@@ -65,11 +65,11 @@ neither Greater Less is below above = cc
 neither Greater Equal is below above = cc
 neither Greater Greater is below above = cc
 
-alike : (a b : Difference) → is_lt (key_order (key_of a) (key_of b)) ≡ false →
-    is_lt (key_order (key_of b) (key_of a)) ≡ false → a ≡ b
+alike : (a b : Difference) → is_lt (key_order (sort_key a) (sort_key b)) ≡ false →
+    is_lt (key_order (sort_key b) (sort_key a)) ≡ false → a ≡ b
 alike a b below above =
-    let all : key_order (key_of a) (key_of b) ≡ Equal =
-    neither (key_order (key_of a) (key_of b)) (key_order (key_of b) (key_of a)) (total.antisymm (key_of a) (key_of b))
+    let all : key_order (sort_key a) (sort_key b) ≡ Equal =
+    neither (key_order (sort_key a) (sort_key b)) (key_order (sort_key b) (sort_key a)) (total.antisymm (sort_key a) (sort_key b))
     below above in
     let four = both _ _ all in
     let three = both _ _ four.0 in
@@ -87,5 +87,5 @@ alike a b below above =
 
 pub one-list-of-differences : CellsDifferInOneList
 one-list-of-differences r blocks found other are also =
-    one-list (λ (a b : Difference). is_lt (key_order (key_of a) (key_of b))) (ranks_by total key_of) alike
-    (all_differences r.slots (asked_in r.log) (sent_in blocks)) found other are.all also.all are.sorted also.sorted
+    one-list (λ (a b : Difference). is_lt (key_order (sort_key a) (sort_key b))) (ranks_by total sort_key) alike
+    (all_differences r.slots (asked_of_log r.log) (sent_in blocks)) found other are.all also.all are.sorted also.sorted

@@ -6,7 +6,7 @@ use Rattle.bsc_table.specs.Record.{Record}
 use Rattle.verification.specs.declared.row.Row.{Row}
 use Rattle.verification.specs.declared.row.Finding.TheVariants as findings
 use Rattle.verification.specs.Rows.{AreJudged, AreRowsBy, AreRowsOfCells, difference_row}
-use Rattle.verification.specs.Rows.{is_tape_of, other_rows, row_of}
+use Rattle.verification.specs.Rows.{is_tape_of, other_rows, finding_row}
 use Rattle.verification_laws.specs.OneList.{CellsDifferInOneList, TapesHaveOneListOfRows}
 
 judged-one : CellsDifferInOneList → (r : Record) (tape : TapeRecording) (rows other : List Row) →
@@ -17,8 +17,8 @@ judged-one one r tape rows other are also =
     ∙ sym also.rows_are
 
 either-one : CellsDifferInOneList → (r : Record) (tape : TapeRecording) (same : Bool) (rows other : List Row) →
-    MatchBool same (AreJudged r tape.blocks rows) (rows ≡ row_of r.cell findings.OtherSlots ∷ []) →
-    MatchBool same (AreJudged r tape.blocks other) (other ≡ row_of r.cell findings.OtherSlots ∷ []) → rows ≡ other
+    MatchBool same (AreJudged r tape.blocks rows) (rows ≡ finding_row r.cell findings.OtherSlots ∷ []) →
+    MatchBool same (AreJudged r tape.blocks other) (other ≡ finding_row r.cell findings.OtherSlots ∷ []) → rows ≡ other
 either-one one r tape true rows other are also = judged-one one r tape rows other are also
 either-one one r tape false rows other are also = are ∙ sym also
 

@@ -38,12 +38,12 @@ sent_by_air r = in_slots 0 (map (page_aired r.log) r.air)
 
 -- the slots of a broadcast are the same by both
 release-is : (log : List _) (a : AskedMessage) (b : Accepted) (j : ℕ) → IsComing log [] a b →
-    wanted.release a j ≡ release b.message j
+    wanted.release_slot a j ≡ release b.message j
 release-is log a b j same =
     ap (λ start. start + j * a.period) same.start_is ∙ ap (λ period. b.message.start + j * period) same.period_is
 
 due-is : (log : List _) (a : AskedMessage) (b : Accepted) (j : ℕ) → IsComing log [] a b →
-    wanted.due a j ≡ due b.message j
+    wanted.due_slot a j ≡ due b.message j
 due-is log a b j same =
     ap (λ start. start + (j + 1) * a.period) same.start_is
     ∙ ap (λ period. b.message.start + (j + 1) * period) same.period_is
@@ -63,16 +63,16 @@ requested broadcasts j says =
 uncut : (r : Record) → IsLegal r → r.clock ≡ r.slots → (a : AskedMessage) (b : Accepted) (j : ℕ) →
     IsComing r.log [] a b → is_owed r.slots a j ≡ true → IsUncut b.message j r.air
 uncut r legal ended a b j same owed =
-    let first = and_parts (nat_le (wanted.due a j) r.slots)
-    (is_by a.stop (wanted.due a j) && ((a.broadcasts == 0) || nat_lt j a.broadcasts)) owed in
-    let rest = and_parts (is_by a.stop (wanted.due a j)) ((a.broadcasts == 0) || nat_lt j a.broadcasts) first.1 in
-    let by_end : wanted.due a j ≤ r.slots = leb-true (wanted.due a j) r.slots first.0 in
+    let first = and_parts (nat_le (wanted.due_slot a j) r.slots)
+    (is_by a.stop (wanted.due_slot a j) && ((a.broadcasts == 0) || nat_lt j a.broadcasts)) owed in
+    let rest = and_parts (is_by a.stop (wanted.due_slot a j)) ((a.broadcasts == 0) || nat_lt j a.broadcasts) first.1 in
+    let by_end : wanted.due_slot a j ≤ r.slots = leb-true (wanted.due_slot a j) r.slots first.0 in
     let due_is = due-is r.log a b j same in
     let played = legal.played in
     record {
       requested = subst (λ n. (n ≡ 0) ⊎ (j < n)) same.broadcasts_is (requested a.broadcasts j rest.1);
       standing = subst (IsUpToStop (due b.message j)) same.stop_is
-          (subst (λ slot. IsUpToStop slot a.stop) due_is (up-to (wanted.due a j) a.stop rest.0));
+          (subst (λ slot. IsUpToStop slot a.stop) due_is (up-to (wanted.due_slot a j) a.stop rest.0));
       aired_by = omega (arith, by_end, due_is, played, ended);
     }
 
@@ -122,11 +122,11 @@ sent-page once r legal ended sound a b there same front j number owed first few 
     (eq-eqb h.page.serial a.serial (h.serial_is ∙ ap (λ (x : Accepted). x.serial) (sym is) ∙ sym same.serial_is)) in
     let release_is = release-is r.log a b j same in
     let due_is = due-is r.log a b j same in
-    let begun : wanted.release a j ≤ 0 + found.0 = omega (arith, release_is, found.1) in
-    let early : 0 + found.0 < wanted.due a j = omega (arith, due_is, found.2) in
+    let begun : wanted.release_slot a j ≤ 0 + found.0 = omega (arith, release_is, found.1) in
+    let early : 0 + found.0 < wanted.due_slot a j = omega (arith, due_is, found.2) in
     let in_time : is_in_time a j (judged a (in_slot (0 + found.0) h.page)) ≡ true =
-    both (nat_le (wanted.release a j) (0 + found.0)) (nat_lt (0 + found.0) (wanted.due a j))
-    (le-leb (wanted.release a j) (0 + found.0) begun) (lt-ltb (0 + found.0) (wanted.due a j) early) in
+    both (nat_le (wanted.release_slot a j) (0 + found.0)) (nat_lt (0 + found.0) (wanted.due_slot a j))
+    (le-leb (wanted.release_slot a j) (0 + found.0) begun) (lt-ltb (0 + found.0) (wanted.due_slot a j) early) in
     let passes : test (in_slot (0 + found.0) h.page) ≡ true =
     both (is_page_of a h.page) (is_in_time a j (judged a (in_slot (0 + found.0) h.page))
     && ((h.page.number == number) && is_right a h.page)) named
@@ -167,5 +167,5 @@ broadcasts-keep once r legal ended sound a b there same = by_background a.backgr
         (range_with_len 0 r.slots)) is
         ∙ flat_map-none (broadcast_difference r.slots a (judged_in a (sent_by_air r))) (range_with_len 0 r.slots)
         (λ j. none-if (is_owed r.slots a j) (is_whole a (judged_in a (sent_by_air r)) j)
-        (difference_of a (kinds.NotWhole j) (wanted.due a j))
+        (difference_of a (kinds.NotWhole j) (wanted.due_slot a j))
         (owed-whole once r legal ended sound a b there same is j))

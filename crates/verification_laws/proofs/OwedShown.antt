@@ -27,8 +27,8 @@ use Rattle.verification.specs.declared.difference.Difference.{Difference}
 use Rattle.verification.specs.declared.difference.Kind.TheVariants as kinds
 use Rattle.verification.specs.declared.judged.JudgedPage.{JudgedPage}
 use Rattle.verification.specs.declared.sent.SentPage.{SentPage}
-use Rattle.verification.specs.Asked.{AskedMessage, asked_in, is_page_of}
-use Rattle.verification.specs.Difference.{broadcast_difference, broadcast_differences, difference_of, differs, due}
+use Rattle.verification.specs.Asked.{AskedMessage, asked_of_log, is_page_of}
+use Rattle.verification.specs.Difference.{broadcast_difference, broadcast_differences, difference_of, differs, due_slot}
 use Rattle.verification.specs.Difference.{first_difference}
 use Rattle.verification.specs.Difference.{has_page, is_by, is_in_time, is_owed, is_whole, message_differences}
 use Rattle.verification.specs.Difference.{page_differences}
@@ -407,7 +407,7 @@ first-whole r a pages front some owed none =
     let all : flat_map (broadcast_difference r.slots a pages) (range_with_len 0 r.slots) ≡ [] =
     sym (ap (λ (x : Bool). if x then []
     else flat_map (broadcast_difference r.slots a pages) (range_with_len 0 r.slots)) front) ∙ none in
-    whole-if (is_owed r.slots a 0) (is_whole a pages 0) (difference_of a (kinds.NotWhole 0) (due a 0)) owed
+    whole-if (is_owed r.slots a 0) (is_whole a pages 0) (difference_of a (kinds.NotWhole 0) (due_slot a 0)) owed
     (in-range (λ j. broadcast_difference r.slots a pages j ≡ []) 0 r.slots 0
     (each-none (broadcast_difference r.slots a pages) (range_with_len 0 r.slots) all) (omega arith) (omega arith))
 
@@ -423,9 +423,9 @@ was-read laws r blocks legal octets a asked none front owed =
     let load = All-contains HasLoad (accepted_in r.log) asked.accepted (laws.accepted_have_loads r legal) asked.there in
     let long = asked.same.long in
     let period = asked.same.period_is in
-    let first = and_parts (nat_le (due a 0) r.slots)
-    (is_by a.stop (due a 0) && ((a.broadcasts == 0) || nat_lt 0 a.broadcasts)) owed in
-    let by_end : due a 0 ≤ r.slots = leb-true (due a 0) r.slots first.0 in
+    let first = and_parts (nat_le (due_slot a 0) r.slots)
+    (is_by a.stop (due_slot a 0) && ((a.broadcasts == 0) || nat_lt 0 a.broadcasts)) owed in
+    let by_end : due_slot a 0 ≤ r.slots = leb-true (due_slot a 0) r.slots first.0 in
     let some_slot : 0 < r.slots = some-slot a.start a.period r.slots (omega (arith, period, load.1)) by_end in
     let whole = first-whole r a (judged_in a (sent_in blocks)) front some_slot owed both.1 in
     let right = right-all a (sent_in blocks)
@@ -463,16 +463,16 @@ owed-shown laws r blocks legal octets are =
     Contains (shown_in blocks) (message_asked a) in
     let NoneOf : AskedMessage → Type 0 = λ a. message_differences r.slots a (judged_in a (sent_in blocks)) ≡ [] in
     All-from_recursion (λ (a : AskedMessage). a.background ≡ false → is_owed r.slots a 0 ≡ true →
-    Contains (shown_in blocks) (message_asked a)) (asked_in r.log)
+    Contains (shown_in blocks) (message_asked a)) (asked_of_log r.log)
     (each-weaker (λ (a : AskedMessage). (message_differences r.slots a (judged_in a (sent_in blocks)) ≡ [])
     × IsAsked r.log (accepted_in r.log) a)
     (λ (a : AskedMessage). a.background ≡ false → is_owed r.slots a 0 ≡ true →
-    Contains (shown_in blocks) (message_asked a)) (asked_in r.log)
+    Contains (shown_in blocks) (message_asked a)) (asked_of_log r.log)
     (λ a known front owed.
     let read = was-read laws r blocks legal (octets-by-recursion blocks octets) a known.1 known.0 front owed in
     subst (λ text. Contains (shown_in blocks) (record { id = a.id; serial = a.serial; text = text }))
     (text-is a (readable_pages blocks) read)
     ((laws.shown_are_the_complete blocks).all (name_asked a) (complete a (readable_pages blocks) read)))
     (both-each (λ (a : AskedMessage). message_differences r.slots a (judged_in a (sent_in blocks)) ≡ [])
-    (IsAsked r.log (accepted_in r.log)) (asked_in r.log) none.messages
-    (all_asked r.log (asked_in r.log) (accepted_in r.log) (asked_are_accepted r.log))))
+    (IsAsked r.log (accepted_in r.log)) (asked_of_log r.log) none.messages
+    (all_asked r.log (asked_of_log r.log) (accepted_in r.log) (asked_are_accepted r.log))))

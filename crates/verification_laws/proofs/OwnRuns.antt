@@ -23,7 +23,7 @@ use Rattle.verification.specs.declared.difference.Difference.{Difference}
 use Rattle.verification.specs.declared.row.Finding.TheVariants as findings
 use Rattle.verification.specs.declared.row.Row.{Row}
 use Rattle.verification.specs.Rows.{AreCellRows, AreJudged, AreRowsBy, AreRowsOfCells}
-use Rattle.verification.specs.Rows.{difference_row, is_known, is_tape_of, other_rows, row_of}
+use Rattle.verification.specs.Rows.{difference_row, is_known, is_tape_of, other_rows, finding_row}
 use Rattle.verification.proofs.FoundLaws.{cell-symm}
 use Rattle.verification_laws.specs.OwnTapes.{AreOwnTapes, NoRowsAreFound, NothingIsFound, OwnTapesDifferNowhere}
 use Rattle.verification_laws.specs.OwnTapes.{OwnTapesHaveNoRows, OwnTapesKeepTheirCells, recording_of}
@@ -150,7 +150,7 @@ no-rows-of : OwnTapesKeepTheirCells → (tapes : List TapeRecording) (r : Record
     AreCellRows tapes r []
 no-rows-of cells tapes r kept =
     subst (λ o. AreRowsBy r o []) (sym kept.first)
-    (subst (λ b. MatchBool b (AreJudged r (blocks_of r) []) ([] ≡ row_of r.cell findings.OtherSlots ∷ []))
+    (subst (λ b. MatchBool b (AreJudged r (blocks_of r) []) ([] ≡ finding_row r.cell findings.OtherSlots ∷ []))
     (sym (eq-eqb r.slots r.slots refl))
     (record { found = []; differences = cells r kept.legal kept.ended; rows_are = refl }))
 
@@ -165,7 +165,7 @@ only-none-of : NothingIsFound → (tapes : List TapeRecording) (r : Record) → 
     AreCellRows tapes r rows → rows ≡ []
 only-none-of nothing tapes r kept rows are =
     let judged : AreJudged r (blocks_of r) rows =
-    subst (λ b. MatchBool b (AreJudged r (blocks_of r) rows) (rows ≡ row_of r.cell findings.OtherSlots ∷ []))
+    subst (λ b. MatchBool b (AreJudged r (blocks_of r) rows) (rows ≡ finding_row r.cell findings.OtherSlots ∷ []))
     (eq-eqb r.slots r.slots refl)
     (subst (λ o. AreRowsBy r o rows) kept.first are) in
     judged.rows_are ∙ ap (map (difference_row r.cell)) (nothing r judged.found kept.legal kept.ended judged.differences)
@@ -208,9 +208,9 @@ other-none records before [] known distinct new = refl
 other-none records before (t ∷ tapes) known distinct new =
     let cells : List Cell = map (λ (u : TapeRecording). u.cell) tapes in
     ap (λ (x : Bool). (if x
-    then (if list_any (is_tape_of t.cell) before then row_of t.cell findings.SecondTape ∷ [] else [])
-    else row_of t.cell findings.UnknownCell ∷ []) ++ other_rows records (before ++ t ∷ []) tapes) known.0
-    ∙ ap (λ (x : Bool). (if x then row_of t.cell findings.SecondTape ∷ [] else [])
+    then (if list_any (is_tape_of t.cell) before then finding_row t.cell findings.SecondTape ∷ [] else [])
+    else finding_row t.cell findings.UnknownCell ∷ []) ++ other_rows records (before ++ t ∷ []) tapes) known.0
+    ∙ ap (λ (x : Bool). (if x then finding_row t.cell findings.SecondTape ∷ [] else [])
     ++ other_rows records (before ++ t ∷ []) tapes) new.0
     ∙ other-none records (before ++ t ∷ []) tapes known.1
     (IsDistinct-tail is_cell t.cell (map (λ (u : TapeRecording). u.cell) tapes) distinct)

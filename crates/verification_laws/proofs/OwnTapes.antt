@@ -20,7 +20,7 @@ use Rattle.composition.proofs.Laws.{Laws}
 use Rattle.verification.specs.declared.difference.Difference.{Difference}
 use Rattle.verification.specs.declared.difference.Kind.TheVariants as kinds
 use Rattle.verification.specs.declared.sent.SentPage.{SentPage}
-use Rattle.verification.specs.Asked.{AskedMessage, asked_in, is_asked, is_page_of}
+use Rattle.verification.specs.Asked.{AskedMessage, asked_of_log, is_page_of_any, is_page_of}
 use Rattle.verification.specs.Difference.{all_differences, broadcast_differences, is_named_as}
 use Rattle.verification.specs.Difference.{message_differences, not_ordered_after}
 use Rattle.verification.specs.Judged.{judged_in}
@@ -69,9 +69,9 @@ none-of-all P f (x ∷ xs) all none =
     flat_map-cons f x xs ∙ ap (λ ys. ys ++ flat_map f xs) (none x all.0) ∙ none-of-all P f xs all.1 none
 
 -- each page is of one of these
-page-asked : (r : Record) (s : SentPage) → IsOwn r.log r.air s → is_asked (asked_in r.log) s.page ≡ true
+page-asked : (r : Record) (s : SentPage) → IsOwn r.log r.air s → is_page_of_any (asked_of_log r.log) s.page ≡ true
 page-asked r s own =
-    some_asked r.log (λ a. is_page_of a s.page) (asked_in r.log) (accepted_in r.log) own.how.of
+    some_asked r.log (λ a. is_page_of a s.page) (asked_of_log r.log) (accepted_in r.log) own.how.of
     (asked_are_accepted r.log) own.how.there
     (λ a same.
     let id : s.page.id ≡ a.id = ap (λ (p : PageView). p.id) (sym own.page_is) ∙ own.how.id_is ∙ sym same.id_is in
@@ -80,22 +80,22 @@ page-asked r s own =
     ap (λ x. x && (s.page.serial == a.serial)) (eq-eqb s.page.id a.id id) ∙ eq-eqb s.page.serial a.serial serial)
 
 none-strange : (r : Record) (before sent : List SentPage) → AllByRecursion (IsOwn r.log r.air) sent →
-    not_ordered_after (asked_in r.log) before sent ≡ []
+    not_ordered_after (asked_of_log r.log) before sent ≡ []
 none-strange r before [] all = refl
 none-strange r before (s ∷ sent) all =
     ap (λ (known : Bool). cond (known || list_any (is_named_as s.page) before) []
     (record { slot = s.slot; id = s.page.id; serial = s.page.serial; kind = kinds.NotOrdered } ∷ [])
-    ++ not_ordered_after (asked_in r.log) (before ++ s ∷ []) sent) (page-asked r s all.0)
+    ++ not_ordered_after (asked_of_log r.log) (before ++ s ∷ []) sent) (page-asked r s all.0)
     ∙ none-strange r (before ++ s ∷ []) sent all.1
 
 pub own-tapes : Laws → LegalPagesAreAiredOnce → OwnTapesDifferNowhere
 own-tapes laws once r legal ended =
     let sound : AreSound r.log = sound_of laws r legal in
-    ap (all_differences r.slots (asked_in r.log)) (sent-is r sound legal)
-    ∙ ap (λ ds. ds ++ not_ordered_after (asked_in r.log) [] (sent_by_air r))
+    ap (all_differences r.slots (asked_of_log r.log)) (sent-is r sound legal)
+    ∙ ap (λ ds. ds ++ not_ordered_after (asked_of_log r.log) [] (sent_by_air r))
     (none-of-all (IsAsked r.log (accepted_in r.log))
-    (λ a. message_differences r.slots a (judged_in a (sent_by_air r))) (asked_in r.log)
-    (all_asked r.log (asked_in r.log) (accepted_in r.log) (asked_are_accepted r.log))
+    (λ a. message_differences r.slots a (judged_in a (sent_by_air r))) (asked_of_log r.log)
+    (all_asked r.log (asked_of_log r.log) (accepted_in r.log) (asked_are_accepted r.log))
     (message-keeps laws once r legal ended sound))
     ∙ none-strange r [] (sent_by_air r) (own-all r sound legal)
 

@@ -26,7 +26,7 @@ use Rattle.verification.specs.declared.difference.Kind.TheVariants as kinds
 use Rattle.verification.specs.declared.judged.JudgedPage.{JudgedPage}
 use Rattle.verification.specs.declared.sent.SentPage.{SentPage}
 use Rattle.verification.specs.Asked.{AskedMessage, is_page_of}
-use Rattle.verification.specs.Difference.{difference_of, differs, first_difference, is_over, is_stopped}
+use Rattle.verification.specs.Difference.{difference_of, differs, first_difference, is_over, is_past_stop}
 use Rattle.verification.specs.Difference.{page_differences}
 use Rattle.verification.specs.Difference.{page_numbers}
 use Rattle.verification.specs.Judged.{is_right, judged, judged_in, reads_as}
@@ -98,13 +98,13 @@ right-page a page there =
 pub record IsKept (a : AskedMessage) (p : JudgedPage) : Type 0 where
   pub right : p.right ≡ true
   pub begun : nat_lt p.slot a.start ≡ false
-  pub standing : is_stopped a.stop p.slot ≡ false
+  pub standing : is_past_stop a.stop p.slot ≡ false
   pub going : is_over a p.slot ≡ false
 
 not-begun : (start slot least : ℕ) → start ≤ least → least ≤ slot → nat_lt slot start ≡ false
 not-begun start slot least low up = grind (arith, nat_tests)
 
-standing-at : (slot : ℕ) (stop : Option ℕ) → IsBeforeStop slot stop → is_stopped stop slot ≡ false
+standing-at : (slot : ℕ) (stop : Option ℕ) → IsBeforeStop slot stop → is_past_stop stop slot ≡ false
 standing-at slot None before = refl
 standing-at slot (Some stop) before = grind (arith, nat_tests)
 
@@ -155,7 +155,7 @@ differs-nowhere a p kept (kinds.Otherwise number) =
 differs-nowhere a p kept kinds.BeforeStart = kept.begun
 differs-nowhere a p kept kinds.AfterStop = kept.standing
 differs-nowhere a p kept kinds.AfterLast =
-    ap (λ (x : Bool). x && not (is_stopped a.stop p.slot)) kept.going
+    ap (λ (x : Bool). x && not (is_past_stop a.stop p.slot)) kept.going
 differs-nowhere a p kept (kinds.NotWhole broadcast) = refl
 differs-nowhere a p kept kinds.NotOrdered = refl
 

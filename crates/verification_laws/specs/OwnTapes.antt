@@ -8,7 +8,7 @@ use Rattle.cbch_blocks.specs.RecordBlocks.{blocks_of}
 use Rattle.handset.specs.Recording.{TapeRecording}
 use Rattle.verification.specs.declared.difference.Difference.{Difference}
 use Rattle.verification.specs.declared.row.Row.{Row}
-use Rattle.verification.specs.Asked.{asked_in}
+use Rattle.verification.specs.Asked.{asked_of_log}
 use Rattle.verification.specs.Difference.{AreDifferences, all_differences}
 use Rattle.verification.specs.Rows.{AreRows}
 use Rattle.verification.specs.Sent.{sent_in}
@@ -18,7 +18,7 @@ abbrev pub OwnTapesDifferNowhere : Type 0
 OwnTapesDifferNowhere = (r : Record)
     → IsLegal r
     → r.clock ≡ r.slots
-    → all_differences r.slots (asked_in r.log) (sent_in (blocks_of r)) ≡ []
+    → all_differences r.slots (asked_of_log r.log) (sent_in (blocks_of r)) ≡ []
 
 -- so nothing is what is found of them, and nothing else is
 abbrev pub OwnTapesKeepTheirCells : Type 0

@@ -6,7 +6,7 @@ use Rattle.cbs_page.specs.Text.{text_in}
 use Rattle.bsc_table.specs.Record.{Record, accepted_in}
 use Rattle.bsc_table.specs.Legal.{IsLegal}
 use Rattle.handset.specs.Reception.{ShownMessage, shown_in}
-use Rattle.verification.specs.Asked.{AskedMessage, asked_in}
+use Rattle.verification.specs.Asked.{AskedMessage, asked_of_log}
 use Rattle.verification.specs.Difference.{AreDifferences, is_owed}
 
 -- no message is shown that the cell didn't accept
@@ -31,4 +31,4 @@ OwedAreShown = (r : Record) (blocks : List (List ℕ))
     → All (All (λ octet. octet < 256)) blocks
     → AreDifferences r blocks []
     → All (λ a. a.background ≡ false → is_owed r.slots a 0 ≡ true → Contains (shown_in blocks) (message_asked a))
-    (asked_in r.log)
+    (asked_of_log r.log)

@@ -5,7 +5,7 @@ use Rattle.std.proofs.Common.{true, false, Err, IsErrOf, IsTrue}
 use Rattle.std.proofs.Common.{sym, ap, ◌∙◌, subst, arith, inl, inr, append-nil, rules}
 use Rattle.std.proofs.lemmas.List.{length-append}
 use Rattle.std.specs.Io.KnownBytes.{Consumes, IsAtEnd, Keeps}
-use Rattle.alert_book.specs.Book.{IsBook, IsWrong, fault_at, max_input, refused, too_long, unread}
+use Rattle.alert_book.specs.Book.{IsBook, IsWrong, fault_at, max_book, refused, too_long, unread}
 use Rattle.alert_book.specs.declared.fault.BookFaultKind.{BookFaultKind}
 use Rattle.alert_book.specs.declared.fault.BookFaultKind.TheVariants as kinds
 use Rattle.cbs_page.specs.declared.paging.TextFault.TheVariants as text
@@ -24,7 +24,7 @@ use Rattle.warnc_run.specs.Compiled.{HasReadBook, IsDeskFault, IsSettleFault}
 use Rattle.warnc_run.specs.declared.fault.RunFault.{RunFault}
 use Rattle.warnc_run.specs.declared.fault.RunFault.TheVariants as run
 use Rattle.warnc_verify.specs.Input.{IsInputFault, IsOfInput, IsRunInMemory, IsVerifyBetween}
-use Rattle.warnc_verify.specs.Verified.{IsBookFault, IsDifference, Writes}
+use Rattle.warnc_verify.specs.Verified.{IsBookFault, IsDifference, HasWritten}
 use Rattle.warnc_verify.specs.declared.fault.VerifyFault.{VerifyFault}
 use Rattle.warnc_verify.specs.declared.fault.VerifyFault.TheVariants as fault
 use Rattle.warnc_verify.proofs.Inputs.{whole}
@@ -34,8 +34,8 @@ use Rattle.warnc_cli.specs.Status.{IsNoBook, IsNoRun, IsNotVerified, OneHasFaile
 use Rattle.warnc_cli.specs.Status.{status_of_book_kind}
 
 no_longer : (book input : List ℕ) (last : Option (List ℕ)) → Consumes (Some book) last input
-    → length input ≡ max_input + 1
-    → max_input < length book
+    → length input ≡ max_book + 1
+    → max_book < length book
 no_longer book input None read long = absurd read
 no_longer book input (Some rest) read long =
     let all = ap length read in
@@ -43,7 +43,7 @@ no_longer book input (Some rest) read long =
     omega (arith, all, both, long)
 
 no_book : (book input : List ℕ) (last : Option (List ℕ)) (f : BookFault) → Consumes (Some book) last input
-    → (f ≡ refused) ⊎ ((f ≡ unread) ⊎ (((f ≡ too_long) × (length input ≡ max_input + 1))
+    → (f ≡ refused) ⊎ ((f ≡ unread) ⊎ (((f ≡ too_long) × (length input ≡ max_book + 1))
     ⊎ (IsAtEnd last × IsWrong input f)))
     → status_of_book_fault f ≡ 1
     → IsNoBook book
@@ -109,7 +109,7 @@ refused_verification None slots count old new why told is = tt
 refused_verification (Some input) slots count old new why told is = refused_here slots count input old new why told is
 
 -- with status 1 the differences were written, or nothing was
-pub kept_or_differs : (Kept Differ : Type 0) (why : VerifyFault) → ((Writes why → ⊥) → Kept)
+pub kept_or_differs : (Kept Differ : Type 0) (why : VerifyFault) → ((HasWritten why → ⊥) → Kept)
     → (IsDifference why → Differ)
     → status_of_verify_fault why ≡ 1
     → Kept ⊎ Differ

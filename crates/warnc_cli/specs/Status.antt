@@ -12,9 +12,9 @@ use Rattle.gsmtap.specs.TapeOfCapture.{IsAirFault, IsTapeOfCapture}
 use Rattle.gsmtap.specs.declared.capture.Settings.{Settings}
 use Rattle.gsmtap.specs.declared.fault.AirFault.{AirFault}
 use Rattle.gsmtap.specs.declared.tape.Wanted.{Wanted}
-use Rattle.warnc_air.specs.TapeOutput.{max_input as max_capture}
+use Rattle.warnc_air.specs.TapeOutput.{max_capture_octets as max_capture}
 use Rattle.handset.specs.Tape.{IsShort, IsLong}
-use Rattle.alert_book.specs.Book.{Contents, IsBook, IsWrong, max_input}
+use Rattle.alert_book.specs.Book.{Contents, IsBook, IsWrong, max_book}
 use Rattle.alert_book.specs.declared.fault.BookFault.{BookFault}
 use Rattle.alert_book.specs.declared.fault.BookFaultKind.{BookFaultKind}
 use Rattle.alert_book.specs.declared.fault.BookFaultKind.TheVariants as kinds
@@ -63,7 +63,7 @@ IsNoTapes input = IsShort input ⊎ IsLong input
 
 -- the input is refused: it has more octets than a book may have, or a row or a text of it has a fault of status 1
 abbrev pub IsNoBook : (input : List ℕ) → Type 0
-IsNoBook input = (max_input < length input)
+IsNoBook input = (max_book < length input)
     ⊎ ((f : BookFault) × IsWrong input f × (status_of_book_fault f ≡ 1))
 
 -- or the input is a book, whose run, of so many slots and with so many sessions, ends early: the desk finds the book of

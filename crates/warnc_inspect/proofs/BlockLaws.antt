@@ -9,7 +9,7 @@ use Rattle.cbs_page.specs.declared.octets.PageView.{PageView}
 use Rattle.cbs_page.specs.Page.{octets_of_page, place_of, view_of}
 use Rattle.handset.specs.Reception.{page_octets, pages_read}
 use Rattle.cbch_blocks.specs.Blocks.{blocks_of_page}
-use Rattle.warnc_inspect.specs.PageOutput.{pages_from}
+use Rattle.warnc_inspect.specs.PageOutput.{page_octets_from}
 
 quarter : (page : List ℕ) (n : ℕ) → take 22 (drop n page) ++ drop (n + 22) page ≡ drop n page
 quarter page n = ap (λ xs. take 22 (drop n page) ++ xs) (sym (drop-drop 22 n page)) ∙ take-append-drop 22 (drop n page)
@@ -64,17 +64,17 @@ view_back id serial dcs total number content first some few =
     rw (two_octets serial, two_octets id, place_back number total first some few) refl
 
 pub views_back : (id serial dcs total number : ℕ) (contents : List Content) → 1 ≤ number → 1 ≤ total → total ≤ 15 →
-    map view_of (pages_from id serial dcs total number contents) ≡ views_from id serial dcs total number contents
+    map view_of (page_octets_from id serial dcs total number contents) ≡ views_from id serial dcs total number contents
 views_back id serial dcs total number [] first some few = refl
 views_back id serial dcs total number (content ∷ rest) first some few =
-    ap (λ v. v ∷ map view_of (pages_from id serial dcs total (number + 1) rest))
+    ap (λ v. v ∷ map view_of (page_octets_from id serial dcs total (number + 1) rest))
     (view_back id serial dcs total number content.octets first some few)
     ∙ ap (λ vs. view id serial dcs total number content.octets ∷ vs)
     (views_back id serial dcs total (number + 1) rest (omega arith) some few)
 
 pub pages_are_whole : (id serial dcs total number : ℕ) (contents : List Content)
     → AllByRecursion (λ content. length content.octets ≡ 82) contents →
-    AllByRecursion (λ page. length page ≡ 88) (pages_from id serial dcs total number contents)
+    AllByRecursion (λ page. length page ≡ 88) (page_octets_from id serial dcs total number contents)
 pages_are_whole id serial dcs total number [] whole = tt
 pages_are_whole id serial dcs total number (content ∷ rest) whole = (
   ap (λ n. suc (suc (suc (suc (suc (suc n)))))) whole.0,

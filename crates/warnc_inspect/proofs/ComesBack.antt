@@ -12,7 +12,7 @@ use Rattle.cbs_page.specs.declared.octets.PageView.{PageView}
 use Rattle.cbs_page.specs.Coding.{alphabet_of}
 use Rattle.cbs_page.specs.Text.{text_in, text_of_page}
 use Rattle.handset.specs.Reception.{Name, is_of, agrees_with, agreeing, pages_of, total_in, is_complete, text_of}
-use Rattle.handset.specs.Reception.{message_of, completed_by, completed_after}
+use Rattle.handset.specs.Reception.{shown_message, completed_by, completed_after}
 use Rattle.warnc_inspect.proofs.BlockLaws.{view, views_from}
 
 filter_all : (p : PageView → Bool) (pages : List PageView) → AllByRecursion (λ page. p page ≡ true) pages
@@ -187,7 +187,7 @@ completes : (id serial dcs total next : ℕ) (pages : List PageView) (content : 
     → Begun id serial dcs total next pages → 1 ≤ next →
     next ≡ total →
     completed_by pages (view id serial dcs total next content)
-    ≡ message_of (name id serial) (pages ++ view id serial dcs total next content ∷ []) ∷ []
+    ≡ shown_message (name id serial) (pages ++ view id serial dcs total next content ∷ []) ∷ []
 completes id serial dcs total next pages content begun some last =
     let whole : List PageView = pages ++ view id serial dcs total next content ∷ [] in
     let before : is_complete (name id serial) pages ≡ false = incomplete id serial dcs total next pages begun some
@@ -204,7 +204,7 @@ completes id serial dcs total next pages content begun some last =
 completed_in_order : (id serial dcs total next : ℕ) (pages : List PageView) (content : Content) (rest : List Content) →
     Begun id serial dcs total next pages → 1 ≤ next → next + length rest ≡ total →
     completed_after pages (views_from id serial dcs total next (content ∷ rest))
-    ≡ message_of (name id serial) (pages ++ views_from id serial dcs total next (content ∷ rest)) ∷ []
+    ≡ shown_message (name id serial) (pages ++ views_from id serial dcs total next (content ∷ rest)) ∷ []
 completed_in_order id serial dcs total next pages content [] begun first ends =
     append-nil (completed_by pages (view id serial dcs total next content.octets))
     ∙ completes id serial dcs total next pages content.octets begun first (omega (arith, ends))
@@ -213,13 +213,13 @@ completed_in_order id serial dcs total next pages content (second ∷ rest) begu
     let nothing : completed_by pages (view id serial dcs total next content.octets) ≡ [] =
     completes_nothing id serial dcs total next pages content.octets begun first (omega (arith, ends)) in
     let later : completed_after after (views_from id serial dcs total (next + 1) (second ∷ rest))
-    ≡ message_of (name id serial) (after ++ views_from id serial dcs total (next + 1) (second ∷ rest)) ∷ [] =
+    ≡ shown_message (name id serial) (after ++ views_from id serial dcs total (next + 1) (second ∷ rest)) ∷ [] =
     completed_in_order id serial dcs total (next + 1) after second rest
     (Begun-push id serial dcs total next pages content.octets begun)
     (omega arith) (omega (arith, ends)) in
     ap (λ ms. ms ++ completed_after after (views_from id serial dcs total (next + 1) (second ∷ rest))) nothing
     ∙ later
-    ∙ ap (λ ps. message_of (name id serial) ps ∷ [])
+    ∙ ap (λ ps. shown_message (name id serial) ps ∷ [])
     (append_assoc pages (view id serial dcs total next content.octets ∷ [])
     (views_from id serial dcs total (next + 1) (second ∷ rest)))
 

@@ -14,7 +14,7 @@ use Rattle.cbs_page.proofs.CodingLaws.{alphabet_of_coding}
 use Rattle.cbs_page.proofs.CuttingLaws.{AreContentsOf-length}
 use Rattle.cbs_page.proofs.TextLaws.{contents-length}
 use Rattle.handset.specs.Reception.{pages_read, readable_pages, completed_after, shown_in}
-use Rattle.warnc_inspect.specs.PageOutput.{pages_from, blocks_of_message}
+use Rattle.warnc_inspect.specs.PageOutput.{page_octets_from, blocks_of_message}
 use Rattle.warnc_inspect.proofs.BlockLaws.{views_from, pages_in_blocks, views_back, pages_are_whole}
 use Rattle.warnc_inspect.proofs.ComesBack.{message_in_order}
 
@@ -53,7 +53,7 @@ shows_text language text id serial paged sent shown =
     let some : 1 ≤ total = omega (arith, same, sent.some) in
     let few : total ≤ 15 = omega (arith, same, sent.few) in
     let whole = contents-length alphabet sent.pieces contents sent.paging.within sent.contents in
-    let pages : List (List ℕ) = pages_from id serial dcs total 1 contents in
+    let pages : List (List ℕ) = page_octets_from id serial dcs total 1 contents in
     let read : pages_read (blocks_of_message id serial paged) ≡ views_from id serial dcs total 1 contents =
     pages_in_blocks pages (pages_are_whole id serial dcs total 1 contents whole)
     ∙ views_back id serial dcs total 1 contents (omega arith) some few in

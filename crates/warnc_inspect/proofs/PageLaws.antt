@@ -3,7 +3,7 @@ use Rattle.std.proofs.Common.{◌≡◌, ℕ, ◌+◌, ◌<◌, ◌≤◌, List,
 use Rattle.std.proofs.Common.{IfSome}
 use Rattle.std.specs.Io.KnownBytes.{Keeps}
 use Rattle.std.proofs.lemmas.List.{length-take, take_all}
-use Rattle.warnc_inspect.specs.PageOutput.{max_input, IsPageFault, IsStreamFault}
+use Rattle.warnc_inspect.specs.PageOutput.{max_page_input, IsPageFault, IsStreamFault}
 use Rattle.warnc_inspect.specs.declared.page.PageFault.{PageFault}
 use Rattle.warnc_inspect.specs.declared.page.PageFault.TheVariants as fault
 
@@ -13,22 +13,22 @@ whole_input n input read is short =
     is ∙ take_all (n + 1) input (omega arith)
 
 pub fault_of_whole : (language input read : List ℕ) (id serial : ℕ) (old new : Option (List ℕ)) (fault : PageFault)
-    → read ≡ take (max_input + 1) input →
+    → read ≡ take (max_page_input + 1) input →
     IsPageFault language read fault → Keeps old new → IsStreamFault language id serial input old new fault
 fault_of_whole language input read id serial old new fault.ReadFailed is told kept = absurd told
 fault_of_whole language input read id serial old new fault.TooLong is told kept =
-    let some : length read ≡ min (max_input + 1) (length input) = ap length is
-    ∙ length-take (max_input + 1) input in
-    let long : max_input < length read = told in
+    let some : length read ≡ min (max_page_input + 1) (length input) = ap length is
+    ∙ length-take (max_page_input + 1) input in
+    let long : max_page_input < length read = told in
     (omega arith, kept)
 fault_of_whole language input read id serial old new fault.NotUtf8 is told kept = (
-  subst (λ (xs : List ℕ). IsPageFault language xs fault.NotUtf8) (whole_input max_input input read is told.0)
+  subst (λ (xs : List ℕ). IsPageFault language xs fault.NotUtf8) (whole_input max_page_input input read is told.0)
       told,
   kept,
 )
 fault_of_whole language input read id serial old new (fault.Text text_fault) is told kept = (
   subst (λ (xs : List ℕ). IsPageFault language xs (fault.Text text_fault))
-      (whole_input max_input input read is told.0) told,
+      (whole_input max_page_input input read is told.0) told,
   kept,
 )
 fault_of_whole language input read id serial old new fault.Refused is told kept = kept
@@ -37,7 +37,7 @@ fault_of_whole language input read id serial old new fault.WriteFailed is told k
 -- the same, where the reader's octets are known
 pub fault_of_read : (left : Option (List ℕ)) (language read : List ℕ) (id serial : ℕ) (old new : Option (List ℕ))
     (fault : PageFault) →
-    IfSome left (λ input. read ≡ take (max_input + 1) input) → IsPageFault language read fault → Keeps old new →
+    IfSome left (λ input. read ≡ take (max_page_input + 1) input) → IsPageFault language read fault → Keeps old new →
     IfSome left (λ input. IsStreamFault language id serial input old new fault)
 fault_of_read None language read id serial old new fault is told kept = tt
 fault_of_read (Some input) language read id serial old new fault is told kept =

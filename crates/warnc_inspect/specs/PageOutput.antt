@@ -19,41 +19,41 @@ use Rattle.warnc_inspect.specs.declared.page.PageFault.{PageFault}
 use Rattle.warnc_inspect.specs.declared.page.PageFault.TheVariants as fault
 
 -- the most octets that are read
-abbrev pub max_input : ℕ
-max_input = 16777216
+abbrev pub max_page_input : ℕ
+max_page_input = 16777216
 
 -- one LF at the end is no part of the text
 abbrev pub without_final_lf : List ℕ → List ℕ
 without_final_lf input = if slice_index input (length input - 1) == 10 then take (length input - 1) input else input
 
 -- the octets of a message's pages, from the page of this number on
-abbrev pub pages_from : (id serial dcs total number : ℕ) → List Content → List (List ℕ)
-pages_from id serial dcs total number [] = []
-pages_from id serial dcs total number (content ∷ rest) =
-    octets_of_page id serial dcs number total content.octets ∷ pages_from id serial dcs total (number + 1) rest
+abbrev pub page_octets_from : (id serial dcs total number : ℕ) → List Content → List (List ℕ)
+page_octets_from id serial dcs total number [] = []
+page_octets_from id serial dcs total number (content ∷ rest) =
+    octets_of_page id serial dcs number total content.octets ∷ page_octets_from id serial dcs total (number + 1) rest
 
 -- the blocks of a message: those of its pages, in order
 abbrev pub blocks_of_message : (id serial : ℕ) → Paged → List (List ℕ)
 blocks_of_message id serial paged =
-    flat_map blocks_of_page (pages_from id serial paged.dcs.0 (length paged.pages.items) 1 paged.pages.items)
+    flat_map blocks_of_page (page_octets_from id serial paged.dcs.0 (length paged.pages.items) 1 paged.pages.items)
 
 -- a block's line: two lower hexadecimal digits for each octet
 abbrev pub block_line : List ℕ → List ℕ
 block_line block = encode_lower block ++ 10 ∷ []
 
 -- a shown message's line: its identifier, its serial number in four lower hexadecimal digits, and its text
-abbrev pub message_line : ShownMessage → List ℕ
-message_line message =
+abbrev pub shown_line : ShownMessage → List ℕ
+shown_line message =
     decimal message.id ++ 32 ∷ encode_lower ((message.serial / 256) ∷ (message.serial % 256) ∷ []) ++ 32 ∷ message.text
     ++ 10 ∷ []
 
 abbrev pub lines_of : List (List ℕ) → List ℕ
-lines_of blocks = flat_map block_line blocks ++ flat_map message_line (shown_in blocks)
+lines_of blocks = flat_map block_line blocks ++ flat_map shown_line (shown_in blocks)
 
 -- what is written for the octets that were read: the lines of the blocks that carry the text, and these blocks show the
 -- text, once
 pub record IsPageOutput (language : List ℕ) (id serial : ℕ) (input output : List ℕ) : Type 0 where
-  pub bounded : length input ≤ max_input
+  pub bounded : length input ≤ max_page_input
   pub utf8 : IsUtf8 (without_final_lf input)
   pub paged : Paged
   pub sent : IsPagedText language (chars (without_final_lf input)) paged
@@ -64,10 +64,10 @@ pub record IsPageOutput (language : List ℕ) (id serial : ℕ) (input output : 
 -- why nothing is written: the first of these that applies, out of memory and devices aside. Out of memory is reported
 -- as `Refused` alone
 abbrev pub IsPageFault : (language input : List ℕ) → PageFault → Type 0
-IsPageFault language input fault.TooLong = max_input < length input
-IsPageFault language input fault.NotUtf8 = (length input ≤ max_input) × ¬ IsUtf8 (without_final_lf input)
+IsPageFault language input fault.TooLong = max_page_input < length input
+IsPageFault language input fault.NotUtf8 = (length input ≤ max_page_input) × ¬ IsUtf8 (without_final_lf input)
 IsPageFault language input (fault.Text text_fault) =
-    (length input ≤ max_input) × IsUtf8 (without_final_lf input)
+    (length input ≤ max_page_input) × IsUtf8 (without_final_lf input)
     × IsTextFault language (chars (without_final_lf input)) text_fault × (text_fault ≢ text.Refused)
 IsPageFault language input fault.Refused = Unit {0}
 IsPageFault language input fault.ReadFailed = ⊥

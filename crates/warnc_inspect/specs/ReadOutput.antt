@@ -14,27 +14,27 @@ use Rattle.warnc_inspect.specs.declared.read.ReadCommandFault.{ReadCommandFault}
 use Rattle.warnc_inspect.specs.declared.read.ReadCommandFault.TheVariants as fault
 
 -- a row of the table, as CSV quotes its fields
-abbrev pub row : List (List ℕ) → List ℕ
-row fields = row_text default_writer fields
+abbrev pub csv_row : List (List ℕ) → List ℕ
+csv_row fields = row_text default_writer fields
 
 -- the first row has the names of the columns
 abbrev pub header_row : List ℕ
-header_row = row (codes "lac" ∷ codes "ci" ∷ codes "id" ∷ codes "serial" ∷ codes "text" ∷ [])
+header_row = csv_row (codes "lac" ∷ codes "ci" ∷ codes "id" ∷ codes "serial" ∷ codes "text" ∷ [])
 
 -- the row of a message that a cell showed, after the digits of the cell's numbers: its identifier is decimal, its
 -- serial number has four lower hexadecimal digits
 abbrev pub row_of_message : (lac ci : List ℕ) → ShownMessage → List ℕ
 row_of_message lac ci message =
-    row (lac ∷ ci ∷ decimal message.id ∷ encode_lower ((message.serial / 256) ∷ (message.serial % 256) ∷ []) ∷
+    csv_row (lac ∷ ci ∷ decimal message.id ∷ encode_lower ((message.serial / 256) ∷ (message.serial % 256) ∷ []) ∷
     message.text ∷ [])
 
 -- the numbers of the cell are decimal
-abbrev pub message_row : (lac ci : ℕ) → ShownMessage → List ℕ
-message_row lac ci message = row_of_message (decimal lac) (decimal ci) message
+abbrev pub shown_row : (lac ci : ℕ) → ShownMessage → List ℕ
+shown_row lac ci message = row_of_message (decimal lac) (decimal ci) message
 
 -- the rows of what a tape shows, in the order in which it is shown
 abbrev pub reading_rows : TapeReading → List ℕ
-reading_rows reading = flat_map (message_row reading.cell.lac reading.cell.ci) reading.shown
+reading_rows reading = flat_map (shown_row reading.cell.lac reading.cell.ci) reading.shown
 
 -- the table of what tapes show, in their order
 abbrev pub table_of : List TapeReading → List ℕ

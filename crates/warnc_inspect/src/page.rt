@@ -5,8 +5,8 @@ ghost use Rattle.std.specs.List.{flat_map};
 ghost use Rattle.device_ends.specs.Moves.{ConsumesSome};
 ghost use Rattle.device_ends.specs.Source.{reader_of};
 ghost use Rattle.device_ends.specs.Stream.{FaultOfInput, IsStreamBetween, OutputOfInput};
-ghost use Rattle.handset.specs.Keeping.{HasRead, message_shown, messages_of};
-ghost use Rattle.warnc_inspect.specs.PageOutput.{without_final_lf, blocks_of_message, block_line, message_line};
+ghost use Rattle.handset.specs.Keeping.{HasRead, message_shown, messages_shown};
+ghost use Rattle.warnc_inspect.specs.PageOutput.{without_final_lf, blocks_of_message, block_line, shown_line};
 ghost use Rattle.warnc_inspect.specs.PageOutput.{lines_of, IsPageOutput, IsPageFault, IsStreamFault, IsPageWriteFault};
 
 use cbch_blocks::cut;
@@ -190,8 +190,8 @@ fn push_block_lines(
 
 /// Appends a line for each shown message.
 fn push_message_lines(alloc: Global, output: &mut String, shown: &[Shown]) -> Result<(), AllocError>
-    ensures { OnOk result (string_bytes output.new ≡ string_bytes output.old ++ flat_map message_line
-        (messages_of shown.now)) }
+    ensures { OnOk result (string_bytes output.new ≡ string_bytes output.old ++ flat_map shown_line
+        (messages_shown shown.now)) }
 {
     for message in shown {
         push_message_line(alloc, output, message)?;
@@ -201,7 +201,7 @@ fn push_message_lines(alloc: Global, output: &mut String, shown: &[Shown]) -> Re
 
 /// Appends the line of a shown message.
 fn push_message_line(alloc: Global, output: &mut String, message: &Shown) -> Result<(), AllocError>
-    ensures { OnOk result (string_bytes output.new ≡ string_bytes output.old ++ message_line
+    ensures { OnOk result (string_bytes output.new ≡ string_bytes output.old ++ shown_line
         (message_shown message.now)) }
 {
     let id = message.id.to_string(alloc)?;

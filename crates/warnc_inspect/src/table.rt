@@ -3,7 +3,7 @@
 ghost use Rattle.std.specs.Prelude.{◌≡◌, ℕ, List, [], ◌∷◌, ◌++◌, length, map, IfOk, OnOk};
 ghost use Rattle.handset.specs.Keeping.{message_shown};
 ghost use Rattle.handset.specs.Tape.{reading_of};
-ghost use Rattle.warnc_inspect.specs.ReadOutput.{row, row_of_message};
+ghost use Rattle.warnc_inspect.specs.ReadOutput.{csv_row, row_of_message};
 
 use csv::{Writer, WriterBuilder};
 use handset::{Reading, Shown, TakesReadings};
@@ -81,7 +81,7 @@ impl Table {
     /// Appends a row. A writer to memory fails only if out of memory.
     fn push_row(&mut self, fields: &[&[u8]]) -> Result<(), AllocError>
         ensures { OnOk result ((octets : List ℕ) → IsTable self.old octets →
-            IsTable self.new (octets ++ row (map (λ f. f.now) fields.now))) }
+            IsTable self.new (octets ++ csv_row (map (λ f. f.now) fields.now))) }
     {
         match self.writer.write_fields(fields) {
             Ok(()) => Ok(()),

@@ -10,7 +10,7 @@ use Rattle.book_runs.specs.OneRun.{RunsAreOne}
 use Rattle.book_runs.specs.Run.{Exchange, IsRun}
 use Rattle.chart.specs.ChartText.{chart_text}
 use Rattle.report.specs.ReportText.{report_text}
-use Rattle.report.specs.Rows.{rows_of}
+use Rattle.report.specs.Rows.{report_rows}
 use Rattle.warnc_run.specs.OneOutput.{ChartedIsOne, CompiledIsOne, LiveOfOneIsCompiled, ReportedIsOne}
 use Rattle.warnc_run.specs.Reported.{reading_of_record}
 
@@ -24,7 +24,7 @@ pub reported_is_one : RunsAreOne → ReportedIsOne
 reported_is_one runs slots input output other one two =
     let same = runs input one.book two.book slots one.exchanges two.exchanges one.records two.records one.is_book
     two.is_book one.run two.run in
-    one.written ∙ ap (λ (records : List Record). report_text (rows_of records (map reading_of_record records))) same.1
+    one.written ∙ ap (λ (records : List Record). report_text (report_rows records (map reading_of_record records))) same.1
     ∙ sym two.written
 
 pub charted_is_one : RunsAreOne → ChartedIsOne

@@ -14,7 +14,7 @@ use Rattle.book_runs.specs.Ordered.{AreThoseStarted}
 use Rattle.book_runs.specs.Run.{Exchange, IsRun}
 use Rattle.parallel_compile.specs.declared.fault.CompileFault.TheVariants as compile
 use Rattle.report.specs.ReportText.{report_text}
-use Rattle.report.specs.Rows.{rows_of}
+use Rattle.report.specs.Rows.{report_rows}
 use Rattle.report.specs.declared.fault.ReportFault.TheVariants as report
 use Rattle.warnc_run.specs.declared.fault.RunFault.{RunFault}
 use Rattle.warnc_run.specs.declared.fault.RunFault.TheVariants as run
@@ -37,7 +37,7 @@ pub record IsReported (slots : ℕ) (input output : List ℕ) : Type 0 where
   pub run : IsRun book slots exchanges records
   pub meant : All (IsMeantIn book) records
   pub accepted : All (AreThoseStarted book exchanges) records
-  pub written : output ≡ report_text (rows_of records (map reading_of_record records))
+  pub written : output ≡ report_text (report_rows records (map reading_of_record records))
 
 -- a fault of the writer
 abbrev pub IsReportWriteFault : ReportRunFault → Type 0

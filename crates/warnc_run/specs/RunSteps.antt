@@ -10,7 +10,7 @@ use Rattle.book_runs.specs.Live.{IsLiveRun}
 use Rattle.book_runs.specs.Run.{Exchange}
 use Rattle.handset.specs.Tape.{TapeReading}
 use Rattle.parallel_compile.specs.declared.fault.CompileFault.TheVariants as compile
-use Rattle.report.specs.Rows.{rows_of}
+use Rattle.report.specs.Rows.{report_rows}
 use Rattle.report.specs.declared.row.Row.{Row}
 use Rattle.report.specs.declared.fault.ReportFault.TheVariants as report
 use Rattle.warnc_run.specs.Compiled.{IsDeskFault, IsSettleFault}
@@ -88,4 +88,4 @@ pub record AreReadings (book : Contents) (slots : ℕ) (records : List Record) (
 pub record AreReportRows (book : Contents) (slots : ℕ) (rows : List Row) : Type 0 where
   pub records : List Record
   pub live : HaveRunLive book slots 1 records
-  pub made : rows ≡ rows_of records (map reading_of_record records)
+  pub made : rows ≡ report_rows records (map reading_of_record records)

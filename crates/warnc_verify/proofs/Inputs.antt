@@ -16,7 +16,7 @@ use Rattle.verification.specs.declared.row.Row.{Row}
 use Rattle.warnc_run.specs.Records.{AreRecordsOf, HasRunBook}
 use Rattle.warnc_verify.specs.Input.{DiffersBy, HasDifferences, IsInputFault, IsTableOf, IsTapesPartFault, IsVerified}
 use Rattle.warnc_verify.specs.Verified.{Readers, Finds, FindsAndWrites, IsBookFault, IsDifference, IsVerifyFault}
-use Rattle.warnc_verify.specs.Verified.{RunsBook, Writes}
+use Rattle.warnc_verify.specs.Verified.{RunsBook, HasWritten}
 use Rattle.warnc_verify.specs.declared.fault.VerifyFault.{VerifyFault}
 use Rattle.warnc_verify.specs.declared.fault.VerifyFault.TheVariants as faults
 
@@ -178,7 +178,7 @@ pub fault_of_input : (slots count : ℕ) (first old new : Option (List ℕ)) (en
     (fault : VerifyFault)
     → ArePartsOf count first ends book
     → IsVerifyFault slots ends old new fault
-    → ((Writes fault → ⊥) → Keeps old new)
+    → ((HasWritten fault → ⊥) → Keeps old new)
     → IfSome first (λ input. IsInputFault slots count input old new fault)
 fault_of_input slots count first old new ends book (faults.Run f) parts why kept =
     of_whole _ first ends.tapes_first book parts.read (λ left is. (

@@ -8,7 +8,7 @@ use Rattle.handset.specs.declared.tape.TapeFault.TheVariants as tape
 use Rattle.warnc_run.specs.declared.fault.RunFault.TheVariants as run
 use Rattle.alert_book.specs.declared.fault.BookFault.{BookFault}
 use Rattle.warnc_verify.specs.Input.{IsOfInput, IsVerifyBetween}
-use Rattle.warnc_verify.specs.InputSteps.{IsUnwritten}
+use Rattle.warnc_verify.specs.InputSteps.{IsUnwrittenIn}
 use Rattle.warnc_verify.specs.Verified.{Readers, IsVerifyFault}
 use Rattle.warnc_verify.specs.declared.fault.VerifyFault.{VerifyFault}
 use Rattle.warnc_verify.specs.declared.fault.VerifyFault.TheVariants as faults
@@ -74,7 +74,7 @@ keeps_of K P (Some input) told = told.2
 -- a fault of what was verified isn't of a run that writes
 pub unwritten : (slots : ℕ) (ends : Readers) (old new : Option (List ℕ)) (why : VerifyFault)
     → IsVerifyFault slots ends old new why
-    → IsUnwritten why
+    → IsUnwrittenIn why
 unwritten slots ends old new (faults.Run (run.Book f)) is = tt
 unwritten slots ends old new (faults.Run (run.Desk f)) is = tt
 unwritten slots ends old new (faults.Run (run.Settle f)) is = tt
@@ -88,7 +88,7 @@ unwritten slots ends old new faults.Refused is = tt
 unwritten slots ends old new faults.WriteFailed is = tt
 
 -- nor is one of a book in memory a failed read of it
-pub of_input : (result : Result (Unit {0}) VerifyFault) → IfErr result IsUnwritten
+pub of_input : (result : Result (Unit {0}) VerifyFault) → IfErr result IsUnwrittenIn
     → (IsErrOf result (faults.Run (run.Book unread)) → ⊥)
     → IfErr result IsOfInput
 of_input (Ok done) quiet never = tt

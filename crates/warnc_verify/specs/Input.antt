@@ -21,7 +21,7 @@ use Rattle.verification.specs.declared.row.Row.{Row}
 use Rattle.warnc_run.specs.Records.{AreRecordsOf}
 use Rattle.warnc_run.specs.declared.fault.RunFault.{RunFault}
 use Rattle.warnc_run.specs.declared.fault.RunFault.TheVariants as run
-use Rattle.warnc_verify.specs.Verified.{IsBookFault, IsDifference, Writes}
+use Rattle.warnc_verify.specs.Verified.{IsBookFault, IsDifference, HasWritten}
 use Rattle.warnc_verify.specs.declared.fault.VerifyFault.{VerifyFault}
 use Rattle.warnc_verify.specs.declared.fault.VerifyFault.TheVariants as faults
 
@@ -88,7 +88,7 @@ pub record IsVerifyBetween {R W : Type 0} (result : Result (Unit {0}) VerifyFaul
   pub not_failed : OnOk result (sink_failed new ≡ false)
   pub written : IfErr result (λ fault. IsDifference fault → sink_failed new ≡ false)
   -- with any other fault the sink isn't touched, but by a failed writer
-  pub untouched : IfErr result (λ fault. (Writes fault → ⊥) → new ≡ old)
+  pub untouched : IfErr result (λ fault. (HasWritten fault → ⊥) → new ≡ old)
   -- a failed reader is reported exactly if the source has failed, and a failed writer only if the sink has
   pub read : IsErrOf result (faults.Tapes tape.ReadFailed) ↔ IsTrue (source_failed last)
   pub write : IsErrOf result faults.WriteFailed → sink_failed new ≡ true

@@ -18,6 +18,6 @@ abbrev pub IsRunUnwritten : RunFault → Type 0
 IsRunUnwritten (run.Write failed) = ⊥
 IsRunUnwritten other = ⊤
 
-abbrev pub IsUnwritten : VerifyFault → Type 0
-IsUnwritten (faults.Run f) = IsRunUnwritten f
-IsUnwritten other = ⊤
+abbrev pub IsUnwrittenIn : VerifyFault → Type 0
+IsUnwrittenIn (faults.Run f) = IsRunUnwritten f
+IsUnwrittenIn other = ⊤

@@ -77,12 +77,12 @@ abbrev pub IsDifference : VerifyFault → Type 0
 IsDifference (faults.Differences count) = ⊤
 IsDifference other = ⊥
 
-abbrev pub Writes : VerifyFault → Type 0
-Writes (faults.Differences count) = ⊤
-Writes faults.WriteFailed = ⊤
-Writes other = ⊥
+abbrev pub HasWritten : VerifyFault → Type 0
+HasWritten (faults.Differences count) = ⊤
+HasWritten faults.WriteFailed = ⊤
+HasWritten other = ⊥
 
 -- a fault of the book or of its run
-abbrev pub IsOfRun : VerifyFault → Type 0
-IsOfRun (faults.Run f) = ⊤
-IsOfRun other = ⊥
+abbrev pub IsOfBookOrRun : VerifyFault → Type 0
+IsOfBookOrRun (faults.Run f) = ⊤
+IsOfBookOrRun other = ⊥

@@ -10,7 +10,7 @@ ghost use Rattle.handset.specs.declared.tape.TapeFault.TheVariants as tape;
 ghost use Rattle.warnc_run.specs.declared.fault.RunFault.TheVariants as run;
 ghost use Rattle.warnc_verify.specs.Input.{HasDifferences, IsInputFault, IsOfInput, IsVerified, IsVerifyBetween};
 ghost use Rattle.warnc_verify.specs.Verified.{IsDifference};
-ghost use Rattle.warnc_verify.specs.InputSteps.{IsFrontFault, IsUnwritten};
+ghost use Rattle.warnc_verify.specs.InputSteps.{IsFrontFault, IsUnwrittenIn};
 ghost use Rattle.warnc_verify.specs.declared.fault.VerifyFault.TheVariants as faults;
 
 use crate::fault::VerifyFault;
@@ -70,7 +70,7 @@ fn verify_parts<T: AllocGlobal + Threads + Wait + Sync, R: Read, W: Write>(
     ensures differences { IfErr result (λ fault. IsDifference fault → OutputOfInput R.remaining W.contents
         (HasDifferences slots book_octets) source.old sink.old sink.new) }
     ensures any_ends { IsVerifyBetween result source.old source.new sink.old sink.new }
-    ensures unwritten { IfErr result IsUnwritten }
+    ensures unwritten { IfErr result IsUnwrittenIn }
 {
     let book = first_octets(source, rt.alloc(), book_octets)?;
     verify_stream(

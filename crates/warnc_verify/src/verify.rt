@@ -10,8 +10,8 @@ ghost use Rattle.handset.specs.declared.tape.TapeFault.TheVariants as tape;
 ghost use Rattle.warnc_run.specs.declared.fault.RunFault.TheVariants as run;
 ghost use Rattle.verification.specs.RowText.{rows_text};
 ghost use Rattle.warnc_verify.specs.VerifySteps.{IsRowsFault, IsTableFault};
-ghost use Rattle.warnc_verify.specs.Verified.{readers_of, Finds, FindsAndWrites, IsDifference, IsOfRun, IsVerifyFault};
-ghost use Rattle.warnc_verify.specs.Verified.{Writes};
+ghost use Rattle.warnc_verify.specs.Verified.{readers_of, Finds, FindsAndWrites, IsDifference, IsOfBookOrRun, IsVerifyFault};
+ghost use Rattle.warnc_verify.specs.Verified.{HasWritten};
 ghost use Rattle.warnc_verify.specs.declared.fault.VerifyFault.TheVariants as faults;
 
 use crate::fault::VerifyFault;
@@ -52,13 +52,13 @@ pub fn verify_stream<T: AllocGlobal + Threads + Wait + Sync, B: Read, R: Read, W
     // At any readers and any writer: which end failed is reported, the book's first, and what failed before is as it
     // was. The tapes aren't touched if the book has no run.
     ensures book_failed { IsErrOf result (faults.Run (run.Book unread)) ↔ IsTrue (source_failed book.new) }
-    ensures book_first { IfErr result (λ fault. IsOfRun fault → tapes.new ≡ tapes.old) }
+    ensures book_first { IfErr result (λ fault. IsOfBookOrRun fault → tapes.new ≡ tapes.old) }
     ensures tapes_failed { source_failed tapes.old ≡ false
         → (IsErrOf result (faults.Tapes tape.ReadFailed) ↔ IsTrue (source_failed tapes.new)) }
     ensures write_failed { IsErrOf result faults.WriteFailed → sink_failed sink.new ≡ true }
     ensures written { OnOk result (sink_failed sink.new ≡ false) }
     ensures differences_written { IfErr result (λ fault. IsDifference fault → sink_failed sink.new ≡ false) }
-    ensures nothing_written { IfErr result (λ fault. (Writes fault → ⊥) → sink.new ≡ sink.old) }
+    ensures nothing_written { IfErr result (λ fault. (HasWritten fault → ⊥) → sink.new ≡ sink.old) }
     ensures book_stays { source_failed book.old ≡ true → book.new ≡ book.old }
     ensures tapes_stay { source_failed tapes.old ≡ true → tapes.new ≡ tapes.old }
     ensures sink_stays { sink_failed sink.old ≡ true → sink.new ≡ sink.old }
@@ -84,7 +84,7 @@ fn rows_of<T: AllocGlobal + Threads + Wait + Sync, B: Read, R: Read>(
     ensures err { IfErr result (λ fault. IsRowsFault slots
         (readers_of B.remaining R.remaining book.old book.new tapes.old tapes.new) fault) }
     ensures book_failed { IsErrOf result (faults.Run (run.Book unread)) ↔ IsTrue (source_failed book.new) }
-    ensures book_first { IfErr result (λ fault. IsOfRun fault → tapes.new ≡ tapes.old) }
+    ensures book_first { IfErr result (λ fault. IsOfBookOrRun fault → tapes.new ≡ tapes.old) }
     ensures tapes_failed { source_failed tapes.old ≡ false
         → (IsErrOf result (faults.Tapes tape.ReadFailed) ↔ IsTrue (source_failed tapes.new)) }
     ensures failed { IsErrOf result (faults.Tapes tape.ReadFailed) → source_failed tapes.new ≡ true }

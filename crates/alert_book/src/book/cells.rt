@@ -2,7 +2,7 @@
 
 ghost use Rattle.std.specs.Prelude.{◌≡◌, ◌≢◌, Ok, Err, Some, None, IfErr, IfOk};
 ghost use Rattle.std.specs.List.{list_all};
-ghost use Rattle.alert_book.specs.Cells.{all_of, cell_named, cells_listed, cells_of_field, is_among, judged};
+ghost use Rattle.alert_book.specs.Cells.{all_of, cell_named, cells_listed, cells_of_field, is_among, cells_judged};
 
 use crate::book::number::number_within;
 use crate::fault::RowFault;

@@ -15,10 +15,10 @@ use Rattle.admission.specs.declared.budget.Held.{Held}
 use Rattle.admission.specs.declared.budget.Waits.{Waits}
 use Rattle.admission.specs.Reservation.{IsBeforeEnd, is_before_end, natural_end, end_of_reservation, end_of_stopped}
 use Rattle.admission.specs.Waiting.{held_now, share_now, waits_at, started_at}
-use Rattle.admission.specs.Table.{answer_of as answer_by, answer_for, remaining_without, ends_if, ends_at, passed}
+use Rattle.admission.specs.Table.{room_answer as answer_by, room_answer_for, remaining_without, ends_if, ends_at, passed}
 use Rattle.scheduler.specs.Message.{stopped_if}
 use Rattle.bsc_table.specs.Record.{is_live}
-use Rattle.bsc_table.specs.Claim.{Claim, end_of, own_load, is_claimed_at, share_at, claim_at, claimed_at, IsWaiting}
+use Rattle.bsc_table.specs.Claim.{Claim, end_of, own_load, is_claimed_at, claim_share_at, claim_at, claimed_at, IsWaiting}
 use Rattle.bsc_table.specs.Claim.{stop_claim, stop_claims}
 use Rattle.bsc_table.specs.Room.{AreInOrder}
 use Rattle.bsc_table.specs.Book.{waits_of, reservation_for, reservations_at}
@@ -56,7 +56,7 @@ waits_of-waiting slot c entry waits behind =
 reservation_holds : (slot : ℕ) (c : Claim)
     → is_claimed_at slot c ≡ true
     → IsBehindOne slot c
-    → held_now (reservation_for slot c) ≡ share_at slot c
+    → held_now (reservation_for slot c) ≡ claim_share_at slot c
 reservation_holds slot c claimed reservations =
     elim (cases_lt slot c.message.start) [
       | inl waits ↦
@@ -78,7 +78,7 @@ same_loads slot (c ∷ claims) reservations =
     elim (cases_Bool (is_claimed_at slot c)) [
       | inl claimed ↦
           let holds = reservation_holds slot c claimed here in
-          let its = ap (λ (b : Bool). cond b (share_at slot c) 0) claimed in
+          let its = ap (λ (b : Bool). cond b (claim_share_at slot c) 0) claimed in
           let left = ap (λ (b : Bool). sum_by held_now (map (reservation_for slot)
           (cond b (c ∷ filter (is_claimed_at slot) claims) (filter (is_claimed_at slot) claims)))) claimed in
           omega (
@@ -92,7 +92,7 @@ same_loads slot (c ∷ claims) reservations =
                 (reservations_at slot claims),
           )
       | inr free ↦
-          let its = ap (λ (b : Bool). cond b (share_at slot c) 0) free in
+          let its = ap (λ (b : Bool). cond b (claim_share_at slot c) 0) free in
           let left = ap (λ (b : Bool). sum_by held_now (map (reservation_for slot)
           (cond b (c ∷ filter (is_claimed_at slot) claims) (filter (is_claimed_at slot) claims)))) free in
           omega (arith, rest, more, its, left)
@@ -101,7 +101,7 @@ same_loads slot (c ∷ claims) reservations =
 -- so a load has room beside the reservations where it has room beside the claims
 pub same_room : (slot load : ℕ) (claims : List Claim)
     → All (IsBehindOne slot) claims
-    → answer_for (reservations_at slot claims) load ≡ answer_by (length (filter (is_claimed_at slot) claims))
+    → room_answer_for (reservations_at slot claims) load ≡ answer_by (length (filter (is_claimed_at slot) claims))
     (claimed_at claims slot) load
 same_room slot load claims reservations =
     ap (λ (n : ℕ). answer_by n (sum_by held_now (reservations_at slot claims)) load)
@@ -385,18 +385,18 @@ ended_holds entry end (h ∷ reservations) =
 pub room_without : (slot entry end load : ℕ) (reservations : List Held)
     → slot ≤ end
     → All (IsCurrent slot) reservations
-    → answer_for (remaining_without (cond (end == slot) (Some entry) None) reservations) load ≡ answer_for
+    → room_answer_for (remaining_without (cond (end == slot) (Some entry) None) reservations) load ≡ room_answer_for
     (passed slot (ends_at entry end reservations)) load
 room_without slot entry end load reservations after current =
     elim (cases_eq end slot) [
       | inl now ↦
-          let P : ℕ → Type 0 = λ n. answer_for (remaining_without (Some entry) reservations) load ≡ answer_for
+          let P : ℕ → Type 0 = λ n. room_answer_for (remaining_without (Some entry) reservations) load ≡ room_answer_for
           (passed slot (ends_at entry n reservations)) load in
-          rw (eq-eqb end slot now) (subst P (sym now) (ap (λ (l : List Held). answer_for l load)
+          rw (eq-eqb end slot now) (subst P (sym now) (ap (λ (l : List Held). room_answer_for l load)
           (sym (ends_now slot entry reservations current))))
       | inr later ↦
           let same = ends_later slot entry end reservations (omega (arith, later, after)) current in
-          rw (ne_eqb end slot later) (sym (ap (λ (l : List Held). answer_for l load) same
+          rw (ne_eqb end slot later) (sym (ap (λ (l : List Held). room_answer_for l load) same
           ∙ ap (λ (n : ℕ). answer_by n (sum_by held_now (ends_at entry end reservations)) load)
           (length-map reservations (λ (h : Held). ends_if (h.entry == entry) end h))
           ∙ ap (λ (n : ℕ). answer_by (length reservations) n load) (ended_holds entry end reservations)))

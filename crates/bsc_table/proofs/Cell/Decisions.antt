@@ -14,12 +14,12 @@ use Rattle.bsc_table.specs.declared.accepted.TheConstants.{LATEST_START}
 use Rattle.bsc_table.specs.Claim.{Claim, is_claimed_at, claimed_at}
 use Rattle.bsc_table.specs.Handover.{ahead_of, numbered, handover}
 use Rattle.bsc_table.specs.Record.{Record, Accepted, accepted_in, is_of_pair, rank_of, claim_of, claims_of, claims_in}
-use Rattle.bsc_table.specs.Record.{is_background, place_after, behind_of, excess_over, write_message}
+use Rattle.bsc_table.specs.Record.{is_background_category, place_after, predecessor_of, excess_beyond, write_message}
 use Rattle.bsc_table.specs.Legal.{IsLegal}
 use Rattle.bsc_table.specs.Begun.{StartsNow, Starts, IsBegun}
 use Rattle.bsc_table.specs.Accepted.{accepted_of}
 use Rattle.bsc_table.specs.BookSteps.{stop_numbered, IsLiveIn, IsLiveAs, IsOffered, HasRoom, Decides, DecidesWrites}
-use Rattle.bsc_table.specs.BookSteps.{place_of, left_by}
+use Rattle.bsc_table.specs.BookSteps.{place_found, left_by}
 use Rattle.bsc_table.proofs.History.Pairs.{live_is_standing}
 use Rattle.bsc_table.proofs.History.NextEntry.{new_message, stops_one, starts_one, replaces_one, placed_at, taken_after}
 use Rattle.bsc_table.proofs.History.NextEntry.{claims_stopped}
@@ -64,7 +64,7 @@ kills r id serial completed old legal live =
 -- a write in the place of none starts its message, where that has room
 pub starts : (r : Record) (new : AcceptedMessage)
     → IsOffered r (accepted_of new)
-    → (is_background new.category ≡ false → HasRoom (claims_in r.log) r.clock (load_of new.pages new.period))
+    → (is_background_category new.category ≡ false → HasRoom (claims_in r.log) r.clock (load_of new.pages new.period))
     → DecidesWrites r (accepted_of new) None (decisions.Starts new)
 starts r new offered room (commands.Write id serial None category period broadcasts dcs contents) same =
     let after = starts_one r.log r.clock id serial category period broadcasts dcs contents in
@@ -83,7 +83,7 @@ pub replaces : (r : Record) (old new : AcceptedMessage) (replaced completed : �
     → IsLiveAs r.clock new.id replaced r.log (accepted_of old)
     → IsOffered r (accepted_of new)
     → r.clock < LATEST_START
-    → (is_background new.category ≡ false → HasRoom (left_by r (accepted_of old)) r.clock
+    → (is_background_category new.category ≡ false → HasRoom (left_by r (accepted_of old)) r.clock
     (load_of new.pages new.period))
     → DecidesWrites r (accepted_of new) (Some replaced) (decisions.Replaces old new completed)
 replaces r old new replaced completed legal live offered soon room
@@ -95,7 +95,7 @@ replaces r old new replaced completed legal live offered soon room
     let same_old : named ≡ replaced = cc in
     let Found : ℕ → ℕ → Type 0 = λ i s. find (is_of_pair i s) (accepted_in r.log) ≡ Some a in
     let found = subst (λ i. Found i named) (sym same_id) (subst (Found new.id) (sym same_old) live.found) in
-    let at_once : behind_of r.clock r.clock (Some a) ≡ None =
+    let at_once : predecessor_of r.clock r.clock (Some a) ≡ None =
     ap (λ b. cond b None (ahead_of r.clock (claim_of a))) (eq-eqb r.clock r.clock refl) in
     let after =
     replaces_one r.log r.clock r.clock id serial named completed category period broadcasts dcs contents a None once
@@ -126,16 +126,16 @@ pub takes_over : (r : Record) (old new : AcceptedMessage) (place : FoundPlace) (
     → IsLiveAs r.clock new.id replaced r.log (accepted_of old)
     → IsOffered r (accepted_of new)
     → length (filter (is_claimed_at r.clock) (left_by r (accepted_of old))) < 64
-    → is_background new.category ≡ false
+    → is_background_category new.category ≡ false
     → place_after (left_by r (accepted_of old)) r.clock (accepted_of old) (load_of new.pages new.period) ≡ Some
-    (place_of place)
+    (place_found place)
     → claimed_at (left_by r (accepted_of old)) r.clock + place.excess ≤ SCALE
     → place.start < LATEST_START
     → DecidesWrites r (accepted_of new) (Some replaced) (decisions.Replaces old (waiting_at new place) completed)
 takes_over r old new place replaced completed legal live offered room front after_old fits soon
     (commands.Write id serial (Some named) category period broadcasts dcs contents) same =
     let a : Accepted = accepted_of old in
-    let taken = taken_after (left_by r a) r.clock (load_of new.pages new.period) a (place_of place) after_old in
+    let taken = taken_after (left_by r a) r.clock (load_of new.pages new.period) a (place_found place) after_old in
     let over = taken.1 in
     let all : List Accepted = accepted_in r.log in
     let sound = IsSound-legal r legal in
@@ -148,10 +148,10 @@ takes_over r old new place replaced completed legal live offered room front afte
     let found = subst (λ i. Found i named) (sym same_id) (subst (Found new.id) (sym same_old) live.found) in
     let load : load_of (length contents) period ≡ load_of new.pages new.period =
     ap (λ n. load_of n period) same_pages ∙ ap (λ n. load_of new.pages n) same_period in
-    let placed = placed_at r.log r.clock (load_of new.pages new.period) a (place_of place) sound.order over in
-    let excess : excess_over (load_of (length contents) period) (numbered (Some place.behind) (claims_in r.log)) ≡
+    let placed = placed_at r.log r.clock (load_of new.pages new.period) a (place_found place) sound.order over in
+    let excess : excess_beyond (load_of (length contents) period) (numbered (Some place.behind) (claims_in r.log)) ≡
     place.excess =
-    ap (λ n. excess_over n (numbered (Some place.behind) (claims_in r.log))) load ∙ placed.2 in
+    ap (λ n. excess_beyond n (numbered (Some place.behind) (claims_in r.log))) load ∙ placed.2 in
     let after =
     replaces_one r.log r.clock place.start id serial named completed category period broadcasts dcs contents a
     (Some place.behind) sound.once found standing placed.1 in
@@ -159,7 +159,7 @@ takes_over r old new place replaced completed legal live offered room front afte
     let same_left = sym (claims_stopped old.entry r.clock all) in
     let Room : List Claim → Type 0 = λ claims. length (filter (is_claimed_at r.clock) claims) < 64 in
     let Over : List Claim → Type 0 = λ claims. handover claims r.clock (claim_of a) (load_of new.pages new.period) ≡
-    Some (place_of place) in
+    Some (place_found place) in
     let Fits : List Claim → Type 0 = λ claims. claimed_at claims r.clock + place.excess ≤ SCALE in
     let waits : Accepted = accepted_of (waiting_at new place) in
     let it : write_message (length r.log) r.clock place.start (Some place.behind) place.excess id serial
@@ -179,7 +179,7 @@ takes_over r old new place replaced completed legal live offered room front afte
           some_period = offered.some_period;
           room = λ _. subst Room same_left room;
           starts = inr (record {
-            place = place_of place;
+            place = place_found place;
             over = subst Over same_left over;
             placed = record { behind = refl; start = refl; excess = refl };
             of_reserved = taken.0;

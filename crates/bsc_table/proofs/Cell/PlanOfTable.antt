@@ -11,7 +11,7 @@ use Rattle.admission.specs.declared.budget.NoRoom.{NoRoom}
 use Rattle.admission.specs.declared.budget.NoRoom.TheVariants.{Table, Load}
 use Rattle.admission.specs.declared.measure.TheConstants.{SCALE}
 use Rattle.admission.specs.Reservation.{end_of_stopped}
-use Rattle.admission.specs.Table.{answer_of as answer_by, answer_for, remaining_without}
+use Rattle.admission.specs.Table.{room_answer as answer_by, room_answer_for, remaining_without}
 use Rattle.admission.proofs.Reservations.{end_of_stopped-not_before}
 use Rattle.scheduler.specs.Message.{ScheduledMessage}
 use Rattle.scheduler.specs.Air.{Air}
@@ -130,16 +130,16 @@ few_places claims slot load room is full =
 -- whether a load has room beside the accepted messages
 pub room_now : (r : Record) (load : ℕ)
     → IsLegal r
-    → IsRoom (claims_in r.log) r.clock load (answer_for (reservations_at r.clock (claims_in r.log)) load)
+    → IsRoom (claims_in r.log) r.clock load (room_answer_for (reservations_at r.clock (claims_in r.log)) load)
 room_now r load legal =
-    room_beside r.clock load (claims_in r.log) (answer_for (reservations_at r.clock (claims_in r.log)) load)
+    room_beside r.clock load (claims_in r.log) (room_answer_for (reservations_at r.clock (claims_in r.log)) load)
     (same_room r.clock load (claims_in r.log) (all_behind_one r.clock (claims_in r.log) (IsSound-legal r legal).order))
 
 -- and where a live one of them is stopped: the budget is asked as if that one were gone, where its reservation ends now
 pub room_after_stop : (r : Record) (load : ℕ) (a : Accepted)
     → IsLegal r
     → IsLiveIn r a
-    → IsRoom (left_by r a) r.clock load (answer_for (remaining_without
+    → IsRoom (left_by r a) r.clock load (room_answer_for (remaining_without
     (cond (end_of_stopped a.message.start a.message.period r.clock == r.clock) (Some a.message.entry) None)
     (reservations_at r.clock (claims_in r.log))) load)
 room_after_stop r load a legal live =
@@ -152,6 +152,6 @@ room_after_stop r load a legal live =
     let lasts = (All-contains HasLoad (accepted_in r.log) a sound.loaded live.there).1 in
     let later = end_of_stopped-not_before a.message.start a.message.period slot lasts in
     let asked = room_without slot entry end load reservations later (reservations_are_current slot (claims_in r.log))
-    ∙ ap (λ (l : List Held). answer_for l load) (reservations_without r a legal live) in
-    room_beside slot load left (answer_for (remaining_without (cond (end == slot) (Some entry) None) reservations) load)
+    ∙ ap (λ (l : List Held). room_answer_for l load) (reservations_without r a legal live) in
+    room_beside slot load left (room_answer_for (remaining_without (cond (end == slot) (Some entry) None) reservations) load)
     (asked ∙ same_room slot load left (all_behind_one slot left (left_in_order r a legal live)))

@@ -5,7 +5,7 @@ use Rattle.std.specs.List.{AllPairs, Contains}
 use Rattle.std.proofs.lemmas.Bool.{lt-ltb, le-leb}
 use Rattle.scheduler.specs.Air.{layer}
 use Rattle.admission.specs.declared.measure.TheConstants.{SCALE}
-use Rattle.admission.specs.Table.{answer_of as answer_by, answer_for}
+use Rattle.admission.specs.Table.{room_answer as answer_by, room_answer_for}
 use Rattle.bsc_table.specs.Record.{Accepted, is_live, claim_of, claims_of}
 use Rattle.bsc_table.specs.Claim.{Claim, own_load, is_claimed_at, claimed_at, stop_claims}
 use Rattle.bsc_table.specs.Handover.{handover}
@@ -26,7 +26,7 @@ has_room : (slot load : ℕ) (claims : List Claim)
     → AreInOrder claims slot
     → length (filter (is_claimed_at slot) claims) < 64
     → claimed_at claims slot + load ≤ SCALE
-    → answer_for (reservations_at slot claims) load ≡ Ok tt
+    → room_answer_for (reservations_at slot claims) load ≡ Ok tt
 has_room slot load claims order room fits =
     let places = length (filter (is_claimed_at slot) claims) in
     let yes : answer_by places (claimed_at claims slot) load ≡ Ok tt = rw (
@@ -85,10 +85,10 @@ room_for_replacement entry slot all old a order rising here live begun front =
           let fits = has_room slot place.excess left kept (subst Room same (begun.room front))
           (subst Fits same over.fits) in
           let Started : ℕ → Type 0 = λ start. (slot < start) ×
-          (answer_for (reservations_at slot left) place.excess ≡ Ok tt)
+          (room_answer_for (reservations_at slot left) place.excess ≡ Ok tt)
           × IsHeldFor (reservations_at slot left) (own_load a.message) place.behind start place.excess in
           let Reserved : ℕ → Type 0 = λ excess. (slot < a.message.start)
-          × (answer_for (reservations_at slot left) excess ≡ Ok tt)
+          × (room_answer_for (reservations_at slot left) excess ≡ Ok tt)
           × IsHeldFor (reservations_at slot left) (own_load a.message) place.behind a.message.start excess in
           let with_start = subst Started (sym over.placed.start) (held.0, fits, held.1) in
           subst (HasRoomFor slot (reservations_at slot left) (claim_of a)) (sym over.placed.behind)

@@ -27,7 +27,7 @@ use Rattle.bsc_table.specs.Table.{AreRisingMessages, AreByPair, IsPlaceFound, pa
 use Rattle.bsc_table.specs.Record.{Accepted, is_of_pair}
 use Rattle.bsc_table.specs.Accepted.{accepted_of}
 use Rattle.bsc_table.specs.BookSteps.{accepted_stopped, stop_numbered}
-use Rattle.bsc_table.specs.Record.{is_background, rank_of}
+use Rattle.bsc_table.specs.Record.{is_background_category, rank_of}
 use Rattle.scheduler.specs.Air.{layer, layer_of}
 use Rattle.bsc_table.proofs.History.Ranks.{layer_tells}
 
@@ -499,7 +499,7 @@ none_reserved entry messages others =
 -- and what is: the message of that number, unless it is background
 pub one_reserved : (entry : ℕ) (messages : List AcceptedMessage) (at : ℕ) (d : AcceptedMessage)
     → AreRisingMessages messages → at < length messages → (get_or messages at d).entry ≡ entry → (back : Bool)
-    → back ≡ is_background (get_or messages at d).category
+    → back ≡ is_background_category (get_or messages at d).category
     → find (λ a. (a.message.entry == entry) && (layer a.message == 0)) (map accepted_of messages)
     ≡ (if back then None else Some (accepted_of (get_or messages at d)))
 one_reserved entry [] at d rising within named back is = absurd (omega arith)

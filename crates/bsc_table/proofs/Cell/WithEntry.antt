@@ -28,9 +28,9 @@ use Rattle.bsc_table.specs.Room.{AreInOrder}
 use Rattle.bsc_table.specs.Begun.{IsBegun}
 use Rattle.bsc_table.specs.Accepted.{TableState}
 use Rattle.bsc_table.specs.Book.{air_pairs, record_of}
-use Rattle.bsc_table.specs.BookSteps.{stop_numbered, IsLiveIn, IsNext}
+use Rattle.bsc_table.specs.BookSteps.{stop_numbered, IsLiveIn, IsNextEntry}
 use Rattle.bsc_table.specs.Transitions.{with_entry}
-use Rattle.bsc_table.specs.Book.{IsBook, reservation_for, reservations_at}
+use Rattle.bsc_table.specs.Book.{IsCellBook, reservation_for, reservations_at}
 use Rattle.bsc_table.specs.BookSteps.{left_by}
 use Rattle.bsc_table.proofs.History.Pairs.{OfAnotherPair, BelowIt, live_is_standing}
 use Rattle.bsc_table.proofs.History.EntryNumbers.{numbers_rise, numbers_below}
@@ -52,7 +52,7 @@ answer-with_room r e room =
     cond-false _ _ _ (lt-leb 4096 (length r.log) room)
 
 -- the record with the entry that is to come next is legal
-pub IsLegal-with : (r : Record) (e : Entry) → IsLegal r → IsNext r e → IsLegal (with_entry e r)
+pub IsLegal-with : (r : Record) (e : Entry) → IsLegal r → IsNextEntry r e → IsLegal (with_entry e r)
 IsLegal-with r e legal next =
     let same : entry_with e.command r.clock (answer_of r.slots r.log r.air r.clock e.command) ≡ e =
     ap (λ (answer : Answer). entry_with e.command r.clock answer) (answer-with_room r e next.room ∙ sym next.right)
@@ -308,7 +308,7 @@ few_accepted log = few_numbers (length log) (accepted_in log) (numbers_rise log)
 -- none of those before it has the pair of a message that the next entry adds
 pub apart_from_new : (r : Record) (e : Entry) (all : List Accepted) (new : Accepted)
     → IsLegal r
-    → IsNext r e
+    → IsNextEntry r e
     → accepted_in (r.log ++ e ∷ []) ≡ all ++ new ∷ []
     → All (λ a. is_of_pair a.id a.serial new ≡ false) all
 apart_from_new r e all new legal next after = λ k d h.
@@ -323,13 +323,13 @@ apart_from_new r e all new legal next after = λ k d h.
 -- it
 pub book_with : (b : Inside) (e : Entry) (log : Vec Entry) (accepted : TableState) (plan : PlanState)
     (budget : List Held)
-    → IsBook b
-    → IsNext (record_of b) e
+    → IsCellBook b
+    → IsNextEntry (record_of b) e
     → log.items ≡ b.log.items ++ e ∷ []
     → accepted.all ≡ accepted_in (b.log.items ++ e ∷ [])
     → Follows plan (messages_in (b.log.items ++ e ∷ [])) (air_pairs b.air.items)
     → budget ≡ reservations_at b.clock (claims_in (b.log.items ++ e ∷ []))
-    → IsBook (record b { log = log; accepted = accepted; plan = plan; budget = budget })
+    → IsCellBook (record b { log = log; accepted = accepted; plan = plan; budget = budget })
 book_with b e log accepted plan budget book next grown kept follows held =
     let Legal : List Entry → Type 0 = λ l. IsLegal (record (record_of b) { log = l }) in
     let KeptBy : List Entry → Type 0 = λ l. accepted.all ≡ accepted_in l in

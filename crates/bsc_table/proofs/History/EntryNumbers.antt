@@ -8,7 +8,7 @@ use Rattle.std.proofs.lemmas.List.Quantifiers.{all_pairs_push}
 use Rattle.bsc_table.specs.declared.command.Command.{Command}
 use Rattle.bsc_table.specs.declared.command.Command.TheVariants as commands
 use Rattle.bsc_table.specs.declared.entry.Entry.{Entry}
-use Rattle.bsc_table.specs.Record.{Accepted, start_of, rank_of, stopped_by, replaced_in, behind_of, written_behind}
+use Rattle.bsc_table.specs.Record.{Accepted, start_of, rank_of, stopped_by, replaced_in, predecessor_of, written_behind}
 use Rattle.bsc_table.specs.Record.{added_by, accepted_after, accepted_from, accepted_in}
 use Rattle.bsc_table.proofs.History.Pairs.{BelowIt}
 
@@ -49,7 +49,7 @@ numbered_with all before place slot (Some start) (commands.Status id serial) num
     numbered
 numbered_with all before place slot (Some start) (commands.Write id serial replaces category period broadcasts dcs
     contents) numbered =
-    let new : Accepted = written_behind all place slot start (behind_of slot start (replaced_in all id replaces)) id
+    let new : Accepted = written_behind all place slot start (predecessor_of slot start (replaced_in all id replaces)) id
     serial (length contents) period broadcasts (rank_of category) in
     record {
       rising = all_pairs_push BelowIt before new numbered.rising (λ k d h. numbered.below k d h);

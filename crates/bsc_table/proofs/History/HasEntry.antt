@@ -14,7 +14,7 @@ use Rattle.bsc_table.specs.declared.entry.Answer.TheVariants as answers
 use Rattle.bsc_table.specs.declared.entry.Entry.{Entry}
 use Rattle.bsc_table.specs.Claim.{Claim, is_claimed_at, claimed_at, stop_claims}
 use Rattle.bsc_table.specs.Handover.{Place}
-use Rattle.bsc_table.specs.Record.{Accepted, accepted_named, message_named, claims_in, is_background, place_after}
+use Rattle.bsc_table.specs.Record.{Accepted, accepted_named, message_named, claims_in, is_background_category, place_after}
 use Rattle.bsc_table.specs.Record.{is_live}
 use Rattle.bsc_table.specs.Answer.{answer_at, admit_or_refuse, answer_for, answer_to_new, answer_to_replacement}
 use Rattle.bsc_table.specs.Answer.{unless_accepted, if_live, answer_to_write, answer_to_kill, status_answer}
@@ -43,7 +43,7 @@ of_category category claims slot load place accepts has =
     let beside : HasOne (admit_or_refuse claims slot load place accepts) = cond_both
     (leb 64 (length (filter (is_claimed_at slot) claims))) (answers.Cause 0x07) now HasOne (λ _. refl) (λ _. fits)
     in
-    cond_both (is_background category) (accepts slot) (admit_or_refuse claims slot load place accepts) HasOne
+    cond_both (is_background_category category) (accepts slot) (admit_or_refuse claims slot load place accepts) HasOne
     (λ _. has slot) (λ _. beside)
 
 of_pair : (named : Option ScheduledMessage) (answer : Answer) → HasOne answer → HasOne (unless_accepted named answer)

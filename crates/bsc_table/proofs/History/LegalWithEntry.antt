@@ -17,7 +17,7 @@ use Rattle.bsc_table.specs.declared.entry.Entry.{Entry}
 use Rattle.bsc_table.specs.Orders.{IsWellFormed}
 use Rattle.bsc_table.specs.Record.{Record, Accepted, accepted_in, messages_in, is_live}
 use Rattle.bsc_table.specs.Answer.{answer_of}
-use Rattle.bsc_table.specs.Legal.{IsAnswered, IsLegal}
+use Rattle.bsc_table.specs.Legal.{HasItsAnswer, IsLegal}
 use Rattle.bsc_table.proofs.History.Pairs.{BelowIt, live_is_standing}
 use Rattle.bsc_table.proofs.History.EntryNumbers.{numbers_rise}
 use Rattle.bsc_table.specs.Begun.{IsBegun}
@@ -86,11 +86,11 @@ IsAirOf-entry log e air outcome before airs =
 -- the answers of a log with one more
 answered_with : (r : Record) (command : Command) → IsLegal r →
     (let e = entry_with command r.clock (answer_of r.slots r.log r.air r.clock command) in (i : ℕ) (d : Entry)
-    → i < length (r.log ++ e ∷ []) → IsAnswered r.slots (take i (r.log ++ e ∷ [])) r.air (get_or (r.log ++ e ∷ []) i d))
+    → i < length (r.log ++ e ∷ []) → HasItsAnswer r.slots (take i (r.log ++ e ∷ [])) r.air (get_or (r.log ++ e ∷ []) i d))
 answered_with r command legal i d within =
     let e : Entry = entry_with command r.clock (answer_of r.slots r.log r.air r.clock command) in
     let long = length_push r.log e in
-    let P : List Entry → Entry → Type 0 = λ before x. IsAnswered r.slots before r.air x in
+    let P : List Entry → Entry → Type 0 = λ before x. HasItsAnswer r.slots before r.air x in
     elim (cases_lt i (length r.log)) [
       | inl earlier ↦
           let front : take i (r.log ++ e ∷ []) ≡ take i r.log = take-append-le i r.log (e ∷ []) (omega arith) in

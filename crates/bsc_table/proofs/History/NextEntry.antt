@@ -23,8 +23,8 @@ use Rattle.bsc_table.specs.declared.entry.Answer.{Answer}
 use Rattle.bsc_table.specs.declared.entry.Answer.TheVariants as answers
 use Rattle.bsc_table.specs.declared.entry.Entry.{Entry}
 use Rattle.bsc_table.specs.Orders.{IsBroadcastable, IsWellFormed}
-use Rattle.bsc_table.specs.Record.{Accepted, start_of, is_stop_by, is_stop_of, stopped_by, behind_of, excess_over}
-use Rattle.bsc_table.specs.Record.{written_behind, added_by, accepted_in, rank_of, is_background, place_after}
+use Rattle.bsc_table.specs.Record.{Accepted, start_of, is_stop_by, is_stop_of, stopped_by, predecessor_of, excess_beyond}
+use Rattle.bsc_table.specs.Record.{written_behind, added_by, accepted_in, rank_of, is_background_category, place_after}
 use Rattle.bsc_table.specs.Record.{is_of_pair, message_found, message_named, is_live, claim_of, claims_of, claims_in}
 use Rattle.bsc_table.specs.Claim.{Claim, own_load, reserves, is_claimed_at, claimed_at, stop_claims}
 use Rattle.bsc_table.specs.Handover.{Place, ahead_of, numbered, handover}
@@ -120,7 +120,7 @@ pub replaces_one : (log : List Entry) (slot start id serial old completed : ℕ)
     → AllPairs OfAnotherPair (accepted_in log)
     → find (is_of_pair id old) (accepted_in log) ≡ Some a
     → a.message.stop ≡ None
-    → behind_of slot start (Some a) ≡ behind
+    → predecessor_of slot start (Some a) ≡ behind
     → accepted_in (log ++ entry_with (commands.Write id serial (Some old) category period broadcasts dcs contents) slot
     (answers.Replaced start completed) ∷ []) ≡ map (stop_numbered a.message.entry slot) (accepted_in log) ++
     new_message (accepted_in log) (length log) slot start behind id serial category period broadcasts contents ∷ []
@@ -132,9 +132,9 @@ replaces_one log slot start id serial old completed category period broadcasts d
     let stopped = map (stop_numbered a.message.entry slot) all in
     let adds : Option ℕ → List Accepted = λ by. new_message all (length log) slot start by id serial category period
     broadcasts contents ∷ [] in
-    let by = ap (behind_of slot start) found ∙ waits in
+    let by = ap (predecessor_of slot start) found ∙ waits in
     accepted_in-push log e
-    ∙ ap (λ (l : List Accepted). l ++ adds (behind_of slot start (find (is_of_pair id old) all)))
+    ∙ ap (λ (l : List Accepted). l ++ adds (predecessor_of slot start (find (is_of_pair id old) all)))
     (stopped_by_pair id old slot all a once (numbers_rise log) found standing)
     ∙ ap (λ (o : Option ℕ). stopped ++ adds o) by
 
@@ -233,7 +233,7 @@ pub for_cases : (P : Answer → Type 0) (category : Category) (claims : List Cla
     → place ≡ Some p → claimed_at claims slot + p.excess ≤ SCALE → P (accepts p.start))
     → P (answer_for category claims slot load place accepts)
 for_cases P category claims slot load place accepts refuses now later =
-    cond_both (is_background category) (accepts slot) (admit_or_refuse claims slot load place accepts) P
+    cond_both (is_background_category category) (accepts slot) (admit_or_refuse claims slot load place accepts) P
     (λ is. now (λ front. absurd (not_in_front category is front))
     (λ front. absurd (not_in_front category is front))) (λ is. beside_cases P claims slot load place accepts
     refuses (λ room fits. now (λ _. room) (λ _. fits)) (later (in_front category is)))
@@ -342,8 +342,8 @@ new_outcome log slot id serial category period broadcasts dcs contents formed =
 pub placed_at : (log : List Entry) (slot load : ℕ) (old : Accepted) (place : Place)
     → AreInOrder (claims_in log) slot
     → handover (stop_claims old.message.entry slot (claims_in log)) slot (claim_of old) load ≡ Some place
-    → (slot < place.start) × (behind_of slot place.start (Some old) ≡ Some place.behind)
-    × (excess_over load (numbered (Some place.behind) (claims_in log)) ≡ place.excess)
+    → (slot < place.start) × (predecessor_of slot place.start (Some old) ≡ Some place.behind)
+    × (excess_beyond load (numbered (Some place.behind) (claims_in log)) ≡ place.excess)
 placed_at log slot load old place order over =
     let claims = claims_in log in
     let entry = old.message.entry in
@@ -354,14 +354,14 @@ placed_at log slot load old place order over =
     let numbers : p.message.entry ≡ c.message.entry = ap (λ (x : Claim). x.message.entry) from.2 in
     let loads : own_load p.message ≡ own_load c.message = ap (λ (x : Claim). own_load x.message) from.2 in
     let apart : place.start ≡ slot → ⊥ = λ same. omega (arith, took.later, same) in
-    let behind : behind_of slot place.start (Some old) ≡ Some place.behind =
+    let behind : predecessor_of slot place.start (Some old) ≡ Some place.behind =
     ap (λ (b : Bool). cond b None (ahead_of slot (claim_of old))) (ne_eqb place.start slot apart) ∙ took.entry
     ∙ ap (λ (n : ℕ). Some n) (sym took.named) in
     let named : Some place.behind ≡ Some c.message.entry = ap (λ (n : ℕ). Some n) (took.named ∙ numbers) in
     let found = find_number claims c (find (λ x. x.message.entry == c.message.entry) claims) order.rising from.1 refl
     in
-    let excess : excess_over load (numbered (Some place.behind) claims) ≡ load - own_load c.message =
-    ap (λ (o : Option ℕ). excess_over load (numbered o claims)) named ∙ ap (excess_over load) found in
+    let excess : excess_beyond load (numbered (Some place.behind) claims) ≡ load - own_load c.message =
+    ap (λ (o : Option ℕ). excess_beyond load (numbered o claims)) named ∙ ap (excess_beyond load) found in
     (took.later, behind, omega (arith, excess, took.excess, loads))
 
 replacement_outcome : (log : List Entry) (air : Air) (slot id serial old : ℕ) (category : Category)
@@ -394,7 +394,7 @@ replacement_outcome log air slot id serial old category period broadcasts dcs co
     (refused log slot command) (λ room fits.
     let Fits : List Claim → Type 0 = λ claims. layer_of (rank_of category) ≡ 0
     → claimed_at claims slot + load ≤ SCALE in
-    let at_once : behind_of slot slot (Some a) ≡ None = ap (λ (b : Bool). cond b None (ahead_of slot (claim_of a)))
+    let at_once : predecessor_of slot slot (Some a) ≡ None = ap (λ (b : Bool). cond b None (ahead_of slot (claim_of a)))
     (eq-eqb slot slot refl) in
     record {
       stopped = Some a;

@@ -10,30 +10,30 @@ use Rattle.scheduler.specs.Air.{layer, layer_of}
 use Rattle.bsc_table.specs.declared.command.Category.{Category}
 use Rattle.bsc_table.specs.declared.command.Category.TheVariants.{High, Normal, Background}
 use Rattle.bsc_table.specs.Claim.{Claim, reserves, stop_claim, stop_claims}
-use Rattle.bsc_table.specs.Record.{Accepted, rank_of, is_background, claim_of, claims_of}
+use Rattle.bsc_table.specs.Record.{Accepted, rank_of, is_background_category, claim_of, claims_of}
 use Rattle.bsc_table.proofs.Room.Ahead.{by_number}
 use Rattle.bsc_table.proofs.History.Pairs.{BelowIt}
 
 -- the category says the layer
-pub in_front : (category : Category) → is_background category ≡ false → layer_of (rank_of category) ≡ 0
+pub in_front : (category : Category) → is_background_category category ≡ false → layer_of (rank_of category) ≡ 0
 in_front High is = refl
 in_front Normal is = refl
 in_front Background is = absurd (false≢true (sym is))
 
 -- a background message isn't in the front layer
-pub not_in_front : (category : Category) → is_background category ≡ true → layer_of (rank_of category) ≡ 0 → ⊥
+pub not_in_front : (category : Category) → is_background_category category ≡ true → layer_of (rank_of category) ≡ 0 → ⊥
 not_in_front High is front = false≢true is
 not_in_front Normal is front = false≢true is
 not_in_front Background is front = omega arith
 
 -- and what is in the front layer isn't background
-pub is_front : (category : Category) → layer_of (rank_of category) ≡ 0 → is_background category ≡ false
+pub is_front : (category : Category) → layer_of (rank_of category) ≡ 0 → is_background_category category ≡ false
 is_front High front = refl
 is_front Normal front = refl
 is_front Background front = absurd (omega arith)
 
 -- the test of the layer is that of the category
-pub layer_tells : (category : Category) → (layer_of (rank_of category) == 0) ≡ not (is_background category)
+pub layer_tells : (category : Category) → (layer_of (rank_of category) == 0) ≡ not (is_background_category category)
 layer_tells High = refl
 layer_tells Normal = refl
 layer_tells Background = refl

@@ -18,9 +18,9 @@ use Rattle.bsc_table.specs.declared.entry.Entry.{Entry}
 use Rattle.bsc_table.specs.Claim.{Claim, reserves}
 use Rattle.bsc_table.specs.Handover.{ahead_of, numbered}
 use Rattle.bsc_table.specs.Record.{Accepted, claim_of, claims_of, start_of, rank_of, is_stop_by, is_stop_of, is_of_pair}
-use Rattle.bsc_table.specs.Record.{stopped_by, replaced_in, behind_of, excess_over, write_message, written_behind}
+use Rattle.bsc_table.specs.Record.{stopped_by, replaced_in, predecessor_of, excess_beyond, write_message, written_behind}
 use Rattle.bsc_table.specs.Record.{added_by, accepted_after, accepted_from, accepted_in}
-use Rattle.bsc_table.specs.Refusals.{is_stopped, is_accepted, accepted_entries, accepted_renumbered}
+use Rattle.bsc_table.specs.Refusals.{is_kill_answer, is_accepted, accepted_entries, accepted_renumbered}
 use Rattle.bsc_table.specs.Refusals.{AcceptedEntriesAreAll}
 use Rattle.bsc_table.proofs.History.Pairs.{map_agree, stopped_once-false}
 
@@ -60,7 +60,7 @@ found (e ∷ log) n = found_by (is_accepted e) e log (accepted_entries log) n (�
 -- a stop is an accepted entry
 stops_by : (id serial : ℕ) (command : Command) (answer : Answer)
     → is_stop_by id serial command answer ≡ true
-    → (is_some (start_of answer) || is_stopped answer) ≡ true
+    → (is_some (start_of answer) || is_kill_answer answer) ≡ true
 stops_by id serial (commands.Kill of_id of_serial) (answers.Stopped completed) h = refl
 stops_by id serial (commands.Kill of_id of_serial) (answers.Started slot) h = refl
 stops_by id serial (commands.Kill of_id of_serial) (answers.Replaced slot completed) h = refl
@@ -110,7 +110,7 @@ unmoved all place e refused =
     let a : Accepted = get_or all k d in
     stopped_once-false (is_stop_of a.id a.serial e) e.slot a (stops_none a.id a.serial e refused)) ∙ map-id all in
     ap (λ (l : List Accepted). map (stopped_by e) all ++ l) (adds_none all place e.slot (start_of e.answer) e.command
-    (neither (is_some (start_of e.answer)) (is_stopped e.answer) refused).0)
+    (neither (is_some (start_of e.answer)) (is_kill_answer e.answer) refused).0)
     ∙ append-nil (map (stopped_by e) all)
     ∙ stopped
 
@@ -147,7 +147,7 @@ waits_alike f true ahead under same = refl
 waits_alike f false ahead under same = same
 
 behind_alike : (f : ℕ → ℕ) (slot start : ℕ) (found : Option Accepted)
-    → behind_of slot start (option_map (accepted_renumbered f) found) ≡ option_map f (behind_of slot start found)
+    → predecessor_of slot start (option_map (accepted_renumbered f) found) ≡ option_map f (predecessor_of slot start found)
 behind_alike f slot start None = refl
 behind_alike f slot start (Some old) =
     waits_alike f (start == slot) (ahead_of slot (claim_of old)) (ahead_of slot (claim_of (accepted_renumbered f old)))
@@ -169,7 +169,7 @@ same_number f keeps a b =
 excess_alike : (f : ℕ → ℕ)
     → KeepsOrder f
     → (load : ℕ) (behind : Option ℕ) (front : List Accepted)
-    → excess_over load (numbered (option_map f behind) (claims_of (map (accepted_renumbered f) front))) ≡ excess_over
+    → excess_beyond load (numbered (option_map f behind) (claims_of (map (accepted_renumbered f) front))) ≡ excess_beyond
     load (numbered behind (claims_of front))
 excess_alike f keeps load None front = refl
 excess_alike f keeps load (Some entry) [] = refl
@@ -177,27 +177,27 @@ excess_alike f keeps load (Some entry) (a ∷ front) =
     let all = claims_of (map (accepted_renumbered f) front) in
     let renamed : Claim = claim_of (accepted_renumbered f a) in
     let rest = excess_alike f keeps load (Some entry) front in
-    let here = ap (λ (b : Bool). excess_over load (cond b (Some renamed) (numbered (Some (f entry)) all)))
+    let here = ap (λ (b : Bool). excess_beyond load (cond b (Some renamed) (numbered (Some (f entry)) all)))
     (same_number f keeps a.message.entry entry) ∙ one (a.message.entry == entry) rest in
     claimed (reserves (claim_of a)) here rest
   where
     claimed : (says : Bool)
-        → excess_over load (numbered (Some (f entry)) (claim_of (accepted_renumbered f a) ∷ claims_of
-        (map (accepted_renumbered f) front))) ≡ excess_over load
+        → excess_beyond load (numbered (Some (f entry)) (claim_of (accepted_renumbered f a) ∷ claims_of
+        (map (accepted_renumbered f) front))) ≡ excess_beyond load
         (numbered (Some entry) (claim_of a ∷ claims_of front))
-        → excess_over load (numbered (Some (f entry)) (claims_of (map (accepted_renumbered f) front))) ≡ excess_over
+        → excess_beyond load (numbered (Some (f entry)) (claims_of (map (accepted_renumbered f) front))) ≡ excess_beyond
         load (numbered (Some entry) (claims_of front))
-        → excess_over load (numbered (Some (f entry)) (cond says
+        → excess_beyond load (numbered (Some (f entry)) (cond says
         (claim_of (accepted_renumbered f a) ∷ claims_of (map (accepted_renumbered f) front))
-        (claims_of (map (accepted_renumbered f) front)))) ≡ excess_over load
+        (claims_of (map (accepted_renumbered f) front)))) ≡ excess_beyond load
         (numbered (Some entry) (cond says (claim_of a ∷ claims_of front) (claims_of front)))
     claimed true here rest = here
     claimed false here rest = rest
 
-    one : (says : Bool) → excess_over load (numbered (Some (f entry)) (claims_of (map (accepted_renumbered f) front)))
-        ≡ excess_over load (numbered (Some entry) (claims_of front))
-        → excess_over load (cond says (Some (claim_of (accepted_renumbered f a)))
-        (numbered (Some (f entry)) (claims_of (map (accepted_renumbered f) front)))) ≡ excess_over load
+    one : (says : Bool) → excess_beyond load (numbered (Some (f entry)) (claims_of (map (accepted_renumbered f) front)))
+        ≡ excess_beyond load (numbered (Some entry) (claims_of front))
+        → excess_beyond load (cond says (Some (claim_of (accepted_renumbered f a)))
+        (numbered (Some (f entry)) (claims_of (map (accepted_renumbered f) front)))) ≡ excess_beyond load
         (cond says (Some (claim_of a)) (numbered (Some entry) (claims_of front)))
     one true rest = refl
     one false rest = rest
@@ -209,21 +209,21 @@ written_alike : (f : ℕ → ℕ)
     (pages period broadcasts : ℕ) (rank : Rank)
     → f among ≡ place
     → written_behind (map (accepted_renumbered f) front) place slot start
-    (behind_of slot start (replaced_in (map (accepted_renumbered f) front) id replaces)) id serial pages period
+    (predecessor_of slot start (replaced_in (map (accepted_renumbered f) front) id replaces)) id serial pages period
     broadcasts rank ≡ accepted_renumbered f (written_behind front among slot start
-    (behind_of slot start (replaced_in front id replaces)) id serial pages period broadcasts rank)
+    (predecessor_of slot start (replaced_in front id replaces)) id serial pages period broadcasts rank)
 written_alike f keeps front place among slot start id serial replaces pages period broadcasts rank at =
     let all = map (accepted_renumbered f) front in
     let load = load_of pages period in
-    let behind = behind_of slot start (replaced_in front id replaces) in
-    let waits : behind_of slot start (replaced_in all id replaces) ≡ option_map f behind =
-    ap (behind_of slot start) (replaced_alike f id replaces front)
+    let behind = predecessor_of slot start (replaced_in front id replaces) in
+    let waits : predecessor_of slot start (replaced_in all id replaces) ≡ option_map f behind =
+    ap (predecessor_of slot start) (replaced_alike f id replaces front)
     ∙ behind_alike f slot start (replaced_in front id replaces) in
     ap (λ (o : Option ℕ). written_behind all place slot start o id serial pages period broadcasts rank) waits
     ∙ ap (λ (excess : ℕ). write_message place slot start (option_map f behind) excess id serial pages period broadcasts
     rank) (excess_alike f keeps load behind front)
     ∙ ap (λ (n : ℕ). write_message n slot start (option_map f behind)
-    (excess_over load (numbered behind (claims_of front))) id serial pages period broadcasts rank) (sym at)
+    (excess_beyond load (numbered behind (claims_of front))) id serial pages period broadcasts rank) (sym at)
 
 added_alike : (f : ℕ → ℕ)
     → KeepsOrder f

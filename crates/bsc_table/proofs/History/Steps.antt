@@ -15,7 +15,7 @@ use Rattle.bsc_table.specs.declared.entry.Entry.{Entry}
 use Rattle.bsc_table.specs.Orders.{IsWellFormed}
 use Rattle.bsc_table.specs.Record.{Record, messages_in}
 use Rattle.bsc_table.specs.Answer.{answer_of, answer_with_room}
-use Rattle.bsc_table.specs.Legal.{IsLegal, IsAnswered}
+use Rattle.bsc_table.specs.Legal.{IsLegal, HasItsAnswer}
 use Rattle.bsc_table.specs.Transitions.{opened, has_entry, answered_with, IsPlayedUpTo, Ask, Play, StepOfCell, IsStep}
 use Rattle.bsc_table.specs.Transitions.{IsReached, IsWellFormedStep, OpenedAreLegal, StepKeepsLegal, StepsKeepLegal}
 use Rattle.bsc_table.proofs.History.LegalWithEntry.{IsLegal-entry}
@@ -97,7 +97,7 @@ legal_played slot before after ahead within legal played =
     let Known : List Entry → Type 0 = λ log. All (λ (e : Entry). e.slot ≤ after.clock) log in
     let Formed : List Entry → Type 0 = λ log. All (λ (e : Entry). IsWellFormed e.command) log in
     let Answered : List Entry → ℕ → Air → Type 0 = λ log slots air. (i : ℕ) (d : Entry) → i < length log
-    → IsAnswered slots (take i log) air (get_or log i d) in
+    → HasItsAnswer slots (take i log) air (get_or log i d) in
     let By : List Entry → Air → Type 0 = λ log air. IsAirOf (messages_in log) air in
     let chosen = λ (at : ℕ) (from : length before.air ≤ at) (upto : at < length (before.air ++ more)).
     let Chosen : Air → Type 0 = λ air. IsChosen (messages_in before.log) air at (get_or air at None) in

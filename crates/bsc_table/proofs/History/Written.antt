@@ -10,7 +10,7 @@ use Rattle.bsc_table.specs.declared.command.Command.{Command}
 use Rattle.bsc_table.specs.declared.command.Command.TheVariants as commands
 use Rattle.bsc_table.specs.declared.entry.Answer.{Answer}
 use Rattle.bsc_table.specs.declared.entry.Entry.{Entry}
-use Rattle.bsc_table.specs.Record.{Accepted, start_of, rank_of, stopped_by, replaced_in, behind_of, written_behind}
+use Rattle.bsc_table.specs.Record.{Accepted, start_of, rank_of, stopped_by, replaced_in, predecessor_of, written_behind}
 use Rattle.bsc_table.specs.Record.{added_by, accepted_after, accepted_from, accepted_in, messages_in}
 use Rattle.bsc_table.specs.Written.{IsWriteBy, AcceptedAreWrites, HasPage, UsesAreOfWrites}
 use Rattle.bsc_table.proofs.History.NextEntry.{entry_with}
@@ -34,7 +34,7 @@ added_is_written : (log : List Entry) (d : Entry) (all : List Accepted) (place s
     → start_of answer ≡ start → All (IsWritten log d) (added_by all place slot start command)
 added_is_written log d all place slot answer (commands.Write id serial replaces category period broadcasts dcs
     contents) (Some start) within here told =
-    let a : Accepted = written_behind all place slot start (behind_of slot start (replaced_in all id replaces)) id
+    let a : Accepted = written_behind all place slot start (predecessor_of slot start (replaced_in all id replaces)) id
     serial (length contents) period broadcasts (rank_of category) in
     let Here : Entry → Type 0 = λ x. IsWriteBy a x.command (start_of x.answer) in
     All-cons (IsWritten log d) a [] (

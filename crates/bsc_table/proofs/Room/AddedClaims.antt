@@ -8,7 +8,7 @@ use Rattle.std.proofs.lemmas.List.Quantifiers.{all_pairs_push}
 use Rattle.std.proofs.lemmas.List.Sums.{sum_by_push}
 use Rattle.admission.specs.declared.measure.TheConstants.{SCALE}
 use Rattle.bsc_table.specs.Claim.{Claim, IsWaiting, claim_at, claimed_at, is_claimed_at, own_load}
-use Rattle.bsc_table.specs.Room.{HandsOver, AreInOrder, ClaimsFit, IsNew, StartKeepsRoom}
+use Rattle.bsc_table.specs.Room.{HandsOverTo, AreInOrder, ClaimsFit, IsNew, StartKeepsRoom}
 use Rattle.bsc_table.proofs.Room.Claims.{is_claimed_at-says, claim_at-before, claim_at-free, claim_at-reserved}
 use Rattle.bsc_table.proofs.Room.Claims.{share_at-started, share_at-waiting}
 use Rattle.bsc_table.proofs.Room.NeverRises.{reserved_never_rises}
@@ -25,7 +25,7 @@ Any-left P claims c found = (
 
 -- claims stay in order with a new one, if another hands over to it alone, or it starts at once
 pub in_order-add : (claims : List Claim) (now : ℕ) (c : Claim) → AreInOrder claims now → IsNew claims now c
-    → c.accepted ≤ c.message.start → (IsWaiting now c → Any (λ p. HandsOver p c) claims)
+    → c.accepted ≤ c.message.start → (IsWaiting now c → Any (λ p. HandsOverTo p c) claims)
     → All (λ v. IsWaiting now v → IsWaiting now c → v.behind ≢ c.behind) claims → AreInOrder (claims ++ c ∷ []) now
 in_order-add claims now c order new forward handed apart = record {
   rising = all_pairs_push (λ a b. a.message.entry < b.message.entry) claims c order.rising
@@ -33,9 +33,9 @@ in_order-add claims now c order new forward handed apart = record {
   accepted = All-push (λ (x : Claim). x.accepted ≤ now) claims c order.accepted (omega (arith, new.accepted));
   forward = All-push (λ (x : Claim). x.accepted ≤ x.message.start) claims c order.forward forward;
   periods = All-push (λ (x : Claim). 0 < x.message.period) claims c order.periods new.period;
-  handed = All-push (λ (w : Claim). IsWaiting now w → Any (λ p. HandsOver p w) (claims ++ c ∷ [])) claims c
-      (λ k d h. λ waiting. Any-left (λ p. HandsOver p (get_or claims k d)) claims c (order.handed k d h waiting))
-      (λ waiting. Any-left (λ p. HandsOver p c) claims c (handed waiting));
+  handed = All-push (λ (w : Claim). IsWaiting now w → Any (λ p. HandsOverTo p w) (claims ++ c ∷ [])) claims c
+      (λ k d h. λ waiting. Any-left (λ p. HandsOverTo p (get_or claims k d)) claims c (order.handed k d h waiting))
+      (λ waiting. Any-left (λ p. HandsOverTo p c) claims c (handed waiting));
   alone = all_pairs_push (λ v w. IsWaiting now v → IsWaiting now w → v.behind ≢ w.behind) claims c order.alone
       (λ k d h. apart k d h);
 }

@@ -10,7 +10,7 @@ use Rattle.admission.specs.Reservation.{IsBeforeEnd, is_before_end}
 use Rattle.admission.proofs.Matched.{matched, sum_by-member, sum_by-plus, sum_by-same}
 use Rattle.admission.proofs.Reservations.{is_before_end-says, is_before_end-from}
 use Rattle.bsc_table.specs.Claim.{Claim, is_claimed_at, claim_at, end_of, own_load, IsWaiting}
-use Rattle.bsc_table.specs.Room.{HandsOver, AreInOrder, ReservedNeverRises}
+use Rattle.bsc_table.specs.Room.{HandsOverTo, AreInOrder, ReservedNeverRises}
 use Rattle.bsc_table.proofs.Room.Claims.{is_claimed_at-says, IsBeforeEnd-sooner, claim_at-reserved, claim_at-free}
 use Rattle.bsc_table.proofs.Room.Claims.{share_at-waiting, share_at-started, claim_at-after}
 
@@ -57,7 +57,7 @@ abbrev gain : ℕ → ℕ → Claim → ℕ
 gain t u c = claim_at u c - claim_at t c
 
 -- the one that hands over loses its own load
-loses_all : (t u : ℕ) (p w : Claim) → HandsOver p w → w.accepted ≤ t → t < w.message.start → w.message.start ≤ u
+loses_all : (t u : ℕ) (p w : Claim) → HandsOverTo p w → w.accepted ≤ t → t < w.message.start → w.message.start ≤ u
     → loss t u p ≡ own_load p.message
 loses_all t u p w over accepted before after =
     let gone = claim_at-after u w.message.start p over.ends after in
@@ -93,7 +93,7 @@ covered claims now t u order from later = λ k d within.
                   ) in
                   let found = order.handed k d within waiting in
                   let p : Claim = found.1 in
-                  let over : HandsOver p w = found.4 in
+                  let over : HandsOverTo p w = found.4 in
                   let term : Claim → ℕ = λ x. cond (waits_for now w x) (loss t u x) 0 in
                   let member = sum_by-member term claims found.0 p found.2 in
                   let there = ap term found.3 in

@@ -7,7 +7,7 @@ use Rattle.std.proofs.lemmas.List.{get_or-map, length-map}
 use Rattle.std.proofs.lemmas.List.Elements.{All-map}
 use Rattle.bsc_table.specs.Claim.{Claim, IsWaiting, stop_claim, stop_claims}
 use Rattle.bsc_table.specs.Record.{is_live}
-use Rattle.bsc_table.specs.Room.{HandsOver, AreInOrder, StopKeepsRoom}
+use Rattle.bsc_table.specs.Room.{HandsOverTo, AreInOrder, StopKeepsRoom}
 use Rattle.bsc_table.proofs.Room.StoppedClaims.{standing_of, waits_on, stop_claim-other, ClaimsFit-stop}
 
 -- a relation between what a map gives
@@ -25,7 +25,7 @@ pairs_map R f claims each = λ i j d before within.
 -- one that hands over is stopped, so that it isn't live
 pub not_live : (claims : List Claim) (entry now k : ℕ) (p w : Claim)
     → All (λ c. c.message.entry ≡ entry → is_live now c.message ≡ true) claims → k < length claims
-    → get_or claims k p ≡ p → HandsOver p w → p.message.entry ≢ entry
+    → get_or claims k p ≡ p → HandsOverTo p w → p.message.entry ≢ entry
 not_live claims entry now k p w live within there over =
     λ same.
     let Named : Claim → Type 0 = λ c. c.message.entry ≡ entry → is_live now c.message ≡ true in
@@ -35,17 +35,17 @@ not_live claims entry now k p w live within there over =
 
 handed_on : (claims : List Claim) (entry now : ℕ) (w : Claim)
     → All (λ c. c.message.entry ≡ entry → is_live now c.message ≡ true) claims → 0 < w.message.period
-    → (IsWaiting now w → Any (λ p. HandsOver p w) claims) → IsWaiting now (stop_claim entry now w)
-    → Any (λ p. HandsOver p (stop_claim entry now w)) (map (stop_claim entry now) claims)
+    → (IsWaiting now w → Any (λ p. HandsOverTo p w) claims) → IsWaiting now (stop_claim entry now w)
+    → Any (λ p. HandsOverTo p (stop_claim entry now w)) (map (stop_claim entry now) claims)
 handed_on claims entry now w live some handed waiting =
     let f = stop_claim entry now in
     let others = waits_on now entry w some waiting in
     let found = handed others.1 in
     let p : Claim = found.1 in
-    let over : HandsOver p w = found.4 in
+    let over : HandsOverTo p w = found.4 in
     let stays = stop_claim-other entry now p (not_live claims entry now found.0 p w live found.2 found.3 over) in
     let there : get_or (map f claims) found.0 p ≡ p = get_or-map f claims found.0 p p found.2 ∙ ap f found.3 ∙ stays in
-    let Over : Claim → Type 0 = λ x. HandsOver p x in (
+    let Over : Claim → Type 0 = λ x. HandsOverTo p x in (
       found.0,
       p,
       omega (arith, found.2, length-map claims f),
@@ -65,7 +65,7 @@ in_order-stop claims entry now order live =
       accepted = All-map (λ (c : Claim). c.accepted ≤ now) f claims order.accepted;
       forward = All-map (λ (c : Claim). c.accepted ≤ c.message.start) f claims order.forward;
       periods = All-map (λ (c : Claim). 0 < c.message.period) f claims order.periods;
-      handed = All-map (λ (w : Claim). IsWaiting now w → Any (λ p. HandsOver p w) (map f claims)) f claims
+      handed = All-map (λ (w : Claim). IsWaiting now w → Any (λ p. HandsOverTo p w) (map f claims)) f claims
           (λ k d within. λ waiting. handed_on claims entry now (get_or claims k d) live (order.periods k d within)
           (order.handed k d within) waiting);
       alone = pairs_map (λ v w. IsWaiting now v → IsWaiting now w → v.behind ≢ w.behind) f claims

@@ -7,7 +7,7 @@ use Rattle.std.proofs.lemmas.List.{get_or-map, length-map, get_or_default}
 use Rattle.bsc_table.specs.Claim.{Claim, IsWaiting, end_of, own_load, stop_claim, stop_claims}
 use Rattle.bsc_table.specs.Record.{is_live}
 use Rattle.bsc_table.specs.Handover.{Place, ahead_of, numbered, place_before, place_behind, handover}
-use Rattle.bsc_table.specs.Room.{HandsOver, AreInOrder, TakeoverKeepsRoom, WaitingPassesItsStart}
+use Rattle.bsc_table.specs.Room.{HandsOverTo, AreInOrder, TakeoverKeepsRoom, WaitingPassesItsStart}
 use Rattle.bsc_table.proofs.Room.StoppedClaims.{waits_on, stop_claim-other}
 use Rattle.bsc_table.proofs.Room.StopKeepsRoom.{not_live, in_order-stop, stop_keeps_room}
 use Rattle.bsc_table.proofs.Room.AddedClaims.{in_order-add, ClaimsFit-add, claim_at-waits}
@@ -56,9 +56,9 @@ was_waiting claims now entry k d order within waiting =
     }
 
 handed_to : (claims : List Claim) (now : ℕ) (w : Claim) → AreInOrder claims now → Contains claims w → IsWaiting now w
-    → Any (λ p. HandsOver p w) claims
+    → Any (λ p. HandsOverTo p w) claims
 handed_to claims now w order here waiting =
-    let P : Claim → Type 0 = λ x. IsWaiting now x → Any (λ p. HandsOver p x) claims in
+    let P : Claim → Type 0 = λ x. IsWaiting now x → Any (λ p. HandsOverTo p x) claims in
     subst P here.2 (order.handed here.0 w here.1) waiting
 
 not_both : (claims : List Claim) (now : ℕ) (v w : Claim) → AreInOrder claims now → Contains claims v
@@ -104,7 +104,7 @@ ahead_started claims now old p order here live started there same =
           let was = was_waiting claims now entry k d order within waiting in
           let found = handed_to claims now (get_or claims k d) order was.there was.waiting in
           let q : Claim = found.1 in
-          let over : HandsOver q (get_or claims k d) = found.4 in
+          let over : HandsOverTo q (get_or claims k d) = found.4 in
           let both : Some q.message.entry ≡ Some p.message.entry = sym over.named ∙ sym was.same ∙ behind in
           let equal : q.message.entry ≡ p.message.entry = cc in
           not_live claims entry now found.0 q (get_or claims k d) only found.2 found.3 over (equal ∙ same);
@@ -114,14 +114,14 @@ ahead_started claims now old p order here live started there same =
 ahead_waiting : (claims : List Claim) (now : ℕ) (old p : Claim) → AreInOrder claims now → Contains claims old
     → is_live now old.message ≡ true → 0 < old.message.period → now < old.message.start
     → Contains (stop_claims old.message.entry now claims) p → old.behind ≡ Some p.message.entry
-    → IsAhead claims now old.message.entry p × HandsOver p old
+    → IsAhead claims now old.message.entry p × HandsOverTo p old
 ahead_waiting claims now old p order here live some waits there behind =
     let entry = old.message.entry in
     let only = only_live claims now old order.rising here live in
     let waiting : IsWaiting now old = (waits, live_before now old.message some live) in
     let found = handed_to claims now old order here waiting in
     let q : Claim = found.1 in
-    let over : HandsOver q old = found.4 in
+    let over : HandsOverTo q old = found.4 in
     let from = from_stopped claims entry now p there in
     let both : Some p.message.entry ≡ Some q.message.entry = sym behind ∙ over.named in
     let equal : p.message.entry ≡ q.message.entry = cc in
@@ -130,8 +130,8 @@ ahead_waiting claims now old p order here live some waits there behind =
     let is : from.0 ≡ q = by_number claims from.0 q order.rising from.1 (found.0, found.2, found.3) numbers in
     let apart = not_live claims entry now found.0 q old only found.2 found.3 over in
     let become : p ≡ q = from.2 ∙ ap (stop_claim entry now) is ∙ stop_claim-other entry now q apart in
-    let Over : Claim → Type 0 = λ x. HandsOver x old in
-    let its : HandsOver p old = subst Over (sym become) over in
+    let Over : Claim → Type 0 = λ x. HandsOverTo x old in
+    let its : HandsOverTo p old = subst Over (sym become) over in
     let accepted : Claim → Type 0 = λ x. x.accepted ≤ now in (
       record {
         started = let by = subst accepted here.2 (order.accepted here.0 old here.1) in omega (arith, its.started, by);
@@ -197,7 +197,7 @@ takeover_keeps_room claims now old c place order fit here live over new placed r
     let Accepted : Claim → Type 0 = λ x. x.accepted ≤ now in
     let by = subst Accepted free.there.2 (stopped.0.accepted free.there.0 p free.there.1) in
     let behind : c.behind ≡ Some p.message.entry = placed.behind ∙ ap (λ (n : ℕ). Some n) free.named in
-    let hands : HandsOver p c = record {
+    let hands : HandsOverTo p c = record {
       named = behind;
       there = omega (arith, by, new.accepted);
       started = omega (arith, free.ahead.started, new.accepted);
@@ -237,7 +237,7 @@ waiting_passes_its_start claims now load old order here live waits =
     let some = subst Some_period here.2 (order.periods here.0 old here.1) in
     let found = handed_to claims now old order here (waits, live_before now old.message some live) in
     let q : Claim = found.1 in
-    let over : HandsOver q old = found.4 in
+    let over : HandsOverTo q old = found.4 in
     let stays = stop_claim-other entry now q (not_live claims entry now found.0 q old only found.2 found.3 over) in
     let there : Contains left q = (
       found.0,

@@ -29,7 +29,7 @@ use Rattle.bsc_table.specs.Orders.{IsWellFormed}
 use Rattle.bsc_table.specs.Record.{Record, accepted_in, messages_in, claims_in}
 use Rattle.bsc_table.specs.Claim.{claimed_at}
 use Rattle.bsc_table.specs.Answer.{answer_of}
-use Rattle.bsc_table.specs.Legal.{IsAnswered, IsLegal}
+use Rattle.bsc_table.specs.Legal.{HasItsAnswer, IsLegal}
 use Rattle.bsc_table.specs.Reported.{IsTrulyReported}
 use Rattle.bsc_table.specs.Transitions.{opened, IsPlayedUpTo, Ask, Play, IsReached}
 use Rattle.bsc_table.proofs.History.Promises.{legal_histories_are_served, legal_histories_are_bounded}
@@ -271,7 +271,7 @@ filled = entry (write 1 None Normal 1 6 0) 0 (answers.Started 0) ∷ entry (writ
 filled_aired : aired filled 6 ≡ Some (2, 1) ∷ Some (1, 1) ∷ Some (2, 1) ∷ Some (0, 1) ∷ Some (1, 1) ∷ Some (2, 1) ∷ []
 filled_aired = refl
 
-filled_answered : (i : ℕ) (d : Entry) → i < length filled → IsAnswered 8 (take i filled) (aired filled 6)
+filled_answered : (i : ℕ) (d : Entry) → i < length filled → HasItsAnswer 8 (take i filled) (aired filled 6)
     (get_or filled i d)
 filled_answered zero d within = refl
 filled_answered (suc zero) d within = refl
@@ -282,7 +282,7 @@ filled_answered (suc (suc (suc (suc i)))) d within = absurd (omega arith)
 -- what is left to show of a run whose air list is computed
 pub legal_run : (log : List Entry) (clock : ℕ) → length log ≤ 4096 → clock ≤ 8 → slots_rise 0 log clock ≡ true
     → list_all (λ e. is_formed e.command) log ≡ true → list_all (λ m. nat_lt 0 m.period) (messages_in log) ≡ true
-    → ((i : ℕ) (d : Entry) → i < length log → IsAnswered 8 (take i log) (aired log clock) (get_or log i d))
+    → ((i : ℕ) (d : Entry) → i < length log → HasItsAnswer 8 (take i log) (aired log clock) (get_or log i d))
     → length (aired log clock) ≡ clock → IsLegal (run log clock)
 legal_run log clock few within rise formed periods answered played = record {
   within = within;
@@ -376,7 +376,7 @@ half_is_bounded slot by =
     (bounds.0 refl, bounds.1)
 
 -- the history with a kill and refusals is legal too, so that C, which had to wait for room, is completed by slot 8
-whole_answered : (i : ℕ) (d : Entry) → i < length whole → IsAnswered 8 (take i whole) (aired whole 8) (get_or whole i d)
+whole_answered : (i : ℕ) (d : Entry) → i < length whole → HasItsAnswer 8 (take i whole) (aired whole 8) (get_or whole i d)
 whole_answered zero d within = refl
 whole_answered (suc zero) d within = refl
 whole_answered (suc (suc zero)) d within = refl

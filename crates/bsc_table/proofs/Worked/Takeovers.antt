@@ -12,7 +12,7 @@ use Rattle.bsc_table.specs.declared.entry.State.TheVariants as states
 use Rattle.bsc_table.specs.declared.entry.Entry.{Entry}
 use Rattle.bsc_table.specs.Record.{claims_in}
 use Rattle.bsc_table.specs.Claim.{claimed_at}
-use Rattle.bsc_table.specs.Legal.{IsAnswered, IsLegal}
+use Rattle.bsc_table.specs.Legal.{HasItsAnswer, IsLegal}
 use Rattle.bsc_table.proofs.History.Promises.{legal_histories_are_served}
 use Rattle.bsc_table.proofs.Worked.Histories.{write, kill, status, entry, aired, answer, run, legal_run, many}
 
@@ -195,7 +195,7 @@ in_place_of_the_waiting : answer many_and_waiting 1 (standing_for 101 102 1 2) �
 in_place_of_the_waiting = refl
 
 -- the first of these histories is legal, so that K, which had to wait, is completed in its first period
-passed_answered : (i : ℕ) (d : Entry) → i < length passed → IsAnswered 8 (take i passed) (aired passed 8)
+passed_answered : (i : ℕ) (d : Entry) → i < length passed → HasItsAnswer 8 (take i passed) (aired passed 8)
     (get_or passed i d)
 passed_answered zero d within = refl
 passed_answered (suc zero) d within = refl

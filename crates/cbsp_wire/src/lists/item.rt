@@ -8,7 +8,7 @@ ghost use Rattle.std.proofs.Common.{rules};
 ghost use Rattle.cbsp_wire.specs.declared.lists.item.Discriminator.{Discriminator};
 ghost use Rattle.cbsp_wire.specs.declared.message.Cell.{Cell};
 ghost use Rattle.cbsp_wire.specs.declared.lists.item.Discriminator.TheVariants as discriminators;
-ghost use Rattle.cbsp_wire.specs.WritingSteps.{HasRoom};
+ghost use Rattle.cbsp_wire.specs.WritingSteps.{HasRoomIn};
 ghost use Rattle.cbsp_wire.specs.Value.{cells_in, counts_in, failures_in};
 ghost use Rattle.cbsp_wire.specs.Written.{cell_octets, count_octets, failure_octets};
 
@@ -54,7 +54,7 @@ pub(crate) trait ListItem: Copy {
 
     /// Appends the octets of the item.
     fn put_in(&self, out: &mut Vec<u8>)
-        requires { HasRoom out.old (octets_of self.now) }
+        requires { HasRoomIn out.old (octets_of self.now) }
         ensures appended { out.new.items ≡ out.old.items ++ octets_of self.now }
         ensures room { vec_capacity out.new ≡ vec_capacity out.old };
 
@@ -204,7 +204,7 @@ impl ListItem for Failure {
 
 /// Appends the octets of items.
 pub(crate) fn put_items<T: ListItem>(out: &mut Vec<u8>, items: &[T])
-    requires { HasRoom out.old (flat_map T.octets_of items.now) }
+    requires { HasRoomIn out.old (flat_map T.octets_of items.now) }
     ensures appended { out.new.items ≡ out.old.items ++ flat_map T.octets_of items.now }
     ensures room { vec_capacity out.new ≡ vec_capacity out.old }
 {

@@ -2,7 +2,7 @@
 
 ghost use Rattle.std.specs.Prelude.{◌≡◌, ◌≤◌, [], Some, vec_capacity};
 ghost use Rattle.bsc_table.specs.Book.{aired_pair};
-ghost use Rattle.order_desk.specs.Pieces.{octets_aired, page_octets, pages_aired};
+ghost use Rattle.order_desk.specs.Pieces.{octets_aired, write_page_octets, piece_pages};
 
 use bsc_table::{Aired, CellBook, Command, Entry};
 use cbs_page::page_bytes;
@@ -21,7 +21,7 @@ pub struct Piece {
 
 /// The octets of a page of a command (3GPP TS 23.041, 9.4.1); None if it has no such page.
 fn page_of(command: &Command, page: u8) -> Option<[u8; 88]>
-    ensures { result ≡ page_octets page command.now }
+    ensures { result ≡ write_page_octets page command.now }
 {
     match command {
         Command::Write {
@@ -55,7 +55,7 @@ fn aired_page(log: &[Entry], aired: Aired) -> Option<[u8; 88]>
 pub(crate) fn put_pages(book: &CellBook, pages: &mut Vec<Option<[u8; 88]>>, from: u16, k: u16)
     requires empty { pages.old.items ≡ [] }
     requires room { k ≤ vec_capacity pages.old }
-    ensures { pages.new.items ≡ pages_aired from k book.now }
+    ensures { pages.new.items ≡ piece_pages from k book.now }
 {
     let log = book.log();
     let air = book.air();

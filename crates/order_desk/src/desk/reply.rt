@@ -4,8 +4,8 @@ ghost use Rattle.std.specs.Prelude.{◌≡◌, ◌≤◌, [], length, true, All,
 ghost use Rattle.cbsp_wire.specs.Meaning.{IsMessage};
 ghost use Rattle.cbsp_wire.specs.Range.{cells_are_valid};
 ghost use Rattle.cbsp_wire.specs.Written.{octets_of_message};
-ghost use Rattle.order_desk.specs.ReplySteps.{HasRoomFor};
-ghost use Rattle.order_desk.specs.Reply.{IsAnswerTo, accepted_in, cell_by, cells_answered, count_by, counted_in};
+ghost use Rattle.order_desk.specs.ReplySteps.{HasReplyRoom};
+ghost use Rattle.order_desk.specs.Reply.{IsAnswerTo, accepting_cells, cell_by, cells_answered, count_by, counted_in};
 ghost use Rattle.order_desk.specs.Reply.{failure_by, kill_reply, refused_in, reply_message, write_reply};
 
 use bsc_table::{Answer, Command, Refused};
@@ -71,7 +71,7 @@ fn refused_in(mut list: Vec<Failure>, answers: &[(Cell, Answer)]) -> Failures
 fn accepted_in(mut list: Vec<Cell>, answers: &[(Cell, Answer)]) -> Cells
     requires empty { list.items ≡ [] }
     requires room { length answers.now ≤ vec_capacity list }
-    ensures { result ≡ accepted_in answers.now }
+    ensures { result ≡ accepting_cells answers.now }
 {
     let mut left = answers;
     'answers: while let [(cell, answer), rest @ ..] = left {
@@ -172,7 +172,7 @@ pub(crate) struct ReplyRoom {
 
 /// Room for the reply of `count` cells.
 pub(crate) fn room_for(alloc: Global, count: usize) -> Result<ReplyRoom, AllocError>
-    ensures { IfOk result (HasRoomFor count) }
+    ensures { IfOk result (HasReplyRoom count) }
 {
     Ok(ReplyRoom {
         failures: Vec::with_capacity(alloc, count)?,
@@ -228,7 +228,7 @@ fn reply_message(
 /// The octets of the reply to a command, by the answers of its cells. It takes no memory.
 #[tactic(auto, using(crate::proofs::Writable::reply_is_writable, crate::proofs::Writable::reply_is_meant))]
 pub(crate) fn reply_in(room: ReplyRoom, command: &Command, answers: &[(Cell, Answer)]) -> Vec<u8>
-    requires room { HasRoomFor (length answers.now) room }
+    requires room { HasReplyRoom (length answers.now) room }
     requires valid { cells_are_valid (cells_answered answers.now) ≡ true }
     ensures written { result.items ≡ octets_of_message (reply_message command.now answers.now) }
     ensures meant { IsMessage result.items (reply_message command.now answers.now) }

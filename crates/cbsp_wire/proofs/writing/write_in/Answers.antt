@@ -1,5 +1,5 @@
 use Rattle.std.proofs.Common.{◌≡◌, ℕ, List, ◌++◌, ◌∙◌, sym, ap, length, length-append, arith}
-use Rattle.cbsp_wire.specs.WritingSteps.{HasRoom}
+use Rattle.cbsp_wire.specs.WritingSteps.{HasRoomIn}
 use Rattle.cbsp_wire.specs.Table.{octet_of_type}
 use Rattle.cbsp_wire.proofs.Framing.{elements_octets, elements_len, cast_fits, fields_short, fields_fit, head_written}
 use Rattle.cbsp_wire.proofs.writing.write_in.Goals as goal
@@ -11,7 +11,7 @@ pub put_elements-requires-clause-room : goal.put_elements-requires-clause-room
 put_elements-requires-clause-room c =
     let f = c.fields_of-fields.result in
     let fits = fields_fit c.args.message.now f c.fields_of-fields.ensures c.requires.meant in
-    let room : HasRoom c.put.new.out (elements_octets f) =
+    let room : HasRoomIn c.put.new.out (elements_octets f) =
     omega (arith, fits, simp length-append at (ap length c.put.ensures.appended)) in
     room
 

@@ -9,7 +9,7 @@ use Rattle.std.proofs.lemmas.List.FromFn.{length-range_with_len, get_or-range_wi
 use Rattle.cbs_page.specs.declared.octets.PageView.{PageView}
 use Rattle.handset.specs.Reception.{Name, name_of}
 use Rattle.handset.specs.Keeping.{is_numbered}
-use Rattle.handset.specs.KeepingSteps.{is_whole, total_kept}
+use Rattle.handset.specs.KeepingSteps.{is_kept_whole, total_kept}
 use Rattle.handset.proofs.messages.is_complete.Goals as goal
 
 abbrev has : Name → List PageView → ℕ → Bool
@@ -17,7 +17,7 @@ has name pages number = is_some (find (is_numbered name number) pages)
 
 -- a page of some number up to the total is missing
 missing : (name : Name) (pages : List PageView) (number : ℕ) → 0 < number → number ≤ total_kept name pages →
-    has name pages number ≡ false → is_whole name pages ≡ false
+    has name pages number ≡ false → is_kept_whole name pages ≡ false
 missing name pages number some within none =
     let before : ℕ = number - 1 in
     let there : get_or (range_with_len 1 (total_kept name pages)) before 0 ≡ number =

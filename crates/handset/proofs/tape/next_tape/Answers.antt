@@ -1,7 +1,7 @@
 use Rattle.std.proofs.Common.{arith, ◌*◌, ℕ, List, Option, IfSome, subst}
 use Rattle.std.proofs.lemmas.Result.{err_from_is_err_and}
 use Rattle.device_ends.specs.Source.{reader_of}
-use Rattle.handset.specs.Keeping.{messages_of}
+use Rattle.handset.specs.Keeping.{messages_shown}
 use Rattle.handset.specs.TapeSteps.{ReadsBlocks, ReadsHeader, StopsInOctets}
 use Rattle.handset.proofs.TapeLaws.{ReadsTape-from}
 use Rattle.handset.proofs.TapeExtents.{stops-in-blocks}
@@ -16,9 +16,9 @@ returns-clause-tape g c =
     let read : ReadsHeader old mid c.in-Some.header =
     subst (λ next. IfSome next (λ header. ReadsHeader old mid header)) c.in-Some.is c.in_ok-header.ensures.header in
     rw (c.cell_of.ensures, c.slots_of-slots.ensures)
-    (ReadsTape-from old mid new c.in-Some.header (messages_of c.in_ok-shown.shown.items) read.eight read.few
+    (ReadsTape-from old mid new c.in-Some.header (messages_shown c.in_ok-shown.shown.items) read.eight read.few
     read.consumed
-    (subst (λ n. ReadsBlocks mid new n (messages_of c.in_ok-shown.shown.items)) c.slots_of-slots.ensures
+    (subst (λ n. ReadsBlocks mid new n (messages_shown c.in_ok-shown.shown.items)) c.slots_of-slots.ensures
     c.in_ok-shown.ensures.shown))
 
 pub returns-in_err-shown-clause-extent : goal.returns-in_err-shown-clause-extent

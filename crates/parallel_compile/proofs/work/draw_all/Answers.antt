@@ -3,7 +3,7 @@ use Rattle.std.specs.Option.{option_map}
 use Rattle.std.proofs.lemmas.Option.{slice_get-map, slice_get_read}
 use Rattle.cbch_blocks.specs.RecordBlocks.{tape_of_record}
 use Rattle.tickets.specs.Draws.{SeatState}
-use Rattle.parallel_compile.specs.Gathered.{numbers_of}
+use Rattle.parallel_compile.specs.Gathered.{piece_numbers}
 use Rattle.parallel_compile.specs.Workers.{IsPieceOfRecord}
 use Rattle.parallel_compile.proofs.Drawn.{above, fewer_left}
 use Rattle.parallel_compile.proofs.Numbers.{numbers_more}
@@ -34,7 +34,7 @@ loop-index-preserved g c =
     record {
       of = c.draw.ensures.seat.0;
       parts = c.draw.ensures.seat.1 ∙ c.loop-index.invariant.parts;
-      drawn = ap numbers_of items ∙ numbers_more c.loop-index.pieces.items c.in-Some.index c.in_ok-tape.tape
+      drawn = ap piece_numbers items ∙ numbers_more c.loop-index.pieces.items c.in-Some.index c.in_ok-tape.tape
           ∙ ap (λ l. l ++ c.in-Some.index ∷ []) c.loop-index.invariant.drawn
           ∙ sym (ap (λ (s : SeatState). s.drawn) drawn.1);
       made = subst (All (IsPieceOfRecord c.args.records.now)) (sym items)

@@ -4,7 +4,7 @@ use Rattle.cbsp_wire.specs.declared.message.Cell.{Cell}
 use Rattle.bsc_table.specs.declared.entry.Entry.{Entry}
 use Rattle.bsc_table.specs.Record.{Record}
 use Rattle.handset.specs.declared.messages.Shown.{Shown}
-use Rattle.handset.specs.Keeping.{messages_of}
+use Rattle.handset.specs.Keeping.{messages_shown}
 use Rattle.handset.specs.Reception.{ShownMessage}
 use Rattle.report.specs.declared.row.Row.{Row}
 use Rattle.report.specs.Rows.{is_shown}
@@ -35,7 +35,7 @@ noted c =
 pub returns : goal.returns
 returns c =
     let r : Record = c.args.run.now in
-    let shown : List ShownMessage = messages_of c.args.reading.now.shown.items in
+    let shown : List ShownMessage = messages_shown c.args.reading.now.shown.items in
     let stops = c.in_ok-stops.stops.items in
     let counts = c.in_ok-completed.completed.items in
     let ended : r.slots ≡ length r.air =
@@ -53,7 +53,7 @@ returns c =
     on_ok_weaker c.push_rows.result
     (λ more. more shown
     (λ id serial. c.in_ok-shown.ensures id serial
-    ∙ ap (λ (xs : List Shown). is_shown (messages_of xs) id serial) c.deref.ensures.value)
+    ∙ ap (λ (xs : List Shown). is_shown (messages_shown xs) id serial) c.deref.ensures.value)
     ∙ ap (λ (rows : List Row). c.args.rows.now.items ++ rows)
     (same ∙ sym (cell-is (laws c) r shown stops counts c.slots-slots.ensures.legal ended (noted c))))
     c.push_rows.ensures

@@ -4,7 +4,7 @@ use Rattle.std.proofs.lemmas.Option.{none-some}
 use Rattle.order_desk.specs.declared.note.Note.{Note}
 use Rattle.book_runs.specs.Run.{is_among}
 use Rattle.book_runs.specs.Sessions.{IsNoteOf}
-use Rattle.session_check.specs.NotedSteps.{AreStanding, StandsIn, asked_at, cells_of, commands_in}
+use Rattle.session_check.specs.NotedSteps.{AreStanding, StandsIn, asked_at, record_cells, commands_in}
 use Rattle.session_check.proofs.Found.{among_found, note_by_all, note_by_one, of_found}
 use Rattle.session_check.proofs.Noted.{clash, first_same}
 use Rattle.session_check.proofs.answers.answer_in.Goals as goal
@@ -30,7 +30,7 @@ returns-in-Some-answer_noted-clause-noted c =
         note_by_all records c.args.cell r c.args.at c.args.command.now note answer found
             ((c.in-Some-answer_noted.ensures.noted answer).0 refl),
       );
-      foreign = λ foreign. absurd (clash (is_among (cells_of records) c.args.cell)
+      foreign = λ foreign. absurd (clash (is_among (record_cells records) c.args.cell)
           (among_found records c.args.cell r found) foreign);
     }
 

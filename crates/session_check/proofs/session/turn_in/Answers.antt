@@ -4,7 +4,7 @@ use Rattle.cbsp_wire.specs.declared.message.Failure.{Failure}
 use Rattle.alert_book.specs.Session.{outcome_with}
 use Rattle.bsc_table.specs.declared.command.Command.{Command}
 use Rattle.bsc_table.specs.Orders.{order_of}
-use Rattle.order_desk.specs.Reply.{IsAnswerTo, accepted_in, cells_answered, refused_in}
+use Rattle.order_desk.specs.Reply.{IsAnswerTo, accepting_cells, cells_answered, refused_in}
 use Rattle.session_check.specs.NotedSteps.{AreAnswersNoted, commands_in}
 use Rattle.session_check.proofs.Noted.{none_of, some_of}
 use Rattle.session_check.proofs.OrderSays.{order_says, orders_are_one}
@@ -46,7 +46,7 @@ returns-clause-some c =
     let fit = some_of (λ found. All (λ a. IsAnswerTo command a.1) found.0.items) c.in_ok-answers.field-0
     (c.in-Some-2.answers, c.in-Some-2.rest) c.in-Some-2.is c.in_ok-answers.ensures.fit in
     let says = (order_says message c.in-Some.cells.items command read).says given fit in
-    let accepted = c.in_ok-said.ensures.accepted ∙ ap accepted_in c.deref-2.ensures.value in
+    let accepted = c.in_ok-said.ensures.accepted ∙ ap accepting_cells c.deref-2.ensures.value in
     let refused = c.in_ok-said.ensures.refused ∙ ap refused_in c.deref-2.ensures.value in record {
       command = command;
       answers = given;
@@ -56,5 +56,5 @@ returns-clause-some c =
           (commands_in c.args.notes.now) (commands_in found.1.now)) c.in_ok-answers.field-0
           (c.in-Some-2.answers, c.in-Some-2.rest) c.in-Some-2.is c.in_ok-answers.ensures.noted;
       told = ap (λ (cells : List Cell). Some (outcome_with cells said.refused)) accepted
-          ∙ ap (λ (failures : List Failure). Some (outcome_with (accepted_in given) failures)) refused ∙ sym says;
+          ∙ ap (λ (failures : List Failure). Some (outcome_with (accepting_cells given) failures)) refused ∙ sym says;
     }

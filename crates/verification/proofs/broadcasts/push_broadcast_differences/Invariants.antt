@@ -1,12 +1,12 @@
 use Rattle.std.proofs.Common.{◌≡◌, ◌-◌, ◌++◌}
 use Rattle.std.specs.List.{flat_map, range_with_len}
 use Rattle.verification.specs.Difference.{broadcast_difference}
-use Rattle.verification.specs.Kept.{asked_of}
+use Rattle.verification.specs.Kept.{asked_kept}
 use Rattle.verification.proofs.broadcasts.push_broadcast_differences.Given as goal
 
 abbrev pub invariant-loop-broadcast : goal.invariant-loop-broadcast
 invariant-loop-broadcast l =
-    l.found.items ++ flat_map (broadcast_difference l.slots (asked_of l.asked) l.pages)
+    l.found.items ++ flat_map (broadcast_difference l.slots (asked_kept l.asked) l.pages)
     (range_with_len l.broadcast (l.slots - l.broadcast))
     ≡ l.fn.found.items
-    ++ flat_map (broadcast_difference l.slots (asked_of l.asked) l.pages) (range_with_len 0 l.slots)
+    ++ flat_map (broadcast_difference l.slots (asked_kept l.asked) l.pages) (range_with_len 0 l.slots)

@@ -5,13 +5,13 @@ use Rattle.verification.specs.declared.judged.JudgedPage.{JudgedPage}
 use Rattle.verification.specs.Asked.{AskedMessage}
 use Rattle.verification.specs.Difference.{broadcast_differences, message_differences, page_differences}
 use Rattle.verification.specs.Judged.{judged_in}
-use Rattle.verification.specs.Kept.{asked_of}
+use Rattle.verification.specs.Kept.{asked_kept}
 use Rattle.verification.proofs.ListLaws.{flat_map-dropped, rest-more}
 use Rattle.verification.proofs.cell.push_messages.Goals as goal
 
 pub loop-asked-preserved : goal.loop-asked-preserved
 loop-asked-preserved c =
-    let a : AskedMessage = asked_of c.asked-item.result in
+    let a : AskedMessage = asked_kept c.asked-item.result in
     let pages : List JudgedPage = judged_in a c.args.sent.now in
     let f : AskedMessage → List Difference = λ x. message_differences c.args.slots x (judged_in x c.args.sent.now) in
     let seen : c.deref.result.now ≡ pages = c.deref.ensures.value ∙ c.in_ok-pages.ensures in
@@ -27,10 +27,10 @@ loop-asked-preserved c =
     ∙ append_assoc c.loop-asked.found.items (page_differences a pages)
     (broadcast_differences c.args.slots a pages) in
     rest-more c.loop-asked.found.items c.push_broadcast_differences.new.found.items (f a)
-    (flat_map f (map asked_of (drop c.loop-asked.asked-index c.args.messages.now)))
-    (flat_map f (map asked_of (drop (c.loop-asked.asked-index + 1) c.args.messages.now)))
-    (c.args.found.now.items ++ flat_map f (map asked_of c.args.messages.now))
+    (flat_map f (map asked_kept (drop c.loop-asked.asked-index c.args.messages.now)))
+    (flat_map f (map asked_kept (drop (c.loop-asked.asked-index + 1) c.args.messages.now)))
+    (c.args.found.now.items ++ flat_map f (map asked_kept c.args.messages.now))
     c.loop-asked.invariant
-    (flat_map-dropped asked_of f c.args.messages.now c.loop-asked.asked-index c.asked-item.result (omega arith)
+    (flat_map-dropped asked_kept f c.args.messages.now c.loop-asked.asked-index c.asked-item.result (omega arith)
     c.asked-item.is)
     added

@@ -7,7 +7,7 @@ use Rattle.verification.specs.declared.sent.SentPage.{SentPage}
 use Rattle.verification.specs.Asked.{AskedMessage}
 use Rattle.verification.specs.ByName.{name_number}
 use Rattle.verification.specs.Judged.{judged_in}
-use Rattle.verification.specs.Kept.{asked_of}
+use Rattle.verification.specs.Kept.{asked_kept}
 use Rattle.verification.proofs.ByNameLaws.{between-names, number_of}
 use Rattle.verification.proofs.judged.near.Goals as goal
 
@@ -25,7 +25,7 @@ up_to number sent place =
 pub returns-clause-same : goal.returns-clause-same
 unfolding before up_to
 returns-clause-same c =
-    let a : AskedMessage = asked_of c.args.asked.now in
+    let a : AskedMessage = asked_kept c.args.asked.now in
     let number : ℕ = name_number c.args.asked.now.id c.args.asked.now.serial in
     let rest = take_rest c.args.sent.now c.partition_point-first.result in
     let one : before c.name_number-name.result c.args.sent.now c.partition_point-first.result =

@@ -6,7 +6,7 @@ use Rattle.verification.specs.declared.difference.Kind.TheVariants as kinds
 use Rattle.verification.specs.declared.judged.JudgedPage.{JudgedPage}
 use Rattle.verification.specs.Asked.{AskedMessage}
 use Rattle.verification.specs.Difference.{first_difference, page_numbers}
-use Rattle.verification.specs.Kept.{asked_of}
+use Rattle.verification.specs.Kept.{asked_kept}
 use Rattle.verification.proofs.ListLaws.{flat_map-range, four-joined, rest-more, rest-none}
 use Rattle.verification.proofs.pages.push_page_differences.Goals as goal
 
@@ -16,7 +16,7 @@ of_page a pages number = first_difference a pages (kinds.Otherwise number)
 pub loop-place-preserved : goal.loop-place-preserved
 unfolding of_page
 loop-place-preserved c =
-    let f : ℕ → List Difference = of_page (asked_of c.args.asked.now) c.args.pages.now in
+    let f : ℕ → List Difference = of_page (asked_kept c.args.asked.now) c.args.pages.now in
     let at : ℕ = c.loop-place.place in
     rest-more c.loop-place.found.items c.push_first.new.found.items (f (at + 1))
     (flat_map f (range_with_len (at + 1) (15 - at)))
@@ -32,8 +32,8 @@ none_left f a n is = ap (λ k. flat_map f (range_with_len a k)) is
 pub returns : goal.returns
 unfolding of_page
 returns c =
-    let a : AskedMessage = asked_of c.args.asked.now in
-    let f : ℕ → List Difference = of_page (asked_of c.args.asked.now) c.args.pages.now in
+    let a : AskedMessage = asked_kept c.args.asked.now in
+    let f : ℕ → List Difference = of_page (asked_kept c.args.asked.now) c.args.pages.now in
     let of_kind = first_difference a c.args.pages.now in
     let numbers : c.loop-place.found.items ≡ c.args.found.now.items ++ flat_map f page_numbers =
     rest-none c.loop-place.found.items (flat_map f (range_with_len (c.loop-place.place + 1) (15 - c.loop-place.place)))

@@ -2,13 +2,13 @@ use Rattle.std.proofs.Common.{◌≡◌, List, All, refl, sym, subst, ◌∙◌}
 use Rattle.bsc_table.specs.Record.{Record}
 use Rattle.book_runs.specs.Sessions.{AreSessions}
 use Rattle.session_check.specs.Checked.{HasRightNumbers}
-use Rattle.session_check.specs.NotedSteps.{cells_of}
+use Rattle.session_check.specs.NotedSteps.{record_cells}
 use Rattle.session_check.proofs.Settled.{settled_agree, settled_cells}
 use Rattle.warnc_run.proofs.settled.settled_records.Goals as goal
 
 pub check_sessions-requires-clause-cells : goal.check_sessions-requires-clause-cells
 check_sessions-requires-clause-cells c =
-    subst (λ (records : List Record). cells_of records ≡ c.args.book.now.cells) (sym c.deref.ensures.value)
+    subst (λ (records : List Record). record_cells records ≡ c.args.book.now.cells) (sym c.deref.ensures.value)
     (settled_cells c.in_ok-closed.closed c.args.passes.now c.in_ok-records.records.items c.in_ok-records.ensures.ok
     ∙ c.in_ok-closed.ensures.cells ∙ c.requires.cells)
 

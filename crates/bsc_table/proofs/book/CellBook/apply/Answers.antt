@@ -8,7 +8,7 @@ use Rattle.bsc_table.specs.Legal.{IsLegal}
 use Rattle.bsc_table.specs.declared.entry.Answer.{Answer}
 use Rattle.bsc_table.specs.Transitions.{with_entry, answered_with, has_entry}
 use Rattle.bsc_table.specs.Book.{record_of}
-use Rattle.bsc_table.specs.BookSteps.{IsNext, decided_answer}
+use Rattle.bsc_table.specs.BookSteps.{IsNextEntry, decided_answer}
 use Rattle.bsc_table.proofs.History.HasEntry.{has_entry-with_room}
 use Rattle.bsc_table.proofs.History.NextEntry.{entry_with}
 use Rattle.bsc_table.proofs.Cell.WithEntry.{IsLegal-with}
@@ -21,7 +21,7 @@ returns-in-Ok-clause-legal c =
     let answer = decided_answer c.decide-decision.result in
     let Right : Record → Type 0 = λ x. answer ≡ answer_with_room x.slots x.log x.air x.clock command in
     let e : Entry = entry_with command r.clock answer in
-    let next : IsNext r e = record {
+    let next : IsNextEntry r e = record {
       now = refl;
       room = omega (arith, c.len.ensures, c.self.inside.log.ok.0, c.if-len-ge-MAX_ENTRIES.false);
       formed = c.requires;

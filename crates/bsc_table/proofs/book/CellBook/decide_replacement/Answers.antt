@@ -7,7 +7,7 @@ use Rattle.bsc_table.specs.declared.accepted.Place.{Place}
 use Rattle.bsc_table.specs.Record.{place_after}
 use Rattle.bsc_table.specs.declared.accepted.TheConstants.{LATEST_START}
 use Rattle.bsc_table.specs.Accepted.{accepted_of}
-use Rattle.bsc_table.specs.BookSteps.{HasRoom, DecidesWrites, IsLater, place_of, left_by}
+use Rattle.bsc_table.specs.BookSteps.{HasRoom, DecidesWrites, IsLater, place_found, left_by}
 use Rattle.bsc_table.proofs.Cell.PlanOfTable.{few_places}
 use Rattle.bsc_table.proofs.Cell.Decisions.{live_in, replaces, takes_over}
 use Rattle.bsc_table.proofs.book.CellBook.decide_replacement.Goals as goal
@@ -58,7 +58,7 @@ returns-in-Some-later_place-clause-decides c =
     let left = left_by r (accepted_of old) in
     let later : IsLater r (accepted_of old) c.load-in-Err-Load.result (Some place) = subst
     (IsLater r (accepted_of old) c.load-in-Err-Load.result) c.in-Some-later_place.is c.later_place.ensures in
-    let Over : ℕ → Type 0 = λ load. place_after left r.clock (accepted_of old) load ≡ Some (place_of place) in
+    let Over : ℕ → Type 0 = λ load. place_after left r.clock (accepted_of old) load ≡ Some (place_found place) in
     let over = subst Over c.load-in-Err-Load.ensures later.there in
     let full = c.in-Err-Load.is ∙ ap (λ (x : NoRoom). Err x) c.in-Err-Load.field-0-is in
     let room = few_places left r.clock c.load.result c.room_without.result c.room_without.ensures full in

@@ -4,7 +4,7 @@ use Rattle.bsc_table.specs.declared.entry.Entry.{Entry}
 use Rattle.bsc_table.specs.Record.{Record, Accepted, accepted_in, claims_of}
 use Rattle.bsc_table.specs.Legal.{IsLegal}
 use Rattle.bsc_table.specs.Book.{record_of, reservations_at}
-use Rattle.bsc_table.specs.BookSteps.{IsNext}
+use Rattle.bsc_table.specs.BookSteps.{IsNextEntry}
 use Rattle.bsc_table.proofs.History.Refusals.{refusals_change_nothing}
 use Rattle.bsc_table.proofs.Cell.WithEntry.{IsLegal-with}
 use Rattle.bsc_table.proofs.book.CellBook.enter_alone.Goals as goal
@@ -15,7 +15,7 @@ invariant_of-self-2 c =
     let r : Record = record_of c.self.inside in
     let e : Entry = c.args.entry in
     let inside = sym c.self.view_is in
-    let Next : Record → Type 0 = λ x. IsNext x e in
+    let Next : Record → Type 0 = λ x. IsNextEntry x e in
     let next = subst Next inside c.requires.next in
     let same = refusals_change_nothing r.log e c.requires.noted in
     let grown = sym (c.push_reserved.ensures.items ∙ ap (λ (l : List Entry). l ++ e ∷ []) c.reserve.ensures.items) in

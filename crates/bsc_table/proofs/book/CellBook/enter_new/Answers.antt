@@ -4,12 +4,12 @@ use Rattle.admission.specs.declared.budget.Held.{Held}
 use Rattle.scheduler.specs.Message.{ScheduledMessage}
 use Rattle.scheduler.specs.Follows.{Follows, message_from}
 use Rattle.bsc_table.specs.declared.entry.Entry.{Entry}
-use Rattle.bsc_table.specs.Record.{Record, Accepted, accepted_in, messages_in, claim_of, claims_in, is_background}
+use Rattle.bsc_table.specs.Record.{Record, Accepted, accepted_in, messages_in, claim_of, claims_in, is_background_category}
 use Rattle.bsc_table.specs.Record.{is_of_pair}
 use Rattle.bsc_table.specs.Claim.{Claim}
 use Rattle.bsc_table.specs.Accepted.{accepted_of}
 use Rattle.bsc_table.specs.Book.{record_of, reservations_at}
-use Rattle.bsc_table.specs.BookSteps.{HasRoomFor, IsNext, IsStart}
+use Rattle.bsc_table.specs.BookSteps.{HasRoomFor, IsNextEntry, IsStart}
 use Rattle.bsc_table.proofs.Cell.RoomForNew.{room_for_new}
 use Rattle.bsc_table.proofs.History.LegalIsSound.{IsSound-legal}
 use Rattle.bsc_table.proofs.History.Ranks.{in_front, layer_tells}
@@ -58,7 +58,7 @@ reserve_for-requires-clause-room c =
 pub push-requires-clause-few : goal.push-requires-clause-few
 push-requires-clause-few c =
     let r : Record = record_of c.self.inside in
-    let Next : Record → Type 0 = λ x. IsNext x c.args.entry in
+    let Next : Record → Type 0 = λ x. IsNextEntry x c.args.entry in
     let next = subst Next (sym c.self.view_is) c.requires.next in
     let same = ap length (c.reserve-2.ensures.same ∙ c.self.invariant.kept) in
     omega (arith, same, few_accepted r.log, next.room)
@@ -76,7 +76,7 @@ pub push-requires-clause-apart : goal.push-requires-clause-apart
 push-requires-clause-apart c =
     let r : Record = record_of c.self.inside in
     let new : Accepted = accepted_of c.args.new in
-    let Next : Record → Type 0 = λ x. IsNext x c.args.entry in
+    let Next : Record → Type 0 = λ x. IsNextEntry x c.args.entry in
     let Starts : Record → Type 0 = λ x. IsStart x c.args.entry new in
     let next = subst Next (sym c.self.view_is) c.requires.next in
     let start = subst Starts (sym c.self.view_is) c.requires.start in
@@ -92,7 +92,7 @@ invariant_of-self-2 c =
     let new : Accepted = accepted_of c.args.new in
     let before : List ScheduledMessage = messages_in r.log in
     let inside = sym c.self.view_is in
-    let Next : Record → Type 0 = λ x. IsNext x e in
+    let Next : Record → Type 0 = λ x. IsNextEntry x e in
     let Starts : Record → Type 0 = λ x. IsStart x e new in
     let next = subst Next inside c.requires.next in
     let start = subst Starts inside c.requires.start in
@@ -111,7 +111,7 @@ invariant_of-self-2 c =
     -- the budget
     let claims = claims_with r.log e (accepted_in r.log) new adds in
     let reservations = begun_reservations (length r.log) r.clock None (accepted_in r.log) (claims_in r.log) new may
-    c.self.inside.budget c.reserve_for.new.budget book.held (is_background c.args.new.category)
+    c.self.inside.budget c.reserve_for.new.budget book.held (is_background_category c.args.new.category)
     (layer_tells c.args.new.category) c.reserve_for.ensures in
     let FollowsAll : List ScheduledMessage → Type 0 = λ all. Follows c.add.new.self all r.air in
     let HeldFor : List Claim → Type 0 = λ all. c.reserve_for.new.budget ≡ reservations_at r.clock all in

@@ -8,12 +8,12 @@ use Rattle.admission.specs.Waiting.{behind_of}
 use Rattle.scheduler.specs.Message.{ScheduledMessage, stopped_at}
 use Rattle.scheduler.specs.Follows.{Follows, messages_of, message_from}
 use Rattle.bsc_table.specs.declared.entry.Entry.{Entry}
-use Rattle.bsc_table.specs.Record.{Record, Accepted, accepted_in, messages_in, claim_of, claims_in, is_background}
+use Rattle.bsc_table.specs.Record.{Record, Accepted, accepted_in, messages_in, claim_of, claims_in, is_background_category}
 use Rattle.bsc_table.specs.Record.{is_of_pair}
 use Rattle.bsc_table.specs.Claim.{Claim, reserves, stop_claims}
 use Rattle.bsc_table.specs.Accepted.{accepted_of}
 use Rattle.bsc_table.specs.Book.{record_of, reservations_at}
-use Rattle.bsc_table.specs.BookSteps.{stop_numbered, HasRoomFor, IsNext, IsReplacement}
+use Rattle.bsc_table.specs.BookSteps.{stop_numbered, HasRoomFor, IsNextEntry, IsReplacement}
 use Rattle.bsc_table.proofs.History.NextEntry.{messages_stopped, claims_stopped}
 use Rattle.bsc_table.proofs.Cell.RoomForNew.{room_for_replacement}
 use Rattle.bsc_table.proofs.History.LegalIsSound.{HasLoad, IsSound-legal}
@@ -75,7 +75,7 @@ reserve_for-requires-clause-unreserved c =
     let change = subst Replaces (sym c.self.view_is) c.requires.replacement in
     let reservations = released_reservations r old c.self.inside.budget c.release.new.budget c.self.invariant.legal
     change.stops
-    c.self.invariant.held (is_background c.args.old.now.category) (layer_tells c.args.old.now.category)
+    c.self.invariant.held (is_background_category c.args.old.now.category) (layer_tells c.args.old.now.category)
     c.release.ensures in
     let Below : List Held → Type 0 = λ l. All (λ (h : Held). h.entry < length r.log) l in
     let below = subst Below (sym reservations) (held_below_without r.clock entry r.log) in
@@ -90,7 +90,7 @@ reserve_for-requires-clause-room c =
     let change = subst Replaces (sym c.self.view_is) c.requires.replacement in
     let reservations = released_reservations r old c.self.inside.budget c.release.new.budget c.self.invariant.legal
     change.stops
-    c.self.invariant.held (is_background c.args.old.now.category) (layer_tells c.args.old.now.category)
+    c.self.invariant.held (is_background_category c.args.old.now.category) (layer_tells c.args.old.now.category)
     c.release.ensures in
     let Room : List Held → Type 0 = λ l. HasRoomFor r.clock l (claim_of new) new.behind in
     let sound = IsSound-legal r c.self.invariant.legal in
@@ -113,7 +113,7 @@ pub push-requires-clause-few : goal.push-requires-clause-few
 push-requires-clause-few c =
     let r : Record = record_of c.self.inside in
     let entry : ℕ = c.args.old.now.entry in
-    let Next : Record → Type 0 = λ x. IsNext x c.args.entry in
+    let Next : Record → Type 0 = λ x. IsNextEntry x c.args.entry in
     let next = subst Next (sym c.self.view_is) c.requires.next in
     let stopped = ap length (c.stop.ensures.all ∙ ap (map (stop_numbered entry r.clock)) (c.reserve-2.ensures.same
     ∙ c.self.invariant.kept)) in
@@ -138,7 +138,7 @@ push-requires-clause-apart c =
     let r : Record = record_of c.self.inside in
     let entry : ℕ = c.args.old.now.entry in
     let new : Accepted = accepted_of c.args.new in
-    let Next : Record → Type 0 = λ x. IsNext x c.args.entry in
+    let Next : Record → Type 0 = λ x. IsNextEntry x c.args.entry in
     let Replaces : Record → Type 0 = λ x. IsReplacement x c.args.entry (accepted_of c.args.old.now) new in
     let next = subst Next (sym c.self.view_is) c.requires.next in
     let change = subst Replaces (sym c.self.view_is) c.requires.replacement in
@@ -160,7 +160,7 @@ invariant_of-self-2 c =
     let before : List ScheduledMessage = messages_in r.log in
     let after : List ScheduledMessage = stopped_at entry r.clock before in
     let inside = sym c.self.view_is in
-    let Next : Record → Type 0 = λ x. IsNext x e in
+    let Next : Record → Type 0 = λ x. IsNextEntry x e in
     let Replaces : Record → Type 0 = λ x. IsReplacement x e old new in
     let next = subst Next inside c.requires.next in
     let change = subst Replaces inside c.requires.replacement in
@@ -185,12 +185,12 @@ invariant_of-self-2 c =
     let left : List Claim = stop_claims entry r.clock (claims_in r.log) in
     let released = released_reservations r old c.self.inside.budget c.release.new.budget book.legal change.stops
     book.held
-    (is_background c.args.old.now.category) (layer_tells c.args.old.now.category) c.release.ensures in
+    (is_background_category c.args.old.now.category) (layer_tells c.args.old.now.category) c.release.ensures in
     let claims = claims_with r.log e rest new change.after ∙ ap
     (λ (l : List Claim). l ++ filter reserves (claim_of new ∷ []))
     (claims_stopped entry r.clock (accepted_in r.log)) in
     let reservations = begun_reservations (length r.log) r.clock (Some old) rest left new may c.release.new.budget
-    c.reserve_for.new.budget released (is_background c.args.new.category) (layer_tells c.args.new.category)
+    c.reserve_for.new.budget released (is_background_category c.args.new.category) (layer_tells c.args.new.category)
     c.reserve_for.ensures in
     let HeldFor : List Claim → Type 0 = λ all. c.reserve_for.new.budget ≡ reservations_at r.clock all in
     book_with c.self.inside e c.push_reserved.new.self c.push.new.self c.stop-2.new.self

@@ -6,11 +6,11 @@ use Rattle.admission.specs.Waiting.{behind_of}
 use Rattle.scheduler.specs.Message.{ScheduledMessage}
 use Rattle.scheduler.specs.Follows.{Follows}
 use Rattle.bsc_table.specs.declared.entry.Entry.{Entry}
-use Rattle.bsc_table.specs.Record.{Record, Accepted, accepted_in, messages_in, is_background}
+use Rattle.bsc_table.specs.Record.{Record, Accepted, accepted_in, messages_in, is_background_category}
 use Rattle.bsc_table.specs.Claim.{Claim}
 use Rattle.bsc_table.specs.Accepted.{accepted_of}
 use Rattle.bsc_table.specs.Book.{record_of, reservations_at}
-use Rattle.bsc_table.specs.BookSteps.{stop_numbered, IsNext, IsStop}
+use Rattle.bsc_table.specs.BookSteps.{stop_numbered, IsNextEntry, IsStop}
 use Rattle.bsc_table.proofs.History.LegalIsSound.{HasLoad, IsSound-legal}
 use Rattle.bsc_table.proofs.History.Ranks.{in_front, layer_tells}
 use Rattle.bsc_table.proofs.Cell.WithEntry.{messages_without, claims_without, free_of}
@@ -61,7 +61,7 @@ invariant_of-self-2 c =
     let e : Entry = c.args.entry in
     let old : Accepted = accepted_of c.args.old.now in
     let entry : ℕ = old.message.entry in
-    let Next : Record → Type 0 = λ x. IsNext x e in
+    let Next : Record → Type 0 = λ x. IsNextEntry x e in
     let Stops : Record → Type 0 = λ x. IsStop x e old in
     let next = subst Next (sym c.self.view_is) c.requires.next in
     let stop = subst Stops (sym c.self.view_is) c.requires.stop in
@@ -73,7 +73,7 @@ invariant_of-self-2 c =
     let follows = c.stop-2.ensures.follows (messages_in r.log) r.air book.follows in
     let reservations = released_reservations r old c.self.inside.budget c.release.new.budget book.legal stop.stops
     book.held
-    (is_background c.args.old.now.category) (layer_tells c.args.old.now.category) c.release.ensures in
+    (is_background_category c.args.old.now.category) (layer_tells c.args.old.now.category) c.release.ensures in
     let FollowsAll : List ScheduledMessage → Type 0 = λ all. Follows c.stop-2.new.self all r.air in
     let claims = claims_without r.log e entry r.clock stop.after in
     let HeldFor : List Claim → Type 0 = λ all. c.release.new.budget ≡ reservations_at r.clock all in

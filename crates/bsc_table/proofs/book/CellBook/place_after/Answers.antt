@@ -6,7 +6,7 @@ use Rattle.bsc_table.specs.Record.{Record, Accepted, accepted_in, claim_of, plac
 use Rattle.bsc_table.specs.Handover.{ahead_of, place_before}
 use Rattle.bsc_table.specs.Accepted.{accepted_of}
 use Rattle.bsc_table.specs.Book.{record_of}
-use Rattle.bsc_table.specs.BookSteps.{stopped_end, place_of, left_by, IsLiveIn}
+use Rattle.bsc_table.specs.BookSteps.{stopped_end, place_found, left_by, IsLiveIn}
 use Rattle.bsc_table.proofs.Cell.Places.{is_reserved_as, none_ahead, found_lasts, place_ahead, place_in_front}
 use Rattle.bsc_table.proofs.History.Ranks.{in_front}
 use Rattle.bsc_table.proofs.book.CellBook.place_after.Goals as goal
@@ -23,7 +23,7 @@ returns-in_err-ahead-clause-place c =
     ∙ ap (option_map accepted_of) c.in_err-ahead.was in
     let Over : Record → Type 0 = λ x. None ≡ place_after (left_by x old) x.clock old c.args.load in
     let front = in_front c.args.old.now.category (sym c.is_background.ensures ∙ c.if-is_background.false) in
-    ap (option_map place_of) c.from_residual-in_err-ahead.ensures
+    ap (option_map place_found) c.from_residual-in_err-ahead.ensures
     ∙ subst Over c.self.view_is (sym (place_in_front (left_by r old) r.clock c.args.load old front
     ∙ none_ahead r old entry c.args.load ahead found))
 
@@ -50,7 +50,7 @@ returns-clause-place c =
     let found : find p (accepted_in r.log) ≡ Some (accepted_of k) = sym table ∙ sym c.reserved.ensures
     ∙ ap (option_map accepted_of) c.in_ok-ahead.was in
     let live = subst (λ x. IsLiveIn x old) (sym c.self.view_is) c.requires in
-    let Over : Record → Type 0 = λ x. option_map place_of c.place_behind.result ≡ place_after (left_by x old) x.clock
+    let Over : Record → Type 0 = λ x. option_map place_found c.place_behind.result ≡ place_after (left_by x old) x.clock
     old c.args.load in
     let front = in_front c.args.old.now.category (sym c.is_background.ensures ∙ c.if-is_background.false) in
     let same = ap (λ (s : AcceptedMessage). place_before r.clock c.args.load (claim_of (accepted_of s)) (stopped_end s))

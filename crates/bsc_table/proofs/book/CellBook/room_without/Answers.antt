@@ -2,7 +2,7 @@ use Rattle.std.proofs.Common.{ℕ, ◌==◌, cond, Option, Some, None, List, sub
 use Rattle.std.proofs.lemmas.List.Elements.{All-contains}
 use Rattle.admission.specs.declared.budget.Held.{Held}
 use Rattle.admission.specs.Reservation.{end_of_stopped}
-use Rattle.admission.specs.Table.{answer_for, remaining_without}
+use Rattle.admission.specs.Table.{room_answer_for, remaining_without}
 use Rattle.bsc_table.specs.Claim.{stop_claims}
 use Rattle.bsc_table.specs.Record.{Record, Accepted, accepted_in, claims_in}
 use Rattle.bsc_table.specs.Accepted.{accepted_of}
@@ -26,9 +26,9 @@ returns c =
     let a : Accepted = accepted_of c.args.old.now in
     let load : ℕ = c.args.load in
     let live = subst (λ x. IsLiveIn x a) (sym c.self.view_is) c.requires in
-    let asked = c.fits.ensures ∙ ap (λ (leaving : Option ℕ). answer_for
+    let asked = c.fits.ensures ∙ ap (λ (leaving : Option ℕ). room_answer_for
     (remaining_without leaving c.self.inside.budget) load) c.leaving_at.ensures
-    ∙ ap (λ (l : List Held). answer_for (remaining_without
+    ∙ ap (λ (l : List Held). room_answer_for (remaining_without
     (cond (end_of_stopped a.message.start a.message.period r.clock == r.clock) (Some a.message.entry) None) l)
     load) book.held in
     let Room : Record → Type 0 = λ x. IsRoom (stop_claims a.message.entry x.clock (claims_in x.log)) x.clock load

@@ -1,8 +1,8 @@
 use Rattle.std.proofs.Common.{◌≡◌, ◌∙◌, ap}
-use Rattle.handset.specs.Keeping.{messages_of}
+use Rattle.handset.specs.Keeping.{messages_shown}
 use Rattle.handset.proofs.handset.Handset.into_shown.Goals as goal
 
 pub returns : goal.returns
 returns c blocks read =
-    let shown : messages_of c.self.inside.shown.items ≡ c.args.self.shown = ap (λ k. k.shown) c.self.view_is in
+    let shown : messages_shown c.self.inside.shown.items ≡ c.args.self.shown = ap (λ k. k.shown) c.self.view_is in
     shown ∙ read.shown

@@ -6,7 +6,7 @@ use Rattle.cbsp_wire.specs.Range.{cells_are_valid}
 use Rattle.cbsp_wire.specs.Written.{octets_of_message}
 use Rattle.order_desk.specs.DeskSteps.{IsPrepared}
 use Rattle.order_desk.specs.Reply.{cells_answered, reply_message}
-use Rattle.order_desk.specs.ReplySteps.{HasRoomFor}
+use Rattle.order_desk.specs.ReplySteps.{HasReplyRoom}
 use Rattle.order_desk.proofs.Errands.{are_named, carried_out, no_room, order_halted, room_of_answers}
 use Rattle.order_desk.proofs.Errands.{added_after, none_added, valid_answers}
 use Rattle.order_desk.proofs.desk.Desk.order.Goals as goal
@@ -30,7 +30,7 @@ reply_in-requires-clause-room g c =
     let prepared = subst (λ (own : List Cell). IsPrepared own c.args.bytes.now order) c.cells.ensures.cells
     c.in_ok-command.ensures.prepared in
     let done = c.in-Ok.ensures.done in
-    subst (λ (answers : List (Cell × Answer)). HasRoomFor (length answers) order.room) (sym c.deref.ensures.value)
+    subst (λ (answers : List (Cell × Answer)). HasReplyRoom (length answers) order.room) (sym c.deref.ensures.value)
     (room_of_answers desk.cells c.args.bytes.now order c.in-Ok.answers.items prepared
     (are_named desk c.args.at order.errands.items c.in-Ok.answers.items done.0 done.1))
 

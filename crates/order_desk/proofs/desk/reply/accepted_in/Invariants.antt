@@ -1,10 +1,10 @@
 use Rattle.std.proofs.Common.{◌≡◌, ◌+◌, ◌≤◌, ◌++◌, length, vec_len, vec_capacity}
-use Rattle.order_desk.specs.Reply.{accepted_in}
+use Rattle.order_desk.specs.Reply.{accepting_cells}
 use Rattle.order_desk.proofs.desk.reply.accepted_in.Given as goal
 
 abbrev pub invariant-answers : goal.invariant-answers
 invariant-answers l = record {
-  so_far : l.list.items ++ accepted_in l.left ≡ accepted_in l.answers;
+  so_far : l.list.items ++ accepting_cells l.left ≡ accepting_cells l.answers;
   room : vec_len l.list + length l.left ≤ vec_capacity l.list;
 }
 

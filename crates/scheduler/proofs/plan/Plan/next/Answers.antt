@@ -4,7 +4,7 @@ use Rattle.scheduler.specs.declared.scheduled.Scheduled.{Scheduled}
 use Rattle.scheduler.specs.declared.tournament.Node.{Node}
 use Rattle.scheduler.specs.Follows.{PlanState, Follows, messages_of, message_of, next_slot}
 use Rattle.scheduler.specs.PlanSteps.{IsSound, IsChoice, after_slot}
-use Rattle.scheduler.specs.QueueSteps.{AreKept, seen_in}
+use Rattle.scheduler.specs.QueueSteps.{AreKeptInOrder, seen_in}
 use Rattle.scheduler.proofs.Followed.{IsSound-next, IsChosen-next, Follows-next, unchanged_messages}
 use Rattle.scheduler.proofs.Planned.{as_long, written_all, seen_written}
 use Rattle.scheduler.proofs.plan.Plan.next.Goals as goal
@@ -12,8 +12,8 @@ use Rattle.scheduler.proofs.plan.Plan.next.Goals as goal
 pub play-used-requires-clause-kept : goal.play-used-requires-clause-kept
 play-used-requires-clause-kept c =
     let at = c.requires.at_next ∙ ap next_slot (sym c.self.view_is) in
-    let Slot : ℕ → Type 0 = λ n. AreKept n c.self.inside.nodes.items in
-    subst (AreKept c.args.slot) (sym c.as_mut_slice.ensures.value) (subst Slot (sym at) c.self.invariant.plan.kept)
+    let Slot : ℕ → Type 0 = λ n. AreKeptInOrder n c.self.inside.nodes.items in
+    subst (AreKeptInOrder c.args.slot) (sym c.as_mut_slice.ensures.value) (subst Slot (sym at) c.self.invariant.plan.kept)
 
 pub play-used-requires-clause-rising : goal.play-used-requires-clause-rising
 play-used-requires-clause-rising c =
@@ -37,7 +37,7 @@ invariant_of-self c =
         sound = subst P (sym (seen_written v _ _ (c.args.slot + 1) c.args.slot f c.as_mut_slice.ensures.value
             c.play-used.ensures.seen)) (IsSound-next plan c.play-used.result c.requires.within (subst Slot (sym at)
             c.self.invariant.plan.sound));
-        kept = subst (AreKept (c.args.slot + 1)) (sym (written_all v _ _ (c.args.slot + 1) c.args.slot f
+        kept = subst (AreKeptInOrder (c.args.slot + 1)) (sym (written_all v _ _ (c.args.slot + 1) c.args.slot f
             c.as_mut_slice.ensures.value c.play-used.ensures.seen)) c.play-used.ensures.kept;
       };
       room = omega (

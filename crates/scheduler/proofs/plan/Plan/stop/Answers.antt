@@ -6,7 +6,7 @@ use Rattle.scheduler.specs.Message.{stopped_at}
 use Rattle.scheduler.specs.Completed.{completed}
 use Rattle.scheduler.specs.Follows.{PlanState, Follows, messages_of, message_of, next_slot}
 use Rattle.scheduler.specs.PlanSteps.{IsSound, scheduled_stopped}
-use Rattle.scheduler.specs.QueueSteps.{AreKept, AreRising, seen_in}
+use Rattle.scheduler.specs.QueueSteps.{AreKeptInOrder, AreRising, seen_in}
 use Rattle.scheduler.proofs.Followed.{IsSound-stop, Follows-stop, completed-kept, messages_of-stopped}
 use Rattle.scheduler.proofs.Planned.{as_long, plan_rising, written_all, seen_written}
 use Rattle.scheduler.proofs.plan.Plan.stop.Goals as goal
@@ -19,8 +19,8 @@ completed_of-completed-requires c =
 pub stop_at-requires-clause-kept : goal.stop_at-requires-clause-kept
 stop_at-requires-clause-kept c =
     let at = c.requires.at_next ∙ ap next_slot (sym c.self.view_is) in
-    let Slot : ℕ → Type 0 = λ n. AreKept n c.self.inside.nodes.items in
-    subst (AreKept c.args.slot) (sym c.as_mut_slice.ensures.value) (subst Slot (sym at) c.self.invariant.plan.kept)
+    let Slot : ℕ → Type 0 = λ n. AreKeptInOrder n c.self.inside.nodes.items in
+    subst (AreKeptInOrder c.args.slot) (sym c.as_mut_slice.ensures.value) (subst Slot (sym at) c.self.invariant.plan.kept)
 
 pub stop_at-requires-clause-rising : goal.stop_at-requires-clause-rising
 stop_at-requires-clause-rising c =
@@ -40,7 +40,7 @@ invariant_of-self c =
       plan = record {
         sound = subst P (sym over) (IsSound-stop plan c.args.entry c.args.slot (subst Slot (sym at)
             c.self.invariant.plan.sound));
-        kept = subst (AreKept c.args.slot) (sym (written_all v _ _ c.args.slot c.args.slot
+        kept = subst (AreKeptInOrder c.args.slot) (sym (written_all v _ _ c.args.slot c.args.slot
             (λ (t : Scheduled). scheduled_stopped (t.item.entry == c.args.entry) c.args.slot t)
             c.as_mut_slice.ensures.value c.stop_at.ensures.seen)) c.stop_at.ensures.kept;
       };

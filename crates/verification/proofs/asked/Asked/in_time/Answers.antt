@@ -4,7 +4,7 @@ use Rattle.std.proofs.lemmas.List.{take_rest}
 use Rattle.std.proofs.lemmas.List.Sorted.{IsNonDecreasingBy-drop, IsPartitionPoint-from_clause, IsPartitionedBy-ltb}
 use Rattle.verification.specs.declared.judged.JudgedPage.{JudgedPage}
 use Rattle.verification.specs.Asked.{AskedMessage}
-use Rattle.verification.specs.Kept.{asked_of}
+use Rattle.verification.specs.Kept.{asked_kept}
 use Rattle.verification.proofs.TimeLaws.{between-points, rising-by}
 use Rattle.verification.proofs.asked.Asked.in_time.Goals as goal
 
@@ -17,7 +17,7 @@ point_at slot pages place =
 pub returns : goal.returns
 unfolding point_at
 returns c =
-    let a : AskedMessage = asked_of c.args.self.now in
+    let a : AskedMessage = asked_kept c.args.self.now in
     let pages : List JudgedPage = c.args.pages.now in
     let first : ℕ = c.partition_point-first.result in
     let rest = take_rest c.args.pages.now c.partition_point-first.result in

@@ -8,7 +8,7 @@ use Rattle.verification.specs.declared.row.Finding.TheVariants as findings
 use Rattle.verification.specs.Found.{FindingsState}
 use Rattle.verification.specs.FoundSteps.{AreJudgedBy}
 use Rattle.handset.specs.Recording.{TapeRecording}
-use Rattle.verification.specs.Rows.{is_known, row_of, tape_of}
+use Rattle.verification.specs.Rows.{is_known, finding_row, tape_of}
 use Rattle.verification.proofs.FoundLaws.{taken-first, taken-second, taken-unknown}
 use Rattle.verification.proofs.findings.Findings.take.Goals as goal
 use Rattle.verification.proofs.findings.Findings.take.Goals.{then-not-is_known+in_ok-push}
@@ -43,7 +43,7 @@ returns c = λ records tapes taken. elim c.if-not-is_known.branch [
       ∙ ap (λ (i : Inside). i.seen.items ++ c.args.cell ∷ []) w.self-inside-is
       ∙ ap (λ (f : FindingsState). f.seen ++ c.args.cell ∷ []) c.self.view_is)
       (ap (λ (i : Inside). i.others.items) w.self-inside-is ∙ w.in_ok-push.ensures.items
-      ∙ ap (λ (f : FindingsState). f.others ++ row_of c.args.cell findings.UnknownCell ∷ []) c.self.view_is)
+      ∙ ap (λ (f : FindingsState). f.others ++ finding_row c.args.cell findings.UnknownCell ∷ []) c.self.view_is)
   | else-not-is_known+then-is_among+in_ok-push-2 w ↦ taken-second records c.args.self.now (new c) tapes (tape c) taken
       (known c ∙ w.if-not-is_known.false)
       (ap (λ (f : FindingsState). list_any (is_cell c.args.cell) f.seen) (sym c.self.view_is)
@@ -54,7 +54,7 @@ returns c = λ records tapes taken. elim c.if-not-is_known.branch [
       ∙ ap (λ (i : Inside). i.seen.items ++ c.args.cell ∷ []) w.self-inside-is
       ∙ ap (λ (f : FindingsState). f.seen ++ c.args.cell ∷ []) c.self.view_is)
       (ap (λ (i : Inside). i.others.items) w.self-inside-is ∙ w.in_ok-push-2.ensures.items
-      ∙ ap (λ (f : FindingsState). f.others ++ row_of c.args.cell findings.SecondTape ∷ []) c.self.view_is)
+      ∙ ap (λ (f : FindingsState). f.others ++ finding_row c.args.cell findings.SecondTape ∷ []) c.self.view_is)
   | else-not-is_known+else-is_among+in_ok-judge_cells w ↦ taken-first records c.args.self.now (new c) tapes (tape c)
       taken
       (known c ∙ w.if-not-is_known.false)
