@@ -5,7 +5,7 @@ use Rattle.std.specs.List.{list_any}
 use Rattle.std.proofs.lemmas.Bool.{cases_Bool}
 use Rattle.bsc_table.specs.Record.{Record}
 use Rattle.order_desk.specs.Agreement.{is_full_of}
-use Rattle.book_runs.specs.Live.{Order, asked_by}
+use Rattle.book_runs.specs.Live.{Interleaving, asked_by}
 use Rattle.book_runs.specs.Run.{Exchange, asked_of, entries_for}
 use Rattle.book_runs.specs.Sessions.{asks_of, is_of_command}
 use Rattle.book_runs.proofs.Noted.{numbered_all}
@@ -16,7 +16,7 @@ use Rattle.book_runs.proofs.Room.{full_kept, log_few, none_full}
 
 -- the order in which the sessions asked the cell, each all that it asked
 pub record IsAskedInOrder (sessions : List (List Exchange)) (r : Record) : Type 0 where
-  pub order : Order
+  pub order : Interleaving
   pub own : (q : ℕ) → asked_by q order ≡ asked_of r.cell (get_or sessions q [])
   pub entries : r.log ≡ entries_for r.slots 0 (map (λ a. a.1) order)
 

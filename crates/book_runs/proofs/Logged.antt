@@ -10,7 +10,7 @@ use Rattle.std.proofs.lemmas.List.Concat.{flat_map-append}
 use Rattle.cbsp_wire.specs.declared.message.Cell.{Cell}
 use Rattle.bsc_table.specs.Legal.{IsLegal}
 use Rattle.bsc_table.specs.Record.{Record}
-use Rattle.book_runs.specs.Live.{IsRunBy, Order, asked_by}
+use Rattle.book_runs.specs.Live.{IsRunBy, Interleaving, asked_by}
 use Rattle.book_runs.specs.Run.{Asked, Exchange, IsRunOfBook, asked_in, asked_of, entries_for}
 
 -- a finished legal record with these entries: all of what was asked, and of nothing else
@@ -76,7 +76,7 @@ contains_first x xs = (0, omega arith, refl)
 contains_later : {X : Type 0} (x y : X) (ys : List X) → Contains ys x → Contains (y ∷ ys) x
 contains_later x y ys there = (suc there.0, omega (arith, there.1), there.2)
 
-pub each_asked : (order : Order)
+pub each_asked : (order : Interleaving)
     → All (λ (a : ℕ × Asked). Contains (asked_by a.0 order) a.1) order
 each_asked [] = All-nil (λ (a : ℕ × Asked). Contains (asked_by a.0 []) a.1)
 each_asked (first ∷ order) =
@@ -87,7 +87,7 @@ each_asked (first ∷ order) =
     (λ (a : ℕ × Asked). Contains (asked_by a.0 (first ∷ order)) a.1)
     (λ a there. more a (eqb first.0 a.0) there) order (each_asked order))
   where
-    kept : ℕ → Order
+    kept : ℕ → Interleaving
     kept part = filter (λ (a : ℕ × Asked). eqb a.0 part) order
 
     more : (a : ℕ × Asked) (b : Bool) → Contains (asked_by a.0 order) a.1
@@ -97,7 +97,7 @@ each_asked (first ∷ order) =
     more a false there = there
 
 -- and one of a part's is an element of the order
-part_asked : (part : ℕ) (order : Order) (a : Asked) → Contains (asked_by part order) a
+part_asked : (part : ℕ) (order : Interleaving) (a : Asked) → Contains (asked_by part order) a
     → Contains (map (λ x. x.1) order) a
 part_asked part [] a there = there
 part_asked part (first ∷ order) a there =

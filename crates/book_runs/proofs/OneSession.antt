@@ -5,12 +5,12 @@ use Rattle.std.proofs.lemmas.Bool.{cases_Bool, eq-eqb, eqb-false, ne_eqb}
 use Rattle.std.specs.List.{All}
 use Rattle.std.proofs.lemmas.List.Elements.{All-head, All-weaker}
 use Rattle.bsc_table.specs.Record.{Record}
-use Rattle.book_runs.specs.Live.{IsRunBy, Order, asked_by}
+use Rattle.book_runs.specs.Live.{IsRunBy, Interleaving, asked_by}
 use Rattle.book_runs.specs.LiveLaws.{OneSessionIsARun}
 use Rattle.book_runs.specs.Run.{Asked, Exchange, IsExchange, IsRunOfBook, entries_for}
 
 -- where no other part asked anything, the first asked all
-all_of_first : (order : Order) → ((part : ℕ) → asked_by (suc part) order ≡ [])
+all_of_first : (order : Interleaving) → ((part : ℕ) → asked_by (suc part) order ≡ [])
     → asked_by 0 order ≡ map (λ a. a.1) order
 all_of_first [] none = refl
 all_of_first (a ∷ order) none = elim (cases_Bool (eqb a.0 0)) [

@@ -8,7 +8,7 @@ use Rattle.std.proofs.lemmas.List.{drop_all}
 use Rattle.std.proofs.lemmas.List.Elements.{All-filter, All-head, All-weaker, filter_passes}
 use Rattle.std.proofs.lemmas.Option.{slice_get_within}
 use Rattle.bsc_table.specs.declared.entry.Entry.{Entry}
-use Rattle.book_runs.specs.Live.{Order, asked_by}
+use Rattle.book_runs.specs.Live.{Interleaving, asked_by}
 use Rattle.book_runs.specs.Run.{Asked, entries_for, given_slot}
 use Rattle.book_runs.specs.Sessions.{slot_before, slot_of_entry}
 use Rattle.book_runs.proofs.Numbered.{Rise, all_from, from_next, items_at, items_from, no_item, none_from, numbers_of}
@@ -36,7 +36,7 @@ pub record AreParts (slots : ℕ) (log : List Entry) (parts : ℕ → List (ℕ 
 
 -- the order of what was asked from a number on
 record IsOrderFrom (slots : ℕ) (log : List Entry) (parts : ℕ → List (ℕ × Asked)) (k : ℕ) : Type 0 where
-  order : Order
+  order : Interleaving
   own : (q : ℕ) → asked_by q order ≡ map (λ x. x.1) (items_from k (parts q))
   entries : entries_for slots (slot_before log k) (map (λ a. a.1) order) ≡ drop k log
 
@@ -76,7 +76,7 @@ next_item slots log parts k are within rest =
     own : {part : ℕ} → IsOfPart parts k part → (x : ℕ × Asked) → items_at k (parts part) ≡ x ∷ [] → (q : ℕ)
         → asked_by q ((part, x.1) ∷ rest.order) ≡ map (λ y. y.1) (items_from k (parts q))
     own {part = part} is x only q =
-        let kept : Order = filter (λ (a : ℕ × Asked). eqb a.0 q) rest.order in
+        let kept : Interleaving = filter (λ (a : ℕ × Asked). eqb a.0 q) rest.order in
         let later : List (ℕ × Asked) = items_from (suc k) (parts q) in
         let split = from_next k (parts q) (are.rise q) in
         elim (cases_Bool (eqb part q)) [
@@ -112,7 +112,7 @@ order_from slots log parts are (suc left) k whole =
 
 -- so all that was asked has an order
 pub record IsOrderOf (slots : ℕ) (log : List Entry) (parts : ℕ → List (ℕ × Asked)) : Type 0 where
-  pub order : Order
+  pub order : Interleaving
   pub own : (q : ℕ) → asked_by q order ≡ map (λ x. x.1) (parts q)
   pub entries : log ≡ entries_for slots 0 (map (λ a. a.1) order)
 

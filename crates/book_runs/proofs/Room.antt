@@ -14,7 +14,7 @@ use Rattle.bsc_table.specs.Record.{Record}
 use Rattle.order_desk.specs.declared.note.Note.{Note}
 use Rattle.order_desk.specs.declared.note.Note.TheVariants as notes
 use Rattle.order_desk.specs.Agreement.{is_full_of}
-use Rattle.book_runs.specs.Live.{Order, asked_by}
+use Rattle.book_runs.specs.Live.{Interleaving, asked_by}
 use Rattle.book_runs.specs.Run.{Asked, Exchange, asked_of, entries_for, given_slot}
 use Rattle.book_runs.specs.Sessions.{asks_of, is_of_command}
 use Rattle.book_runs.proofs.Logged.{each_asked}
@@ -32,7 +32,7 @@ none_past s r is q past =
     ap (λ (exchanges : List Exchange). numbered r.cell (asks_of s.book.cells exchanges)
     (filter is_of_command (get_or s.passes q []))) (is.past q past)
 
-marks_below : (parts : ℕ) (order : Order) → ((q : ℕ) → parts ≤ q → asked_by q order ≡ [])
+marks_below : (parts : ℕ) (order : Interleaving) → ((q : ℕ) → parts ≤ q → asked_by q order ≡ [])
     → All (λ (a : ℕ × Asked). a.0 < parts) order
 marks_below parts order none = All-weaker (λ (a : ℕ × Asked). Contains (asked_by a.0 order) a.1)
     (λ (a : ℕ × Asked). a.0 < parts) below order (each_asked order)
@@ -56,7 +56,7 @@ as_many_entries slots clock (a ∷ asked) = ap suc (as_many_entries slots (given
 pub log_few : (s : Service) (r : Record) → IsAskedOf s r
     → IsOrderOf r.slots r.log (part_of s r.cell) → length r.log ≤ length s.book.orders
 log_few s r is whole =
-    let order : Order = whole.order in
+    let order : Interleaving = whole.order in
     let entered : length r.log ≡ length order =
     ap length whole.entries ∙ as_many_entries r.slots 0 (map (λ a. a.1) order)
     ∙ length-map order (λ (a : ℕ × Asked). a.1) in

@@ -7,11 +7,11 @@ use Rattle.bsc_table.specs.Record.{Record}
 use Rattle.book_runs.specs.Run.{Asked, Exchange, IsExchange, asked_of, entries_for}
 
 -- what a cell was asked, one after the other, each with the part whose session asked it
-abbrev pub Order : Type 0
-Order = List (ℕ × Asked)
+abbrev pub Interleaving : Type 0
+Interleaving = List (ℕ × Asked)
 
 -- what the session of a part asked, of all that a cell was asked
-abbrev pub asked_by : (part : ℕ) → Order → List Asked
+abbrev pub asked_by : (part : ℕ) → Interleaving → List Asked
 asked_by part order = map (λ a. a.1) (filter (λ a. a.0 == part) order)
 
 -- the record of one cell of the run: a legal history of all its slots, whose log has the entries of what the sessions
@@ -20,7 +20,7 @@ pub record IsRunBy (slots : ℕ) (sessions : List (List Exchange)) (r : Record) 
   pub run : r.slots ≡ slots
   pub over : r.clock ≡ slots
   pub legal : IsLegal r
-  pub order : Order
+  pub order : Interleaving
   pub own : (part : ℕ) → asked_by part order ≡ asked_of r.cell (slice_index_or sessions part [])
   pub entries : r.log ≡ entries_for slots 0 (map (λ a. a.1) order)
 

@@ -4,12 +4,17 @@ use Rattle.std.specs.Prelude.{ℕ, ◌-◌, ◌*◌, ◌/◌, ◌%◌, ◌==◌,
 use Rattle.std.specs.Prelude.{[], ◌∷◌, ◌++◌}
 use Rattle.std.specs.Fmt.{decimal}
 use Rattle.std.specs.List.{flat_map}
+use Rattle.std.specs.Io.KnownBytes.{Appends}
 use Rattle.hex.specs.Hex.{encode_lower}
+use Rattle.device_ends.specs.Moves.{AppendsFront}
+use Rattle.device_ends.specs.Stream.{Writes}
+use Rattle.device_ends.specs.declared.writing.Sink.{Sink}
 use Rattle.cbsp_wire.specs.declared.message.Cell.{Cell}
 use Rattle.cbsp_wire.specs.declared.cause.TheConstants as cause
 use Rattle.bsc_table.specs.Record.{Record, Accepted, accepted_named}
 use Rattle.handset.specs.Reception.{ShownMessage}
-use Rattle.handset.specs.Tape.{TapeReading}
+use Rattle.handset.specs.Tape.{TapeReading, readings_of}
+use Rattle.handset.specs.declared.tape.Reading.{Reading}
 use Rattle.report.specs.ReportText.{serial_text}
 use Rattle.report.specs.Rows.{cell_rows}
 use Rattle.report.specs.declared.row.Row.{Row}
@@ -176,3 +181,14 @@ chart_front slots =
 abbrev pub chart_text : (slots : ℕ) → Option Cell → List Record → List TapeReading → List ℕ
 chart_text slots wanted records readings =
     chart_front slots ++ sections_of wanted records readings ++ charts.FOOT.now
+
+-- a writer held so much before a call, and after it that with the chart of records and readings, or with a front of it
+abbrev pub WritesChart : {W : Type 0} → (held : W → Option (List ℕ)) → (slots : ℕ) → Option Cell → List Record
+    → List Reading → (old new : Sink W) → Type 0
+WritesChart held slots wanted records readings old new =
+    Writes held (λ old new. Appends old new (chart_text slots wanted records (readings_of readings))) old new
+
+abbrev pub WritesFront : {W : Type 0} → (held : W → Option (List ℕ)) → (slots : ℕ) → Option Cell → List Record
+    → List Reading → (old new : Sink W) → Type 0
+WritesFront held slots wanted records readings old new =
+    Writes held (λ old new. AppendsFront old new (chart_text slots wanted records (readings_of readings))) old new

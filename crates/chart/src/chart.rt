@@ -1,15 +1,12 @@
 //! The page of a chart, and how it is written.
 
 ghost use Rattle.std.specs.Prelude.{◌≡◌, ◌≢◌, ◌↔◌, ◌++◌, true, length, IfErr, IfOk, IsErrOf, IsTrue, OnOk};
-ghost use Rattle.std.specs.Io.KnownBytes.{Appends};
-ghost use Rattle.device_ends.specs.Moves.{AppendsFront};
-ghost use Rattle.device_ends.specs.Sink.{sink_failed, writer_of};
-ghost use Rattle.device_ends.specs.Stream.{Writes};
+ghost use Rattle.device_ends.specs.Sink.{sink_failed};
 ghost use Rattle.handset.specs.Keeping.{messages_shown};
 ghost use Rattle.handset.specs.Tape.{readings_of};
 ghost use Rattle.report.specs.Rows.{AreOfOneCells};
 ghost use Rattle.chart.specs.ChartText.{chart_front, chart_text, head, introduction, is_wanted};
-ghost use Rattle.chart.specs.ChartText.{section_if, sections_of};
+ghost use Rattle.chart.specs.ChartText.{section_if, sections_of, WritesChart, WritesFront};
 
 use crate::cell::push_section;
 use crate::page::Page;
@@ -187,11 +184,9 @@ pub fn write_chart<W: Write>(
     readings: &[Reading],
     sink: &mut Sink<W>,
 ) -> Result<(), ReportFault>
-    ensures ok { OnOk result (Appends (W.contents (writer_of sink.old)) (W.contents (writer_of sink.new))
-        (chart_text slots wanted records.now (readings_of readings.now))) }
-    ensures front { IsErrOf result ReportFault.WriteFailed → Writes W.contents
-        (λ old new. AppendsFront old new (chart_text slots wanted records.now (readings_of readings.now)))
-        sink.old sink.new }
+    ensures ok { OnOk result (WritesChart W.contents slots wanted records.now readings.now sink.old sink.new) }
+    ensures front { IsErrOf result ReportFault.WriteFailed
+        → WritesFront W.contents slots wanted records.now readings.now sink.old sink.new }
     ensures cells { IsErrOf result ReportFault.Cells → ¬ AreOfOneCells records.now (readings_of readings.now) }
     ensures unwritten { IfErr result (λ fault. fault ≢ ReportFault.WriteFailed → sink.new ≡ sink.old) }
     ensures failed { IsErrOf result ReportFault.WriteFailed ↔ IsTrue (sink_failed sink.new) }

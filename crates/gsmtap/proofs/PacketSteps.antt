@@ -13,11 +13,11 @@ use Rattle.gsmtap.specs.Track.{Known}
 use Rattle.gsmtap.specs.declared.fault.AirFaultKind.{AirFaultKind}
 use Rattle.gsmtap.specs.declared.fault.AirFaultKind.TheVariants as kind
 use Rattle.gsmtap.specs.declared.file.Link.{Link}
-use Rattle.gsmtap.specs.declared.file.Order.{Order}
+use Rattle.gsmtap.specs.declared.file.OctetOrder.{OctetOrder}
 use Rattle.gsmtap.specs.declared.tape.Wanted.{Wanted}
 
 -- so many whole packets stand before what is left, and this is known by them
-pub record AreTaken (wanted : Wanted) (order : Order) (link : Link) (octets left : List ℕ) (number : ℕ)
+pub record AreTaken (wanted : Wanted) (order : OctetOrder) (link : Link) (octets left : List ℕ) (number : ℕ)
     (known : Known) : Type 0 where
   pub packets : List Packet
   pub split : octets ≡ octets_of_packets packets ++ left
@@ -26,7 +26,7 @@ pub record AreTaken (wanted : Wanted) (order : Order) (link : Link) (octets left
   pub are_taken : taken wanted link packets ≡ Ok known
 
 -- octets that have a whole packet begin with it
-pub begins_with_packet : (order : Order) (octets header after inside rest : List ℕ) (size : ℕ) → 16 ≤ length octets →
+pub begins_with_packet : (order : OctetOrder) (octets header after inside rest : List ℕ) (size : ℕ) → 16 ≤ length octets →
     header ≡ take 16 octets → after ≡ drop 16 octets → size ≡ length_said order header → size ≤ length after →
     inside ≡ take size after → rest ≡ drop size after → BeginsWithPacket order octets inside rest
 begins_with_packet order octets header after inside rest size long header_is after_is size_is fits inside_is rest_is =
@@ -47,7 +47,7 @@ begins_with_packet order octets header after inside rest size long header_is aft
     }
 
 -- what is left is shorter by a packet's header at least
-pub shorter : (order : Order) (octets inside rest : List ℕ) → BeginsWithPacket order octets inside rest →
+pub shorter : (order : OctetOrder) (octets inside rest : List ℕ) → BeginsWithPacket order octets inside rest →
     length rest + 16 ≤ length octets
 shorter order octets inside rest begins =
     let packet : Packet = begins.packet in
@@ -90,12 +90,12 @@ unfolding after_packet
 after_inside link from known packet inside result is comes =
     ap (λ octets. after_sent known (sent_in link from octets)) (sym is) ∙ comes
 
-whole-more : (order : Order) (packets : List Packet) (packet : Packet) → ArePackets order packets →
+whole-more : (order : OctetOrder) (packets : List Packet) (packet : Packet) → ArePackets order packets →
     IsPacket order packet → ArePackets order (packets ++ packet ∷ [])
 whole-more order [] packet whole one = (one, tt)
 whole-more order (first ∷ packets) packet whole one = (whole.0, whole-more order packets packet whole.1 one)
 
-split-more : (octets left inside rest : List ℕ) (order : Order) (packets : List Packet) →
+split-more : (octets left inside rest : List ℕ) (order : OctetOrder) (packets : List Packet) →
     octets ≡ octets_of_packets packets ++ left → (begins : BeginsWithPacket order left inside rest) →
     octets ≡ octets_of_packets (packets ++ begins.packet ∷ []) ++ rest
 split-more octets left inside rest order packets split begins =
@@ -105,7 +105,7 @@ split-more octets left inside rest order packets split begins =
     ∙ ap (λ back. (octets_of_packets packets ++ back) ++ rest) (sym (append-nil (octets_of_packet packet)))
     ∙ ap (λ front. front ++ rest) (sym (flat_map-append octets_of_packet packets (packet ∷ [])))
 
-pub one_more : (wanted : Wanted) (order : Order) (link : Link) (octets left inside rest : List ℕ) (number : ℕ)
+pub one_more : (wanted : Wanted) (order : OctetOrder) (link : Link) (octets left inside rest : List ℕ) (number : ℕ)
     (known next : Known) → AreTaken wanted order link octets left number known →
     BeginsWithPacket order left inside rest → after_sent known (sent_in link wanted.from inside) ≡ Ok next →
     AreTaken wanted order link octets rest (number + 1) next
@@ -122,7 +122,7 @@ one_more wanted order link octets left inside rest number known next sofar begin
           (after_inside link wanted.from known packet inside (Ok next) begins.inside_is comes);
     }
 
-wrong_packet : (wanted : Wanted) (order : Order) (link : Link) (octets left inside rest : List ℕ) (number : ℕ)
+wrong_packet : (wanted : Wanted) (order : OctetOrder) (link : Link) (octets left inside rest : List ℕ) (number : ℕ)
     (known : Known) (why : AirFaultKind) → AreTaken wanted order link octets left number known →
     BeginsWithPacket order left inside rest → after_sent known (sent_in link wanted.from inside) ≡ Err why →
     HasWrongPacket wanted order link octets (record { packet = number + 1; kind = why })
@@ -142,7 +142,7 @@ wrong_packet wanted order link octets left inside rest number known why sofar be
       numbered = sym (length_push sofar.packets packet ∙ many);
     }
 
-pub wrong_kind : (wanted : Wanted) (order : Order) (link : Link) (octets left inside rest : List ℕ) (number : ℕ)
+pub wrong_kind : (wanted : Wanted) (order : OctetOrder) (link : Link) (octets left inside rest : List ℕ) (number : ℕ)
     (known : Known) (why : AirFaultKind) → AreTaken wanted order link octets left number known →
     BeginsWithPacket order left inside rest → after_sent known (sent_in link wanted.from inside) ≡ Err why →
     IsBlockKind why → IsPacketFaultOf wanted order link octets (number + 1) why
@@ -156,7 +156,7 @@ wrong_kind wanted order link octets left inside rest number known kind.StepsBack
 wrong_kind wanted order link octets left inside rest number known kind.Refused sofar begins comes is = absurd is
 
 -- the end comes inside the next packet
-pub short_packet : (wanted : Wanted) (order : Order) (link : Link) (octets left : List ℕ) (number : ℕ) (known : Known) →
+pub short_packet : (wanted : Wanted) (order : OctetOrder) (link : Link) (octets left : List ℕ) (number : ℕ) (known : Known) →
     AreTaken wanted order link octets left number known → IsCutPacket order left →
     HasShortPacket wanted order link octets (number + 1)
 short_packet wanted order link octets left number known sofar cut = record {
@@ -171,7 +171,7 @@ short_packet wanted order link octets left number known sofar cut = record {
 }
 
 -- nothing is left
-pub all_taken : (wanted : Wanted) (order : Order) (link : Link) (octets left : List ℕ) (number : ℕ) (known : Known) →
+pub all_taken : (wanted : Wanted) (order : OctetOrder) (link : Link) (octets left : List ℕ) (number : ℕ) (known : Known) →
     AreTaken wanted order link octets left number known → left ≡ [] → AreKnown wanted order link octets known
 all_taken wanted order link octets left number known sofar end = record {
   packets = sofar.packets;
@@ -183,7 +183,7 @@ all_taken wanted order link octets left number known sofar end = record {
 }
 
 -- before the first packet
-pub none_taken : (wanted : Wanted) (order : Order) (link : Link) (octets : List ℕ) (known : Known) →
+pub none_taken : (wanted : Wanted) (order : OctetOrder) (link : Link) (octets : List ℕ) (known : Known) →
     known ≡ nothing_known wanted.slots → AreTaken wanted order link octets octets 0 known
 unfolding taken
 none_taken wanted order link octets known is = record {

@@ -21,13 +21,13 @@ use Rattle.gsmtap.specs.declared.tape.Wanted.{Wanted}
 use Rattle.handset.specs.Tape.{cell_in, octets_of_blocks, tape_octets}
 use Rattle.gsmtap.specs.declared.fault.AirFaultKind.{AirFaultKind}
 use Rattle.gsmtap.specs.declared.file.Link.{Link}
-use Rattle.gsmtap.specs.declared.file.Order.{Order}
+use Rattle.gsmtap.specs.declared.file.OctetOrder.{OctetOrder}
 use Rattle.gsmtap.specs.Packet.{datagram_header, frame_number, internet_header, packet, record_header, tap_header}
 use Rattle.std.proofs.lemmas.List.{length-append, length_push, take_all}
 use Rattle.gsmtap.specs.Track.{Known, ahead, followed, nearest, place_in, put, put_at, slot_of_frame, with_block}
 use Rattle.gsmtap.specs.Tap.{block_of, datagram_of, internet_of, payload_of, sent_in}
 use Rattle.gsmtap.specs.declared.file.Link.TheVariants.{Internet}
-use Rattle.gsmtap.specs.declared.file.Order.TheVariants.{LowFirst}
+use Rattle.gsmtap.specs.declared.file.OctetOrder.TheVariants.{LowFirst}
 use Rattle.gsmtap.specs.declared.packet.Channel.{Channel}
 use Rattle.gsmtap.specs.declared.packet.Channel.TheVariants.{Basic, Extended}
 use Rattle.gsmtap.specs.declared.packet.Place.{Place}
@@ -237,7 +237,7 @@ on_joined channel cell slot (octets ∷ rest) =
     ∙ ap (λ xs. xs ++ octets_of_packets back) (slot_joined channel cell slot octets)
     ∙ ap (λ xs. packets_of_slot channel 0 cell slot octets ++ xs) (on_joined channel cell (slot + 1) rest)
 
-are-append : (order : Order) (front back : List Packet) → ArePackets order front → ArePackets order back →
+are-append : (order : OctetOrder) (front back : List Packet) → ArePackets order front → ArePackets order back →
     ArePackets order (front ++ back)
 are-append order [] back first second = second
 are-append order (packet ∷ front) back first second = (first.0, are-append order front back first.1 second)

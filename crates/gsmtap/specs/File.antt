@@ -4,13 +4,13 @@ use Rattle.std.specs.Prelude.{◌≡◌, ℕ, ◌+◌, ◌<◌, ◌≤◌, ◌==
 use Rattle.std.specs.Prelude.{if◌then◌else◌}
 use Rattle.std.specs.List.{flat_map, AllByRecursion}
 use Rattle.byteorder.specs.Endian.{big_number, little_number}
-use Rattle.gsmtap.specs.declared.file.Order.{Order}
-use Rattle.gsmtap.specs.declared.file.Order.TheVariants.{HighFirst, LowFirst}
+use Rattle.gsmtap.specs.declared.file.OctetOrder.{OctetOrder}
+use Rattle.gsmtap.specs.declared.file.OctetOrder.TheVariants.{HighFirst, LowFirst}
 use Rattle.gsmtap.specs.declared.file.Link.{Link}
 use Rattle.gsmtap.specs.declared.file.Link.TheVariants.{Ethernet, Internet}
 
 -- the number in the first four octets
-abbrev pub number_in : Order → List ℕ → ℕ
+abbrev pub number_in : OctetOrder → List ℕ → ℕ
 number_in LowFirst octets = little_number 4 octets
 number_in HighFirst octets = big_number 4 octets
 
@@ -19,7 +19,7 @@ abbrev pub is_magic : ℕ → Bool
 is_magic number = number == 0xA1B2C3D4 || number == 0xA1B23C4D
 
 -- the order of the octets of its numbers, by the magic number that a file begins with
-abbrev pub octet_order_of : List ℕ → Option Order
+abbrev pub octet_order_of : List ℕ → Option OctetOrder
 octet_order_of header =
     if is_magic (little_number 4 header) then Some LowFirst
     else (if is_magic (big_number 4 header) then Some HighFirst else None)
@@ -29,7 +29,7 @@ abbrev pub link_numbered : ℕ → Option Link
 link_numbered number =
     if number == 1 then Some Ethernet else (if number == 101 || number == 228 then Some Internet else None)
 
-abbrev pub link_of : Order → List ℕ → Option Link
+abbrev pub link_of : OctetOrder → List ℕ → Option Link
 link_of order header = link_numbered (number_in order (drop 20 header))
 
 -- a packet: sixteen octets that say when it came and how many octets follow, and these
@@ -38,14 +38,14 @@ pub record Packet : Type 0 where
   pub octets : List ℕ
 
 -- how many octets a packet has that begins so
-abbrev pub length_said : Order → List ℕ → ℕ
+abbrev pub length_said : OctetOrder → List ℕ → ℕ
 length_said order octets = number_in order (drop 8 octets)
 
-pub record IsPacket (order : Order) (packet : Packet) : Type 0 where
+pub record IsPacket (order : OctetOrder) (packet : Packet) : Type 0 where
   pub sixteen : length packet.header ≡ 16
   pub said : length_said order packet.header ≡ length packet.octets
 
-abbrev pub ArePackets : Order → List Packet → Type 0
+abbrev pub ArePackets : OctetOrder → List Packet → Type 0
 ArePackets order packets = AllByRecursion (IsPacket order) packets
 
 abbrev pub octets_of_packet : Packet → List ℕ
@@ -55,12 +55,12 @@ abbrev pub octets_of_packets : List Packet → List ℕ
 octets_of_packets packets = flat_map octets_of_packet packets
 
 -- the end comes inside a packet: in its header, or in the octets that this says
-pub record IsCutPacket (order : Order) (octets : List ℕ) : Type 0 where
+pub record IsCutPacket (order : OctetOrder) (octets : List ℕ) : Type 0 where
   pub some : 0 < length octets
   pub inside : 16 ≤ length octets → length octets < 16 + length_said order octets
 
 -- a file begins with a header that is known, and goes on with these octets
-pub record Opens (input : List ℕ) (order : Order) (link : Link) (rest : List ℕ) : Type 0 where
+pub record Opens (input : List ℕ) (order : OctetOrder) (link : Link) (rest : List ℕ) : Type 0 where
   pub header : List ℕ
   pub split : input ≡ header ++ rest
   pub long : length header ≡ 24

@@ -11,7 +11,7 @@ use Rattle.gsmtap.specs.declared.fault.AirFault.{AirFault}
 use Rattle.gsmtap.specs.declared.fault.AirFaultKind.{AirFaultKind}
 use Rattle.gsmtap.specs.declared.fault.AirFaultKind.TheVariants as kind
 use Rattle.gsmtap.specs.declared.file.Link.{Link}
-use Rattle.gsmtap.specs.declared.file.Order.{Order}
+use Rattle.gsmtap.specs.declared.file.OctetOrder.{OctetOrder}
 use Rattle.gsmtap.specs.declared.tap.Sent.{Sent}
 use Rattle.gsmtap.specs.declared.tape.Wanted.{Wanted}
 
@@ -45,14 +45,14 @@ abbrev pub blocks_in : List (Option (List ℕ)) → List (List ℕ)
 blocks_in blocks = map (λ block. unwrap_or block idle_block) blocks
 
 -- octets are whole packets, of which this is known
-pub record AreKnown (wanted : Wanted) (order : Order) (link : Link) (octets : List ℕ) (known : Known) : Type 0 where
+pub record AreKnown (wanted : Wanted) (order : OctetOrder) (link : Link) (octets : List ℕ) (known : Known) : Type 0 where
   pub packets : List Packet
   pub joined : octets ≡ octets_of_packets packets
   pub whole : ArePackets order packets
   pub are_taken : taken wanted link packets ≡ Ok known
 
 -- octets begin with whole packets that are no fault, and end inside the next one, which has this number
-pub record HasShortPacket (wanted : Wanted) (order : Order) (link : Link) (octets : List ℕ) (number : ℕ) : Type 0 where
+pub record HasShortPacket (wanted : Wanted) (order : OctetOrder) (link : Link) (octets : List ℕ) (number : ℕ) : Type 0 where
   pub packets : List Packet
   pub rest : List ℕ
   pub split : octets ≡ octets_of_packets packets ++ rest
@@ -63,7 +63,7 @@ pub record HasShortPacket (wanted : Wanted) (order : Order) (link : Link) (octet
   pub numbered : number ≡ length packets + 1
 
 -- octets begin with whole packets, of which the last has this fault, and no earlier one is at fault
-pub record HasWrongPacket (wanted : Wanted) (order : Order) (link : Link) (octets : List ℕ) (fault : AirFault) : Type 0
+pub record HasWrongPacket (wanted : Wanted) (order : OctetOrder) (link : Link) (octets : List ℕ) (fault : AirFault) : Type 0
   where
     pub packets : List Packet
     pub rest : List ℕ
@@ -73,8 +73,8 @@ pub record HasWrongPacket (wanted : Wanted) (order : Order) (link : Link) (octet
     pub numbered : fault.packet ≡ length packets
 
 -- the input is a capture file, in which this is so of the octets after the header
-pub record IsFileWith (input : List ℕ) (IsSo : Order → Link → List ℕ → Type 0) : Type 0 where
-  pub order : Order
+pub record IsFileWith (input : List ℕ) (IsSo : OctetOrder → Link → List ℕ → Type 0) : Type 0 where
+  pub order : OctetOrder
   pub link : Link
   pub after : List ℕ
   pub opens : Opens input order link after
@@ -92,7 +92,7 @@ IsNoCapture input = (length input < 24) ⊎ (octet_order_of (take 24 input) ≡ 
 
 pub record IsOtherLink (input : List ℕ) : Type 0 where
   pub long : 24 ≤ length input
-  pub order : Order
+  pub order : OctetOrder
   pub order_is : octet_order_of (take 24 input) ≡ Some order
   pub link_is : link_of order (take 24 input) ≡ None
 

@@ -7,7 +7,7 @@ use Rattle.gsmtap.specs.declared.fault.AirFault.{AirFault}
 use Rattle.gsmtap.specs.declared.fault.AirFaultKind.{AirFaultKind}
 use Rattle.gsmtap.specs.declared.fault.AirFaultKind.TheVariants as kind
 use Rattle.gsmtap.specs.declared.file.Link.{Link}
-use Rattle.gsmtap.specs.declared.file.Order.{Order}
+use Rattle.gsmtap.specs.declared.file.OctetOrder.{OctetOrder}
 use Rattle.gsmtap.specs.declared.tape.Wanted.{Wanted}
 use Rattle.gsmtap.specs.declared.track.Air.{Air}
 use Rattle.gsmtap.specs.declared.track.Track.{Track}
@@ -22,14 +22,14 @@ last_slot None = 0
 last_slot (Some track) = track.slot
 
 -- octets begin with a packet, of whose octets these are left, before the rest
-pub record BeginsWithPacket (order : Order) (octets inside rest : List ℕ) : Type 0 where
+pub record BeginsWithPacket (order : OctetOrder) (octets inside rest : List ℕ) : Type 0 where
   pub packet : Packet
   pub is : IsPacket order packet
   pub inside_is : inside ≡ packet.octets
   pub split : octets ≡ octets_of_packet packet ++ rest
 
 -- why octets are no packets that make a tape
-abbrev pub IsPacketFaultOf : Wanted → Order → Link → List ℕ → (packet : ℕ) → AirFaultKind → Type 0
+abbrev pub IsPacketFaultOf : Wanted → OctetOrder → Link → List ℕ → (packet : ℕ) → AirFaultKind → Type 0
 IsPacketFaultOf wanted order link octets packet kind.NoCapture = ⊥
 IsPacketFaultOf wanted order link octets packet kind.OtherLink = ⊥
 IsPacketFaultOf wanted order link octets packet kind.Short = HasShortPacket wanted order link octets packet
@@ -39,7 +39,7 @@ IsPacketFaultOf wanted order link octets packet kind.StepsBack =
     HasWrongPacket wanted order link octets (record { packet = packet; kind = kind.StepsBack })
 IsPacketFaultOf wanted order link octets packet kind.Refused = packet ≡ 0
 
-abbrev pub IsPacketFault : Wanted → Order → Link → List ℕ → AirFault → Type 0
+abbrev pub IsPacketFault : Wanted → OctetOrder → Link → List ℕ → AirFault → Type 0
 IsPacketFault wanted order link octets fault = IsPacketFaultOf wanted order link octets fault.packet fault.kind
 
 -- a fault of a block, which is of one of two kinds

@@ -7,7 +7,7 @@ use byteorder::{BigEndian, ByteOrder, LittleEndian};
 
 /// Which octet of a number stands first.
 #[derive(Clone, Copy, Debug, PartialEq, Eq)]
-pub enum Order {
+pub enum OctetOrder {
     /// The lowest.
     LowFirst,
     /// The highest.
@@ -24,13 +24,13 @@ pub enum Link {
 }
 
 /// The number in the first four octets.
-pub fn number_in(order: Order, octets: &[u8]) -> u32
+pub fn number_in(order: OctetOrder, octets: &[u8]) -> u32
     requires { 4 ≤ length octets.now }
     ensures { result ≡ number_in order octets.now }
 {
     match order {
-        Order::LowFirst => LittleEndian::read_u32(octets),
-        Order::HighFirst => BigEndian::read_u32(octets),
+        OctetOrder::LowFirst => LittleEndian::read_u32(octets),
+        OctetOrder::HighFirst => BigEndian::read_u32(octets),
     }
 }
 
@@ -42,21 +42,21 @@ fn is_magic(number: u32) -> bool
 }
 
 /// The order of the octets of a file's numbers, by its header.
-pub fn order_of(header: &[u8]) -> Option<Order>
+pub fn order_of(header: &[u8]) -> Option<OctetOrder>
     requires { length header.now ≡ 24 }
     ensures { result ≡ octet_order_of header.now }
 {
     if is_magic(LittleEndian::read_u32(header)) {
-        Some(Order::LowFirst)
+        Some(OctetOrder::LowFirst)
     } else if is_magic(BigEndian::read_u32(header)) {
-        Some(Order::HighFirst)
+        Some(OctetOrder::HighFirst)
     } else {
         None
     }
 }
 
 /// The link type of a file, by its header.
-pub fn link_of(order: Order, header: &[u8]) -> Option<Link>
+pub fn link_of(order: OctetOrder, header: &[u8]) -> Option<Link>
     requires { length header.now ≡ 24 }
     ensures { result ≡ link_of order header.now }
 {

@@ -10,7 +10,7 @@ ghost use Rattle.gsmtap.specs.TapeSteps.{BeginsWithPacket, IsBlockKind, IsPacket
 ghost use Rattle.gsmtap.specs.Tap.{sent_in};
 
 use crate::fault::{AirFault, AirFaultKind};
-use crate::file::{Link, Order, link_of, number_in, order_of};
+use crate::file::{Link, OctetOrder, link_of, number_in, order_of};
 use crate::tap::sent_in;
 use crate::track::Air;
 use cbch_blocks::idle;
@@ -72,7 +72,7 @@ fn fault_at(packet: u64, kind: AirFaultKind) -> AirFault
 fn read_packets(
     alloc: Global,
     wanted: &Wanted,
-    order: Order,
+    order: OctetOrder,
     link: Link,
     octets: &[u8],
 ) -> Result<Air, AirFault>
@@ -97,7 +97,7 @@ fn read_packets(
 }
 
 /// The octets of the packet that octets begin with, and what follows it; none if they end inside it.
-fn next_packet(order: Order, octets: &[u8]) -> Option<(&[u8], &[u8])>
+fn next_packet(order: OctetOrder, octets: &[u8]) -> Option<(&[u8], &[u8])>
     requires { 0 < length octets.now }
     ensures { MatchOption result (IsCutPacket order octets.now)
         (λ packet. BeginsWithPacket order octets.now packet.0.now packet.1.now) }

@@ -1,5 +1,6 @@
 -- What a contract sees of a `Line` (own).
-use Rattle.std.specs.Prelude.{ℕ, Bool, List, ◌++◌, codes}
+use Rattle.std.specs.Prelude.{◌≡◌, ℕ, ◌≤◌, ◌/◌, Bool, false, Option, List, ◌++◌, codes}
+use Rattle.std.specs.Io.KnownBytes.{Appends}
 use Rattle.progress.specs.Counts.{counts_text}
 use Rattle.progress.specs.declared.line.Line.{Line}
 
@@ -15,9 +16,18 @@ is_drawn line = line.is_drawn
 abbrev pub has_ended : {E : Type 0} → Line E → Bool
 has_ended line = line.has_ended
 
--- what is written to draw it
-abbrev pub drawing : ℕ → ℕ → ℕ → List ℕ
-drawing read written seconds = codes "\r" ++ counts_text read written seconds
+-- it is drawn after so many nanoseconds: the first second has passed, and the line hasn't ended
+pub record IsDue (nanoseconds : ℕ) {E : Type 0} (line : Line E) : Type 0 where
+  pub late : 1_000_000_000 ≤ nanoseconds
+  pub stays : has_ended line ≡ false
+
+-- what is written to draw it after so many nanoseconds
+abbrev pub drawing : (read written nanoseconds : ℕ) → List ℕ
+drawing read written nanoseconds = codes "\r" ++ counts_text read written (nanoseconds / 1_000_000_000)
+
+-- these octets are written to its screen
+abbrev pub Shows : {E : Type 0} → (held : E → Option (List ℕ)) → (old new : Line E) → List ℕ → Type 0
+Shows held old new octets = Appends (held (screen_of old)) (held (screen_of new)) octets
 
 -- what is written to wipe it: 64 spaces, which is more than it has below 10 ^ 14 octets and a year
 abbrev pub wiping : List ℕ

@@ -1,7 +1,6 @@
 //! The line on the screen.
 
-ghost use Rattle.std.specs.Prelude.{◌≡◌, ◌<◌, ◌≤◌, ◌/◌, false, true, OnOk};
-ghost use Rattle.std.specs.Io.KnownBytes.{Appends, Keeps};
+ghost use Rattle.std.specs.Prelude.{◌≡◌, ◌<◌, false, true, OnOk};
 ghost use Rattle.std.specs.Duration.{as_nanos};
 
 use crate::Counts;
@@ -50,7 +49,7 @@ impl<E> Line<E> {
 }
 
 impl<E: Write> Line<E> {
-    ghost use Rattle.progress.specs.Line.{drawing, has_ended, is_drawn, screen_of, wiping};
+    ghost use Rattle.progress.specs.Line.{drawing, has_ended, is_drawn, screen_of, wiping, IsDue, Shows};
 
     /// Draws the line, over the one that stands there. In the first second, and once the line has ended, nothing is
     /// done.
@@ -61,10 +60,9 @@ impl<E: Write> Line<E> {
     pub fn draw(&mut self, read: u64, written: u64, elapsed: Duration) -> io::Result<()>
         ensures early { as_nanos elapsed < 1_000_000_000 → self.new ≡ self.old }
         ensures ended { has_ended self.old ≡ true → self.new ≡ self.old }
-        ensures drawn { 1_000_000_000 ≤ as_nanos elapsed → has_ended self.old ≡ false
-            → OnOk result (Appends (E.contents (screen_of self.old)) (E.contents (screen_of self.new))
-            (drawing read written (as_nanos elapsed / 1_000_000_000))) }
-        ensures stands { 1_000_000_000 ≤ as_nanos elapsed → has_ended self.old ≡ false → is_drawn self.new ≡ true }
+        ensures drawn { IsDue (as_nanos elapsed) self.old
+            → OnOk result (Shows E.contents self.old self.new (drawing read written (as_nanos elapsed))) }
+        ensures stands { IsDue (as_nanos elapsed) self.old → is_drawn self.new ≡ true }
         ensures ends_not { has_ended self.new ≡ has_ended self.old }
     {
         if self.has_ended || elapsed.as_secs() == 0 {
@@ -88,8 +86,7 @@ impl<E: Write> Line<E> {
         ensures ended { has_ended self.new ≡ true }
         ensures wiped { is_drawn self.new ≡ false }
         ensures untouched { is_drawn self.old ≡ false → screen_of self.new ≡ screen_of self.old }
-        ensures drawn { is_drawn self.old ≡ true → OnOk result (Appends (E.contents (screen_of self.old))
-            (E.contents (screen_of self.new)) wiping) }
+        ensures drawn { is_drawn self.old ≡ true → OnOk result (Shows E.contents self.old self.new wiping) }
     {
         self.has_ended = true;
         if !self.is_drawn {

@@ -1,5 +1,5 @@
 -- What is kept of the tapes of a run so far (own), and when that stands for a list of tapes.
-use Rattle.std.specs.Prelude.{◌≡◌, ℕ, true, false, ◌==◌, Option, Some, None, List, [], map, find, All}
+use Rattle.std.specs.Prelude.{◌≡◌, ℕ, true, false, ◌==◌, Option, Some, None, List, [], ◌∷◌, ◌++◌, map, find, All}
 use Rattle.cbsp_wire.specs.declared.message.Cell.{Cell}
 use Rattle.bsc_table.specs.Record.{Record}
 use Rattle.verification.specs.declared.findings.CellFinding.{CellFinding}
@@ -8,7 +8,7 @@ use Rattle.verification.specs.declared.findings.CellState.{CellState}
 use Rattle.verification.specs.declared.row.Row.{Row}
 use Rattle.verification.specs.Difference.{AreDifferences}
 use Rattle.handset.specs.Recording.{TapeRecording}
-use Rattle.verification.specs.Rows.{is_tape_of, other_rows}
+use Rattle.verification.specs.Rows.{is_tape_of, other_rows, AreRows}
 
 -- the cells of the run, each with what was found of it, the cells of the tapes, and the rows of tapes that aren't
 -- judged
@@ -42,3 +42,13 @@ pub record HasTaken (records : List Record) (findings : FindingsState) (tapes : 
   pub found : All (IsFound tapes) findings.cells
   pub seen : findings.seen ≡ map (λ tape. tape.cell) tapes
   pub others : findings.others ≡ other_rows records [] tapes
+
+-- a further tape is taken
+abbrev pub TakesTape : (old new : FindingsState) → TapeRecording → Type 0
+TakesTape old new tape = (records : List Record) (tapes : List TapeRecording) → HasTaken records old tapes
+    → HasTaken records new (tapes ++ tape ∷ [])
+
+-- the rows are those of the tapes that were taken
+abbrev pub AreRowsOfTaken : FindingsState → List Row → Type 0
+AreRowsOfTaken findings rows = (records : List Record) (tapes : List TapeRecording) → HasTaken records findings tapes
+    → AreRows records tapes rows

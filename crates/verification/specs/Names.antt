@@ -16,6 +16,11 @@ is_pair a b = (a.0 == b.0) && (a.1 == b.1)
 abbrev pub names_page : List Pair → PageView → Bool
 names_page pairs page = list_any (is_pair (page.id, page.serial)) pairs
 
+-- a pair is added
+abbrev pub AddsName : (old new : List Pair) → Pair → Type 0
+AddsName old new pair =
+    (page : PageView) → names_page new page ≡ (names_page old page || is_pair (page.id, page.serial) pair)
+
 -- the names are those of some messages, and of the pages that came before
 abbrev pub AreNames : List AskedMessage → List SentPage → List Pair → Type 0
 AreNames asked before pairs =

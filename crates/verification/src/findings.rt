@@ -1,13 +1,12 @@
 //! What the tapes of a run have, tape by tape.
 
-ghost use Rattle.std.specs.Prelude.{◌≡◌, ◌++◌, ◌∷◌, [], List, All, IfOk, OnOk, map};
+ghost use Rattle.std.specs.Prelude.{◌≡◌, ◌++◌, [], IfOk, OnOk, map};
 ghost use Rattle.std.specs.List.{flat_map, list_any};
 ghost use Rattle.cbsp_wire.specs.Range.{is_cell};
 ghost use Rattle.bsc_table.specs.Record.{Record};
-ghost use Rattle.verification.specs.Found.{HasTaken, IsFoundIn, unjudged};
+ghost use Rattle.verification.specs.Found.{AreRowsOfTaken, HasTaken, IsFoundIn, TakesTape, unjudged};
 ghost use Rattle.verification.specs.FoundSteps.{AreJudgedBy, IsJudgedBy, rows_of_state};
-ghost use Rattle.handset.specs.Recording.{TapeRecording};
-ghost use Rattle.verification.specs.Rows.{AreRows, difference_row, is_known, tape_of};
+ghost use Rattle.verification.specs.Rows.{difference_row, is_known, tape_of};
 
 use crate::cell::differences;
 use crate::difference::Difference;
@@ -206,8 +205,7 @@ impl Findings {
     ///
     /// Out of memory. Some of the tape may then have been taken.
     pub fn take(&mut self, cell: Cell, slots: u32, blocks: &[[u8; 23]]) -> Result<(), AllocError>
-        ensures { OnOk result ((records : List Record) (tapes : List TapeRecording) → HasTaken records self.old tapes
-            → HasTaken records self.new (tapes ++ tape_of cell slots blocks.now ∷ [])) }
+        ensures { OnOk result (TakesTape self.old self.new (tape_of cell slots blocks.now)) }
     {
         if !is_known(&self.cells, cell) {
             self.others.push(Row {
@@ -233,8 +231,7 @@ impl Findings {
     ///
     /// Out of memory.
     pub fn rows(&self) -> Result<Vec<Row>, AllocError>
-        ensures { IfOk result (λ rows. (records : List Record) (tapes : List TapeRecording)
-            → HasTaken records self.now tapes → AreRows records tapes rows.items) }
+        ensures { IfOk result (λ rows. AreRowsOfTaken self.now rows.items) }
     {
         let mut rows = rows_of_cells(self.alloc, &self.cells)?;
         rows.extend_from_slice(&self.others)?;

@@ -1,8 +1,7 @@
 //! Identifiers and serial numbers, each pair once.
 
-ghost use Rattle.std.specs.Prelude.{◌≡◌, ◌||◌, [], OnOk};
-ghost use Rattle.cbs_page.specs.declared.octets.PageView.{PageView};
-ghost use Rattle.verification.specs.Names.{names_page, is_pair};
+ghost use Rattle.std.specs.Prelude.{◌≡◌, [], OnOk};
+ghost use Rattle.verification.specs.Names.{names_page, AddsName};
 
 use cbs_page::PageView;
 use std::alloc::{AllocError, Global};
@@ -47,8 +46,7 @@ impl Names {
     ///
     /// Out of memory.
     pub fn add(&mut self, id: u16, serial: u16) -> Result<(), AllocError>
-        ensures { OnOk result ((page : PageView) → names_page self.new page
-            ≡ (names_page self.old page || is_pair (page.id, page.serial) (id, serial))) }
+        ensures { OnOk result (AddsName self.old self.new (id, serial)) }
     {
         self.pairs.insert((id, serial))?;
         Ok(())

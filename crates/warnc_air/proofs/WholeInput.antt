@@ -10,7 +10,7 @@ use Rattle.gsmtap.specs.declared.fault.AirFault.{AirFault}
 use Rattle.gsmtap.specs.declared.fault.AirFaultKind.{AirFaultKind}
 use Rattle.gsmtap.specs.declared.fault.AirFaultKind.TheVariants as kind
 use Rattle.gsmtap.specs.declared.tape.Wanted.{Wanted}
-use Rattle.warnc_air.specs.TapeOutput.{IsTapeCommandFault, fault_of_kind, max_capture_octets}
+use Rattle.warnc_air.specs.TapeOutput.{IsTapeCommandFault, fault_of_kind, max_capture}
 use Rattle.warnc_air.specs.declared.tape.TapeCommandFault.TheVariants as fault
 
 pub whole_input : (n : ℕ) (input read : List ℕ) → read ≡ take (n + 1) input → length read ≤ n → read ≡ input
@@ -21,17 +21,17 @@ whole_input n input read is short =
 -- a fault of the file, of a packet of which this is so
 fault_of_packet : (wanted : Wanted) (input read : List ℕ) (old new : Option (List ℕ)) (packet : ℕ)
     (why : AirFaultKind) →
-    read ≡ input → length read ≤ max_capture_octets → IsAirFaultOf wanted read packet why → Keeps old new →
+    read ≡ input → length read ≤ max_capture → IsAirFaultOf wanted read packet why → Keeps old new →
     (why ≢ kind.Refused) → IsTapeCommandFault wanted input old new (fault.Air (record { packet = packet; kind = why }))
 fault_of_packet wanted input read old new packet why is short told kept other = (
-  subst (λ (xs : List ℕ). length xs ≤ max_capture_octets) is short,
+  subst (λ (xs : List ℕ). length xs ≤ max_capture) is short,
   subst (λ (xs : List ℕ). IsAirFaultOf wanted xs packet why) is told,
   other,
   kept,
 )
 
 fault_of_whole : (wanted : Wanted) (input read : List ℕ) (old new : Option (List ℕ)) (packet : ℕ) (why : AirFaultKind) →
-    read ≡ input → length read ≤ max_capture_octets → IsAirFaultOf wanted read packet why → Keeps old new →
+    read ≡ input → length read ≤ max_capture → IsAirFaultOf wanted read packet why → Keeps old new →
     IsTapeCommandFault wanted input old new (fault_of_kind (record { packet = packet; kind = why }) why)
 fault_of_whole wanted input read old new packet kind.NoCapture is short told kept =
     fault_of_packet wanted input read old new packet kind.NoCapture is short told kept (λ e. cc)
@@ -47,26 +47,26 @@ fault_of_whole wanted input read old new packet kind.Refused is short told kept 
 
 -- the same, where the reader's octets are known
 pub fault_of_read : (left : Option (List ℕ)) (wanted : Wanted) (read : List ℕ) (old new : Option (List ℕ))
-    (why : AirFault) → IfSome left (λ input. read ≡ take (max_capture_octets + 1) input) → length read ≤ max_capture_octets →
+    (why : AirFault) → IfSome left (λ input. read ≡ take (max_capture + 1) input) → length read ≤ max_capture →
     IsAirFaultOf wanted read why.packet why.kind → Keeps old new →
     IfSome left (λ input. IsTapeCommandFault wanted input old new (fault_of_kind why why.kind))
 fault_of_read None wanted read old new why is short told kept = tt
 fault_of_read (Some input) wanted read old new why is short told kept =
-    fault_of_whole wanted input read old new why.packet why.kind (whole_input max_capture_octets input read is short) short told
+    fault_of_whole wanted input read old new why.packet why.kind (whole_input max_capture input read is short) short told
     kept
 
 -- one octet past the bound was read
 pub too_long : (left : Option (List ℕ)) (wanted : Wanted) (read : List ℕ) (old new : Option (List ℕ)) →
-    IfSome left (λ input. read ≡ take (max_capture_octets + 1) input) → max_capture_octets < length read → Keeps old new →
+    IfSome left (λ input. read ≡ take (max_capture + 1) input) → max_capture < length read → Keeps old new →
     IfSome left (λ input. IsTapeCommandFault wanted input old new fault.TooLong)
 too_long None wanted read old new is many kept = tt
 too_long (Some input) wanted read old new is many kept =
-    let some : length read ≡ min (max_capture_octets + 1) (length input) = ap length is ∙ length-take (max_capture_octets + 1) input in
+    let some : length read ≡ min (max_capture + 1) (length input) = ap length is ∙ length-take (max_capture + 1) input in
     (omega arith, kept)
 
 -- the output is out
 pub output_out : (left : Option (List ℕ)) (wanted : Wanted) (read output : List ℕ) (old new : Option (List ℕ)) →
-    IfSome left (λ input. read ≡ take (max_capture_octets + 1) input) → length read ≤ max_capture_octets →
+    IfSome left (λ input. read ≡ take (max_capture + 1) input) → length read ≤ max_capture →
     IsTapeOfCapture wanted read output → Appends old new output →
     WritesOutput (IsTapeOfCapture wanted) left old new
 output_out None wanted read output old new is short made out = record {
@@ -76,7 +76,7 @@ output_out None wanted read output old new is short made out = record {
 output_out (Some input) wanted read output old new is short made out = record {
   of_input = (
     output,
-    subst (λ (xs : List ℕ). IsTapeOfCapture wanted xs output) (whole_input max_capture_octets input read is short) made,
+    subst (λ (xs : List ℕ). IsTapeOfCapture wanted xs output) (whole_input max_capture input read is short) made,
     out,
   );
   of_some = (read, output, made, out);
@@ -84,12 +84,12 @@ output_out (Some input) wanted read output old new is short made out = record {
 
 -- a front of it is out
 pub front_out : (left : Option (List ℕ)) (wanted : Wanted) (read output : List ℕ) (old new : Option (List ℕ)) →
-    IfSome left (λ input. read ≡ take (max_capture_octets + 1) input) → length read ≤ max_capture_octets →
+    IfSome left (λ input. read ≡ take (max_capture + 1) input) → length read ≤ max_capture →
     IsTapeOfCapture wanted read output → AppendsFront old new output →
     IfSome left (λ input. IsTapeCommandFault wanted input old new fault.WriteFailed)
 front_out None wanted read output old new is short made out = tt
 front_out (Some input) wanted read output old new is short made out = (
   output,
-  subst (λ (xs : List ℕ). IsTapeOfCapture wanted xs output) (whole_input max_capture_octets input read is short) made,
+  subst (λ (xs : List ℕ). IsTapeOfCapture wanted xs output) (whole_input max_capture input read is short) made,
   out,
 )

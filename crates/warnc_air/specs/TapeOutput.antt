@@ -11,16 +11,16 @@ use Rattle.warnc_air.specs.declared.tape.TapeCommandFault.{TapeCommandFault}
 use Rattle.warnc_air.specs.declared.tape.TapeCommandFault.TheVariants as fault
 
 -- the most octets that are read
-abbrev pub max_capture_octets : ℕ
-max_capture_octets = 1073741824
+abbrev pub max_capture : ℕ
+max_capture = 1073741824
 
 -- why no tape is written, out of memory and devices aside; after a fault of the writer a front of the tape is out, and
 -- after any other fault nothing is
 abbrev pub IsTapeCommandFault : Wanted → (input : List ℕ) (old new : Option (List ℕ)) → TapeCommandFault → Type 0
 IsTapeCommandFault wanted input old new fault.ReadFailed = Keeps old new
-IsTapeCommandFault wanted input old new fault.TooLong = (max_capture_octets < length input) × Keeps old new
+IsTapeCommandFault wanted input old new fault.TooLong = (max_capture < length input) × Keeps old new
 IsTapeCommandFault wanted input old new (fault.Air why) =
-    (length input ≤ max_capture_octets) × IsAirFault wanted input why × (why.kind ≢ kind.Refused) × Keeps old new
+    (length input ≤ max_capture) × IsAirFault wanted input why × (why.kind ≢ kind.Refused) × Keeps old new
 IsTapeCommandFault wanted input old new fault.Refused = Keeps old new
 IsTapeCommandFault wanted input old new fault.WriteFailed =
     (output : List ℕ) × IsTapeOfCapture wanted input output × AppendsFront old new output

@@ -1,10 +1,10 @@
 -- The program's statuses. Own.
-use Rattle.std.specs.Prelude.{◌≡◌, ℕ, ◌<◌, ◌==◌, ◌⊎◌, true, if◌then◌else◌, List, length, Option, Some, IfSome}
+use Rattle.std.specs.Prelude.{◌≡◌, ◌≢◌, ℕ, ◌<◌, ◌==◌, ◌⊎◌, true, if◌then◌else◌, List, length, Option, Some, IfSome}
 use Rattle.std.specs.Prelude.{codes, drop, slice_get, take}
 use Rattle.std.specs.Io.KnownBytes.{Appends, Keeps}
 use Rattle.device_ends.specs.Moves.{WritesOutput}
-use Rattle.device_ends.specs.Sink.{sink_failed}
-use Rattle.device_ends.specs.Source.{source_failed}
+use Rattle.device_ends.specs.Sink.{sink_failed, writer_of}
+use Rattle.device_ends.specs.Source.{reader_of, source_failed}
 use Rattle.device_ends.specs.declared.reading.Source.{Source}
 use Rattle.device_ends.specs.declared.writing.Sink.{Sink}
 use Rattle.gsmtap.specs.Capture.{IsCapture}
@@ -12,7 +12,7 @@ use Rattle.gsmtap.specs.TapeOfCapture.{IsAirFault, IsTapeOfCapture}
 use Rattle.gsmtap.specs.declared.capture.Settings.{Settings}
 use Rattle.gsmtap.specs.declared.fault.AirFault.{AirFault}
 use Rattle.gsmtap.specs.declared.tape.Wanted.{Wanted}
-use Rattle.warnc_air.specs.TapeOutput.{max_capture_octets as max_capture}
+use Rattle.warnc_air.specs.TapeOutput.{max_capture}
 use Rattle.handset.specs.Tape.{IsShort, IsLong}
 use Rattle.alert_book.specs.Book.{Contents, IsBook, IsWrong, max_book}
 use Rattle.alert_book.specs.declared.fault.BookFault.{BookFault}
@@ -86,6 +86,17 @@ IsNoAir wanted input = (max_capture < length input) ⊎ ((why : AirFault) × IsA
 -- something was written
 abbrev pub WritesSome : (old new : Option (List ℕ)) → Type 0
 WritesSome old new = (output : List ℕ) × (0 < length output) × Appends old new output
+
+-- something was written, unless the words ask for `compile` or `live`: a book without cells has no tapes
+abbrev pub WritesSomeUnlessTapes : (words : List (List ℕ)) → (old new : Option (List ℕ)) → Type 0
+WritesSomeUnlessTapes words old new = slice_get words 1 ≢ Some (codes "compile")
+    → slice_get words 1 ≢ Some (codes "live") → WritesSome old new
+
+-- what was written is so by what the reader had left
+abbrev pub ByInput : {R W : Type 0} → (left : R → Option (List ℕ)) → (held : W → Option (List ℕ))
+    → ((input old new : Option (List ℕ)) → Type 0) → Source R → (old new : Sink W) → Type 0
+ByInput left held Wrote first old new =
+    Wrote (left (reader_of first)) (held (writer_of old)) (held (writer_of new))
 
 -- What status 0 says: `input` is what the reader had left, if that is known, and `old` and `new` are what the writer
 -- held before and after.

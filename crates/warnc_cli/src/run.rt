@@ -17,7 +17,8 @@ ghost use Rattle.warnc_verify.specs.Input.{HasDifferences, IsVerified};
 ghost use Rattle.warnc_cli.specs.RunSteps.{IsRunBetween, IsStatusOfSink, IsVerifyRunBetween};
 ghost use Rattle.warnc_cli.specs.Status.{IsNoAir, IsNoRun, IsNoTapes, IsRefused, OneHasFailed, RefusesInput};
 ghost use Rattle.warnc_cli.specs.Status.{IsNotVerified, MayWrite, WritesSome, WroteNoneOrDifferences};
-ghost use Rattle.warnc_cli.specs.Status.{WroteWhatIsAsked};
+ghost use Rattle.warnc_cli.specs.Status.{ByInput, WritesSomeUnlessTapes, WroteWhatIsAsked};
+ghost use Rattle.device_ends.specs.Stream.{Writes};
 
 use crate::command::{PageOptions, Task, asks_for_text, task_of};
 use crate::status::{DEVICE, DONE, MEMORY, REFUSED_INPUT, USAGE, failed};
@@ -71,17 +72,15 @@ pub fn run_between<T: AllocGlobal + Threads + Wait + Sync, S: AsStr, R: Read, W:
     sink: &mut Sink<W>,
     faults: &mut F,
 ) -> u8
-    ensures done { result ≡ DONE → WroteWhatIsAsked (map S.text words.now) (R.remaining (reader_of source.old))
-        (W.contents (writer_of sink.old)) (W.contents (writer_of sink.new)) }
-    ensures wrote { result ≡ DONE → slice_get (map S.text words.now) 1 ≢ Some (codes "compile")
-        → slice_get (map S.text words.now) 1 ≢ Some (codes "live")
-        → WritesSome (W.contents (writer_of sink.old)) (W.contents (writer_of sink.new)) }
+    ensures done { result ≡ DONE → ByInput R.remaining W.contents
+        (WroteWhatIsAsked (map S.text words.now)) source.old sink.old sink.new }
+    ensures wrote { result ≡ DONE → Writes W.contents (WritesSomeUnlessTapes (map S.text words.now))
+        sink.old sink.new }
     ensures nothing_written { (MayWrite (map S.text words.now) result → ⊥)
         → Keeps (W.contents (writer_of sink.old)) (W.contents (writer_of sink.new)) }
     ensures untouched { (MayWrite (map S.text words.now) result → ⊥) → sink.new ≡ sink.old }
-    ensures differences { result ≡ REFUSED_INPUT
-        → WroteNoneOrDifferences (map S.text words.now) (R.remaining (reader_of source.old))
-        (W.contents (writer_of sink.old)) (W.contents (writer_of sink.new)) }
+    ensures differences { result ≡ REFUSED_INPUT → ByInput R.remaining W.contents
+        (WroteNoneOrDifferences (map S.text words.now)) source.old sink.old sink.new }
     ensures refused { result ≡ REFUSED_INPUT
         → RefusesInput (map S.text words.now) (R.remaining (reader_of source.old)) }
     ensures device { result ≡ DEVICE → OneHasFailed source.new sink.new }

@@ -4,7 +4,7 @@ ghost use Rattle.std.specs.Prelude.{◌≡◌, ◌↔◌, [], false, true, IfErr
 ghost use Rattle.std.specs.Io.KnownBytes.{Appends};
 ghost use Rattle.device_ends.specs.Sink.{sink_failed};
 ghost use Rattle.device_ends.specs.Source.{source_failed};
-ghost use Rattle.device_ends.specs.Stream.{Writes as WritesBetween};
+ghost use Rattle.device_ends.specs.Stream.{Writes};
 ghost use Rattle.alert_book.specs.Book.{unread};
 ghost use Rattle.handset.specs.declared.tape.TapeFault.TheVariants as tape;
 ghost use Rattle.warnc_run.specs.declared.fault.RunFault.TheVariants as run;
@@ -44,9 +44,9 @@ pub fn verify_stream<T: AllocGlobal + Threads + Wait + Sync, B: Read, R: Read, W
     slots: u16,
     workers: Workers,
 ) -> Result<(), VerifyFault>
-    ensures ok { OnOk result (WritesBetween W.contents (λ old new. FindsAndWrites slots
+    ensures ok { OnOk result (Writes W.contents (λ old new. FindsAndWrites slots
         (readers_of B.remaining R.remaining book.old book.new tapes.old tapes.new) old new []) sink.old sink.new) }
-    ensures err { IfErr result (λ fault. WritesBetween W.contents (λ old new. IsVerifyFault slots
+    ensures err { IfErr result (λ fault. Writes W.contents (λ old new. IsVerifyFault slots
         (readers_of B.remaining R.remaining book.old book.new tapes.old tapes.new) old new fault) sink.old sink.new) }
 
     // At any readers and any writer: which end failed is reported, the book's first, and what failed before is as it
@@ -103,9 +103,9 @@ fn rows_of<T: AllocGlobal + Threads + Wait + Sync, B: Read, R: Read>(
 
 /// Writes the table of some rows. Nothing is written before all of it is made.
 fn write_rows<W: Write>(alloc: Global, rows: &[Row], sink: &mut Sink<W>) -> Result<(), VerifyFault>
-    ensures ok { OnOk result (WritesBetween W.contents (λ old new. Appends old new (rows_text rows.now))
+    ensures ok { OnOk result (Writes W.contents (λ old new. Appends old new (rows_text rows.now))
         sink.old sink.new) }
-    ensures err { IfErr result (λ fault. WritesBetween W.contents (λ old new. IsTableFault old new rows.now fault)
+    ensures err { IfErr result (λ fault. Writes W.contents (λ old new. IsTableFault old new rows.now fault)
         sink.old sink.new) }
     ensures failed { IsErrOf result faults.WriteFailed → sink_failed sink.new ≡ true }
     ensures written { OnOk result (sink_failed sink.new ≡ false) }
