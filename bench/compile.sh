@@ -7,32 +7,20 @@ work=$(mktemp -d)
 trap 'rm -rf "$work"' EXIT
 "$top/warnc" --help >/dev/null
 for kind in typical full; do python3 "$top/bench/make_books.py" 1 "$kind" >"$work/$kind"; done
-python3 - "${1:-$top/crates/warnc/out/warnc}" "$work" <<'PY'
-import os, subprocess, sys, time
+PYTHONPATH=$top/bench PYTHONDONTWRITEBYTECODE=1 python3 - "${1:-$top/crates/warnc/out/warnc}" "$work" <<'PY'
+import os, subprocess, sys
+from timing import best_of_five
 program, work = sys.argv[1:]
-
-
-def run(command, source, target):
-    best, peak = None, 0
-    for _ in range(5):
-        with open(source, "rb") as stdin, open(target, "wb") as stdout:
-            begun = time.perf_counter()
-            process = subprocess.Popen(command, stdin=stdin, stdout=stdout)
-            _, status, used = os.wait4(process.pid, 0)
-            took = time.perf_counter() - begun
-        assert status == 0, (command, source, status)
-        best, peak = took if best is None else min(best, took), max(peak, used.ru_maxrss)
-    return best, peak * 1024
 
 
 for kind in ("typical", "full"):
     book, tapes = os.path.join(work, kind), os.path.join(work, kind + ".tapes")
     command = [program, "compile", "--slots", "4096", "--workers"]
-    several, _ = run([*command, "4"], book, tapes + ".4")
-    compiled, peak = run([*command, "1"], book, tapes)
+    several, _ = best_of_five([*command, "4"], book, tapes + ".4")
+    compiled, peak = best_of_five([*command, "1"], book, tapes)
     subprocess.run(["cmp", tapes, tapes + ".4"], check=True)
     octets = os.path.getsize(tapes)
-    lines, _ = run(["wc", "-l"], tapes, os.devnull)
+    lines, _ = best_of_five(["wc", "-l"], tapes, os.devnull)
     print(f"{kind:8} {octets / 1e6:5.1f} MB of tapes  wc -l {lines:.3f} s  warnc compile {compiled:.3f} s, "
           f"{octets / compiled / 1e6:.0f} MB/s, peak {peak / 1e6:.1f} MB, {peak / octets:.2f} times the tapes; "
           f"with 4 workers {several:.3f} s, {compiled / several:.2f} times as fast")

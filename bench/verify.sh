@@ -7,34 +7,22 @@ work=$(mktemp -d)
 trap 'rm -rf "$work"' EXIT
 "$top/warnc" --help >/dev/null
 for kind in typical full background; do python3 "$top/bench/make_books.py" 1 "$kind" >"$work/$kind"; done
-python3 - "${1:-$top/crates/warnc/out/warnc}" "$work" <<'PY'
-import os, subprocess, sys, time
+PYTHONPATH=$top/bench PYTHONDONTWRITEBYTECODE=1 python3 - "${1:-$top/crates/warnc/out/warnc}" "$work" <<'PY'
+import os, subprocess, sys
+from timing import best_of_five
 program, work = sys.argv[1:]
-
-
-def run(words, source, target):
-    best, peak = None, 0
-    for _ in range(5):
-        with open(source, "rb") as stdin, open(target, "wb") as stdout:
-            begun = time.perf_counter()
-            process = subprocess.Popen([program, *words], stdin=stdin, stdout=stdout)
-            _, status, used = os.wait4(process.pid, 0)
-            took = time.perf_counter() - begun
-        assert status == 0, (words, source, status)
-        best, peak = took if best is None else min(best, took), max(peak, used.ru_maxrss)
-    return best, peak * 1024
 
 
 for kind in ("typical", "full", "background"):
     book, tapes, both = (os.path.join(work, kind + end) for end in ("", ".tapes", ".both"))
-    compiled, _ = run(["compile", "--slots", "4096"], book, tapes)
-    shown, _ = run(["read"], tapes, os.devnull)
+    compiled, _ = best_of_five([program, "compile", "--slots", "4096"], book, tapes)
+    shown, _ = best_of_five([program, "read"], tapes, os.devnull)
     with open(both, "wb") as it:
         for part in (book, tapes):
             with open(part, "rb") as octets:
                 it.write(octets.read())
-    words = ["verify", "--slots", "4096", "--book-octets", str(os.path.getsize(book))]
-    verified, peak = run(words, both, os.devnull)
+    command = [program, "verify", "--slots", "4096", "--book-octets", str(os.path.getsize(book))]
+    verified, peak = best_of_five(command, both, os.devnull)
     print(f"{kind:10} compile {compiled:.3f} s, read {shown:.3f} s, verify {verified:.3f} s, "
           f"{verified / (compiled + shown):.2f} times both; peak {peak / 1e6:.1f} MB, "
           f"{peak / (os.path.getsize(tapes) / 64):.1f} times a tape")

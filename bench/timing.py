@@ -1,0 +1,19 @@
+"""Times commands, for the scripts of this folder."""
+import os
+import subprocess
+import time
+
+
+def best_of_five(command, source, target):
+    """Runs a command five times with its input from one file and its output to another. Returns the seconds of the fastest run and
+    the peak memory of all, in octets."""
+    best, peak = None, 0
+    for _ in range(5):
+        with open(source, "rb") as stdin, open(target, "wb") as stdout:
+            begun = time.perf_counter()
+            process = subprocess.Popen(command, stdin=stdin, stdout=stdout)
+            _, status, used = os.wait4(process.pid, 0)
+            took = time.perf_counter() - begun
+        assert status == 0, (command, source, status)
+        best, peak = took if best is None else min(best, took), max(peak, used.ru_maxrss)
+    return best, peak * 1024
