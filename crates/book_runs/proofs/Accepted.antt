@@ -36,6 +36,7 @@ adds all place slot start (commands.Write id serial replaces category period bro
 adds all place slot start (commands.Kill id serial) write = absurd write
 adds all place slot start (commands.Status id serial) write = absurd write
 
+-- a write whose entry starts it is among the accepted messages of the log
 pub accepted_of : (start : ℕ) (command : Command) → IsWrite command → (all : List Accepted) (place : ℕ)
     (log : List Entry) → Any (λ e. (e.command ≡ command) × (start_of e.answer ≡ Some start)) log
     → Any (λ a. IsWriteBy a command (Some start)) (accepted_from all place log)

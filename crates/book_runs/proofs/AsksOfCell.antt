@@ -52,6 +52,7 @@ asks_in_cell cells cell x (a ∷ list) own = elim (cases_Bool (is_cell cell a.0)
     elsewhere other true rest = rw other rest
     elsewhere other false rest = rw other rest
 
+-- what a cell of the run is asked in all exchanges is what was asked of it
 pub asks_of_it : (cells : List Cell) (cell : Cell) (exchanges : List Exchange) → is_among cells cell ≡ true
     → map (λ a. a.1) (asks_of_cell cell (asks_of cells exchanges)) ≡ asked_of cell exchanges
 asks_of_it cells cell [] own = refl

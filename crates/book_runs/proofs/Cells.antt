@@ -34,6 +34,7 @@ apart c (r ∷ records) none =
 both : {X : Type 0} (P Q : X → Type 0) (xs : List X) → All P xs → All Q xs → All (λ x. P x × Q x) xs
 both P Q xs one other k d within = (one k d within, other k d within)
 
+-- where cells are distinct, the slot of a command is found by the record of its own cell
 pub have_slots : (records : List Record) → are_distinct (map (λ r. r.cell) records) ≡ true
     → All (HasSlots records) records
 have_slots [] distinct = All-nil (HasSlots [])

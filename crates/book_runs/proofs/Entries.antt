@@ -58,6 +58,7 @@ asked_has cell exchanges =
     (λ a is. (there.0, x, there.1, there.2, is)) (asked_in cell x) (asked_in_has cell x))
     exchanges (All-contains_itself exchanges))
 
+-- each entry of a cell's log is of an exchange
 pub log_has : (slots : ℕ) (exchanges : List Exchange) (r : Record) → HasLogOf slots exchanges r
     → All (λ e. Any (IsOfExchange r.cell e.command e.answer) exchanges) r.log
 log_has slots exchanges r has =
@@ -84,6 +85,7 @@ entered P slots clock (a ∷ later) (suc k, b, within, is, here) =
     (entries_for slots (given_slot slots clock a.at) later)
     (entered P slots (given_slot slots clock a.at) later (k, b, omega (arith, within), is, here))
 
+-- what an exchange asked of the cell and was answered, an entry of its log has
 pub log_entered : (slots : ℕ) (exchanges : List Exchange) (r : Record) → HasLogOf slots exchanges r
     → (P : Command → Answer → Type 0)
     → Any (λ x. Any (λ (given : Cell × Answer). (is_cell r.cell given.0 ≡ true) × P x.command given.1) x.answers)

@@ -20,6 +20,7 @@ pub record IsAskedInOrder (sessions : List (List Exchange)) (r : Record) : Type 
   pub own : (q : ℕ) → asked_by q order ≡ asked_of r.cell (get_or sessions q [])
   pub entries : r.log ≡ entries_for r.slots 0 (map (λ a. a.1) order)
 
+-- a cell was asked what each session asked, in that session's order
 pub asked_in_order : (s : Service) (r : Record) → IsAskedOf s r
     → IsAskedInOrder s.sessions r
 asked_in_order s r is =

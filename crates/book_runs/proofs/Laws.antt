@@ -10,6 +10,7 @@ use Rattle.composition.specs.Composition.{CompletedIsWholeInBlocks, ShownAreTheB
 use Rattle.composition.specs.Meaning.{AcceptedAreMeant, NoneAfterTheStop, RecordsAreTapes, ReportedIsWholeInBlocks}
 use Rattle.composition.specs.Meaning.{TextsAreThoseOfContents}
 
+-- the laws of the crates below on which those of runs stand
 pub record Laws : Type 0 where
   pub texts_come_back : PagedTextsComeBack
   pub texts_are_utf8 : TextsAreUtf8

@@ -76,6 +76,7 @@ contains_first x xs = (0, omega arith, refl)
 contains_later : {X : Type 0} (x y : X) (ys : List X) → Contains ys x → Contains (y ∷ ys) x
 contains_later x y ys there = (suc there.0, omega (arith, there.1), there.2)
 
+-- what stands in an interleaving with a part is among what that part's session asked
 pub each_asked : (order : Interleaving)
     → All (λ (a : ℕ × Asked). Contains (asked_by a.0 order) a.1) order
 each_asked [] = All-nil (λ (a : ℕ × Asked). Contains (asked_by a.0 []) a.1)

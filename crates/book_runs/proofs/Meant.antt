@@ -102,6 +102,7 @@ is_meant_in laws book slots exchanges r utf8 asked few run =
       none_else = none_else book r r.clock (shown_in (blocks_of r)) of_orders shown;
     }
 
+-- the handsets of a run of one session show what the book means
 pub runs_show_the_book : Laws → RunsShowTheBook
 runs_show_the_book laws input book slots exchanges records is few run =
     let utf8 = laws.texts_are_utf8 input book is in
@@ -110,6 +111,7 @@ runs_show_the_book laws input book slots exchanges records is few run =
     (λ r here. is_meant_in laws book slots exchanges r utf8 asked few (log_of_run slots exchanges r here)) records
     run.each
 
+-- the handsets of a live run show what the book means
 pub live_runs_show_the_book : Laws → LiveRunsShowTheBook
 live_runs_show_the_book laws input book slots sessions records is few live =
     let utf8 = laws.texts_are_utf8 input book is in

@@ -32,6 +32,7 @@ noted_entry records cell x = record {
   answer = x.1.answer;
 }
 
+-- the events that a pass noted of a cell are those of the cell's numbered commands
 pub events_are : (records : List Record) (cell : Cell) (asks : List (Cell × Asked)) (list : List Note)
     → AllZip (IsNoteOf records) asks list
     → events_of cell list ≡ map (λ x. (x.0, noted_entry records cell x)) (numbered cell asks list)
@@ -62,6 +63,7 @@ events_are records cell (ask ∷ asks) (notes.Full c ∷ later) zip = events_are
 abbrev pub asks_of_cell : Cell → List (Cell × Asked) → List (Cell × Asked)
 asks_of_cell cell asks = filter (λ a. is_cell cell a.0) asks
 
+-- at most as many commands of a cell are numbered as it was asked
 pub numbered_few : (records : List Record) (cell : Cell) (asks : List (Cell × Asked)) (list : List Note)
     → AllZip (IsNoteOf records) asks list
     → length (numbered cell asks list) ≤ length (asks_of_cell cell asks)
@@ -88,6 +90,7 @@ numbered_few records cell (ask ∷ asks) (notes.Full c ∷ later) zip =
     more true rest = omega (arith, rest)
     more false rest = rest
 
+-- if no note says that the log is full, all commands of the cell are numbered
 pub numbered_all : (records : List Record) (cell : Cell) (asks : List (Cell × Asked)) (list : List Note)
     → AllZip (IsNoteOf records) asks list → list_any (is_full_of cell) list ≡ false
     → map (λ x. x.1) (numbered cell asks list) ≡ map (λ a. a.1) (asks_of_cell cell asks)

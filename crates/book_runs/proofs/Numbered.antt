@@ -16,9 +16,11 @@ Rise (n ∷ numbers) = All (λ m. n < m) numbers × Rise numbers
 abbrev pub numbers_of : {X : Type 0} → List (ℕ × X) → List ℕ
 numbers_of items = map (λ x. x.0) items
 
+-- the items of the number k
 abbrev pub items_at : {X : Type 0} → (k : ℕ) → List (ℕ × X) → List (ℕ × X)
 items_at k items = filter (λ x. eqb x.0 k) items
 
+-- the items of numbers from k on
 abbrev pub items_from : {X : Type 0} → (k : ℕ) → List (ℕ × X) → List (ℕ × X)
 items_from k items = filter (λ x. nat_le k x.0) items
 
@@ -54,6 +56,7 @@ all_from (x ∷ items) =
 abbrev pub Splits : {X : Type 0} → (k : ℕ) → List (ℕ × X) → Type 0
 Splits k items = items_from k items ≡ items_at k items ++ items_from (suc k) items
 
+-- numbered items whose numbers rise from k on are the one of number k, if it is there, and those after it
 pub from_next : {X : Type 0} (k : ℕ) (items : List (ℕ × X)) → Rise (numbers_of items) → Splits k items
 from_next k [] rise = refl
 from_next k (x ∷ items) rise =
@@ -94,6 +97,7 @@ only_item [] one = absurd (omega arith)
 only_item (x ∷ []) one = (x, refl)
 only_item (x ∷ y ∷ xs) one = absurd (omega arith)
 
+-- a list of no length has no item
 pub no_item : {X : Type 0} (xs : List X) → length xs ≡ 0 → xs ≡ []
 no_item [] none = refl
 no_item (x ∷ xs) none = absurd (omega arith)
@@ -123,6 +127,7 @@ pub record IsOnlyIn {X : Type 0} (test : X → Bool) (lists : List (List X)) (pl
   pub once : length (filter test (get_or lists place [])) ≡ 1
   pub others : (q : ℕ) → (place ≡ q → ⊥) → length (filter test (get_or lists q [])) ≡ 0
 
+-- if one item of the lists joined passes the test, one list alone has it
 pub only_in_one : {X : Type 0} (test : X → Bool) (lists : List (List X))
     → length (filter test (joined lists)) ≡ 1 → (place : ℕ) × IsOnlyIn test lists place
 only_in_one test [] once = absurd (omega arith)

@@ -55,6 +55,7 @@ is_run_of slots exchanges r by =
       entries = by.entries ∙ ap (entries_for slots 0) (sym all ∙ by.own 0);
     }
 
+-- a live run of one session is a run of the book
 pub one_session_is_a_run : OneSessionIsARun
 one_session_is_a_run book slots exchanges records live = record {
   session = live.turns 0 (omega arith);

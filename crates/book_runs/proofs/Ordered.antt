@@ -41,6 +41,7 @@ use Rattle.book_runs.proofs.Texts.{sent_as}
 abbrev pub IsOrdered : Contents → Exchange → Type 0
 IsOrdered book x = IsExchange book.cells x × Any (ComesOf x.turn.request) book.orders
 
+-- each exchange of a session is ordered by the book
 pub ordered : (laws : Laws) (input : List ℕ) (book : Contents) (part parts : ℕ) (exchanges : List Exchange)
     → IsBook input book → AreTurnsOf book part parts (map (λ x. x.turn) exchanges)
     → All (IsExchange book.cells) exchanges → All (IsOrdered book) exchanges
@@ -142,6 +143,7 @@ are_those_started laws book slots exchanges r utf8 asked has = record {
   every = has_accepted slots exchanges r has;
 }
 
+-- what the cells of a run of one session accepted, a row of the book ordered
 pub runs_accept_what_was_ordered : Laws → RunsAcceptWhatWasOrdered
 runs_accept_what_was_ordered laws input book slots exchanges records is run =
     let utf8 = laws.texts_are_utf8 input book is in
@@ -150,6 +152,7 @@ runs_accept_what_was_ordered laws input book slots exchanges records is run =
     (λ r here. are_those_started laws book slots exchanges r utf8 asked (log_of_run slots exchanges r here)) records
     run.each
 
+-- what the cells of a live run accepted, a row of the book ordered
 pub live_runs_accept_what_was_ordered : Laws → LiveRunsAcceptWhatWasOrdered
 live_runs_accept_what_was_ordered laws input book slots sessions records is live =
     let utf8 = laws.texts_are_utf8 input book is in

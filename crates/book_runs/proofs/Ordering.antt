@@ -116,6 +116,7 @@ pub record IsOrderOf (slots : ℕ) (log : List Entry) (parts : ℕ → List (ℕ
   pub own : (q : ℕ) → asked_by q order ≡ map (λ x. x.1) (parts q)
   pub entries : log ≡ entries_for slots 0 (map (λ a. a.1) order)
 
+-- the parts of a log have an interleaving of which the log is the record
 pub order_of_parts : (slots : ℕ) (log : List Entry) (parts : ℕ → List (ℕ × Asked)) → AreParts slots log parts
     → IsOrderOf slots log parts
 order_of_parts slots log parts are =

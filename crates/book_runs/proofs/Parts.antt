@@ -95,6 +95,7 @@ times_of_part s r is q k =
     (sym (events_of_part s r is q))
     ∙ times_of r.cell k (get_or s.passes q [])
 
+-- what sessions asked of a cell are the parts of its log
 pub are_parts : (s : Service) (r : Record) → IsAskedOf s r
     → AreParts r.slots r.log (part_of s r.cell)
 are_parts s r is = record { rise = rise; stand = stand; each = each }

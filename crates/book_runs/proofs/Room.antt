@@ -96,6 +96,7 @@ none_full cell (pass ∷ passes) none (suc q) =
     none_full cell passes
     (or_parts (list_any (is_full_of cell) pass) (list_any (list_any (is_full_of cell)) passes) none).1 q
 
+-- the notes of commands tell of a full log exactly if all notes do
 pub full_kept : (cell : Cell) (list : List Note)
     → list_any (is_full_of cell) (filter is_of_command list) ≡ list_any (is_full_of cell) list
 full_kept cell [] = refl

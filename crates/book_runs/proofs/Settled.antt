@@ -103,6 +103,7 @@ right_after passes before after agrees out k =
     subst (λ (c : Cell). IsRightNumber c after.log passes k) (sym out.played.same_cell)
     (subst (λ (log : List Entry). IsRightNumber before.cell log passes k) (sym out.played.same_log) (agrees.numbers k))
 
+-- sessions whose desk is settled, and whose notes are those of their turns, are a run of the book
 pub settled_sessions_are_runs : BookLaws → SettledSessionsAreRuns
 settled_sessions_are_runs laws input book slots parts desk passes records is some same_cells same_slots settled are =
     let made = listed (λ k. IsSessionOf book k parts records (get_or passes k [])) parts

@@ -10,6 +10,7 @@ abbrev pub total : (ℕ → ℕ) → ℕ → ℕ
 total f zero = 0
 total f (suc n) = total f n + f n
 
+-- a sum of shares, each at most another, is at most the sum of those
 pub total_le : (f g : ℕ → ℕ) (n : ℕ) → ((q : ℕ) → q < n → f q ≤ g q) → total f n ≤ total g n
 total_le f g zero each = omega arith
 total_le f g (suc n) each =
@@ -97,6 +98,7 @@ shares_few f xs n =
     let few = few_below f n xs in
     omega (arith, all, few)
 
+-- the shares of a list below n, summed, are all of it
 pub shares_all : {X : Type 0} (f : X → ℕ) (xs : List X) (n : ℕ) → All (λ x. f x < n) xs
     → total (share f xs) n ≡ length xs
 shares_all f xs n all = shared f xs n ∙ all_below f n xs all

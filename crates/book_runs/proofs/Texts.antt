@@ -55,6 +55,7 @@ pub record IsSentAs (a : Accepted) (command : Command) (order : Order) : Type 0 
   pub serial : a.serial ≡ serial_of order.alert (version_of order.action)
   pub text : encode_utf8_all (flat_map text_of_page (pages_of_command command)) ≡ sending.text
 
+-- a write that a cell accepted was sent as its order says: identifier, serial number and text
 pub sent_as : (laws : Laws) (a : Accepted) (start : Option ℕ) (order : Order) (message : Message) (cells : List Cell)
     (command : Command) → HasUtf8Text order → IsSentFor order message → HasSerial order message
     → order_of message ≡ Ok (cells, command)

@@ -180,6 +180,7 @@ no_asks records from reached (note ∷ given) [] over gone noted = absurd noted
 no_asks records from reached given (x ∷ later) over gone noted =
     absurd (some_none x.turn.request (sym gone.0 ∙ over))
 
+-- a session without a request goes on by no note
 pub ends_by : (records : List Record) (from : Standing) (given : List Note)
     → from.sent ≡ None
     → (given ≡ []) ↔ GoesOnBy records from given

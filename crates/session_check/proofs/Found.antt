@@ -28,6 +28,7 @@ at_split : (P : Record → Type 0) (before after : List Record) (r : Record) →
 at_split P [] after r all = all.0
 at_split P (b ∷ before) after r all = at_split P before after r all.1
 
+-- what all records are, the record of a cell is
 pub of_found : (P : Record → Type 0) (records : List Record) (cell : Cell) (r : Record) → IsRecordOf records cell r
     → All P records
     → P r
@@ -46,6 +47,7 @@ among_split [] after r cell own = ap (λ b. b || is_among (record_cells after) c
 among_split (b ∷ before) after r cell own =
     ap (λ t. is_cell cell b.cell || t) (among_split before after r cell own) ∙ or_true (is_cell cell b.cell)
 
+-- the cell of a record is among the records' cells
 pub among_found : (records : List Record) (cell : Cell) (r : Record) → IsRecordOf records cell r
     → is_among (record_cells records) cell ≡ true
 among_found records cell r found =
@@ -59,6 +61,7 @@ none_by [] cell others = refl
 none_by (r ∷ records) cell others =
     ap (λ b. b || is_among (record_cells records) cell) others.0 ∙ none_by records cell others.1
 
+-- a cell of no record isn't among the records' cells
 pub among_none : (records : List Record) (cell : Cell) → All (λ r. is_cell cell r.cell ≡ false) records
     → is_among (record_cells records) cell ≡ false
 among_none records cell others =
@@ -97,6 +100,7 @@ note_by_all records cell r at command (notes.Event of number entry) answer found
 note_by_all records cell r at command (notes.Played of from to) answer found noted = noted
 note_by_all records cell r at command (notes.Full of) answer found noted = noted
 
+-- the note of an answer by the records is its note by the cell's own record
 pub note_by_one : (records : List Record) (cell : Cell) (r : Record) (at : ℕ) (command : Command) (note : Note)
     (answer : Answer)
     → IsRecordOf records cell r

@@ -20,12 +20,14 @@ use Rattle.session_check.specs.NotedSteps.{AreAnswersNoted, IsAnswerNoted, asked
 pub clash : (b : Bool) → b ≡ true → b ≡ false → ⊥
 clash b is not = false≢true (sym not ∙ is)
 
+-- a value that is there isn't missing
 pub some_none : {X : Type 0} (x : X) → Some x ≡ None → ⊥
 some_none x h = search (rules, h)
 
 no_cons : {X : Type 0} (x : X) (xs : List X) → [] ≡ x ∷ xs → ⊥
 no_cons x xs h = search (rules, h)
 
+-- lists that are one begin with the same item
 pub first_same : {X : Type 0} (x y : X) (xs ys : List X) → x ∷ xs ≡ y ∷ ys → x ≡ y
 first_same x y xs ys h = ap (λ (zs : List _). get_or zs 0 x) h
 
@@ -156,6 +158,7 @@ asks_of_noted records at command (a ∷ given) before left are =
       )
     ]
 
+-- after answers that were noted, each cell that isn't of the records was answered as unknown
 pub foreign_of_noted : (records : List Record) (at : ℕ) (command : Command) (given : List (Cell × Answer))
     (before left : List Note)
     → AreAnswersNoted records at command given before left
@@ -182,6 +185,7 @@ own_noted records at command a given (note ∷ own) left among next all = (
   next own all.1,
 )
 
+-- notes that are those of what was asked of the records' cells are those of all answers
 pub noted_of_asks : (records : List Record) (at : ℕ) (command : Command) (given : List (Cell × Answer))
     (own left : List Note)
     → AllByRecursion (IsForeignUnknown (record_cells records)) given
@@ -215,5 +219,6 @@ pub none_of : {X P : Type 0} (o : Option X) → o ≡ None → IfNone o P → P
 none_of None is h = h
 none_of (Some x) is h = absurd (some_none x is)
 
+-- what a value that is there is, it is under `IfSome`
 pub some_of : {X : Type 0} (P : X → Type 0) (o : Option X) (x : X) → o ≡ Some x → IfSome o P → P x
 some_of P o x is h = subst (λ (p : Option _). IfSome p P) is h

@@ -146,12 +146,14 @@ one_order r cells named command asked first then =
       ap (λ (x : Result Ordered ℕ). (order_or (named, asked) x).1) h,
     )
 
+-- a message orders one command of one list of cells
 pub orders_are_one : (m : Message) (cells named : List Cell) (command asked : Command)
     → order_of m ≡ Ok (cells, command)
     → order_of m ≡ Ok (named, asked)
     → (cells ≡ named) × (command ≡ asked)
 orders_are_one m cells named command asked one other = one_order (order_of m) named cells asked command one other
 
+-- a fault is no result
 pub not_ok : {X Y : Type 0} (x : X) (y : Y) → Err y ≡ Ok x → ⊥
 not_ok x y h = search (rules, h)
 
@@ -184,6 +186,7 @@ is_write_itself id new old =
     and_from ((id == id) && (new == new)) (same_serial old old)
     (and_from (id == id) (new == new) (eq-eqb id id refl) (eq-eqb new new refl)) (same_itself old)
 
+-- what a message orders names the message
 pub order_says : (m : Message) (cells : List Cell) (command : Command)
     → order_of m ≡ Ok (cells, command)
     → OrderSays m command

@@ -105,6 +105,7 @@ lessens end before session reached reply request (Some next) stands advances sen
         → suc (due + 17 * left) < suc (b_due + 17 * b_left)
     less due left b_due b_left n_due n_left r_due r_left a b c d e = omega arith
 
+-- each turn of a replayed session leaves less to serve
 pub turn_lessens : SessionsEnd → (book : Contents) (part parts : ℕ) (records : List Record) (pass : List Note)
     (before session : SessionState) (request : Request) (said : Outcome) (notes left : List Note)
     → before.sent ≡ Some request

@@ -37,11 +37,13 @@ same_cells slots (c ∷ cells) (r ∷ books) (s ∷ records) of all =
     ap (λ (x : Cell). x ∷ record_cells records) (all.0.played.same_cell ∙ of.0.0)
     ∙ ap (λ (xs : List Cell). c ∷ xs) (same_cells slots cells books records of.1 all.1)
 
+-- the records of a settled desk have the numbers that its passes noted
 pub settled_agree : (desk : ClosedDesk) (passes : List (List Note)) (records : List Record)
     → IsSettled desk passes records
     → All (HasRightNumbers passes) records
 settled_agree desk passes records settled = still_agree passes desk.books records settled.played settled.agree
 
+-- the records of a settled desk are of its cells, in their order
 pub settled_cells : (desk : ClosedDesk) (passes : List (List Note)) (records : List Record)
     → IsSettled desk passes records
     → record_cells records ≡ desk.cells

@@ -70,6 +70,7 @@ left_stand records at command given before left is standing =
       | inr foreign ↦ subst (AreStanding records) (sym (is.foreign foreign).1) standing
     ]
 
+-- the notes that are left after some answers stand in the records, as all did
 pub all_left_stand : (records : List Record) (at : ℕ) (command : Command) (given : List (Cell × Answer))
     (before left : List Note)
     → AreAnswersNoted records at command given before left

@@ -101,6 +101,7 @@ refused_here slots count input old new (fault.Differences n) told is =
 refused_here slots count input old new fault.Refused told is = absurd (omega (arith, is))
 refused_here slots count input old new fault.WriteFailed told is = absurd (omega (arith, is))
 
+-- a fault of `verify` with status 1 says why the input isn't verified
 pub refused_verification : (left : Option (List ℕ)) (slots count : ℕ) (old new : Option (List ℕ)) (why : VerifyFault)
     → IfSome left (λ input. IsInputFault slots count input old new why)
     → status_of_verify_fault why ≡ 1
@@ -210,6 +211,7 @@ written status last old new before after is read sound = record {
     neither (inl failed) = read (search (rules, failed))
     neither (inr failed) = search (rules, failed, sound)
 
+-- what is so between the ends of `verify` is so of its status
 pub between : {R W : Type 0} (why : VerifyFault) (status : ℕ) (first last : Source R) (old new : Sink W)
     (before after : Option (List ℕ))
     → status ≡ status_of_verify_fault why

@@ -19,6 +19,7 @@ some_octets wanted blocks =
     ((wanted.cell.lac % 256) ∷ (wanted.cell.ci / 256) ∷ (wanted.cell.ci % 256) ∷ (wanted.slots / 16777216)
     ∷ (wanted.slots / 65536 % 256) ∷ (wanted.slots / 256 % 256) ∷ (wanted.slots % 256) ∷ octets_of_blocks blocks)
 
+-- the tape of a capture is never empty: it has a header
 pub some_tape : (wanted : Wanted) (input output : List ℕ) → IsTapeOfCapture wanted input output → 0 < length output
 some_tape wanted input output is =
     subst (λ (octets : List ℕ). 0 < length octets) (sym is.written) (some_octets wanted (blocks_in is.known.blocks))
@@ -31,6 +32,7 @@ refused_here wanted input old new (fault.Air why) told is = inr (why, told.1)
 refused_here wanted input old new fault.Refused told is = absurd (omega (arith, is))
 refused_here wanted input old new fault.WriteFailed told is = absurd (omega (arith, is))
 
+-- a fault of `tape` with status 1 says that the capture has no such tape
 pub refused_air : (left : Option (List ℕ)) (wanted : Wanted) (old new : Option (List ℕ)) (why : TapeCommandFault) →
     IfSome left (λ input. IsTapeCommandFault wanted input old new why) → status_of_tape_fault why ≡ 1 →
     IfSome left (IsNoAir wanted)

@@ -14,12 +14,14 @@ use Rattle.report.specs.Rows.{report_rows}
 use Rattle.warnc_run.specs.OneOutput.{ChartedIsOne, CompiledIsOne, LiveOfOneIsCompiled, ReportedIsOne}
 use Rattle.warnc_run.specs.Reported.{reading_of_record}
 
+-- a book has one compiled output
 pub compiled_is_one : RunsAreOne → CompiledIsOne
 compiled_is_one runs slots input output other one two =
     let same = runs input one.book two.book slots one.exchanges two.exchanges one.records two.records one.is_book
     two.is_book one.run two.run in
     one.written ∙ ap (λ (records : List Record). flat_map tape_of_record records) same.1 ∙ sym two.written
 
+-- a book has one report
 pub reported_is_one : RunsAreOne → ReportedIsOne
 reported_is_one runs slots input output other one two =
     let same = runs input one.book two.book slots one.exchanges two.exchanges one.records two.records one.is_book
@@ -27,6 +29,7 @@ reported_is_one runs slots input output other one two =
     one.written ∙ ap (λ (records : List Record). report_text (report_rows records (map reading_of_record records))) same.1
     ∙ sym two.written
 
+-- a book has one chart
 pub charted_is_one : RunsAreOne → ChartedIsOne
 charted_is_one runs slots wanted input output other one two =
     let same = runs input one.book two.book slots one.exchanges two.exchanges one.records two.records one.is_book
@@ -43,6 +46,7 @@ one_session law book slots [] records one run = absurd (omega (arith, one))
 one_session law book slots (exchanges ∷ []) records one run = (exchanges, law book slots exchanges records run)
 one_session law book slots (exchanges ∷ (more ∷ sessions)) records one run = absurd (omega (arith, one))
 
+-- a live run of one session writes what compile writes
 pub live_of_one_is_compiled : RunsAreOne → OneSessionIsARun → LiveOfOneIsCompiled
 live_of_one_is_compiled runs law slots input output other one two =
     let run = one_session law one.book slots one.sessions one.records one.parted one.run in

@@ -39,6 +39,7 @@ no_reply : (reply : Option Message) → IsReply None reply → reply ≡ None
 no_reply None is = refl
 no_reply (Some message) is = absurd is
 
+-- a session that has begun serves: what it has next is its request
 pub serving_begun : (book : Contents) (part parts : ℕ) (before session : SessionState) (reply : Option Message)
     (next : Option (ℕ × Vec ℕ Global))
     → StandsFor before (session_of book part parts)

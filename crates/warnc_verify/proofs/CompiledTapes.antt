@@ -76,6 +76,7 @@ recordings slots input output compiled few valid recorded =
       );
     }
 
+-- the tapes of a compiled book have no difference from it
 pub compiled-differs-nowhere : CellsAreValid → RecordsAreRecorded → OwnTapesHaveNoRows → CompiledDiffersNowhere
 compiled-differs-nowhere valid recorded rows slots input output few compiled = (
   record {

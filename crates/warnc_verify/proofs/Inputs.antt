@@ -234,6 +234,7 @@ by_both P Q S (Err e) both p q = both e p q
 longer : (x : ℕ) (xs : List ℕ) → 0 < length (x ∷ xs)
 longer x xs = omega arith
 
+-- the table of a verified input is never empty: it has the line of the columns' names
 pub some_table : (slots count : ℕ) (input output : List ℕ) → IsVerified slots count input output → 0 < length output
 some_table slots count input output is =
     subst (λ (octets : List ℕ). 0 < length octets) (sym is.1) (longer 108 (drop 1 (rows_text [])))

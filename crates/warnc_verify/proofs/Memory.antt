@@ -18,12 +18,14 @@ abbrev pub IsOfMemory : (outcome result : Result (Unit {0}) VerifyFault) → Typ
 IsOfMemory outcome result = (result ≡ outcome) ⊎ ((outcome ≡ Err (faults.Run (run.Book unread)))
     × (result ≡ Err faults.Refused))
 
+-- what holds after an outcome that is done holds after that of memory
 pub ok_of : (P : Type 0) (outcome result : Result (Unit {0}) VerifyFault) → IsOfMemory outcome result → OnOk outcome P
     → OnOk result P
 ok_of P outcome result (inl same) holds = subst (λ (r : Result (Unit {0}) VerifyFault). OnOk r P) (sym same) holds
 ok_of P outcome result (inr other) holds =
     subst (λ (r : Result (Unit {0}) VerifyFault). OnOk r P) (sym other.1) tt
 
+-- what holds after any fault of an outcome, and of want of memory, holds after any fault of that of memory
 pub err_of : (P : VerifyFault → Type 0) (outcome result : Result (Unit {0}) VerifyFault) → IsOfMemory outcome result
     → (P (faults.Run (run.Book unread)) → P faults.Refused)
     → IfErr outcome P
@@ -52,6 +54,7 @@ unlike first last old new between = record {
         → ⊥
     never r is other = search (rules, is, other)
 
+-- what is so between two ends after an outcome is so after that of memory
 pub between_of : {R W : Type 0} (outcome result : Result (Unit {0}) VerifyFault) (first last : Source R)
     (old new : Sink W)
     → IsOfMemory outcome result
