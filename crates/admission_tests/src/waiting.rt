@@ -1,188 +1,144 @@
-//! Lines that wait behind others, slot by slot. The loads are those of one page in 4 slots (a quarter of a cell), one
-//! page in 2 slots (a half) and three pages in 4 slots.
+//! Lines that wait behind others, slot by slot. The loads are those of one page in 4 slots (58198140, a quarter of a
+//! cell), one page in 2 slots (116396280, a half) and three pages in 4 slots (174594420).
 
-use crate::calls::{fits_behind, released, reserved, reserved_behind};
-use admission::{Budget, NoRoom, SCALE, load};
+use crate::budgets::expect_rows;
 
-const QUARTER: u64 = 58_198_140;
+const HANDED_OVER: &str = "
+# One takes over in a full cell.
+new
+reserve 0 58198140 - -> ok
+reserve 1 174594420 - -> ok
+total -> 232792560
 
-const HALF: u64 = 116_396_280;
+# Entry 0, of period 4, is stopped at slot 1, and entry 2 takes over at slot 4.
+fits 58198140 - -> Load
+fits_behind 58198140 0 - -> ok
+release 0 4 -> true
+reserve_behind 2 58198140 0 4 -> ok
+total -> 232792560
 
-const THREE_QUARTERS: u64 = 174_594_420;
+# At slot 2 there is no room for a half in its place, and at slot 3 there is for a quarter.
+fits 116396280 2 -> Load
+fits_behind 116396280 0 2 -> Load
+fits_behind 58198140 0 2 -> ok
+release 2 3 -> true
+pass 3
+is_reserved 2 -> false
+reserve_behind 3 58198140 0 4 -> ok
+total -> 232792560
+pass 4
+is_reserved 0 -> false
+has_started 3 -> true
+total -> 232792560
+
+# It waits behind one that hands over.
+new
+reserve 0 58198140 4 -> ok
+reserve 1 58198140 - -> ok
+hands_over 0 4 -> true
+hands_over 0 5 -> false
+hands_over 1 4 -> false
+is_awaited 0 -> false
+reserve_behind 2 58198140 0 4 -> ok
+
+# None waits behind the same, nor behind one that waits, and the end of what is waited for stays.
+is_awaited 0 -> true
+is_awaited 2 -> false
+has_started 2 -> false
+reserve_behind 3 58198140 0 4 -> none
+fits_behind 58198140 2 - -> none
+release 0 3 -> false
+
+# Once it is gone, all of that may be.
+release 2 1 -> true
+pass 1
+is_awaited 0 -> false
+reserve_behind 3 58198140 0 4 -> ok
+is_awaited 0 -> true
+";
+
+const EXCESSES: &str = "
+# A half behind a quarter holds a quarter more up to slot 4, so that a quarter has no room at slot 2.
+new
+reserve 0 58198140 - -> ok
+reserve 1 116396280 - -> ok
+total -> 174594420
+release 0 4 -> true
+fits 116396280 - -> Load
+fits_behind 116396280 0 - -> ok
+fits_behind 116396281 0 - -> Load
+reserve_behind 2 116396280 0 4 -> ok
+total -> 232792560
+pass 2
+fits 58198140 - -> Load
+pass 3
+has_started 2 -> false
+total -> 232792560
+pass 4
+has_started 2 -> true
+total -> 232792560
+
+# Nothing is held behind a greater load.
+new
+reserve 0 116396280 6 -> ok
+reserve_behind 1 58198140 0 6 -> ok
+total -> 116396280
+pass 5
+total -> 116396280
+pass 6
+total -> 58198140
+
+# A full table is reported before the load.
+new
+reserve_64 1000 9 -> 64
+fits_behind 0 63 - -> Table
+fits_behind most 63 - -> Table
+fits_behind 1000 63 64 -> Table
+reserve_behind 64 1000 63 9 -> Table
+
+# 63 others hold 63,000, so that there is room for an excess of 232,792,560 - 63,000.
+fits_behind 232730560 63 0 -> ok
+fits_behind 232730561 63 0 -> Load
+total -> 64000
+";
+
+const AS_SLOTS_PASS: &str = "
+new
+reserve 0 58198140 3 -> ok
+reserve 1 58198140 5 -> ok
+reserve 2 116396280 - -> ok
+reserve_behind 3 58198140 1 5 -> ok
+pass 2
+total -> 232792560
+
+# The first one ends, and the last goes on waiting.
+pass 3
+is_reserved 0 -> false
+is_awaited 1 -> true
+has_started 2 -> true
+has_started 3 -> false
+total -> 174594420
+
+# The one in front ends, and the last starts.
+pass 5
+is_reserved 1 -> false
+is_awaited 1 -> false
+has_started 2 -> true
+has_started 3 -> true
+total -> 174594420
+";
 
 #[test]
-fn has_those_loads(rt: HostRuntime) {
-    assert_eq!(rt; load(1, 4), QUARTER);
-    assert_eq!(rt; load(1, 2), HALF);
-    assert_eq!(rt; load(3, 4), THREE_QUARTERS);
-}
-
-#[test]
-fn takes_over_in_a_full_cell(rt: HostRuntime) {
-    let mut budget = Budget::new();
-    assert_eq!(rt; reserved(&mut budget, 0, QUARTER, None), Some(Ok(())));
-    assert_eq!(rt;
-        reserved(&mut budget, 1, THREE_QUARTERS, None),
-        Some(Ok(()))
-    );
-    assert_eq!(rt; budget.reserved(), SCALE);
-
-    // Entry 0, of period 4, is stopped at slot 1, and entry 2 takes over at slot 4.
-    assert_eq!(rt; budget.fits(QUARTER, None), Err(NoRoom::Load));
-    assert_eq!(rt; fits_behind(&budget, QUARTER, 0, None), Some(Ok(())));
-    assert!(rt; released(&mut budget, 0, 4));
-    assert_eq!(rt;
-        reserved_behind(&mut budget, 2, QUARTER, 0, 4),
-        Some(Ok(()))
-    );
-    assert_eq!(rt; budget.reserved(), SCALE);
-
-    // At slot 2 there is no room for a half in its place, and at slot 3 there is for a quarter.
-    assert_eq!(rt; budget.fits(HALF, Some(2)), Err(NoRoom::Load));
-    assert_eq!(rt;
-        fits_behind(&budget, HALF, 0, Some(2)),
-        Some(Err(NoRoom::Load))
-    );
-    assert_eq!(rt; fits_behind(&budget, QUARTER, 0, Some(2)), Some(Ok(())));
-    assert!(rt; released(&mut budget, 2, 3));
-    budget.pass_slot(3);
-    assert!(rt; !budget.is_reserved(2));
-    assert_eq!(rt;
-        reserved_behind(&mut budget, 3, QUARTER, 0, 4),
-        Some(Ok(()))
-    );
-    assert_eq!(rt; budget.reserved(), SCALE);
-    budget.pass_slot(4);
-    assert!(rt; !budget.is_reserved(0));
-    assert!(rt; budget.has_started(3));
-    assert_eq!(rt; budget.reserved(), SCALE);
+fn takes_over_from_one_that_hands_over(rt: HostRuntime) {
+    expect_rows(&rt, HANDED_OVER, 40);
 }
 
 #[test]
 fn holds_its_excess_while_it_waits(rt: HostRuntime) {
-    let mut budget = Budget::new();
-    assert_eq!(rt; reserved(&mut budget, 0, QUARTER, None), Some(Ok(())));
-    assert_eq!(rt; reserved(&mut budget, 1, HALF, None), Some(Ok(())));
-    assert_eq!(rt; budget.reserved(), THREE_QUARTERS);
-
-    // A half behind a quarter holds a quarter more up to slot 4, so that a quarter has no room at slot 2.
-    assert!(rt; released(&mut budget, 0, 4));
-    assert_eq!(rt; budget.fits(HALF, None), Err(NoRoom::Load));
-    assert_eq!(rt; fits_behind(&budget, HALF, 0, None), Some(Ok(())));
-    assert_eq!(rt;
-        fits_behind(&budget, HALF + 1, 0, None),
-        Some(Err(NoRoom::Load))
-    );
-    assert_eq!(rt; reserved_behind(&mut budget, 2, HALF, 0, 4), Some(Ok(())));
-    assert_eq!(rt; budget.reserved(), SCALE);
-    budget.pass_slot(2);
-    assert_eq!(rt; budget.fits(QUARTER, None), Err(NoRoom::Load));
-    budget.pass_slot(3);
-    assert!(rt; !budget.has_started(2));
-    assert_eq!(rt; budget.reserved(), SCALE);
-    budget.pass_slot(4);
-    assert!(rt; budget.has_started(2));
-    assert_eq!(rt; budget.reserved(), SCALE);
-}
-
-#[test]
-fn holds_nothing_behind_a_greater_load(rt: HostRuntime) {
-    let mut budget = Budget::new();
-    assert_eq!(rt; reserved(&mut budget, 0, HALF, Some(6)), Some(Ok(())));
-    assert_eq!(rt;
-        reserved_behind(&mut budget, 1, QUARTER, 0, 6),
-        Some(Ok(()))
-    );
-    assert_eq!(rt; budget.reserved(), HALF);
-    budget.pass_slot(5);
-    assert_eq!(rt; budget.reserved(), HALF);
-    budget.pass_slot(6);
-    assert_eq!(rt; budget.reserved(), QUARTER);
-}
-
-#[test]
-fn waits_behind_one_that_hands_over(rt: HostRuntime) {
-    let mut budget = Budget::new();
-    assert_eq!(rt; reserved(&mut budget, 0, QUARTER, Some(4)), Some(Ok(())));
-    assert_eq!(rt; reserved(&mut budget, 1, QUARTER, None), Some(Ok(())));
-    assert!(rt; budget.hands_over_at(0, 4));
-    assert!(rt; !budget.hands_over_at(0, 5));
-    assert!(rt; !budget.hands_over_at(1, 4));
-    assert!(rt; !budget.is_awaited(0));
-    assert_eq!(rt;
-        reserved_behind(&mut budget, 2, QUARTER, 0, 4),
-        Some(Ok(()))
-    );
-
-    // None waits behind the same, nor behind one that waits, and the end of what is waited for stays.
-    assert!(rt; budget.is_awaited(0));
-    assert!(rt; !budget.is_awaited(2));
-    assert!(rt; !budget.has_started(2));
-    assert_eq!(rt; reserved_behind(&mut budget, 3, QUARTER, 0, 4), None);
-    assert_eq!(rt; fits_behind(&budget, QUARTER, 2, None), None);
-    assert!(rt; !released(&mut budget, 0, 3));
-
-    // Once it is gone, all of that may be.
-    assert!(rt; released(&mut budget, 2, 1));
-    budget.pass_slot(1);
-    assert!(rt; !budget.is_awaited(0));
-    assert_eq!(rt;
-        reserved_behind(&mut budget, 3, QUARTER, 0, 4),
-        Some(Ok(()))
-    );
-    assert!(rt; budget.is_awaited(0));
-}
-
-#[test]
-fn reports_the_table_before_the_load(rt: HostRuntime) {
-    let mut budget = Budget::new();
-    for entry in 0..64 {
-        assert_eq!(rt; reserved(&mut budget, entry, 1_000, Some(9)), Some(Ok(())));
-    }
-    let full = Some(Err(NoRoom::Table));
-    assert_eq!(rt; fits_behind(&budget, 0, 63, None), full);
-    assert_eq!(rt; fits_behind(&budget, u64::MAX, 63, None), full);
-    assert_eq!(rt; fits_behind(&budget, 1_000, 63, Some(64)), full);
-    assert_eq!(rt; reserved_behind(&mut budget, 64, 1_000, 63, 9), full);
-
-    // 63 others hold 63,000, so that there is room for an excess of SCALE - 63,000.
-    assert_eq!(rt;
-        fits_behind(&budget, 232_730_560, 63, Some(0)),
-        Some(Ok(()))
-    );
-    assert_eq!(rt;
-        fits_behind(&budget, 232_730_561, 63, Some(0)),
-        Some(Err(NoRoom::Load))
-    );
-    assert_eq!(rt; budget.reserved(), 64_000);
+    expect_rows(&rt, EXCESSES, 35);
 }
 
 #[test]
 fn keeps_what_is_left_as_slots_pass(rt: HostRuntime) {
-    let mut budget = Budget::new();
-    assert_eq!(rt; reserved(&mut budget, 0, QUARTER, Some(3)), Some(Ok(())));
-    assert_eq!(rt; reserved(&mut budget, 1, QUARTER, Some(5)), Some(Ok(())));
-    assert_eq!(rt; reserved(&mut budget, 2, HALF, None), Some(Ok(())));
-    assert_eq!(rt;
-        reserved_behind(&mut budget, 3, QUARTER, 1, 5),
-        Some(Ok(()))
-    );
-    budget.pass_slot(2);
-    assert_eq!(rt; budget.reserved(), SCALE);
-
-    // The first one ends, and the last goes on waiting.
-    budget.pass_slot(3);
-    assert!(rt; !budget.is_reserved(0));
-    assert!(rt; budget.is_awaited(1));
-    assert!(rt; budget.has_started(2));
-    assert!(rt; !budget.has_started(3));
-    assert_eq!(rt; budget.reserved(), HALF + QUARTER);
-
-    // The one in front ends, and the last starts.
-    budget.pass_slot(5);
-    assert!(rt; !budget.is_reserved(1));
-    assert!(rt; !budget.is_awaited(1));
-    assert!(rt; budget.has_started(2));
-    assert!(rt; budget.has_started(3));
-    assert_eq!(rt; budget.reserved(), HALF + QUARTER);
+    expect_rows(&rt, AS_SLOTS_PASS, 19);
 }
