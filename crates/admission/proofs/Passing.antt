@@ -54,6 +54,7 @@ rest_is table old place d inside within rest =
     let its = drop_more old place d within in
     cc
 
+-- a reservation that goes on is kept as the slot passes
 pub HasPassed-kept : (slot kept place : ℕ) (table old : List Held) (d : Held) → HasPassed slot kept place table old
     → length table ≡ length old → place < length old → is_before_end slot (get_or table place d).end ≡ true
     → HasPassed slot (kept + 1) (place + 1) (set table kept (started_at slot (get_or table place d))) old
@@ -72,6 +73,7 @@ HasPassed-kept slot kept place table old d had long within is =
           ∙ rest_is table old place d (omega (arith, long, within)) within had.rest;
     }
 
+-- a reservation that ends is gone as the slot passes
 pub HasPassed-gone : (slot kept place : ℕ) (table old : List Held) (d : Held) → HasPassed slot kept place table old
     → length table ≡ length old → place < length old → is_before_end slot (get_or table place d).end ≡ false
     → HasPassed slot kept (place + 1) table old

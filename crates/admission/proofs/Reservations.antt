@@ -19,6 +19,7 @@ pub is_before_end-says : (slot : ℕ) (end : Option ℕ) → is_before_end slot 
 is_before_end-says slot None h = tt
 is_before_end-says slot (Some end) h = ltb-true slot end h
 
+-- a slot before the end passes the test
 pub is_before_end-from : (slot : ℕ) (end : Option ℕ) → IsBeforeEnd slot end → is_before_end slot end ≡ true
 is_before_end-from slot None h = refl
 is_before_end-from slot (Some end) h = lt-ltb slot end h
@@ -28,11 +29,13 @@ both : (a b : Bool) → (a && b) ≡ true → (a ≡ true) × (b ≡ true)
 both true b h = (refl, h)
 both false b h = absurd (false≢true h)
 
+-- a slot that passes the test is reserved
 pub is_reserved_at-says : (slot : ℕ) (r : Reservation) → is_reserved_at slot r ≡ true → IsReservedAt r slot
 is_reserved_at-says slot r h =
     let passed = both (leb r.start slot) (is_before_end slot r.end) h in
     (leb-true r.start slot passed.0, is_before_end-says slot r.end passed.1)
 
+-- and a slot that is reserved passes it
 pub is_reserved_at-from : (slot : ℕ) (r : Reservation) → IsReservedAt r slot → is_reserved_at slot r ≡ true
 is_reserved_at-from slot r h =
     let started = le-leb r.start slot h.0 in

@@ -238,13 +238,16 @@ no_more_than_earlier early slot table earlier admitted =
     either : (a b : ℕ) → a + (b - a) ≡ b + (a - b)
     either a b = omega arith
 
+-- no slot to come has more reserved than is held now
 pub no_slot_over_now : NoSlotOverNow
 no_slot_over_now table slot admitted =
     no_more_than_earlier held_now slot table (now_is_earlier slot) admitted
 
+-- so none has more than SCALE
 pub no_slot_over_scale : NoSlotOverScale
 no_slot_over_scale table slot admitted = omega (arith, no_slot_over_now table slot admitted, admitted.loads)
 
+-- what is held doesn't rise as slots pass
 pub held_never_rises : HeldNeverRises
 held_never_rises table t u admitted later =
     no_more_than_earlier (held_at t) u table (slot_is_earlier t u later) admitted
@@ -273,6 +276,7 @@ one_more slot true h rest n e =
     )
 one_more slot false h rest n e = omega (arith, e)
 
+-- what is left after a slot passed is what is held at it
 pub passed_is_held : PassedIsHeld
 passed_is_held [] slot = refl
 passed_is_held (h ∷ table) slot =
@@ -302,6 +306,7 @@ held_at-ended t u h later over =
           (IsBeforeEnd-earlier t u h.end later (is_before_end-says u h.end there))))
     ]
 
+-- and later slots have what they had
 pub passed_keeps_later : PassedKeepsLater
 passed_keeps_later [] t u later = refl
 passed_keeps_later (h ∷ table) t u later =

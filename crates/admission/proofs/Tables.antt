@@ -242,6 +242,7 @@ decided true true done is = (refl, refl)
 decided true false done is = absurd (cc)
 decided false fits done is = absurd (cc)
 
+-- a load that is taken has a place in the table and room beside the others
 pub has_room : (places total load : ℕ) (done : Unit {0}) → room_answer places total load ≡ Ok done → (places < 64)
     × (total + load ≤ SCALE)
 has_room places total load done is =

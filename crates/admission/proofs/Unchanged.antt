@@ -14,6 +14,7 @@ still_waits : (slot : ℕ) (waits : Option Waits) → goes_on slot waits ≡ tru
 still_waits slot None h = refl
 still_waits slot (Some w) h = rw h refl
 
+-- a table of which all stays is as it was
 pub passed_unchanged : (slot : ℕ) (table : List Held) → list_all (stays_at slot) table ≡ true
     → passed slot table ≡ table
 passed_unchanged slot [] h = refl

@@ -4,7 +4,8 @@ ghost use Rattle.std.specs.Prelude.{◌≡◌, ◌≢◌, ℕ, ◌==◌, ◌≤�
 ghost use Rattle.std.specs.Prelude.{Any};
 ghost use Rattle.std.specs.Prelude.{OnOk, OnErr, MatchBool};
 ghost use Rattle.std.specs.Option.{option_map};
-ghost use Rattle.admission.specs.Table.{room_answer_for, room_answer, remaining_without, load_for, excess_over, ends_at};
+ghost use Rattle.admission.specs.Table.{room_answer_for, room_answer, remaining_without, load_for, excess_over};
+ghost use Rattle.admission.specs.Table.{ends_at};
 ghost use Rattle.admission.specs.Table.{ends_if, passed, IsAdmitted};
 ghost use Rattle.std.specs.List.{list_all};
 ghost use Rattle.admission.specs.TableSteps.{HasPlace, goes_on, stays_at};

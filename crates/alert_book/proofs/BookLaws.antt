@@ -36,6 +36,7 @@ orders_grow before (rows.Give order) most h = simp length-append (omega arith)
 abbrev pub Leave : List (List (List ℕ)) → ℕ → Rows → Type 0
 Leave seen row before = (more : List (List (List ℕ))) → rows_of (seen ++ more) ≡ rows_read (row + 1) before more
 
+-- one right row more leaves what it means
 pub leave_more : (seen : List (List (List ℕ))) (fields : List (List ℕ)) (row : ℕ) (before next : Rows) (meant : Row) →
     Leave seen row before → row_of (row + 1) before.cells before.orders fields ≡ Ok meant →
     next ≡ with_row before meant →
@@ -43,6 +44,7 @@ pub leave_more : (seen : List (List (List ℕ))) (fields : List (List ℕ)) (row
 leave_more seen fields row before next meant so right is more =
     ap rows_of (append_assoc seen (fields ∷ []) more) ∙ so (fields ∷ more) ∙ rw (right, is) refl
 
+-- what all rows leave is what they mean
 pub leave_all : (seen : List (List (List ℕ))) (row : ℕ) (before : Rows) → Leave seen row before →
     rows_of seen ≡ Ok before
 leave_all seen row before so = ap rows_of (sym (append-nil seen)) ∙ so []
@@ -90,11 +92,13 @@ rows_read-read row before (fields ∷ more) f h failed =
     after_row-read row before (row_of row before.cells before.orders fields) (λ next. rows_read (row + 1) next more) f
     (λ next. rows_read-read (row + 1) next more f) h failed
 
+-- a fault of rows is no fault of the reader
 pub row_fault_is_read : (input : List ℕ) (f : BookFault) → (f ≡ refused) ⊎ IsRowFault input f → f ≢ unread
 row_fault_is_read input f (inl none) failed =
     let e = ap (λ (b : BookFault). b.kind) (sym none ∙ failed) in cc
 row_fault_is_read input f (inr wrong) failed = rows_read-read 1 (rows_with [] []) wrong.records f wrong.wrong failed
 
+-- a fault that isn't the reader's isn't
 pub unread_where : {A : Type 0} (result : Result A BookFault) (f : BookFault) → result ≡ Err f → f ≢ unread →
     IfErr result (λ fault. fault ≢ unread)
 unread_where (Ok x) f is told = tt

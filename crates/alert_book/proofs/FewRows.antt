@@ -36,6 +36,7 @@ size_more before (rows.Give order) = simp length-append (omega arith)
 same_rows : (r : Result Rows BookFault) (a b : Rows) → r ≡ Ok a → r ≡ Ok b → a ≡ b
 same_rows r a b one other = cc
 
+-- what each row keeps, all rows keep
 pub rows_keep : (P : ℕ → Rows → Type 0) → ((row : ℕ) (before : Rows) (fields : List (List ℕ)) (meant : Row) →
     P row before → row_of row before.cells before.orders fields ≡ Ok meant → P (row + 1) (with_row before meant)) →
     (row : ℕ) (before result : Rows) (records : List (List (List ℕ))) → P row before →

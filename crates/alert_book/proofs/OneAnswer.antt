@@ -62,6 +62,7 @@ fault_stays row before (x ∷ xs) more f h =
       | Err kind ↦ λ e. e
     ] h
 
+-- octets that mean rows have no fault in a row
 pub right_or_wrong : (input : List ℕ) (rows : Rows) (f : BookFault) → AreRowsOf input rows → IsRowFault input f → ⊥
 right_or_wrong input rows f right wrong =
     let m = reached_front _ _ _ wrong.records right.records _ _ _ _ wrong.read right.read.2 right.read.3 in
@@ -87,6 +88,7 @@ reached_same cfg s xs (r ∷ rs) (q ∷ qs) s1 y1 s2 y2 h last k none =
 one_ok : (r : Result Rows BookFault) (a b : Rows) → r ≡ Ok a → r ≡ Ok b → a ≡ b
 one_ok r a b h k = cc
 
+-- octets mean one list of rows
 pub one_meaning : (input : List ℕ) (rows others : Rows) → AreRowsOf input rows → AreRowsOf input others → rows ≡ others
 one_meaning input rows others a b =
     let same = reached_same _ _ _ a.records b.records _ _ _ _ a.read.2 a.read.3 b.read.2 b.read.3 in

@@ -38,6 +38,7 @@ all_pages_one (order ∷ orders) (p ∷ ps) [] one two = two
 all_pages_one (order ∷ orders) (p ∷ ps) (q ∷ qs) one two =
     (one_pages (sending_of order.action) p q one.0 two.0, all_pages_one orders ps qs one.1 two.1)
 
+-- octets are one book
 pub books_are_one : BooksAreOne
 books_are_one input book other one two =
     let rows = one_meaning input (rows_with book.cells book.orders) (rows_with other.cells other.orders) one.rows
@@ -130,6 +131,7 @@ paged_wrong [] x after (p ∷ ps) f have wrong = no_pages x f p wrong have.0
 paged_wrong (o ∷ os) x after [] f have wrong = have
 paged_wrong (o ∷ os) x after (p ∷ ps) f have wrong = paged_wrong os x after ps f have.1 wrong
 
+-- octets that are a book have no fault
 pub books_are_right : BooksAreRight
 books_are_right input book f is wrong = elim wrong.1 [
   | inl row ↦ right_or_wrong input (rows_with book.cells book.orders) f is.rows row
@@ -162,6 +164,7 @@ one_text_fault input f g one two =
     let rows = one_meaning input one.rows two.rows one.meant two.meant in
     one_wrong_text two.rows.orders f g (subst (λ (r : Rows). HasWrongText r.orders f) rows one.wrong) two.wrong
 
+-- octets have one fault at most
 pub faults_are_one : FaultsAreOne
 faults_are_one input f g one two = elim one.1 [
   | inl row ↦ elim two.1 [

@@ -89,6 +89,7 @@ wrong_after (order ∷ orders) (paged ∷ before) after f all = elim (wrong_afte
   | inr wrong ↦ inr (wrong_later order orders paged f all.0 wrong)
 ]
 
+-- the first fault of the texts is that of the first order whose text is wrong
 pub wrong_first : (orders : List Order) (packed : List (Result (Option Paged) BookFault)) (f : BookFault) →
     AllZip IsOrderPacked orders packed → (f ≡ refused) ⊎ IsFirstFault packed f → (f ≡ refused) ⊎ HasWrongText orders f
 wrong_first orders packed f all (inl none) = inl none

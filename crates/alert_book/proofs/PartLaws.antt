@@ -47,6 +47,7 @@ listed_cut text part rest split =
     let cut = split_parts 32 text (Some (part, rest)) split (omega arith) in
     ap all_named (ap (λ (t : List ℕ). parts_of t) cut.0 ∙ parts_cut [] part.now rest.now cut.1)
 
+-- a list without a space names one cell
 pub listed_whole : (text : List ℕ) → IsSplitOnceResult 32 text None →
     cells_listed text ≡ before_all (cell_named text) (Some [])
 listed_whole text split = ap all_named (parts_whole [] text (split_parts 32 text None split (omega arith)))
@@ -57,11 +58,13 @@ pub none_after : (front : List Cell) (text left part : List ℕ) (cells : Option
     cell_named part ≡ None → None ≡ cells_listed text
 none_after front text left part cells so cut none = sym (so ∙ rw (cut, none) refl)
 
+-- one cell more is listed
 pub more_after : (front : List Cell) (text left part : List ℕ) (cells : Option (List Cell)) (cell : Cell) →
     cells_listed text ≡ after_cells front (cells_listed left) → cells_listed left ≡ before_all (cell_named part) cells →
     cell_named part ≡ Some cell → cells_listed text ≡ after_cells (front ++ cell ∷ []) cells
 more_after front text left part cells cell so cut one = so ∙ rw (cut, one) (one_more front cell cells)
 
+-- the last cell is listed
 pub last_after : (front : List Cell) (text left part : List ℕ) (cell : Cell) →
     cells_listed text ≡ after_cells front (cells_listed left) →
     cells_listed left ≡ before_all (cell_named part) (Some []) →

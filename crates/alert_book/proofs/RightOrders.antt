@@ -203,6 +203,7 @@ pub record IsRight (sending : Sending) : Type 0 where
   pub period : is_period sending.period ≡ true
   pub cells : AreAsked sending.cells
 
+-- what all that comes next makes is, the whole makes is
 pub right_gives : {A B : Type 0} (P : B → Type 0) (r : Result A RowFault) (next : A → Result B RowFault) →
     ((value : A) → r ≡ Ok value → (made : B) → next value ≡ Ok made → P made) →
     (made : B) → if_right r next ≡ Ok made → P made

@@ -6,6 +6,7 @@ use Rattle.alert_book.specs.declared.book.order.Sending.{Sending}
 use Rattle.alert_book.specs.Fields.{column, known_name, number, sending_at}
 use Rattle.alert_book.specs.Row.{is_update_of, update_row, update_with}
 
+-- a row whose fields mean so much updates its alert
 pub update_is : (row : ℕ) (declared : List Cell) (orders : List Order) (fields : List (List ℕ)) (at : ℕ)
     (first : Order) (sending : Sending) (name : List ℕ) (earlier : ℕ) →
     name ≡ column fields 2 → earlier ≡ count_by (is_update_of name) orders →

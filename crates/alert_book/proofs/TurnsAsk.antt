@@ -34,6 +34,7 @@ filter_more {X} p x xs = by_test (p x)
     by_test true = omega arith
     by_test false = omega arith
 
+-- a part of a list is no longer than the list
 pub filter_le : {X : Type 0} (p : X → Bool) (xs : List X) → length (filter p xs) ≤ length xs
 filter_le {X} p xs =
     let few = count_by-le-length p xs in

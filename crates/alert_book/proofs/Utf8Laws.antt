@@ -207,6 +207,7 @@ rows_have (fields ∷ more) row before after all read =
     by_row (Ok meant) here later right = later (with_row before meant) (with_row_has before meant all here) right
     by_row (Err kind) here later right = cc
 
+-- the texts of a book are UTF-8
 pub texts_are_utf8 : TextsAreUtf8
 texts_are_utf8 input book is =
     rows_have is.rows.records 1 (rows_with [] []) (rows_with book.cells book.orders) (All-nil HasUtf8Text) is.rows.meant

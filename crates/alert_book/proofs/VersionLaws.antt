@@ -7,6 +7,7 @@ use Rattle.cbsp_wire.specs.declared.message.Cell.{Cell}
 use Rattle.alert_book.specs.VersionSteps.{Key, is_key, key_of, flattened, kept_version, has_place, KeepsVersions}
 use Rattle.alert_book.specs.VersionSteps.{SetsVersion}
 
+-- the entries of a map of versions
 abbrev pub Entries : Type 0
 Entries = List (Key × Option ℕ)
 

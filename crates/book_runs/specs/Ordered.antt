@@ -24,7 +24,8 @@ pub record ComesOfExchange (book : Contents) (r : Record) (a : Accepted) (x : Ex
 
 -- an answer of the cell that starts a message of a write has it among the accepted ones
 abbrev pub StartIsAccepted : Record → Exchange → Cell × Answer → Type 0
-StartIsAccepted r x given = is_cell r.cell given.0 ≡ true → IsWrite x.command → (start : ℕ) → start_of given.1 ≡ Some start
+StartIsAccepted r x given = is_cell r.cell given.0 ≡ true → IsWrite x.command → (start : ℕ)
+    → start_of given.1 ≡ Some start
     → Any (λ a. IsWriteBy a x.command (Some start)) (accepted_in r.log)
 
 -- the accepted messages of a record are those that its cell started in the exchanges, and no others

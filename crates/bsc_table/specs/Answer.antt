@@ -29,7 +29,8 @@ use Rattle.bsc_table.specs.declared.entry.State.{State}
 use Rattle.bsc_table.specs.declared.entry.Entry.{Entry}
 use Rattle.bsc_table.specs.Claim.{Claim, is_claimed_at, claimed_at, stop_claims}
 use Rattle.bsc_table.specs.Handover.{Place}
-use Rattle.bsc_table.specs.Record.{Accepted, accepted_named, message_named, claims_in, is_background_category, place_after}
+use Rattle.bsc_table.specs.Record.{Accepted, accepted_named, message_named, claims_in, is_background_category}
+use Rattle.bsc_table.specs.Record.{place_after}
 use Rattle.bsc_table.specs.Record.{is_live, state_at}
 
 -- 6, where the load doesn't fit now: it starts later, at the place that it may take over, where its excess fits now;

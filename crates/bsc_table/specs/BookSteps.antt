@@ -126,7 +126,8 @@ pub record IsHeldFor (reservations : List Held) (load behind start excess : ℕ)
 -- the reservations of a budget have room for a claim, by the one behind which it waits: for its load where it starts by
 -- the slot; else for its excess, behind that one
 abbrev pub HasRoomFor : ℕ → List Held → Claim → Option ℕ → Type 0
-HasRoomFor slot reservations c None = (c.message.start ≤ slot) × (room_answer_for reservations (own_load c.message) ≡ Ok tt)
+HasRoomFor slot reservations c None = (c.message.start ≤ slot)
+    × (room_answer_for reservations (own_load c.message) ≡ Ok tt)
 HasRoomFor slot reservations c (Some behind) =
     (slot < c.message.start)
     × (room_answer_for reservations c.excess ≡ Ok tt)

@@ -13,7 +13,8 @@ ghost use Rattle.cbsp_wire.specs.declared.cause.TheConstants.{BSC_MEMORY_EXCEEDE
 ghost use Rattle.bsc_table.specs.declared.accepted.TheConstants.{LATEST_START};
 ghost use Rattle.bsc_table.specs.Claim.{stop_claims, is_claimed_at};
 ghost use Rattle.admission.specs.Load.{load_of};
-ghost use Rattle.bsc_table.specs.Record.{Record, accepted_in, is_of_pair, is_background_category, place_after, message_named};
+ghost use Rattle.bsc_table.specs.Record.{Record, accepted_in, is_of_pair, is_background_category, place_after};
+ghost use Rattle.bsc_table.specs.Record.{message_named};
 ghost use Rattle.bsc_table.specs.Record.{claim_of, claims_in};
 ghost use Rattle.bsc_table.specs.Answer.{status_of, status_answer, answer_to_kill, answer_to_write, before_end};
 ghost use Rattle.bsc_table.specs.Answer.{answer_with_room, answer_of};
@@ -575,8 +576,10 @@ impl CellBook {
 /// waits behind a message that is stopped now.
 fn release(budget: &mut Budget, old: &AcceptedMessage, slot: u16)
     requires period { 0 < old.now.period }
-    requires reserved { is_background_category old.now.category ≡ false → Any (λ h. h.entry ≡ old.now.entry) budget.old }
-    requires free { is_background_category old.now.category ≡ false → All (λ h. behind_of h ≢ Some old.now.entry) budget.old }
+    requires reserved { is_background_category old.now.category ≡ false
+        → Any (λ h. h.entry ≡ old.now.entry) budget.old }
+    requires free { is_background_category old.now.category ≡ false
+        → All (λ h. behind_of h ≢ Some old.now.entry) budget.old }
     ensures { budget.new ≡ (if is_background_category old.now.category then budget.old
         else passed slot (ends_at old.now.entry (end_of_stopped old.now.start old.now.period slot) budget.old)) }
 {

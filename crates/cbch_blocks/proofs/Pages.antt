@@ -4,6 +4,7 @@ use Rattle.std.specs.List.{slice_get}
 use Rattle.cbs_page.specs.declared.content.Content.{Content}
 use Rattle.cbch_blocks.specs.RecordBlocks.{page_with, pages_from}
 
+-- the page of a number is found at its place
 pub page_found : (id serial dcs total number : ℕ) (contents : List Content) (i : ℕ) (d : Content) → i < length contents
     → slice_get (pages_from id serial dcs total number contents) i
     ≡ Some (page_with id serial dcs total (number + i) (get_or contents i d))

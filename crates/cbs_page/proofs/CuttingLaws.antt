@@ -13,30 +13,33 @@ at_place : {Y : Type 0} (f : List ℕ → Y) (cs : List ℕ) (n c : ℕ) → n <
     → f (drop n cs) ≡ f (c ∷ drop (n + 1) cs)
 at_place f cs n c lt is = at_drop_more f cs n c lt ∙ ap (λ x. f (x ∷ drop (n + 1) cs)) (sym is)
 
+-- a character that fits is put on the page that is under way
 pub count-takes : (codes : ℕ → List ℕ) (limit used : ℕ) (cs : List ℕ) (n c : ℕ) → n < length cs → c ≡ get_or cs n c →
     used + length (codes c) ≤ limit →
     count_from codes limit used (drop n cs) ≡ count_from codes limit (used + length (codes c)) (drop (n + 1) cs)
 count-takes codes limit used cs n c lt is fits =
     at_place (count_from codes limit used) cs n c lt is ∙ rw (le-leb (used + length (codes c)) limit fits) refl
 
+-- a character that doesn't fit begins a further page
 pub count-begins : (codes : ℕ → List ℕ) (limit used : ℕ) (cs : List ℕ) (n c : ℕ) → n < length cs → c ≡ get_or cs n c →
     limit < used + length (codes c) →
     count_from codes limit used (drop n cs) ≡ 1 + count_from codes limit (length (codes c)) (drop (n + 1) cs)
 count-begins codes limit used cs n c lt is full =
     at_place (count_from codes limit used) cs n c lt is ∙ rw (lt-leb (used + length (codes c)) limit full) refl
 
-pub cuts-takes : (codes : ℕ → List ℕ) (limit : ℕ) (piece cs : List ℕ) (n c : ℕ) → n < length cs → c ≡ get_or cs n c →
+cuts-takes : (codes : ℕ → List ℕ) (limit : ℕ) (piece cs : List ℕ) (n c : ℕ) → n < length cs → c ≡ get_or cs n c →
     length piece + length (codes c) ≤ limit →
     cuts_from codes limit piece (drop n cs) ≡ cuts_from codes limit (piece ++ codes c) (drop (n + 1) cs)
 cuts-takes codes limit piece cs n c lt is fits =
     at_place (cuts_from codes limit piece) cs n c lt is ∙ rw (le-leb (length piece + length (codes c)) limit fits) refl
 
-pub cuts-begins : (codes : ℕ → List ℕ) (limit : ℕ) (piece cs : List ℕ) (n c : ℕ) → n < length cs → c ≡ get_or cs n c →
+cuts-begins : (codes : ℕ → List ℕ) (limit : ℕ) (piece cs : List ℕ) (n c : ℕ) → n < length cs → c ≡ get_or cs n c →
     limit < length piece + length (codes c) →
     cuts_from codes limit piece (drop n cs) ≡ piece ∷ cuts_from codes limit (codes c) (drop (n + 1) cs)
 cuts-begins codes limit piece cs n c lt is full =
     at_place (cuts_from codes limit piece) cs n c lt is ∙ rw (lt-leb (length piece + length (codes c)) limit full) refl
 
+-- the contents of pages and that of one more are the contents of all of them
 pub AreContentsOf-push : (alphabet : Alphabet) (closed : List (List ℕ)) (contents : List Content) (codes : List ℕ)
     (content : Content) →
     AreContentsOf alphabet closed contents → IsContentOf alphabet codes content →
@@ -55,6 +58,7 @@ pub record HasCut (alphabet : Alphabet) (cs : List ℕ) (n : ℕ) (piece : List 
   pub cut : closed ++ cuts_from (codes_of alphabet) (capacity alphabet) piece (drop n cs)
       ≡ cuts_from (codes_of alphabet) (capacity alphabet) [] cs
 
+-- the cut goes on with a character that fits
 pub HasCut-takes : (alphabet : Alphabet) (cs : List ℕ) (n : ℕ) (piece : List ℕ) (contents : List Content) (c : ℕ) →
     HasCut alphabet cs n piece contents → n < length cs → c ≡ get_or cs n c →
     length piece + length (codes_of alphabet c) ≤ capacity alphabet
@@ -66,6 +70,7 @@ HasCut-takes alphabet cs n piece contents c had lt is fits = record {
       fits)) ∙ had.cut;
 }
 
+-- the cut closes a page before a character that doesn't fit
 pub HasCut-begins : (alphabet : Alphabet) (cs : List ℕ) (n : ℕ) (piece : List ℕ) (contents : List Content) (c : ℕ)
     (content : Content) →
     HasCut alphabet cs n piece contents → n < length cs → c ≡ get_or cs n c →
@@ -80,6 +85,7 @@ HasCut-begins alphabet cs n piece contents c content had lt is full here = recor
       full)) ∙ had.cut;
 }
 
+-- at the end of the text the cut closes the last page
 pub HasCut-end : (alphabet : Alphabet) (cs : List ℕ) (n : ℕ) (piece : List ℕ) (contents : List Content)
     (content : Content) →
     HasCut alphabet cs n piece contents → n ≡ length cs → IsContentOf alphabet piece content →

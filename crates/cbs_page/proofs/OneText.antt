@@ -63,6 +63,7 @@ none_bad : (text : List ℕ) (place : ℕ) → text ≡ [] → position is_bad t
 none_bad [] place none bad = cc
 none_bad (c ∷ rest) place none bad = cc
 
+-- a text has one paging
 pub sent_text_is_one : SentTextIsOne
 sent_text_is_one language text paged other one two =
     let alphabet = alphabet_for text in
@@ -75,6 +76,7 @@ sent_text_is_one language text paged other one two =
           two.contents,
     )
 
+-- a text that is paged has no fault
 pub sent_text_has_no_fault : SentTextHasNoFault
 sent_text_has_no_fault language text paged fault.BadLanguage sent wrong other =
     no_value (language_value language) sent.value wrong sent.spoken
@@ -91,6 +93,7 @@ sent_text_has_no_fault language text paged fault.TooManyPages sent wrong other =
     omega (arith, equal, sent.few, wrong.2.2)
 sent_text_has_no_fault language text paged fault.Refused sent wrong other = other refl
 
+-- a text has one fault at most
 pub text_fault_is_one : TextFaultIsOne
 text_fault_is_one language text fault.Refused other one two first second = absurd (first refl)
 text_fault_is_one language text fault.BadLanguage fault.Refused one two first second = absurd (second refl)

@@ -67,6 +67,7 @@ pub record IsOwn (c : ℕ) : Type 0 where
   pub code : code_of c ≡ Some (One c)
   pub good : is_bad c ≡ false
 
+-- a character that passes the test has its ASCII code as septet
 pub own : (c : ℕ) → is_own_septet c ≡ true → IsOwn c
 own c is =
     let small : c < 128 = ltb-true c 128 (and_parts _ _ (and_parts _ _ is).0).0 in
@@ -119,9 +120,10 @@ pub record HasClosed (octets rest : List ℕ) (contents : List Content) : Type 0
   pub held : AreContentsOf Gsm closed contents
   pub cut : closed ++ cuts_from (codes_of Gsm) 93 [] rest ≡ cuts_from (codes_of Gsm) 93 [] octets
 
-pub HasClosed-none : (octets : List ℕ) → HasClosed octets octets []
+HasClosed-none : (octets : List ℕ) → HasClosed octets octets []
 HasClosed-none octets = record { closed = []; held = tt; cut = refl }
 
+-- 93 such characters fill a page
 pub HasClosed-more : (octets rest : List ℕ) (contents : List Content) (content : Content) →
     HasClosed octets rest contents
     → list_all is_own_septet rest ≡ true → 93 < length rest → IsContentOf Gsm (take 93 rest) content
@@ -134,6 +136,7 @@ HasClosed-more octets rest contents content had all more here =
           ∙ ap (λ cuts. had.closed ++ cuts) (sym (cuts_more 93 [] rest all refl more)) ∙ had.cut;
     }
 
+-- the rest, of at most 93, is the last page
 pub HasClosed-end : (octets rest : List ℕ) (contents : List Content) (content : Content) →
     HasClosed octets rest contents
     → list_all is_own_septet rest ≡ true → length rest ≤ 93 → IsContentOf Gsm rest content
@@ -192,6 +195,7 @@ own_few (c ∷ rest) some all few =
 pub own_characters : (text : List ℕ) → list_all is_own_septet text ≡ true → list_all is_own_septet (chars text) ≡ true
 own_characters text all = subst (λ (xs : List ℕ). list_all is_own_septet xs ≡ true) (sym (own_chars text all)) all
 
+-- what is left of such characters is such characters
 pub own_drop : (n : ℕ) (xs : List ℕ) → list_all is_own_septet xs ≡ true → list_all is_own_septet (drop n xs) ≡ true
 own_drop zero xs all = all
 own_drop (suc n) [] all = all

@@ -53,6 +53,7 @@ each_fits alphabet (c ∷ text) = (
       text,
 )
 
+-- a text that isn't empty has a page
 pub has_pages : (alphabet : Alphabet) (text : List ℕ) → text ≢ [] → HasPages alphabet text
 has_pages alphabet [] some = absurd (some refl)
 has_pages alphabet (c ∷ rest) some =

@@ -25,6 +25,7 @@ begins cost limit piece c rest full = rw (not_over (sum_by cost piece + cost c) 
 fits_or_not : (a b : ℕ) → (a ≤ b) ⊎ (b < a)
 fits_or_not a b = elim (leb_tells a b) [ inl h ↦ inl h.1 | inr h ↦ inr h.1 ]
 
+-- the cost of one character alone is its own
 pub cost_of_one : (cost : ℕ → ℕ) (c : ℕ) → sum_by cost (c ∷ []) ≡ cost c
 cost_of_one cost c = zero-add (cost c)
 

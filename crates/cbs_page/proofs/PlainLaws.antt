@@ -43,6 +43,7 @@ plain-cons : (septet : ℕ) (rest : List ℕ) (escape : Bool) → eqb septet 27 
 plain-cons septet rest true is plain own small others = cc
 plain-cons septet rest false is plain own small others = rw (own, encode_ascii septet small, others) refl
 
+-- septets of plain signs show the same ASCII text
 pub plain_text : (septets : List ℕ) → list_all is_plain septets ≡ true
     → encode_utf8_all (text_of_septets septets) ≡ septets
 plain_text [] all = refl

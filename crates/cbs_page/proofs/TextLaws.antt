@@ -38,6 +38,7 @@ cost-small Ucs2 c = of_unit (unit_of_character c)
     of_unit None = omega arith
     of_unit (Some unit) = omega arith
 
+-- a page has room for two septets or characters at least
 pub capacity-bounds : (alphabet : Alphabet) → 2 ≤ capacity alphabet
 capacity-bounds Gsm = omega arith
 capacity-bounds Ucs2 = omega arith
@@ -77,6 +78,7 @@ ucs2_shows piece octets known fit no_return is =
     (All-from_recursion (λ c. c ≢ 13) piece no_return))
     ∙ map-character_of_unit piece known
 
+-- what is P throughout a list is Q throughout it, if all that is P is Q
 pub by_parts : (P Q : ℕ → Type 0) → ((c : ℕ) → P c → Q c) → (xs : List ℕ) → AllByRecursion P xs → AllByRecursion Q xs
 by_parts P Q f [] all = tt
 by_parts P Q f (x ∷ xs) all = (f x all.0, by_parts P Q f xs all.1)
@@ -96,10 +98,12 @@ shows_piece Ucs2 piece content good within here =
     (by_parts (IsSendable Ucs2) (λ c. c < 65536) (λ c h. h.1) piece good)
     (by_parts (IsSendable Ucs2) (λ c. c ≢ 13) (λ c h. h.2) piece good) here.1
 
+-- what is so throughout two lists is so throughout the first
 pub first_part : (P : ℕ → Type 0) (xs ys : List ℕ) → AllByRecursion P (xs ++ ys) → AllByRecursion P xs
 first_part P [] ys all = tt
 first_part P (x ∷ xs) ys all = (all.0, first_part P xs ys all.1)
 
+-- what is so throughout two lists is so throughout the second
 pub last_part : (P : ℕ → Type 0) (xs ys : List ℕ) → AllByRecursion P (xs ++ ys) → AllByRecursion P ys
 last_part P [] ys all = all
 last_part P (x ∷ xs) ys all = last_part P xs ys all.1
@@ -139,12 +143,15 @@ or-false : (a b : Bool) → (a || b) ≡ false → (a ≡ false) × (b ≡ false
 or-false true b e = cc
 or-false false b e = (refl, e)
 
+-- a character that isn't bad is no carriage return
 pub good-no_return : (c : ℕ) → is_bad c ≡ false → c ≢ 13
 good-no_return c good is = let bad : true ≡ false = rw is at good in cc
 
+-- a character that isn't bad has at most 16 bits
 pub good-fits : (c : ℕ) → is_bad c ≡ false → c < 65536
 good-fits c good = omega (arith, ltb-false 65535 c (or-false (nat_lt c 32 && not (c == 10)) (nat_lt 65535 c) good).1)
 
+-- what is P throughout a list and Q throughout it is both
 pub both : (P Q : ℕ → Type 0) (xs : List ℕ) → AllByRecursion P xs → AllByRecursion Q xs
     → AllByRecursion (λ x. P x × Q x) xs
 both P Q [] ps qs = tt

@@ -58,6 +58,7 @@ distinct_from (c ∷ cs) h =
     let both = and_parts (not (list_any (is_cell c) cs)) (are_distinct cs) h in
     AllPairs-cons (λ a b. a ≢ b) c cs (apart_from c cs (not_true _ both.0)) (distinct_from cs both.1)
 
+-- distinct cells pass the test
 pub distinct_passes : (cs : List Cell) → AllPairs (λ a b. a ≢ b) cs → are_distinct cs ≡ true
 distinct_passes [] h = refl
 distinct_passes (c ∷ cs) h =

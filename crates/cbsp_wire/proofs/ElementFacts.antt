@@ -180,6 +180,7 @@ mandatory_from message_type es h =
     (λ n. presence_of message_type n ≡ presences.Mandatory → bodies_of n es ≢ [])
     (λ n h. there_if_mandatory (presence_of message_type n) (bodies_of n es) h) numbers h
 
+-- a message with all its mandatory elements passes the test
 pub mandatory_pass : (message_type : MessageType) (es : List Element) → HasMandatory message_type es
     → has_mandatory message_type es ≡ true
 mandatory_pass message_type es h =
@@ -195,6 +196,7 @@ elements_from es h =
     let once = once_of es one.0 in
     record { once = once; lists = lists_from es once one.1; values = valid_from (fields_in es) two.1 }
 
+-- valid elements pass the test
 pub elements_pass : (es : List Element) → AreValidElements es → elements_are_valid es ≡ true
 elements_pass es h =
     and_both (has_none_twice es && lists_are_valid es) (values_are_valid (fields_in es))

@@ -17,6 +17,7 @@ each_from p P fact (x ∷ xs) h =
     let both = list_all-parts p x xs h in
     (fact x both.0, each_from p P fact xs both.1)
 
+-- where all items are so, all pass the test
 pub each_passes : {X : Type 0} (p : X → Bool) (P : X → Type 0) → ((x : X) → P x → p x ≡ true) → (xs : List X)
     → AllByRecursion P xs → list_all p xs ≡ true
 each_passes p P test [] h = refl
@@ -28,6 +29,7 @@ pub given_from : (p : ℕ → Bool) (P : ℕ → Type 0) → ((n : ℕ) → p n 
 given_from p P fact None h = tt
 given_from p P fact (Some n) h = fact n h
 
+-- a number that is so passes the test, and so does none
 pub given_passes : (p : ℕ → Bool) (P : ℕ → Type 0) → ((n : ℕ) → P n → p n ≡ true) → (o : Option ℕ)
     → IfSome o P → passes p o ≡ true
 given_passes p P test None h = refl
@@ -41,6 +43,7 @@ there_if_mandatory presences.Mandatory (b ∷ bs) h is_mandatory none = cc
 there_if_mandatory presences.Optional bodies h is_mandatory none = cc
 there_if_mandatory presences.Absent bodies h is_mandatory none = cc
 
+-- an element that is there where it is mandatory passes the test
 pub mandatory_passes : (presence : Presence) (bodies : List (List ℕ))
     → (presence ≡ presences.Mandatory → bodies ≢ []) → is_there_if presence bodies ≡ true
 mandatory_passes presences.Mandatory [] h = absurd (h refl refl)
@@ -55,6 +58,7 @@ once_from n k h other = by_test (eqb n 1) refl h where
   by_test true test g = absurd (other (eqb-true n 1 test))
   by_test false test g = leb-true k 1 g
 
+-- an element that comes once where it may come once passes the test
 pub once_passes : (n k : ℕ) → (n ≢ 1 → k ≤ 1) → ((eqb n 1) || nat_le k 1) ≡ true
 once_passes n k h = by_test (eqb n 1) refl where
   by_test : (b : Bool) → eqb n 1 ≡ b → (b || nat_le k 1) ≡ true

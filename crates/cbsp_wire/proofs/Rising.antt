@@ -38,6 +38,7 @@ distinct_after last (cell ∷ cells) rising =
     let parts = and_parts (is_after last cell) (are_rising_after cell cells) rising in
     rw (not_among last last (cell ∷ cells) (omega arith) rising) (distinct_after cell cells parts.1)
 
+-- cells that rise are distinct
 pub rising_distinct : (cells : List Cell) → are_rising cells ≡ true → are_distinct cells ≡ true
 rising_distinct [] rising = refl
 rising_distinct (cell ∷ cells) rising = distinct_after cell cells rising

@@ -97,9 +97,11 @@ length-items octets size h (x ∷ xs) =
 pub cell_len : (c : Cell) → length (cell_octets c) ≡ 4
 cell_len c = refl
 
+-- a count takes 7 octets
 pub count_len : (c : Count) → length (count_octets c) ≡ 7
 count_len c = refl
 
+-- a failure takes 6 octets
 pub failure_len : (f : Failure) → length (failure_octets f) ≡ 6
 failure_len f = refl
 
@@ -142,11 +144,13 @@ pub cells-right : (cs : List Cell)
 cells-right [] = refl
 cells-right (c ∷ cs) = list_written discriminators.Once cell_octets 4 c cs cell_len (omega arith) refl
 
+-- a list of counts that was written has the form of one
 pub counts-right : (cs : List Count)
     → first_passes (is_list_body discriminators.Once 7) (list_bodies discriminators.Once count_octets cs) ≡ true
 counts-right [] = refl
 counts-right (c ∷ cs) = list_written discriminators.Once count_octets 7 c cs count_len (omega arith) refl
 
+-- so has a list of failures
 pub failures-right : (fs : List Failure)
     → first_passes (is_list_body discriminators.Each 6) (list_bodies discriminators.Each failure_octets fs) ≡ true
 failures-right [] = refl

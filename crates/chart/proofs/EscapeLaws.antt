@@ -7,6 +7,7 @@ use Rattle.chart.specs.Escape.{escaped, escaped_octet, is_plain, EscapedIsPlain}
 octet_is_plain : (octet : ℕ) → list_all is_plain (escaped_octet octet) ≡ true
 octet_is_plain octet = grind rules
 
+-- no octet of an escaped text is markup
 pub escaped_is_plain : EscapedIsPlain
 escaped_is_plain [] = refl
 escaped_is_plain (octet ∷ text) =

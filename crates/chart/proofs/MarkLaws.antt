@@ -120,6 +120,7 @@ in_reservation laws messages air m slots i rise here rule long within aired =
     before None is = omega (arith, within, long)
     before (Some end) is = omega (arith, within, long, is)
 
+-- a message has a mark for each of its whole broadcasts
 pub marks_are_completed : Laws → MarksAreCompleted
 marks_are_completed laws r legal played k d within =
     let all : List Accepted = accepted_in r.log in

@@ -5,6 +5,7 @@ use Rattle.bsc_table.specs.Record.{Record}
 use Rattle.handset.specs.Tape.{TapeReading}
 use Rattle.chart.specs.ChartText.{chart_front, chart_text, head}
 
+-- a chart is never empty: it has a front
 pub some_chart : (slots : ℕ) (wanted : Option Cell) (records : List Record) (readings : List TapeReading)
     → 0 < length (chart_text slots wanted records readings)
 unfolding chart_front head

@@ -8,7 +8,8 @@ ghost use Rattle.bsc_table.specs.Claim.{end_of, own_load, reserves};
 ghost use Rattle.bsc_table.specs.Handover.{ahead_of, numbered};
 ghost use Rattle.bsc_table.specs.Orders.{IsWellFormed};
 ghost use Rattle.bsc_table.specs.Record.{accepted_after, accepted_in, added_by, predecessor_of, claim_of, claims_of};
-ghost use Rattle.bsc_table.specs.Record.{excess_beyond, is_background_category, is_of_pair, is_stop_of, replaced_in, start_of};
+ghost use Rattle.bsc_table.specs.Record.{excess_beyond, is_background_category, is_of_pair, is_stop_of, replaced_in};
+ghost use Rattle.bsc_table.specs.Record.{start_of};
 ghost use Rattle.chart.specs.Kept.{accepted_kept, all_kept, kept_stopped, HavePeriods};
 
 use bsc_table::{Answer, Category, Command, Entry};

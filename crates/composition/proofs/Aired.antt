@@ -49,6 +49,7 @@ same_by R all a b pairs mine other no_ab no_ba =
       ]
     ]
 
+-- two accepted messages of one identifier and serial number are one
 pub same_pair : (log : List Entry) (a b : Accepted) → AreSound log → Contains (accepted_in log) a
     → Contains (accepted_in log) b → b.id ≡ a.id → b.serial ≡ a.serial → a ≡ b
 same_pair log a b sound mine other id serial =
@@ -78,6 +79,7 @@ pub record IsAiredAs (log : List Entry) (used : ℕ × ℕ) : Type 0 where
   pub sendable : IsSendable page
   pub sent : Contains (sent_by log of) page
 
+-- a slot airs a page of an accepted message, or none
 abbrev pub IsAired : List Entry → Option (ℕ × ℕ) → Type 0
 IsAired log None = ⊤
 IsAired log (Some used) = IsAiredAs log used
@@ -130,6 +132,7 @@ aired_by_rule r slot (Some used) sound chosen =
     (sound.sent chosen.0 default within) (sym of_it) (omega (arith, counted))
     (omega (arith, counted, pages, unfinished))
 
+-- so does each slot of a legal record
 pub all_aired : (r : Record) → AreSound r.log → IsLegal r → All (IsAired r.log) r.air
 all_aired r sound legal = λ k d within.
     let same = get_or_default r.air k None d within in
@@ -161,6 +164,7 @@ own_message log a used h sound there own =
     let parts = parts_of a h.page own in
     same_pair log a h.of sound there h.there (sym h.id_is ∙ parts.0) (sym h.serial_is ∙ parts.1)
 
+-- the pages aired that have a message's name are its own
 pub are_from : (log : List Entry) (a : Accepted) (uses : Air) → AreSound log → Contains (accepted_in log) a
     → AllByRecursion (IsAired log) uses → AreFrom (name_accepted a) (sent_by log a) (pages_aired_in log uses)
 are_from log a [] sound there all = All-nil (λ page. is_of (name_accepted a) page ≡ true
@@ -202,6 +206,7 @@ test_is log a number used h sound there =
           ]
         ]
 
+-- a page is aired as often as its slots use it
 pub counted : (log : List Entry) (a : Accepted) (number : ℕ) (uses : Air) → AreSound log → Contains (accepted_in log) a
     → AllByRecursion (IsAired log) uses → count_of (name_accepted a) (pages_aired_in log uses) number ≡ count_by
     (airs_page a.message.entry number) uses

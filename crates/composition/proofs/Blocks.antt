@@ -52,6 +52,7 @@ view_back page is = rw (
       is.few,
 ) refl
 
+-- a page has 88 octets
 pub octets_long : (page : PageView) → IsSendable page → length (octets_of_view page) ≡ 88
 octets_long page is = ap (λ n. suc (suc (suc (suc (suc (suc n)))))) is.full
 
@@ -60,6 +61,7 @@ abbrev pub CanSend : Option PageView → Type 0
 CanSend None = ⊤
 CanSend (Some page) = IsSendable page
 
+-- the pages that are read of the blocks of slots are those of the slots
 pub pages_of_slots : (slots : List (Option PageView)) → AllByRecursion CanSend slots
     → pages_read (flat_map blocks_of_slot slots) ≡ flat_map option_to_list slots
 pages_of_slots [] all = refl
@@ -70,12 +72,14 @@ pages_of_slots (Some page ∷ slots) all =
     ∙ ap (λ view. view ∷ pages_read (flat_map blocks_of_slot slots)) (view_back page all.0)
     ∙ ap (λ views. page ∷ views) (pages_of_slots slots all.1)
 
+-- each page that can be sent can be read
 pub all_readable : (slots : List (Option PageView)) → AllByRecursion CanSend slots
     → filter is_readable (flat_map option_to_list slots) ≡ flat_map option_to_list slots
 all_readable [] all = refl
 all_readable (None ∷ slots) all = all_readable slots all.1
 all_readable (Some page ∷ slots) all = rw (all.0.readable) (ap (λ views. page ∷ views) (all_readable slots all.1))
 
+-- so the readable pages of the blocks are those of the slots
 pub readable_of_slots : (slots : List (Option PageView)) → AllByRecursion CanSend slots
     → readable_pages (flat_map blocks_of_slot slots) ≡ flat_map option_to_list slots
 readable_of_slots slots all = ap (filter is_readable) (pages_of_slots slots all) ∙ all_readable slots all
@@ -93,6 +97,7 @@ none_taken zero xs e = refl
 none_taken (suc n) [] e = refl
 none_taken (suc n) (x ∷ xs) e = absurd (cc)
 
+-- the first slots have the first blocks, four each
 pub first_slots : (n : ℕ) (slots : List (Option PageView)) → take (4 * n) (flat_map blocks_of_slot slots) ≡ flat_map
     blocks_of_slot (take n slots)
 first_slots zero slots = refl

@@ -14,7 +14,8 @@ use Rattle.cbs_page.specs.declared.octets.PageView.{PageView}
 use Rattle.scheduler.specs.Message.{ScheduledMessage}
 use Rattle.scheduler.specs.Air.{Air}
 use Rattle.scheduler.specs.Completed.{completed}
-use Rattle.handset.specs.Reception.{Name, is_of, pages_named, agreeing, total_in, is_complete, ShownMessage, shown_message}
+use Rattle.handset.specs.Reception.{Name, is_of, pages_named, agreeing, total_in, is_complete, ShownMessage}
+use Rattle.handset.specs.Reception.{shown_message}
 use Rattle.handset.specs.Reception.{readable_pages, shown_in}
 use Rattle.handset.specs.Counting.{whole_among}
 use Rattle.handset.specs.Showing.{name_shown, AreTheComplete}
@@ -31,6 +32,7 @@ use Rattle.composition.proofs.Sent.{IsSentMessage, sent_by, all_sent, is_message
 use Rattle.composition.proofs.Aired.{AreSound, IsAired, IsAiredAs, all_aired, can_send_aired, pages_aired_in, are_from}
 use Rattle.composition.proofs.Aired.{counted}
 
+-- a legal record has a sound log
 pub sound_of : (laws : Laws) (r : Record) → IsLegal r → AreSound r.log
 sound_of laws r legal = record {
   sent = all_sent laws r legal;
@@ -49,6 +51,7 @@ message a = a.message
 abbrev accepted_as : ScheduledMessage → Accepted
 accepted_as m = record { id = 0; serial = 0; accepted = 0; behind = None; excess = 0; message = m }
 
+-- the numbers of a log's messages rise
 pub messages_rise : (laws : Laws) (log : List Entry) → AllPairs (λ (a b : ScheduledMessage). a.entry < b.entry)
     (messages_in log)
 messages_rise laws log = λ i j d before within.
@@ -61,6 +64,7 @@ messages_rise laws log = λ i j d before within.
     (subst (λ (y : ScheduledMessage). (get_or (accepted_in log) i (accepted_as d)).message.entry < y.entry)
     (sym two) rises)
 
+-- the message of what was accepted is among those of the log
 pub message_there : (log : List Entry) (a : Accepted) → Contains (accepted_in log) a
     → Contains (messages_in log) a.message
 message_there log a there =
@@ -78,6 +82,7 @@ before_are_aired : (r : Record) (slot : ℕ) → AreSound r.log → IsLegal r
 before_are_aired r slot sound legal = recursion_from_All (IsAired r.log) (take slot r.air)
     (All-take (IsAired r.log) slot r.air (all_aired r sound legal))
 
+-- the pages that are read before a slot are those aired before it
 pub pages_before : (r : Record) (slot : ℕ) → AreSound r.log → IsLegal r
     → readable_pages (blocks_before slot r) ≡ pages_aired_in r.log (take slot r.air)
 pages_before r slot sound legal =
@@ -139,6 +144,7 @@ all_read laws r slot legal by = λ k d within.
         → get_or xs k (get_or xs k d) ≡ get_or xs k d
     get_or_same xs k d within = sym (get_or_default xs k d (get_or xs k d) within)
 
+-- a message's complete broadcasts are the whole ones in its cell's blocks
 pub completed_is_whole_in_blocks : Laws → CompletedIsWholeInBlocks
 completed_is_whole_in_blocks laws r legal = λ k d within slot by. (all_read laws r slot legal by k d within).1.whole
 
@@ -169,6 +175,7 @@ named_or_not log (Some used ∷ uses) name all =
       ]
     ]
 
+-- what is shown are the messages that were broadcast whole once at least, each once
 pub shown_are_the_broadcast : Laws → ShownAreTheBroadcast
 shown_are_the_broadcast laws r slot legal by =
     let sound = sound_of laws r legal in

@@ -11,6 +11,7 @@ use Rattle.bsc_table.specs.Written.{AcceptedAreWrites, AcceptedRise, AcceptedHav
 use Rattle.bsc_table.specs.Promised.{LegalPairsComeOnce, LegalHistoriesAreBounded}
 use Rattle.bsc_table.specs.Reported.{LegalAnswersAreTrue}
 
+-- the laws of the crates below on which those of this one stand
 pub record Laws : Type 0 where
   pub last_page_counts : LastPagesAreCompletedBroadcasts
   pub no_page_less : NoPageLessOften
@@ -33,11 +34,14 @@ pub record Laws : Type 0 where
   pub text_is_the_messages : TextIsTheMessages
   pub made : MadeAreTapes
 
+-- accepted messages with another identifier or serial number
 abbrev pub OfAnotherPair : Accepted → Accepted → Type 0
 OfAnotherPair a b = is_of_pair a.id a.serial b ≡ false
 
+-- accepted messages with a lower number
 abbrev pub BelowIt : Accepted → Accepted → Type 0
 BelowIt a b = a.message.entry < b.message.entry
 
+-- an accepted message that reserves a load
 abbrev pub HasLoad : Accepted → Type 0
 HasLoad a = (0 < a.message.pages) × (0 < a.message.period)

@@ -30,6 +30,7 @@ use Rattle.composition.proofs.Composed.{completed_is_whole_in_blocks, shown_are_
 use Rattle.bsc_table.specs.Bounds.{least_completed, most_completed}
 use Rattle.scheduler.specs.Message.{ScheduledMessage}
 
+-- a handset reads of the blocks the pages that were aired
 pub pages_read_are_those_aired : Laws → PagesReadAreThoseAired
 pages_read_are_those_aired laws r legal =
     let sound = sound_of laws r legal in
@@ -37,6 +38,7 @@ pages_read_are_those_aired laws r legal =
     ∙ pages_of_slots (map (page_aired r.log) r.air) (can_send_aired r.log r.air
     (recursion_from_All (IsAired r.log) r.air (all_aired r sound legal)))
 
+-- each count that a cell reported is that of whole broadcasts in its blocks
 pub reported_is_whole_in_blocks : Laws → ReportedIsWholeInBlocks
 reported_is_whole_in_blocks laws r legal = λ k d within reported is.
     let e : Entry = get_or r.log k d in
@@ -59,6 +61,7 @@ pages_grow log air slot within =
     ∙ ap (λ xs. pages_aired_in log (take slot air) ++ xs) (append-nil
     (option_to_list (page_aired log (get_or air slot None))))
 
+-- each slot shows one message more at most
 pub shown_grow_by_one : Laws → ShownGrowByOne
 shown_grow_by_one laws r slot legal within =
     let sound = sound_of laws r legal in
@@ -97,6 +100,7 @@ four_of : (slot : Option PageView) (rest : List (List ℕ)) → length (blocks_o
 four_of None rest = omega arith
 four_of (Some page) rest = omega arith
 
+-- the blocks of pages that can be sent are whole slots
 pub are_slots : (slots : List (Option PageView)) → AllByRecursion CanSend slots
     → AreSlots (length slots) (flat_map blocks_of_slot slots)
 are_slots [] can = record { four = refl; each = tt }
@@ -109,6 +113,7 @@ are_slots (slot ∷ slots) can =
       each = of_slot slot (flat_map blocks_of_slot slots) can.0 rest.each;
     }
 
+-- the blocks of a record are a tape
 pub records_are_tapes : Laws → RecordsAreTapes
 records_are_tapes laws r legal over few =
     let sound = sound_of laws r legal in
@@ -120,6 +125,7 @@ records_are_tapes laws r legal over few =
     (subst (AreSlots r.slots) (flat_map-map blocks_of_slot (page_aired r.log) r.air)
     (subst (λ n. AreSlots n (flat_map blocks_of_slot (map (page_aired r.log) r.air))) many slots))
 
+-- the text of a message's pages is that of its contents
 pub texts_are_those_of_contents : TextsAreThoseOfContents
 texts_are_those_of_contents id serial dcs total number [] = refl
 texts_are_those_of_contents id serial dcs total number (content ∷ rest) =
@@ -129,6 +135,7 @@ texts_are_those_of_contents id serial dcs total number (content ∷ rest) =
 abbrev message : Accepted → ScheduledMessage
 message a = a.message
 
+-- a message that is shown is one that the cell accepted
 pub accepted_are_meant : Laws → AcceptedAreMeant
 accepted_are_meant laws r slot legal by = λ k d within.
     let a : Accepted = get_or (accepted_in r.log) k d in
@@ -170,6 +177,7 @@ accepted_are_meant laws r slot legal by = λ k d within.
         (ap (λ (x : ShownMessage). x.serial) both) in
         subst (λ (x : Accepted). 1 ≤ completed x.message r.air slot) (sym one) is.4.0
 
+-- no page of a message is sent from its stop on
 pub none_after_the_stop : Laws → NoneAfterTheStop
 none_after_the_stop laws r slot legal within = λ k d inside airs.
     let played = legal.played in

@@ -101,6 +101,7 @@ blocks_are : (laws : Laws) (r : Record) → IsLegal r → blocks_of r ≡ blocks
 blocks_are laws r legal = ap (blocks_of_uses r.log) (air_is laws r legal)
     ∙ blocks_by laws r.log (air_of (messages_in (accepted_entries r.log)) r.clock)
 
+-- records that accepted the same messages have the same blocks
 pub same_accepted_same_blocks : Laws → SameAcceptedSameBlocks
 same_accepted_same_blocks laws r other legal also clock same =
     blocks_are laws r legal ∙ ap (λ log. blocks_alone log r.clock) same

@@ -90,12 +90,14 @@ sent_by_command a (commands.Write id serial replaces category period broadcasts 
 sent_by_command a (commands.Kill id serial) start write formed = absurd write
 sent_by_command a (commands.Status id serial) start write formed = absurd write
 
+-- the pages that an accepted message sends
 abbrev pub sent_by : List Entry → Accepted → List PageView
 sent_by log a = pages_of_entry (slice_get log a.message.entry)
 
 no_entry : Entry
 no_entry = record { command = commands.Status 0 0; slot = 0; answer = answers.Unknown }
 
+-- the pages of each accepted message are those of one message that can be sent
 pub all_sent : (laws : Laws) (r : Record) → IsLegal r → All (λ a. IsSentMessage a (sent_by r.log a)) (accepted_in r.log)
 all_sent laws r legal = λ k d within.
     let a : Accepted = get_or (accepted_in r.log) k d in
@@ -126,6 +128,7 @@ is_message a pages is = record {
       };
 }
 
+-- each page of such a message can be sent
 pub can_send : (a : Accepted) (pages : List PageView) → IsSentMessage a pages → (i : ℕ) (d : PageView)
     → i < length pages → IsSendable (get_or pages i d)
 can_send a pages is i d within =

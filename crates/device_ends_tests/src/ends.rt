@@ -4,8 +4,8 @@
 //! buffers of these sizes, from a reader that gives N octets a call and fails after so many calls (`-`: never): the
 //! answers are what each read gave (`-`: no octets), and how many octets are left. `writer N CALLS STEP ..` writes:
 //! `write:OCTETS` by one write and `front:OCTETS` as far as it goes, whose answers are numbers of octets, and
-//! `all:OCTETS` all of them, whose answer is `ok`; the last word is what the writer has taken. The answer of a call that
-//! failed is `failed`, and after each call the end has to say whether it failed.
+//! `all:OCTETS` all of them, whose answer is `ok`; the last word is what the writer has taken. The answer of a call
+//! that failed is `failed`, and after each call the end has to say whether it failed.
 //!
 //! `fails-once SIZE ..` reads from a device whose first call fails, `fails-once-writing STEP ..` writes to one, and
 //! `takes-nothing-once STEP ..` to one that takes nothing at its first call: the last word is the number of calls.

@@ -139,7 +139,7 @@ one_entry character septet e =
     let found = code_by-one (septet_in main_table character) (septet_in extension_table character) septet e in
     entry_by_character (λ x. One x) main_character 27 main_table main_entries character septet found
 
-pub ext_entry : (character septet : ℕ) → code_of character ≡ Some (Ext septet) → IsExtensionEntry septet character
+ext_entry : (character septet : ℕ) → code_of character ≡ Some (Ext septet) → IsExtensionEntry septet character
 ext_entry character septet e =
     let found = code_by-ext (septet_in main_table character) (septet_in extension_table character) septet e in
     entry_by_character (λ x. Ext x) extension_character 13 extension_table extension_entries character septet found
@@ -157,9 +157,11 @@ text_begins-at character (Some (Ext septet)) rest e some =
     let shows = entry.shows in
     rw shows
 
+-- the septets of a character, whatever follows, are read as that character first
 pub text_begins : TextBeginsWithCharacter
 text_begins character rest in_alphabet = text_begins-at character (code_of character) rest refl in_alphabet
 
+-- the septets of characters, whatever follows, are read as those characters first
 pub texts_begin : TextBeginsWithCharacters
 texts_begin [] rest all = refl
 texts_begin (character ∷ characters) rest all =
@@ -169,6 +171,7 @@ texts_begin (character ∷ characters) rest all =
     ∙ text_begins character (flat_map septets_of characters ++ rest) here
     ∙ ap (λ text. character ∷ text) others
 
+-- a text that can be written in septets is read back from them
 pub text_comes_back : TextComesBack
 text_comes_back characters all =
     ap text_of_septets (sym (append-nil (flat_map septets_of characters)))
@@ -207,6 +210,7 @@ takes-at character (Some (Ext septet)) e some =
     let found = code_by-ext (septet_in main_table character) (septet_in extension_table character) septet e in
     (omega arith, omega arith, (λ two. rw found, λ extended. refl))
 
+-- a character takes one septet or two
 pub takes_one_or_two : TakesOneOrTwo
 takes_one_or_two character in_alphabet = takes-at character (code_of character) refl in_alphabet
 
@@ -221,11 +225,13 @@ All-at P character escape main extension (Some (Ext septet)) e =
     All-cons P 27 (septet ∷ []) escape (All-cons P septet [] (extension septet (ext_entry character septet e))
     (All-nil P))
 
+-- each septet of a character is below 128
 pub septets_are_small : SeptetsAreSmall
 septets_are_small character =
     All-at (λ x. x < 128) character (omega arith) (λ septet entry. entry.is_small) (λ septet entry. entry.is_small)
     (code_of character) refl
 
+-- only the carriage return takes the septet of one
 pub only_return_takes_return : OnlyReturnTakesReturn
 only_return_takes_return character other =
     All-at (λ x. x ≢ 13) character (omega arith) (λ septet entry is. other
@@ -248,6 +254,7 @@ main_character-basic septet =
     (λ character e. (entry_by_septet (λ x. One x) main_character 27 main_table main_entries septet character e).is_low)
     (basic-low 32 (omega arith))
 
+-- what septets show are scalar values of at most 16 bits
 pub shows_basic_scalars : ShowsBasicScalars
 shows_basic_scalars septet = (
   main_character-basic septet,
@@ -262,9 +269,11 @@ has_basic-at character None e some = absurd (false≢true some)
 has_basic-at character (Some (One septet)) e some = basic-low character (one_entry character septet e).is_low
 has_basic-at character (Some (Ext septet)) e some = basic-low character (ext_entry character septet e).is_low
 
+-- the characters of the alphabet are scalar values of at most 16 bits
 pub has_basic_scalars : HasBasicScalars
 has_basic_scalars character in_alphabet = has_basic-at character (code_of character) refl in_alphabet
 
+-- the entries of both tables are septets
 pub entries_are_codes : EntriesAreCodes
 entries_are_codes = (
   (λ k entry h. (IsEntry-from_test _ _ 27 _ (AllPass-from_list_all (is_entry (λ x. One x) main_character 27) main_table
@@ -292,11 +301,13 @@ All-flat_map P Q each (character ∷ characters) all =
     (each character (All-head P character characters all))
     (All-flat_map P Q each characters (All-tail P character characters all))
 
+-- the septets of characters are below 128
 pub flat_map-small : (characters : List ℕ) → All (λ septet. septet < 128) (flat_map septets_of characters)
 flat_map-small characters =
     All-flat_map (λ _. Unit {0}) (λ septet. septet < 128) (λ character _. septets_are_small character) characters
     (λ _ _ _. tt)
 
+-- characters without a carriage return take no septet of one
 pub flat_map-no_return : (characters : List ℕ) → All (λ character. character ≢ 13) characters
     → All (λ septet. septet ≢ 13) (flat_map septets_of characters)
 flat_map-no_return = All-flat_map (λ character. character ≢ 13) (λ septet. septet ≢ 13) only_return_takes_return
@@ -327,7 +338,7 @@ text_after-basic true (septet ∷ rest) =
     (text_after-basic false rest)
 text_after-basic false (septet ∷ rest) = plain-basic septet rest (eqb septet 27) (text_after-basic (eqb septet 27) rest)
 
-pub text_of_septets-basic : (septets : List ℕ) → All IsBasicScalar (text_of_septets septets)
+text_of_septets-basic : (septets : List ℕ) → All IsBasicScalar (text_of_septets septets)
 text_of_septets-basic septets = text_after-basic false septets
 
 plain-length : (septet : ℕ) (rest : List ℕ) (escape : Bool) → length (text_after escape rest) ≤ length rest + cond
@@ -345,7 +356,7 @@ length-text_after true (septet ∷ rest) = omega (arith, length-text_after false
 length-text_after false (septet ∷ rest) = plain-length septet rest (eqb septet 27)
     (length-text_after (eqb septet 27) rest)
 
-pub length-text_of_septets : (septets : List ℕ) → length (text_of_septets septets) ≤ length septets
+length-text_of_septets : (septets : List ℕ) → length (text_of_septets septets) ≤ length septets
 length-text_of_septets septets = omega (arith, length-text_after false septets)
 
 -- carriage returns, which fill a page, show carriage returns

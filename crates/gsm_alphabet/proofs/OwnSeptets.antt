@@ -52,18 +52,22 @@ own_in low count n all from upto small =
       shows = same_number (main_character n) n parts.1;
     }
 
+-- the signs from space to number sign have their ASCII codes as septets
 pub own_signs : (n : ℕ) → 32 ≤ n → n ≤ 35 → IsOwnSeptet n
 unfolding main_table extension_table
 own_signs n from upto = own_in 32 4 n refl from (omega (arith, upto)) (omega arith)
 
+-- so have those from percent sign to question mark, the digits among them
 pub own_digits : (n : ℕ) → 37 ≤ n → n ≤ 63 → IsOwnSeptet n
 unfolding main_table extension_table
 own_digits n from upto = own_in 37 27 n refl from (omega (arith, upto)) (omega arith)
 
+-- so have the capital letters
 pub own_capitals : (n : ℕ) → 65 ≤ n → n ≤ 90 → IsOwnSeptet n
 unfolding main_table extension_table
 own_capitals n from upto = own_in 65 26 n refl from (omega (arith, upto)) (omega arith)
 
+-- so have the small letters
 pub own_small : (n : ℕ) → 97 ≤ n → n ≤ 122 → IsOwnSeptet n
 unfolding main_table extension_table
 own_small n from upto = own_in 97 26 n refl from (omega (arith, upto)) (omega arith)

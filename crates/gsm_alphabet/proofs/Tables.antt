@@ -11,6 +11,7 @@ Lacks key (entry ∷ table) wanted = (wanted ≢ key entry) × Lacks key table w
 eqb_other : (a b : ℕ) → b ≢ a → eqb a b ≡ false
 eqb_other a b h = grind (arith, nat_tests)
 
+-- nothing is found in a table that lacks the key
 pub look_up-lacks : (key value : ℕ × ℕ → ℕ) (table : List (ℕ × ℕ)) (wanted : ℕ) → Lacks key table wanted
     → look_up key value table wanted ≡ None
 look_up-lacks key value [] wanted lacks = refl

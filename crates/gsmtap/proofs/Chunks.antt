@@ -5,16 +5,19 @@ use Rattle.std.specs.List.{flat_map, AllByRecursion}
 use Rattle.std.specs.Simd.{first_chunks}
 use Rattle.std.proofs.lemmas.List.{length-drop, length-take-le, nil_from_length, take-append-drop}
 
+-- pieces of one length, joined, are the whole
 pub chunks_joined : (n k : ℕ) (xs : List ℕ) → length xs ≡ n * k → flat_map (λ chunk. chunk) (first_chunks n k xs) ≡ xs
 chunks_joined n zero xs whole = sym (nil_from_length xs (omega (arith, whole)))
 chunks_joined n (suc k) xs whole =
     ap (λ rest. take n xs ++ rest) (chunks_joined n k (drop n xs) (omega (arith, length-drop n xs, whole)))
     ∙ take-append-drop n xs
 
+-- so many pieces are as many
 pub chunks_long : (n k : ℕ) (xs : List ℕ) → length (first_chunks n k xs) ≡ k
 chunks_long n zero xs = refl
 chunks_long n (suc k) xs = ap suc (chunks_long n k (drop n xs))
 
+-- each piece has the length
 pub chunks_each : (n k : ℕ) (xs : List ℕ) → length xs ≡ n * k →
     AllByRecursion (λ chunk. length chunk ≡ n) (first_chunks n k xs)
 chunks_each n zero xs whole = tt

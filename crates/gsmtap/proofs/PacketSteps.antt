@@ -26,7 +26,8 @@ pub record AreTaken (wanted : Wanted) (order : OctetOrder) (link : Link) (octets
   pub are_taken : taken wanted link packets ≡ Ok known
 
 -- octets that have a whole packet begin with it
-pub begins_with_packet : (order : OctetOrder) (octets header after inside rest : List ℕ) (size : ℕ) → 16 ≤ length octets →
+pub begins_with_packet : (order : OctetOrder) (octets header after inside rest : List ℕ) (size : ℕ)
+    → 16 ≤ length octets →
     header ≡ take 16 octets → after ≡ drop 16 octets → size ≡ length_said order header → size ≤ length after →
     inside ≡ take size after → rest ≡ drop size after → BeginsWithPacket order octets inside rest
 begins_with_packet order octets header after inside rest size long header_is after_is size_is fits inside_is rest_is =
@@ -72,6 +73,7 @@ after_more link from number (Ok old) (first ∷ packets) packet known is =
     ∙ ap (λ n. after_packets link from n (after_packet link from known packet) []) next
 after_more link from number (Err why) (first ∷ packets) packet known is = cc
 
+-- what is known after one packet more
 pub taken_more : (wanted : Wanted) (link : Link) (packets : List Packet) (packet : Packet) (known : Known) →
     taken wanted link packets ≡ Ok known →
     taken wanted link (packets ++ packet ∷ [])
@@ -105,6 +107,7 @@ split-more octets left inside rest order packets split begins =
     ∙ ap (λ back. (octets_of_packets packets ++ back) ++ rest) (sym (append-nil (octets_of_packet packet)))
     ∙ ap (λ front. front ++ rest) (sym (flat_map-append octets_of_packet packets (packet ∷ [])))
 
+-- a packet more that brings no fault is taken
 pub one_more : (wanted : Wanted) (order : OctetOrder) (link : Link) (octets left inside rest : List ℕ) (number : ℕ)
     (known next : Known) → AreTaken wanted order link octets left number known →
     BeginsWithPacket order left inside rest → after_sent known (sent_in link wanted.from inside) ≡ Ok next →
@@ -142,6 +145,7 @@ wrong_packet wanted order link octets left inside rest number known why sofar be
       numbered = sym (length_push sofar.packets packet ∙ many);
     }
 
+-- a packet that is wrong stops a file whose packets were taken up to it
 pub wrong_kind : (wanted : Wanted) (order : OctetOrder) (link : Link) (octets left inside rest : List ℕ) (number : ℕ)
     (known : Known) (why : AirFaultKind) → AreTaken wanted order link octets left number known →
     BeginsWithPacket order left inside rest → after_sent known (sent_in link wanted.from inside) ≡ Err why →
@@ -156,7 +160,8 @@ wrong_kind wanted order link octets left inside rest number known kind.StepsBack
 wrong_kind wanted order link octets left inside rest number known kind.Refused sofar begins comes is = absurd is
 
 -- the end comes inside the next packet
-pub short_packet : (wanted : Wanted) (order : OctetOrder) (link : Link) (octets left : List ℕ) (number : ℕ) (known : Known) →
+pub short_packet : (wanted : Wanted) (order : OctetOrder) (link : Link) (octets left : List ℕ) (number : ℕ)
+    (known : Known) →
     AreTaken wanted order link octets left number known → IsCutPacket order left →
     HasShortPacket wanted order link octets (number + 1)
 short_packet wanted order link octets left number known sofar cut = record {
@@ -171,7 +176,8 @@ short_packet wanted order link octets left number known sofar cut = record {
 }
 
 -- nothing is left
-pub all_taken : (wanted : Wanted) (order : OctetOrder) (link : Link) (octets left : List ℕ) (number : ℕ) (known : Known) →
+pub all_taken : (wanted : Wanted) (order : OctetOrder) (link : Link) (octets left : List ℕ) (number : ℕ)
+    (known : Known) →
     AreTaken wanted order link octets left number known → left ≡ [] → AreKnown wanted order link octets known
 all_taken wanted order link octets left number known sofar end = record {
   packets = sofar.packets;

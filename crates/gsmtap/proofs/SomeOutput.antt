@@ -8,6 +8,7 @@ header_long : length file_header ≡ 24
 unfolding file_header
 header_long = refl
 
+-- a capture is never empty: it has a header
 pub some_capture : (settings : Settings) (input output : List ℕ) → IsCapture settings input output → 0 < length output
 some_capture settings input output is =
     let whole : length output ≡ length file_header + length (packets_of_tapes settings 0 is.tapes) =

@@ -27,6 +27,7 @@ pub record ArePushed (settings : Settings) (input left : List ℕ) (number : ℕ
 abbrev pub blocks_of_slots : List (List ℕ) → List (List ℕ)
 blocks_of_slots slots = flat_map blocks_in_slot slots
 
+-- the octets of the blocks of slots are those of the slots
 pub blocks_joined : (slots : List (List ℕ)) → AllByRecursion (λ slot. length slot ≡ 92) slots →
     octets_of_blocks (blocks_of_slots slots) ≡ flat_map (λ slot. slot) slots
 blocks_joined [] each = refl
@@ -56,7 +57,7 @@ reading_of_tape tape = record {
   shown = shown_in (blocks_of_slots tape.slots);
 }
 
-pub whole_is_tape : (tape : Tape) → IsWhole tape → IsTape (octets_of_tape tape) (reading_of_tape tape)
+whole_is_tape : (tape : Tape) → IsWhole tape → IsTape (octets_of_tape tape) (reading_of_tape tape)
 whole_is_tape tape whole = record {
   header = tape.header;
   blocks = blocks_of_slots tape.slots;
@@ -70,7 +71,7 @@ whole_is_tape tape whole = record {
   reading_is = refl;
 }
 
-pub whole_are_joined : (tapes : List Tape) → AreWhole tapes →
+whole_are_joined : (tapes : List Tape) → AreWhole tapes →
     AreJoined (octets_of_tapes tapes) (map reading_of_tape tapes)
 whole_are_joined [] whole = refl
 whole_are_joined (tape ∷ tapes) whole =

@@ -206,6 +206,7 @@ packets_in channel cell slot block [] = []
 packets_in channel cell slot block (octets ∷ rest) =
     packet_at channel (at cell slot block) octets ∷ packets_in channel cell slot (block + 1) rest
 
+-- the packets of blocks that a slot sends on a channel
 abbrev pub packets_on : Channel → Cell → (slot : ℕ) → List (List ℕ) → List Packet
 packets_on channel cell slot [] = []
 packets_on channel cell slot (octets ∷ rest) =
@@ -366,6 +367,7 @@ packets_taken wanted channel cell slots anywhere many each =
       all.2,
     )
 
+-- the tape of a capture of a tape is that tape
 pub there_and_back : CaptureHasTheTape
 there_and_back cell channel slots few each =
     let wanted : Wanted = record { cell = cell; slots = length slots; from = None } in

@@ -45,25 +45,28 @@ abbrev pub blocks_in : List (Option (List ℕ)) → List (List ℕ)
 blocks_in blocks = map (λ block. unwrap_or block idle_block) blocks
 
 -- octets are whole packets, of which this is known
-pub record AreKnown (wanted : Wanted) (order : OctetOrder) (link : Link) (octets : List ℕ) (known : Known) : Type 0 where
-  pub packets : List Packet
-  pub joined : octets ≡ octets_of_packets packets
-  pub whole : ArePackets order packets
-  pub are_taken : taken wanted link packets ≡ Ok known
+pub record AreKnown (wanted : Wanted) (order : OctetOrder) (link : Link) (octets : List ℕ) (known : Known) : Type 0
+  where
+    pub packets : List Packet
+    pub joined : octets ≡ octets_of_packets packets
+    pub whole : ArePackets order packets
+    pub are_taken : taken wanted link packets ≡ Ok known
 
 -- octets begin with whole packets that are no fault, and end inside the next one, which has this number
-pub record HasShortPacket (wanted : Wanted) (order : OctetOrder) (link : Link) (octets : List ℕ) (number : ℕ) : Type 0 where
-  pub packets : List Packet
-  pub rest : List ℕ
-  pub split : octets ≡ octets_of_packets packets ++ rest
-  pub whole : ArePackets order packets
-  pub known : Known
-  pub are_taken : taken wanted link packets ≡ Ok known
-  pub cut : IsCutPacket order rest
-  pub numbered : number ≡ length packets + 1
+pub record HasShortPacket (wanted : Wanted) (order : OctetOrder) (link : Link) (octets : List ℕ) (number : ℕ) : Type 0
+  where
+    pub packets : List Packet
+    pub rest : List ℕ
+    pub split : octets ≡ octets_of_packets packets ++ rest
+    pub whole : ArePackets order packets
+    pub known : Known
+    pub are_taken : taken wanted link packets ≡ Ok known
+    pub cut : IsCutPacket order rest
+    pub numbered : number ≡ length packets + 1
 
 -- octets begin with whole packets, of which the last has this fault, and no earlier one is at fault
-pub record HasWrongPacket (wanted : Wanted) (order : OctetOrder) (link : Link) (octets : List ℕ) (fault : AirFault) : Type 0
+pub record HasWrongPacket (wanted : Wanted) (order : OctetOrder) (link : Link) (octets : List ℕ) (fault : AirFault) :
+    Type 0
   where
     pub packets : List Packet
     pub rest : List ℕ

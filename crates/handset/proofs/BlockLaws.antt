@@ -73,7 +73,8 @@ after_first x b one (inr (inr (inr (inr t)))) =
           λ more. simp (one, t.0, t.1, t.2, t.3) refl;
     }
 
-after_second : (x y b : List ℕ) → block_type x ≡ 0x20 → block_type y ≡ 0x21 → OfType (block_type b) → Steps (x ∷ y ∷ []) b
+after_second : (x y b : List ℕ) → block_type x ≡ 0x20 → block_type y ≡ 0x21 → OfType (block_type b)
+    → Steps (x ∷ y ∷ []) b
 after_second x y b one two (inl t) =
     record { few = simp t (omega arith); begun = simp t refl; goes_on = λ more. simp (one, two, t) refl }
 after_second x y b one two (inr (inl t)) =
@@ -90,7 +91,8 @@ after_second x y b one two (inr (inr (inr (inr t)))) =
           λ more. simp (one, two, t.0, t.1, t.2, t.3) refl;
     }
 
-after_third : (x y z b : List ℕ) → block_type x ≡ 0x20 → block_type y ≡ 0x21 → block_type z ≡ 0x22 → OfType (block_type b) →
+after_third : (x y z b : List ℕ) → block_type x ≡ 0x20 → block_type y ≡ 0x21 → block_type z ≡ 0x22
+    → OfType (block_type b) →
     Steps (x ∷ y ∷ z ∷ []) b
 after_third x y z b one two three (inl t) =
     record { few = simp t (omega arith); begun = simp t refl; goes_on = λ more. simp (one, two, three, t) refl }
@@ -111,9 +113,11 @@ after_third x y z b one two three (inr (inr (inr (inr t)))) =
 steps : (kept : List (List ℕ)) (b : List ℕ) → length kept ≤ 3 → map block_type kept ≡ take (length kept) page_types →
     Steps kept b
 steps [] b few begun = after_none b (of_type (block_type b))
-steps (x ∷ []) b few begun = let e : block_type x ∷ [] ≡ 0x20 ∷ [] = begun in after_first x b (cc) (of_type (block_type b))
+steps (x ∷ []) b few begun = let e : block_type x ∷ [] ≡ 0x20 ∷ [] = begun in after_first x b (cc)
+    (of_type (block_type b))
 steps (x ∷ y ∷ []) b few begun =
-    let e : block_type x ∷ block_type y ∷ [] ≡ 0x20 ∷ 0x21 ∷ [] = begun in after_second x y b (cc) (cc) (of_type (block_type b))
+    let e : block_type x ∷ block_type y ∷ [] ≡ 0x20 ∷ 0x21 ∷ [] = begun in after_second x y b (cc) (cc)
+    (of_type (block_type b))
 steps (x ∷ y ∷ z ∷ []) b few begun =
     let e : block_type x ∷ block_type y ∷ block_type z ∷ [] ≡ 0x20 ∷ 0x21 ∷ 0x22 ∷ [] = begun in
     after_third x y z b (cc) (cc) (cc) (of_type (block_type b))
@@ -127,6 +131,7 @@ and-false false = refl
 pub ends_none : (block : List ℕ) → [] ≡ page_ended [] block
 ends_none block = simp and-false refl
 
+-- a block that isn't a first one begins no page
 pub begins_none : (block : List ℕ) → block_type block ≢ 0x20 → [] ≡ under_way_with [] block
 begins_none block other = simp (ne_eqb (block_type block) 0x20 other, and-false) refl
 
@@ -171,6 +176,6 @@ pub pages_read-page : (first second third last : List ℕ) (rest : List (List �
     (page_octets (first ∷ second ∷ third ∷ last ∷ [])) ∷ pages_read rest
 pages_read-page first second third last rest one two three four = simp (one, two, three, four) refl
 
-pub pages_read-other : (block : List ℕ) (rest : List (List ℕ)) → block_type block ≢ 0x20 →
+pages_read-other : (block : List ℕ) (rest : List (List ℕ)) → block_type block ≢ 0x20 →
     pages_read (block ∷ rest) ≡ pages_read rest
 pages_read-other block rest other = rw (ne_eqb (block_type block) 0x20 other) refl

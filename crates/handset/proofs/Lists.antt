@@ -34,6 +34,7 @@ found_by_parts P test [] x all is = cc
 found_by_parts P test (y ∷ ys) x all is =
     found_here P (test y) x y (find test ys) all.0 (λ e. found_by_parts P test ys x all.1 e) is
 
+-- what all items are, the one that is found is
 pub found_holds : {X : Type 0} (P : X → Type 0) (test : X → Bool) (xs : List X) (x : X) → All P xs →
     Some x ≡ find test xs → P x
 found_holds P test xs x all is = found_by_parts P test xs x (recursion_from_All P xs all) is
@@ -44,6 +45,7 @@ some_here : {X : Type 0} (a b : Bool) (x : X) (one two : Option X) → (is_some 
 some_here true b x one two later some = refl
 some_here false b x one two later some = later some
 
+-- what is found by two tests is found by the first
 pub found_by_first : {X : Type 0} (p q : X → Bool) (xs : List X) → is_some (find (λ x. p x && q x) xs) ≡ true →
     is_some (find p xs) ≡ true
 found_by_first p q [] some = some
@@ -55,6 +57,7 @@ pub option_or-some : {X : Type 0} (o next : Option X) → is_some o ≡ true →
 option_or-some None next some = cc
 option_or-some (Some x) next some = refl
 
+-- a value or none is the value
 pub option_or-none : {X : Type 0} (o : Option X) → option_or o None ≡ o
 option_or-none None = refl
 option_or-none (Some x) = refl
@@ -69,6 +72,7 @@ first_here : {X : Type 0} (here : Bool) (x : X) (xs : List X) (o : Option X) →
 first_here true x xs o rest = refl
 first_here false x xs o rest = rest
 
+-- the first that is kept is the one that is found
 pub first_in-filter : {X : Type 0} (p : X → Bool) (xs : List X) → first_in (filter p xs) ≡ find p xs
 first_in-filter p [] = refl
 first_in-filter p (x ∷ xs) = first_here (p x) x (filter p xs) (find p xs) (first_in-filter p xs)

@@ -18,6 +18,7 @@ use Rattle.handset.proofs.PageLaws.{name_is}
 abbrev pub Stored : Type 0
 Stored = List ((ℕ × ℕ) × Vec PageView Global)
 
+-- the pages that are kept, by the names of their messages
 abbrev pub seen : Stored → List (Name × List PageView)
 seen entries = map (λ entry. (name_at entry.0, entry.1.items)) entries
 
@@ -89,6 +90,7 @@ pub on_err : {X E : Type 0} (r : Result X E) (P : Type 0) → P → OnErr r P
 on_err (Ok x) P p = tt
 on_err (Err e) P p = p
 
+-- what is so of a result is so of it in a weaker form
 pub if_ok : {X E : Type 0} (r : Result X E) (P Q : X → Type 0) → ((x : X) → P x → Q x) → IfOk r P → IfOk r Q
 if_ok (Ok x) P Q f p = f x p
 if_ok (Err e) P Q f p = tt

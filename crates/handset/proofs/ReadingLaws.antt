@@ -95,6 +95,7 @@ shows_none handset blocks block none read =
     ∙ ap (λ pages. shown_in blocks ++ completed_after (readable_pages blocks) (filter is_readable pages)) (sym none)
     ∙ append-nil (shown_in blocks)
 
+-- a block that ends no page shows nothing
 pub reads_none : (handset after : HandsetState) (blocks : List (List ℕ)) (block : List ℕ) →
     [] ≡ page_ended handset.under_way block →
     after.under_way ≡ under_way_with handset.under_way block → after.pages ≡ handset.pages →
@@ -129,6 +130,7 @@ shows_page handset blocks block page ended read =
     (completed-read (kept_of handset.pages (name_of page)) (readable_pages blocks) page (read.pages (name_of page))
     (number-from_one handset.under_way block page ended))
 
+-- a block that ends a page shows what the page makes complete
 pub reads_page : (handset after : HandsetState) (blocks : List (List ℕ)) (block : List ℕ) (page : PageView) →
     page ∷ [] ≡ page_ended handset.under_way block →
     after.under_way ≡ under_way_with handset.under_way block → TakesPage handset.pages after.pages page →

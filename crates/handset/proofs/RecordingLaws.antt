@@ -59,15 +59,18 @@ recordings_same input (r ∷ recordings) (other ∷ others) joined twin =
     (subst (λ (o : List ℕ). AreJoinedRecordings o recordings) after joined.4) twin.4 in
     ap (λ (x : TapeRecording). x ∷ recordings) here ∙ ap (λ (l : List TapeRecording). other ∷ l) later
 
+-- an input has one list of recordings
 pub recordings_are_one : RecordingsAreOne
 recordings_are_one input recordings others are twin = recordings_same input recordings others are.joined twin.joined
 
+-- a recording is read as its tape is
 pub recordings_are_read : RecordingsAreRead
 recordings_are_read input recordings are = record {
   joined = tapes_joined input recordings are.joined;
   few = subst (λ (n : ℕ). n ≤ 64) (sym (length-map recordings reading_of_recording)) are.few;
 }
 
+-- the tapes that are made are recordings
 pub made_are_recordings : MadeAreRecordings
 made_are_recordings cell slots blocks few are =
     let says = four_back slots (omega (arith, few)) in record {

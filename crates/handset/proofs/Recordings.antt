@@ -53,6 +53,7 @@ tape_of octets r holds = record {
   reading_is = rw (holds.cell_is, holds.slots_are) refl;
 }
 
+-- a recording that is read is a tape that is read
 pub tape_read : (a b : Option (List ℕ)) (r : TapeRecording) → ReadsRecording a b r
     → ReadsTape a b (reading_of_recording r)
 tape_read a b r reads = record {
@@ -61,12 +62,14 @@ tape_read a b r reads = record {
   tape = tape_of reads.octets r reads.holds;
 }
 
+-- recordings that are joined are tapes that are joined
 pub tapes_joined : (octets : List ℕ) (recordings : List TapeRecording) → AreJoinedRecordings octets recordings
     → AreJoined octets (map reading_of_recording recordings)
 tapes_joined octets [] joined = joined
 tapes_joined octets (r ∷ rest) joined =
     (joined.0, joined.1, joined.2, tape_of joined.0 r joined.3, tapes_joined joined.1 rest joined.4)
 
+-- recordings that are read are tapes that are read
 pub tapes_read : (a b : Option (List ℕ)) (recordings : List TapeRecording) → ReadsRecordings a b recordings
     → ReadsTapes a b (map reading_of_recording recordings)
 tapes_read a b recordings reads = record {
@@ -90,9 +93,11 @@ joined_more octets tape (first ∷ recordings) r joined is = (
   joined_more joined.1 tape recordings r joined.4 is,
 )
 
+-- no recording is read of nothing
 pub none_read : (old : Option (List ℕ)) → ReadsRecordings old old []
 none_read old = record { octets = []; consumed = Consumes-nil old; joined = refl }
 
+-- one recording more is read after those before it
 pub one_more_read : (a b c : Option (List ℕ)) (recordings : List TapeRecording) (r : TapeRecording)
     → ReadsRecordings a b recordings
     → ReadsRecording b c r

@@ -59,6 +59,7 @@ none_left : (octets : List ℕ) → length octets ≤ 0 → octets ≡ []
 none_left [] none = refl
 none_left (octet ∷ octets) none = absurd (omega arith)
 
+-- an input is a tape, too short or too long
 pub tape_has_kind : TapeHasKind
 tape_has_kind input =
     elim (cases_lt (length input) 8) [
@@ -193,5 +194,6 @@ kind_in (suc room) input =
           ]
     ]
 
+-- an input is tapes, too short or too long
 pub tapes_have_kind : TapesHaveKind
 tapes_have_kind input = kind_in max_tapes input

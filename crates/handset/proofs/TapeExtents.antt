@@ -164,6 +164,7 @@ stops-at-last most a b c readings reads all none = record {
 nothing : (a : Option (List ℕ)) → AreGone a a [] []
 nothing a = record { front = []; joined = refl; consumed = Consumes-nil a }
 
+-- a failed device stops a reader at any place
 pub stops-failed : (most : ℕ) (a : Option (List ℕ)) → StopsAt most a a fault.ReadFailed
 stops-failed most a = record {
   readings = [];
@@ -173,6 +174,7 @@ stops-failed most a = record {
   cut = λ some. absurd (omega (arith, some));
 }
 
+-- so does want of memory
 pub stops-refused : (most : ℕ) (a : Option (List ℕ)) → 0 < most → StopsAt most a a fault.Refused
 stops-refused most a some = record {
   readings = [];

@@ -15,6 +15,7 @@ pub front_same : (a b c d : List ℕ) → a ++ b ≡ c ++ d → length a ≡ len
 front_same a b c d same long =
     sym (take-append_seam a b) ∙ ap (take (length a)) same ∙ ap (λ n. take n (c ++ d)) long ∙ take-append_seam c d
 
+-- lists that are one and have fronts of one length have one back
 pub back_same : (a b c d : List ℕ) → a ++ b ≡ c ++ d → length a ≡ length c → b ≡ d
 back_same [] b [] d same long = same
 back_same [] b (y ∷ c) d same long = absurd (omega arith)
@@ -172,6 +173,7 @@ short_and_long input short long =
     let bound : slots_in long.rest ≤ max_slots = cut.few oversized.headed in
     omega (arith, many, bound)
 
+-- an input isn't two of tapes, too short and too long
 pub tapes_are_one_kind : TapesAreOneKind
 tapes_are_one_kind input = record {
   unique = λ readings others are twin.
@@ -182,6 +184,7 @@ tapes_are_one_kind input = record {
   apart = short_and_long input;
 }
 
+-- an input isn't two of a tape, too short and too long
 pub tape_is_one_kind : TapeIsOneKind
 tape_is_one_kind input = record {
   unique = reading_same input;

@@ -70,10 +70,12 @@ chunks_joined (suc k) xs whole =
     ap (λ rest. take 23 xs ++ rest) (chunks_joined k (drop 23 xs) (omega (arith, length-drop 23 xs)))
     ∙ take-append-drop 23 xs
 
+-- so many blocks are as many
 pub chunks_long : (k : ℕ) (xs : List ℕ) → length (first_chunks 23 k xs) ≡ k
 chunks_long zero xs = refl
 chunks_long (suc k) xs = ap suc (chunks_long k (drop 23 xs))
 
+-- each block has 23 octets
 pub chunks_each : (k : ℕ) (xs : List ℕ) → length xs ≡ 23 * k →
     AllByRecursion (λ block. length block ≡ 23) (first_chunks 23 k xs)
 chunks_each zero xs whole = tt
@@ -128,7 +130,7 @@ Fed-more a b c slots more all size before after fed piece sum whole =
       read = piece.read fed.blocks fed.read;
     }
 
-pub Fed-whole : (old new : Option (List ℕ)) (slots all : ℕ) (handset : HandsetState) (shown : List ShownMessage) →
+Fed-whole : (old new : Option (List ℕ)) (slots all : ℕ) (handset : HandsetState) (shown : List ShownMessage) →
     Fed old new slots handset → slots ≡ all →
     ((blocks : List (List ℕ)) → HasRead handset blocks → shown ≡ shown_in blocks) → ReadsBlocks old new all shown
 Fed-whole old new slots all handset shown fed same shows = record {
@@ -191,14 +193,14 @@ header-cut a b octets consumed end some short =
       inside = λ headed. absurd (omega (arith, short, headed));
     })
 
-pub header-end : (a b : Option (List ℕ)) (octets : List ℕ) → Consumes a b octets → IsAtEnd b → length octets ≡ 0 →
+header-end : (a b : Option (List ℕ)) (octets : List ℕ) → Consumes a b octets → IsAtEnd b → length octets ≡ 0 →
     IsAtEnd a
 header-end None b octets consumed end none = tt
 header-end (Some left) None octets consumed end none = absurd consumed
 header-end (Some left) (Some rest) [] consumed end none = consumed ∙ end
 header-end (Some left) (Some rest) (octet ∷ octets) consumed end none = absurd (omega arith)
 
-pub header-oversized : (a b : Option (List ℕ)) (header : List ℕ) → Consumes a b header → length header ≡ 8 →
+header-oversized : (a b : Option (List ℕ)) (header : List ℕ) → Consumes a b header → length header ≡ 8 →
     max_slots < slots_in header →
     IfSome a IsOversized
 header-oversized None b header consumed eight many = tt
@@ -211,7 +213,7 @@ header-oversized (Some left) (Some rest) header consumed eight many =
       many = subst (λ n. max_slots < n) (sym says) many;
     }
 
-pub blocks-cut : (a b : Option (List ℕ)) (header : List ℕ) → Consumes a b header → length header ≡ 8 →
+blocks-cut : (a b : Option (List ℕ)) (header : List ℕ) → Consumes a b header → length header ≡ 8 →
     slots_in header ≤ max_slots →
     IfSome b (λ left. length left < 92 * slots_in header) → IfSome a IsCut
 blocks-cut a b header consumed eight few short =
@@ -246,6 +248,7 @@ tape_long octets rest reading tape =
     octets_long tape.blocks tape.slots.each in
     (omega (arith, long, eight), says ∙ sym told, omega (arith, long, eight, four, blocks, told))
 
+-- an input that goes on after its one tape is too long
 pub tape_goes_on : (a b : Option (List ℕ)) (reading : TapeReading) → ReadsTape a b reading →
     IfSome b (λ left. 0 < length left) → IfSome a IsLongTape
 tape_goes_on a b reading reads more =
@@ -260,10 +263,10 @@ tape_goes_on a b reading reads more =
           (omega (arith, long, tape.2, some)),
     ))
 
-pub cut_is_short : (input : List ℕ) → IsCut input → IsShortTape input
+cut_is_short : (input : List ℕ) → IsCut input → IsShortTape input
 cut_is_short input cut headed = (cut.few headed, cut.inside headed)
 
-pub oversized_is_long : (input : List ℕ) → IsOversized input → IsLongTape input
+oversized_is_long : (input : List ℕ) → IsOversized input → IsLongTape input
 oversized_is_long input oversized =
     (oversized.headed, λ few. let many : max_slots < slots_in input = oversized.many in absurd (omega arith))
 
@@ -273,7 +276,7 @@ end_is_short None end = tt
 end_is_short (Some input) end = λ headed. let none : length input ≡ 0 = ap length end in
     absurd (omega (arith, headed, none))
 
-pub next_is_tape : (a : Option (List ℕ)) (why : TapeFault) → IfSome a (λ left. IsNextTapeFault left why) →
+next_is_tape : (a : Option (List ℕ)) (why : TapeFault) → IfSome a (λ left. IsNextTapeFault left why) →
     IfSome a (λ input. IsTapeFault input why)
 next_is_tape None why next = tt
 next_is_tape (Some input) fault.Short next = cut_is_short input next
@@ -295,9 +298,11 @@ joined-more octets tape (first ∷ readings) reading joined is = (
   joined-more joined.1 tape readings reading joined.4 is,
 )
 
+-- no tape is read of nothing
 pub ReadsTapes-none : (old : Option (List ℕ)) → ReadsTapes old old []
 ReadsTapes-none old = record { octets = []; consumed = Consumes-nil old; joined = refl }
 
+-- one tape more is read after those before it
 pub ReadsTapes-more : (a b c : Option (List ℕ)) (readings : List TapeReading) (reading : TapeReading) →
     ReadsTapes a b readings → ReadsTape b c reading →
     ReadsTapes a c (readings ++ reading ∷ [])
@@ -307,7 +312,7 @@ ReadsTapes-more a b c readings reading reads next = record {
   joined = joined-more reads.octets next.octets readings reading reads.joined next.tape;
 }
 
-pub tapes_whole : (a b : Option (List ℕ)) (readings : List TapeReading) → ReadsTapes a b readings → IsAtEnd b →
+tapes_whole : (a b : Option (List ℕ)) (readings : List TapeReading) → ReadsTapes a b readings → IsAtEnd b →
     length readings ≤ max_tapes →
     IfSome a (λ input. AreTapes input readings)
 tapes_whole a b readings reads end few =
@@ -319,14 +324,14 @@ begins : (a b : Option (List ℕ)) (readings : List TapeReading) (reads : ReadsT
     BeginsWith (reads.octets ++ rest) readings rest
 begins a b readings reads rest = record { front = reads.octets; split = refl; joined = reads.joined }
 
-pub tapes_cut : (a b : Option (List ℕ)) (readings : List TapeReading) → ReadsTapes a b readings → IfSome b IsCut →
+tapes_cut : (a b : Option (List ℕ)) (readings : List TapeReading) → ReadsTapes a b readings → IfSome b IsCut →
     length readings < max_tapes →
     IfSome a IsShort
 tapes_cut a b readings reads cut few =
     behind IsCut IsShort a b reads.octets reads.consumed cut (λ rest inside.
     record { readings = readings; rest = rest; begins = begins a b readings reads rest; few = few; cut = inside })
 
-pub tapes_oversized : (a b : Option (List ℕ)) (readings : List TapeReading) → ReadsTapes a b readings →
+tapes_oversized : (a b : Option (List ℕ)) (readings : List TapeReading) → ReadsTapes a b readings →
     IfSome b IsOversized → length readings < max_tapes →
     IfSome a IsLong
 tapes_oversized a b readings reads oversized few =
@@ -340,6 +345,7 @@ tapes_oversized a b readings reads oversized few =
       more = λ all. absurd (omega (arith, few, all));
     })
 
+-- an input that goes on after the most tapes is too long
 pub tapes_go_on : (a b : Option (List ℕ)) (readings : List TapeReading) → ReadsTapes a b readings →
     IfSome b (λ left. 0 < length left) → length readings ≡ max_tapes →
     IfSome a IsLong
@@ -354,6 +360,7 @@ tapes_go_on a b readings reads more all =
       more = λ _. some;
     })
 
+-- a fault of the next tape is one of the input
 pub next_is_tapes : (a b : Option (List ℕ)) (readings : List TapeReading) (why : TapeFault) → ReadsTapes a b readings →
     length readings < max_tapes →
     IfSome b (λ left. IsNextTapeFault left why) → IfSome a (λ input. IsTapesFault input why)

@@ -3,13 +3,16 @@ use Rattle.std.proofs.Common.{◌≡◌, ℕ, ◌+◌, ◌*◌, ◌/◌, ◌%◌
 use Rattle.handset.specs.Laws.{MadeAreTapes}
 use Rattle.handset.specs.Tape.{AreSlots, slots_in, max_slots}
 
+-- two octets give back their number
 pub pair_back : (n : ℕ) → 256 * (n / 256) + n % 256 ≡ n
 pair_back n = omega arith
 
+-- so do four
 pub four_back : (n : ℕ) → n < 4294967296 →
     16777216 * (n / 16777216) + 65536 * (n / 65536 % 256) + 256 * (n / 256 % 256) + n % 256 ≡ n
 four_back n fits = omega arith
 
+-- what a cell's run makes is a tape
 pub made_is_tape : MadeAreTapes
 made_is_tape cell slots blocks few are =
     let header : List ℕ =

@@ -5,7 +5,8 @@ ghost use Rattle.std.specs.Option.{option_copied, option_to_list};
 ghost use Rattle.cbs_page.specs.Page.{is_readable};
 ghost use Rattle.handset.specs.Reception.{name_of, is_of};
 ghost use Rattle.handset.specs.Keeping.{is_numbered, messages_shown};
-ghost use Rattle.handset.specs.KeepingSteps.{agrees_with_first, counts, is_kept_whole, message_whole, text_kept, total_kept};
+ghost use Rattle.handset.specs.KeepingSteps.{agrees_with_first, counts, is_kept_whole, message_whole, text_kept};
+ghost use Rattle.handset.specs.KeepingSteps.{total_kept};
 
 use cbs_page::{PageView, Serial, page_text};
 use std::alloc::Global;

@@ -16,7 +16,8 @@ ghost use Rattle.handset.specs.Tape.{AreTapes, AreTaken, reports_read_failed};
 ghost use Rattle.handset.specs.Tape.{IsTape, IsTapeFault, IsTapesFault};
 ghost use Rattle.handset.specs.declared.tape.TapeFault.TheVariants.{ReadFailed, Refused};
 ghost use Rattle.handset.specs.TapeExtent.{StopsAt};
-ghost use Rattle.handset.specs.TapeSteps.{IsNextTapeFault, NextStopsAt, ReadsBlocks, ReadsCount, ReadsFewer, ReadsPiece};
+ghost use Rattle.handset.specs.TapeSteps.{IsNextTapeFault, NextStopsAt, ReadsBlocks, ReadsCount, ReadsFewer};
+ghost use Rattle.handset.specs.TapeSteps.{ReadsPiece};
 ghost use Rattle.handset.specs.TapeSteps.{ReadsHeader, ReadsTape, StopsInOctets};
 
 use crate::input::read_front;

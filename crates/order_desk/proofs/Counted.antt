@@ -11,12 +11,14 @@ pub record IsCounted (from place : ℕ) (before times : List ℕ) : Type 0 where
   pub outside : (i : ℕ) → i < length before → (i < from) ⊎ (place ≤ i)
       → slice_index_or times i 0 ≡ slice_index_or before i 0
 
+-- before anything is counted all counts are as they were
 pub none_counted : (from : ℕ) (before : List ℕ) → IsCounted from from before before
 none_counted from before = record { inside = λ i _ low high. absurd (none i low high); outside = λ i _ _. refl }
   where
     none : (i : ℕ) → from ≤ i → i < from → ⊥
     none i low high = omega arith
 
+-- one place more is counted
 pub one_counted : (from place v : ℕ) (before times : List ℕ) → IsCounted from place before times
     → length times ≡ length before
     → from ≤ place

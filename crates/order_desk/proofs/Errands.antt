@@ -134,7 +134,7 @@ a_can_be_done : (desk : DeskState) (command : Command) (e : CellTask) → IsWell
 a_can_be_done desk command (errands.Own cell place copy) formed is = (is.0, subst IsWellFormed (sym is.1) formed)
 a_can_be_done desk command (errands.Foreign cell) formed is = tt
 
-pub can_be_done : (desk : DeskState) (command : Command) (list : List CellTask)
+can_be_done : (desk : DeskState) (command : Command) (list : List CellTask)
     → IsWellFormed command
     → All (IsCellTask desk.cells command) list
     → All (CanBeDone desk) list
@@ -299,5 +299,6 @@ pub added_after : (start inside reserved after own : List Note)
 added_after start inside reserved after own room view added =
     added ∙ ap (λ (notes : List Note). notes ++ own) (room ∙ view)
 
+-- nothing was noted: the notes are as they were
 pub none_added : (start inside reserved : List Note) → reserved ≡ inside → inside ≡ start → reserved ≡ start ++ []
 none_added start inside reserved room view = room ∙ view ∙ sym (append-nil start)

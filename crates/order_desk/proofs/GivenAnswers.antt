@@ -18,7 +18,8 @@ use Rattle.bsc_table.specs.declared.entry.Answer.TheVariants as answers
 use Rattle.bsc_table.specs.declared.entry.Entry.{Entry}
 use Rattle.bsc_table.specs.Claim.{Claim, is_claimed_at, claimed_at, stop_claims}
 use Rattle.bsc_table.specs.Handover.{Place}
-use Rattle.bsc_table.specs.Record.{Accepted, accepted_named, message_named, claims_in, is_background_category, place_after}
+use Rattle.bsc_table.specs.Record.{Accepted, accepted_named, message_named, claims_in, is_background_category}
+use Rattle.bsc_table.specs.Record.{place_after}
 use Rattle.bsc_table.specs.Record.{is_live}
 use Rattle.bsc_table.specs.Answer.{answer_at, admit_or_refuse, answer_for, answer_of, answer_to_new, answer_to_kill}
 use Rattle.bsc_table.specs.Answer.{answer_to_replacement, answer_to_write, answer_with_room, if_live, unless_accepted}

@@ -14,6 +14,7 @@ use Rattle.order_desk.specs.SettleSteps.{IsLeastFailing, lesser}
 use Rattle.order_desk.proofs.FirstNot.{first_same, first_of_both}
 use Rattle.order_desk.proofs.Walked.{ended_later}
 
+-- the least wrong number of a cell is the least of three questions about numbers
 pub right_number : (cell : Cell) (log : List Entry) (passes : List (List Note)) (a b c : Option ℕ)
     → IsLeastFailing (λ k. All (AreInPlaceAt cell log k []) passes) a
     → IsLeastFailing (λ k. k < length log → times_noted cell k (all_notes passes) ≡ 1) b
@@ -33,6 +34,7 @@ right_number cell log passes a b c placed once full =
     Full : ℕ → Type 0
     Full k = k ≡ 4096 → list_any (list_any (is_full_of cell)) passes ≡ true → 4096 ≤ length log
 
+-- the least wrong slot of a cell is the least of two questions about slots
 pub right_slot : (cell : Cell) (clock : ℕ) (passes : List (List Note)) (a b : Option ℕ)
     → IsLeastFailing (λ slot. slot < clock → times_played cell slot (all_notes passes) ≡ 1) a
     → IsLeastFailing (λ slot. clock ≤ slot → list_all (list_all (is_ended cell slot)) passes ≡ true) b
@@ -92,6 +94,7 @@ numbers_of passes r cell log found same logged first =
     subst (λ (c : Cell). IsLeastFailing (IsRightNumber c r.log passes) found) same
     (subst (λ (l : List Entry). IsLeastFailing (IsRightNumber cell l passes) found) logged first)
 
+-- the same by the cell and clock of its record
 pub slots_of : (passes : List (List Note)) (r : Record) (cell : Cell) (clock : ℕ) (found : Option ℕ)
     → cell ≡ r.cell
     → clock ≡ r.clock

@@ -160,7 +160,7 @@ pub record HasOrder (cells : List Cell) (command : Command) : Type 0 where
   pub some : 1 ≤ length cells
   pub valid : cells_are_valid cells ≡ true
 
-pub has_order : WritableExactlyIfMeant → (octets : List ℕ) (cells : List Cell) (command : Command)
+has_order : WritableExactlyIfMeant → (octets : List ℕ) (cells : List Cell) (command : Command)
     → IsOrderOf octets cells command
     → HasOrder cells command
 has_order writable octets cells command order =
@@ -173,6 +173,7 @@ has_order writable octets cells command order =
       valid = subst (λ (xs : List Cell). cells_are_valid xs ≡ true) same had.1;
     }
 
+-- the cells that an order names are valid
 pub valid_cells : WritableExactlyIfMeant → (octets : List ℕ) (cells : List Cell) (command : Command)
     → IsOrderOf octets cells command
     → cells_are_valid cells ≡ true

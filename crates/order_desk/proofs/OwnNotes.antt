@@ -23,6 +23,7 @@ pub filter_with : {X : Type 0} (kept : X → Bool) (xs : List X) (x : X) → kep
 filter_with kept xs x is = filter-append kept xs (x ∷ [])
     ∙ ap (λ b. filter kept xs ++ cond b (x ∷ []) []) is
 
+-- an item that isn't kept changes nothing of what is
 pub filter_without : {X : Type 0} (kept : X → Bool) (xs : List X) (x : X) → kept x ≡ false
     → filter kept (xs ++ x ∷ []) ≡ filter kept xs
 filter_without kept xs x not = filter-append kept xs (x ∷ [])
@@ -292,6 +293,7 @@ agree_by_own passes r is = record {
   slots = λ slot. right_slot r.cell r.clock passes slot (is.slots slot);
 }
 
+-- what is strange by a cell's own notes is so by all
 pub strange_by_own : (passes : List (List Note)) (r : Record) (fault : SettleFault)
     → IsStrangeBy (own_notes r.cell passes) r fault
     → IsStrangeBy passes r fault

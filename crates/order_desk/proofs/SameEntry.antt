@@ -11,6 +11,7 @@ use Rattle.bsc_table.specs.declared.entry.Answer.{Answer}
 use Rattle.bsc_table.specs.contracts.entry.AnswerPartialEq as answer
 use Rattle.bsc_table.specs.contracts.entry.EntryPartialEq as entry
 
+-- commands are equal exactly if the code says so
 pub same_command : (a b : Command) → Decides (command.TheImpl.eq-value.it a b) (a ≡ b)
 same_command (commands.Write i s r c p n d x) (commands.Write i' s' r' c' p' n' d' x') =
     let list = same_contents_decides x x' in search (rules, list)
@@ -26,6 +27,7 @@ same_command (commands.Status i s) (commands.Status i' s') = search rules
 answer_decides : (a b : Answer) → Decides (answer.TheImpl.eq-value.it a b) (a ≡ b)
 answer_decides a b = search rules
 
+-- so are entries
 pub same_entry : (a b : Entry) → Decides (entry.TheImpl.eq-value.it a b) (a ≡ b)
 same_entry a b = (
   λ is. let first = and_parts (command.TheImpl.eq-value.it a.command b.command)

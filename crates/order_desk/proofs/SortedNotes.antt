@@ -211,6 +211,7 @@ cell_at (cell ∷ cells) (r ∷ books) (suc place) c d right within = cell_at ce
     inside : suc place < suc (length books) → place < length books
     inside lt = omega arith
 
+-- the notes sorted to a book's place are its own
 pub own_of_book : (cells : List Cell) (passes : List (List Note)) (books : List Record)
     (sorted : List (List (List Note))) (place : ℕ) (r : Record) (own : List (List Note))
     → AreSorted cells passes sorted

@@ -18,10 +18,12 @@ asked_is_step : (command : Command) (answer : Answer) (before after : Record) (n
     → IsStep (Ask command) before after
 asked_is_step command answer before after note asked = (answer, inr asked.answered, asked.entered)
 
+-- the slots that orders play are steps of a cell
 pub plays_of_orders : PlaysOfOrdersAreSteps
 plays_of_orders at before after notes played =
     subst (λ (slot : ℕ). IsPlayedUpTo slot before after) (same_slot before.slots before.clock at) played.played
 
+-- orders are steps of a cell
 pub orders : OrdersAreSteps
 orders at command answer before after notes served = (
   served.between,
@@ -29,9 +31,11 @@ orders at command answer before after notes served = (
   (after, asked_is_step command answer served.between after served.note served.asked, refl),
 )
 
+-- so are plays
 pub plays : PlaysAreSteps
 plays k range before after note play =
     subst (λ (slot : ℕ). IsPlayedUpTo slot before after) (search (play.range_is)) play.played
 
+-- and questions how a message stands
 pub statuses : StatusesAreSteps
 statuses id serial told before after note status = asked_is_step _ _ before after note status.asked

@@ -23,6 +23,7 @@ one test x is = ap (λ b. length (cond b (x ∷ []) [])) is
 none : {X : Type 0} (test : X → Bool) (x : X) → test x ≡ false → length (filter test (x ∷ [])) ≡ 0
 none test x is = ap (λ b. length (cond b (x ∷ []) [])) is
 
+-- one note more counts where it stands, up to 255
 pub tallied_note : (kind : Kind) (cell : Cell) (given : List Note) (note : Note) (from to : ℕ) (old new : List ℕ)
     → AreTimes kind cell given old
     → length new ≡ length old

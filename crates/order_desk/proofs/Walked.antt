@@ -29,6 +29,7 @@ recursion_last : {X : Type 0} (P : X → Type 0) (xs : List X) (x : X) → AllBy
 recursion_last P [] x all = (tt, all.0)
 recursion_last P (y ∷ xs) x all = let rest = recursion_last P xs x all.1 in ((all.0, rest.0), rest.1)
 
+-- what all items are, the last one and those before it are
 pub all_last : {X : Type 0} (P : X → Type 0) (xs : List X) (x : X) → All P (xs ++ x ∷ []) → All P xs × P x
 all_last P xs x all = let rest = recursion_last P xs x (recursion_from_All P (xs ++ x ∷ []) all) in
     (All-from_recursion P xs rest.0, rest.1)
@@ -49,7 +50,7 @@ in_place_after cell log k before (n ∷ given) note are is = (
       (subst (λ (b : List Note). IsInPlaceAt cell log k b note) (sym (append_assoc before (n ∷ []) given)) is),
 )
 
-pub in_place_before : (cell : Cell) (log : List Entry) (k : ℕ) (before given : List Note) (note : Note)
+in_place_before : (cell : Cell) (log : List Entry) (k : ℕ) (before given : List Note) (note : Note)
     → AreInPlaceAt cell log k before (given ++ note ∷ [])
     → AreInPlaceAt cell log k before given × IsInPlaceAt cell log k (before ++ given) note
 in_place_before cell log k before [] note are =
@@ -75,6 +76,7 @@ below_more cell k more le (notes.Event c number entry) is = at (is_cell cell c) 
 below_more cell k more le (notes.Played c from to) is = refl
 below_more cell k more le (notes.Full c) is = refl
 
+-- a note that has ended by a slot has ended by a later one
 pub ended_later : (cell : Cell) (slot later : ℕ) → slot ≤ later → (note : Note) → is_ended cell slot note ≡ true
     → is_ended cell later note ≡ true
 ended_later cell slot later le (notes.Event c number entry) is = refl
@@ -243,6 +245,7 @@ walked_foreign_entry cell c log before number entry walk other has =
     (λ k. ap (λ b. cond b (ltb number k) true) other) (λ slot. refl)
     (λ k event. absurd (clash (is_cell cell c) (and_parts (is_cell cell c) (number == k) event).0 other)) has
 
+-- a range of another cell changes nothing of a walk
 pub walked_foreign_range : (cell c : Cell) (log : List Entry) (before : List Note) (from to : ℕ) (walk : Walk)
     → is_cell cell c ≡ false
     → HasWalked cell log before walk
@@ -251,6 +254,7 @@ walked_foreign_range cell c log before from to walk other has =
     walked_other cell log before (notes.Played c from to) walk (λ k. refl)
     (λ slot. ap (λ b. cond b (leb to slot) true) other) (λ k. tt) has
 
+-- nor does a note of a full log
 pub walked_full : (cell c : Cell) (log : List Entry) (before : List Note) (walk : Walk)
     → HasWalked cell log before walk
     → HasWalked cell log (before ++ notes.Full c ∷ []) walk

@@ -19,7 +19,8 @@ use Rattle.bsc_table.specs.declared.entry.Answer.{Answer}
 use Rattle.bsc_table.specs.declared.entry.Answer.TheVariants as answers
 use Rattle.bsc_table.specs.declared.command.Command.{Command}
 use Rattle.bsc_table.specs.declared.command.Command.TheVariants as commands
-use Rattle.order_desk.specs.Reply.{failure_by, cell_by, count_by, cells_answered, refused_in, accepting_cells, counted_in}
+use Rattle.order_desk.specs.Reply.{failure_by, cell_by, count_by, cells_answered, refused_in, accepting_cells}
+use Rattle.order_desk.specs.Reply.{counted_in}
 use Rattle.order_desk.specs.Reply.{write_reply, kill_reply, reply_message}
 
 -- both parts of an alternative that fails
@@ -28,9 +29,10 @@ or_parts false false h = (refl, refl)
 or_parts false true h = absurd cc
 or_parts true b h = absurd cc
 
-pub or_both : (a b : Bool) → a ≡ false → b ≡ false → (a || b) ≡ false
+or_both : (a b : Bool) → a ≡ false → b ≡ false → (a || b) ≡ false
 or_both a b ha hb = rw (ha, hb) refl
 
+-- what is false isn't true
 pub not_false : (a : Bool) → a ≡ false → not a ≡ true
 not_false a h = rw (h) refl
 
@@ -47,6 +49,7 @@ absent_before cell_of c first None ys names h later = later
 absent_before cell_of c first (Some y) ys names h later =
     or_both (is_cell c (cell_of y)) (list_any (is_cell c) (map cell_of ys)) (rw (names) h) later
 
+-- a cell that didn't answer is in no list that a reply has
 pub absent : {Y : Type 0} (keep : Cell × Answer → Option Y) (cell_of : Y → Cell) (c : Cell)
     (xs : List (Cell × Answer)) → NamesItsCell keep cell_of
     → list_any (is_cell c) (cells_answered xs) ≡ false
@@ -67,6 +70,7 @@ distinct_before cell_of first (Some y) ys names h later =
     and_both (not (list_any (is_cell (cell_of y)) (map cell_of ys))) (are_distinct (map cell_of ys))
     (not_false (list_any (is_cell (cell_of y)) (map cell_of ys)) (rw (names) h)) later
 
+-- the cells of each list of a reply are distinct, if those that answered are
 pub distinct : {Y : Type 0} (keep : Cell × Answer → Option Y) (cell_of : Y → Cell)
     (xs : List (Cell × Answer)) → NamesItsCell keep cell_of → are_distinct (cells_answered xs) ≡ true
     → are_distinct (map cell_of (filter_map keep xs)) ≡ true
@@ -84,18 +88,22 @@ pub few_before : {Y : Type 0} (cell_of : Y → Cell) (first : Cell) (kept : Opti
 few_before cell_of first None ys rest h = omega arith
 few_before cell_of first (Some y) ys rest h = omega arith
 
+-- each list of a reply has no more cells than answered
 pub few : {Y : Type 0} (keep : Cell × Answer → Option Y) (cell_of : Y → Cell) (xs : List (Cell × Answer))
     → length (map cell_of (filter_map keep xs)) ≤ length (cells_answered xs)
 few keep cell_of [] = omega arith
 few keep cell_of (x ∷ xs) =
     few_before cell_of x.0 (keep x) (filter_map keep xs) (cells_answered xs) (few keep cell_of xs)
 
+-- what is at most a number up to 64 is at most 64
 pub below : (k n : ℕ) → k ≤ n → n ≤ 64 → k ≤ 64
 below k n h fits = omega arith
 
+-- the same by the test
 pub short : (k n : ℕ) → k ≤ n → nat_le n 64 ≡ true → nat_le k 64 ≡ true
 short k n h few = le-leb k 64 (below k n h (leb-true n 64 few))
 
+-- each list of a reply is valid, if the cells that answered are
 pub valid : {Y : Type 0} (keep : Cell × Answer → Option Y) (cell_of : Y → Cell) (xs : List (Cell × Answer))
     → NamesItsCell keep cell_of → cells_are_valid (cells_answered xs) ≡ true
     → cells_are_valid (map cell_of (filter_map keep xs)) ≡ true
@@ -116,7 +124,7 @@ failure_names cell (answers.Told completed state) = tt
 failure_names cell answers.Unknown = tt
 failure_names cell answers.Refused = tt
 
-pub cell_names : (cell : Cell) (answer : Answer) → IfSome (cell_by cell answer) (λ c. c ≡ cell)
+cell_names : (cell : Cell) (answer : Answer) → IfSome (cell_by cell answer) (λ c. c ≡ cell)
 cell_names cell (answers.Cause cause) = tt
 cell_names cell (answers.Started slot) = refl
 cell_names cell (answers.Replaced slot completed) = refl
@@ -125,7 +133,7 @@ cell_names cell (answers.Told completed state) = tt
 cell_names cell answers.Unknown = tt
 cell_names cell answers.Refused = tt
 
-pub count_names : (cell : Cell) (answer : Answer) → IfSome (count_by cell answer) (λ c. c.cell ≡ cell)
+count_names : (cell : Cell) (answer : Answer) → IfSome (count_by cell answer) (λ c. c.cell ≡ cell)
 count_names cell (answers.Cause cause) = tt
 count_names cell (answers.Started slot) = tt
 count_names cell (answers.Replaced slot completed) = refl
@@ -134,24 +142,26 @@ count_names cell (answers.Told completed state) = tt
 count_names cell answers.Unknown = tt
 count_names cell answers.Refused = tt
 
-pub refused_valid : (xs : List (Cell × Answer)) → cells_are_valid (cells_answered xs) ≡ true
+refused_valid : (xs : List (Cell × Answer)) → cells_are_valid (cells_answered xs) ≡ true
     → cells_are_valid (cells_of_failures (refused_in xs)) ≡ true
 refused_valid xs h =
     valid (λ a. failure_by a.0 a.1) (λ f. f.cell) xs (λ a. failure_names a.0 a.1) h
 
-pub counted_valid : (xs : List (Cell × Answer)) → cells_are_valid (cells_answered xs) ≡ true
+counted_valid : (xs : List (Cell × Answer)) → cells_are_valid (cells_answered xs) ≡ true
     → cells_are_valid (cells_of_counts (counted_in xs)) ≡ true
 counted_valid xs h =
     valid (λ a. count_by a.0 a.1) (λ c. c.cell) xs (λ a. count_names a.0 a.1) h
 
+-- cells, each as it is, are the same
 pub map_same : (cells : List Cell) → map (λ (c : Cell). c) cells ≡ cells
 map_same [] = refl
 map_same (c ∷ cells) = rw (map_same cells) refl
 
+-- equal lists of cells are both valid or neither is
 pub moved : (cs ds : List Cell) → cs ≡ ds → cells_are_valid cs ≡ true → cells_are_valid ds ≡ true
 moved cs ds same h = cc
 
-pub accepted_valid : (xs : List (Cell × Answer)) → cells_are_valid (cells_answered xs) ≡ true
+accepted_valid : (xs : List (Cell × Answer)) → cells_are_valid (cells_answered xs) ≡ true
     → cells_are_valid (accepting_cells xs) ≡ true
 accepted_valid xs h =
     moved (map (λ (c : Cell). c) (accepting_cells xs)) (accepting_cells xs) (map_same (accepting_cells xs))
@@ -168,7 +178,7 @@ write_reply-writable id new old [] completed cells failed counted right =
 write_reply-writable id new old (failure ∷ failures) completed cells failed counted right =
     write_failed-writable id new old (failure ∷ failures) completed cells refl failed counted right
 
-pub kill_reply-writable : (id old : ℕ) (failures : List Failure) (completed : List Count)
+kill_reply-writable : (id old : ℕ) (failures : List Failure) (completed : List Count)
     → cells_are_valid (cells_of_failures failures) ≡ true
     → cells_are_valid (cells_of_counts completed) ≡ true
     → is_writable (kill_reply id old failures completed) ≡ true
@@ -176,6 +186,7 @@ kill_reply-writable id old [] completed failed counted = kill_done-writable id o
 kill_reply-writable id old (failure ∷ failures) completed failed counted =
     kill_failed-writable id old (failure ∷ failures) completed [] refl failed counted refl
 
+-- the reply to an order that valid cells answered can be written
 pub reply_is_writable : (command : Command) (xs : List (Cell × Answer)) → cells_are_valid (cells_answered xs) ≡ true
     → is_writable (reply_message command xs) ≡ true
 reply_is_writable (commands.Write id serial None category period broadcasts dcs contents) xs h =

@@ -34,7 +34,8 @@ OthersAreNotRefused = (cell : Cell) (answers : List (Cell × Answer))
 -- a cell that accepts a plain write is told as accepting, and the completed broadcasts of one that replaced a message
 abbrev pub AcceptedAreListed : Type 0
 AcceptedAreListed = (cell : Cell) (slot : ℕ) (before after : List (Cell × Answer))
-    → accepting_cells (before ++ (cell, answers.Started slot) ∷ after) ≡ accepting_cells before ++ cell ∷ accepting_cells after
+    → accepting_cells (before ++ (cell, answers.Started slot) ∷ after) ≡ accepting_cells before ++ cell ∷
+    accepting_cells after
 
 abbrev pub ReplacedAreCounted : Type 0
 ReplacedAreCounted = (cell : Cell) (slot completed : ℕ) (before after : List (Cell × Answer))

@@ -15,6 +15,7 @@ stands x xs =
     let sum : times x (x ∷ xs) ≡ times x (x ∷ []) + times x xs = times_append x (x ∷ []) xs in
     omega arith
 
+-- a bound of all numbers of a list is no less than the least one
 pub is_above : (xs : List ℕ) (n : ℕ) → ((x : ℕ) → 0 < times x xs → x < n) → above xs ≤ n
 is_above [] n under = omega arith
 is_above (x ∷ xs) n under =
@@ -22,7 +23,7 @@ is_above (x ∷ xs) n under =
     let rest : above xs ≤ n = is_above xs n (λ y some. under y (omega arith)) in
     omega arith
 
-pub above_more : (xs : List ℕ) (n : ℕ) → n < above (xs ++ n ∷ [])
+above_more : (xs : List ℕ) (n : ℕ) → n < above (xs ++ n ∷ [])
 above_more [] n = omega arith
 above_more (x ∷ xs) n = let rest : n < above (xs ++ n ∷ []) = above_more xs n in omega arith
 

@@ -71,6 +71,7 @@ map_twice : (fillings : List Filling) → map (take 8) (map (λ (f : Filling). f
 map_twice [] = refl
 map_twice (f ∷ rest) = ap (λ (fronts : List (List ℕ)). take 8 f.tape ∷ fronts) (map_twice rest)
 
+-- what is filled for the cells of a desk are their tapes
 pub tapes_for : (desk : DeskState) (fillings : List Filling) → AreFillings desk fillings
     → AreTapesFor desk (map (λ (f : Filling). f.tape) fillings)
 tapes_for desk fillings are = record {

@@ -20,9 +20,11 @@ use Rattle.cbch_blocks.specs.RecordBlocks.{tape_of_record}
 use Rattle.std.specs.Prelude.{IfOk, Result, Ok, Err}
 use Rattle.parallel_compile.proofs.Numbers.{once_below, none_from, counts_no_other}
 
+-- a place has a piece
 abbrev pub IsTaken : List (Option (List ℕ)) → ℕ → Type 0
 IsTaken places x = slice_get places x ≢ Some None
 
+-- a number stands once among those of the pieces
 abbrev pub IsGood : ℕ → List ℕ → ℕ → Type 0
 IsGood n numbers x = times x numbers ≡ times x (numbers_below n)
 
@@ -46,7 +48,7 @@ good_if n pieces places spoilt put x is = elim (slice_get_cases places x).1 [
     filled None free = absurd (is.1 free)
     filled (Some s) there = put.taken x s there
 
-pub only_if : (n : ℕ) (pieces : List (ℕ × List ℕ)) (places : List (Option (List ℕ))) (spoilt : Option ℕ)
+only_if : (n : ℕ) (pieces : List (ℕ × List ℕ)) (places : List (Option (List ℕ))) (spoilt : Option ℕ)
     → ArePut n pieces places spoilt
     → (x : ℕ) → IsGood n (piece_numbers pieces) x → IsWithin n (piece_numbers pieces) x × IsTaken places x
 only_if n pieces places spoilt put x good = (
@@ -68,6 +70,7 @@ first_bad n pieces places spoilt missing put free =
     (lesser spoilt missing) (good_if n pieces places spoilt put) (only_if n pieces places spoilt put)
     (first_of_both (IsWithin n (piece_numbers pieces)) (IsTaken places) spoilt missing put.least free)
 
+-- the least number that is spoilt or missing is the least bad one
 pub least_bad : (n : ℕ) (pieces : List (ℕ × List ℕ)) (places : List (Option (List ℕ))) (spoilt missing : Option ℕ)
     (index : ℕ)
     → ArePut n pieces places spoilt
@@ -81,12 +84,12 @@ least_bad n pieces places spoilt missing index put free is =
 some_apart : {X : Type 0} (x : X) → Some x ≡ None → ⊥
 some_apart x h = search (rules, h)
 
-pub no_spoilt : (spoilt missing : Option ℕ) → lesser spoilt missing ≡ None → spoilt ≡ None
+no_spoilt : (spoilt missing : Option ℕ) → lesser spoilt missing ≡ None → spoilt ≡ None
 no_spoilt None missing is = refl
 no_spoilt (Some s) None is = absurd (some_apart s is)
 no_spoilt (Some s) (Some m) is = absurd (some_apart _ is)
 
-pub no_missing : (spoilt missing : Option ℕ) → lesser spoilt missing ≡ None → missing ≡ None
+no_missing : (spoilt missing : Option ℕ) → lesser spoilt missing ≡ None → missing ≡ None
 no_missing None missing is = is
 no_missing (Some s) None is = absurd (some_apart s is)
 no_missing (Some s) (Some m) is = absurd (some_apart _ is)
@@ -103,6 +106,7 @@ inner_is : (o : Option (List ℕ)) (t : List ℕ) → option_map Some o ≡ Some
 inner_is None t h = absurd (some_apart (Some t) (sym h))
 inner_is (Some s) t h = ap (λ (o : Option (Option (List ℕ))). unwrap_or o None) h
 
+-- if none is spoilt or missing, the tapes are gathered
 pub gathered : (n : ℕ) (pieces : List (ℕ × List ℕ)) (places : List (Option (List ℕ))) (spoilt missing : Option ℕ)
     (tapes : List (List ℕ))
     → ArePut n pieces places spoilt
@@ -150,6 +154,7 @@ same_tapes pieces one other long numbered in_one in_other = ext_get_or [] one ot
         get_or_from_slice_get one i is.0.1 [] (ap (slice_get one) (sym is.1) ∙ is.2)
         ∙ sym (get_or_from_slice_get other i is.0.1 [] (ap (slice_get other) (sym is.1) ∙ is.3))
 
+-- what is so of a result is so of it in a weaker form
 pub if_ok : {T E : Type 0} (P Q : T → Type 0) (r : Result T E) → ((x : T) → P x → Q x) → IfOk r P → IfOk r Q
 if_ok P Q (Ok x) gives is = gives x is
 if_ok P Q (Err e) gives is = is

@@ -14,9 +14,11 @@ none_from x n from = elim (cases_lt 0 (times x (numbers_below n))) [
   | inr none ↦ omega arith
 ]
 
+-- a number stands once in the list of it alone
 pub counts_itself : (x y : ℕ) → x ≡ y → times x (y ∷ []) ≡ 1
 counts_itself x y same = ap (λ b. (if b then 1 else 0) + 0) (eq-eqb x y same)
 
+-- and no other stands there
 pub counts_no_other : (x y : ℕ) → x ≢ y → times x (y ∷ []) ≡ 0
 counts_no_other x y apart = ap (λ b. (if b then 1 else 0) + 0) (ne_eqb x y apart)
 
@@ -42,12 +44,14 @@ pub numbers_more : (pieces : List (ℕ × List ℕ)) (i : ℕ) (t : List ℕ)
     → piece_numbers (pieces ++ (i, t) ∷ []) ≡ piece_numbers pieces ++ i ∷ []
 numbers_more pieces i t = map-append (λ (piece : ℕ × List ℕ). piece.0) pieces ((i, t) ∷ [])
 
+-- a piece more has its number once more
 pub counts_more : (pieces : List (ℕ × List ℕ)) (i : ℕ) (t : List ℕ) (x : ℕ) → x ≡ i
     → times x (piece_numbers (pieces ++ (i, t) ∷ [])) ≡ times x (piece_numbers pieces) + 1
 counts_more pieces i t x same =
     ap (times x) (numbers_more pieces i t) ∙ times_append x (piece_numbers pieces) (i ∷ [])
     ∙ ap (λ k. times x (piece_numbers pieces) + k) (counts_itself x i same)
 
+-- and no other number
 pub counts_same : (pieces : List (ℕ × List ℕ)) (i : ℕ) (t : List ℕ) (x : ℕ) → x ≢ i
     → times x (piece_numbers (pieces ++ (i, t) ∷ [])) ≡ times x (piece_numbers pieces)
 counts_same pieces i t x apart =
@@ -56,6 +60,7 @@ counts_same pieces i t x apart =
     let none : times x (i ∷ []) ≡ 0 = counts_no_other x i apart in
     omega arith
 
+-- a piece more makes no number rarer
 pub no_fewer : (pieces : List (ℕ × List ℕ)) (i : ℕ) (t : List ℕ) (x : ℕ)
     → times x (piece_numbers pieces) ≤ times x (piece_numbers (pieces ++ (i, t) ∷ []))
 no_fewer pieces i t x =

@@ -30,7 +30,7 @@ at_set [] i x y there = absurd (none_apart x there)
 at_set (z ∷ xs) zero x y there = refl
 at_set (z ∷ xs) (suc i) x y there = at_set xs i x y there
 
-pub at_others : {X : Type 0} (xs : List X) (i j : ℕ) (y : X) → j ≢ i → slice_get (set xs i y) j ≡ slice_get xs j
+at_others : {X : Type 0} (xs : List X) (i j : ℕ) (y : X) → j ≢ i → slice_get (set xs i y) j ≡ slice_get xs j
 at_others [] i j y apart = refl
 at_others (z ∷ xs) zero zero y apart = absurd (apart refl)
 at_others (z ∷ xs) zero (suc j) y apart = refl
@@ -43,7 +43,7 @@ all_free zero x t there = none_apart (Some t) there
 all_free (suc n) zero t there = taken_apart t (sym there)
 all_free (suc n) (suc x) t there = all_free n x t there
 
-pub none_put : (n : ℕ) → ArePut n [] (replicate n None) None
+none_put : (n : ℕ) → ArePut n [] (replicate n None) None
 none_put n = record {
   long = length-replicate n None;
   least = λ x. omega arith;
@@ -52,6 +52,7 @@ none_put n = record {
   placed = λ none. All-nil (λ (piece : ℕ × List ℕ). slice_get (replicate n None) piece.0 ≡ Some (Some piece.1));
 }
 
+-- a piece stands at the place of its number
 abbrev pub IsPlaced : List (Option (List ℕ)) → (ℕ × List ℕ) → Type 0
 IsPlaced places piece = slice_get places piece.0 ≡ Some (Some piece.1)
 

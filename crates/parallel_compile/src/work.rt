@@ -111,7 +111,7 @@ pub(crate) fn pieces_of<R: Threads + Sync, G: Gate>(
     requires records { length records.now ≤ 64 }
     requires some { 0 < workers }
     requires few { workers ≤ 64 }
-    ensures numbers { IfOk result (λ pieces. AreSame (piece_numbers pieces.items) (numbers_below (length records.now))) }
+    ensures numbers { IfOk result (λ made. AreSame (piece_numbers made.items) (numbers_below (length records.now))) }
     ensures tapes { IfOk result (λ pieces. All (IsPieceOfRecord records.now) pieces.items) }
     ensures err { IfErr result (λ fault. fault ≡ faults.Refused) }
 {

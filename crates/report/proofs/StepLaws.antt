@@ -34,6 +34,7 @@ either true false = refl
 either false true = refl
 either false false = refl
 
+-- one name more is shown exactly if one message more is
 pub name-more : (names new : List Pair) (shown : List Shown) (i : ℕ) (m : Shown) (id serial : ℕ) → i < length shown →
     m ≡ get_or shown i m →
     has_name new id serial ≡ cond (is_pair (m.id, m.serial) (id, serial)) true (has_name names id serial) →
@@ -56,6 +57,7 @@ counted : (test : Option (ℕ × ℕ) → Bool) (air : List (Option (ℕ × ℕ)
 counted test air i within true is = count_by_more_yes test air i None within is
 counted test air i within false is = count_by_more_no test air i None within is ∙ omega arith
 
+-- one slot more airs a page once more, or doesn't
 pub times-more : (air : List (Option Aired)) (i place pages : ℕ) (used : Option Aired) → i < length air →
     get_or air i None ≡ used → times_aired place pages (air_pairs air) (i + 1)
     ≡ times_aired place pages (air_pairs air) i + (if airs_page place pages (aired_pair used) then 1 else 0)
@@ -79,6 +81,7 @@ stop-here log n place e next within is =
     (slice_get_read log (length log) n e refl within is)
     ∙ ap (λ at. stop_of_command (drop at log) e.command) next
 
+-- the stop of each entry is that of the first later command that stops it
 pub stops-each : (log : List Entry) (stops : List (Option ℕ)) (n place : ℕ) (e : Entry) (stop : Option ℕ) →
     n + 1 ≡ place → place ≤ length log → length stops ≡ length log → e ≡ get_or log n e →
     stop ≡ stop_of_command (drop place log) e.command →
@@ -104,7 +107,8 @@ rows-next front rows new more f place before here is =
 -- the rows of one more cell
 rows_of-more : (records : List Record) (readings : List TapeReading) (r : Record) (reading : TapeReading) →
     length records ≡ length readings →
-    report_rows (records ++ r ∷ []) (readings ++ reading ∷ []) ≡ report_rows records readings ++ cell_rows r reading.shown
+    report_rows (records ++ r ∷ []) (readings ++ reading ∷ []) ≡ report_rows records readings ++ cell_rows r
+    reading.shown
 rows_of-more [] [] r reading same = append-nil (cell_rows r reading.shown)
 rows_of-more [] (x ∷ readings) r reading same = absurd (let no : ⊥ = omega (arith, same) in no)
 rows_of-more (x ∷ records) [] r reading same = absurd (let no : ⊥ = omega (arith, same) in no)
@@ -113,6 +117,7 @@ rows_of-more (x ∷ records) (y ∷ readings) r reading same =
     ap (λ rows. cell_rows x y.shown ++ rows) (rows_of-more records readings r reading shorter)
     ∙ sym (append_assoc (cell_rows x y.shown) (report_rows records readings) (cell_rows r reading.shown))
 
+-- the rows of one cell more come after those of the cells before it
 pub cells-more : (records : List Record) (readings : List Reading) (i : ℕ) (r : Record) (reading : Reading) →
     length records ≡ length readings → i < length records → r ≡ get_or records i r →
     reading ≡ get_or readings i reading →

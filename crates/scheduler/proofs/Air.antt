@@ -58,6 +58,7 @@ pub broadcast_at-released : (m : ScheduledMessage) (slot : ℕ) → 0 < m.period
     → release m (broadcast_at m slot) ≤ slot
 broadcast_at-released m slot h started = omega arith
 
+-- the broadcast in whose time a slot lies isn't due yet
 pub broadcast_at-not_due : (m : ScheduledMessage) (slot : ℕ) → 0 < m.period → m.start ≤ slot
     → slot < due m (broadcast_at m slot)
 broadcast_at-not_due m slot h started = omega arith
@@ -92,6 +93,7 @@ pub next_release : (m : ScheduledMessage) (slot : ℕ) → 0 < m.period → m.st
     → release m (broadcast_at m (slot + 1)) ≡ slot + 1
 next_release m slot h started over = omega arith
 
+-- the next slot lies in the time of the same broadcast, unless a period ends
 pub same_broadcast : (m : ScheduledMessage) (slot : ℕ) → 0 < m.period → m.start ≤ slot
     → (slot + 1 - m.start) % m.period ≢ 0
     → broadcast_at m (slot + 1) ≡ broadcast_at m slot

@@ -131,6 +131,7 @@ count_same n g (x ∷ air) same =
       count_same n g air same,
     )
 
+-- without its background messages the air has the same pages of the others
 pub blanking_keeps_pages : BlankingKeepsPages
 blanking_keeps_pages messages air m from to rising here other =
     let g = blank_use messages in
@@ -139,6 +140,7 @@ blanking_keeps_pages messages air m from to rising here other =
     let front = ap (count_by (airs m.entry)) (take-map g (to - from) (drop from air)) in
     cut ∙ front ∙ count_same m.entry g (take (to - from) (drop from air)) (airs_same messages m entry)
 
+-- and the same complete broadcasts of them
 pub blanking_keeps_completed : BlankingKeepsCompleted
 blanking_keeps_completed messages air m slot rising here other =
     count_below_same (is_completed m (blanked messages air) slot) (is_completed m air slot) (slot + 1) (λ j h.
@@ -232,6 +234,7 @@ chosen_without messages air slot (Some used) rising chosen =
           subst (IsChosen (foreground messages) blank slot) (sym kept) found
     ]
 
+-- to the other messages a slot of a background message is an idle one
 pub background_counts_as_idle : BackgroundCountsAsIdle
 background_counts_as_idle messages air rising rule = λ slot within.
     let g = blank_use messages in
@@ -240,6 +243,7 @@ background_counts_as_idle messages air rising rule = λ slot within.
     subst (IsChosen (foreground messages) (blanked messages air) slot) (sym at)
     (chosen_without messages air slot (get_or air slot None) rising (rule slot inside))
 
+-- the other messages are aired as if there were no background message
 pub background_changes_nothing : BackgroundChangesNothing
 background_changes_nothing messages air alone rising rule others same =
     IsAirOf-only (foreground messages) (blanked messages air) alone

@@ -213,6 +213,7 @@ length-air_of messages (suc n) =
     let before = length-air_of messages n in
     omega (arith, length_push (air_of messages n) (choice messages (air_of messages n) n), before)
 
+-- the air that the choice of each slot makes is that of the messages
 pub IsAirOf-air_of : (messages : List ScheduledMessage) (n : ℕ) → All (λ m. 0 < m.period) messages
     → IsAirOf messages (air_of messages n)
 IsAirOf-air_of messages zero periods = λ slot within. absurd (omega arith)

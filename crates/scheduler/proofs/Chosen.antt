@@ -39,7 +39,7 @@ pending_is_now t air j fit pending =
     broadcast_at-only (message_of t) (length air) j fit.some_period (omega (arith, pending.released)) pending.released
     pending.not_due
 
-pub ready_from_pending : (t : Scheduled) (air : Air) (j : ℕ) → IsFit t (length air) → Counts t air
+ready_from_pending : (t : Scheduled) (air : Air) (j : ℕ) → IsFit t (length air) → Counts t air
     → IsPending (message_of t) j air (length air) → is_ready t (length air) ≡ true
 ready_from_pending t air j fit counts pending =
     let m = message_of t in

@@ -83,6 +83,7 @@ is_before_stop-earlier slot at (Some stop) le h = lt-ltb slot stop (omega (arith
 abbrev pub one_if : Bool → ℕ
 one_if b = cond b 1 0
 
+-- a truth counts as one at most
 pub one_if-le : (b : Bool) → one_if b ≤ 1
 one_if-le true = omega arith
 one_if-le false = omega arith
@@ -165,6 +166,7 @@ is_completed-stopped m air slot j pages free =
           (and_left (ltb (release m j) slot) (leb m.pages counted) (le-ltb (release m j) slot later)) ∙ sym whole
     ]
 
+-- a stop doesn't change how many broadcasts were complete by its slot
 pub completed-stopped : (m : ScheduledMessage) (air : Air) (slot : ℕ) → 0 < m.pages → m.stop ≡ None
     → completed (record m { stop = Some slot }) air slot ≡ completed m air slot
 completed-stopped m air slot pages free =

@@ -59,6 +59,7 @@ is_ready-parts t slot ready =
     let second = and_parts (is_before_stop slot t.stop) (ltb t.pages_aired t.item.pages) first.1 in
     (first.0, second.0, ltb-true t.pages_aired t.item.pages second.1)
 
+-- a message that is ready has started
 pub is_ready-started : (t : Scheduled) (slot : ℕ) → is_ready t slot ≡ true → t.item.start ≤ slot
 is_ready-started t slot ready =
     leb-true t.item.start slot (and_parts (leb t.item.start slot)

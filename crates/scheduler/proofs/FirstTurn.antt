@@ -266,6 +266,7 @@ pub record IsFirst (slot : ℕ) (nodes : List Node) (entry place : ℕ) : Type 0
   pub turn : IsTurnOf slot nodes (ahead_at nodes 0).first place blank
   pub named : (ahead_at nodes 0).first % 65536 ≡ entry
 
+-- the root of a tournament that is awake names the first message of the slot
 pub first_found : (slot : ℕ) (nodes : List Node) (entry place : ℕ) → AreKeptInOrder slot nodes → AreRising nodes
     → slot < (ahead_at nodes 0).wake
     → (if (ahead_at nodes 0).first == no_turn then None else Some ((ahead_at nodes 0).first % 65536)) ≡ Some entry

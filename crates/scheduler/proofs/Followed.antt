@@ -25,6 +25,7 @@ same_messages g h same (t ∷ scheduled) =
     ap (λ m. m ∷ map message_of (map g scheduled)) (same t) ∙ ap (λ ms. h (message_of t) ∷ ms)
     (same_messages g h same scheduled)
 
+-- what leaves each message as it is leaves all
 pub unchanged_messages : (g : Scheduled → Scheduled) → ((t : Scheduled) → message_of (g t) ≡ message_of t)
     → (scheduled : List Scheduled) → map message_of (map g scheduled) ≡ map message_of scheduled
 unchanged_messages g same [] = refl
@@ -36,6 +37,7 @@ unchanged_messages g same (t ∷ scheduled) =
 abbrev pub kept_after : PlanState → Option (ℕ × ℕ) → PlanState
 kept_after plan used = record { slot = plan.slot + 1; scheduled = map (after_slot plan.slot used) plan.scheduled }
 
+-- a plan stays sound as a slot is played
 pub IsSound-next : (plan : PlanState) (used : Option (ℕ × ℕ)) → plan.slot < 65535 → IsSound plan
     → IsSound (kept_after plan used)
 IsSound-next plan used within sound = record {
@@ -46,6 +48,7 @@ IsSound-next plan used within sound = record {
   within = omega arith;
 }
 
+-- what a plan chooses is what the messages and the air have chosen
 pub IsChosen-next : (plan : PlanState) (messages : List ScheduledMessage) (air : Air) (used : Option (ℕ × ℕ))
     → IsSound plan
     → IsChoice plan.scheduled plan.slot used → Follows plan messages air → IsChosen messages air plan.slot used
@@ -58,6 +61,7 @@ IsChosen-next plan messages air used sound choice follows =
     (IsChosen-from_choice plan.scheduled air used (subst Fit follows.asked sound.fit) follows.counted
     (subst Choice follows.asked choice)))
 
+-- a plan follows the air by one more slot
 pub Follows-next : (plan : PlanState) (messages : List ScheduledMessage) (air : Air) (used : Option (ℕ × ℕ))
     → IsSound plan
     → IsChoice plan.scheduled plan.slot used → Follows plan messages air
@@ -80,9 +84,11 @@ Follows-next plan messages air used sound choice follows =
 abbrev pub scheduled_new : Item → Scheduled
 scheduled_new item = record { item = item; stop = None; pages_aired = 0; completed = 0 }
 
+-- a plan with one message more
 abbrev pub kept_with : PlanState → Item → PlanState
 kept_with plan item = record { slot = plan.slot; scheduled = plan.scheduled ++ scheduled_new item ∷ [] }
 
+-- a plan stays sound as a message is added
 pub IsSound-add : (plan : PlanState) (item : Item) → All (λ m. m.entry < item.entry) (messages_of plan)
     → plan.slot ≤ item.start → 0 < item.pages → 0 < item.period → IsSound plan → IsSound (kept_with plan item)
 IsSound-add plan item above start pages period sound = record {
@@ -99,6 +105,7 @@ IsSound-add plan item above start pages period sound = record {
         let e = ap (λ (m : ScheduledMessage). m.entry) (get_or-map message_of scheduled k d (message_of d) within) in
         omega (arith, e, h k (message_of d) (omega (arith, length-map scheduled message_of, within)))
 
+-- a plan follows the messages with one more
 pub Follows-add : (plan : PlanState) (item : Item) (messages : List ScheduledMessage) (air : Air)
     → plan.slot ≤ item.start
     → 0 < item.pages → 0 < item.period → Follows plan messages air
@@ -118,6 +125,7 @@ kept_stopped plan entry slot = record {
   scheduled = map (λ (t : Scheduled). scheduled_stopped (t.item.entry == entry) slot t) plan.scheduled;
 }
 
+-- a plan stays sound as a message is stopped
 pub IsSound-stop : (plan : PlanState) (entry slot : ℕ) → IsSound plan → IsSound (kept_stopped plan entry slot)
 IsSound-stop plan entry slot sound = record {
   rising = rising-map (λ (t : Scheduled). t.item.entry) (λ (t : Scheduled). scheduled_stopped (t.item.entry == entry)
@@ -133,6 +141,7 @@ IsSound-stop plan entry slot sound = record {
   within = sound.within;
 }
 
+-- the messages of a plan in which one is stopped are those with the stop
 pub messages_of-stopped : (plan : PlanState) (entry slot : ℕ) → messages_of (kept_stopped plan entry slot) ≡ stopped_at
     entry slot (messages_of plan)
 messages_of-stopped plan entry slot =
@@ -152,6 +161,7 @@ only_standing scheduled entry rising standing = λ k d within. λ named.
     let place = rising-same (λ (t : Scheduled). t.item.entry) scheduled rising k i d within h (named ∙ sym entry) in
     ap (λ j. (get_or scheduled j d).stop) place ∙ (ap (λ (m : ScheduledMessage). m.stop) is ∙ standing.4.1)
 
+-- a plan follows the messages with a stop at its slot
 pub Follows-stop : (plan : PlanState) (entry slot : ℕ) (messages : List ScheduledMessage) (air : Air) → slot ≡ plan.slot
     → Any (λ m. (m.entry ≡ entry) × (m.stop ≡ None)) (messages_of plan) → IsSound plan → Follows plan messages air
     → Follows (kept_stopped plan entry slot) (stopped_at entry slot messages) air

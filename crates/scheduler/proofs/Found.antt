@@ -74,7 +74,8 @@ one_standing entry slot nodes place found standing =
     )
 
 -- it is the only one
-pub only_named : (entry slot : ℕ) (nodes : List Node) (place : ℕ) → AreRising nodes → IsFoundTurn entry nodes (Some place)
+pub only_named : (entry slot : ℕ) (nodes : List Node) (place : ℕ) → AreRising nodes
+    → IsFoundTurn entry nodes (Some place)
     → All (λ t. t.item.entry ≡ entry → t ≡ seen slot (get_or nodes place blank).kept) (seen_in slot nodes)
 only_named entry slot nodes place rising found = λ k t within. λ named.
     let at = seen_entry slot nodes k t within in
@@ -128,7 +129,8 @@ stopped_none entry slot nodes none =
     ∙ map_twice (λ (t : Scheduled). scheduled_stopped (t.item.entry == entry) slot t) (seen slot) (kept_in nodes)
 
 -- and of one that has it
-pub stopped_one : (entry slot : ℕ) (nodes : List Node) (place : ℕ) → AreRising nodes → IsFoundTurn entry nodes (Some place)
+pub stopped_one : (entry slot : ℕ) (nodes : List Node) (place : ℕ) → AreRising nodes
+    → IsFoundTurn entry nodes (Some place)
     → map (seen slot) (set (kept_in nodes) place (stopped slot (get_or nodes place blank).kept)) ≡ map
     (λ (t : Scheduled). scheduled_stopped (t.item.entry == entry) slot t) (seen_in slot nodes)
 stopped_one entry slot nodes place rising found =
@@ -163,6 +165,7 @@ turns_stopped slot nodes place within turns =
     let has = turn_at nodes place blank within turns in
     All-set HasTurn (kept_in nodes) place _ (record { slot = has.slot; number = has.number }) turns
 
+-- to air a page of one message leaves the turns of all in range
 pub turns_aired : (nodes : List Node) (place : ℕ) → place < length nodes → All HasTurn (kept_in nodes)
     → All HasTurn (set (kept_in nodes) place (aired (get_or nodes place blank).kept))
 turns_aired nodes place within turns =

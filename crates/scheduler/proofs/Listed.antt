@@ -52,7 +52,7 @@ pub listed_other : (listed : List ℕ) (count place i : ℕ) → i < count
 listed_other listed count place i h =
     get_or-set_other listed count i place 0 (λ same. omega (arith, h, same))
 
-pub listed_written : (slot : ℕ) (nodes : List Node) (listed : List ℕ) (count bound place : ℕ)
+listed_written : (slot : ℕ) (nodes : List Node) (listed : List ℕ) (count bound place : ℕ)
     → AreListed slot nodes listed count bound → AreListed slot nodes (set listed count place) count bound
 listed_written slot nodes listed count bound place are = record {
   few = are.few;

@@ -11,6 +11,7 @@ has_broadcast-says m j h =
       | inr below ↦ inr (ltb-true j m.broadcasts below)
     ]
 
+-- a broadcast that was requested passes the test
 pub has_broadcast-from : (m : ScheduledMessage) (j : ℕ) → HasBroadcast m j → has_broadcast m j ≡ true
 has_broadcast-from m j h =
     elim h [
@@ -22,10 +23,12 @@ has_broadcast-from m j h =
     or_right true y h = refl
     or_right false y h = h
 
+-- a slot that passes the test comes before the stop
 pub is_before_stop-says : (slot : ℕ) (stop : Option ℕ) → is_before_stop slot stop ≡ true → IsBeforeStop slot stop
 is_before_stop-says slot None h = tt
 is_before_stop-says slot (Some stop) h = ltb-true slot stop h
 
+-- and a slot before the stop passes it
 pub is_before_stop-from : (slot : ℕ) (stop : Option ℕ) → IsBeforeStop slot stop → is_before_stop slot stop ≡ true
 is_before_stop-from slot None h = refl
 is_before_stop-from slot (Some stop) h = lt-ltb slot stop h

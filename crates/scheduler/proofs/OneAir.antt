@@ -30,6 +30,7 @@ IsChosen-unappend messages air more slot (Some used) h x = (
   ),
 )
 
+-- the front of an air of messages is one of them
 pub IsAirOf-front : (messages : List ScheduledMessage) (air more : Air) → IsAirOf messages (air ++ more)
     → IsAirOf messages air
 IsAirOf-front messages air more rule = λ slot within.
@@ -59,6 +60,7 @@ same_front messages air other (suc n) rising rule others short also =
     take-suc air n None (omega arith) ∙ (ap (λ a. a ++ get_or air n None ∷ []) before
     ∙ (ap (λ u. take n other ++ u ∷ []) used ∙ sym (take-suc other n None (omega arith))))
 
+-- messages have one air of a length
 pub IsAirOf-only : (messages : List ScheduledMessage) (air other : Air) → AllPairs (λ a b. a.entry < b.entry) messages
     → IsAirOf messages air → IsAirOf messages other → length air ≡ length other → air ≡ other
 IsAirOf-only messages air other rising rule others same =

@@ -75,6 +75,7 @@ page_of_next m page n used e =
     let One : Option (ℕ × ℕ) → ℕ = λ u. one_where (airs_page m.entry page u) in
     ap One e ∙ ap (λ (b : Bool). one_where (b && eqb n page)) (eq-eqb m.entry m.entry refl)
 
+-- a slot that another message uses airs no page of this one
 pub page_of_other : (n page : ℕ) (used : Option (ℕ × ℕ)) → airs n used ≡ false → one_where (airs_page n page used) ≡ 0
 page_of_other n page None other = refl
 page_of_other n page (Some used) other = ap (λ (b : Bool). one_where (b && eqb used.1 page)) other
@@ -262,6 +263,7 @@ completed-front m air slot within =
     ∙ count_below_same (is_completed m (take slot air) slot) (is_completed m air slot) (slot + 1)
     (λ j h. is_completed-front m air slot j within)
 
+-- a message's complete broadcasts are the airings of its last page
 pub last_page_counts : (messages : List ScheduledMessage) (air : Air) (m : ScheduledMessage) (slot : ℕ)
     → AllPairs (λ a b. a.entry < b.entry) messages → Contains messages m → 0 < m.pages → 0 < m.period
     → IsAirOf messages air → slot ≤ length air → times_aired m.entry m.pages air slot ≡ completed m air slot
@@ -269,6 +271,7 @@ last_page_counts messages air m slot rising here pages period rule within =
     (counted_front messages m m.pages air slot rising here pages period pages (omega arith) rule within).last
     ∙ completed-front m air slot within
 
+-- no page of a message is aired less often than it has complete broadcasts
 pub no_page_less : (messages : List ScheduledMessage) (air : Air) (m : ScheduledMessage) (page slot : ℕ)
     → AllPairs (λ a b. a.entry < b.entry) messages → Contains messages m → 1 ≤ page → page ≤ m.pages → 0 < m.period
     → IsAirOf messages air → slot ≤ length air → completed m air slot ≤ times_aired m.entry page air slot

@@ -94,6 +94,7 @@ each_once messages air m j page (suc to) rising here rule some within by_due =
           ]
     ]
 
+-- up to the due slot of a broadcast each page that was aired for it was aired once
 pub pages_come_once : (messages : List ScheduledMessage) (air : Air) (m : ScheduledMessage) (j page to : ℕ)
     → AllPairs (λ a b. a.entry < b.entry) messages → Contains messages m → IsAirOf messages air → to ≤ length air
     → to ≤ due m j → 1 ≤ page → page ≤ pages_aired m.entry air (release m j) to
@@ -101,6 +102,7 @@ pub pages_come_once : (messages : List ScheduledMessage) (air : Air) (m : Schedu
 pages_come_once messages air m j page to rising here rule within by_due some aired =
     (each_once messages air m j page to rising here rule some within by_due).there aired
 
+-- a complete broadcast aired each page once
 pub completed_is_each_page_once : (messages : List ScheduledMessage) (air : Air) (m : ScheduledMessage)
     (j page slot : ℕ)
     → AllPairs (λ a b. a.entry < b.entry) messages → Contains messages m → IsAirOf messages air → slot ≤ length air

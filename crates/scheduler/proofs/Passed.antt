@@ -9,7 +9,8 @@ use Rattle.scheduler.specs.declared.tournament.Node.{Node}
 use Rattle.scheduler.specs.declared.progress.Progress.{Progress}
 use Rattle.scheduler.specs.declared.scheduled.Scheduled.{Scheduled}
 use Rattle.scheduler.specs.PlanSteps.{IsChoice, is_ready, after_slot}
-use Rattle.scheduler.specs.QueueSteps.{kept_in, seen_in, IsRight, AreKeptInOrder, AreRising, IsPlaceOf, seen, aired, ahead_at}
+use Rattle.scheduler.specs.QueueSteps.{kept_in, seen_in, IsRight, AreKeptInOrder, AreRising, IsPlaceOf, seen, aired}
+use Rattle.scheduler.specs.QueueSteps.{ahead_at}
 use Rattle.scheduler.proofs.Places.{kept_at, right_at, place_is, same_place}
 use Rattle.scheduler.proofs.FirstTurn.{all_awake, kept_awake, seen_at}
 use Rattle.scheduler.proofs.Windows.{seen_is, seen_after_other, seen_after_aired, IsRight-later, IsRight-aired}

@@ -139,6 +139,7 @@ chosen_renumbered f keeps messages air slot (Some used) x =
       ),
     )
 
+-- with other numbers in the same order messages have the same air
 pub IsAirOf-renumbered : (messages : List ScheduledMessage) (air : Air) (f : ℕ → ℕ) → KeepsOrder f
     → IsAirOf messages air
     → IsAirOf (map (renumbered f) messages) (map (use_renumbered f) air)

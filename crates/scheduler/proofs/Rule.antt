@@ -76,6 +76,7 @@ IsServedBy-both a b i j h g =
       ]
     ]
 
+-- of two broadcasts one is served before the other
 pub IsServedBy-total : (a b : ScheduledMessage) (i j : ℕ) → IsServedBy a i b j ⊎ IsServedBy b j a i
 IsServedBy-total a b i j =
     elim (cases_order (layer a) (layer b)) [
@@ -128,6 +129,7 @@ IsPending-append m j air more slot h p = record {
   unfinished = rw (pages_aired-append m.entry air more (release m j) slot h) p.unfinished;
 }
 
+-- what is pending with later slots is so without them
 pub IsPending-unappend : (m : ScheduledMessage) (j : ℕ) (air more : Air) (slot : ℕ) → slot ≤ length air
     → IsPending m j (air ++ more) slot → IsPending m j air slot
 IsPending-unappend m j air more slot h p = record {
@@ -138,6 +140,7 @@ IsPending-unappend m j air more slot h p = record {
   unfinished = rw (← pages_aired-append m.entry air more (release m j) slot h) p.unfinished;
 }
 
+-- what was chosen for a slot stays chosen, whatever is aired after it
 pub IsChosen-append : (messages : List ScheduledMessage) (air more : Air) (slot : ℕ) (used : Option (ℕ × ℕ))
     → slot ≤ length air
     → IsChosen messages air slot used → IsChosen messages (air ++ more) slot used
@@ -197,6 +200,7 @@ IsChosen-add messages m air slot (Some used) later x = (
   ),
 )
 
+-- a message that starts later changes nothing of what was aired
 pub IsAirOf-add : (messages : List ScheduledMessage) (m : ScheduledMessage) (air : Air) → length air ≤ m.start
     → IsAirOf messages air
     → IsAirOf (messages ++ m ∷ []) air
@@ -215,7 +219,7 @@ IsPending-stopped m true stop j air slot before p = record {
 }
 IsPending-stopped m false stop j air slot before p = p
 
-pub IsPending-unstopped : (m : ScheduledMessage) (says : Bool) (stop j : ℕ) (air : Air) (slot : ℕ)
+IsPending-unstopped : (m : ScheduledMessage) (says : Bool) (stop j : ℕ) (air : Air) (slot : ℕ)
     → (says ≡ true → m.stop ≡ None) → IsPending (stopped_if says stop m) j air slot → IsPending m j air slot
 IsPending-unstopped m true stop j air slot free p =
     let Standing : Option ℕ → Type 0 = λ s. IsBeforeStop slot s in
@@ -228,7 +232,7 @@ IsPending-unstopped m true stop j air slot free p =
     }
 IsPending-unstopped m false stop j air slot free p = p
 
-pub IsChosen-stop : (messages : List ScheduledMessage) (entry stop : ℕ) (air : Air) (slot : ℕ) (used : Option (ℕ × ℕ))
+IsChosen-stop : (messages : List ScheduledMessage) (entry stop : ℕ) (air : Air) (slot : ℕ) (used : Option (ℕ × ℕ))
     → slot < stop → All (λ m. m.entry ≡ entry → m.stop ≡ None) messages → IsChosen messages air slot used
     → IsChosen (stopped_at entry stop messages) air slot used
 IsChosen-stop messages entry stop air slot None before free x =
@@ -253,6 +257,7 @@ IsChosen-stop messages entry stop air slot (Some used) before free x =
       ),
     )
 
+-- nor does a stop at a later slot
 pub IsAirOf-stop : (messages : List ScheduledMessage) (entry stop : ℕ) (air : Air) → length air ≤ stop
     → All (λ m. m.entry ≡ entry → m.stop ≡ None) messages → IsAirOf messages air
     → IsAirOf (stopped_at entry stop messages) air
@@ -285,6 +290,7 @@ chosen_is_pending messages air slot m (Some used) rising here chosen named =
     let Pending : ScheduledMessage → Type 0 = λ o. IsPending o j air slot in
     (j, subst Pending same chosen.4.1.pending, ap Some (chosen.4.2 ∙ ap (λ o. next_page o j air slot) same))
 
+-- what a slot airs is a page of a broadcast that was pending
 pub aired_is_pending : (messages : List ScheduledMessage) (air : Air) (slot : ℕ) (m : ScheduledMessage)
     → AllPairs (λ a b. a.entry < b.entry) messages → Contains messages m → IsAirOf messages air → slot < length air
     → airs m.entry (get_or air slot None) ≡ true → (j : ℕ) × IsPending m j air slot
@@ -334,6 +340,7 @@ is_completed-says m air slot j h =
       aired = leb-true _ _ second.1;
     }
 
+-- a broadcast that is complete passes the test
 pub is_completed-from : (m : ScheduledMessage) (air : Air) (slot j : ℕ) → IsCompleted m j air slot
     → is_completed m air slot j ≡ true
 is_completed-from m air slot j w =

@@ -38,5 +38,6 @@ IsServedBy-trans a b c i j k h g =
       ]
     ]
 
+-- a broadcast is served before itself, so to say: the order is reflexive
 pub IsServedBy-same : (a : ScheduledMessage) (i : ℕ) → IsServedBy a i a i
 IsServedBy-same a i = inr (refl, IsNoLater-same a i)

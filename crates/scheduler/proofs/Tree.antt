@@ -106,6 +106,7 @@ pub below_same : (old new : List Node) (place : ℕ)
 below_same old new place same =
     below_is new place ∙ among_same old new (place * 8 + 1) 8 same ∙ sym (below_is old place)
 
+-- a node sleeps no longer than the eight below it
 pub below_awake : (nodes : List Node) (place slot : ℕ) → slot < 4294967295
     → ((i : ℕ) → i < 8 → slot < (ahead_at nodes (place * 8 + 1 + i)).wake) → slot < (ahead_below nodes place).wake
 below_awake nodes place slot few awake =
@@ -248,6 +249,7 @@ node_awake nodes place slot node mine below =
 abbrev pub kept_as : List Node → ℕ → Node → Progress → List Node
 kept_as nodes place d k = set nodes place (record (get_or nodes place d) { kept = k })
 
+-- to keep the progress of one message leaves those of the others
 pub kept_as-kept : (nodes : List Node) (place : ℕ) (d : Node) (k : Progress)
     → kept_in (kept_as nodes place d k) ≡ set (kept_in nodes) place k
 kept_as-kept nodes place d k = map-set (λ (n : Node). n.kept) nodes place (record (get_or nodes place d) { kept = k })
@@ -326,6 +328,7 @@ among_most : (nodes : List Node) (from n : ℕ) → (ahead_among nodes from n).f
 among_most nodes from zero = omega arith
 among_most nodes from (suc n) = omega (arith, among_most nodes from n)
 
+-- a node names a turn or none
 pub first_most : (nodes : List Node) (place : ℕ) → IsNode nodes place → (ahead_at nodes place).first ≤ no_turn
 first_most nodes place node =
     let is = ap (λ (a : First). a.first) node in

@@ -41,6 +41,7 @@ Drawn {S} key id me st s words = (w : View) × (a : Act S) × Valid s.homes me.1
     }
     × Drew st me (slice_index words 0) (w, carried_after me.1 a)
 
+-- to draw keeps the rule of the counter: the number that was there is handed out to this seat
 pub draws : {S : Type 0} (slots id key : ℕ) (me : Me S View) (st : Step S) → me.0.limit ≡ key → me.0.late ≡ 0
     → me.0.spare < me.0.parts → Allows (IsHandedOut key) slots id me 0 (λ n. (n + 1) % 2 ^ 64) (Drew st me)
 draws {S} slots id key me st same_limit not_late some_part s h homes at less =
@@ -125,6 +126,7 @@ draws {S} slots id key me st same_limit not_late some_part s h homes at less =
       ),
     )))
 
+-- to split a seat keeps the rule
 pub splits : {S : Type 0} (id key : ℕ) (v : View) → 0 < v.spare → v.spare < v.parts
     → Splits {S = S} (IsHandedOut key) id v (kept_part v) (new_part v)
 splits id key v some_spare some_part s h at =
@@ -159,6 +161,7 @@ splits id key v some_spare some_part s h at =
           (at_snoc (set s.views id left) right u by e),
     )
 
+-- to join two seats keeps the rule
 pub joins : {S : Type 0} (id key : ℕ) (v : View) (other : ℕ) (w : View)
     → Joins {S = S} (IsHandedOut key) id v other w (joined_view v w) spent_view
 joins id key v other w s h at apart there =
@@ -195,6 +198,7 @@ joins id key v other w s h at apart there =
           ((omega arith), (λ _. refl), λ late. absurd (omega arith)),
     )
 
+-- by the rule no number below the last is handed out twice, and none is left out once all seats are joined
 pub closes : {S : Type 0} (id key r : ℕ) (v : View) (words : List ℕ) (slots : List S)
     → Final (Seen (IsHandedOut key) id v) words slots → get_elem? words 0 ≡ some r
     → ((x : ℕ) → times x v.drawn ≤ times x (numbers_below (min key r)))

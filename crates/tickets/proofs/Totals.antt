@@ -9,6 +9,7 @@ use Rattle.tickets.specs.declared.view.View.{View}
 use Rattle.tickets.specs.Draws.{times, numbers_below}
 use Rattle.tickets.specs.Rule.{total}
 
+-- a number stands in two lists as often as in both
 pub times_append : (x : ℕ) (xs ys : List ℕ) → times x (xs ++ ys) ≡ times x xs + times x ys
 times_append x [] ys = omega arith
 times_append x (y ∷ xs) ys =
@@ -30,6 +31,7 @@ is_below x (suc n) there =
     let less : x < n = is_below x n (omega arith) in
     omega arith)
 
+-- a total after one view changed
 pub total_set : (of : View → ℕ) (l : List View) (i : ℕ) (v w : View) → get_elem? l i ≡ some v
     → total of (set l i w) + of v ≡ total of l + of w
 total_set of [] i v w e = absurd (some-ne-none v (sym e))
@@ -38,18 +40,21 @@ total_set of (x ∷ xs) (suc i) v w e =
     let rest : total of (set xs i w) + of v ≡ total of xs + of w = total_set of xs i v w e in
     omega arith
 
+-- a total grows by what one view grows
 pub total_more : (of : View → ℕ) (l : List View) (i : ℕ) (v w : View) (k : ℕ) → get_elem? l i ≡ some v
     → of w ≡ of v + k → total of (set l i w) ≡ total of l + k
 total_more of l i v w k e more =
     let sum : total of (set l i w) + of v ≡ total of l + of w = total_set of l i v w e in
     omega arith
 
+-- a total stays as it is if the view that changed counts the same
 pub total_same : (of : View → ℕ) (l : List View) (i : ℕ) (v w : View) → get_elem? l i ≡ some v
     → of w ≡ of v → total of (set l i w) ≡ total of l
 total_same of l i v w e same =
     let sum : total of (set l i w) + of v ≡ total of l + of w = total_set of l i v w e in
     omega arith
 
+-- a total of one view more
 pub total_snoc : (of : View → ℕ) (l : List View) (w : View) → total of (l ++ w ∷ []) ≡ total of l + of w
 total_snoc of [] w = omega arith
 total_snoc of (x ∷ xs) w =
@@ -62,6 +67,7 @@ total_has of [] i v e = absurd (some-ne-none v (sym e))
 total_has of (x ∷ xs) zero v e = let same : of x ≡ of v = ap of (some-injective x v e) in omega arith
 total_has of (x ∷ xs) (suc i) v e = let rest : of v ≤ total of xs = total_has of xs i v e in omega arith
 
+-- a total of less is at most that of more
 pub total_less : (of by : View → ℕ) (l : List View)
     → ((i : ℕ) (v : View) → get_elem? l i ≡ some v → of v ≤ by v) → total of l ≤ total by l
 total_less of by [] each = omega arith

@@ -51,10 +51,11 @@ length-fill : (n : ℕ) → length (fill n) ≡ n
 length-fill zero = refl
 length-fill (suc n) = omega (arith, length-fill n)
 
-pub length-page_units : (units : List ℕ) → length units ≤ 41 → length (page_units units) ≡ 41
+length-page_units : (units : List ℕ) → length units ≤ 41 → length (page_units units) ≡ 41
 length-page_units units short =
     omega (arith, length-append units (fill (41 - length units)), length-fill (41 - length units))
 
+-- 41 units at most fill 82 octets
 pub length-octets_of_units : (units : List ℕ) → length units ≤ 41 → length (octets_of_units units) ≡ 82
 length-octets_of_units units short = omega (arith, length-octets (page_units units), length-page_units units short)
 
@@ -72,6 +73,7 @@ pub octets-by_place : (units octets : List ℕ) → length units ≤ 41 → leng
 octets-by_place units octets short whole each =
     same_from_places octets (octets_of_units units) 82 whole (length-octets_of_units units short) each
 
+-- two octets make one unit
 pub length-units_of_octets : (n : ℕ) (octets : List ℕ) → length octets ≡ 2 * n → length (units_of_octets octets) ≡ n
 length-units_of_octets zero [] whole = refl
 length-units_of_octets zero (high ∷ octets) whole = absurd (omega arith)

@@ -20,6 +20,7 @@ units_of_octets-octets (unit ∷ units) =
     let whole : 256 * (unit / 256) + unit % 256 ≡ unit = omega arith in
     rw (whole, units_of_octets-octets units)
 
+-- the units that were written are read back
 pub units_come_back : UnitsComeBack
 units_come_back units = units_of_octets-octets (page_units units)
 
@@ -38,6 +39,7 @@ octets-units_of_octets (suc n) (high ∷ low ∷ octets) whole small =
     let rest = octets-units_of_octets n octets (omega arith) (All-tail (λ octet. octet < 256) low octets small_rest) in
     rw (high_is, low_is, rest)
 
+-- the octets that were read are written again
 pub octets_come_back : OctetsComeBack
 octets_come_back octets whole small =
     let none : 41 - length (units_of_octets octets) ≡ 0 = omega (arith, length-units_of_octets 41 octets whole) in
@@ -53,6 +55,7 @@ small-octets (unit ∷ units) small =
     (All-cons (λ x. x < 256) (unit % 256) (flat_map octets_of_unit units) (omega arith)
     (small-octets units (All-tail (λ x. x < 65536) unit units small)))
 
+-- what is written fills a page
 pub puts_whole_pages : PutsWholePages
 puts_whole_pages units short small = (
   length-octets_of_units units short,
@@ -74,6 +77,7 @@ small-units (suc n) (high ∷ low ∷ octets) whole small =
     All-cons (λ x. x < 65536) (256 * high + low) (units_of_octets octets) (omega arith)
     (small-units n octets (omega arith) (All-tail (λ octet. octet < 256) low octets small_rest))
 
+-- a page has 41 units
 pub reads_whole_pages : ReadsWholePages
 reads_whole_pages octets whole small = (length-units_of_octets 41 octets whole, small-units 41 octets whole small)
 
@@ -83,10 +87,12 @@ character_of_unit-scalar character scalar =
     let cases = scalar_cases character scalar in
     grind (arith, nat_tests)
 
+-- the characters of a text are read back from its units
 pub characters_come_back : CharactersComeBack
 characters_come_back character scalar below =
     rw (lt-ltb character 65536 below) (below, character_of_unit-scalar character scalar)
 
+-- what units show are scalar values
 pub units_show_scalars : UnitsShowScalars
 units_show_scalars unit below = (grind (arith, nat_tests), grind (arith, nat_tests))
 

@@ -33,7 +33,7 @@ kept p x false true is wider xs rest same =
     ap (λ h. cond h (x ∷ filter p xs) (filter p xs)) is ∙ same
 kept p x false false is wider xs rest same = same
 
-pub filter-wider : {X : Type 0} (p q : X → Bool) → ((x : X) → p x ≡ true → q x ≡ true) → (xs : List X) →
+filter-wider : {X : Type 0} (p q : X → Bool) → ((x : X) → p x ≡ true → q x ≡ true) → (xs : List X) →
     filter p (filter q xs) ≡ filter p xs
 filter-wider p q wider [] = refl
 filter-wider p q wider (x ∷ xs) =
@@ -48,7 +48,7 @@ numbered page_id page_serial id serial true true is also both =
 numbered page_id page_serial id serial true false is also both = cc
 numbered page_id page_serial id serial false other is also both = cc
 
-pub its-number : (a : AskedMessage) (s : SentPage) → is_its a s ≡ true → number_of s ≡ name_number a.id a.serial
+its-number : (a : AskedMessage) (s : SentPage) → is_its a s ≡ true → number_of s ≡ name_number a.id a.serial
 its-number a s is =
     numbered s.page.id s.page.serial a.id a.serial (s.page.id == a.id) (s.page.serial == a.serial) refl refl is
 
@@ -86,6 +86,7 @@ kept-in-order a sent sorted stable =
     ∙ ap (filter (is_its a)) (stable (like a))
     ∙ filter-wider (is_its a) q wider sent
 
+-- a stable order by name keeps the order of a message's pages
 pub judged-kept : (a : AskedMessage) (sent sorted : List SentPage) → IsStableByKey number_of nat_cmp sent sorted →
     judged_in a sorted ≡ judged_in a sent
 judged-kept a sent sorted stable = ap (map (judged a)) (kept-in-order a sent sorted stable)

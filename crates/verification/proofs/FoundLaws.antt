@@ -31,6 +31,7 @@ none-found : (records : List Record) → All (IsFound []) (map unjudged records)
 none-found [] = All-nil (IsFound [])
 none-found (r ∷ records) = All-cons (IsFound []) (unjudged r) (map unjudged records) refl (none-found records)
 
+-- before any tape nothing is found
 pub taken-none : (records : List Record) (f : FindingsState) → f.cells ≡ map unjudged records → f.seen ≡ [] →
     f.others ≡ [] → HasTaken records f []
 taken-none records f cells seen others = record {
@@ -184,11 +185,13 @@ known-of : (records : List Record) (f : FindingsState) (cell : Cell) (known : Bo
     is_known records cell ≡ known
 known-of records f cell known cells is = ap (λ rs. is_known rs cell) (sym cells) ∙ is
 
+-- a tape of a cell that isn't of the run gives a row
 pub taken-unknown : (records : List Record) (old new : FindingsState) (tapes : List TapeRecording)
     (tape : TapeRecording) →
     HasTaken records old tapes → is_known (map (λ (c : CellState). c.run) old.cells) tape.cell ≡ false →
     new.cells ≡ old.cells → new.seen ≡ old.seen ++ tape.cell ∷ [] →
-    new.others ≡ old.others ++ finding_row tape.cell findings.UnknownCell ∷ [] → HasTaken records new (tapes ++ tape ∷ [])
+    new.others ≡ old.others ++ finding_row tape.cell findings.UnknownCell ∷ []
+    → HasTaken records new (tapes ++ tape ∷ [])
 taken-unknown records old new tapes tape taken unknown cells seen others = record {
   cells = ap (map (λ (c : CellState). c.run)) cells ∙ taken.cells;
   found = subst (All (IsFound (tapes ++ tape ∷ []))) (sym cells)
@@ -202,12 +205,14 @@ taken-unknown records old new tapes tape taken unknown cells seen others = recor
       ∙ sym (others-more records [] tapes tape);
 }
 
+-- so does the second tape of a cell
 pub taken-second : (records : List Record) (old new : FindingsState) (tapes : List TapeRecording)
     (tape : TapeRecording) →
     HasTaken records old tapes → is_known (map (λ (c : CellState). c.run) old.cells) tape.cell ≡ true →
     list_any (is_cell tape.cell) old.seen ≡ true →
     new.cells ≡ old.cells → new.seen ≡ old.seen ++ tape.cell ∷ [] →
-    new.others ≡ old.others ++ finding_row tape.cell findings.SecondTape ∷ [] → HasTaken records new (tapes ++ tape ∷ [])
+    new.others ≡ old.others ++ finding_row tape.cell findings.SecondTape ∷ []
+    → HasTaken records new (tapes ++ tape ∷ [])
 taken-second records old new tapes tape taken known second cells seen others =
     let had : list_any (is_tape_of tape.cell) tapes ≡ true =
     sym (seen-any tape.cell tapes) ∙ ap (list_any (is_cell tape.cell)) (sym taken.seen) ∙ second in
@@ -237,6 +242,7 @@ runs-same tape (c ∷ old) new judged =
     get_or-map run new i c c.run in_new ∙ (judged.each i c in_old).run
     ∙ sym (get_or-map run (c ∷ old) i c c.run in_old))
 
+-- the first tape of a cell is judged
 pub taken-first : (records : List Record) (old new : FindingsState) (tapes : List TapeRecording) (tape : TapeRecording)
     →
     HasTaken records old tapes → is_known (map (λ (c : CellState). c.run) old.cells) tape.cell ≡ true →
@@ -287,6 +293,7 @@ of-cells tapes (c ∷ cells) all = (
   of-cells tapes cells all.1,
 )
 
+-- the rows of what was found are those of the tapes
 pub rows-are : (records : List Record) (f : FindingsState) (tapes : List TapeRecording) (rows : List Row) →
     HasTaken records f tapes → rows ≡ flat_map rows_of_state f.cells ++ f.others → AreRows records tapes rows
 rows-are records f tapes rows taken is = record {

@@ -19,6 +19,7 @@ find-next test xs i x within is fails =
     ap (find test) (dropped xs i x within is)
     ∙ ap (λ here. cond here (Some x) (find test (drop (i + 1) xs))) fails
 
+-- an item that passes is found at its place
 pub find-here : {X : Type 0} (test : X → Bool) (xs : List X) (i : ℕ) (x : X) → i < length xs → x ≡ get_or xs i x →
     test x ≡ true → find test (drop i xs) ≡ Some x
 find-here test xs i x within is passes =
@@ -40,10 +41,12 @@ rest-none done rest whole before none =
 pub range-next : (a n m : ℕ) → n ≡ m + 1 → range_with_len a n ≡ a ∷ range_with_len (a + 1) m
 range-next a n m is = let e : n ≡ suc m = omega arith in ap (range_with_len a) e
 
+-- a range begins with its first number and goes on with the others
 pub flat_map-range : {Y : Type 0} (f : ℕ → List Y) (a n m : ℕ) → n ≡ m + 1 →
     flat_map f (range_with_len a n) ≡ f a ++ flat_map f (range_with_len (a + 1) m)
 flat_map-range f a n m is = ap (flat_map f) (range-next a n m is) ∙ flat_map-cons f a (range_with_len (a + 1) m)
 
+-- all of a range pass if its first number does and all others do
 pub all-next : (test : ℕ → Bool) (a n m : ℕ) → n ≡ m + 1 → test a ≡ true →
     list_all test (range_with_len a n) ≡ list_all test (range_with_len (a + 1) m)
 all-next test a n m is passes =
@@ -69,6 +72,7 @@ four-joined start a b c d one two three four is_one is_two is_three is_four =
     regrouped : {X : Type 0} (s a b c d : List X) → (((s ++ a) ++ b) ++ c) ++ d ≡ s ++ (((a ++ b) ++ c) ++ d)
     regrouped s a b c d = simp append_assoc
 
+-- not all of a range pass if its first number doesn't
 pub any-missing : (test : ℕ → Bool) (a n m : ℕ) → n ≡ m + 1 → test a ≡ false →
     list_all test (range_with_len a n) ≡ false
 any-missing test a n m is fails =

@@ -21,6 +21,7 @@ pair-symm a b =
     ap (λ (x : Bool). x && eqb a.1 b.1) (nat_eq_equiv.symm a.0 b.0)
     ∙ ap (λ (x : Bool). eqb b.0 a.0 && x) (nat_eq_equiv.symm a.1 b.1)
 
+-- a condition whose first answer is true is an or
 pub either : (here there : Bool) → cond here true there ≡ (there || here)
 either true true = refl
 either true false = refl
@@ -65,7 +66,8 @@ known-stays asked before s pairs are known page =
     or-none false false = refl
 
     by_test : (here : Bool) → is_named_as page s ≡ here →
-        names_page pairs page ≡ (is_page_of_any asked page || (list_any (is_named_as page) before || is_named_as page s))
+        names_page pairs page ≡ (is_page_of_any asked page ||
+        (list_any (is_named_as page) before || is_named_as page s))
     by_test true is =
         let same : names_page pairs page ≡ true =
         same-known pairs page s.page (page.id == s.page.id) (page.serial == s.page.serial) refl refl is ∙ known in
@@ -105,6 +107,7 @@ left asked sent i s within is =
         take (i + 1) sent ≡ take i sent ++ s ∷ []
     front-more sent i s within is = take_more sent i s within ∙ ap (λ x. take i sent ++ x ∷ []) (sym is)
 
+-- the front of a list with its next item is the next front
 pub fronted : (sent : List SentPage) (i : ℕ) (s : SentPage) → i < length sent → s ≡ get_or sent i s →
     take i sent ++ s ∷ [] ≡ take (i + 1) sent
 fronted sent i s within is = sym (take_more sent i s within ∙ ap (λ x. take i sent ++ x ∷ []) (sym is))

@@ -18,7 +18,7 @@ falls : (slots d e j broadcasts : ℕ) (stop : Option ℕ) → d ≤ e →
 falls slots d e j broadcasts None up fails = grind (arith, nat_tests)
 falls slots d e j broadcasts (Some stop) up fails = grind (arith, nat_tests)
 
-pub owed-falls : (slots : ℕ) (a : AskedMessage) (j : ℕ) → is_owed slots a j ≡ false → is_owed slots a (j + 1) ≡ false
+owed-falls : (slots : ℕ) (a : AskedMessage) (j : ℕ) → is_owed slots a j ≡ false → is_owed slots a (j + 1) ≡ false
 owed-falls slots a j fails =
     let up : due_slot a j ≤ due_slot a (j + 1) = omega arith in
     falls slots (due_slot a j) (due_slot a (j + 1)) j a.broadcasts a.stop up fails

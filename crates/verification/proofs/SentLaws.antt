@@ -26,6 +26,7 @@ sent-next blocks place within =
 pub front-none : (place : ℕ) (pages : List PageView) → [] ≡ pages → map (sent_at place) (filter is_readable pages) ≡ []
 front-none place pages none = ap (λ ps. map (sent_at place) (filter is_readable ps)) (sym none)
 
+-- a readable page is sent at its place, another isn't
 pub front-some : (place : ℕ) (page : PageView) (readable : Bool) (pages : List PageView) → page ∷ [] ≡ pages →
     readable ≡ is_readable page →
     map (sent_at place) (filter is_readable pages) ≡ cond readable (sent_at place page ∷ []) []
@@ -55,6 +56,7 @@ readable-front place [] = All-nil (λ (s : SentPage). IsTrue (is_readable s.page
 readable-front place (page ∷ rest) =
     readable-here place (is_readable page) page (filter is_readable rest) refl (readable-front place rest)
 
+-- each page that was sent is readable
 pub sent-readable : (place : ℕ) (blocks : List (List ℕ)) →
     All (λ (s : SentPage). IsTrue (is_readable s.page)) (sent_from place blocks)
 sent-readable place [] = All-nil (λ (s : SentPage). IsTrue (is_readable s.page))

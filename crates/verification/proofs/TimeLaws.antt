@@ -31,6 +31,7 @@ any-filter p q [] = refl
 any-filter p q (x ∷ xs) =
     any-here q (p x) x (list_any (λ y. p y && q y) xs) (filter p xs) (any-filter p q xs)
 
+-- a right page in the time of a broadcast is one among those in that time
 pub has_page-in_time : (a : AskedMessage) (pages : List JudgedPage) (j number : ℕ) →
     has_page a pages j number
     ≡ list_any (λ (page : JudgedPage). (page.number == number) && page.right) (filter (is_in_time a j) pages)
@@ -46,6 +47,7 @@ filter-fails p (suc n) (x ∷ xs) fails =
     ap (λ here. cond here (x ∷ filter p xs) (filter p xs)) (fails 0 x (omega arith) (omega arith))
     ∙ filter-fails p n xs (λ k d low high. fails (suc k) d (omega arith) (omega arith))
 
+-- nothing is kept of what fails the test throughout
 pub filter-none : {X : Type 0} (p : X → Bool) (xs : List X) → AllWithin (λ x. p x ≡ false) xs 0 (length xs) →
     filter p xs ≡ []
 filter-none p [] fails = refl
@@ -83,16 +85,19 @@ time-between a j first count pages within also before inside after =
     ∙ filter-passes (is_in_time a j) count (drop first pages) also inside after)
 
 -- which pages are in time, by where their slots stand
-too-early : (release_slot due_slot slot : ℕ) → nat_lt slot release_slot ≡ true → (nat_le release_slot slot && nat_lt slot due_slot) ≡ false
+too-early : (release_slot due_slot slot : ℕ) → nat_lt slot release_slot ≡ true
+    → (nat_le release_slot slot && nat_lt slot due_slot) ≡ false
 too-early release_slot due_slot slot early = grind (arith, nat_tests)
 
 just-in-time : (release_slot due_slot slot : ℕ) → nat_lt slot release_slot ≡ false → nat_lt slot due_slot ≡ true →
     (nat_le release_slot slot && nat_lt slot due_slot) ≡ true
 just-in-time release_slot due_slot slot begun early = grind (arith, nat_tests)
 
-too-late : (release_slot due_slot slot : ℕ) → nat_lt slot due_slot ≡ false → (nat_le release_slot slot && nat_lt slot due_slot) ≡ false
+too-late : (release_slot due_slot slot : ℕ) → nat_lt slot due_slot ≡ false
+    → (nat_le release_slot slot && nat_lt slot due_slot) ≡ false
 too-late release_slot due_slot slot late = grind (arith, nat_tests)
 
+-- the pages in the time of a broadcast stand between two places
 pub between-points : (a : AskedMessage) (j first count : ℕ) (pages : List JudgedPage) → first ≤ length pages →
     count ≤ length (drop first pages) →
     AllWithin (λ (p : JudgedPage). nat_lt p.slot (release_slot a j) ≡ true) pages 0 first →
@@ -110,7 +115,8 @@ between-points a j first count pages within also early begun inside late =
     let began : nat_lt (get_or (drop first pages) k d).slot (release_slot a j) ≡ false =
     rw at (begun (first + k) d (omega arith) (omega (arith, length-drop first pages))) in
     just-in-time (release_slot a j) (due_slot a j) (get_or (drop first pages) k d).slot began (inside k d low high))
-    (λ k d low high. too-late (release_slot a j) (due_slot a j) (get_or (drop first pages) k d).slot (late k d low high))
+    (λ k d low high. too-late (release_slot a j) (due_slot a j) (get_or (drop first pages) k d).slot
+    (late k d low high))
 
 -- the slots of the pages that a tape sends never fall
 front-from : (place : ℕ) (pages : List PageView) → All (λ (s : SentPage). place / 4 ≤ s.slot)
@@ -141,6 +147,7 @@ rising-front place (page ∷ pages) later from rise =
     (All-append (λ (s : SentPage). place / 4 ≤ s.slot) (map (sent_at place) pages) later (front-from place pages) from)
     (rising-front place pages later from rise)
 
+-- the slots of the pages that were sent never fall
 pub sent-rising : (place : ℕ) (blocks : List (List ℕ)) → AllPairs (λ a b. a.slot ≤ b.slot) (sent_from place blocks)
 sent-rising place [] = λ i j d less within. absurd (let none : ⊥ = omega arith in none)
 sent-rising place (block ∷ rest) =
@@ -163,6 +170,7 @@ judged-rise a (s ∷ sent) rise = λ i j d less within.
     rw (get_or-map (judged a) (s ∷ sent) i s d first) (rw (get_or-map (judged a) (s ∷ sent) j s d second)
     (rise i j s less second))
 
+-- nor do those of the pages that are judged
 pub judged-rising : (a : AskedMessage) (sent : List SentPage) → AllPairs (λ x y. x.slot ≤ y.slot) sent →
     AllPairs (λ x y. x.slot ≤ y.slot) (judged_in a sent)
 judged-rising a sent rise =

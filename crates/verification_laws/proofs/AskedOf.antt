@@ -144,6 +144,7 @@ coming log before (e ∷ later) xs bs is all =
     (coming log (before ++ e ∷ []) later (xs ++ asked_of_entry e later) (accepted_after bs (length before) e)
     (is ∙ sym (append_assoc before (e ∷ []) later)) next))
 
+-- what a cell was asked is what it accepted, in the same order
 pub asked_are_accepted : (log : List Entry) → AreComing log [] (asked_of_log log) (accepted_in log)
 asked_are_accepted log = coming log [] log [] [] refl tt
 
@@ -168,6 +169,7 @@ asked-more log b bs (a ∷ xs) all = (
   asked-more log b bs xs all.1,
 )
 
+-- what all accepted messages are, what was asked is
 pub all_asked : (log : List Entry) (xs : List AskedMessage) (bs : List Accepted) → AreComing log [] xs bs →
     AllByRecursion (IsAsked log bs) xs
 all_asked log [] [] all = tt
@@ -178,6 +180,7 @@ all_asked log (a ∷ xs) (b ∷ bs) all = (
   asked-more log b bs xs (all_asked log xs bs all.1),
 )
 
+-- what an accepted message passes, a message that was asked passes
 pub some_asked : (log : List Entry) (test : AskedMessage → Bool) (xs : List AskedMessage) (bs : List Accepted)
     (b : Accepted) → AreComing log [] xs bs → Contains bs b →
     ((a : AskedMessage) → IsComing log [] a b → test a ≡ true) → list_any test xs ≡ true

@@ -14,6 +14,7 @@ any-here : {X Y : Type 0} (p : X → Bool) (q : Y → Bool) (f : X → Y) (xs : 
 any-here p q f xs x true is = ap (λ (rest : Bool). q (f x) || rest) is
 any-here p q f xs x false is = is
 
+-- an image of an item that is kept passes exactly if such an item does
 pub any-seen : {X Y : Type 0} (p : X → Bool) (q : Y → Bool) (f : X → Y) (xs : List X) →
     list_any q (map f (filter p xs)) ≡ list_any (λ x. p x && q (f x)) xs
 any-seen p q f [] = refl
@@ -32,7 +33,7 @@ some-here : (here : Bool) (n : ℕ) → 0 < cond here 1 0 + n → (here ≡ true
 some-here true n some = inl refl
 some-here false n some = inr (omega arith)
 
-pub some-counted : {X : Type 0} (test : X → Bool) (xs : List X) (d : X) → 0 < count_by test xs →
+some-counted : {X : Type 0} (test : X → Bool) (xs : List X) (d : X) → 0 < count_by test xs →
     (k : ℕ) × (k < length xs) × (test (get_or xs k d) ≡ true)
 some-counted test [] d some = absurd (let less : ⊥ = omega arith in less)
 some-counted test (x ∷ xs) d some =
@@ -53,6 +54,7 @@ front-of (suc n) (x ∷ xs) (suc k) d within =
     let h = front-of n xs k d (omega arith) in
     (omega (arith, h.0), omega (arith, h.1), h.2)
 
+-- an item between two places passes, if one is counted there
 pub some-between : {X : Type 0} (test : X → Bool) (xs : List X) (from to : ℕ) (d : X) →
     0 < count_by test (slice_range xs from to) →
     (k : ℕ) × (from ≤ k) × (k < to) × (k < length xs) × (test (get_or xs k d) ≡ true)

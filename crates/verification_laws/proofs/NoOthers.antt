@@ -36,10 +36,12 @@ none-before [] moved = refl
 none-before (x ∷ xs) moved =
     absurd (let long = length_permutation (x ∷ xs) [] moved in let less : ⊥ = omega (arith, long) in less)
 
+-- lists whose whole is empty are empty
 pub none-joined : {X : Type 0} (xs ys : List X) → xs ++ ys ≡ [] → (xs ≡ []) × (ys ≡ [])
 none-joined [] ys is = (refl, is)
 none-joined (x ∷ xs) ys is = cc
 
+-- if all items make nothing, each does
 pub each-none : {X Y : Type 0} (f : X → List Y) (xs : List X) → flat_map f xs ≡ [] →
     AllByRecursion (λ x. f x ≡ []) xs
 each-none f [] is = tt
@@ -53,11 +55,13 @@ pub record AreNone (r : Record) (blocks : List (List ℕ)) : Type 0 where
       r.log)
   pub others : not_ordered_after (asked_of_log r.log) [] (sent_in blocks) ≡ []
 
+-- a tape without a difference has none of any kind
 pub are-none : (r : Record) (blocks : List (List ℕ)) → AreDifferences r blocks [] → AreNone r blocks
 are-none r blocks are =
     let of_message : AskedMessage → List Difference =
     λ a. message_differences r.slots a (judged_in a (sent_in blocks)) in
-    let both = none-joined (flat_map of_message (asked_of_log r.log)) (not_ordered_after (asked_of_log r.log) [] (sent_in
+    let both = none-joined (flat_map of_message (asked_of_log r.log))
+    (not_ordered_after (asked_of_log r.log) [] (sent_in
     blocks))
     (none-before (all_differences r.slots (asked_of_log r.log) (sent_in blocks)) are.all) in
     record {
@@ -132,6 +136,7 @@ read-from place (block ∷ rest) =
     ∙ ap (λ ps. filter is_readable (page_in_front (block ∷ rest)) ++ ps) (read-from (place + 1) rest)
     ∙ sym (filter-append is_readable (page_in_front (block ∷ rest)) (pages_read rest))
 
+-- the pages that were sent are those that a handset reads
 pub sent-are-read : (blocks : List (List ℕ)) → map (λ (s : SentPage). s.page) (sent_in blocks) ≡ readable_pages blocks
 sent-are-read blocks = read-from 0 blocks
 
@@ -200,6 +205,7 @@ accepted-alike log name (a ∷ xs) (b ∷ bs) all =
     || list_any (λ (x : AskedMessage). (name.id == x.id) && (name.serial == x.serial)) xs) all.0.serial_is
     ∙ ap (λ rest. ((name.id == b.id) && (name.serial == b.serial)) || rest) (accepted-alike log name xs bs all.1)
 
+-- where nothing differs nothing but what was asked is shown
 pub no-others : ShownAreTheComplete → NoOthersAreShown
 no-others complete r blocks are = λ k d within.
     let shown = complete blocks in

@@ -13,6 +13,7 @@ use Rattle.handset.specs.Reception.{page_in_front, page_octets, page_types, bloc
 use Rattle.verification.specs.declared.sent.SentPage.{SentPage}
 use Rattle.verification.specs.Sent.{sent_at, sent_from}
 
+-- the numbers of a page have at most 16 bits
 abbrev pub IsNumbered : PageView → Type 0
 IsNumbered page = (1 ≤ page.number) × (page.number ≤ 15)
 
@@ -97,6 +98,7 @@ sent-numbered place (page ∷ pages) all =
     here true rest = (all.0, rest)
     here false rest = rest
 
+-- so have those of each page that is sent in octets
 pub all-numbered : (place : ℕ) (blocks : List (List ℕ)) → AllByRecursion (AllByRecursion (λ octet. octet < 256))
     blocks →
     AllByRecursion (λ (s : SentPage). IsNumbered s.page) (sent_from place blocks)
@@ -107,6 +109,7 @@ all-numbered place (block ∷ rest) all =
     (sent-numbered place (page_in_front (block ∷ rest)) (in-front (block ∷ rest) all))
     (all-numbered (place + 1) rest all.1)
 
+-- blocks of octets are so block by block
 pub octets-by-recursion : (blocks : List (List ℕ)) → All (All (λ octet. octet < 256)) blocks →
     AllByRecursion (AllByRecursion (λ octet. octet < 256)) blocks
 octets-by-recursion blocks all = each blocks (recursion_from_All (All (λ octet. octet < 256)) blocks all)

@@ -69,7 +69,8 @@ alike : (a b : Difference) → is_lt (key_order (sort_key a) (sort_key b)) ≡ f
     is_lt (key_order (sort_key b) (sort_key a)) ≡ false → a ≡ b
 alike a b below above =
     let all : key_order (sort_key a) (sort_key b) ≡ Equal =
-    neither (key_order (sort_key a) (sort_key b)) (key_order (sort_key b) (sort_key a)) (total.antisymm (sort_key a) (sort_key b))
+    neither (key_order (sort_key a) (sort_key b)) (key_order (sort_key b) (sort_key a))
+    (total.antisymm (sort_key a) (sort_key b))
     below above in
     let four = both _ _ all in
     let three = both _ _ four.0 in
@@ -85,6 +86,7 @@ alike a b below above =
     (numbers (kind_number a.kind) (kind_number b.kind) four.1)
     ∙ made_again b
 
+-- the differences of a cell's tape are one list
 pub one-list-of-differences : CellsDifferInOneList
 one-list-of-differences r blocks found other are also =
     one-list (λ (a b : Difference). is_lt (key_order (sort_key a) (sort_key b))) (ranks_by total sort_key) alike

@@ -36,6 +36,7 @@ cells-one one tapes (r ∷ records) rows other (own, later, is, by, rest) (own2,
     ∙ ap (λ back. own2 ++ back) (cells-one one tapes records later later2 rest rest2)
     ∙ sym is2
 
+-- the rows of all tapes are one list
 pub one-list-of-rows : CellsDifferInOneList → TapesHaveOneListOfRows
 one-list-of-rows one records tapes rows other are also =
     are.all

@@ -139,7 +139,7 @@ sent-page once r legal ended sound a b there same front j number owed first few 
     (λ (page : JudgedPage). is_in_time a j page && ((page.number == number) && page.right)) (judged a) (sent_by_air r)
     ∙ some_own r.log test 0 r.air found.0 h.page found.3 (ap (page_aired r.log) used.1 ∙ h.aired) passes
 
-pub owed-whole : (once : LegalPagesAreAiredOnce) (r : Record) → IsLegal r → r.clock ≡ r.slots → AreSound r.log →
+owed-whole : (once : LegalPagesAreAiredOnce) (r : Record) → IsLegal r → r.clock ≡ r.slots → AreSound r.log →
     (a : AskedMessage) (b : Accepted) → Contains (accepted_in r.log) b → IsComing r.log [] a b → a.background ≡ false →
     (j : ℕ) → is_owed r.slots a j ≡ true → is_whole a (judged_in a (sent_by_air r)) j ≡ true
 owed-whole once r legal ended sound a b there same front j owed =
@@ -152,6 +152,7 @@ none-if : (owed whole : Bool) (d : Difference) → (owed ≡ true → whole ≡ 
 none-if true whole d says = ap (λ (x : Bool). if not x then d ∷ [] else []) (says refl)
 none-if false whole d says = refl
 
+-- no owed broadcast of a legal record is missing in its own tape
 pub broadcasts-keep : (once : LegalPagesAreAiredOnce) (r : Record) → IsLegal r → r.clock ≡ r.slots → AreSound r.log →
     (a : AskedMessage) (b : Accepted) → Contains (accepted_in r.log) b → IsComing r.log [] a b →
     broadcast_differences r.slots a (judged_in a (sent_by_air r)) ≡ []

@@ -456,6 +456,7 @@ each-weaker : {X : Type 0} (P Q : X → Type 0) (xs : List X) → ((x : X) → P
 each-weaker P Q [] weaker all = tt
 each-weaker P Q (x ∷ xs) weaker all = (weaker x all.0, each-weaker P Q xs weaker all.1)
 
+-- where nothing differs each message that is owed a broadcast is shown
 pub owed-shown : Laws → OwedAreShown
 owed-shown laws r blocks legal octets are =
     let none = are-none r blocks are in

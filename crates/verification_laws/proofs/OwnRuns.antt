@@ -227,6 +227,7 @@ others : (records : List Record) (tapes : List TapeRecording) → AreOwnTapes re
 others records tapes own =
     other-none records [] tapes (known-tapes records tapes own) (distinct-tapes records tapes own) (all-new tapes)
 
+-- the tapes of a run have no rows beside its book
 pub runs-kept : OwnTapesKeepTheirCells → OwnTapesHaveNoRows
 runs-kept cells records tapes own = record {
   cells = [];
@@ -234,6 +235,7 @@ runs-kept cells records tapes own = record {
   all = sym (others records tapes own);
 }
 
+-- so verify finds none
 pub no-rows-found : NothingIsFound → NoRowsAreFound
 no-rows-found nothing records tapes rows own are =
     are.all ∙ ap (λ (xs : List Row). xs ++ other_rows records [] tapes)

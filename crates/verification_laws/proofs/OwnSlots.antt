@@ -25,5 +25,6 @@ own-slots laws r legal over =
     subst (AreSlots r.slots) (flat_map-map blocks_of_slot (page_aired r.log) r.air)
     (subst (λ n. AreSlots n (flat_map blocks_of_slot (map (page_aired r.log) r.air))) many slots)
 
+-- the blocks of a record are the recording of its tape
 pub recorded : Laws → MadeAreRecordings → RecordsAreRecorded
 recorded laws made r legal over few = made r.cell r.slots (blocks_of r) few (own-slots laws r legal over)

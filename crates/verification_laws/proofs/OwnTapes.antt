@@ -88,6 +88,7 @@ none-strange r before (s ∷ sent) all =
     ++ not_ordered_after (asked_of_log r.log) (before ++ s ∷ []) sent) (page-asked r s all.0)
     ∙ none-strange r (before ++ s ∷ []) sent all.1
 
+-- a cell's own tape differs nowhere from what it was asked
 pub own-tapes : Laws → LegalPagesAreAiredOnce → OwnTapesDifferNowhere
 own-tapes laws once r legal ended =
     let sound : AreSound r.log = sound_of laws r legal in
@@ -105,6 +106,7 @@ none-there [] moved = refl
 none-there (d ∷ found) moved =
     absurd (let long = length_permutation [] (d ∷ found) moved in let less : ⊥ = omega (arith, long) in less)
 
+-- so nothing is found in it
 pub nothing-found : Laws → LegalPagesAreAiredOnce → NothingIsFound
 nothing-found laws once r found legal ended are =
     none-there found (subst (λ ds. IsPermutation ds found) (own-tapes laws once r legal ended) are.all)

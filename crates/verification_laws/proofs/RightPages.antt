@@ -87,6 +87,7 @@ right-from a k page from =
     (ap (λ at. reads_as page (slice_get a.contents at)) place ∙ ap (reads_as page) from.there
     ∙ reads page from.content from.octets_are))
 
+-- a page of the message itself is right
 pub right-page : (a : AskedMessage) (page : PageView) →
     Contains (pages_from a.id a.serial a.dcs (length a.contents) 1 a.contents) page → is_right a page ≡ true
 right-page a page there =
@@ -134,6 +135,7 @@ going-at a j slot requested early =
       | inr less ↦ going-with j a.broadcasts a.start a.period slot less early
     ]
 
+-- a page that a pending broadcast airs comes in time
 pub kept-in-time : (log : List Entry) (air : Air) (a : AskedMessage) (b : Accepted) (j slot number : ℕ) →
     IsComing log [] a b → IsPending b.message j air slot →
     IsKept a (record { slot = slot; number = number; right = true })
@@ -172,6 +174,7 @@ none-first a pages kind all =
     ap (λ (found : Option JudgedPage). map (difference_of a kind)
     (option_to_list (option_map (λ (page : JudgedPage). page.slot) found))) (none-found a kind pages all)
 
+-- what each item makes nothing of, all make nothing of
 pub flat_map-none : {X Y : Type 0} (f : X → List Y) (xs : List X) → ((x : X) → f x ≡ []) → flat_map f xs ≡ []
 flat_map-none f [] none = refl
 flat_map-none f (x ∷ xs) none =
@@ -181,6 +184,7 @@ four-none : {Y : Type 0} (a b c d : List Y) → a ≡ [] → b ≡ [] → c ≡ 
 four-none a b c d one two three four =
     ap (λ xs. ((xs ++ b) ++ c) ++ d) one ∙ ap (λ xs. (xs ++ c) ++ d) two ∙ ap (λ xs. xs ++ d) three ∙ four
 
+-- pages that are right and in time have no difference
 pub pages-keep : (a : AskedMessage) (pages : List JudgedPage) → AllByRecursion (IsKept a) pages →
     page_differences a pages ≡ []
 pages-keep a pages all =

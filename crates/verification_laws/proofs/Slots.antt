@@ -22,6 +22,7 @@ use Rattle.verification.specs.Sent.{sent_at, sent_from}
 abbrev pub in_slot : ℕ → PageView → SentPage
 in_slot n page = record { slot = n; page = page }
 
+-- the pages of slots, each with the number of its slot
 abbrev pub in_slots : ℕ → List (Option PageView) → List SentPage
 in_slots n [] = []
 in_slots n (slot ∷ slots) = map (in_slot n) (option_to_list slot) ++ in_slots (n + 1) slots
@@ -36,6 +37,7 @@ next_slot n = omega arith
 own_slot : (n : ℕ) → 4 * n / 4 ≡ n
 own_slot n = omega arith
 
+-- the pages that are read of the blocks of slots, each at its slot
 pub sent_of_slots : (n : ℕ) (slots : List (Option PageView)) → AllByRecursion CanSend slots →
     sent_from (4 * n) (flat_map blocks_of_slot slots) ≡ in_slots n slots
 sent_of_slots n [] all = refl
@@ -58,6 +60,7 @@ pub record IsOwn (log : List Entry) (air : Air) (s : SentPage) : Type 0 where
   pub how : IsAiredAs log used
   pub page_is : how.page ≡ s.page
 
+-- uses are those of the air from a slot on
 abbrev pub StandAt : Air → ℕ → Air → Type 0
 StandAt air n uses =
     (i : ℕ) → i < length uses → (n + i < length air) × (get_or air (n + i) None ≡ get_or uses i None)
@@ -69,6 +72,7 @@ stand-next air n used uses at = λ i within.
     let here = at (suc i) (omega arith) in
     (omega (arith, here.0), ap (λ k. get_or air k None) e ∙ here.1)
 
+-- each slot of a record airs a page of its own messages
 pub all_own : (log : List Entry) (air : Air) (n : ℕ) (uses : Air) → StandAt air n uses →
     AllByRecursion (IsAired log) uses → AllByRecursion (IsOwn log air) (in_slots n (map (page_aired log) uses))
 all_own log air n [] at all = tt
@@ -94,6 +98,7 @@ or-true : (a b : Bool) → b ≡ true → (a || b) ≡ true
 or-true true b is = refl
 or-true false b is = is
 
+-- a page that a slot airs is among those of the slots
 pub some_own : (log : List Entry) (test : SentPage → Bool) (n : ℕ) (uses : Air) (k : ℕ) (page : PageView) →
     k < length uses → page_aired log (get_or uses k None) ≡ Some page → test (in_slot (n + k) page) ≡ true →
     list_any test (in_slots n (map (page_aired log) uses)) ≡ true

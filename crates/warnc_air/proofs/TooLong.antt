@@ -34,6 +34,7 @@ cut_long octets cut =
     omega (arith, few, inside))
     (cases_lt (length octets) 8)
 
+-- an input of more octets than 64 of the longest tapes have is too long
 pub too_long : (input : List ℕ) → 385870592 < length input → IsLong input
 too_long input many =
     ⊎_elim (λ (are : (readings : List TapeReading) × AreTapes input readings).

@@ -13,6 +13,7 @@ use Rattle.gsmtap.specs.declared.tape.Wanted.{Wanted}
 use Rattle.warnc_air.specs.TapeOutput.{IsTapeCommandFault, fault_of_kind, max_capture}
 use Rattle.warnc_air.specs.declared.tape.TapeCommandFault.TheVariants as fault
 
+-- what was read is the whole input, if it is shorter than the bound
 pub whole_input : (n : ℕ) (input read : List ℕ) → read ≡ take (n + 1) input → length read ≤ n → read ≡ input
 whole_input n input read is short =
     let some : length read ≡ min (n + 1) (length input) = ap length is ∙ length-take (n + 1) input in
@@ -52,7 +53,8 @@ pub fault_of_read : (left : Option (List ℕ)) (wanted : Wanted) (read : List �
     IfSome left (λ input. IsTapeCommandFault wanted input old new (fault_of_kind why why.kind))
 fault_of_read None wanted read old new why is short told kept = tt
 fault_of_read (Some input) wanted read old new why is short told kept =
-    fault_of_whole wanted input read old new why.packet why.kind (whole_input max_capture input read is short) short told
+    fault_of_whole wanted input read old new why.packet why.kind (whole_input max_capture input read is short) short
+    told
     kept
 
 -- one octet past the bound was read
@@ -61,7 +63,8 @@ pub too_long : (left : Option (List ℕ)) (wanted : Wanted) (read : List ℕ) (o
     IfSome left (λ input. IsTapeCommandFault wanted input old new fault.TooLong)
 too_long None wanted read old new is many kept = tt
 too_long (Some input) wanted read old new is many kept =
-    let some : length read ≡ min (max_capture + 1) (length input) = ap length is ∙ length-take (max_capture + 1) input in
+    let some : length read ≡ min (max_capture + 1) (length input) = ap length is
+    ∙ length-take (max_capture + 1) input in
     (omega arith, kept)
 
 -- the output is out

@@ -31,6 +31,7 @@ pages_in_front : (page : List ℕ) (rest : List (List ℕ)) →
     pages_read (blocks_of_page page ++ rest) ≡ view_of (page_octets (blocks_of_page page)) ∷ pages_read rest
 pages_in_front page rest = refl
 
+-- a handset reads of the blocks of pages these pages
 pub pages_in_blocks : (pages : List (List ℕ)) → AllByRecursion (λ page. length page ≡ 88) pages →
     pages_read (flat_map blocks_of_page pages) ≡ map view_of pages
 pages_in_blocks [] whole = refl
@@ -44,6 +45,7 @@ abbrev pub view : (id serial dcs total number : ℕ) → List ℕ → PageView
 view id serial dcs total number content =
     record { serial = serial; id = id; dcs = record { 0 = dcs }; number = number; total = total; content = content }
 
+-- the pages of a message from the page of this number on
 abbrev pub views_from : (id serial dcs total number : ℕ) → List Content → List PageView
 views_from id serial dcs total number [] = []
 views_from id serial dcs total number (content ∷ rest) =
@@ -63,6 +65,7 @@ view_back : (id serial dcs total number : ℕ) (content : List ℕ) → 1 ≤ nu
 view_back id serial dcs total number content first some few =
     rw (two_octets serial, two_octets id, place_back number total first some few) refl
 
+-- the octets of pages are read as these pages
 pub views_back : (id serial dcs total number : ℕ) (contents : List Content) → 1 ≤ number → 1 ≤ total → total ≤ 15 →
     map view_of (page_octets_from id serial dcs total number contents) ≡ views_from id serial dcs total number contents
 views_back id serial dcs total number [] first some few = refl
@@ -72,6 +75,7 @@ views_back id serial dcs total number (content ∷ rest) first some few =
     ∙ ap (λ vs. view id serial dcs total number content.octets ∷ vs)
     (views_back id serial dcs total (number + 1) rest (omega arith) some few)
 
+-- each page of 82 octets of content has 88
 pub pages_are_whole : (id serial dcs total number : ℕ) (contents : List Content)
     → AllByRecursion (λ content. length content.octets ≡ 82) contents →
     AllByRecursion (λ page. length page ≡ 88) (page_octets_from id serial dcs total number contents)

@@ -15,6 +15,7 @@ ended front last = omega (arith, length_push front last)
 some_message : (message : ShownMessage) → 0 < length (flat_map shown_line (message ∷ []))
 some_message message = subst (λ (xs : List ℕ). 0 < length xs) (sym (append-nil (shown_line message))) (ended _ 10)
 
+-- the output of a text is never empty
 pub some_output : (language : List ℕ) (id serial : ℕ) (input output : List ℕ)
     → IsPageOutput language id serial input output → 0 < length output
 some_output language id serial input output is =

@@ -7,11 +7,13 @@ use Rattle.warnc_inspect.specs.PageOutput.{max_page_input, IsPageFault, IsStream
 use Rattle.warnc_inspect.specs.declared.page.PageFault.{PageFault}
 use Rattle.warnc_inspect.specs.declared.page.PageFault.TheVariants as fault
 
+-- what was read is the whole input, if it is shorter than the bound
 pub whole_input : (n : ℕ) (input read : List ℕ) → read ≡ take (n + 1) input → length read ≤ n → read ≡ input
 whole_input n input read is short =
     let some : length read ≡ min (n + 1) (length input) = ap length is ∙ length-take (n + 1) input in
     is ∙ take_all (n + 1) input (omega arith)
 
+-- a fault of what was read is one of the input
 pub fault_of_whole : (language input read : List ℕ) (id serial : ℕ) (old new : Option (List ℕ)) (fault : PageFault)
     → read ≡ take (max_page_input + 1) input →
     IsPageFault language read fault → Keeps old new → IsStreamFault language id serial input old new fault

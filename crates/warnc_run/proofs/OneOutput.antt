@@ -26,7 +26,8 @@ pub reported_is_one : RunsAreOne → ReportedIsOne
 reported_is_one runs slots input output other one two =
     let same = runs input one.book two.book slots one.exchanges two.exchanges one.records two.records one.is_book
     two.is_book one.run two.run in
-    one.written ∙ ap (λ (records : List Record). report_text (report_rows records (map reading_of_record records))) same.1
+    one.written ∙ ap (λ (records : List Record). report_text (report_rows records (map reading_of_record records)))
+    same.1
     ∙ sym two.written
 
 -- a book has one chart

@@ -81,7 +81,7 @@ pub record TakesFrontOf (size written : ℕ) (old new : Option (List ℕ)) (outp
   pub some_left : 0 < length output → size * whole + written < length output
   pub front : Appends old new (take (size * whole + written) output)
 
-pub front_taken : (size : ℕ) (tapes : List (List ℕ)) (written : ℕ) (old new : Option (List ℕ))
+front_taken : (size : ℕ) (tapes : List (List ℕ)) (written : ℕ) (old new : Option (List ℕ))
     → 0 < size
     → All (λ tape. length tape ≡ size) tapes
     → TakesFront tapes written old new

@@ -10,7 +10,8 @@ ghost use Rattle.handset.specs.declared.tape.TapeFault.TheVariants as tape;
 ghost use Rattle.warnc_run.specs.declared.fault.RunFault.TheVariants as run;
 ghost use Rattle.verification.specs.RowText.{rows_text};
 ghost use Rattle.warnc_verify.specs.VerifySteps.{IsRowsFault, IsTableFault};
-ghost use Rattle.warnc_verify.specs.Verified.{readers_of, Finds, FindsAndWrites, IsDifference, IsOfBookOrRun, IsVerifyFault};
+ghost use Rattle.warnc_verify.specs.Verified.{readers_of, Finds, FindsAndWrites, IsDifference, IsOfBookOrRun};
+ghost use Rattle.warnc_verify.specs.Verified.{IsVerifyFault};
 ghost use Rattle.warnc_verify.specs.Verified.{HasWritten};
 ghost use Rattle.warnc_verify.specs.declared.fault.VerifyFault.TheVariants as faults;
 

@@ -15,10 +15,12 @@ use Rattle.admission.specs.declared.budget.Held.{Held}
 use Rattle.admission.specs.declared.budget.Waits.{Waits}
 use Rattle.admission.specs.Reservation.{IsBeforeEnd, is_before_end, natural_end, end_of_reservation, end_of_stopped}
 use Rattle.admission.specs.Waiting.{held_now, share_now, waits_at, started_at}
-use Rattle.admission.specs.Table.{room_answer as answer_by, room_answer_for, remaining_without, ends_if, ends_at, passed}
+use Rattle.admission.specs.Table.{room_answer as answer_by, room_answer_for, remaining_without, ends_if, ends_at}
+use Rattle.admission.specs.Table.{passed}
 use Rattle.scheduler.specs.Message.{stopped_if}
 use Rattle.bsc_table.specs.Record.{is_live}
-use Rattle.bsc_table.specs.Claim.{Claim, end_of, own_load, is_claimed_at, claim_share_at, claim_at, claimed_at, IsWaiting}
+use Rattle.bsc_table.specs.Claim.{Claim, end_of, own_load, is_claimed_at, claim_share_at, claim_at, claimed_at}
+use Rattle.bsc_table.specs.Claim.{IsWaiting}
 use Rattle.bsc_table.specs.Claim.{stop_claim, stop_claims}
 use Rattle.bsc_table.specs.Room.{AreInOrder}
 use Rattle.bsc_table.specs.Book.{waits_of, reservation_for, reservations_at}
@@ -43,7 +45,7 @@ waits_of-started slot c started =
     { behind = behind; start = c.message.start; excess = c.excess }) c.behind) None)
     (le-ltb slot c.message.start started)
 
-pub waits_of-waiting : (slot : ℕ) (c : Claim) (entry : ℕ)
+waits_of-waiting : (slot : ℕ) (c : Claim) (entry : ℕ)
     → slot < c.message.start
     → c.behind ≡ Some entry
     → waits_of slot c ≡ Some (record { behind = entry; start = c.message.start; excess = c.excess })

@@ -163,6 +163,7 @@ pub place_in_front : (claims : List Claim) (slot load : ℕ) (old : Accepted)
 place_in_front claims slot load old front =
     ap (λ (b : Bool). cond b (handover claims slot (claim_of old) load) None) (eq-eqb (layer old.message) 0 front)
 
+-- a background message is replaced at once: nothing waits behind it
 pub no_place : (claims : List Claim) (slot load : ℕ) (old : Accepted)
     → (layer old.message ≡ 0 → ⊥)
     → place_after claims slot old load ≡ None

@@ -153,5 +153,6 @@ room_after_stop r load a legal live =
     let later = end_of_stopped-not_before a.message.start a.message.period slot lasts in
     let asked = room_without slot entry end load reservations later (reservations_are_current slot (claims_in r.log))
     ∙ ap (λ (l : List Held). room_answer_for l load) (reservations_without r a legal live) in
-    room_beside slot load left (room_answer_for (remaining_without (cond (end == slot) (Some entry) None) reservations) load)
+    room_beside slot load left (room_answer_for (remaining_without (cond (end == slot) (Some entry) None) reservations)
+    load)
     (asked ∙ same_room slot load left (all_behind_one slot left (left_in_order r a legal live)))

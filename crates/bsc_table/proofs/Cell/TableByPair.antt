@@ -444,6 +444,7 @@ numbers_stopped entry slot [] = refl
 numbers_stopped entry slot (m ∷ messages) =
     ap (λ (l : List ℕ). m.entry ∷ l) (numbers_stopped entry slot messages)
 
+-- a stop keeps the messages by their pairs
 pub by_pair_stopped : (entry slot : ℕ) (messages : List AcceptedMessage) (pairs : List Pair)
     → AreByPair messages pairs → AreByPair (map (accepted_stopped entry slot) messages) pairs
 by_pair_stopped entry slot messages pairs by_pair = record {
@@ -452,6 +453,7 @@ by_pair_stopped entry slot messages pairs by_pair = record {
   whole = λ k h. by_pair.whole k (omega (arith, h, length-map messages (accepted_stopped entry slot)));
 }
 
+-- a stop keeps their order
 pub rising_stopped : (entry slot : ℕ) (messages : List AcceptedMessage)
     → AreRisingMessages messages → AreRisingMessages (map (accepted_stopped entry slot) messages)
 rising_stopped entry slot messages rising = λ i j d less within.

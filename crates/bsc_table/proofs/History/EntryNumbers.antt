@@ -49,7 +49,8 @@ numbered_with all before place slot (Some start) (commands.Status id serial) num
     numbered
 numbered_with all before place slot (Some start) (commands.Write id serial replaces category period broadcasts dcs
     contents) numbered =
-    let new : Accepted = written_behind all place slot start (predecessor_of slot start (replaced_in all id replaces)) id
+    let new : Accepted = written_behind all place slot start (predecessor_of slot start (replaced_in all id replaces))
+    id
     serial (length contents) period broadcasts (rank_of category) in
     record {
       rising = all_pairs_push BelowIt before new numbered.rising (λ k d h. numbered.below k d h);

@@ -293,6 +293,7 @@ empty_order slot = record {
   alone = λ i j d b w. absurd (omega arith);
 }
 
+-- the front of a legal log is sound at the slot of its last entry
 pub sound_at : (r : Record)
     → IsLegal r
     → (k slot : ℕ)

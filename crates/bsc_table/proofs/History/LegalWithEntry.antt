@@ -75,6 +75,7 @@ air_with (Some a) replaced entry slot all air begun before airs =
     (IsAirOf-add (map (λ (x : Accepted). x.message) all) a.message air
     (omega (arith, before, starts_forward slot replaced all a begun.starts)) airs)
 
+-- an entry at the clock changes nothing of what was aired
 pub IsAirOf-entry : (log : List Entry) (e : Entry) (air : Air) → Outcome log e → length air ≤ e.slot
     → IsAirOf (messages_in log) air → IsAirOf (messages_in (log ++ e ∷ [])) air
 IsAirOf-entry log e air outcome before airs =
@@ -86,7 +87,8 @@ IsAirOf-entry log e air outcome before airs =
 -- the answers of a log with one more
 answered_with : (r : Record) (command : Command) → IsLegal r →
     (let e = entry_with command r.clock (answer_of r.slots r.log r.air r.clock command) in (i : ℕ) (d : Entry)
-    → i < length (r.log ++ e ∷ []) → HasItsAnswer r.slots (take i (r.log ++ e ∷ [])) r.air (get_or (r.log ++ e ∷ []) i d))
+    → i < length (r.log ++ e ∷ []) → HasItsAnswer r.slots (take i (r.log ++ e ∷ [])) r.air
+    (get_or (r.log ++ e ∷ []) i d))
 answered_with r command legal i d within =
     let e : Entry = entry_with command r.clock (answer_of r.slots r.log r.air r.clock command) in
     let long = length_push r.log e in
@@ -106,7 +108,7 @@ answered_with r command legal i d within =
           subst (λ before. P before (get_or (r.log ++ e ∷ []) i d)) (sym front) (subst (P r.log) (sym one) right)
     ]
 
-pub outcome_now : (r : Record) (command : Command) → IsLegal r → IsWellFormed command
+outcome_now : (r : Record) (command : Command) → IsLegal r → IsWellFormed command
     → Outcome r.log (entry_with command r.clock (answer_of r.slots r.log r.air r.clock command))
 outcome_now r command legal formed =
     outcome_of r.slots r.log r.air r.clock command (IsSound-legal r legal).once (IsSound-legal r legal).order formed

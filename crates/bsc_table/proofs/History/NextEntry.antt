@@ -23,7 +23,8 @@ use Rattle.bsc_table.specs.declared.entry.Answer.{Answer}
 use Rattle.bsc_table.specs.declared.entry.Answer.TheVariants as answers
 use Rattle.bsc_table.specs.declared.entry.Entry.{Entry}
 use Rattle.bsc_table.specs.Orders.{IsBroadcastable, IsWellFormed}
-use Rattle.bsc_table.specs.Record.{Accepted, start_of, is_stop_by, is_stop_of, stopped_by, predecessor_of, excess_beyond}
+use Rattle.bsc_table.specs.Record.{Accepted, start_of, is_stop_by, is_stop_of, stopped_by, predecessor_of}
+use Rattle.bsc_table.specs.Record.{excess_beyond}
 use Rattle.bsc_table.specs.Record.{written_behind, added_by, accepted_in, rank_of, is_background_category, place_after}
 use Rattle.bsc_table.specs.Record.{is_of_pair, message_found, message_named, is_live, claim_of, claims_of, claims_in}
 use Rattle.bsc_table.specs.Claim.{Claim, own_load, reserves, is_claimed_at, claimed_at, stop_claims}
@@ -150,7 +151,7 @@ nothing_of_cause cause id serial (commands.Status of_id of_serial) = refl
 nothing : (log : List Entry) (e : Entry) → accepted_in (log ++ e ∷ []) ≡ accepted_in log → Outcome log e
 nothing log e same = record { stopped = None; started = None; after = same; live = tt; fresh = tt; begun = tt }
 
-pub refused_does_nothing : (log : List Entry) (slot cause : ℕ) (command : Command)
+refused_does_nothing : (log : List Entry) (slot cause : ℕ) (command : Command)
     → accepted_in (log ++ entry_with command slot (answers.Cause cause) ∷ []) ≡ accepted_in log
 refused_does_nothing log slot cause command =
     does_nothing log (entry_with command slot (answers.Cause cause))
@@ -161,7 +162,7 @@ refused : (log : List Entry) (slot : ℕ) (command : Command) (cause : ℕ)
 refused log slot command cause =
     nothing log (entry_with command slot (answers.Cause cause)) (refused_does_nothing log slot cause command)
 
-pub status_does_nothing : (log : List Entry) (slot id serial : ℕ) (answer : Answer)
+status_does_nothing : (log : List Entry) (slot id serial : ℕ) (answer : Answer)
     → accepted_in (log ++ entry_with (commands.Status id serial) slot answer ∷ []) ≡ accepted_in log
 status_does_nothing log slot id serial answer =
     does_nothing log (entry_with (commands.Status id serial) slot answer) (λ i s. refl) (adds_none (start_of answer))

@@ -22,9 +22,10 @@ BelowIt a b = a.message.entry < b.message.entry
 abbrev pub stopped_once : Bool → ℕ → Accepted → Accepted
 stopped_once says slot a = record a { message = record (a.message) { stop = stop_after a.message.stop says slot } }
 
-pub AllPairs-head : {X : Type 0} (R : X → X → Type 0) (x : X) (xs : List X) → AllPairs R (x ∷ xs) → All (R x) xs
+AllPairs-head : {X : Type 0} (R : X → X → Type 0) (x : X) (xs : List X) → AllPairs R (x ∷ xs) → All (R x) xs
 AllPairs-head R x xs pairs = λ k d h. pairs 0 (suc k) d (omega arith) (omega arith)
 
+-- what all pairs of a list are, those of its later items are
 pub AllPairs-tail : {X : Type 0} (R : X → X → Type 0) (x : X) (xs : List X) → AllPairs R (x ∷ xs) → AllPairs R xs
 AllPairs-tail R x xs pairs = λ i j d before within. pairs (suc i) (suc j) d (omega arith) (omega arith)
 

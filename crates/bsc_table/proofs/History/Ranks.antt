@@ -59,7 +59,7 @@ Contains-filter p (y ∷ xs) x (suc k, within, is) passes =
 abbrev pub all_claims : List Accepted → List Claim
 all_claims all = map claim_of all
 
-pub its_place : (all : List Accepted) (a : Accepted) → Contains all a → Contains (all_claims all) (claim_of a)
+its_place : (all : List Accepted) (a : Accepted) → Contains all a → Contains (all_claims all) (claim_of a)
 its_place all a here = (
   here.0,
   omega (arith, here.1, length-map all claim_of),
@@ -75,11 +75,11 @@ pub its_claim : (all : List Accepted) (a : Accepted)
 its_claim all a here front =
     Contains-filter reserves (all_claims all) (claim_of a) (its_place all a here) (eq-eqb (layer a.message) 0 front)
 
-pub its_place_of : (all : List Accepted) → All (Contains (all_claims all)) (claims_of all)
+its_place_of : (all : List Accepted) → All (Contains (all_claims all)) (claims_of all)
 its_place_of all = All-filter reserves (Contains (all_claims all)) (all_claims all)
     (All-contains_itself (all_claims all))
 
-pub claims_rise : (all : List Accepted)
+claims_rise : (all : List Accepted)
     → AllPairs BelowIt all
     → AllPairs (λ x y. x.message.entry < y.message.entry) (all_claims all)
 claims_rise all rising = λ i j d before within.

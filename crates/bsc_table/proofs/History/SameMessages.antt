@@ -18,7 +18,8 @@ use Rattle.bsc_table.specs.declared.entry.Entry.{Entry}
 use Rattle.bsc_table.specs.Claim.{Claim, reserves}
 use Rattle.bsc_table.specs.Handover.{ahead_of, numbered}
 use Rattle.bsc_table.specs.Record.{Accepted, claim_of, claims_of, start_of, rank_of, is_stop_by, is_stop_of, is_of_pair}
-use Rattle.bsc_table.specs.Record.{stopped_by, replaced_in, predecessor_of, excess_beyond, write_message, written_behind}
+use Rattle.bsc_table.specs.Record.{stopped_by, replaced_in, predecessor_of, excess_beyond, write_message}
+use Rattle.bsc_table.specs.Record.{written_behind}
 use Rattle.bsc_table.specs.Record.{added_by, accepted_after, accepted_from, accepted_in}
 use Rattle.bsc_table.specs.Refusals.{is_kill_answer, is_accepted, accepted_entries, accepted_renumbered}
 use Rattle.bsc_table.specs.Refusals.{AcceptedEntriesAreAll}
@@ -147,7 +148,8 @@ waits_alike f true ahead under same = refl
 waits_alike f false ahead under same = same
 
 behind_alike : (f : ℕ → ℕ) (slot start : ℕ) (found : Option Accepted)
-    → predecessor_of slot start (option_map (accepted_renumbered f) found) ≡ option_map f (predecessor_of slot start found)
+    → predecessor_of slot start (option_map (accepted_renumbered f) found) ≡ option_map f
+    (predecessor_of slot start found)
 behind_alike f slot start None = refl
 behind_alike f slot start (Some old) =
     waits_alike f (start == slot) (ahead_of slot (claim_of old)) (ahead_of slot (claim_of (accepted_renumbered f old)))
@@ -169,7 +171,8 @@ same_number f keeps a b =
 excess_alike : (f : ℕ → ℕ)
     → KeepsOrder f
     → (load : ℕ) (behind : Option ℕ) (front : List Accepted)
-    → excess_beyond load (numbered (option_map f behind) (claims_of (map (accepted_renumbered f) front))) ≡ excess_beyond
+    → excess_beyond load (numbered (option_map f behind) (claims_of (map (accepted_renumbered f) front))) ≡
+    excess_beyond
     load (numbered behind (claims_of front))
 excess_alike f keeps load None front = refl
 excess_alike f keeps load (Some entry) [] = refl

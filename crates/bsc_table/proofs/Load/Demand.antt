@@ -58,7 +58,7 @@ pub record IsInside (m : ScheduledMessage) (from to j : ℕ) : Type 0 where
   pub released : from ≤ release m j
   pub due_by : due m j ≤ to
 
-pub is_inside-says : (m : ScheduledMessage) (from to j : ℕ) → is_inside m from to j ≡ true → IsInside m from to j
+is_inside-says : (m : ScheduledMessage) (from to j : ℕ) → is_inside m from to j ≡ true → IsInside m from to j
 is_inside-says m from to j h =
     let first = and_parts (has_broadcast m j) (is_before_stop (release m j) m.stop &&
     (leb from (release m j) && leb (due m j) to)) h in

@@ -45,7 +45,7 @@ reservations_cover_broadcasts m j slot has standing released before =
 abbrev pub load_at : ScheduledMessage → ℕ → ℕ
 load_at m slot = cond (is_reserved_at slot (reservation_of m)) (load_of m.pages m.period) 0
 
-pub load_at-reserved : (m : ScheduledMessage) (slot : ℕ) → IsReservedAt (reservation_of m) slot
+load_at-reserved : (m : ScheduledMessage) (slot : ℕ) → IsReservedAt (reservation_of m) slot
     → load_at m slot ≡ load_of m.pages m.period
 load_at-reserved m slot reserved =
     ap (λ (b : Bool). cond b (load_of m.pages m.period) 0) (is_reserved_at-from slot (reservation_of m) reserved)

@@ -52,7 +52,7 @@ ClaimsFit-add claims now c order accepted room fit = λ slot.
           omega (arith, sum_by_push (claim_at now) claims c, never, room)
     ]
 
-pub claim_at-started : (now : ℕ) (c : Claim) → c.message.start ≤ now → claim_at now c ≤ own_load c.message
+claim_at-started : (now : ℕ) (c : Claim) → c.message.start ≤ now → claim_at now c ≤ own_load c.message
 claim_at-started now c started =
     elim (cases_Bool (is_claimed_at now c)) [
       | inl reserved ↦ omega (

@@ -35,6 +35,7 @@ use Rattle.bsc_table.specs.Transitions.{opened, IsPlayedUpTo, Ask, Play, IsReach
 use Rattle.bsc_table.proofs.History.Promises.{legal_histories_are_served, legal_histories_are_bounded}
 use Rattle.bsc_table.proofs.History.ReportedCounts.{legal_answers_are_true}
 
+-- the contents of as many pages
 abbrev pub contents : ℕ → List Content
 contents zero = []
 contents (suc n) = record { used = 0; octets = replicate 82 0 } ∷ contents n
@@ -48,6 +49,7 @@ write serial replaces category pages period broadcasts = commands.Write 4370 ser
 abbrev pub kill : ℕ → Command
 kill serial = commands.Kill 4370 serial
 
+-- a command that asks how a message stands
 abbrev pub status : ℕ → Command
 status serial = commands.Status 4370 serial
 
@@ -376,7 +378,8 @@ half_is_bounded slot by =
     (bounds.0 refl, bounds.1)
 
 -- the history with a kill and refusals is legal too, so that C, which had to wait for room, is completed by slot 8
-whole_answered : (i : ℕ) (d : Entry) → i < length whole → HasItsAnswer 8 (take i whole) (aired whole 8) (get_or whole i d)
+whole_answered : (i : ℕ) (d : Entry) → i < length whole → HasItsAnswer 8 (take i whole) (aired whole 8)
+    (get_or whole i d)
 whole_answered zero d within = refl
 whole_answered (suc zero) d within = refl
 whole_answered (suc (suc zero)) d within = refl

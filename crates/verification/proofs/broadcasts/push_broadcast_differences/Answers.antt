@@ -41,7 +41,8 @@ one : (slots : ℕ) (a : AskedMessage) (pages : List JudgedPage) (j : ℕ) (whol
     is_whole a pages j ≡ whole →
     broadcast_difference slots a pages j ≡ cond whole [] (difference_of a (kinds.NotWhole j) (due_slot a j) ∷ [])
 one slots a pages j whole owed is =
-    ap (λ (x : Bool). if x && not (is_whole a pages j) then difference_of a (kinds.NotWhole j) (due_slot a j) ∷ [] else [])
+    ap (λ (x : Bool). if x && not (is_whole a pages j) then difference_of a (kinds.NotWhole j) (due_slot a j) ∷ [] else
+    [])
     owed
     ∙ by_test (is_whole a pages j) whole is
   where

@@ -12,7 +12,8 @@ use Rattle.verification.specs.Sent.{sent_in}
 use Rattle.verification.proofs.ByNameLaws.{flat_map-same}
 use Rattle.verification.proofs.cell.differences.Goals as goal
 
-messages : (c : goal.After-drop-messages-2) → map asked_kept c.in_ok-messages.messages.items ≡ asked_of_log c.args.run.now.log
+messages : (c : goal.After-drop-messages-2) → map asked_kept c.in_ok-messages.messages.items ≡ asked_of_log
+    c.args.run.now.log
 messages c = c.in_ok-messages.ensures ∙ ap asked_of_log c.log.ensures
 
 -- what was found is that of all messages, after the pages that weren't ordered, and is sorted

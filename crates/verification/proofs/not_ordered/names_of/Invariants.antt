@@ -8,5 +8,6 @@ use Rattle.verification.proofs.not_ordered.names_of.Given as goal
 
 abbrev pub invariant-loop-asked : goal.invariant-loop-asked
 invariant-loop-asked l =
-    (page : PageView) → (names_page l.names page || is_page_of_any (map asked_kept (drop l.asked-index l.messages)) page)
+    (page : PageView) → (names_page l.names page || is_page_of_any (map asked_kept (drop l.asked-index l.messages))
+    page)
     ≡ is_page_of_any (map asked_kept l.messages) page

@@ -4,7 +4,8 @@ use Rattle.admission.specs.declared.budget.Held.{Held}
 use Rattle.scheduler.specs.Message.{ScheduledMessage}
 use Rattle.scheduler.specs.Follows.{Follows, message_from}
 use Rattle.bsc_table.specs.declared.entry.Entry.{Entry}
-use Rattle.bsc_table.specs.Record.{Record, Accepted, accepted_in, messages_in, claim_of, claims_in, is_background_category}
+use Rattle.bsc_table.specs.Record.{Record, Accepted, accepted_in, messages_in, claim_of, claims_in}
+use Rattle.bsc_table.specs.Record.{is_background_category}
 use Rattle.bsc_table.specs.Record.{is_of_pair}
 use Rattle.bsc_table.specs.Claim.{Claim}
 use Rattle.bsc_table.specs.Accepted.{accepted_of}

@@ -8,7 +8,8 @@ use Rattle.admission.specs.Waiting.{behind_of}
 use Rattle.scheduler.specs.Message.{ScheduledMessage, stopped_at}
 use Rattle.scheduler.specs.Follows.{Follows, messages_of, message_from}
 use Rattle.bsc_table.specs.declared.entry.Entry.{Entry}
-use Rattle.bsc_table.specs.Record.{Record, Accepted, accepted_in, messages_in, claim_of, claims_in, is_background_category}
+use Rattle.bsc_table.specs.Record.{Record, Accepted, accepted_in, messages_in, claim_of, claims_in}
+use Rattle.bsc_table.specs.Record.{is_background_category}
 use Rattle.bsc_table.specs.Record.{is_of_pair}
 use Rattle.bsc_table.specs.Claim.{Claim, reserves, stop_claims}
 use Rattle.bsc_table.specs.Accepted.{accepted_of}

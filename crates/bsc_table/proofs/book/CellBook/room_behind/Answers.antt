@@ -28,7 +28,8 @@ fits_behind-requires c =
     let r : Record = record_of c.self.inside in
     let a : Accepted = accepted_of c.args.old.now in
     let live = subst (λ x. IsLiveIn x a) (sym c.self.view_is) c.requires.live in
-    let Over : Record → Type 0 = λ x. place_after (left_by x a) x.clock a c.args.load ≡ Some (place_found c.args.place) in
+    let Over : Record → Type 0 = λ x. place_after (left_by x a) x.clock a c.args.load ≡ Some (place_found c.args.place)
+    in
     let taken = taken_after (left_by r a) r.clock c.args.load a (place_found c.args.place)
     (subst Over (sym c.self.view_is) c.requires.place) in
     let over = taken.1 in
@@ -60,7 +61,8 @@ returns c =
     (excess_over place.behind c.args.load c.self.inside.budget)) c.leaving_at.ensures
     ∙ ap (λ (l : List Held). room_answer_for (remaining_without (cond (end == r.clock) (Some a.message.entry) None) l)
     (excess_over place.behind c.args.load l)) book.held
-    ∙ ap (λ (n : ℕ). room_answer_for (remaining_without (cond (end == r.clock) (Some a.message.entry) None) reservations) n)
+    ∙ ap (λ (n : ℕ). room_answer_for (remaining_without (cond (end == r.clock) (Some a.message.entry) None)
+    reservations) n)
     ahead.1 in
     let Room : Record → Type 0 = λ x. IsRoom (left_by x a) x.clock place.excess c.fits_behind.result in
     subst Room c.self.view_is (subst (IsRoom (left_by r a) r.clock place.excess) (sym asked)

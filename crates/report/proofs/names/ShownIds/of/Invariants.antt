@@ -6,4 +6,5 @@ use Rattle.report.proofs.names.ShownIds.of.Given as goal
 
 abbrev pub invariant-loop-message : goal.invariant-loop-message
 invariant-loop-message l =
-    (id serial : ℕ) → has_name l.pairs.keys id serial ≡ is_shown (messages_shown (take l.message-index l.shown)) id serial
+    (id serial : ℕ) → has_name l.pairs.keys id serial ≡ is_shown (messages_shown (take l.message-index l.shown)) id
+    serial

@@ -13,7 +13,8 @@ pub play-used-requires-clause-kept : goal.play-used-requires-clause-kept
 play-used-requires-clause-kept c =
     let at = c.requires.at_next ∙ ap next_slot (sym c.self.view_is) in
     let Slot : ℕ → Type 0 = λ n. AreKeptInOrder n c.self.inside.nodes.items in
-    subst (AreKeptInOrder c.args.slot) (sym c.as_mut_slice.ensures.value) (subst Slot (sym at) c.self.invariant.plan.kept)
+    subst (AreKeptInOrder c.args.slot) (sym c.as_mut_slice.ensures.value)
+    (subst Slot (sym at) c.self.invariant.plan.kept)
 
 pub play-used-requires-clause-rising : goal.play-used-requires-clause-rising
 play-used-requires-clause-rising c =

@@ -20,7 +20,8 @@ pub stop_at-requires-clause-kept : goal.stop_at-requires-clause-kept
 stop_at-requires-clause-kept c =
     let at = c.requires.at_next ∙ ap next_slot (sym c.self.view_is) in
     let Slot : ℕ → Type 0 = λ n. AreKeptInOrder n c.self.inside.nodes.items in
-    subst (AreKeptInOrder c.args.slot) (sym c.as_mut_slice.ensures.value) (subst Slot (sym at) c.self.invariant.plan.kept)
+    subst (AreKeptInOrder c.args.slot) (sym c.as_mut_slice.ensures.value)
+    (subst Slot (sym at) c.self.invariant.plan.kept)
 
 pub stop_at-requires-clause-rising : goal.stop_at-requires-clause-rising
 stop_at-requires-clause-rising c =
