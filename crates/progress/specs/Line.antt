@@ -17,7 +17,7 @@ abbrev pub has_ended : {E : Type 0} → Line E → Bool
 has_ended line = line.has_ended
 
 -- it is drawn after so many nanoseconds: the first second has passed, and the line hasn't ended
-pub record IsDue (nanoseconds : ℕ) {E : Type 0} (line : Line E) : Type 0 where
+pub record IsTimeToDraw (nanoseconds : ℕ) {E : Type 0} (line : Line E) : Type 0 where
   pub late : 1_000_000_000 ≤ nanoseconds
   pub stays : has_ended line ≡ false
 

@@ -49,7 +49,7 @@ impl<E> Line<E> {
 }
 
 impl<E: Write> Line<E> {
-    ghost use Rattle.progress.specs.Line.{drawing, has_ended, is_drawn, screen_of, wiping, IsDue, Shows};
+    ghost use Rattle.progress.specs.Line.{drawing, has_ended, is_drawn, screen_of, wiping, IsTimeToDraw, Shows};
 
     /// Draws the line, over the one that stands there. In the first second, and once the line has ended, nothing is
     /// done.
@@ -60,9 +60,9 @@ impl<E: Write> Line<E> {
     pub fn draw(&mut self, read: u64, written: u64, elapsed: Duration) -> io::Result<()>
         ensures early { as_nanos elapsed < 1_000_000_000 → self.new ≡ self.old }
         ensures ended { has_ended self.old ≡ true → self.new ≡ self.old }
-        ensures drawn { IsDue (as_nanos elapsed) self.old
+        ensures drawn { IsTimeToDraw (as_nanos elapsed) self.old
             → OnOk result (Shows E.contents self.old self.new (drawing read written (as_nanos elapsed))) }
-        ensures stands { IsDue (as_nanos elapsed) self.old → is_drawn self.new ≡ true }
+        ensures stands { IsTimeToDraw (as_nanos elapsed) self.old → is_drawn self.new ≡ true }
         ensures ends_not { has_ended self.new ≡ has_ended self.old }
     {
         if self.has_ended || elapsed.as_secs() == 0 {
