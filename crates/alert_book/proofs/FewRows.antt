@@ -18,10 +18,10 @@ use Rattle.alert_book.specs.declared.book.row.Verb.{Verb}
 use Rattle.alert_book.specs.declared.book.row.Verb.TheVariants as verbs
 use Rattle.alert_book.specs.Book.{after_row, rows_read, rows_with, with_row, Rows}
 use Rattle.alert_book.specs.Cells.{cell_with, cells_of_field, is_among}
-use Rattle.alert_book.specs.Fields.{alert_at, are_texts, column, if_right, known_name, new_name, number, sending_at}
+use Rattle.alert_book.specs.Fields.{alert_at, are_texts, column, if_right, known_name, new_name, number, sending_by}
 use Rattle.alert_book.specs.Laws.{CellsAreValid, RowsAreFew}
-use Rattle.alert_book.specs.Row.{cell_row, new_cell, row_of}
-use Rattle.alert_book.specs.Row.{row_after_verb, stop_row, update_row, verb_of, write_row}
+use Rattle.alert_book.specs.Row.{cell_row_within, new_cell, row_of, FieldCells}
+use Rattle.alert_book.specs.Row.{row_after_verb_by, stop_row_by, update_row_by, verb_of, write_row_by}
 use Rattle.alert_book.proofs.BookLaws.{row_fits}
 
 -- how many cells and orders rows declare and give
@@ -53,16 +53,27 @@ rows_keep P step row before result (fields ∷ more) here so =
     ] refl so
 
 -- rows are fewer than the number of the next, and at most as many as a book may have
-IsFew : ℕ → Rows → Type 0
+pub IsFew : ℕ → Rows → Type 0
 IsFew row rows = (size rows < row) × (size rows ≤ 4096)
 
-few_more : (row : ℕ) (before : Rows) (fields : List (List ℕ)) (meant : Row) → IsFew row before →
+-- one row more leaves as few as there can be
+pub few_more : (row : ℕ) (before : Rows) (fields : List (List ℕ)) (meant : Row) → IsFew row before →
     row_of row before.cells before.orders fields ≡ Ok meant → IsFew (row + 1) (with_row before meant)
 unfolding IsFew
 few_more row before fields meant few is =
     let more = size_more before meant in
     let fits = row_fits row before.cells before.orders fields meant is in
     (omega (arith, few.0, more), omega (arith, few.0, more, fits))
+
+-- before the first row there are none
+pub no_rows_few : IsFew 1 (rows_with [] [])
+unfolding IsFew
+no_rows_few = (omega arith, omega arith)
+
+-- there are fewer orders than the number of the next row
+pub few_orders_of : (row : ℕ) (before : Rows) → IsFew row before → length before.orders < row
+unfolding IsFew
+few_orders_of row before few = omega (arith, few.0)
 
 -- so those of a book are
 pub rows_are_few : RowsAreFew
@@ -83,108 +94,122 @@ right_never (Err kind) next never cell is = cc
 gives_never : (order : Order) → NeverDeclares (Ok (rows.Give order))
 gives_never order cell is = cc
 
-fault_never : (kind : RowFault) → NeverDeclares (Err kind)
+-- a fault declares no cell
+pub fault_never : (kind : RowFault) → NeverDeclares (Err kind)
 fault_never kind cell is = cc
 
-write_never : (row : ℕ) (declared : List Cell) (orders : List Order) (fields : List (List ℕ)) →
-    NeverDeclares (write_row row declared orders fields)
-write_never row declared orders fields =
+write_never : (row : ℕ) (cells_of : FieldCells) (orders : List Order) (fields : List (List ℕ)) →
+    NeverDeclares (write_row_by row cells_of orders fields)
+write_never row cells_of orders fields =
     right_never (number 0 65535 (column fields 1)) _ (λ at.
     right_never (new_name orders (column fields 2)) _ (λ name.
     right_never (alert_at fields 3) _ (λ alert.
-    right_never (sending_at declared fields 6) _ (λ sending. gives_never _))))
+    right_never (sending_by cells_of fields 6) _ (λ sending. gives_never _))))
 
-stop_never : (row : ℕ) (declared : List Cell) (orders : List Order) (fields : List (List ℕ)) →
-    NeverDeclares (stop_row row declared orders fields)
-stop_never row declared orders fields =
+stop_never : (row : ℕ) (cells_of : FieldCells) (orders : List Order) (fields : List (List ℕ)) →
+    NeverDeclares (stop_row_by row cells_of orders fields)
+stop_never row cells_of orders fields =
     right_never (number 0 65535 (column fields 1)) _ (λ at.
     right_never (known_name orders (column fields 2)) _ (λ first.
-    right_never (cells_of_field declared (column fields 3)) _ (λ cells. gives_never _)))
+    right_never (cells_of (column fields 3)) _ (λ cells. gives_never _)))
 
-either_never : (test : Bool) (a b : Result Row RowFault) → NeverDeclares a → NeverDeclares b →
+-- what declares no cell either way declares none
+pub either_never : (test : Bool) (a b : Result Row RowFault) → NeverDeclares a → NeverDeclares b →
     NeverDeclares (cond test a b)
 either_never true a b first second = first
 either_never false a b first second = second
 
-update_never : (row : ℕ) (declared : List Cell) (orders : List Order) (fields : List (List ℕ)) →
-    NeverDeclares (update_row row declared orders fields)
-update_never row declared orders fields =
+update_never : (row : ℕ) (cells_of : FieldCells) (orders : List Order) (fields : List (List ℕ)) →
+    NeverDeclares (update_row_by row cells_of orders fields)
+update_never row cells_of orders fields =
     right_never (number 0 65535 (column fields 1)) _ (λ at.
     right_never (known_name orders (column fields 2)) _ (λ first.
-    right_never (sending_at declared fields 3) _ (λ sending.
+    right_never (sending_by cells_of fields 3) _ (λ sending.
     either_never _ _ _ (fault_never fault.TooManyUpdates) (gives_never _))))
 
--- a cell that no earlier row declares, where those declare fewer than 64
-IsNew : List Cell → Cell → Type 0
-IsNew declared cell = (nat_le 64 (length declared) ≡ false) × (is_among declared cell ≡ false)
+-- a cell that no earlier row declares, where those declare fewer than may be
+pub IsNew : (most : ℕ) → List Cell → Cell → Type 0
+IsNew most declared cell = (nat_le most (length declared) ≡ false) × (is_among declared cell ≡ false)
+
+-- a new cell has room and isn't declared yet
+pub new_parts : (most : ℕ) (declared : List Cell) (cell : Cell) → IsNew most declared cell →
+    (nat_le most (length declared) ≡ false) × (is_among declared cell ≡ false)
+unfolding IsNew
+new_parts most declared cell new = new
 
 -- what declares such a cell alone
-abbrev DeclaresNew : List Cell → Result Row RowFault → Type 0
-DeclaresNew declared r = (cell : Cell) → r ≡ Ok (rows.Declare cell) → IsNew declared cell
+abbrev pub DeclaresNew : (most : ℕ) → List Cell → Result Row RowFault → Type 0
+DeclaresNew most declared r = (cell : Cell) → r ≡ Ok (rows.Declare cell) → IsNew most declared cell
 
-never_new : (declared : List Cell) (r : Result Row RowFault) → NeverDeclares r → DeclaresNew declared r
-never_new declared r never cell is = absurd (never cell is)
+-- what declares no cell declares none but new ones
+pub never_new : (most : ℕ) (declared : List Cell) (r : Result Row RowFault) → NeverDeclares r
+    → DeclaresNew most declared r
+never_new most declared r never cell is = absurd (never cell is)
 
 same_cell : (r : Result Row RowFault) (a b : Cell) → r ≡ Ok (rows.Declare a) → r ≡ Ok (rows.Declare b) → a ≡ b
 same_cell r a b one other = cc
 
-cell_is_new : (declared : List Cell) (few : nat_le 64 (length declared) ≡ false) (cell : Cell) →
-    DeclaresNew declared (new_cell declared cell)
+cell_is_new : (most : ℕ) (declared : List Cell) (few : nat_le most (length declared) ≡ false) (cell : Cell) →
+    DeclaresNew most declared (new_cell declared cell)
 unfolding IsNew
-cell_is_new declared few cell made is = elim (cases_Bool (is_among declared cell)) [
+cell_is_new most declared few cell made is = elim (cases_Bool (is_among declared cell)) [
   | inl among ↦ absurd (cc (rw among at is))
   | inr new ↦
       let same = same_cell (Ok (rows.Declare cell)) cell made refl (rw new at is) in
       (few, subst (λ (c : Cell). is_among declared c ≡ false) same new)
 ]
 
-right_new : {A : Type 0} (declared : List Cell) (r : Result A RowFault) (next : A → Result Row RowFault) →
-    ((value : A) → DeclaresNew declared (next value)) → DeclaresNew declared (if_right r next)
-right_new declared (Ok value) next new cell is = new value cell is
-right_new declared (Err kind) next new cell is = absurd (cc is)
+right_new : {A : Type 0} (most : ℕ) (declared : List Cell) (r : Result A RowFault) (next : A → Result Row RowFault) →
+    ((value : A) → DeclaresNew most declared (next value)) → DeclaresNew most declared (if_right r next)
+right_new most declared (Ok value) next new cell is = new value cell is
+right_new most declared (Err kind) next new cell is = absurd (cc is)
 
-either_new : (declared : List Cell) (test : Bool) (a b : Result Row RowFault) → DeclaresNew declared a →
-    DeclaresNew declared b → DeclaresNew declared (cond test a b)
-either_new declared true a b first second = first
-either_new declared false a b first second = second
+-- what declares a new cell alone either way declares none but new ones
+pub either_new : (most : ℕ) (declared : List Cell) (test : Bool) (a b : Result Row RowFault) →
+    DeclaresNew most declared a → DeclaresNew most declared b → DeclaresNew most declared (cond test a b)
+either_new most declared true a b first second = first
+either_new most declared false a b first second = second
 
-cell_row_new : (declared : List Cell) (fields : List (List ℕ)) → DeclaresNew declared (cell_row declared fields)
-cell_row_new declared fields = elim (cases_Bool (nat_le 64 (length declared))) [
-  | inl many ↦ rw many (never_new declared _ (fault_never fault.TooManyRows))
+cell_row_new : (most : ℕ) (declared : List Cell) (fields : List (List ℕ)) →
+    DeclaresNew most declared (cell_row_within most declared fields)
+cell_row_new most declared fields = elim (cases_Bool (nat_le most (length declared))) [
+  | inl many ↦ rw many (never_new most declared _ (fault_never fault.TooManyRows))
   | inr few ↦ rw few
-      (right_new declared (number 0 65535 (column fields 1)) _ (λ lac.
-      right_new declared (number 0 65535 (column fields 2)) _ (λ ci.
-      cell_is_new declared few (cell_with lac ci))))
+      (right_new most declared (number 0 65535 (column fields 1)) _ (λ lac.
+      right_new most declared (number 0 65535 (column fields 2)) _ (λ ci.
+      cell_is_new most declared few (cell_with lac ci))))
 ]
 
-verb_new : (verb : Option Verb) (row : ℕ) (declared : List Cell) (orders : List Order) (fields : List (List ℕ)) →
-    DeclaresNew declared (row_after_verb verb row declared orders fields)
-verb_new None row declared orders fields = never_new declared _ (fault_never fault.Verb)
-verb_new (Some verbs.Cell) row declared orders fields =
-    either_new declared (eqb (length fields) 3) _ _ (cell_row_new declared fields)
-    (never_new declared _ (fault_never fault.Columns))
-verb_new (Some verbs.Write) row declared orders fields =
-    either_new declared (eqb (length fields) 12) _ _
-    (never_new declared _ (write_never row declared orders fields))
-    (never_new declared _ (fault_never fault.Columns))
-verb_new (Some verbs.Update) row declared orders fields =
-    either_new declared (eqb (length fields) 9) _ _
-    (never_new declared _ (update_never row declared orders fields))
-    (never_new declared _ (fault_never fault.Columns))
-verb_new (Some verbs.Stop) row declared orders fields =
-    either_new declared (eqb (length fields) 4) _ _
-    (never_new declared _ (stop_never row declared orders fields))
-    (never_new declared _ (fault_never fault.Columns))
+-- a row declares none but a new cell
+pub verb_new : (most : ℕ) (verb : Option Verb) (row : ℕ) (declared : List Cell) (cells_of : FieldCells)
+    (orders : List Order) (fields : List (List ℕ)) → DeclaresNew most declared
+    (row_after_verb_by verb (cell_row_within most declared fields) row cells_of orders fields)
+verb_new most None row declared cells_of orders fields = never_new most declared _ (fault_never fault.Verb)
+verb_new most (Some verbs.Cell) row declared cells_of orders fields =
+    either_new most declared (eqb (length fields) 3) _ _ (cell_row_new most declared fields)
+    (never_new most declared _ (fault_never fault.Columns))
+verb_new most (Some verbs.Write) row declared cells_of orders fields =
+    either_new most declared (eqb (length fields) 12) _ _
+    (never_new most declared _ (write_never row cells_of orders fields))
+    (never_new most declared _ (fault_never fault.Columns))
+verb_new most (Some verbs.Update) row declared cells_of orders fields =
+    either_new most declared (eqb (length fields) 9) _ _
+    (never_new most declared _ (update_never row cells_of orders fields))
+    (never_new most declared _ (fault_never fault.Columns))
+verb_new most (Some verbs.Stop) row declared cells_of orders fields =
+    either_new most declared (eqb (length fields) 4) _ _
+    (never_new most declared _ (stop_never row cells_of orders fields))
+    (never_new most declared _ (fault_never fault.Columns))
 
 row_new : (row : ℕ) (declared : List Cell) (orders : List Order) (fields : List (List ℕ)) →
-    DeclaresNew declared (row_of row declared orders fields)
+    DeclaresNew 64 declared (row_of row declared orders fields)
 row_new row declared orders fields =
-    either_new declared (nat_lt 4096 row) _ _ (never_new declared _ (fault_never fault.TooManyRows))
-    (either_new declared (not (are_texts fields)) _ _ (never_new declared _ (fault_never fault.Columns))
-    (verb_new (verb_of (column fields 0)) row declared orders fields))
+    either_new 64 declared (nat_lt 4096 row) _ _ (never_new 64 declared _ (fault_never fault.TooManyRows))
+    (either_new 64 declared (not (are_texts fields)) _ _ (never_new 64 declared _ (fault_never fault.Columns))
+    (verb_new 64 (verb_of (column fields 0)) row declared (cells_of_field declared) orders fields))
 
 -- a new cell leaves the cells distinct and few
-distinct_push : (cells : List Cell) (cell : Cell) → are_distinct cells ≡ true → is_among cells cell ≡ false →
+pub distinct_push : (cells : List Cell) (cell : Cell) → are_distinct cells ≡ true → is_among cells cell ≡ false →
     are_distinct (cells ++ cell ∷ []) ≡ true
 distinct_push [] cell distinct new = refl
 distinct_push (first ∷ cells) cell distinct new =
@@ -198,7 +223,7 @@ distinct_push (first ∷ cells) cell distinct new =
     (not_from_false (list_any (is_cell first) (cells ++ cell ∷ [])) alone)
     (distinct_push cells cell parts.1 others.1)
 
-valid_push : (cells : List Cell) (cell : Cell) → cells_are_valid cells ≡ true → IsNew cells cell →
+valid_push : (cells : List Cell) (cell : Cell) → cells_are_valid cells ≡ true → IsNew 64 cells cell →
     cells_are_valid (cells ++ cell ∷ []) ≡ true
 unfolding IsNew
 valid_push cells cell valid new =

@@ -4,6 +4,8 @@ pub mod RowLaws
 pub mod NameLaws
 pub mod PageLaws
 pub mod BookLaws
+pub mod GroupLaws
+pub mod KeptLaws
 mod Worked
 pub mod OneAnswer
 mod VersionLaws
@@ -21,3 +23,4 @@ mod OneAlert
 mod LastAccepted
 mod TurnsReplace
 pub mod Writable
+pub mod NetworkLaws

@@ -6,8 +6,8 @@ use Rattle.csv.specs.Reading.{Reached}
 use Rattle.csv.specs.declared.parser.Config.{Config}
 use Rattle.csv.specs.declared.parser.State.{State}
 use Rattle.alert_book.specs.declared.fault.BookFault.{BookFault}
-use Rattle.alert_book.specs.Row.{row_of}
-use Rattle.alert_book.specs.Book.{AreRowsOf, IsRowFault, Rows, after_row, rows_of, rows_read, with_row}
+use Rattle.alert_book.specs.Book.{AreRowsBy, IsRowFaultBy, RowMeaning, Rows, after_row, rows_by, rows_read_by}
+use Rattle.alert_book.specs.Book.{with_row}
 
 -- one read from a state
 same_read : (o : Option Read) (p q : Read) → o ≡ Some p → o ≡ Some q → p ≡ q
@@ -51,22 +51,23 @@ reached_front cfg s xs (r ∷ rs) (q ∷ qs) s1 y1 s2 y2 h k none =
     (m.0, one_first q r qs (rs ++ m.0) head m.1)
 
 -- the fault of the first records stays with more of them
-pub fault_stays : (row : ℕ) (before : Rows) (front more : List (List (List ℕ))) (f : BookFault) →
-    rows_read row before front ≡ Err f → rows_read row before (front ++ more) ≡ Err f
-fault_stays row before [] more f h = absurd (cc h)
-fault_stays row before (x ∷ xs) more f h =
-    elim (row_of row before.cells before.orders x)
-    as (λ r. after_row row before r (λ next. rows_read (row + 1) next xs) ≡ Err f →
-    after_row row before r (λ next. rows_read (row + 1) next (xs ++ more)) ≡ Err f) [
-      | Ok meant ↦ λ e. fault_stays (row + 1) (with_row before meant) xs more f e
+pub fault_stays : (meaning : RowMeaning) (row : ℕ) (before : Rows) (front more : List (List (List ℕ))) (f : BookFault) →
+    rows_read_by meaning row before front ≡ Err f → rows_read_by meaning row before (front ++ more) ≡ Err f
+fault_stays meaning row before [] more f h = absurd (cc h)
+fault_stays meaning row before (x ∷ xs) more f h =
+    elim (meaning row before.cells before.orders x)
+    as (λ r. after_row row before r (λ next. rows_read_by meaning (row + 1) next xs) ≡ Err f →
+    after_row row before r (λ next. rows_read_by meaning (row + 1) next (xs ++ more)) ≡ Err f) [
+      | Ok meant ↦ λ e. fault_stays meaning (row + 1) (with_row before meant) xs more f e
       | Err kind ↦ λ e. e
     ] h
 
 -- octets that mean rows have no fault in a row
-pub right_or_wrong : (input : List ℕ) (rows : Rows) (f : BookFault) → AreRowsOf input rows → IsRowFault input f → ⊥
-right_or_wrong input rows f right wrong =
+pub right_or_wrong : (meaning : RowMeaning) (input : List ℕ) (rows : Rows) (f : BookFault) →
+    AreRowsBy meaning input rows → IsRowFaultBy meaning input f → ⊥
+right_or_wrong meaning input rows f right wrong =
     let m = reached_front _ _ _ wrong.records right.records _ _ _ _ wrong.read right.read.2 right.read.3 in
-    let bad = fault_stays 1 _ wrong.records m.0 f wrong.wrong in
+    let bad = fault_stays meaning 1 _ wrong.records m.0 f wrong.wrong in
     let good = rw m.1 at right.meant in
     cc
 
@@ -89,7 +90,8 @@ one_ok : (r : Result Rows BookFault) (a b : Rows) → r ≡ Ok a → r ≡ Ok b 
 one_ok r a b h k = cc
 
 -- octets mean one list of rows
-pub one_meaning : (input : List ℕ) (rows others : Rows) → AreRowsOf input rows → AreRowsOf input others → rows ≡ others
-one_meaning input rows others a b =
+pub one_meaning : (meaning : RowMeaning) (input : List ℕ) (rows others : Rows) → AreRowsBy meaning input rows →
+    AreRowsBy meaning input others → rows ≡ others
+one_meaning meaning input rows others a b =
     let same = reached_same _ _ _ a.records b.records _ _ _ _ a.read.2 a.read.3 b.read.2 b.read.3 in
-    one_ok (rows_of b.records) rows others (rw same at a.meant) b.meant
+    one_ok (rows_by meaning b.records) rows others (rw same at a.meant) b.meant

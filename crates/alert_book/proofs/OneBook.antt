@@ -15,6 +15,7 @@ use Rattle.alert_book.specs.declared.book.order.Sending.{Sending}
 use Rattle.alert_book.specs.Book.{fault_at, rows_of, rows_with, sending_of, ArePagesOf}
 use Rattle.alert_book.specs.Book.{HasTextFault, HasWrongText, HavePages, IsRowFault, Rows}
 use Rattle.alert_book.specs.Laws.{BooksAreOne, BooksAreRight, FaultsAreOne, HaveSamePages}
+use Rattle.alert_book.specs.Row.{row_of}
 use Rattle.alert_book.proofs.OneAnswer.{fault_stays, one_meaning, reached_either, right_or_wrong}
 
 -- the pages of an order are determined, and so are those of a book's orders
@@ -28,7 +29,8 @@ one_pages (Some sending) (Some paged) None one two = two
 one_pages (Some sending) (Some paged) (Some other) one two =
     sent_text_is_one sending.language (chars sending.text) paged other one two
 
-all_pages_one : (orders : List Order) (pages others : List (Option Paged)) → HavePages orders pages →
+-- the orders of a book have one list of pages
+pub all_pages_one : (orders : List Order) (pages others : List (Option Paged)) → HavePages orders pages →
     HavePages orders others → AllZip HaveSamePages pages others
 all_pages_one [] [] [] one two = tt
 all_pages_one [] [] (q ∷ qs) one two = two
@@ -41,7 +43,7 @@ all_pages_one (order ∷ orders) (p ∷ ps) (q ∷ qs) one two =
 -- octets are one book
 pub books_are_one : BooksAreOne
 books_are_one input book other one two =
-    let rows = one_meaning input (rows_with book.cells book.orders) (rows_with other.cells other.orders) one.rows
+    let rows = one_meaning row_of input (rows_with book.cells book.orders) (rows_with other.cells other.orders) one.rows
     two.rows in
     let orders : book.orders ≡ other.orders = ap (λ (r : Rows). r.orders) rows in (
       ap (λ (r : Rows). r.cells) rows,
@@ -134,9 +136,9 @@ paged_wrong (o ∷ os) x after (p ∷ ps) f have wrong = paged_wrong os x after 
 -- octets that are a book have no fault
 pub books_are_right : BooksAreRight
 books_are_right input book f is wrong = elim wrong.1 [
-  | inl row ↦ right_or_wrong input (rows_with book.cells book.orders) f is.rows row
+  | inl row ↦ right_or_wrong row_of input (rows_with book.cells book.orders) f is.rows row
   | inr named ↦
-      let rows = one_meaning input (rows_with book.cells book.orders) named.rows is.rows named.meant in
+      let rows = one_meaning row_of input (rows_with book.cells book.orders) named.rows is.rows named.meant in
       let orders : book.orders ≡ named.wrong.before ++ named.wrong.order ∷ named.wrong.after =
       ap (λ (r : Rows). r.orders) rows ∙ named.wrong.split in
       paged_wrong named.wrong.before named.wrong.order named.wrong.after book.pages f
@@ -152,16 +154,16 @@ one_row_fault : (input : List ℕ) (f g : BookFault) → IsRowFault input f → 
 one_row_fault input f g one two =
     elim (reached_either _ _ _ one.records two.records _ _ _ _ one.read two.read) [
       | inl m ↦
-          let more = fault_stays 1 (rows_with [] []) one.records m.0 f one.wrong in
+          let more = fault_stays row_of 1 (rows_with [] []) one.records m.0 f one.wrong in
           one_err (rows_of two.records) f g (ap rows_of m.1 ∙ more) two.wrong
       | inr m ↦
-          let more = fault_stays 1 (rows_with [] []) two.records m.0 g two.wrong in
+          let more = fault_stays row_of 1 (rows_with [] []) two.records m.0 g two.wrong in
           one_err (rows_of one.records) f g one.wrong (ap rows_of m.1 ∙ more)
     ]
 
 one_text_fault : (input : List ℕ) (f g : BookFault) → HasTextFault input f → HasTextFault input g → f ≡ g
 one_text_fault input f g one two =
-    let rows = one_meaning input one.rows two.rows one.meant two.meant in
+    let rows = one_meaning row_of input one.rows two.rows one.meant two.meant in
     one_wrong_text two.rows.orders f g (subst (λ (r : Rows). HasWrongText r.orders f) rows one.wrong) two.wrong
 
 -- octets have one fault at most
@@ -169,10 +171,10 @@ pub faults_are_one : FaultsAreOne
 faults_are_one input f g one two = elim one.1 [
   | inl row ↦ elim two.1 [
     | inl other ↦ one_row_fault input f g row other
-    | inr other ↦ absurd (right_or_wrong input other.rows f other.meant row)
+    | inr other ↦ absurd (right_or_wrong row_of input other.rows f other.meant row)
   ]
   | inr named ↦ elim two.1 [
-    | inl other ↦ absurd (right_or_wrong input named.rows g named.meant other)
+    | inl other ↦ absurd (right_or_wrong row_of input named.rows g named.meant other)
     | inr other ↦ one_text_fault input f g named other
   ]
 ]

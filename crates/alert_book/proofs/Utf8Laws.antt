@@ -24,7 +24,7 @@ use Rattle.alert_book.specs.Fields.{alert_at, are_texts, category, column, if_ri
 use Rattle.alert_book.specs.Fields.{sending_at, sending_with}
 use Rattle.alert_book.specs.Row.{cell_row, columns_of, is_update_of, is_write, max_cells, max_rows, new_cell}
 use Rattle.alert_book.specs.Row.{order_with}
-use Rattle.alert_book.specs.Row.{row_after_verb, row_of, row_of_verb, stop_row, update_row, update_with, verb_of}
+use Rattle.alert_book.specs.Row.{row_after_verb, row_of, row_of_verb_by, stop_row, update_row, update_with, verb_of}
 use Rattle.alert_book.specs.Row.{max_updates, write_row}
 use Rattle.alert_book.specs.Book.{after_row, Rows, rows_read, rows_with, with_row}
 use Rattle.alert_book.specs.Texts.{HasUtf8Text, TextsAreUtf8}
@@ -152,7 +152,8 @@ stop_row_has row declared orders fields =
     (λ cells. sends_none)))
 
 row_of_verb_has : (verb : Verb) (row : ℕ) (declared : List Cell) (orders : List Order) (fields : List (List ℕ))
-    → are_texts fields ≡ true → IfOk RowHasText (row_of_verb verb row declared orders fields)
+    → are_texts fields ≡ true → IfOk RowHasText
+    (row_of_verb_by verb (cell_row declared fields) row (cells_of_field declared) orders fields)
 row_of_verb_has verbs.Cell row declared orders fields texts = cell_row_has declared fields
 row_of_verb_has verbs.Write row declared orders fields texts = write_row_has row declared orders fields texts
 row_of_verb_has verbs.Update row declared orders fields texts = update_row_has row declared orders fields texts
@@ -163,7 +164,8 @@ row_after_verb_has : (verb : Option Verb) (row : ℕ) (declared : List Cell) (or
     → IfOk RowHasText (row_after_verb verb row declared orders fields)
 row_after_verb_has None row declared orders fields texts = tt
 row_after_verb_has (Some verb) row declared orders fields texts =
-    by_columns (length fields == columns_of verb) (row_of_verb verb row declared orders fields)
+    by_columns (length fields == columns_of verb)
+    (row_of_verb_by verb (cell_row declared fields) row (cells_of_field declared) orders fields)
     (row_of_verb_has verb row declared orders fields texts)
   where
     by_columns : (test : Bool) (right : Result Row RowFault) → IfOk RowHasText right

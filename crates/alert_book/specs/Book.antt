@@ -61,28 +61,46 @@ abbrev pub after_row : ℕ → Rows → Result Row RowFault → (Rows → Result
 after_row row before (Ok meant) next = next (with_row before meant)
 after_row row before (Err fault) next = Err (fault_at row (kind_of fault))
 
+-- what a row of this number means, where the rows before it declare these cells and give these orders
+abbrev pub RowMeaning : Type 0
+RowMeaning = (row : ℕ) → List Cell → List Order → List (List ℕ) → Result Row RowFault
+
 -- what the rows from this number on mean after those before them, or the fault of the first that is wrong
+abbrev pub rows_read_by : RowMeaning → ℕ → Rows → List (List (List ℕ)) → Result Rows BookFault
+rows_read_by meaning row before [] = Ok before
+rows_read_by meaning row before (fields ∷ more) =
+    after_row row before (meaning row before.cells before.orders fields)
+    (λ next. rows_read_by meaning (row + 1) next more)
+
+abbrev pub rows_by : RowMeaning → List (List (List ℕ)) → Result Rows BookFault
+rows_by meaning records = rows_read_by meaning 1 (rows_with [] []) records
+
+-- the same of a book's rows
 abbrev pub rows_read : ℕ → Rows → List (List (List ℕ)) → Result Rows BookFault
-rows_read row before [] = Ok before
-rows_read row before (fields ∷ more) =
-    after_row row before (row_of row before.cells before.orders fields) (λ next. rows_read (row + 1) next more)
+rows_read row before records = rows_read_by row_of row before records
 
 abbrev pub rows_of : List (List (List ℕ)) → Result Rows BookFault
-rows_of records = rows_read 1 (rows_with [] []) records
+rows_of records = rows_by row_of records
 
 -- the octets' records, as CSV reads them, mean these rows
-pub record AreRowsOf (input : List ℕ) (rows : Rows) : Type 0 where
+pub record AreRowsBy (meaning : RowMeaning) (input : List ℕ) (rows : Rows) : Type 0 where
   pub records : List (List (List ℕ))
   pub read : AreRecords default_config st.StartRecord (strip_bom input) records
-  pub meant : rows_of records ≡ Ok rows
+  pub meant : rows_by meaning records ≡ Ok rows
+
+abbrev pub AreRowsOf : (input : List ℕ) → Rows → Type 0
+AreRowsOf input rows = AreRowsBy row_of input rows
 
 -- the octets' first records, as CSV reads them, have this fault
-pub record IsRowFault (input : List ℕ) (fault : BookFault) : Type 0 where
+pub record IsRowFaultBy (meaning : RowMeaning) (input : List ℕ) (fault : BookFault) : Type 0 where
   pub records : List (List (List ℕ))
   pub state : State
   pub rest : List ℕ
   pub read : Reached default_config st.StartRecord (strip_bom input) records state rest
-  pub wrong : rows_of records ≡ Err fault
+  pub wrong : rows_by meaning records ≡ Err fault
+
+abbrev pub IsRowFault : (input : List ℕ) → BookFault → Type 0
+IsRowFault input fault = IsRowFaultBy row_of input fault
 
 -- what an action has cells send, if it does
 abbrev pub sending_of : Action → Option Sending
@@ -132,10 +150,13 @@ pub record IsBook (input : List ℕ) (book : Contents) : Type 0 where
   pub paged : HavePages book.orders book.pages
 
 -- a text's fault: no row has one
-pub record HasTextFault (input : List ℕ) (f : BookFault) : Type 0 where
+pub record HasTextFaultBy (meaning : RowMeaning) (input : List ℕ) (f : BookFault) : Type 0 where
   pub rows : Rows
-  pub meant : AreRowsOf input rows
+  pub meant : AreRowsBy meaning input rows
   pub wrong : HasWrongText rows.orders f
+
+abbrev pub HasTextFault : (input : List ℕ) → BookFault → Type 0
+HasTextFault input f = HasTextFaultBy row_of input f
 
 abbrev pub refused : BookFault
 refused = fault_at 0 fault.Refused

@@ -74,11 +74,15 @@ sending_with language category period broadcasts cells text =
       text = text;
     }
 
--- LANG, CATEGORY, PERIOD, BROADCASTS, CELLS and TEXT, from this place on, where earlier rows declare these cells
-abbrev pub sending_at : List Cell → List (List ℕ) → ℕ → Result Sending RowFault
-sending_at declared fields place =
+-- LANG, CATEGORY, PERIOD, BROADCASTS, CELLS and TEXT, from this place on, where a field of cells comes to this
+abbrev pub sending_by : (cells_of : List ℕ → Result (List Cell) RowFault) → List (List ℕ) → ℕ → Result Sending RowFault
+sending_by cells_of fields place =
     if_right (category (column fields (place + 1))) (λ category.
     if_right (number 1 1024 (column fields (place + 2))) (λ period.
     if_right (number 0 65535 (column fields (place + 3))) (λ broadcasts.
-    if_right (cells_of_field declared (column fields (place + 4))) (λ cells.
+    if_right (cells_of (column fields (place + 4))) (λ cells.
     Ok (sending_with (column fields place) category period broadcasts cells (column fields (place + 5)))))))
+
+-- the same where earlier rows declare these cells
+abbrev pub sending_at : List Cell → List (List ℕ) → ℕ → Result Sending RowFault
+sending_at declared fields place = sending_by (cells_of_field declared) fields place

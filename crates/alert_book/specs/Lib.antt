@@ -5,6 +5,10 @@ pub mod Row
 pub mod Book
 pub mod Laws
 pub mod Texts
+pub mod CellPairs
+pub mod Network
+pub mod NetworkSteps
+pub mod NetworkLaws
 pub mod Session
 pub mod Turns
 pub mod TurnLaws

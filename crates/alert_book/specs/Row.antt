@@ -16,7 +16,7 @@ use Rattle.alert_book.specs.declared.book.row.Verb.{Verb}
 use Rattle.alert_book.specs.declared.book.row.Verb.TheVariants as verbs
 use Rattle.alert_book.specs.Cells.{cell_with, cells_of_field, is_among}
 use Rattle.alert_book.specs.Fields.{alert_at, are_texts, column, if_right, is_named, known_name, new_name, number}
-use Rattle.alert_book.specs.Fields.{sending_at}
+use Rattle.alert_book.specs.Fields.{sending_by}
 
 -- the most rows of a book, and the most of them that declare cells
 abbrev pub max_rows : ℕ
@@ -69,23 +69,33 @@ order_with row at name number alert action =
 abbrev pub new_cell : List Cell → Cell → Result Row RowFault
 new_cell declared cell = if is_among declared cell then Err fault.TwiceNamed else Ok (rows.Declare cell)
 
--- `cell`, LAC, CI
-abbrev pub cell_row : List Cell → List (List ℕ) → Result Row RowFault
-cell_row declared fields =
-    if nat_le max_cells (length declared) then Err fault.TooManyRows
+-- `cell`, LAC, CI, where rows may declare this many cells at most
+abbrev pub cell_row_within : (most : ℕ) → List Cell → List (List ℕ) → Result Row RowFault
+cell_row_within most declared fields =
+    if nat_le most (length declared) then Err fault.TooManyRows
     else
     if_right (number 0 65535 (column fields 1)) (λ lac.
     if_right (number 0 65535 (column fields 2)) (λ ci.
     new_cell declared (cell_with lac ci)))
 
+abbrev pub cell_row : List Cell → List (List ℕ) → Result Row RowFault
+cell_row declared fields = cell_row_within max_cells declared fields
+
+-- what a row's field of cells comes to, by the cells that earlier rows declare
+abbrev pub FieldCells : Type 0
+FieldCells = List ℕ → Result (List Cell) RowFault
+
 -- `write`, AT, NAME, ID, SCOPE, CODE, LANG, CATEGORY, PERIOD, BROADCASTS, CELLS, TEXT
-abbrev pub write_row : (row : ℕ) → List Cell → List Order → List (List ℕ) → Result Row RowFault
-write_row row declared orders fields =
+abbrev pub write_row_by : (row : ℕ) → FieldCells → List Order → List (List ℕ) → Result Row RowFault
+write_row_by row cells_of orders fields =
     if_right (number 0 65535 (column fields 1)) (λ at.
     if_right (new_name orders (column fields 2)) (λ name.
     if_right (alert_at fields 3) (λ alert.
-    if_right (sending_at declared fields 6) (λ sending.
+    if_right (sending_by cells_of fields 6) (λ sending.
     Ok (rows.Give (order_with row at name (count_by is_write orders) alert (action.Write sending)))))))
+
+abbrev pub write_row : (row : ℕ) → List Cell → List Order → List (List ℕ) → Result Row RowFault
+write_row row declared orders fields = write_row_by row (cells_of_field declared) orders fields
 
 -- an update of a name with this first order, where it isn't one too many
 abbrev pub update_with : (row at : ℕ) → List ℕ → Order → (earlier : ℕ) → Sending → Result Row RowFault
@@ -94,31 +104,45 @@ update_with row at name first earlier sending =
     else Ok (rows.Give (order_with row at name first.number first.alert (action.Update (earlier + 1) sending)))
 
 -- `update`, AT, NAME, LANG, CATEGORY, PERIOD, BROADCASTS, CELLS, TEXT
-abbrev pub update_row : (row : ℕ) → List Cell → List Order → List (List ℕ) → Result Row RowFault
-update_row row declared orders fields =
+abbrev pub update_row_by : (row : ℕ) → FieldCells → List Order → List (List ℕ) → Result Row RowFault
+update_row_by row cells_of orders fields =
     if_right (number 0 65535 (column fields 1)) (λ at.
     if_right (known_name orders (column fields 2)) (λ first.
-    if_right (sending_at declared fields 3) (λ sending.
+    if_right (sending_by cells_of fields 3) (λ sending.
     update_with row at (column fields 2) first (count_by (is_update_of (column fields 2)) orders) sending)))
 
+abbrev pub update_row : (row : ℕ) → List Cell → List Order → List (List ℕ) → Result Row RowFault
+update_row row declared orders fields = update_row_by row (cells_of_field declared) orders fields
+
 -- `stop`, AT, NAME, CELLS
-abbrev pub stop_row : (row : ℕ) → List Cell → List Order → List (List ℕ) → Result Row RowFault
-stop_row row declared orders fields =
+abbrev pub stop_row_by : (row : ℕ) → FieldCells → List Order → List (List ℕ) → Result Row RowFault
+stop_row_by row cells_of orders fields =
     if_right (number 0 65535 (column fields 1)) (λ at.
     if_right (known_name orders (column fields 2)) (λ first.
-    if_right (cells_of_field declared (column fields 3)) (λ cells.
+    if_right (cells_of (column fields 3)) (λ cells.
     Ok (rows.Give (order_with row at (column fields 2) first.number first.alert (action.Stop cells))))))
 
-abbrev pub row_of_verb : Verb → (row : ℕ) → List Cell → List Order → List (List ℕ) → Result Row RowFault
-row_of_verb verbs.Cell row declared orders fields = cell_row declared fields
-row_of_verb verbs.Write row declared orders fields = write_row row declared orders fields
-row_of_verb verbs.Update row declared orders fields = update_row row declared orders fields
-row_of_verb verbs.Stop row declared orders fields = stop_row row declared orders fields
+abbrev pub stop_row : (row : ℕ) → List Cell → List Order → List (List ℕ) → Result Row RowFault
+stop_row row declared orders fields = stop_row_by row (cells_of_field declared) orders fields
+
+-- a row of a verb, where this is what it means if it declares a cell
+abbrev pub row_of_verb_by : Verb → (declares : Result Row RowFault) → (row : ℕ) → FieldCells → List Order
+    → List (List ℕ) → Result Row RowFault
+row_of_verb_by verbs.Cell declares row cells_of orders fields = declares
+row_of_verb_by verbs.Write declares row cells_of orders fields = write_row_by row cells_of orders fields
+row_of_verb_by verbs.Update declares row cells_of orders fields = update_row_by row cells_of orders fields
+row_of_verb_by verbs.Stop declares row cells_of orders fields = stop_row_by row cells_of orders fields
+
+abbrev pub row_after_verb_by : Option Verb → (declares : Result Row RowFault) → (row : ℕ) → FieldCells → List Order
+    → List (List ℕ) → Result Row RowFault
+row_after_verb_by None declares row cells_of orders fields = Err fault.Verb
+row_after_verb_by (Some verb) declares row cells_of orders fields =
+    if length fields == columns_of verb then row_of_verb_by verb declares row cells_of orders fields
+    else Err fault.Columns
 
 abbrev pub row_after_verb : Option Verb → (row : ℕ) → List Cell → List Order → List (List ℕ) → Result Row RowFault
-row_after_verb None row declared orders fields = Err fault.Verb
-row_after_verb (Some verb) row declared orders fields =
-    if length fields == columns_of verb then row_of_verb verb row declared orders fields else Err fault.Columns
+row_after_verb verb row declared orders fields =
+    row_after_verb_by verb (cell_row declared fields) row (cells_of_field declared) orders fields
 
 -- what the row of this number means, where the rows before it declare these cells and give these orders
 abbrev pub row_of : (row : ℕ) → List Cell → List Order → List (List ℕ) → Result Row RowFault

@@ -22,6 +22,7 @@ use std::marker::Model;
 use std::thread::Threads;
 
 pub(crate) mod cells;
+pub(crate) mod declared;
 pub(crate) mod fields;
 pub(crate) mod names;
 pub(crate) mod number;
@@ -35,9 +36,9 @@ pub const MAX_INPUT: usize = 0x100_0000;
 /// A book: the cells that its rows declare, and the orders that they give, in the order of the rows.
 #[derive(Debug, Drop)]
 pub struct Book {
-    cells: Vec<Cell>,
-    orders: Vec<Order>,
-    pages: Vec<Option<Paged>>,
+    pub(crate) cells: Vec<Cell>,
+    pub(crate) orders: Vec<Order>,
+    pub(crate) pages: Vec<Option<Paged>>,
 }
 
 impl Model for Book {
@@ -110,7 +111,7 @@ impl RowsSoFar {
     ghost use Rattle.alert_book.specs.declared.book.row.Row.{Row};
 
     /// Reads the row of this number.
-    fn read(&mut self, alloc: Global, row: u16, fields: ByteRecord) -> Result<(), RowFault>
+    fn read(&mut self, alloc: Global, row: u32, fields: ByteRecord) -> Result<(), RowFault>
         requires { length self.old.orders ≤ 4096 }
         ensures ok { OnOk result ((meant : Row) ×
             (row_of row self.old.cells self.old.orders (fields_of fields) ≡ Ok meant)
@@ -131,7 +132,7 @@ impl RowsSoFar {
 }
 
 /// The fault of a book whose row of this number has one.
-fn fault_of_row(row: u16, fault: RowFault) -> BookFault
+pub(crate) fn fault_of_row(row: u32, fault: RowFault) -> BookFault
     ensures { (result ≡ refused) ⊎ ((fault ≢ RowFault.Refused) × (result ≡ fault_at row (kind_of fault))) }
 {
     match fault {

@@ -36,7 +36,8 @@ pub enum BookFaultKind {
     /// The sixteenth update of a name.
     #[error("too many updates")]
     TooManyUpdates,
-    /// More than 4,096 rows, 64 cells or 16,777,216 octets.
+    /// More than 4,096 rows, 64 cells or 16,777,216 octets; of a network book more than 65,536 cells, 4,096 other rows
+    /// or 67,108,864 octets.
     #[error("too many rows")]
     TooManyRows,
     /// The reader failed.
@@ -111,7 +112,7 @@ impl<T: Drop> From<AllocFailed<T>> for RowFault {
 #[derive(Clone, Copy, Debug, PartialEq, Eq)]
 pub struct BookFault {
     /// The row, from 1 as CSV gives them.
-    pub row: u16,
+    pub row: u32,
     /// What is wrong with it.
     pub kind: BookFaultKind,
 }

@@ -3,6 +3,7 @@
 ghost use Rattle.alert_book.specs.Laws.{BooksAreOne, BooksAreRight, CellsAreValid, FaultsAreOne, RowsAreFew};
 ghost use Rattle.alert_book.specs.Laws.{RowsAreOne, RowsAreRightOrWrong};
 ghost use Rattle.alert_book.specs.LastAccepted.{LastAcceptedIsReplaced};
+ghost use Rattle.alert_book.specs.NetworkLaws.{BooksAreNetworks, GroupBooksAreOne};
 ghost use Rattle.alert_book.specs.Texts.{TextsAreUtf8};
 ghost use Rattle.alert_book.specs.TurnLaws.{AsksOncePerOrder, RequestsAreWritable, RequestsComeOfOrders, SessionsEnd};
 
@@ -17,6 +18,13 @@ pub fn book_laws()
     ensures one_fault { FaultsAreOne }
     ensures few { RowsAreFew }
     ensures cells { CellsAreValid }
+{}
+
+/// A book is a network book of one group, whose book it is, and a group of a network has one book, which its rows give.
+/// It does nothing: its contract is the law.
+pub fn network_laws()
+    ensures book { BooksAreNetworks }
+    ensures one { GroupBooksAreOne }
 {}
 
 /// States, as its contract, what holds of the turns of every session, whatever the replies say. It does nothing.

@@ -41,7 +41,7 @@ pub struct Session<'a> {
     place: usize,
     versions: Versions,
     sent: Option<Request>,
-    row: u16,
+    row: u32,
     due: VecDeque<Request>,
 }
 
@@ -172,7 +172,7 @@ impl<'a> Session<'a> {
     }
 
     /// The row that gave the last request, from 1; 0 before the first.
-    pub fn row(&self) -> u16
+    pub fn row(&self) -> u32
         ensures { (standing : Standing) → StandsFor self.now standing → result ≡ standing.row }
     {
         self.row

@@ -35,7 +35,7 @@ fn cell_named(text: &str) -> Option<Cell>
 }
 
 /// The cells that a text names between its spaces, if each part names one.
-fn cells_listed(alloc: Global, text: &str) -> Result<Option<Cells>, AllocError>
+pub(crate) fn cells_listed(alloc: Global, text: &str) -> Result<Option<Cells>, AllocError>
     ensures { IfOk result (λ cells. cells ≡ cells_listed text.now) }
 {
     let mut cells = Vec::new(alloc);

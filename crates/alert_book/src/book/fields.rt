@@ -4,16 +4,15 @@ ghost use Rattle.std.specs.Prelude.{◌≡◌, ◌≢◌, ◌+◌, ◌≤◌, Ok
 ghost use Rattle.std.specs.Option.{option_copied};
 ghost use Rattle.csv.specs.Records.{fields_of};
 ghost use Rattle.alert_book.specs.Fields.{alert_at, are_texts, category, column, first_order, is_named, known_name};
-ghost use Rattle.alert_book.specs.Fields.{new_name, number, sending_at};
+ghost use Rattle.alert_book.specs.Fields.{new_name, number, sending_by};
 ghost use Rattle.alert_book.specs.NameSteps.{AreNames};
 ghost use Rattle.alert_book.specs.SendableSteps.{HasSerials, IsSendable};
 
-use crate::book::cells::cells_of_field;
+use crate::book::declared::Declared;
 use crate::book::names::Names;
 use crate::book::number::number_within;
 use crate::book::order::{Alert, Order, Sending, Text};
 use crate::fault::RowFault;
-use cbsp_wire::Cell;
 use csv::{ByteRecord, StringRecord};
 use std::alloc::{AllocError, Global};
 
@@ -123,21 +122,22 @@ pub(crate) fn alert_at(fields: &StringRecord, place: usize) -> Result<Alert, Row
 }
 
 /// LANG, CATEGORY, PERIOD, BROADCASTS, CELLS and TEXT, from this place on, where these cells are declared.
-pub(crate) fn sending_at(
+pub(crate) fn sending_at<D: Declared>(
     alloc: Global,
-    declared: &[Cell],
+    declared: &D,
     fields: &StringRecord,
     place: usize,
 ) -> Result<Sending, RowFault>
     requires { place ≤ 100 }
-    ensures ok { IfOk result (λ sending. sending_at declared.now (fields_of fields.now) place ≡ Ok sending) }
+    ensures ok { IfOk result (λ sending.
+        sending_by (D.field_cells declared.now) (fields_of fields.now) place ≡ Ok sending) }
     ensures err { IfErr result (λ fault. fault ≢ RowFault.Refused →
-        sending_at declared.now (fields_of fields.now) place ≡ Err fault) }
+        sending_by (D.field_cells declared.now) (fields_of fields.now) place ≡ Err fault) }
 {
     let category = category(column(fields, place + 1))?;
     let period = number(column(fields, place + 2), 1, 1024)?;
     let broadcasts = number(column(fields, place + 3), 0, u16::MAX)?;
-    let cells = cells_of_field(alloc, declared, column(fields, place + 4))?;
+    let cells = declared.cells_of_field(alloc, column(fields, place + 4))?;
     Ok(Sending {
         language: copy_of(alloc, column(fields, place))?,
         category,

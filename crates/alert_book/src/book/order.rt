@@ -66,7 +66,7 @@ pub enum Action {
 #[derive(Debug, Drop)]
 pub struct Order {
     /// The row, from 1.
-    pub row: u16,
+    pub row: u32,
     /// The slot at which it is given.
     pub at: u16,
     /// The alert's name.

@@ -33,7 +33,7 @@ fn pages_of(alloc: Global, order: &Order) -> Result<Option<Paged>, TextFault>
 }
 
 /// The fault of a book in whose row of this number a text can't be sent.
-fn text_fault(row: u16, why: TextFault) -> BookFault
+fn text_fault(row: u32, why: TextFault) -> BookFault
     ensures { (result ≡ refused) ⊎ ((why ≢ TextFault.Refused) × (result ≡ fault_at row (BookFaultKind.Text why))) }
 {
     match why {

@@ -6,10 +6,11 @@ ghost use Rattle.alert_book.specs.Fields.{column};
 ghost use Rattle.alert_book.specs.SendableSteps.{HasSerials, IsSendable};
 ghost use Rattle.alert_book.specs.NameSteps.{AreNames};
 ghost use Rattle.alert_book.specs.RowSteps.{IsFine};
-ghost use Rattle.alert_book.specs.Row.{cell_row, columns_of, is_update_of, is_write, row_after_verb, row_of};
-ghost use Rattle.alert_book.specs.Row.{row_of_verb, stop_row, update_row, update_with, verb_of, write_row};
+ghost use Rattle.alert_book.specs.Row.{cell_row, columns_of, is_update_of, is_write, row_after_verb_by, row_of};
+ghost use Rattle.alert_book.specs.Row.{row_of_verb_by, stop_row_by, update_row_by, update_with, verb_of, write_row_by};
 
-use crate::book::cells::{cells_of_field, is_among};
+use crate::book::cells::is_among;
+use crate::book::declared::Declared;
 use crate::book::fields::{
     alert_at, check_new_name, column, copy_of, known_name, number, sending_at, texts_of,
 };
@@ -21,7 +22,7 @@ use csv::{ByteRecord, StringRecord};
 use std::alloc::Global;
 
 /// The most rows of a book.
-const MAX_ROWS: u16 = 4096;
+const MAX_ROWS: u32 = 4096;
 
 /// The most rows that declare cells.
 const MAX_CELLS: usize = 64;
@@ -80,18 +81,18 @@ fn columns_of(verb: Verb) -> usize
 /// What the row of this number means, if the rows before it declare these cells and give these orders.
 pub(crate) fn row_of(
     alloc: Global,
-    row: u16,
-    declared: &[Cell],
+    row: u32,
+    declared: &Vec<Cell>,
     orders: &[Order],
     names: &Names,
     fields: ByteRecord,
 ) -> Result<Row, RowFault>
     requires few { length orders.now ≤ 4096 }
     requires names { AreNames names.now orders.now }
-    ensures ok { IfOk result (λ meant. row_of row declared.now orders.now (fields_of fields) ≡ Ok meant) }
+    ensures ok { IfOk result (λ meant. row_of row declared.now.items orders.now (fields_of fields) ≡ Ok meant) }
     ensures sendable { IfOk result (λ meant. All IsSendable orders.now → IsFine meant) }
     ensures err { IfErr result (λ fault. fault ≢ RowFault.Refused →
-        row_of row declared.now orders.now (fields_of fields) ≡ Err fault) }
+        row_of row declared.now.items orders.now (fields_of fields) ≡ Err fault) }
 {
     if row > MAX_ROWS {
         return Err(RowFault::TooManyRows);
@@ -101,10 +102,10 @@ pub(crate) fn row_of(
 }
 
 /// The same of a row of text.
-fn row_after_verb(
+pub(crate) fn row_after_verb<D: Declared>(
     alloc: Global,
-    row: u16,
-    declared: &[Cell],
+    row: u32,
+    declared: &D,
     orders: &[Order],
     names: &Names,
     fields: &StringRecord,
@@ -112,11 +113,13 @@ fn row_after_verb(
     requires few { length orders.now ≤ 4096 }
     requires names { AreNames names.now orders.now }
     ensures ok { IfOk result (λ meant.
-        row_after_verb (verb_of (column (fields_of fields.now) 0)) row declared.now orders.now (fields_of fields.now)
+        row_after_verb_by (verb_of (column (fields_of fields.now) 0)) (D.declares declared.now (fields_of fields.now))
+        row (D.field_cells declared.now) orders.now (fields_of fields.now)
         ≡ Ok meant) }
     ensures sendable { IfOk result (λ meant. All IsSendable orders.now → IsFine meant) }
     ensures err { IfErr result (λ fault. fault ≢ RowFault.Refused →
-        row_after_verb (verb_of (column (fields_of fields.now) 0)) row declared.now orders.now (fields_of fields.now)
+        row_after_verb_by (verb_of (column (fields_of fields.now) 0)) (D.declares declared.now (fields_of fields.now))
+        row (D.field_cells declared.now) orders.now (fields_of fields.now)
         ≡ Err fault) }
 {
     let Some(verb) = verb_of(column(fields, 0)) else {
@@ -126,16 +129,17 @@ fn row_after_verb(
         return Err(RowFault::Columns);
     }
     match verb {
-        Verb::Cell => cell_row(declared, fields),
+        Verb::Cell => declared.cell_row(fields),
         Verb::Write => write_row(alloc, row, declared, orders, names, fields),
         Verb::Update => update_row(alloc, row, declared, orders, names, fields),
         Verb::Stop => stop_row(alloc, row, declared, orders, names, fields),
     }
 }
 
-/// A row that declares a cell.
-fn cell_row(declared: &[Cell], fields: &StringRecord) -> Result<Row, RowFault>
+/// A row of a book that declares a cell.
+pub(crate) fn cell_row(declared: &[Cell], fields: &StringRecord) -> Result<Row, RowFault>
     ensures ok { IfOk result (λ meant. cell_row declared.now (fields_of fields.now) ≡ Ok meant) }
+    ensures fine { IfOk result IsFine }
     ensures err { IfErr result (λ fault. cell_row declared.now (fields_of fields.now) ≡ Err fault) }
 {
     if declared.len() >= MAX_CELLS {
@@ -174,20 +178,21 @@ fn count_of_updates(orders: &[Order], names: &Names, name: &str) -> usize
 }
 
 /// A row that writes an alert.
-fn write_row(
+fn write_row<D: Declared>(
     alloc: Global,
-    row: u16,
-    declared: &[Cell],
+    row: u32,
+    declared: &D,
     orders: &[Order],
     names: &Names,
     fields: &StringRecord,
 ) -> Result<Row, RowFault>
     requires few { length orders.now ≤ 4096 }
     requires names { AreNames names.now orders.now }
-    ensures ok { IfOk result (λ meant. write_row row declared.now orders.now (fields_of fields.now) ≡ Ok meant) }
+    ensures ok { IfOk result (λ meant. write_row_by row (D.field_cells declared.now) orders.now (fields_of fields.now)
+        ≡ Ok meant) }
     ensures sendable { IfOk result (λ meant. All IsSendable orders.now → IsFine meant) }
     ensures err { IfErr result (λ fault. fault ≢ RowFault.Refused →
-        write_row row declared.now orders.now (fields_of fields.now) ≡ Err fault) }
+        write_row_by row (D.field_cells declared.now) orders.now (fields_of fields.now) ≡ Err fault) }
 {
     let at = number(column(fields, 1), 0, u16::MAX)?;
     let name = column(fields, 2);
@@ -205,19 +210,20 @@ fn write_row(
 }
 
 /// A row that updates an alert.
-fn update_row(
+fn update_row<D: Declared>(
     alloc: Global,
-    row: u16,
-    declared: &[Cell],
+    row: u32,
+    declared: &D,
     orders: &[Order],
     names: &Names,
     fields: &StringRecord,
 ) -> Result<Row, RowFault>
     requires { AreNames names.now orders.now }
-    ensures ok { IfOk result (λ meant. update_row row declared.now orders.now (fields_of fields.now) ≡ Ok meant) }
+    ensures ok { IfOk result (λ meant. update_row_by row (D.field_cells declared.now) orders.now (fields_of fields.now)
+        ≡ Ok meant) }
     ensures sendable { IfOk result (λ meant. All IsSendable orders.now → IsFine meant) }
     ensures err { IfErr result (λ fault. fault ≢ RowFault.Refused →
-        update_row row declared.now orders.now (fields_of fields.now) ≡ Err fault) }
+        update_row_by row (D.field_cells declared.now) orders.now (fields_of fields.now) ≡ Err fault) }
 {
     let at = number(column(fields, 1), 0, u16::MAX)?;
     let name = column(fields, 2);
@@ -231,7 +237,7 @@ fn update_row(
 /// An update of a name with this first order, if it isn't one too many.
 fn update_with(
     alloc: Global,
-    row: u16,
+    row: u32,
     at: u16,
     name: &str,
     first: &Order,
@@ -258,24 +264,25 @@ fn update_with(
 }
 
 /// A row that stops an alert.
-fn stop_row(
+fn stop_row<D: Declared>(
     alloc: Global,
-    row: u16,
-    declared: &[Cell],
+    row: u32,
+    declared: &D,
     orders: &[Order],
     names: &Names,
     fields: &StringRecord,
 ) -> Result<Row, RowFault>
     requires { AreNames names.now orders.now }
-    ensures ok { IfOk result (λ meant. stop_row row declared.now orders.now (fields_of fields.now) ≡ Ok meant) }
+    ensures ok { IfOk result (λ meant. stop_row_by row (D.field_cells declared.now) orders.now (fields_of fields.now) ≡
+        Ok meant) }
     ensures sendable { IfOk result (λ meant. All IsSendable orders.now → IsFine meant) }
     ensures err { IfErr result (λ fault. fault ≢ RowFault.Refused →
-        stop_row row declared.now orders.now (fields_of fields.now) ≡ Err fault) }
+        stop_row_by row (D.field_cells declared.now) orders.now (fields_of fields.now) ≡ Err fault) }
 {
     let at = number(column(fields, 1), 0, u16::MAX)?;
     let name = column(fields, 2);
     let first = known_name(orders, names, name)?;
-    let cells = cells_of_field(alloc, declared, column(fields, 3))?;
+    let cells = declared.cells_of_field(alloc, column(fields, 3))?;
     Ok(Row::Give(Order {
         row,
         at,

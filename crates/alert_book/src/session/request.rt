@@ -26,7 +26,7 @@ const VERSIONS: usize = 16;
 #[derive(Debug, Drop)]
 pub struct Request {
     /// The row that gives it, from 1.
-    pub row: u16,
+    pub row: u32,
     /// The slot at which it is given.
     pub at: u16,
     /// The number of its alert.

@@ -4,6 +4,7 @@ use Rattle.csv.specs.Records.{fields_of}
 use Rattle.csv.specs.declared.parser.State.TheVariants as st
 use Rattle.csv.specs.Reading.{Reached}
 use Rattle.csv.proofs.ReadFacts.{rows-end, rows-more}
+use Rattle.alert_book.specs.Row.{row_of}
 use Rattle.alert_book.proofs.BookLaws.{leave_all, leave_more, orders_grow, row_fits, wrong_row}
 use Rattle.alert_book.proofs.book.read_rows.Goals as goal
 
@@ -48,7 +49,7 @@ loop-record-preserved c =
       reached = m.2;
       few = row_fits _ _ _ _ _ read.1;
       orders = rw read.2 (orders_grow c.loop-record.known read.0 c.loop-record.row inv.orders);
-      meant = leave_more inv.seen (fields_of c.in-Ok.fields) c.loop-record.row c.loop-record.known _ read.0
+      meant = leave_more row_of inv.seen (fields_of c.in-Ok.fields) c.loop-record.row c.loop-record.known _ read.0
           inv.meant read.1 read.2;
     }
 
@@ -59,7 +60,7 @@ returns-in-Err-clause-err c =
     let m = rows-more (λ (s : Bor (List ℕ)). Some s.now) c.loop-record.record-iterator.rdr c.next.new.self.rdr
     (fields_of c.in-Ok.fields) default_config st.StartRecord (strip_bom c.args.octets.now) inv.left inv.seen
     inv.config inv.source inv.reached s.0 in
-    wrong_row c.args.octets.now inv.seen (fields_of c.in-Ok.fields) c.loop-record.row c.loop-record.known
+    wrong_row row_of c.args.octets.now inv.seen (fields_of c.in-Ok.fields) c.loop-record.row c.loop-record.known
     c.in-Err.fault _ _ m.0
     m.2 inv.meant c.in-Err.ensures.err c.fault_of_row.ensures
 
@@ -77,5 +78,5 @@ returns-clause-ok c =
             default_config inv.left inv.config
             inv.source s,
       );
-      meant = leave_all inv.seen c.loop-record.row c.loop-record.known inv.meant;
+      meant = leave_all row_of inv.seen c.loop-record.row c.loop-record.known inv.meant;
     }

@@ -1,13 +1,14 @@
 use Rattle.alert_book.proofs.OneBook.{books_are_one, books_are_right, faults_are_one}
 use Rattle.alert_book.proofs.FewRows.{cells_are_few, rows_are_few}
+use Rattle.alert_book.specs.Row.{row_of}
 use Rattle.alert_book.proofs.OneAnswer.{one_meaning, right_or_wrong}
 use Rattle.alert_book.proofs.laws.book_laws.Goals as goal
 
 pub returns-clause-one : goal.returns-clause-one
-returns-clause-one c = one_meaning
+returns-clause-one c = one_meaning row_of
 
 pub returns-clause-right_or_wrong : goal.returns-clause-right_or_wrong
-returns-clause-right_or_wrong c = right_or_wrong
+returns-clause-right_or_wrong c = right_or_wrong row_of
 
 pub returns-clause-few : goal.returns-clause-few
 returns-clause-few c = rows_are_few

@@ -1,0 +1,102 @@
+use Rattle.std.proofs.Common.{◌∙◌, Bor, List, ℕ, ◌+◌, Some, inl, inr, refl, sym, arith, [], ◌∷◌, ◌++◌}
+use Rattle.csv.specs.Reading.{default_config, strip_bom}
+use Rattle.csv.specs.Records.{fields_of}
+use Rattle.csv.specs.declared.parser.State.TheVariants as st
+use Rattle.csv.specs.Reading.{Reached}
+use Rattle.csv.proofs.ReadFacts.{rows-end, rows-more}
+use Rattle.alert_book.specs.Book.{rows_with, with_row}
+use Rattle.alert_book.specs.Network.{row_in_group}
+use Rattle.alert_book.proofs.BookLaws.{leave_all, leave_more, wrong_row}
+use Rattle.alert_book.proofs.KeptLaws.{few_kept, few_orders, kept_after, kept_fault, row_more}
+use Rattle.alert_book.proofs.network.rows_in_group.Goals as goal
+
+pub loop-record-init : goal.loop-record-init
+unfolding Reached
+loop-record-init c =
+    let fr = c.from_reader-reader.ensures in
+    let e = rw c.has_headers.ensures at c.flexible.ensures in
+    let start = c.into_iter-record-iterator.ensures.into_iter_gives ∙ refl in
+    let rdr = c.into_byte_records-record-items.ensures.rdr in
+    let left = c.into_byte_records-record-items.ensures.left in
+    rw (start, rdr) record {
+      trim = rw e at fr.trim ∙ c.new-4.ensures.trim;
+      ready = inr (inr (rw e at fr.has_headers, fr.headers));
+      turns = left;
+      config = rw e at fr.config ∙ c.new-4.ensures.config;
+      left = strip_bom c.args.octets.now;
+      source = fr.source;
+      seen = [];
+      reached = (sym fr.state, refl);
+      rows = rows_with [] [];
+      count = omega (arith, c.new.ensures.count);
+      few = rw c.new-2.ensures.items (omega arith);
+      number = refl;
+      known = record {
+        declared = c.new.ensures;
+        orders = c.new-2.ensures.items;
+        few_cells = omega arith;
+        few = omega arith;
+      };
+      meant = λ more. refl;
+    }
+
+pub loop-record-preserved : goal.loop-record-preserved
+loop-record-preserved c =
+    let inv = c.loop-record.invariant in
+    let s = rw (c.in-Some.is, c.in-Ok.is) at ((c.next.ensures.steps inv.turns inv.trim).0 inv.ready) in
+    let m = rows-more (λ (s : Bor (List ℕ)). Some s.now) c.loop-record.record-iterator.rdr c.next.new.self.rdr
+    (fields_of c.in-Ok.fields) default_config st.StartRecord (strip_bom c.args.octets.now) inv.left inv.seen
+    inv.config inv.source inv.reached s.0 in
+    let given = c.in-Ok-read.ensures.ok in
+    let read = kept_after c.loop-record.known _ c.args.group inv.rows (c.loop-record.row + 1) (fields_of c.in-Ok.fields)
+    given.0 inv.known given.1 given.2 in
+    record {
+      trim = s.0.3 ∙ inv.trim;
+      ready = inl s.1;
+      turns = s.2;
+      config = s.0.2 ∙ inv.config;
+      left = m.0;
+      source = m.1;
+      seen = inv.seen ++ fields_of c.in-Ok.fields ∷ [];
+      reached = m.2;
+      rows = with_row inv.rows read.meant;
+      count = few_kept _ c.args.group _ read.kept;
+      few = few_orders _ c.args.group _ read.kept;
+      number = row_more inv.rows read.meant c.loop-record.row inv.number;
+      known = read.kept;
+      meant = leave_more (row_in_group c.args.group) inv.seen (fields_of c.in-Ok.fields) c.loop-record.row inv.rows _
+          read.meant inv.meant read.right refl;
+    }
+
+pub returns-in-Err-clause-err : goal.returns-in-Err-clause-err
+returns-in-Err-clause-err c =
+    let inv = c.loop-record.invariant in
+    let s = rw (c.in-Some.is, c.in-Ok.is) at ((c.next.ensures.steps inv.turns inv.trim).0 inv.ready) in
+    let m = rows-more (λ (s : Bor (List ℕ)). Some s.now) c.loop-record.record-iterator.rdr c.next.new.self.rdr
+    (fields_of c.in-Ok.fields) default_config st.StartRecord (strip_bom c.args.octets.now) inv.left inv.seen
+    inv.config inv.source inv.reached s.0 in
+    wrong_row (row_in_group c.args.group) c.args.octets.now inv.seen (fields_of c.in-Ok.fields) c.loop-record.row
+    inv.rows c.in-Err.fault _ _ m.0
+    m.2 inv.meant (λ told. kept_fault c.loop-record.known c.args.group inv.rows (c.loop-record.row + 1)
+    (fields_of c.in-Ok.fields) c.in-Err.fault inv.known (c.in-Err.ensures.err told)) c.fault_of_row.ensures
+
+pub returns-clause-ok : goal.returns-clause-ok
+returns-clause-ok c =
+    let inv = c.loop-record.invariant in
+    let s = rw c.in-None.is at ((c.next.ensures.steps inv.turns inv.trim).0 inv.ready) in
+    record {
+      rows = inv.rows;
+      meant = record {
+        records = inv.seen;
+        read = (
+          c.loop-record.record-iterator.rdr.state,
+          inv.left,
+          inv.reached,
+          rows-end (λ (s : Bor (List ℕ)). Some s.now) c.loop-record.record-iterator.rdr c.next.new.self.rdr []
+              default_config inv.left inv.config
+              inv.source s,
+        );
+        meant = leave_all (row_in_group c.args.group) inv.seen c.loop-record.row inv.rows inv.meant;
+      };
+      known = inv.known;
+    }
