@@ -8,3 +8,5 @@ mod memory;
 mod plans;
 #[cfg(test)]
 mod scan;
+#[cfg(test)]
+mod worked;

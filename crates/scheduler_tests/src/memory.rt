@@ -2,7 +2,9 @@
 //!
 //! The steps of a row, which `;` parts, are carried out at a new plan. `add ENTRY START PAGES PERIOD BROADCASTS RANK`
 //! adds a message; `air SLOTS` says what as many slots air, `4.2` for page 2 of entry 4 and `-` for nothing;
-//! `stop ENTRY` and `done ENTRY` say the completed number.
+//! `stop ENTRY` and `done ENTRY` say the completed number, and `none` if there is no such message. `not ENTRY ..` says
+//! `none` of a message that may not be added. `stopped N` adds N messages and stops each, and says how many of them had
+//! no completed broadcast then.
 //!
 //! A message of a step `scarce add ..` is added with hardly any memory. If it is refused, the plan has to say what it
 //! said before, and the message is added with all memory; the steps after it have to say what they would have said. The
@@ -105,12 +107,39 @@ fn air_all(plan: &mut Plan, slots: u16, text: &mut String) -> Result<(), Fail> {
     Ok(())
 }
 
-/// Says a completed number, if there is one.
+/// Says a completed number, or that there is no such message.
 fn put_number(text: &mut String, completed: Option<u16>) -> Result<(), Fail> {
     match completed {
         Some(number) => Ok(write!(text, " {number}")?),
-        None => Err(Fail::new("there is no such message")),
+        None => Ok(text.push_str(" none")?),
     }
+}
+
+/// Adds a message that may not be added, and says so.
+fn put_unadded(text: &mut String, plan: &mut Plan, item: Item) -> Result<(), Fail> {
+    match add_item(plan, item) {
+        Some(_) => Ok(text.push_str(" added")?),
+        None => Ok(text.push_str(" none")?),
+    }
+}
+
+/// Adds so many messages of two pages and stops each. Gives how many had no completed broadcast.
+fn add_and_stop(plan: &mut Plan, count: u16) -> u16 {
+    let mut stopped = 0_u16;
+    for entry in 0..count {
+        let item = Item {
+            entry,
+            start: u32::from(plan.next_slot()),
+            pages: 2,
+            period: 1024,
+            broadcasts: 1,
+            rank: Rank::Normal,
+        };
+        if add_item(plan, item).is_some() && stop(plan, entry) == Some(0) {
+            stopped = stopped.saturating_add(1);
+        }
+    }
+    stopped
 }
 
 /// Carries out a step for which so many blocks of memory are left, and says whether it was refused before.
@@ -126,6 +155,8 @@ fn carry_out(
     match drought.verb(&mut words, blocks) {
         "add" => return is_refused(alloc, drought, plan, item_of(&mut words)?),
         "air" => air_all(plan, words.number16()?, text)?,
+        "not" => put_unadded(text, plan, item_of(&mut words)?)?,
+        "stopped" => put_number(text, Some(add_and_stop(plan, words.number16()?)))?,
         "stop" => put_number(text, stop(plan, words.number16()?))?,
         "done" => put_number(text, done(plan, words.number16()?))?,
         _ => return Err(Fail::new("no such action")),
@@ -166,22 +197,40 @@ fn outcome(alloc: Global, drought: &mut Drought, row: Row) -> Result<String, Fai
     Err(Fail::new("it is refused to the end"))
 }
 
-/// Expects what the rows of a table say.
-fn expect_rows(rt: &impl Abort, alloc: Global, table: &str) -> Result<(), Fail> {
-    let mut drought = Drought::new(alloc)?;
+/// Expects what a row says.
+fn expect_row(rt: &impl Abort, alloc: Global, drought: &mut Drought, row: Row) -> Result<(), Fail> {
+    let found = outcome(alloc, drought, row)?;
+    assert_eq!(rt; found.as_str(), row.wanted, "{}", row.action);
+    Ok(())
+}
+
+/// Expects what the rows of a table say, and returns how many there are.
+fn expect_each(
+    rt: &impl Abort,
+    alloc: Global,
+    drought: &mut Drought,
+    table: &str,
+) -> Result<u16, Fail> {
     let mut rows = 0_u16;
     for line in table.split('\n') {
         if let Some(row) = Row::of(line) {
-            let found = outcome(alloc, &mut drought, row)?;
-            assert_eq!(rt; found.as_str(), row.wanted, "{line}");
+            expect_row(rt, alloc, drought, row)?;
             rows = rows.saturating_add(1);
         }
     }
-    assert_eq!(rt; rows, 6);
+    Ok(rows)
+}
+
+/// Expects what the rows of a table say, which are so many.
+pub fn expect_rows(rt: &impl Abort, alloc: Global, table: &str, count: u16) -> Result<(), Fail> {
+    let mut drought = Drought::new(alloc)?;
+    let rows = expect_each(rt, alloc, &mut drought, table);
+    drop(drought);
+    assert_eq!(rt; rows?, count);
     Ok(())
 }
 
 #[test]
 fn messages_are_refused_until_there_is_memory(rt: HostRuntime) -> Result<(), Fail> {
-    expect_rows(&rt, rt.alloc(), ADDED)
+    expect_rows(&rt, rt.alloc(), ADDED, 6)
 }

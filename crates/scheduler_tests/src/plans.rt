@@ -1,29 +1,9 @@
-//! Worked air lists, and generated histories against the rule said once more, over the whole air list.
+//! Calls of a plan that are asked first, and generated histories against the rule said once more, over the whole air
+//! list.
 
-use scheduler::{Item, Plan, Rank, Refused, air_laws, background_laws};
-use std::alloc::Global;
-use std::process::Abort;
+use scheduler::{Item, Plan, Rank};
+use std::alloc::{AllocError, Global};
 use std::test::Fail;
-
-/// Adds a message at the slot that is asked next. `None` is a message that may not be added there.
-fn add(
-    plan: &mut Plan,
-    entry: u16,
-    pages: u8,
-    period: u16,
-    broadcasts: u16,
-    rank: Rank,
-) -> Option<Item> {
-    let item = Item {
-        entry,
-        start: u32::from(plan.next_slot()),
-        pages,
-        period,
-        broadcasts,
-        rank,
-    };
-    add_item(plan, item)
-}
 
 /// Adds a message. `None` is a message that may not be added now.
 pub fn add_item(plan: &mut Plan, item: Item) -> Option<Item> {
@@ -63,218 +43,6 @@ pub fn done(plan: &Plan, entry: u16) -> Option<u16> {
         return None;
     }
     Some(plan.done(entry))
-}
-
-/// That a message that stands from the slot asked next is added.
-fn expect_added(
-    rt: &impl Abort,
-    plan: &mut Plan,
-    entry: u16,
-    pages: u8,
-    period: u16,
-    broadcasts: u16,
-    rank: Rank,
-) {
-    assert!(rt; add(plan, entry, pages, period, broadcasts, rank).is_some());
-}
-
-/// That the slot that is asked next airs this.
-fn expect_aired(rt: &impl Abort, plan: &mut Plan, used: Option<(u16, u8)>) {
-    assert_eq!(rt; air(plan), used);
-}
-
-/// That of nine slots two air page 1 of message 0, and the others nothing.
-fn expect_two_of_nine(rt: &impl Abort, plan: &mut Plan, first: u16, second: u16) {
-    for slot in 0..9 {
-        let is_used = slot == first || slot == second;
-        expect_aired(rt, plan, if is_used { Some((0, 1)) } else { None });
-    }
-}
-
-/// That a message was stopped with this completed number. `None` is a message that does not stand.
-fn expect_stopped(rt: &impl Abort, plan: &mut Plan, entry: u16, completed: Option<u16>) {
-    assert_eq!(rt; stop(plan, entry), completed);
-}
-
-/// That a message that was added has this completed number.
-fn expect_done(rt: &impl Abort, plan: &Plan, entry: u16, completed: u16) {
-    assert_eq!(rt; done(plan, entry), Some(completed));
-}
-
-#[test]
-fn airs_by_due_slot(rt: HostRuntime) {
-    let mut plan = Plan::new(rt.alloc());
-    expect_added(&rt, &mut plan, 0, 1, 2, 0, Rank::Normal);
-    expect_added(&rt, &mut plan, 1, 2, 4, 0, Rank::Normal);
-    for used in [(0, 1), (1, 1), (0, 1), (1, 2)] {
-        expect_done(&rt, &plan, 1, 0);
-        expect_aired(&rt, &mut plan, Some(used));
-    }
-    expect_done(&rt, &plan, 0, 2);
-    expect_done(&rt, &plan, 1, 1);
-}
-
-#[test]
-fn airs_high_first(rt: HostRuntime) {
-    let mut plan = Plan::new(rt.alloc());
-    expect_added(&rt, &mut plan, 0, 1, 2, 0, Rank::Normal);
-    expect_added(&rt, &mut plan, 1, 1, 2, 0, Rank::High);
-    expect_aired(&rt, &mut plan, Some((1, 1)));
-    expect_aired(&rt, &mut plan, Some((0, 1)));
-}
-
-#[test]
-fn fills_every_slot(rt: HostRuntime) {
-    let mut plan = Plan::new(rt.alloc());
-    expect_added(&rt, &mut plan, 0, 1, 6, 0, Rank::Normal);
-    expect_added(&rt, &mut plan, 1, 1, 3, 0, Rank::Normal);
-    expect_added(&rt, &mut plan, 2, 1, 2, 0, Rank::Normal);
-    for entry in [2, 1, 2, 0, 1, 2] {
-        expect_aired(&rt, &mut plan, Some((entry, 1)));
-    }
-    expect_done(&rt, &plan, 0, 1);
-    expect_done(&rt, &plan, 1, 2);
-    expect_done(&rt, &plan, 2, 3);
-}
-
-#[test]
-fn runs_out(rt: HostRuntime) {
-    let mut plan = Plan::new(rt.alloc());
-    expect_added(&rt, &mut plan, 0, 1, 3, 2, Rank::Normal);
-    expect_two_of_nine(&rt, &mut plan, 0, 3);
-    expect_done(&rt, &plan, 0, 2);
-}
-
-/// A broadcast that is not whole at its due slot is dropped, and the next one begins with page 1. A stop is a stop.
-#[test]
-fn drops_what_is_due(rt: HostRuntime) {
-    let mut plan = Plan::new(rt.alloc());
-    expect_added(&rt, &mut plan, 4, 3, 2, 0, Rank::Normal);
-    for page in [1, 2, 1, 2, 1] {
-        expect_aired(&rt, &mut plan, Some((4, page)));
-    }
-    expect_stopped(&rt, &mut plan, 4, Some(0));
-    expect_stopped(&rt, &mut plan, 4, None);
-    assert!(rt; add(&mut plan, 4, 1, 1, 0, Rank::Normal).is_none());
-    expect_added(&rt, &mut plan, 5, 1, 1, 0, Rank::High);
-    expect_aired(&rt, &mut plan, Some((5, 1)));
-    expect_stopped(&rt, &mut plan, 5, Some(1));
-    expect_aired(&rt, &mut plan, None);
-    expect_done(&rt, &plan, 5, 1);
-}
-
-/// A message that is added ahead of its start is aired from there on, and one that is behind isn't added.
-#[test]
-fn waits_for_its_start(rt: HostRuntime) {
-    let mut plan = Plan::new(rt.alloc());
-    assert!(rt; add_item(&mut plan, from_slot_3(0)).is_some());
-    expect_two_of_nine(&rt, &mut plan, 3, 5);
-    expect_done(&rt, &plan, 0, 2);
-    assert!(rt; add_item(&mut plan, from_slot_3(1)).is_none());
-}
-
-/// A message that stands from slot 3.
-fn from_slot_3(entry: u16) -> Item {
-    Item {
-        entry,
-        start: 3,
-        pages: 1,
-        period: 2,
-        broadcasts: 2,
-        rank: Rank::Normal,
-    }
-}
-
-/// A plan keeps each message that was added, however many: 300 of one broadcast, all stopped but the last.
-#[test]
-fn keeps_many(rt: HostRuntime) {
-    let mut plan = Plan::new(rt.alloc());
-    for entry in 0..299 {
-        expect_added(&rt, &mut plan, entry, 2, 1024, 1, Rank::Normal);
-        expect_stopped(&rt, &mut plan, entry, Some(0));
-    }
-    expect_added(&rt, &mut plan, 299, 2, 1024, 1, Rank::Normal);
-    expect_aired(&rt, &mut plan, Some((299, 1)));
-    expect_aired(&rt, &mut plan, Some((299, 2)));
-    expect_aired(&rt, &mut plan, None);
-    expect_done(&rt, &plan, 299, 1);
-    expect_done(&rt, &plan, 298, 0);
-}
-
-/// Background is aired in the slots that a normal message leaves.
-#[test]
-fn airs_background_where_nothing_else_is_pending(rt: HostRuntime) {
-    let mut plan = Plan::new(rt.alloc());
-    expect_added(&rt, &mut plan, 0, 1, 2, 0, Rank::Normal);
-    expect_added(&rt, &mut plan, 1, 2, 4, 0, Rank::Background);
-    for used in [
-        (0, 1),
-        (1, 1),
-        (0, 1),
-        (1, 2),
-        (0, 1),
-        (1, 1),
-        (0, 1),
-        (1, 2),
-    ] {
-        expect_aired(&rt, &mut plan, Some(used));
-    }
-    expect_done(&rt, &plan, 0, 4);
-    expect_done(&rt, &plan, 1, 2);
-}
-
-/// A message that needs every slot is stopped at slot 3. Of the background, the broadcast that is due at slot 4 is
-/// dropped with a page aired, and the next one begins with page 1.
-#[test]
-fn drops_background_that_is_due(rt: HostRuntime) {
-    let mut plan = Plan::new(rt.alloc());
-    expect_added(&rt, &mut plan, 0, 1, 1, 0, Rank::Normal);
-    expect_added(&rt, &mut plan, 1, 2, 4, 0, Rank::Background);
-    for _ in 0..3 {
-        expect_aired(&rt, &mut plan, Some((0, 1)));
-    }
-    expect_stopped(&rt, &mut plan, 0, Some(3));
-    for used in [Some((1, 1)), Some((1, 1)), Some((1, 2)), None, None] {
-        expect_aired(&rt, &mut plan, used);
-    }
-    expect_done(&rt, &plan, 0, 3);
-    expect_done(&rt, &plan, 1, 1);
-}
-
-/// A high message, too, is before all background, whenever that is due; and background is aired by due slot.
-#[test]
-fn airs_background_by_due_slot(rt: HostRuntime) {
-    let mut plan = Plan::new(rt.alloc());
-    expect_added(&rt, &mut plan, 0, 2, 4, 1, Rank::Background);
-    expect_added(&rt, &mut plan, 1, 1, 2, 1, Rank::Background);
-    expect_added(&rt, &mut plan, 2, 1, 8, 1, Rank::High);
-    for used in [(2, 1), (1, 1), (0, 1), (0, 2)] {
-        expect_aired(&rt, &mut plan, Some(used));
-    }
-}
-
-/// Background of three pages in periods of two slots is never whole, and takes no slot of a normal message.
-#[test]
-fn airs_background_that_is_never_whole(rt: HostRuntime) {
-    let mut plan = Plan::new(rt.alloc());
-    expect_added(&rt, &mut plan, 0, 3, 2, 0, Rank::Background);
-    expect_added(&rt, &mut plan, 1, 1, 4, 0, Rank::Normal);
-    for used in [(1, 1), (0, 1), (0, 1), (0, 2), (1, 1), (0, 1)] {
-        expect_aired(&rt, &mut plan, Some(used));
-    }
-    expect_done(&rt, &plan, 0, 0);
-    expect_done(&rt, &plan, 1, 2);
-}
-
-#[test]
-fn tells_the_fault(rt: HostRuntime) -> Result<(), Fail> {
-    air_laws();
-    background_laws();
-    assert_eq!(rt;
-        Refused.to_string(rt.alloc())?.as_str(),
-        "memory allocation failed"
-    );
-    Ok(())
 }
 
 /// A message as a history knows it.
@@ -404,79 +172,112 @@ impl Numbers {
     }
 }
 
-/// Adds a message now and then, and notes it.
-fn add_some(plan: &mut Plan, numbers: &mut Numbers, told: &mut Vec<Told>) -> Result<(), Fail> {
-    if numbers.below(5) == 0 && told.len() < 16 {
-        let entry = (told.len() as u16).saturating_mul(3);
-        let pages = match numbers.below(6) {
-            3 => 2,
-            4 => 3,
-            5 => 5,
-            _ => 1,
-        };
-        let period = numbers.below(12).saturating_add(1);
-        let broadcasts = numbers.below(5);
-        let rank = match numbers.below(4) {
-            0 => Rank::High,
-            1 => Rank::Background,
-            _ => Rank::Normal,
-        };
-        let item = add(plan, entry, pages, period, broadcasts, rank).ok_or("not added")?;
-        told.push(Told { item, stop: None })?;
-    }
-    Ok(())
+/// A run that is generated: the plan, and what it was told and aired so far.
+#[derive(Drop)]
+struct History {
+    numbers: Numbers,
+    plan: Plan,
+    told: Vec<Told>,
+    aired: Vec<Option<(u16, u8)>>,
 }
 
-/// Stops a message now and then.
-fn stop_some(
-    rt: &impl Abort,
-    plan: &mut Plan,
-    numbers: &mut Numbers,
-    told: &mut Vec<Told>,
-    air: &[Option<(u16, u8)>],
-) {
-    if numbers.below(8) != 0 {
-        return;
-    }
-    let place = usize::from(numbers.below(16));
-    if place < told.len() {
-        stop_one(rt, plan, &mut told[place], air);
+/// A message of some length, period and rank, with this number, that stands from the slot asked next.
+fn some_item(numbers: &mut Numbers, entry: u16, start: u32) -> Item {
+    let pages = match numbers.below(6) {
+        3 => 2,
+        4 => 3,
+        5 => 5,
+        _ => 1,
+    };
+    let period = numbers.below(12).saturating_add(1);
+    let broadcasts = numbers.below(5);
+    let rank = match numbers.below(4) {
+        0 => Rank::High,
+        1 => Rank::Background,
+        _ => Rank::Normal,
+    };
+    Item {
+        entry,
+        start,
+        pages,
+        period,
+        broadcasts,
+        rank,
     }
 }
 
-/// Stops a message that stands, and compares its completed number.
-fn stop_one(rt: &impl Abort, plan: &mut Plan, one: &mut Told, air: &[Option<(u16, u8)>]) {
-    if one.stop.is_none() {
-        let slot = plan.next_slot();
-        let completed = completed(one, air, slot);
-        one.stop = Some(slot);
-        expect_stopped(rt, plan, one.item.entry, Some(completed));
+/// Adds a message now and then, and notes it. Says whether it was added.
+fn is_some_added(history: &mut History) -> Result<bool, AllocError> {
+    if history.numbers.below(5) != 0 || history.told.len() >= 16 {
+        return Ok(true);
     }
+    let entry = (history.told.len() as u16).saturating_mul(3);
+    let start = u32::from(history.plan.next_slot());
+    let item = some_item(&mut history.numbers, entry, start);
+    let is_added = add_item(&mut history.plan, item).is_some();
+    history.told.push(Told { item, stop: None })?;
+    Ok(is_added)
 }
 
-/// That a history of 100 slots follows the rule.
-fn expect_rule(rt: &impl Abort, alloc: Global, seed: u64) -> Result<(), Fail> {
-    let mut numbers = Numbers { state: seed };
-    let mut plan = Plan::new(alloc);
-    let mut told: Vec<Told> = Vec::new(alloc);
-    let mut aired: Vec<Option<(u16, u8)>> = Vec::new(alloc);
+/// Stops a message now and then, if it stands. Says whether its completed number is that of the rule.
+fn is_some_stopped(history: &mut History) -> bool {
+    if history.numbers.below(8) != 0 {
+        return true;
+    }
+    let place = usize::from(history.numbers.below(16));
+    let slot = history.plan.next_slot();
+    let Some(one) = history.told.get_mut(place) else {
+        return true;
+    };
+    if one.stop.is_some() {
+        return true;
+    }
+    let completed = completed(one, &history.aired, slot);
+    one.stop = Some(slot);
+    stop(&mut history.plan, one.item.entry) == Some(completed)
+}
+
+/// Whether a slot airs what the rule says, after a message was added or stopped or not.
+fn is_slot_ruled(history: &mut History, slot: u16) -> Result<bool, AllocError> {
+    let is_changed = is_some_added(history)? && is_some_stopped(history);
+    let used = chosen(&history.told, &history.aired, slot);
+    let is_aired = air(&mut history.plan) == used;
+    history.aired.push(used)?;
+    Ok(is_changed && is_aired)
+}
+
+/// Whether the completed numbers are those of the rule.
+fn are_completed(history: &History) -> bool {
+    for one in &history.told {
+        let completed = completed(one, &history.aired, 100);
+        if done(&history.plan, one.item.entry) != Some(completed) {
+            return false;
+        }
+    }
+    true
+}
+
+/// Whether a history of 100 slots follows the rule.
+fn is_ruled(alloc: Global, seed: u64) -> Result<bool, AllocError> {
+    let mut history = History {
+        numbers: Numbers { state: seed },
+        plan: Plan::new(alloc),
+        told: Vec::new(alloc),
+        aired: Vec::new(alloc),
+    };
     for slot in 0..100 {
-        add_some(&mut plan, &mut numbers, &mut told)?;
-        stop_some(rt, &mut plan, &mut numbers, &mut told, &aired);
-        let used = chosen(&told, &aired, slot);
-        expect_aired(rt, &mut plan, used);
-        aired.push(used)?;
+        if !is_slot_ruled(&mut history, slot)? {
+            return Ok(false);
+        }
     }
-    for one in &told {
-        expect_done(rt, &plan, one.item.entry, completed(one, &aired, 100));
-    }
-    Ok(())
+    Ok(are_completed(&history))
 }
 
 #[test]
 fn follows_the_rule(rt: HostRuntime) -> Result<(), Fail> {
     for seed in 0..60 {
-        expect_rule(&rt, rt.alloc(), seed)?;
+        let is_ruled = is_ruled(rt.alloc(), seed)?;
+        assert!(rt; is_ruled, "{seed}");
     }
     Ok(())
 }

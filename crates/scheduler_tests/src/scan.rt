@@ -2,8 +2,7 @@
 
 use crate::plans::{Numbers, add_item, air, done, stop};
 use scheduler::{Item, Plan, Rank};
-use std::alloc::Global;
-use std::process::Abort;
+use std::alloc::{AllocError, Global};
 use std::test::Fail;
 
 /// A message, with what was aired of it.
@@ -123,87 +122,102 @@ fn some_item(numbers: &mut Numbers, entry: u16, start: u32) -> Item {
     }
 }
 
-/// Adds a message to both, that stands from the slot asked next, or from one that is up to `ahead` slots later. The
-/// numbers of messages rise by `step`: with 1 each stands at the place of its number.
-fn add_both(
-    plan: &mut Plan,
-    scanned: &mut Vec<Scanned>,
-    numbers: &mut Numbers,
-    ahead: u16,
+/// A plan and the messages that a walk looks at, of a run that is generated.
+#[derive(Drop)]
+struct Both {
+    numbers: Numbers,
+    plan: Plan,
+    scanned: Vec<Scanned>,
+    /// The numbers of messages rise by this: with 1 each stands at the place of its number.
     step: u16,
-) -> Result<(), Fail> {
-    let Ok(places) = u16::try_from(scanned.len()) else {
-        return Ok(());
+}
+
+/// Adds a message to both, that stands from the slot asked next, or from one that is up to `ahead` slots later. Says
+/// whether it was added.
+fn is_added(both: &mut Both, ahead: u16) -> Result<bool, AllocError> {
+    let Ok(places) = u16::try_from(both.scanned.len()) else {
+        return Ok(true);
     };
-    let entry = places.saturating_mul(step);
-    let later = numbers.below(ahead.saturating_add(1));
-    let start = u32::from(plan.next_slot()).saturating_add(u32::from(later));
-    let item = add_item(plan, some_item(numbers, entry, start)).ok_or("not added")?;
-    scanned.push(Scanned {
+    let entry = places.saturating_mul(both.step);
+    let later = both.numbers.below(ahead.saturating_add(1));
+    let start = u32::from(both.plan.next_slot()).saturating_add(u32::from(later));
+    let item = some_item(&mut both.numbers, entry, start);
+    let is_added = add_item(&mut both.plan, item).is_some();
+    both.scanned.push(Scanned {
         item,
         stop: None,
         pages_aired: 0,
         completed: 0,
     })?;
-    Ok(())
+    Ok(is_added)
 }
 
-/// Stops the message at a place of both, if it stands.
-fn stop_both(rt: &impl Abort, plan: &mut Plan, scanned: &mut [Scanned], place: usize) {
-    if place < scanned.len() {
-        let one = scanned[place];
-        if one.stop.is_none() {
-            let slot = plan.next_slot();
-            assert_eq!(rt; stop(plan, one.item.entry), Some(one.completed));
-            scanned[place].stop = Some(slot);
-        }
+/// Stops the message at a place of both, if it stands. Says whether its completed number is that of the walk.
+fn is_stopped(both: &mut Both, place: usize) -> bool {
+    let slot = both.plan.next_slot();
+    let Some(one) = both.scanned.get_mut(place) else {
+        return true;
+    };
+    if one.stop.is_some() {
+        return true;
+    }
+    one.stop = Some(slot);
+    stop(&mut both.plan, one.item.entry) == Some(one.completed)
+}
+
+/// What happens before a slot: a message is added, stopped, or stopped and replaced by a later one, or nothing. Says
+/// whether it was done.
+fn is_changed(both: &mut Both) -> Result<bool, AllocError> {
+    let place = usize::from(both.numbers.below(64));
+    match both.numbers.below(6) {
+        0 => is_added(both, 0),
+        1 => is_added(both, 30),
+        2 => Ok(is_stopped(both, place)),
+        3 => Ok(is_stopped(both, place) && is_added(both, 12)?),
+        _ => Ok(true),
     }
 }
 
-/// What happens before a slot: a message is added, stopped, or stopped and replaced by a later one, or nothing.
-fn change_both(
-    rt: &impl Abort,
-    plan: &mut Plan,
-    scanned: &mut Vec<Scanned>,
-    numbers: &mut Numbers,
-    step: u16,
-) -> Result<(), Fail> {
-    let place = usize::from(numbers.below(64));
-    match numbers.below(6) {
-        0 => add_both(plan, scanned, numbers, 0, step)?,
-        1 => add_both(plan, scanned, numbers, 30, step)?,
-        2 => stop_both(rt, plan, scanned.as_mut_slice(), place),
-        3 => {
-            stop_both(rt, plan, scanned.as_mut_slice(), place);
-            add_both(plan, scanned, numbers, 12, step)?;
-        }
-        _ => {}
-    }
-    Ok(())
+/// Whether a slot airs what the walk says.
+fn is_slot_scanned(both: &mut Both, slot: u16) -> Result<bool, AllocError> {
+    let is_changed = is_changed(both)?;
+    let used = scan(&both.scanned, slot);
+    let is_aired = air(&mut both.plan) == used;
+    pass(both.scanned.as_mut_slice(), slot, used);
+    Ok(is_changed && is_aired)
 }
 
-/// That a run of 200 slots airs, and completes, what the walk does.
-fn expect_scan(rt: &impl Abort, alloc: Global, seed: u64, step: u16) -> Result<(), Fail> {
-    let mut numbers = Numbers { state: seed };
-    let mut plan = Plan::new(alloc);
-    let mut scanned: Vec<Scanned> = Vec::new(alloc);
+/// Whether the completed numbers are those of the walk.
+fn are_completed(both: &Both) -> bool {
+    for one in &both.scanned {
+        if done(&both.plan, one.item.entry) != Some(one.completed) {
+            return false;
+        }
+    }
+    true
+}
+
+/// Whether a run of 200 slots airs, and completes, what the walk does.
+fn is_scanned(alloc: Global, seed: u64, step: u16) -> Result<bool, AllocError> {
+    let mut both = Both {
+        numbers: Numbers { state: seed },
+        plan: Plan::new(alloc),
+        scanned: Vec::new(alloc),
+        step,
+    };
     for slot in 0..200 {
-        change_both(rt, &mut plan, &mut scanned, &mut numbers, step)?;
-        let used = scan(scanned.as_slice(), slot);
-        assert_eq!(rt; air(&mut plan), used);
-        pass(scanned.as_mut_slice(), slot, used);
+        if !is_slot_scanned(&mut both, slot)? {
+            return Ok(false);
+        }
     }
-    for one in &scanned {
-        assert_eq!(rt; done(&plan, one.item.entry), Some(one.completed));
-    }
-    Ok(())
+    Ok(are_completed(&both))
 }
 
 #[test]
 fn answers_as_a_walk_does(rt: HostRuntime) -> Result<(), Fail> {
     for seed in 0..20 {
-        expect_scan(&rt, rt.alloc(), seed, 1)?;
-        expect_scan(&rt, rt.alloc(), seed + 20, 2)?;
+        let is_scanned = is_scanned(rt.alloc(), seed, 1)? && is_scanned(rt.alloc(), seed + 20, 2)?;
+        assert!(rt; is_scanned, "{seed}");
     }
     Ok(())
 }
