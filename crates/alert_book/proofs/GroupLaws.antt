@@ -1,17 +1,16 @@
 -- The cells of a group, among those of its network.
-use Rattle.std.proofs.Common.{◌≡◌, ℕ, zero, suc, ◌+◌, ◌*◌, ◌<◌, ◌≤◌, ◌&&◌, ◌||◌, Bool, true, false, cond, not, ◌∙◌}
-use Rattle.std.proofs.Common.{List, [], ◌∷◌, ◌++◌, length, take, drop, filter, refl, sym, ap, arith, inl, inr, subst}
-use Rattle.std.proofs.Common.{nat_le, nat_lt, eqb, eqb-true, Result, Ok, Err, codes, Option, Some, None}
-use Rattle.std.specs.List.{list_all, list_any}
+use Rattle.std.proofs.Common.{◌≡◌, ℕ, zero, suc, ◌+◌, ◌*◌, ◌<◌, ◌≤◌, ◌&&◌, Bool, true, false, not, ◌∙◌}
+use Rattle.std.proofs.Common.{List, [], ◌∷◌, ◌++◌, length, take, drop, filter, refl, sym, ap, arith}
+use Rattle.std.proofs.Common.{eqb}
+use Rattle.std.specs.List.{list_any}
 use Rattle.std.specs.Cmp.{nat_eq_equiv}
-use Rattle.std.specs.Str.{bytes_eq}
-use Rattle.std.proofs.lemmas.Bool.{and_parts, both_ways, cases_Bool, le-leb, leb-false, leb-true, not-true, or_from}
+use Rattle.std.proofs.lemmas.Bool.{and_parts, not-true, or_from}
 use Rattle.std.proofs.lemmas.Bool.{or_parts}
 use Rattle.std.proofs.lemmas.List.{drop-append-le, take-append-le}
 use Rattle.cbsp_wire.specs.declared.message.Cell.{Cell}
 use Rattle.cbsp_wire.specs.Range.{are_distinct, is_cell}
-use Rattle.alert_book.specs.Cells.{all_of, cells_listed, cells_judged, cells_of_field, is_among}
-use Rattle.alert_book.specs.Network.{cells_of_group, cells_in_group}
+use Rattle.alert_book.specs.Cells.{is_among}
+use Rattle.alert_book.specs.Network.{cells_of_group}
 
 -- cells compare either way
 pub cell-symm : (a b : Cell) → is_cell a b ≡ is_cell b a

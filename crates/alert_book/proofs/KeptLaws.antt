@@ -1,6 +1,7 @@
 -- What is kept of a network's cells, and what rows mean by it.
-use Rattle.std.proofs.Common.{◌≡◌, ℕ, suc, ◌+◌, ◌*◌, ◌<◌, ◌≤◌, ◌&&◌, ◌||◌, Bool, true, false, cond, not, ◌∙◌}
-use Rattle.std.proofs.Common.{List, [], ◌∷◌, ◌++◌, length, filter, refl, subst, sym, ap, arith, inl, inr, codes}
+use Rattle.std.proofs.Common.{◌≡◌, ℕ, ◌+◌, ◌*◌, ◌<◌, ◌≤◌, ◌&&◌, ◌||◌, Bool, true, false, cond, not, ◌∙◌}
+use Rattle.std.proofs.Common.{List, [], ◌∷◌, ◌++◌, append_assoc, length, filter, get_or, take, drop, refl, subst, sym}
+use Rattle.std.proofs.Common.{ap, arith, inl, inr, codes}
 use Rattle.std.proofs.Common.{nat_le, nat_lt, eqb, eqb-true, Result, Ok, Err, Option, Some, None, length-append}
 use Rattle.std.specs.List.{list_all, list_any}
 use Rattle.std.specs.Str.{bytes_eq}
@@ -18,17 +19,18 @@ use Rattle.alert_book.specs.declared.book.row.Verb.TheVariants as verbs
 use Rattle.alert_book.specs.declared.network.group_cells.GroupCells.{GroupCells}
 use Rattle.cbs_page.specs.declared.paging.Paged.{Paged}
 use Rattle.alert_book.specs.Book.{with_row, HavePages, Rows}
-use Rattle.alert_book.specs.CellPairs.{has_cell}
+use Rattle.alert_book.specs.CellPairs.{has_cell, Pair}
 use Rattle.alert_book.specs.Cells.{all_of, cell_with, cells_judged, cells_listed, is_among}
 use Rattle.alert_book.specs.Fields.{are_texts, column, if_right, number}
 use Rattle.alert_book.specs.Network.{cells_in_group, cells_of_group, declares_cell, has_cells, row_in_group}
-use Rattle.alert_book.specs.NetworkSteps.{is_next_in, kept_all, kept_declares, kept_field, kept_judged, kept_row}
-use Rattle.alert_book.specs.NetworkSteps.{is_kept_at, pages_kept, AreKeptAfter, AreKeptOf, HasMore, IsKeptMore}
+use Rattle.alert_book.specs.NetworkSteps.{kept_all, kept_declares, kept_field, kept_judged, kept_row}
+use Rattle.alert_book.specs.NetworkSteps.{is_kept_at, pages_kept, AreKeptAfter, AreKeptOf, AreSeen, HasMore, IsKeptMore}
 use Rattle.alert_book.specs.NetworkSteps.{IsKeptOf, RowsKept}
-use Rattle.alert_book.specs.Row.{cell_row_within, new_cell, row_after_verb_by, verb_of, write_row_by, update_row_by}
-use Rattle.alert_book.specs.Row.{stop_row_by, FieldCells}
+use Rattle.alert_book.specs.Row.{cell_row_within, new_cell, row_after_verb_by, verb_of}
+use Rattle.alert_book.specs.Row.{FieldCells}
 use Rattle.alert_book.proofs.FewRows.{distinct_push, either_new, fault_never, never_new, new_parts, verb_new}
 use Rattle.alert_book.proofs.FewRows.{DeclaresNew}
+use Rattle.std.proofs.lemmas.List.{take-append-drop, take_more}
 use Rattle.alert_book.proofs.GroupLaws.{filter_group, part_after, part_before, part_within}
 
 -- a field of cells
@@ -318,3 +320,54 @@ few_kept kept group before is = omega (arith, is.declared.count, is.few_cells)
 pub few_orders : (kept : RowsKept) (group : ℕ) (before : Rows) → AreKeptOf kept group before →
     length kept.orders ≤ 4096
 few_orders kept group before is = rw is.orders is.few
+
+-- a set of the first cells of a list, with one more
+pub seen_none : AreSeen [] []
+seen_none = record { same = λ cell. refl; distinct = refl }
+
+-- distinct cells with one more that isn't among them are distinct
+pub seen_more : (old new : List Pair) (cells : List Cell) (i : ℕ) (d : Cell) → i < length cells →
+    AreSeen old (take i cells) → has_cell old (get_or cells i d) ≡ false →
+    ((other : Cell) → has_cell new other ≡ (has_cell old other || is_cell (get_or cells i d) other)) →
+    AreSeen new (take (i + 1) cells)
+seen_more old new cells i d within seen fresh more =
+    let cell = get_or cells i d in
+    rw (take_more cells i d within) (record {
+      same = λ other. more other ∙ declared_more (take i cells) cell other (has_cell old other) (seen.same other);
+      distinct = distinct_push (take i cells) cell seen.distinct (sym (seen.same cell) ∙ fresh);
+    })
+
+-- a cell that is among those before it makes them no distinct ones
+with_true : (b : Bool) → (b || true) ≡ true
+with_true true = refl
+with_true false = refl
+
+with_false : (b : Bool) → (b && false) ≡ false
+with_false true = refl
+with_false false = refl
+
+any_again : (c : Cell) (before : List Cell) (x : Cell) (rest : List Cell) → is_cell c x ≡ true →
+    list_any (is_cell c) (before ++ x ∷ rest) ≡ true
+any_again c [] x rest same = rw same refl
+any_again c (b ∷ bs) x rest same = rw (any_again c bs x rest same) (with_true (is_cell c b))
+
+named_again : (before : List Cell) (cell : Cell) (after : List Cell) → is_among before cell ≡ true →
+    are_distinct (before ++ cell ∷ after) ≡ false
+named_again [] cell after among = absurd (cc among)
+named_again (c ∷ cs) cell after among = elim (cases_Bool (is_cell c cell)) [
+  | inl same ↦ rw (any_again c cs cell after same) refl
+  | inr other ↦ rw (named_again cs cell after (rw other at among)) (with_false (not (list_any (is_cell c)
+      (cs ++ cell ∷ after))))
+]
+
+-- cells of which one stands twice aren't distinct
+pub seen_again : (seen : List Pair) (cells : List Cell) (i : ℕ) (d : Cell) → i < length cells →
+    AreSeen seen (take i cells) → has_cell seen (get_or cells i d) ≡ true → false ≡ are_distinct cells
+seen_again seen cells i d within are again =
+    let cell = get_or cells i d in
+    let split : cells ≡ take i cells ++ cell ∷ drop (i + 1) cells =
+    sym (take-append-drop (i + 1) cells)
+    ∙ ap (λ (front : List Cell). front ++ drop (i + 1) cells) (take_more cells i d within)
+    ∙ append_assoc (take i cells) (cell ∷ []) (drop (i + 1) cells) in
+    sym (ap are_distinct split
+    ∙ named_again (take i cells) cell (drop (i + 1) cells) (sym (are.same cell) ∙ again))

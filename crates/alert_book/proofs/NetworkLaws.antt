@@ -1,15 +1,13 @@
 -- Books as network books, and the one book of a group.
-use Rattle.std.proofs.Common.{◌≡◌, ℕ, ◌+◌, ◌*◌, ◌<◌, ◌≤◌, ◌&&◌, Bool, true, false, cond, not, ◌∙◌, nat_le, nat_lt, eqb}
-use Rattle.std.proofs.Common.{List, [], ◌∷◌, ◌++◌, length, filter, refl, subst, sym, ap, arith, inl, inr, codes, max}
+use Rattle.std.proofs.Common.{◌≡◌, ℕ, ◌+◌, ◌<◌, ◌≤◌, ◌&&◌, Bool, true, false, cond, not, ◌∙◌, nat_le, nat_lt, eqb}
+use Rattle.std.proofs.Common.{List, [], ◌∷◌, length, filter, refl, subst, sym, ap, arith, inl, inr, codes}
 use Rattle.std.proofs.Common.{Result, Ok, Err, Option, Some, None, All}
 use Rattle.std.specs.List.{list_all}
 use Rattle.std.specs.Str.{bytes_eq}
 use Rattle.std.proofs.lemmas.Bool.{and_parts, cases_Bool, leb-false, leb-true}
 use Rattle.std.proofs.lemmas.List.Elements.{All-head, All-tail}
-use Rattle.cbs_page.specs.declared.paging.Paged.{Paged}
 use Rattle.cbsp_wire.specs.declared.message.Cell.{Cell}
-use Rattle.cbsp_wire.specs.Range.{are_distinct, cells_are_valid, is_nothing}
-use Rattle.alert_book.specs.declared.fault.BookFault.{BookFault}
+use Rattle.cbsp_wire.specs.Range.{are_distinct, cells_are_valid}
 use Rattle.alert_book.specs.declared.fault.RowFault.{RowFault}
 use Rattle.alert_book.specs.declared.fault.RowFault.TheVariants as fault
 use Rattle.alert_book.specs.declared.book.order.Action.{Action}
@@ -18,7 +16,7 @@ use Rattle.alert_book.specs.declared.book.order.Order.{Order}
 use Rattle.alert_book.specs.declared.book.row.Row.{Row}
 use Rattle.alert_book.specs.declared.book.row.Verb.{Verb}
 use Rattle.alert_book.specs.declared.book.row.Verb.TheVariants as verbs
-use Rattle.alert_book.specs.Book.{after_row, rows_read, rows_read_by, rows_with, with_row, Contents, HavePages, IsBook}
+use Rattle.alert_book.specs.Book.{after_row, rows_read, rows_read_by, rows_with, with_row, HavePages}
 use Rattle.alert_book.specs.Book.{Rows}
 use Rattle.alert_book.specs.Cells.{all_of, cells_judged, cells_listed, cells_of_field, is_among}
 use Rattle.alert_book.specs.Fields.{are_texts, column, if_right}

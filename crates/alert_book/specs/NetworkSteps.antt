@@ -16,7 +16,7 @@ use Rattle.alert_book.specs.declared.book.row.Row.{Row}
 use Rattle.alert_book.specs.declared.book.row.Row.TheVariants as rows
 use Rattle.alert_book.specs.declared.network.group_cells.GroupCells.{GroupCells}
 use Rattle.alert_book.specs.Book.{with_row, AreRowsBy, HavePages, Rows}
-use Rattle.alert_book.specs.CellPairs.{has_cell}
+use Rattle.alert_book.specs.CellPairs.{has_cell, Pair}
 use Rattle.alert_book.specs.Cells.{cell_with, cells_listed, is_among}
 use Rattle.alert_book.specs.Fields.{are_texts, column, if_right, number}
 use Rattle.alert_book.specs.Network.{cells_of_group, declares_cell, has_cells, max_network_cells, max_orders}
@@ -69,6 +69,11 @@ pub record IsKeptOf (g : GroupCells) (group : ℕ) (cells : List Cell) : Type 0 
   pub count : g.count ≡ length cells
   pub own : g.cells ≡ cells_of_group group cells
   pub declared : (cell : Cell) → has_cell g.declared cell ≡ is_among cells cell
+  pub distinct : are_distinct cells ≡ true
+
+-- a set has these cells, none twice
+pub record AreSeen (seen : List Pair) (cells : List Cell) : Type 0 where
+  pub same : (cell : Cell) → has_cell seen cell ≡ is_among cells cell
   pub distinct : are_distinct cells ≡ true
 
 -- what is kept of rows

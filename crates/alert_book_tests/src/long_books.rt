@@ -134,7 +134,7 @@ fn expect_message<T: AllocGlobal + Abort + Threads + Sync>(
     assert!(rt; !alone.is_empty(), "row {row}");
     let given = next_octets(rt.alloc(), session)?;
     assert!(rt; given == alone, "row {row}");
-    assert_eq!(rt; session.row(), row);
+    assert_eq!(rt; session.row(), u32::from(row));
     Ok(())
 }
 

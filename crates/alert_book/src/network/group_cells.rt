@@ -3,6 +3,7 @@
 ghost use Rattle.std.specs.Prelude.{◌≡◌, ◌≢◌, ◌≤◌, [], Ok, Err, filter, IfErr, IfOk, OnOk};
 ghost use Rattle.std.specs.List.{list_all};
 ghost use Rattle.csv.specs.Records.{fields_of};
+ghost use Rattle.cbsp_wire.specs.Range.{are_distinct};
 ghost use Rattle.alert_book.specs.CellPairs.{has_cell};
 ghost use Rattle.alert_book.specs.Cells.{is_among};
 ghost use Rattle.alert_book.specs.NetworkSteps.{is_next_in, kept_all, kept_declares, kept_field};
@@ -14,7 +15,6 @@ use crate::book::fields::{column, number};
 use crate::book::row::Row;
 use crate::fault::RowFault;
 use crate::network::cell_set::CellSet;
-use cbsp_wire::cells::are_distinct;
 use cbsp_wire::{Cell, Cells};
 use csv::StringRecord;
 use std::alloc::{AllocError, Global};
@@ -126,7 +126,7 @@ impl Declared for GroupCells {
         if !self.has_all(&cells.list) {
             return Err(RowFault::UnknownCell);
         }
-        if !are_distinct(&cells.list) {
+        if !are_distinct(alloc, &cells.list)? {
             return Err(RowFault::TwiceNamed);
         }
         let kept = self.cells_among(alloc, &cells.list)?;
@@ -145,4 +145,18 @@ impl Declared for GroupCells {
         }
         Ok(Row::Declare(cell))
     }
+}
+
+/// Whether a list has no cell twice. It may be long, so no two of its cells are compared.
+fn are_distinct(alloc: Global, cells: &[Cell]) -> Result<bool, AllocError>
+    ensures { IfOk result (λ distinct. distinct ≡ are_distinct cells.now) }
+{
+    let mut seen = CellSet::new(alloc);
+    for cell in cells {
+        if seen.has(*cell) {
+            return Ok(false);
+        }
+        seen.add(*cell)?;
+    }
+    Ok(true)
 }

@@ -1,4 +1,4 @@
-use Rattle.std.proofs.Common.{◌∙◌, true, cond, ap}
+use Rattle.std.proofs.Common.{◌∙◌, ap}
 use Rattle.std.specs.Prelude.{◌||◌}
 use Rattle.cbsp_wire.specs.Range.{is_cell}
 use Rattle.alert_book.specs.CellPairs.{has_cell}
