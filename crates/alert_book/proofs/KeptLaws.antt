@@ -325,7 +325,7 @@ few_orders kept group before is = rw is.orders is.few
 pub seen_none : AreSeen [] []
 seen_none = record { same = λ cell. refl; distinct = refl }
 
--- distinct cells with one more that isn't among them are distinct
+-- the cells that were seen, with the next one added, are those up to it
 pub seen_more : (old new : List Pair) (cells : List Cell) (i : ℕ) (d : Cell) → i < length cells →
     AreSeen old (take i cells) → has_cell old (get_or cells i d) ≡ false →
     ((other : Cell) → has_cell new other ≡ (has_cell old other || is_cell (get_or cells i d) other)) →
