@@ -1,39 +1,40 @@
 //! Which messages of the warning centre are orders, and of what, as a table.
 
-use crate::told::cell_of;
+use crate::runs_table::expect_rows;
+use crate::told::put_cell;
 use bsc_table::{Category, Command, Refused, orders_of};
 use cbs_page::{Content, Dcs, Serial};
-use cbsp_wire::{Cell, Cells, Contents, Counts, Message};
+use cbsp_wire::{Cell, Cells, Contents, Counts, Message, WireFault, read};
 use std::alloc::{AllocError, Global};
 use std::fmt::Write;
-use std::process::Abort;
 use std::test::Fail;
-use test_support::{Drought, Row, Words};
+use test_support::{Drought, Words};
 
-/// `write CHANNEL CATEGORY` is a write to cells 1-2 and 1-1, `kill CHANNEL` a kill, and `killed CHANNEL` the reply to a
-/// kill; `-` is no channel or no category. What comes of it is the cells and the command, or the cause in hexadecimal.
-/// With `copy` before it the command is copied, and with `scarce copy` it is copied without any memory.
+/// `order MESSAGE` is what a message comes to: the cells and the command, or the cause in hexadecimal. After `copy` the
+/// command is a copy, and after `scarce copy` one that is made without any memory. `write CHANNEL CATEGORY` is a message
+/// to write to cells 1-2 and 1-1, `kill CHANNEL` one to kill, and `killed CHANNEL` the reply to that; `-` is no channel
+/// or no category.
 const ORDERS: &str = "
 # A write is an order to its cells, in their order.
-write - - -> 1-2 1-1 write 4370 0011 for 0010 normal every 7 times 5 dcs 01 both pages
+order write - - -> 1-2 1-1 write 4370 0011 for 0010 normal every 7 times 5 dcs 01 both pages
 copy write - - -> 1-2 1-1 write 4370 0011 for 0010 normal every 7 times 5 dcs 01 both pages
 # So is a kill.
-kill 0 -> 1-2 1-1 kill 4370 0010
+order kill 0 -> 1-2 1-1 kill 4370 0010
 # A copy needs no memory: that of a write shares its pages.
 scarce copy write - - -> 1-2 1-1 write 4370 0011 for 0010 normal every 7 times 5 dcs 01 both pages
 scarce copy kill 0 -> 1-2 1-1 kill 4370 0010
 # A category is known by its value.
-write 0 0 -> 1-2 1-1 write 4370 0011 for 0010 high every 7 times 5 dcs 01 both pages
-write 0 2 -> 1-2 1-1 write 4370 0011 for 0010 normal every 7 times 5 dcs 01 both pages
-write 0 1 -> 1-2 1-1 write 4370 0011 for 0010 background every 7 times 5 dcs 01 both pages
+order write 0 0 -> 1-2 1-1 write 4370 0011 for 0010 high every 7 times 5 dcs 01 both pages
+order write 0 2 -> 1-2 1-1 write 4370 0011 for 0010 normal every 7 times 5 dcs 01 both pages
+order write 0 1 -> 1-2 1-1 write 4370 0011 for 0010 background every 7 times 5 dcs 01 both pages
 # An unknown category is refused before the extended channel is.
-write - 3 -> cause 01
-write 1 2 -> cause 0C
-write 1 1 -> cause 0C
-write 1 3 -> cause 01
-kill 1 -> cause 0C
+order write - 3 -> cause 01
+order write 1 2 -> cause 0C
+order write 1 1 -> cause 0C
+order write 1 3 -> cause 01
+order kill 1 -> cause 0C
 # A reply is no order.
-killed 1 -> cause 04
+order killed 1 -> cause 04
 ";
 
 /// A page.
@@ -43,7 +44,7 @@ const PAGE: Content = Content {
 };
 
 /// The cells of each message.
-fn cells(alloc: Global) -> Result<Cells, Fail> {
+fn cells(alloc: Global) -> Result<Cells, AllocError> {
     let list = [Cell { lac: 1, ci: 2 }, Cell { lac: 1, ci: 1 }];
     Ok(Cells {
         list: Vec::from_slice(alloc, list.as_slice())?,
@@ -102,6 +103,19 @@ fn reply_to_kill(alloc: Global, channel: Option<u8>) -> Result<Message, Fail> {
     })
 }
 
+/// The message that words say.
+fn message_of(alloc: Global, words: &mut Words<'_>) -> Result<Message, Fail> {
+    match words.word() {
+        "write" => {
+            let channel = element(words)?;
+            message_to_write(alloc, channel, element(words)?)
+        }
+        "kill" => message_to_kill(alloc, element(words)?),
+        "killed" => reply_to_kill(alloc, element(words)?),
+        _ => Err(Fail::new("no such message")),
+    }
+}
+
 /// A category's name.
 fn name_of(category: Category) -> &'static str {
     match category {
@@ -128,19 +142,24 @@ fn replaced(serial: Option<Serial>) -> u16 {
     }
 }
 
-/// What a command does, and to which message.
-fn named(alloc: Global, verb: &str, id: u16, serial: Serial) -> Result<String, AllocError> {
-    format!(in alloc; "{verb} {id} {:04X}", serial.number())
+/// Puts what a command does, and to which message.
+fn put_named(told: &mut String, verb: &str, id: u16, serial: Serial) -> Result<(), AllocError> {
+    write!(told, "{verb} {id} {:04X}", serial.number())
 }
 
-/// Puts the serial number of the message that a write replaces.
-fn put_old(told: &mut String, replaces: Option<Serial>) -> Result<(), AllocError> {
-    write!(told, " for {:04X}", replaced(replaces))
-}
-
-/// Puts how often a write asks for a broadcast.
-fn put_pace(told: &mut String, period: u16, broadcasts: u16) -> Result<(), AllocError> {
-    write!(told, " every {period} times {broadcasts}")
+/// Puts how a write asks for a broadcast.
+fn put_pace(
+    told: &mut String,
+    replaces: Option<Serial>,
+    category: Category,
+    period: u16,
+    broadcasts: u16,
+) -> Result<(), AllocError> {
+    let (old, name) = (replaced(replaces), name_of(category));
+    write!(
+        told,
+        " for {old:04X} {name} every {period} times {broadcasts}"
+    )
 }
 
 /// Puts the pages of a write.
@@ -148,8 +167,8 @@ fn put_pages(told: &mut String, dcs: Dcs, contents: &Contents) -> Result<(), All
     write!(told, " dcs {:02X} {}", dcs.0, pages_told(contents))
 }
 
-/// What a command asks for.
-fn command_told(alloc: Global, command: &Command) -> Result<String, AllocError> {
+/// Puts what a command asks for.
+fn put_command(told: &mut String, command: &Command) -> Result<(), AllocError> {
     match command {
         Command::Write {
             id,
@@ -161,46 +180,40 @@ fn command_told(alloc: Global, command: &Command) -> Result<String, AllocError> 
             dcs,
             contents,
         } => {
-            let mut told = named(alloc, "write", *id, *serial)?;
-            put_old(&mut told, *replaces)?;
-            told.push(' ')?;
-            told.push_str(name_of(*category))?;
-            put_pace(&mut told, *period, *broadcasts)?;
-            put_pages(&mut told, *dcs, contents)?;
-            Ok(told)
+            put_named(told, "write", *id, *serial)?;
+            put_pace(told, *replaces, *category, *period, *broadcasts)?;
+            put_pages(told, *dcs, contents)
         }
-        Command::Kill { id, serial } => named(alloc, "kill", *id, *serial),
-        Command::Status { id, serial } => named(alloc, "status", *id, *serial),
+        Command::Kill { id, serial } => put_named(told, "kill", *id, *serial),
+        Command::Status { id, serial } => put_named(told, "status", *id, *serial),
     }
 }
 
-/// The names of cells.
-fn names_of(alloc: Global, cells: &[Cell]) -> Result<String, Fail> {
-    let mut names = String::new(alloc);
+/// Puts the cells and the command of an order.
+fn put_order(told: &mut String, cells: &[Cell], command: &Command) -> Result<(), AllocError> {
     for cell in cells {
-        names.push_str(&cell_of(alloc, *cell)?)?;
-        names.push(' ')?;
+        put_cell(told, *cell)?;
+        told.push(' ')?;
     }
-    Ok(names)
+    put_command(told, command)
 }
 
-/// The cells and the command of an order.
-fn order_text(alloc: Global, cells: &[Cell], command: &Command) -> Result<String, Fail> {
-    let mut told = names_of(alloc, cells)?;
-    told.push_str(&command_told(alloc, command)?)?;
-    Ok(told)
-}
-
-/// The cells and the command of a message, or the cause for which it is refused.
-fn order_told(alloc: Global, message: Message) -> Result<String, Fail> {
+/// Puts the cells and the command of a message, or the cause for which it is refused.
+fn put_ordered(told: &mut String, message: Message) -> Result<(), AllocError> {
     match orders_of(message) {
         Ok((cells, command)) => {
-            let text = order_text(alloc, &cells, &command);
+            let done = put_order(told, &cells, &command);
             drop(command);
-            text
+            done
         }
-        Err(cause) => Ok(format!(in alloc; "cause {cause:02X}")?),
+        Err(cause) => write!(told, "cause {cause:02X}"),
     }
+}
+
+/// `order MESSAGE`: the cells and the command of a message, or the cause for which it is refused.
+pub fn put_order_of(alloc: Global, told: &mut String, words: &mut Words<'_>) -> Result<(), Fail> {
+    let message = message_of(alloc, words)?;
+    Ok(put_ordered(told, message)?)
 }
 
 /// A copy of a command, where memory can be scarce.
@@ -211,96 +224,67 @@ fn copied_in(alloc: Global, drought: &mut Drought, command: &Command) -> Result<
     outcome
 }
 
-/// The cells of an order, and a copy of its command.
-fn copy_text(
+/// Puts the cells of an order, and a copy of its command.
+fn put_copy(
     alloc: Global,
+    told: &mut String,
     drought: &mut Drought,
     cells: &[Cell],
     command: &Command,
-) -> Result<Result<String, Fail>, Refused> {
+) -> Result<Result<(), AllocError>, Refused> {
     let copy = copied_in(alloc, drought, command)?;
-    let text = order_text(alloc, cells, &copy);
+    let done = put_order(told, cells, &copy);
     drop(copy);
-    Ok(text)
+    Ok(done)
 }
 
-/// The cells and the command of a message, by a copy of the command.
-fn copy_told(alloc: Global, drought: &mut Drought, message: Message) -> Result<String, Fail> {
-    match orders_of(message) {
+/// `copy MESSAGE`: the cells and the command of a message, by a copy of the command.
+pub fn put_copy_of(
+    alloc: Global,
+    told: &mut String,
+    drought: &mut Drought,
+    words: &mut Words<'_>,
+) -> Result<(), Fail> {
+    match orders_of(message_of(alloc, words)?) {
         Ok((cells, command)) => {
-            let text = copy_text(alloc, drought, &cells, &command);
+            let done = put_copy(alloc, told, drought, &cells, &command);
             drop(command);
-            text?
+            Ok(done??)
         }
         Err(_cause) => Err(Fail::new("no order")),
     }
 }
 
-/// The message that words say.
-fn message_of(alloc: Global, verb: &str, words: &mut Words<'_>) -> Result<Message, Fail> {
-    let channel = element(words)?;
-    let category = if verb == "write" {
-        element(words)?
-    } else {
-        None
-    };
-    if !words.word().is_empty() {
-        return Err(Fail::new("words are left over"));
+/// Puts the octets of cells, of location area and cell identity.
+fn put_cells(told: &mut String, cells: &[Cell]) -> Result<(), AllocError> {
+    for cell in cells {
+        write!(told, "{:04x}{:04x}", cell.lac, cell.ci)?;
     }
-    match verb {
-        "write" => message_to_write(alloc, channel, category),
-        "kill" => message_to_kill(alloc, channel),
-        "killed" => reply_to_kill(alloc, channel),
-        _ => Err(Fail::new("no such message")),
-    }
-}
-
-/// What comes of a row's words.
-fn told_of(alloc: Global, drought: &mut Drought, action: &str) -> Result<String, Fail> {
-    let mut words = Words::of(action);
-    match drought.verb(&mut words, 0) {
-        "copy" => {
-            let verb = words.word();
-            copy_told(alloc, drought, message_of(alloc, verb, &mut words)?)
-        }
-        verb => order_told(alloc, message_of(alloc, verb, &mut words)?),
-    }
-}
-
-/// Expects what a row says.
-fn expect_row(rt: &impl Abort, alloc: Global, drought: &mut Drought, row: Row) -> Result<(), Fail> {
-    let found = told_of(alloc, drought, row.action)?;
-    assert_eq!(rt; found.as_str(), row.wanted, "{}", row.action);
     Ok(())
 }
 
-/// Expects what the rows of a table say, and returns how many there are.
-fn expect_each(
-    rt: &impl Abort,
+/// Puts the octets of the cells that a message's order names, or the cause for which it is refused.
+fn put_cells_of(told: &mut String, message: Message) -> Result<(), AllocError> {
+    match orders_of(message) {
+        Ok((cells, command)) => {
+            drop(command);
+            put_cells(told, &cells)
+        }
+        Err(cause) => write!(told, "{cause:02x}"),
+    }
+}
+
+/// `octets DIGITS`: the same of a message's octets.
+pub fn put_cells_in(
     alloc: Global,
-    drought: &mut Drought,
-    table: &str,
-) -> Result<u16, Fail> {
-    let mut rows = 0_u16;
-    for line in table.split('\n') {
-        if let Some(row) = Row::of(line) {
-            expect_row(rt, alloc, drought, row)?;
-            rows = rows.saturating_add(1);
-        }
-    }
-    Ok(rows)
-}
-
-/// Expects what the rows of a table say.
-fn expect_rows(rt: &impl Abort, alloc: Global, table: &str) -> Result<(), Fail> {
-    let mut drought = Drought::new(alloc)?;
-    let rows = expect_each(rt, alloc, &mut drought, table);
-    drop(drought);
-    assert_eq!(rt; rows?, 14);
-    Ok(())
+    told: &mut String,
+    octets: &[u8],
+) -> Result<Result<(), AllocError>, WireFault> {
+    let message = read(alloc, octets)?;
+    Ok(put_cells_of(told, message))
 }
 
 #[test]
 fn messages_are_orders_or_have_a_cause(rt: HostRuntime) -> Result<(), Fail> {
-    expect_rows(&rt, rt.alloc(), ORDERS)
+    expect_rows(&rt, rt.alloc(), ORDERS, 14)
 }

@@ -419,21 +419,21 @@ cell 1-1 1; asks 4096 0001; scarce kill 0001; scarce ask 0001; scarce write 0001
 
 #[test]
 fn books_are_refused_until_there_is_memory(rt: HostRuntime) -> Result<(), Fail> {
-    expect_rows(&rt, rt.alloc(), SCARCE)
+    expect_rows(&rt, rt.alloc(), SCARCE, 18)
 }
 
 #[test]
 fn runs_air_what_was_worked_by_hand(rt: HostRuntime) -> Result<(), Fail> {
-    expect_rows(&rt, rt.alloc(), AIRS)?;
-    expect_rows(&rt, rt.alloc(), BACKGROUND)
+    expect_rows(&rt, rt.alloc(), AIRS, 71)?;
+    expect_rows(&rt, rt.alloc(), BACKGROUND, 40)
 }
 
 #[test]
 fn replacements_take_over_in_time(rt: HostRuntime) -> Result<(), Fail> {
-    expect_rows(&rt, rt.alloc(), TAKEOVERS)
+    expect_rows(&rt, rt.alloc(), TAKEOVERS, 108)
 }
 
 #[test]
 fn commands_are_refused_past_each_limit(rt: HostRuntime) -> Result<(), Fail> {
-    expect_rows(&rt, rt.alloc(), REFUSALS)
+    expect_rows(&rt, rt.alloc(), REFUSALS, 54)
 }

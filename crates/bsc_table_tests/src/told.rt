@@ -2,16 +2,16 @@
 
 use bsc_table::{Aired, Answer, State};
 use cbsp_wire::{Cell, cause};
-use std::alloc::Global;
-use std::test::Fail;
+use std::alloc::AllocError;
+use std::fmt::Write;
 
-/// How often a message was broadcast, and how it stands.
-pub fn standing_of(alloc: Global, completed: u16, state: State) -> Result<String, Fail> {
-    Ok(match state {
-        State::Standing => format!(in alloc; "{completed} standing")?,
-        State::Stopped { slot } => format!(in alloc; "{completed} stopped at {slot}")?,
-        State::RanOut => format!(in alloc; "{completed} ran out")?,
-    })
+/// Puts how often a message was broadcast, and how it stands.
+pub fn put_standing(told: &mut String, completed: u16, state: State) -> Result<(), AllocError> {
+    match state {
+        State::Standing => write!(told, "{completed} standing"),
+        State::Stopped { slot } => write!(told, "{completed} stopped at {slot}"),
+        State::RanOut => write!(told, "{completed} ran out"),
+    }
 }
 
 /// The name of a cause.
@@ -27,37 +27,36 @@ fn name_of(cause: u8) -> &'static str {
     }
 }
 
-/// The answer to a command.
-pub fn answer_of(alloc: Global, answer: Answer) -> Result<String, Fail> {
+/// Puts the answer to a command.
+pub fn put_answer(told: &mut String, answer: Answer) -> Result<(), AllocError> {
     match answer {
-        Answer::Started { slot } => Ok(format!(in alloc; "started at {slot}")?),
+        Answer::Started { slot } => write!(told, "started at {slot}"),
         Answer::Replaced { slot, completed } => {
-            Ok(format!(in alloc; "replaced at {slot}, {completed} completed")?)
+            write!(told, "replaced at {slot}, {completed} completed")
         }
-        Answer::Stopped { completed } => Ok(format!(in alloc; "stopped, {completed} completed")?),
-        Answer::Told { completed, state } => standing_of(alloc, completed, state),
-        Answer::Unknown => Ok(String::from_str(alloc, "unknown")?),
-        Answer::Cause(cause) => Ok(format!(in alloc; "refused: {}", name_of(cause))?),
-        Answer::Refused => Ok(String::from_str(alloc, "out of memory")?),
+        Answer::Stopped { completed } => write!(told, "stopped, {completed} completed"),
+        Answer::Told { completed, state } => put_standing(told, completed, state),
+        Answer::Unknown => told.push_str("unknown"),
+        Answer::Cause(cause) => write!(told, "refused: {}", name_of(cause)),
+        Answer::Refused => told.push_str("out of memory"),
     }
 }
 
-/// What was aired, slot by slot: the entry of a message and its page, or `-`.
-pub fn air_of(alloc: Global, air: &[Option<Aired>]) -> Result<String, Fail> {
-    let mut told = String::new(alloc);
-    for slot in air {
-        if !told.is_empty() {
+/// Puts what was aired, slot by slot: the entry of a message and its page, or `-`.
+pub fn put_air(told: &mut String, air: &[Option<Aired>]) -> Result<(), AllocError> {
+    for (place, slot) in air.iter().enumerate() {
+        if place > 0 {
             told.push(' ')?;
         }
         match slot {
-            Some(aired) => told.push_str(&format!(in alloc; "{}/{}", aired.entry, aired.page)?)?,
+            Some(aired) => write!(told, "{}/{}", aired.entry, aired.page)?,
             None => told.push('-')?,
         }
     }
-    Ok(told)
+    Ok(())
 }
 
-/// A cell, by its location area code and its cell identity.
-pub fn cell_of(alloc: Global, cell: Cell) -> Result<String, Fail> {
-    Ok(format!(in alloc; "{}-{}", cell.lac, cell.ci)?)
+/// Puts a cell, by its location area code and its cell identity.
+pub fn put_cell(told: &mut String, cell: Cell) -> Result<(), AllocError> {
+    write!(told, "{}-{}", cell.lac, cell.ci)
 }
