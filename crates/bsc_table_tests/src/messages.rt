@@ -11,9 +11,9 @@ use std::test::Fail;
 use test_support::{Drought, Words};
 
 /// `order MESSAGE` is what a message comes to: the cells and the command, or the cause in hexadecimal. After `copy` the
-/// command is a copy, and after `scarce copy` one that is made without any memory. `write CHANNEL CATEGORY` is a message
-/// to write to cells 1-2 and 1-1, `kill CHANNEL` one to kill, and `killed CHANNEL` the reply to that; `-` is no channel
-/// or no category.
+/// command is a copy, and after `scarce copy` one that is made without any memory. `write CHANNEL CATEGORY` is a
+/// message to write to cells 1-2 and 1-1, `kill CHANNEL` one to kill, and `killed CHANNEL` the reply to that; `-` is no
+/// channel or no category.
 const ORDERS: &str = "
 # A write is an order to its cells, in their order.
 order write - - -> 1-2 1-1 write 4370 0011 for 0010 normal every 7 times 5 dcs 01 both pages
