@@ -84,7 +84,7 @@ pub fn run_between<T: AllocGlobal + Threads + Wait + Sync, S: AsStr, R: Read, W:
     ensures refused { result ≡ REFUSED_INPUT
         → RefusesInput (map S.text words.now) (R.remaining (reader_of source.old)) }
     ensures device { result ≡ DEVICE → OneHasFailed source.new sink.new }
-    ensures unread { result ≡ USAGE → source.new ≡ source.old }
+    ensures not_read { result ≡ USAGE → source.new ≡ source.old }
     ensures failed { (source_failed source.old ≡ false) → (sink_failed sink.old ≡ false)
         → OneHasFailed source.new sink.new → result ≡ DEVICE }
     ensures statuses { result ≤ 4 }
