@@ -37,7 +37,7 @@ use Rattle.handset.specs.Counting.{whole_in}
 use Rattle.handset.specs.Showing.{name_shown}
 use Rattle.cbch_blocks.specs.RecordBlocks.{blocks_of_uses}
 use Rattle.book_runs.specs.Live.{asked_by}
-use Rattle.book_runs.specs.Live.{Interleaving as CellOrder}
+use Rattle.book_runs.specs.Live.{Interleaving}
 use Rattle.book_runs.specs.Run.{Exchange, IsExchange, asked_of, asked_with, entries_for, is_among}
 use Rattle.book_runs.specs.Sessions.{AreSessions, IsNoteOf, asks_of, is_of_command}
 
@@ -66,7 +66,7 @@ abbrev safe : Content
 safe = content (0x41 ∷ 0x36 ∷ 0x1B ∷ 0x34 ∷ 0x0F ∷ 0x9B ∷ 0xCB ∷ [])
 
 -- the orders of rows 3 to 6
-abbrev orders : List Interleaving
+abbrev orders : List Order
 orders =
     order_with 3 0 (codes "fire-en") 0 (alert_with 4370 0 1)
     (action.Write (sending_with (codes "en") 2 4 0 (one ∷ other ∷ []) (codes "Stay in!")))
@@ -162,7 +162,7 @@ first_session p q r = record { reached = _; gone = (refl, (refl, refl)); over = 
 second_session : (p q r : Paged) → AreTurnsOf (book p q r) 1 2 (map (λ (x : Exchange). x.turn) (of_fire_de q))
 second_session p q r = record { reached = _; gone = (refl, (refl, refl)); over = refl }
 
-abbrev order_in_one : (p q r : Paged) → CellOrder
+abbrev order_in_one : (p q r : Paged) → Interleaving
 order_in_one p q r =
     (1, asked_with (row_4 q) (one, answers.Started 0)) ∷ (0, asked_with (row_3 p) (one, answers.Started 0))
     ∷ (0, asked_with (row_5 r) (one, answers.Replaced 4 1)) ∷ []
