@@ -78,8 +78,8 @@ fn written(
     })
 }
 
-/// Tells what a message is, and gives the reply of cells that all accept it.
-fn reply_to(alloc: Global, told: &mut String, message: &Message) -> Result<Message, Fail> {
+/// The reply of cells that all accept a message.
+fn reply_to(alloc: Global, message: &Message) -> Result<Message, Fail> {
     match message {
         Message::Write {
             id,
@@ -87,64 +87,129 @@ fn reply_to(alloc: Global, told: &mut String, message: &Message) -> Result<Messa
             old_serial,
             cells,
             ..
-        } => {
-            write!(told, "{:04X}", new_serial.number())?;
-            if let Some(old) = old_serial {
-                write!(told, " over {:04X}", old.number())?;
-            }
-            written(alloc, *id, *new_serial, *old_serial, &cells.list)
-        }
+        } => written(alloc, *id, *new_serial, *old_serial, &cells.list),
         Message::Kill {
             id,
             old_serial,
             cells,
             ..
+        } => Ok(Message::KillDone {
+            id: *id,
+            old_serial: *old_serial,
+            completed: counts_of(alloc, &cells.list)?,
+            cells: Cells {
+                list: Vec::new(alloc),
+            },
+            channel: None,
+        }),
+        _ => Err(Fail::new("a session sent a reply")),
+    }
+}
+
+/// Tells what a message is, of which slot and row, and to which cells.
+fn tell_message(told: &mut String, message: &Message, slot: u16, row: u32) -> Result<(), Fail> {
+    let cells = match message {
+        Message::Write {
+            new_serial,
+            old_serial,
+            cells,
+            ..
         } => {
-            write!(told, "stop {:04X}", old_serial.number())?;
-            Ok(Message::KillDone {
-                id: *id,
-                old_serial: *old_serial,
-                completed: counts_of(alloc, &cells.list)?,
-                cells: Cells {
-                    list: Vec::new(alloc),
-                },
-                channel: None,
-            })
+            write!(told, "; {:04X}", new_serial.number())?;
+            if let Some(old) = old_serial {
+                write!(told, " over {:04X}", old.number())?;
+            }
+            cells
         }
-        _ => Err(Fail::new("a session sent a reply")),
+        Message::Kill {
+            old_serial,
+            cells,
+            ..
+        } => {
+            write!(told, "; stop {:04X}", old_serial.number())?;
+            cells
+        }
+        _ => return Err(Fail::new("a session sent a reply")),
+    };
+    write!(told, " at slot {slot} of row {row} to ")?;
+    tell_cells(told, &cells.list)
+}
+
+/// The octets of the reply of cells that all accept a message.
+fn octets_of_reply(alloc: Global, message: &Message) -> Result<Vec<u8>, Fail> {
+    let reply = reply_to(alloc, message)?;
+    let octets = write(alloc, &reply);
+    drop(reply);
+    match octets {
+        Ok(octets) => Ok(octets),
+        Err(_) => Err(Fail::new("a reply that can't be written")),
     }
 }
 
-/// The cells of a message of a session.
-fn tell_asked(told: &mut String, message: &Message) -> Result<(), Fail> {
-    match message {
-        Message::Write { cells, .. } | Message::Kill { cells, .. } => tell_cells(told, &cells.list),
-        _ => Err(Fail::new("a session sent a reply")),
+/// Tells a message that was read, and gives the octets of the reply to it.
+fn answered(
+    alloc: Global,
+    told: &mut String,
+    message: &Message,
+    slot: u16,
+    row: u32,
+) -> Result<Vec<u8>, Fail> {
+    tell_message(told, message, slot, row)?;
+    octets_of_reply(alloc, message)
+}
+
+/// Reads a message and tells it, and gives the octets of the reply to it.
+fn reply_of(
+    alloc: Global,
+    told: &mut String,
+    octets: &[u8],
+    slot: u16,
+    row: u32,
+) -> Result<Vec<u8>, Fail> {
+    let Ok(message) = read(alloc, octets) else {
+        return Err(Fail::new("a message that can't be read"));
+    };
+    let reply = answered(alloc, told, &message, slot, row);
+    drop(message);
+    reply
+}
+
+/// Tells the next message of a session after a reply, if there is one, and gives the octets of the reply to it.
+fn tell_turn(
+    alloc: Global,
+    told: &mut String,
+    session: &mut Session,
+    last: Option<&[u8]>,
+) -> Result<Option<Vec<u8>>, Fail> {
+    let Some((slot, octets)) = session.next(last)? else {
+        return Ok(None);
+    };
+    let reply = reply_of(alloc, told, &octets, slot, session.row());
+    drop(octets);
+    match reply {
+        Ok(reply) => Ok(Some(reply)),
+        Err(fail) => Err(fail),
     }
 }
 
-/// Tells the messages of a session, each in its line.
-pub fn tell_served(alloc: Global, told: &mut String, book: &Book) -> Result<(), Fail> {
-    let mut session = Session::new(alloc, book, 0, 1)?;
+/// Tells the messages of a session that begins.
+fn tell_turns(alloc: Global, told: &mut String, session: &mut Session) -> Result<(), Fail> {
     let mut last = None;
     for _ in 0..20 {
-        let Some((slot, octets)) = session.next(last_of(&last))? else {
-            break;
-        };
-        let Ok(message) = read(alloc, &octets) else {
-            return Err(Fail::new("a message that can't be read"));
-        };
-        told.push_str("; ")?;
-        let reply = reply_to(alloc, told, &message)?;
-        write!(told, " at slot {slot} of row {} to ", session.row())?;
-        tell_asked(told, &message)?;
-        match write(alloc, &reply) {
-            Ok(octets) => last = Some(octets),
-            Err(_) => return Err(Fail::new("a reply that can't be written")),
+        last = tell_turn(alloc, told, session, last_of(&last))?;
+        if last.is_none() {
+            return Ok(());
         }
     }
+    Err(Fail::new("a session of over 20 messages"))
+}
+
+/// Tells the messages of a book's one session, one after the other.
+pub fn tell_served(alloc: Global, told: &mut String, book: &Book) -> Result<(), Fail> {
+    let mut session = Session::new(alloc, book, 0, 1)?;
+    let served = tell_turns(alloc, told, &mut session);
     drop(session);
-    Ok(())
+    served
 }
 
 /// The octets of the last reply.
