@@ -16,10 +16,10 @@ use Rattle.alert_book.specs.declared.book.row.Row.{Row}
 use Rattle.alert_book.specs.declared.book.row.Row.TheVariants as rows
 use Rattle.alert_book.specs.declared.book.row.Verb.{Verb}
 use Rattle.alert_book.specs.declared.book.row.Verb.TheVariants as verbs
-use Rattle.alert_book.specs.Book.{after_row, rows_read, rows_with, with_row, Rows}
+use Rattle.alert_book.specs.Book.{after_row, rows_read_by, rows_with, with_row, Contents, IsBook, RowMeaning, Rows}
 use Rattle.alert_book.specs.Cells.{cell_with, cells_of_field, is_among}
 use Rattle.alert_book.specs.Fields.{alert_at, are_texts, column, if_right, known_name, new_name, number, sending_by}
-use Rattle.alert_book.specs.Laws.{CellsAreValid, RowsAreFew}
+use Rattle.alert_book.specs.Laws.{RowsAreFew}
 use Rattle.alert_book.specs.Row.{cell_row_within, new_cell, row_of, FieldCells}
 use Rattle.alert_book.specs.Row.{row_after_verb_by, stop_row_by, update_row_by, verb_of, write_row_by}
 use Rattle.alert_book.proofs.BookLaws.{row_fits}
@@ -37,17 +37,19 @@ same_rows : (r : Result Rows BookFault) (a b : Rows) → r ≡ Ok a → r ≡ Ok
 same_rows r a b one other = cc
 
 -- what each row keeps, all rows keep
-pub rows_keep : (P : ℕ → Rows → Type 0) → ((row : ℕ) (before : Rows) (fields : List (List ℕ)) (meant : Row) →
-    P row before → row_of row before.cells before.orders fields ≡ Ok meant → P (row + 1) (with_row before meant)) →
+pub rows_keep : (meaning : RowMeaning) (P : ℕ → Rows → Type 0) →
+    ((row : ℕ) (before : Rows) (fields : List (List ℕ)) (meant : Row) → P row before →
+    meaning row before.cells before.orders fields ≡ Ok meant → P (row + 1) (with_row before meant)) →
     (row : ℕ) (before result : Rows) (records : List (List (List ℕ))) → P row before →
-    rows_read row before records ≡ Ok result → (end : ℕ) × P end result
-rows_keep P step row before result [] here so = (row, subst (P row) (same_rows (Ok before) before result refl so) here)
-rows_keep P step row before result (fields ∷ more) here so =
-    elim (row_of row before.cells before.orders fields)
-    as (λ r. row_of row before.cells before.orders fields ≡ r
-    → after_row row before r (λ next. rows_read (row + 1) next more) ≡ Ok result
+    rows_read_by meaning row before records ≡ Ok result → (end : ℕ) × P end result
+rows_keep meaning P step row before result [] here so =
+    (row, subst (P row) (same_rows (Ok before) before result refl so) here)
+rows_keep meaning P step row before result (fields ∷ more) here so =
+    elim (meaning row before.cells before.orders fields)
+    as (λ r. meaning row before.cells before.orders fields ≡ r
+    → after_row row before r (λ next. rows_read_by meaning (row + 1) next more) ≡ Ok result
     → (end : ℕ) × P end result) [
-      | Ok meant ↦ λ is e. rows_keep P step (row + 1) (with_row before meant) result more
+      | Ok meant ↦ λ is e. rows_keep meaning P step (row + 1) (with_row before meant) result more
           (step row before fields meant here is) e
       | Err kind ↦ λ is e. absurd (cc e)
     ] refl so
@@ -79,7 +81,7 @@ few_orders_of row before few = omega (arith, few.0)
 pub rows_are_few : RowsAreFew
 unfolding IsFew
 rows_are_few input book is =
-    (rows_keep IsFew few_more 1 (rows_with [] []) (rows_with book.cells book.orders) is.rows.records
+    (rows_keep row_of IsFew few_more 1 (rows_with [] []) (rows_with book.cells book.orders) is.rows.records
     (omega arith, omega arith) is.rows.meant).1.1
 
 -- what declares no cell
@@ -251,8 +253,8 @@ unfolding AreValid
 valid_more row before fields meant valid is = valid_with before meant row fields valid is
 
 -- so those of a book are
-pub cells_are_few : CellsAreValid
+pub cells_are_few : (input : List ℕ) (book : Contents) → IsBook input book → cells_are_valid book.cells ≡ true
 unfolding AreValid
 cells_are_few input book is =
-    (rows_keep AreValid valid_more 1 (rows_with [] []) (rows_with book.cells book.orders) is.rows.records refl
+    (rows_keep row_of AreValid valid_more 1 (rows_with [] []) (rows_with book.cells book.orders) is.rows.records refl
     is.rows.meant).1

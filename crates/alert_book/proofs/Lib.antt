@@ -19,8 +19,10 @@ pub mod FewRows
 pub mod Utf8Laws
 pub mod OneBook
 pub mod RightOrders
-mod OneAlert
+pub mod OneAlert
 mod LastAccepted
 mod TurnsReplace
 pub mod Writable
 pub mod NetworkLaws
+pub mod GroupOrders
+pub mod Origins

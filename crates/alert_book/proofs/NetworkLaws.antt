@@ -2,7 +2,7 @@
 use Rattle.std.proofs.Common.{◌≡◌, ℕ, ◌+◌, ◌<◌, ◌≤◌, ◌&&◌, Bool, true, false, cond, not, ◌∙◌, nat_le, nat_lt, eqb}
 use Rattle.std.proofs.Common.{List, [], ◌∷◌, length, filter, refl, subst, sym, ap, arith, inl, inr, codes}
 use Rattle.std.proofs.Common.{Result, Ok, Err, Option, Some, None, All}
-use Rattle.std.specs.List.{list_all}
+use Rattle.std.specs.List.{list_all, AllZip}
 use Rattle.std.specs.Str.{bytes_eq}
 use Rattle.std.proofs.lemmas.Bool.{and_parts, cases_Bool, leb-false, leb-true}
 use Rattle.std.proofs.lemmas.List.Elements.{All-head, All-tail}
@@ -17,12 +17,13 @@ use Rattle.alert_book.specs.declared.book.row.Row.{Row}
 use Rattle.alert_book.specs.declared.book.row.Verb.{Verb}
 use Rattle.alert_book.specs.declared.book.row.Verb.TheVariants as verbs
 use Rattle.alert_book.specs.Book.{after_row, rows_read, rows_read_by, rows_with, with_row, HavePages}
-use Rattle.alert_book.specs.Book.{Rows}
+use Rattle.alert_book.specs.Book.{Contents, Rows}
 use Rattle.alert_book.specs.Cells.{all_of, cells_judged, cells_listed, cells_of_field, is_among}
 use Rattle.alert_book.specs.Fields.{are_texts, column, if_right}
 use Rattle.alert_book.specs.Network.{cells_in_group, cells_of_group, declares_cell, groups_of, has_cells, row_in_group}
-use Rattle.alert_book.specs.Network.{IsNetwork}
-use Rattle.alert_book.specs.NetworkLaws.{BooksAreNetworks, GroupBooksAreOne}
+use Rattle.alert_book.specs.Network.{IsGroupBook, IsNetwork}
+use Rattle.alert_book.specs.Laws.{HaveSamePages}
+use Rattle.alert_book.specs.NetworkLaws.{BooksAreNetworks}
 use Rattle.alert_book.specs.Row.{cell_row_within, row_after_verb_by, row_of, verb_of}
 use Rattle.alert_book.proofs.BookLaws.{row_fits}
 use Rattle.alert_book.proofs.FewRows.{cells_are_few, few_more, few_orders_of, no_rows_few, valid_with, IsFew}
@@ -194,7 +195,9 @@ books_are_networks input book is =
     )
 
 -- a group has one book
-pub group_books_are_one : GroupBooksAreOne
+pub group_books_are_one : (group : ℕ) (input : List ℕ) (book other : Contents) → IsGroupBook group input book →
+    IsGroupBook group input other → (book.cells ≡ other.cells) × (book.orders ≡ other.orders)
+    × AllZip HaveSamePages book.pages other.pages
 group_books_are_one group input book other one two =
     let rows = one_meaning (row_in_group group) input one.rows two.rows one.network.meant two.network.meant in
     let orders : book.orders ≡ other.orders =

@@ -18,27 +18,31 @@ use Rattle.alert_book.specs.declared.book.row.Verb.TheVariants as verbs
 use Rattle.alert_book.specs.Book.{rows_with, with_row, Contents, IsBook, Rows}
 use Rattle.alert_book.specs.Cells.{cell_with, cells_of_field, is_among}
 use Rattle.alert_book.specs.Fields.{alert_at, are_texts, column, first_order, is_named, known_name, new_name}
-use Rattle.alert_book.specs.Fields.{number, sending_at}
-use Rattle.alert_book.specs.Row.{is_update_of, is_write, new_cell, order_with, row_after_verb, row_of, verb_of}
+use Rattle.alert_book.specs.Fields.{number, sending_by}
+use Rattle.alert_book.specs.Row.{cell_row_within, is_update_of, is_write, new_cell, order_with, row_after_verb_by}
+use Rattle.alert_book.specs.Row.{row_of, verb_of, FieldCells}
 use Rattle.alert_book.proofs.FewRows.{rows_keep}
 use Rattle.alert_book.proofs.RightOrders.{right_gives}
 
--- an order after some others: the first of its alert, of the next number; or one more of the alert of an earlier one
-record IsFirst (orders : List Order) (order : Order) : Type 0 where
+-- an order after some others that is the first of its alert, of the next number
+pub record IsFirst (orders : List Order) (order : Order) : Type 0 where
   pub number : order.number ≡ count_by is_write orders
   pub writes : is_write order ≡ true
 
-record IsLater (orders : List Order) (order : Order) : Type 0 where
+-- one more of the alert of an earlier one
+pub record IsLater (orders : List Order) (order : Order) : Type 0 where
   pub first : Order
   pub there : Contains orders first
   pub number : order.number ≡ first.number
   pub alert : order.alert ≡ first.alert
   pub other : is_write order ≡ false
 
-abbrev IsNext : List Order → Order → Type 0
+-- an order after some others is one of the two
+abbrev pub IsNext : List Order → Order → Type 0
 IsNext orders order = IsFirst orders order ⊎ IsLater orders order
 
-abbrev IsNextRow : List Order → Row → Type 0
+-- a row after some orders, if it gives one more
+abbrev pub IsNextRow : List Order → Row → Type 0
 IsNextRow orders (rows.Declare cell) = Unit {0}
 IsNextRow orders (rows.Give order) = IsNext orders order
 
@@ -50,10 +54,12 @@ given_next : (orders : List Order) (order : Order) (r : Result Row RowFault) →
 given_next orders order r next is meant same =
     subst (IsNextRow orders) (same_row r (rows.Give order) meant is same) next
 
-fault_next : (orders : List Order) (kind : RowFault) (meant : Row) → Err kind ≡ Ok meant → IsNextRow orders meant
+-- a fault gives none
+pub fault_next : (orders : List Order) (kind : RowFault) (meant : Row) → Err kind ≡ Ok meant → IsNextRow orders meant
 fault_next orders kind meant is = absurd (cc is)
 
-either_next : (orders : List Order) (test : Bool) (a b : Result Row RowFault)
+-- what gives such an order either way gives one
+pub either_next : (orders : List Order) (test : Bool) (a b : Result Row RowFault)
     → ((meant : Row) → a ≡ Ok meant → IsNextRow orders meant) → ((meant : Row) → b ≡ Ok meant → IsNextRow orders meant)
     → (meant : Row) → cond test a b ≡ Ok meant → IsNextRow orders meant
 either_next orders true a b first second = first
@@ -95,30 +101,34 @@ known_there orders name first is = by_found (first_order orders name) refl is
         found_there (is_named name) orders first
         (some ∙ ap (λ (o : Order). Some o) (same_known (Ok order) order first refl told))
 
-verb_next : (verb : Option Verb) (row : ℕ) (declared : List Cell) (orders : List Order) (fields : List (List ℕ))
-    → (meant : Row) → row_after_verb verb row declared orders fields ≡ Ok meant → IsNextRow orders meant
-verb_next None row declared orders fields = fault_next orders fault.Verb
-verb_next (Some verbs.Cell) row declared orders fields =
+-- an order that a row gives comes next, whichever cells it is for
+pub verb_next : (verb : Option Verb) (most row : ℕ) (declared : List Cell) (cells_of : FieldCells)
+    (orders : List Order) (fields : List (List ℕ))
+    → (meant : Row)
+    → row_after_verb_by verb (cell_row_within most declared fields) row cells_of orders fields ≡ Ok meant
+    → IsNextRow orders meant
+verb_next None most row declared cells_of orders fields = fault_next orders fault.Verb
+verb_next (Some verbs.Cell) most row declared cells_of orders fields =
     either_next orders (eqb (length fields) 3) _ _
-    (either_next orders (nat_le 64 (length declared)) _ _ (fault_next orders fault.TooManyRows)
+    (either_next orders (nat_le most (length declared)) _ _ (fault_next orders fault.TooManyRows)
     (right_gives (IsNextRow orders) (number 0 65535 (column fields 1)) _ (λ lac is.
     right_gives (IsNextRow orders) (number 0 65535 (column fields 2)) _ (λ ci same.
     declared_next orders declared (cell_with lac ci)))))
     (fault_next orders fault.Columns)
-verb_next (Some verbs.Write) row declared orders fields =
+verb_next (Some verbs.Write) most row declared cells_of orders fields =
     either_next orders (eqb (length fields) 12) _ _
     (right_gives (IsNextRow orders) (number 0 65535 (column fields 1)) _ (λ at is.
     right_gives (IsNextRow orders) (new_name orders (column fields 2)) _ (λ name named.
     right_gives (IsNextRow orders) (alert_at fields 3) _ (λ alert known.
-    right_gives (IsNextRow orders) (sending_at declared fields 6) _ (λ sending sent.
+    right_gives (IsNextRow orders) (sending_by cells_of fields 6) _ (λ sending sent.
     given_next orders (order_with row at name (count_by is_write orders) alert (action.Write sending)) _
     (inl (record { number = refl; writes = refl })) refl)))))
     (fault_next orders fault.Columns)
-verb_next (Some verbs.Update) row declared orders fields =
+verb_next (Some verbs.Update) most row declared cells_of orders fields =
     either_next orders (eqb (length fields) 9) _ _
     (right_gives (IsNextRow orders) (number 0 65535 (column fields 1)) _ (λ at is.
     right_gives (IsNextRow orders) (known_name orders (column fields 2)) _ (λ first named.
-    right_gives (IsNextRow orders) (sending_at declared fields 3) _ (λ sending sent.
+    right_gives (IsNextRow orders) (sending_by cells_of fields 3) _ (λ sending sent.
     either_next orders (nat_le 15 (count_by (is_update_of (column fields 2)) orders)) _ _
     (fault_next orders fault.TooManyUpdates)
     (given_next orders (order_with row at (column fields 2) first.number first.alert
@@ -131,11 +141,11 @@ verb_next (Some verbs.Update) row declared orders fields =
       other = refl;
     })) refl)))))
     (fault_next orders fault.Columns)
-verb_next (Some verbs.Stop) row declared orders fields =
+verb_next (Some verbs.Stop) most row declared cells_of orders fields =
     either_next orders (eqb (length fields) 4) _ _
     (right_gives (IsNextRow orders) (number 0 65535 (column fields 1)) _ (λ at is.
     right_gives (IsNextRow orders) (known_name orders (column fields 2)) _ (λ first named.
-    right_gives (IsNextRow orders) (cells_of_field declared (column fields 3)) _ (λ cells listed.
+    right_gives (IsNextRow orders) (cells_of (column fields 3)) _ (λ cells listed.
     given_next orders (order_with row at (column fields 2) first.number first.alert (action.Stop cells)) _
     (inr (record {
       first = first;
@@ -151,10 +161,10 @@ row_next : (row : ℕ) (declared : List Cell) (orders : List Order) (fields : Li
 row_next row declared orders fields =
     either_next orders (nat_lt 4096 row) _ _ (fault_next orders fault.TooManyRows)
     (either_next orders (not (are_texts fields)) _ _ (fault_next orders fault.Columns)
-    (verb_next (verb_of (column fields 0)) row declared orders fields))
+    (verb_next (verb_of (column fields 0)) 64 row declared (cells_of_field declared) orders fields))
 
 -- orders of one number are of one alert, and each number is below that of the next alert
-record AreNumbered (orders : List Order) : Type 0 where
+pub record AreNumbered (orders : List Order) : Type 0 where
   pub one : (a b : Order) → Contains orders a → Contains orders b → a.number ≡ b.number → a.alert ≡ b.alert
   pub below : All (λ order. order.number < count_by is_write orders) orders
 
@@ -233,7 +243,8 @@ later_numbered orders order numbered next = record { one = λ a b. one a b; belo
         (λ (o : Order). o.number < count_by is_write (orders ++ order ∷ [])) (λ o less. omega (arith, less, same_count))
         orders numbered.below) (omega (arith, same_count, first_below, next.number))
 
-with_numbered : (before : Rows) (meant : Row) → AreNumbered before.orders → IsNextRow before.orders meant
+-- a row after rows that are numbered
+pub with_numbered : (before : Rows) (meant : Row) → AreNumbered before.orders → IsNextRow before.orders meant
     → AreNumbered (with_row before meant).orders
 with_numbered before (rows.Declare cell) numbered next = numbered
 with_numbered before (rows.Give order) numbered next = elim next [
@@ -250,7 +261,8 @@ unfolding RowsAreNumbered
 numbered_more row before fields meant numbered is =
     with_numbered before meant numbered (row_next row before.cells before.orders fields meant is)
 
-none_numbered : AreNumbered []
+-- no orders are
+pub none_numbered : AreNumbered []
 none_numbered = record {
   one = λ a b this that same. absurd (omega (arith, this.1));
   below = All-nil (λ (o : Order). o.number < 0);
@@ -261,5 +273,5 @@ pub alerts_are_one : (input : List ℕ) (book : Contents) → IsBook input book 
     → Contains book.orders b → a.number ≡ b.number → a.alert ≡ b.alert
 unfolding RowsAreNumbered
 alerts_are_one input book is =
-    (rows_keep RowsAreNumbered numbered_more 1 (rows_with [] []) (rows_with book.cells book.orders) is.rows.records
+    (rows_keep row_of RowsAreNumbered numbered_more 1 (rows_with [] []) (rows_with book.cells book.orders) is.rows.records
     none_numbered is.rows.meant).1.one

@@ -13,8 +13,8 @@ use Rattle.alert_book.specs.declared.fault.BookFaultKind.TheVariants as fault
 use Rattle.alert_book.specs.declared.book.order.Order.{Order}
 use Rattle.alert_book.specs.declared.book.order.Sending.{Sending}
 use Rattle.alert_book.specs.Book.{fault_at, rows_of, rows_with, sending_of, ArePagesOf}
-use Rattle.alert_book.specs.Book.{HasTextFault, HasWrongText, HavePages, IsRowFault, Rows}
-use Rattle.alert_book.specs.Laws.{BooksAreOne, BooksAreRight, FaultsAreOne, HaveSamePages}
+use Rattle.alert_book.specs.Book.{Contents, HasTextFault, HasWrongText, HavePages, IsBook, IsRowFault, Rows}
+use Rattle.alert_book.specs.Laws.{BooksAreRight, FaultsAreOne, HaveSamePages}
 use Rattle.alert_book.specs.Row.{row_of}
 use Rattle.alert_book.proofs.OneAnswer.{fault_stays, one_meaning, reached_either, right_or_wrong}
 
@@ -41,7 +41,8 @@ all_pages_one (order ∷ orders) (p ∷ ps) (q ∷ qs) one two =
     (one_pages (sending_of order.action) p q one.0 two.0, all_pages_one orders ps qs one.1 two.1)
 
 -- octets are one book
-pub books_are_one : BooksAreOne
+pub books_are_one : (input : List ℕ) (book other : Contents) → IsBook input book → IsBook input other →
+    (book.cells ≡ other.cells) × (book.orders ≡ other.orders) × AllZip HaveSamePages book.pages other.pages
 books_are_one input book other one two =
     let rows = one_meaning row_of input (rows_with book.cells book.orders) (rows_with other.cells other.orders) one.rows
     two.rows in

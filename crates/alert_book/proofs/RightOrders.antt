@@ -24,12 +24,13 @@ use Rattle.alert_book.specs.declared.book.row.Verb.{Verb}
 use Rattle.alert_book.specs.declared.book.row.Verb.TheVariants as verbs
 use Rattle.alert_book.specs.Book.{rows_with, with_row, Contents, IsBook, Rows}
 use Rattle.alert_book.specs.Fields.{alert_at, are_texts, known_name, new_name}
-use Rattle.alert_book.specs.Row.{is_update_of, is_write, new_cell, order_with, row_after_verb, row_of, verb_of}
+use Rattle.alert_book.specs.Row.{cell_row_within, is_update_of, is_write, new_cell, order_with, row_after_verb_by}
+use Rattle.alert_book.specs.Row.{row_of, verb_of, FieldCells}
 use Rattle.alert_book.proofs.FewRows.{rows_keep, valid_with}
 use Rattle.alert_book.specs.Cells.{cell_with, all_named, all_of, before_all, cell_named, cells_listed, cells_of_field}
 use Rattle.alert_book.specs.Cells.{is_among}
 use Rattle.alert_book.specs.Cells.{is_space, cells_judged, parts_after}
-use Rattle.alert_book.specs.Fields.{category, column, if_right, number, sending_at, sending_with}
+use Rattle.alert_book.specs.Fields.{category, column, if_right, number, sending_by, sending_with}
 use Rattle.alert_book.specs.Number.{in_range, is_number, number_within}
 use Rattle.alert_book.proofs.TurnsAsk.{cell_same, filter_more, one_if}
 
@@ -197,11 +198,19 @@ number_is least most field n is =
       | inr other ↦ absurd (cc (rw other at some))
     ]
 
--- what is sent is in range
-pub record IsRight (sending : Sending) : Type 0 where
+-- what is sent is in range, and its cells are good
+pub record IsRightBy (Good : List Cell → Type 0) (sending : Sending) : Type 0 where
   pub category : nat_le sending.category 2 ≡ true
   pub period : is_period sending.period ≡ true
-  pub cells : AreAsked sending.cells
+  pub cells : Good sending.cells
+
+-- it may be sent
+abbrev pub IsRight : Sending → Type 0
+IsRight sending = IsRightBy AreAsked sending
+
+-- each field comes to good cells
+abbrev pub AreGood : (Good : List Cell → Type 0) → FieldCells → Type 0
+AreGood Good cells_of = (field : List ℕ) (cells : List Cell) → cells_of field ≡ Ok cells → Good cells
 
 -- what all that comes next makes is, the whole makes is
 pub right_gives : {A B : Type 0} (P : B → Type 0) (r : Result A RowFault) (next : A → Result B RowFault) →
@@ -214,100 +223,117 @@ same_sending : (r : Result Sending RowFault) (a b : Sending) → r ≡ Ok a → 
 same_sending r a b one other = cc
 
 -- what a row has cells send is
-pub sending_right : (declared : List Cell) (fields : List (List ℕ)) (place : ℕ) → cells_are_valid declared ≡ true →
-    (sending : Sending) → sending_at declared fields place ≡ Ok sending → IsRight sending
-sending_right declared fields place valid =
-    right_gives IsRight (category (column fields (place + 1))) _ (λ c categorized.
-    right_gives IsRight (number 1 1024 (column fields (place + 2))) _ (λ p periodic.
-    right_gives IsRight (number 0 65535 (column fields (place + 3))) _ (λ b counted.
-    right_gives IsRight (cells_of_field declared (column fields (place + 4))) _ (λ cells listed sending is.
-    subst IsRight
+pub sending_right : (Good : List Cell → Type 0) (cells_of : FieldCells) (fields : List (List ℕ)) (place : ℕ) →
+    AreGood Good cells_of → (sending : Sending) → sending_by cells_of fields place ≡ Ok sending →
+    IsRightBy Good sending
+sending_right Good cells_of fields place good =
+    right_gives (IsRightBy Good) (category (column fields (place + 1))) _ (λ c categorized.
+    right_gives (IsRightBy Good) (number 1 1024 (column fields (place + 2))) _ (λ p periodic.
+    right_gives (IsRightBy Good) (number 0 65535 (column fields (place + 3))) _ (λ b counted.
+    right_gives (IsRightBy Good) (cells_of (column fields (place + 4))) _ (λ cells listed sending is.
+    subst (IsRightBy Good)
     (same_sending (Ok (sending_with (column fields place) c p b cells (column fields (place + 5))))
     (sending_with (column fields place) c p b cells (column fields (place + 5))) sending refl is)
     (record {
       category = (and_parts (nat_le 0 c) (nat_le c 2)
           (number_is 0 2 (column fields (place + 1)) c categorized)).1;
       period = number_is 1 1024 (column fields (place + 2)) p periodic;
-      cells = field_asked declared (column fields (place + 4)) cells valid listed;
+      cells = good (column fields (place + 4)) cells listed;
     })))))
 
 -- what an action sends or stops is
-abbrev pub IsRightAction : Action → Type 0
-IsRightAction (action.Write sending) = IsRight sending
-IsRightAction (action.Update version sending) = IsRight sending
-IsRightAction (action.Stop cells) = AreAsked cells
+abbrev pub IsRightActionBy : (Good : List Cell → Type 0) → Action → Type 0
+IsRightActionBy Good (action.Write sending) = IsRightBy Good sending
+IsRightActionBy Good (action.Update version sending) = IsRightBy Good sending
+IsRightActionBy Good (action.Stop cells) = Good cells
 
-abbrev IsRightRow : Row → Type 0
-IsRightRow (rows.Declare cell) = Unit {0}
-IsRightRow (rows.Give order) = IsRightAction order.action
+-- it may be sent, or stopped
+abbrev pub IsRightAction : Action → Type 0
+IsRightAction sends = IsRightActionBy AreAsked sends
+
+-- a row gives no order, or one that is right
+abbrev pub IsRightRow : (Good : List Cell → Type 0) → Row → Type 0
+IsRightRow Good (rows.Declare cell) = Unit {0}
+IsRightRow Good (rows.Give order) = IsRightActionBy Good order.action
 
 same_row : (r : Result Row RowFault) (a b : Row) → r ≡ Ok a → r ≡ Ok b → a ≡ b
 same_row r a b one other = cc
 
-given_right : (order : Order) (r : Result Row RowFault) → IsRightAction order.action → r ≡ Ok (rows.Give order) →
-    (meant : Row) → r ≡ Ok meant → IsRightRow meant
-given_right order r right is meant same =
-    subst IsRightRow (same_row r (rows.Give order) meant is same) right
+given_right : (Good : List Cell → Type 0) (order : Order) (r : Result Row RowFault) →
+    IsRightActionBy Good order.action → r ≡ Ok (rows.Give order) → (meant : Row) → r ≡ Ok meant →
+    IsRightRow Good meant
+given_right Good order r right is meant same =
+    subst (IsRightRow Good) (same_row r (rows.Give order) meant is same) right
 
-fault_right : (kind : RowFault) (meant : Row) → Err kind ≡ Ok meant → IsRightRow meant
-fault_right kind meant is = absurd (cc is)
+-- a fault is no row
+pub fault_right : (Good : List Cell → Type 0) (kind : RowFault) (meant : Row) → Err kind ≡ Ok meant →
+    IsRightRow Good meant
+fault_right Good kind meant is = absurd (cc is)
 
-either_right : (test : Bool) (a b : Result Row RowFault) → ((meant : Row) → a ≡ Ok meant → IsRightRow meant) →
-    ((meant : Row) → b ≡ Ok meant → IsRightRow meant) → (meant : Row) → cond test a b ≡ Ok meant → IsRightRow meant
-either_right true a b first second = first
-either_right false a b first second = second
+-- what is right either way is right
+pub either_right : (Good : List Cell → Type 0) (test : Bool) (a b : Result Row RowFault) →
+    ((meant : Row) → a ≡ Ok meant → IsRightRow Good meant) →
+    ((meant : Row) → b ≡ Ok meant → IsRightRow Good meant) →
+    (meant : Row) → cond test a b ≡ Ok meant → IsRightRow Good meant
+either_right Good true a b first second = first
+either_right Good false a b first second = second
 
-new_right : (declared : List Cell) (cell : Cell) (meant : Row) → new_cell declared cell ≡ Ok meant → IsRightRow meant
-new_right declared cell =
-    either_right (is_among declared cell) _ _ (fault_right fault.TwiceNamed)
-    (λ meant is. subst IsRightRow (same_row (Ok (rows.Declare cell)) (rows.Declare cell) meant refl is) tt)
+new_right : (Good : List Cell → Type 0) (declared : List Cell) (cell : Cell) (meant : Row) →
+    new_cell declared cell ≡ Ok meant → IsRightRow Good meant
+new_right Good declared cell =
+    either_right Good (is_among declared cell) _ _ (fault_right Good fault.TwiceNamed)
+    (λ meant is. subst (IsRightRow Good) (same_row (Ok (rows.Declare cell)) (rows.Declare cell) meant refl is) tt)
 
-verb_right : (verb : Option Verb) (row : ℕ) (declared : List Cell) (orders : List Order) (fields : List (List ℕ)) →
-    cells_are_valid declared ≡ true → (meant : Row) → row_after_verb verb row declared orders fields ≡ Ok meant →
-    IsRightRow meant
-verb_right None row declared orders fields valid = fault_right fault.Verb
-verb_right (Some verbs.Cell) row declared orders fields valid =
-    either_right (eqb (length fields) 3) _ _
-    (either_right (nat_le 64 (length declared)) _ _ (fault_right fault.TooManyRows)
-    (right_gives IsRightRow (number 0 65535 (column fields 1)) _ (λ lac is.
-    right_gives IsRightRow (number 0 65535 (column fields 2)) _ (λ ci same.
-    new_right declared (cell_with lac ci)))))
-    (fault_right fault.Columns)
-verb_right (Some verbs.Write) row declared orders fields valid =
-    either_right (eqb (length fields) 12) _ _
-    (right_gives IsRightRow (number 0 65535 (column fields 1)) _ (λ at is.
-    right_gives IsRightRow (new_name orders (column fields 2)) _ (λ name named.
-    right_gives IsRightRow (alert_at fields 3) _ (λ alert known.
-    right_gives IsRightRow (sending_at declared fields 6) _ (λ sending sent.
-    given_right (order_with row at name (count_by is_write orders) alert (action.Write sending)) _
-    (sending_right declared fields 6 valid sending sent) refl)))))
-    (fault_right fault.Columns)
-verb_right (Some verbs.Update) row declared orders fields valid =
-    either_right (eqb (length fields) 9) _ _
-    (right_gives IsRightRow (number 0 65535 (column fields 1)) _ (λ at is.
-    right_gives IsRightRow (known_name orders (column fields 2)) _ (λ first named.
-    right_gives IsRightRow (sending_at declared fields 3) _ (λ sending sent.
-    either_right (nat_le 15 (count_by (is_update_of (column fields 2)) orders)) _ _
-    (fault_right fault.TooManyUpdates)
-    (given_right (order_with row at (column fields 2) first.number first.alert
+-- a row is right if its field comes to good cells
+pub verb_right : (Good : List Cell → Type 0) (verb : Option Verb) (most row : ℕ) (declared : List Cell)
+    (cells_of : FieldCells) (orders : List Order) (fields : List (List ℕ)) → AreGood Good cells_of → (meant : Row) →
+    row_after_verb_by verb (cell_row_within most declared fields) row cells_of orders fields ≡ Ok meant →
+    IsRightRow Good meant
+verb_right Good None most row declared cells_of orders fields good = fault_right Good fault.Verb
+verb_right Good (Some verbs.Cell) most row declared cells_of orders fields good =
+    either_right Good (eqb (length fields) 3) _ _
+    (either_right Good (nat_le most (length declared)) _ _ (fault_right Good fault.TooManyRows)
+    (right_gives (IsRightRow Good) (number 0 65535 (column fields 1)) _ (λ lac is.
+    right_gives (IsRightRow Good) (number 0 65535 (column fields 2)) _ (λ ci same.
+    new_right Good declared (cell_with lac ci)))))
+    (fault_right Good fault.Columns)
+verb_right Good (Some verbs.Write) most row declared cells_of orders fields good =
+    either_right Good (eqb (length fields) 12) _ _
+    (right_gives (IsRightRow Good) (number 0 65535 (column fields 1)) _ (λ at is.
+    right_gives (IsRightRow Good) (new_name orders (column fields 2)) _ (λ name named.
+    right_gives (IsRightRow Good) (alert_at fields 3) _ (λ alert known.
+    right_gives (IsRightRow Good) (sending_by cells_of fields 6) _ (λ sending sent.
+    given_right Good (order_with row at name (count_by is_write orders) alert (action.Write sending)) _
+    (sending_right Good cells_of fields 6 good sending sent) refl)))))
+    (fault_right Good fault.Columns)
+verb_right Good (Some verbs.Update) most row declared cells_of orders fields good =
+    either_right Good (eqb (length fields) 9) _ _
+    (right_gives (IsRightRow Good) (number 0 65535 (column fields 1)) _ (λ at is.
+    right_gives (IsRightRow Good) (known_name orders (column fields 2)) _ (λ first named.
+    right_gives (IsRightRow Good) (sending_by cells_of fields 3) _ (λ sending sent.
+    either_right Good (nat_le 15 (count_by (is_update_of (column fields 2)) orders)) _ _
+    (fault_right Good fault.TooManyUpdates)
+    (given_right Good (order_with row at (column fields 2) first.number first.alert
     (action.Update (count_by (is_update_of (column fields 2)) orders + 1) sending)) _
-    (sending_right declared fields 3 valid sending sent) refl)))))
-    (fault_right fault.Columns)
-verb_right (Some verbs.Stop) row declared orders fields valid =
-    either_right (eqb (length fields) 4) _ _
-    (right_gives IsRightRow (number 0 65535 (column fields 1)) _ (λ at is.
-    right_gives IsRightRow (known_name orders (column fields 2)) _ (λ first named.
-    right_gives IsRightRow (cells_of_field declared (column fields 3)) _ (λ cells listed.
-    given_right (order_with row at (column fields 2) first.number first.alert (action.Stop cells)) _
-    (field_asked declared (column fields 3) cells valid listed) refl))))
-    (fault_right fault.Columns)
+    (sending_right Good cells_of fields 3 good sending sent) refl)))))
+    (fault_right Good fault.Columns)
+verb_right Good (Some verbs.Stop) most row declared cells_of orders fields good =
+    either_right Good (eqb (length fields) 4) _ _
+    (right_gives (IsRightRow Good) (number 0 65535 (column fields 1)) _ (λ at is.
+    right_gives (IsRightRow Good) (known_name orders (column fields 2)) _ (λ first named.
+    right_gives (IsRightRow Good) (cells_of (column fields 3)) _ (λ cells listed.
+    given_right Good (order_with row at (column fields 2) first.number first.alert (action.Stop cells)) _
+    (good (column fields 3) cells listed) refl))))
+    (fault_right Good fault.Columns)
 
 row_right : (row : ℕ) (declared : List Cell) (orders : List Order) (fields : List (List ℕ)) →
-    cells_are_valid declared ≡ true → (meant : Row) → row_of row declared orders fields ≡ Ok meant → IsRightRow meant
+    cells_are_valid declared ≡ true → (meant : Row) → row_of row declared orders fields ≡ Ok meant →
+    IsRightRow AreAsked meant
 row_right row declared orders fields valid =
-    either_right (nat_lt 4096 row) _ _ (fault_right fault.TooManyRows)
-    (either_right (not (are_texts fields)) _ _ (fault_right fault.Columns)
-    (verb_right (verb_of (column fields 0)) row declared orders fields valid))
+    either_right AreAsked (nat_lt 4096 row) _ _ (fault_right AreAsked fault.TooManyRows)
+    (either_right AreAsked (not (are_texts fields)) _ _ (fault_right AreAsked fault.Columns)
+    (verb_right AreAsked (verb_of (column fields 0)) 64 row declared (cells_of_field declared) orders fields
+    (λ field cells. field_asked declared field cells valid)))
 
 -- so the orders of a book are right
 abbrev IsRightOrder : Order → Type 0
@@ -316,17 +342,20 @@ IsRightOrder order = IsRightAction order.action
 AreRight : ℕ → Rows → Type 0
 AreRight row rows = (cells_are_valid rows.cells ≡ true) × All IsRightOrder rows.orders
 
-orders_with_row : (before : Rows) (meant : Row) → All IsRightOrder before.orders → IsRightRow meant →
-    All IsRightOrder (with_row before meant).orders
-orders_with_row before (rows.Declare cell) right is = right
-orders_with_row before (rows.Give order) right is = All-push IsRightOrder before.orders order right is
+-- one more order that is right
+pub orders_with_row : (Good : List Cell → Type 0) (before : Rows) (meant : Row) →
+    All (λ (o : Order). IsRightActionBy Good o.action) before.orders → IsRightRow Good meant →
+    All (λ (o : Order). IsRightActionBy Good o.action) (with_row before meant).orders
+orders_with_row Good before (rows.Declare cell) right is = right
+orders_with_row Good before (rows.Give order) right is =
+    All-push (λ (o : Order). IsRightActionBy Good o.action) before.orders order right is
 
 right_more : (row : ℕ) (before : Rows) (fields : List (List ℕ)) (meant : Row) → AreRight row before →
     row_of row before.cells before.orders fields ≡ Ok meant → AreRight (row + 1) (with_row before meant)
 unfolding AreRight
 right_more row before fields meant right is = (
   valid_with before meant row fields right.0 is,
-  orders_with_row before meant right.1 (row_right row before.cells before.orders fields right.0 meant is),
+  orders_with_row AreAsked before meant right.1 (row_right row before.cells before.orders fields right.0 meant is),
 )
 
 -- each order of a book sends or stops what is in range
@@ -334,5 +363,5 @@ pub orders_are_right : (input : List ℕ) (book : Contents) → IsBook input boo
     All (λ order. IsRightAction order.action) book.orders
 unfolding AreRight
 orders_are_right input book is =
-    (rows_keep AreRight right_more 1 (rows_with [] []) (rows_with book.cells book.orders) is.rows.records
+    (rows_keep row_of AreRight right_more 1 (rows_with [] []) (rows_with book.cells book.orders) is.rows.records
     (refl, All-nil IsRightOrder) is.rows.meant).1.1

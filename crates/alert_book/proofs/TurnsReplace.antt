@@ -29,7 +29,7 @@ use Rattle.alert_book.specs.Session.{target_of, targets_of, update_request, vers
 use Rattle.alert_book.specs.Session.{Replied, Standing}
 use Rattle.alert_book.specs.Turns.{begun, GoesTo, Turn}
 use Rattle.alert_book.proofs.LastAccepted.{AcceptedVersion, AreOfTurns, of_turns_more}
-use Rattle.alert_book.proofs.OneAlert.{alerts_are_one}
+use Rattle.alert_book.proofs.GroupOrders.{all_alerts_are_one}
 use Rattle.alert_book.proofs.TurnsAsk.{asks, filter_more, one_if, row_asks_once, sent_asks, version_is}
 use Rattle.alert_book.proofs.TurnsKeep.{requests_kept}
 
@@ -390,13 +390,13 @@ with_pair orders turns request order cell version pair one are there number gone
 
 -- so a session replaces and stops what was accepted last
 pub last_accepted_is_replaced : LastAcceptedIsReplaced
-last_accepted_is_replaced input book part parts before later turn reached cell version is goes asked gone =
+last_accepted_is_replaced from input book part parts before later turn reached cell version is goes asked gone =
     by_aim (goes_at book.orders [] before later turn (begun book part parts) reached (begun_aimed book part parts)
     (begun_believes book part parts) goes)
   where
     by_aim : IsAt book.orders before turn.request → HasAcceptedLast before turn.request.number cell version
     by_aim at =
         let aim = at.aimed.gone version gone in
-        with_pair book.orders before turn.request at.aimed.order cell aim.0 version (alerts_are_one input book is)
+        with_pair book.orders before turn.request at.aimed.order cell aim.0 version (all_alerts_are_one from input book is)
         (before_are book part parts before later turn reached goes) at.aimed.there at.aimed.number aim.1
         (at.believed turn.request.number cell aim.0 (aim.2 cell asked))

@@ -32,7 +32,9 @@ use Rattle.alert_book.specs.Book.{sending_of, ArePagesOf, HavePages}
 use Rattle.alert_book.specs.Session.{cells_with, has_cells, is_version, kill_of, orders_with, requests_by, stop_request}
 use Rattle.alert_book.specs.Session.{target_of, targets_of, update_request, versions, write_of}
 use Rattle.alert_book.specs.TurnLaws.{RequestsAreWritable}
-use Rattle.alert_book.proofs.RightOrders.{distinct_filter, orders_are_right, AreAsked, IsRight, IsRightAction}
+use Rattle.alert_book.proofs.RightOrders.{distinct_filter, AreAsked, IsRight, IsRightAction}
+use Rattle.alert_book.proofs.GroupOrders.{all_orders_are_right}
+use Rattle.alert_book.proofs.Origins.{paged_from}
 use Rattle.alert_book.proofs.TurnsAsk.{filter_le}
 use Rattle.alert_book.proofs.TurnsKeep.{requests_kept}
 
@@ -167,7 +169,7 @@ orders_ready (order ∷ orders) (paged ∷ pages) right have =
 
 -- by what its rows order
 pub requests_are_writable : RequestsAreWritable
-requests_are_writable input book part parts turns reached is goes =
+requests_are_writable from input book part parts turns reached is goes =
     requests_kept CanBeWritten IsReady
     (λ live next ready. requests_writable live next.0 next.0.action next.1 ready.0 ready.1) book part parts turns
-    reached (orders_ready book.orders book.pages (orders_are_right input book is) is.paged) goes
+    reached (orders_ready book.orders book.pages (all_orders_are_right from input book is) (paged_from from input book is)) goes

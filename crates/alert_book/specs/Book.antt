@@ -171,12 +171,16 @@ too_long = fault_at 0 fault.TooManyRows
 abbrev pub IsWrong : List ℕ → BookFault → Type 0
 IsWrong input f = (length input ≤ max_book) × (IsRowFault input f ⊎ HasTextFault input f)
 
--- a book was read: its octets are gone from the reader, and it is at its end
-pub record ReadsBook (old new : Option (List ℕ)) (book : Contents) : Type 0 where
+-- octets that mean a book in this way were read: they are gone from the reader, and it is at its end
+pub record ReadsBy (Means : List ℕ → Contents → Type 0) (old new : Option (List ℕ)) (book : Contents) : Type 0 where
   pub input : List ℕ
   pub consumed : Consumes old new input
   pub ended : IsAtEnd new
-  pub meant : IsBook input book
+  pub meant : Means input book
+
+-- a book was read
+abbrev pub ReadsBook : (old new : Option (List ℕ)) → Contents → Type 0
+ReadsBook old new book = ReadsBy IsBook old new book
 
 -- a book was refused: some octets are gone from the reader. Memory or the device can fail before all of them are; one
 -- octet past the bound is one too many; any other fault is one of the whole input

@@ -8,7 +8,9 @@ use Rattle.cbsp_wire.specs.declared.message.Message.{Message}
 use Rattle.cbsp_wire.specs.declared.message.Message.TheVariants as messages
 use Rattle.cbsp_wire.specs.CellLists.{contains}
 use Rattle.alert_book.specs.declared.session.outcome.Outcome.{Outcome}
-use Rattle.alert_book.specs.Book.{Contents, IsBook}
+use Rattle.alert_book.specs.declared.network.Origin.{Origin}
+use Rattle.alert_book.specs.Book.{Contents}
+use Rattle.alert_book.specs.Origin.{IsBookFrom}
 use Rattle.alert_book.specs.Session.{outcome_of, refuses, Standing}
 use Rattle.alert_book.specs.Turns.{begun, is_asked, GoesTo, Turn}
 
@@ -64,9 +66,9 @@ pub record HasAcceptedLast (turns : List Turn) (number : ℕ) (cell : Cell) (ver
 -- a session asks no cell to replace or to stop a version of an alert but the one that the cell accepted last, by the
 -- replies so far: so no update is sent to a cell that refused the write
 abbrev pub LastAcceptedIsReplaced : Type 0
-LastAcceptedIsReplaced = (input : List ℕ) (book : Contents) (part parts : ℕ) (before later : List Turn) (turn : Turn)
-    (reached : Standing) (cell : Cell) (version : Pair)
-    → IsBook input book
+LastAcceptedIsReplaced = (from : Origin) (input : List ℕ) (book : Contents) (part parts : ℕ)
+    (before later : List Turn) (turn : Turn) (reached : Standing) (cell : Cell) (version : Pair)
+    → IsBookFrom from input book
     → GoesTo (begun book part parts) (before ++ turn ∷ later) reached
     → is_asked cell turn ≡ true
     → pair_gone turn.request.message ≡ Some version

@@ -4,7 +4,9 @@ use Rattle.std.specs.List.{AllZip}
 use Rattle.cbs_page.specs.declared.paging.Paged.{Paged}
 use Rattle.cbsp_wire.specs.Range.{cells_are_valid}
 use Rattle.alert_book.specs.declared.fault.BookFault.{BookFault}
+use Rattle.alert_book.specs.declared.network.Origin.{Origin}
 use Rattle.alert_book.specs.Book.{AreRowsOf, Contents, IsBook, IsRowFault, IsWrong, Rows}
+use Rattle.alert_book.specs.Origin.{IsBookFrom}
 
 -- no octets mean rows and have a row that is wrong
 abbrev pub RowsAreRightOrWrong : Type 0
@@ -20,9 +22,17 @@ RowsAreFew = (input : List ℕ) (book : Contents)
     → IsBook input book
     → length book.cells + length book.orders ≤ 4096
 
--- a book declares at most 64 cells, none twice
+-- a book has at most 64 cells, none twice, and so has that of a group
 abbrev pub CellsAreValid : Type 0
-CellsAreValid = (input : List ℕ) (book : Contents) → IsBook input book → cells_are_valid book.cells ≡ true
+CellsAreValid = (from : Origin) (input : List ℕ) (book : Contents)
+    → IsBookFrom from input book
+    → cells_are_valid book.cells ≡ true
+
+-- and at most 4,096 orders
+abbrev pub OrdersAreFew : Type 0
+OrdersAreFew = (from : Origin) (input : List ℕ) (book : Contents)
+    → IsBookFrom from input book
+    → length book.orders ≤ 4096
 
 -- two orders have the same pages, or both none
 abbrev pub HaveSamePages : Option Paged → Option Paged → Type 0
@@ -32,11 +42,11 @@ HaveSamePages (Some paged) None = ⊥
 HaveSamePages (Some paged) (Some other) =
     (paged.dcs.0 ≡ other.dcs.0) × (paged.pages.items ≡ other.pages.items)
 
--- octets are one book at most: its cells, its orders, and the pages of each
+-- octets are one book at most, and a group has one: its cells, its orders, and the pages of each
 abbrev pub BooksAreOne : Type 0
-BooksAreOne = (input : List ℕ) (book other : Contents)
-    → IsBook input book
-    → IsBook input other
+BooksAreOne = (from : Origin) (input : List ℕ) (book other : Contents)
+    → IsBookFrom from input book
+    → IsBookFrom from input other
     → (book.cells ≡ other.cells) × (book.orders ≡ other.orders) × AllZip HaveSamePages book.pages other.pages
 
 -- a book has no fault, neither of a row nor of a text

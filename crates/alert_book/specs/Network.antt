@@ -17,7 +17,7 @@ use Rattle.alert_book.specs.declared.book.row.Row.{Row}
 use Rattle.alert_book.specs.declared.network.GroupFault.{GroupFault}
 use Rattle.alert_book.specs.declared.network.GroupFault.TheVariants as group_fault
 use Rattle.alert_book.specs.Book.{refused, too_long, unread, AreRowsBy, Contents, HasTextFaultBy, HavePages}
-use Rattle.alert_book.specs.Book.{IsRowFaultBy, Rows}
+use Rattle.alert_book.specs.Book.{IsRowFaultBy, ReadsBy, Rows}
 use Rattle.alert_book.specs.Cells.{cells_of_field, is_among}
 use Rattle.alert_book.specs.Fields.{are_texts, column, if_right}
 use Rattle.alert_book.specs.Row.{cell_row_within, row_after_verb_by, verb_of}
@@ -104,11 +104,8 @@ IsWrongNetwork group input f =
     × (IsRowFaultBy (row_in_group group) input f ⊎ HasTextFaultBy (row_in_group group) input f)
 
 -- the book of a group was read: the network book's octets are gone from the reader, and it is at its end
-pub record ReadsGroup (old new : Option (List ℕ)) (group : ℕ) (book : Contents) : Type 0 where
-  pub input : List ℕ
-  pub consumed : Consumes old new input
-  pub ended : IsAtEnd new
-  pub meant : IsGroupBook group input book
+abbrev pub ReadsGroup : (old new : Option (List ℕ)) → (group : ℕ) → Contents → Type 0
+ReadsGroup old new group book = ReadsBy (IsGroupBook group) old new book
 
 -- a network book was read like that, and has so many groups
 pub record CountsGroups (old new : Option (List ℕ)) (group groups : ℕ) : Type 0 where

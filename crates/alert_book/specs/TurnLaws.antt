@@ -11,7 +11,9 @@ use Rattle.alert_book.specs.declared.book.order.Action.TheVariants as action
 use Rattle.alert_book.specs.declared.book.order.Order.{Order}
 use Rattle.alert_book.specs.declared.book.order.Sending.{Sending}
 use Rattle.alert_book.specs.declared.session.request.Request.{Request}
-use Rattle.alert_book.specs.Book.{Contents, HavePages, IsBook, ArePagesOf, sending_of}
+use Rattle.alert_book.specs.declared.network.Origin.{Origin}
+use Rattle.alert_book.specs.Book.{Contents, HavePages, ArePagesOf, sending_of}
+use Rattle.alert_book.specs.Origin.{IsBookFrom}
 use Rattle.alert_book.specs.Session.{after_reply, serial_of, Standing}
 use Rattle.alert_book.specs.Turns.{begun, GoesTo, is_asked, Turn}
 
@@ -73,7 +75,8 @@ RequestsComeOfOrders = (book : Contents) (part parts : ℕ) (turns : List Turn) 
 
 -- each request of a book's session has a message that can be written
 abbrev pub RequestsAreWritable : Type 0
-RequestsAreWritable = (input : List ℕ) (book : Contents) (part parts : ℕ) (turns : List Turn) (reached : Standing)
-    → IsBook input book
+RequestsAreWritable = (from : Origin) (input : List ℕ) (book : Contents) (part parts : ℕ) (turns : List Turn)
+    (reached : Standing)
+    → IsBookFrom from input book
     → GoesTo (begun book part parts) turns reached
     → All (λ turn. is_writable turn.request.message ≡ true) turns

@@ -1,15 +1,16 @@
 //! Laws of books and of sessions.
 
-ghost use Rattle.alert_book.specs.Laws.{BooksAreOne, BooksAreRight, CellsAreValid, FaultsAreOne, RowsAreFew};
-ghost use Rattle.alert_book.specs.Laws.{RowsAreOne, RowsAreRightOrWrong};
+ghost use Rattle.alert_book.specs.Laws.{BooksAreOne, BooksAreRight, CellsAreValid, FaultsAreOne, OrdersAreFew};
+ghost use Rattle.alert_book.specs.Laws.{RowsAreFew, RowsAreOne, RowsAreRightOrWrong};
 ghost use Rattle.alert_book.specs.LastAccepted.{LastAcceptedIsReplaced};
-ghost use Rattle.alert_book.specs.NetworkLaws.{BooksAreNetworks, GroupBooksAreOne};
+ghost use Rattle.alert_book.specs.NetworkLaws.{BooksAreNetworks};
 ghost use Rattle.alert_book.specs.Texts.{TextsAreUtf8};
 ghost use Rattle.alert_book.specs.TurnLaws.{AsksOncePerOrder, RequestsAreWritable, RequestsComeOfOrders, SessionsEnd};
 
 /// Octets mean one list of cells and orders at most, and if they do, no row of theirs is wrong. They are one book, with
-/// one list of pages, or have one fault, and never both. A book has at most 4,096 rows, and declares at most 64 cells,
-/// none twice. It does nothing: its contract is the law.
+/// one list of pages, or have one fault, and never both; and a group of a network has one book. A book has at most
+/// 4,096 rows. It has at most 64 cells, none twice, and 4,096 orders, and so has that of a group. It does nothing: its
+/// contract is the law.
 pub fn book_laws()
     ensures one { RowsAreOne }
     ensures right_or_wrong { RowsAreRightOrWrong }
@@ -18,16 +19,16 @@ pub fn book_laws()
     ensures one_fault { FaultsAreOne }
     ensures few { RowsAreFew }
     ensures cells { CellsAreValid }
+    ensures orders { OrdersAreFew }
 {}
 
-/// A book is a network book of one group, whose book it is, and a group of a network has one book, which its rows give.
-/// It does nothing: its contract is the law.
+/// A book is a network book of one group, whose book it is. It does nothing: its contract is the law.
 pub fn network_laws()
-    ensures book { BooksAreNetworks }
-    ensures one { GroupBooksAreOne }
+    ensures { BooksAreNetworks }
 {}
 
-/// States, as its contract, what holds of the turns of every session, whatever the replies say. It does nothing.
+/// States, as its contract, what holds of the turns of every session of a book, or of a group's, whatever the replies
+/// say. It does nothing.
 pub fn session_laws()
     // Each request leaves fewer that can follow it: a session ends.
     ensures end { SessionsEnd }
@@ -47,7 +48,7 @@ pub fn session_laws()
     ensures last_accepted { LastAcceptedIsReplaced }
 {}
 
-/// The texts of a book's orders are UTF-8. It does nothing: its contract is the law.
+/// The texts of a book's orders are UTF-8, and those of a group's. It does nothing: its contract is the law.
 pub fn text_laws()
     ensures { TextsAreUtf8 }
 {}

@@ -14,7 +14,7 @@ pub mod session;
 pub use book::{Book, MAX_INPUT, read_book};
 pub use fault::{BookFault, BookFaultKind};
 pub use laws::{book_laws, network_laws, session_laws, text_laws};
-pub use network::{GroupFault, MAX_NETWORK, count_groups, read_group};
+pub use network::{GroupFault, MAX_NETWORK, Origin, count_groups, read_book_from, read_group};
 pub use session::Session;
 pub use session::outcome::Outcome;
 pub use session::request::{Refused, Request};

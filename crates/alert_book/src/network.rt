@@ -11,6 +11,7 @@ ghost use Rattle.alert_book.specs.NameSteps.{AreNames};
 ghost use Rattle.alert_book.specs.Network.{declares_cell, groups_of, has_cells, row_in_group, CountsGroups};
 ghost use Rattle.alert_book.specs.Network.{HasNoBook, IsWrongNetwork, ReadsGroup, RefusesNetwork};
 ghost use Rattle.alert_book.specs.NetworkSteps.{is_kept_at, kept_row, pages_kept, AreAllKept, IsKeptMore, ReadsRows};
+ghost use Rattle.alert_book.specs.Origin.{HasNoBookFrom, ReadsFrom};
 ghost use Rattle.alert_book.specs.RowSteps.{IsFine};
 ghost use Rattle.alert_book.specs.SendableSteps.{IsSendable};
 
@@ -20,7 +21,7 @@ use crate::book::names::Names;
 use crate::book::order::{Action, Order};
 use crate::book::packing::all_pages;
 use crate::book::row::{Row, row_after_verb};
-use crate::book::{Book, fault_of_row};
+use crate::book::{Book, fault_of_row, read_book};
 use crate::fault::{BookFault, BookFaultKind, RowFault, fault_of_book};
 use crate::network::group_cells::GroupCells;
 use cbs_page::Paged;
@@ -45,12 +46,21 @@ const MAX_ORDERS: usize = 4096;
 /// Why a group has no book.
 #[derive(Clone, Copy, Debug, PartialEq, Eq, Error)]
 pub enum GroupFault {
-    /// The network book is refused.
+    /// The network book, or the book, is refused.
     #[error("{0}")]
     Network(BookFault),
     /// The network has this many groups, numbered from 0, and this one isn't among them.
     #[error("no such group: the network has {0}")]
     NoGroup(u16),
+}
+
+/// Where a book comes from.
+#[derive(Clone, Copy, Debug, PartialEq, Eq)]
+pub enum Origin {
+    /// The octets are the book.
+    Book,
+    /// The octets are a network book, of which this is the group of that number, from 0.
+    Group(u16),
 }
 
 /// The rows of a network book, as far as they are read, with of each row the cells that are in the group.
@@ -364,6 +374,35 @@ pub fn read_group<T: AllocGlobal + Threads + Sync, R: Read>(
     match book_of(rt.alloc(), network) {
         Ok(book) => Ok(book),
         Err(_) => Err(GroupFault::Network(fault_of_book(BookFaultKind::Refused))),
+    }
+}
+
+/// Reads a book to its end, as [`read_book`] does, or a network book for a group, as [`read_group`] does.
+///
+/// # Errors
+///
+/// `Network` with the fault of [`read_book`], or the faults of [`read_group`].
+pub fn read_book_from<T: AllocGlobal + Threads + Sync, R: Read>(
+    rt: &T,
+    source: &mut Source<R>,
+    origin: Origin,
+) -> Result<Book, GroupFault>
+    ensures ok { IfOk result (λ book. ReadsFrom origin (R.remaining (reader_of source.old))
+        (R.remaining (reader_of source.new)) book) }
+    ensures err { IfErr result (λ fault. HasNoBookFrom origin (R.remaining (reader_of source.old))
+        (R.remaining (reader_of source.new)) fault) }
+
+    // The device, at any reader.
+    ensures device { IsErrOf result (GroupFault.Network unread) ↔ IsTrue (source_failed source.new) }
+    ensures not_failed { OnOk result (source_failed source.new ≡ false) }
+    ensures failed_stays { source_failed source.old ≡ true → source.new ≡ source.old }
+{
+    match origin {
+        Origin::Group(group) => read_group(rt, source, group),
+        Origin::Book => match read_book(rt, source) {
+            Ok(book) => Ok(book),
+            Err(fault) => Err(GroupFault::Network(fault)),
+        },
     }
 }
 

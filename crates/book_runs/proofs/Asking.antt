@@ -18,7 +18,9 @@ use Rattle.cbsp_wire.specs.Range.{cells_of_failures, contents_are_valid, is_cell
 use Rattle.cbsp_wire.specs.Range.{numbers_are_valid, values_are_valid}
 use Rattle.cbsp_wire.specs.Table.{presence_of}
 use Rattle.cbsp_wire.specs.Value.{Fields, fields_of}
-use Rattle.alert_book.specs.Book.{Contents, IsBook}
+use Rattle.alert_book.specs.declared.network.Origin.{Origin}
+use Rattle.alert_book.specs.Book.{Contents}
+use Rattle.alert_book.specs.Origin.{IsBookFrom}
 use Rattle.alert_book.specs.Session.{cells_asked}
 use Rattle.alert_book.specs.TurnLaws.{AsksOncePerOrder, RequestsAreWritable, orders_in}
 use Rattle.alert_book.specs.Turns.{AreTurnsOf, Turn, is_asked}
@@ -191,11 +193,11 @@ asked_by_turns cells c (x ∷ exchanges) are distinct =
     together false n k kept first later = omega arith
 
 -- a session of a part asks a cell at most once for each of the part's orders
-pub asked_few : RequestsAreWritable → AsksOncePerOrder → (input : List ℕ) (book : Contents) (part parts : ℕ)
-    (cell : Cell) (exchanges : List Exchange) → IsBook input book
+pub asked_few : RequestsAreWritable → AsksOncePerOrder → (from : Origin) (input : List ℕ) (book : Contents)
+    (part parts : ℕ) (cell : Cell) (exchanges : List Exchange) → IsBookFrom from input book
     → AreTurnsOf book part parts (map (λ x. x.turn) exchanges) → All (IsExchange book.cells) exchanges
     → length (asked_of cell exchanges) ≤ length (orders_in book part parts)
-asked_few writable once input book part parts cell exchanges is session exchanged =
+asked_few writable once from input book part parts cell exchanges is session exchanged =
     let turns : List Turn = map (λ x. x.turn) exchanges in
     let asked = asked_by_turns book.cells cell exchanges exchanged distinct in
     let few = once book part parts turns session.reached cell session.gone in
@@ -204,7 +206,7 @@ asked_few writable once input book part parts cell exchanges is session exchange
     distinct : All IsOfDistinct exchanges
     distinct k d within =
         let x : Exchange = get_or exchanges k d in
-        let written = writable input book part parts (map (λ (y : Exchange). y.turn) exchanges) session.reached is
+        let written = writable from input book part parts (map (λ (y : Exchange). y.turn) exchanges) session.reached is
         session.gone k d.turn
         (subst (λ n. k < n) (sym (length-map exchanges (λ (y : Exchange). y.turn))) within) in
         let here : is_writable x.turn.request.message ≡ true =

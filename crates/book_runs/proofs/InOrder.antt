@@ -12,7 +12,7 @@ use Rattle.book_runs.proofs.Noted.{numbered_all}
 use Rattle.book_runs.proofs.Ordering.{order_of_parts}
 use Rattle.book_runs.proofs.AsksOfCell.{asks_of_it}
 use Rattle.book_runs.proofs.Parts.{IsAskedOf, Service, are_parts, part_of}
-use Rattle.book_runs.proofs.Room.{full_kept, log_few, none_full}
+use Rattle.book_runs.proofs.Room.{full_kept, log_fewer, none_full, some_full}
 
 -- the order in which the sessions asked the cell, each all that it asked
 pub record IsAskedInOrder (sessions : List (List Exchange)) (r : Record) : Type 0 where
@@ -26,10 +26,13 @@ pub asked_in_order : (s : Service) (r : Record) → IsAskedOf s r
 asked_in_order s r is =
     let whole = order_of_parts r.slots r.log (part_of s r.cell)
     (are_parts s r is) in
-    let few = log_few s r is whole in
     let room : list_any (list_any (is_full_of r.cell)) s.passes ≡ false = elim
     (cases_Bool (list_any (list_any (is_full_of r.cell)) s.passes)) [
-      | inl full ↦ absurd (too_few few ((is.right 4096).full refl full) is.orders)
+      | inl full ↦
+          let pass = some_full r.cell s.passes full in
+          let fewer = log_fewer s r is whole pass.0
+          (full_kept r.cell (get_or s.passes pass.0 []) ∙ pass.1) in
+          absurd (too_few fewer ((is.right 4096).full refl full) is.orders)
       | inr none ↦ none
     ] in
     record {
@@ -42,5 +45,5 @@ asked_in_order s r is =
       entries = whole.entries;
     }
   where
-    too_few : length r.log ≤ length s.book.orders → 4096 ≤ length r.log → length s.book.orders < 4096 → ⊥
-    too_few few full less = omega arith
+    too_few : length r.log < length s.book.orders → 4096 ≤ length r.log → length s.book.orders ≤ 4096 → ⊥
+    too_few fewer full few = omega arith

@@ -2,7 +2,7 @@
 -- OneAnswer stands on lemmas of scheduler and bsc_table, too.
 use Rattle.cbs_page.specs.Laws.{PagedTextsComeBack}
 use Rattle.scheduler.specs.AirLaws.{FrontsAreByTheRule, OneAirList}
-use Rattle.alert_book.specs.Laws.{BooksAreOne, CellsAreValid, RowsAreFew}
+use Rattle.alert_book.specs.Laws.{BooksAreOne, CellsAreValid, OrdersAreFew}
 use Rattle.alert_book.specs.Texts.{TextsAreUtf8}
 use Rattle.alert_book.specs.TurnLaws.{AsksOncePerOrder, RequestsAreWritable, RequestsComeOfOrders}
 use Rattle.bsc_table.specs.Written.{AcceptedAreWrites}
@@ -26,7 +26,7 @@ pub record Laws : Type 0 where
 
 -- those that say how often the sessions of a book can ask its cells
 pub record BookLaws : Type 0 where
-  pub rows_are_few : RowsAreFew
+  pub orders_are_few : OrdersAreFew
   pub cells_are_valid : CellsAreValid
   pub writable : RequestsAreWritable
   pub once_per_order : AsksOncePerOrder

@@ -104,18 +104,18 @@ is_meant_in laws book slots exchanges r utf8 asked few run =
 
 -- the handsets of a run of one session show what the book means
 pub runs_show_the_book : Laws → RunsShowTheBook
-runs_show_the_book laws input book slots exchanges records is few run =
-    let utf8 = laws.texts_are_utf8 input book is in
-    let asked = ordered laws input book 0 1 exchanges is run.session run.exchanged in
+runs_show_the_book laws from input book slots exchanges records is few run =
+    let utf8 = laws.texts_are_utf8 from input book is in
+    let asked = ordered laws from input book 0 1 exchanges is run.session run.exchanged in
     All-weaker (IsRunOfBook slots exchanges) (IsMeantIn book)
     (λ r here. is_meant_in laws book slots exchanges r utf8 asked few (log_of_run slots exchanges r here)) records
     run.each
 
 -- the handsets of a live run show what the book means
 pub live_runs_show_the_book : Laws → LiveRunsShowTheBook
-live_runs_show_the_book laws input book slots sessions records is few live =
-    let utf8 = laws.texts_are_utf8 input book is in
-    let asked = all_ordered laws input book slots sessions records is live in
+live_runs_show_the_book laws from input book slots sessions records is few live =
+    let utf8 = laws.texts_are_utf8 from input book is in
+    let asked = all_ordered laws from input book slots sessions records is live in
     All-weaker (IsRunBy slots sessions) (IsMeantIn book)
     (λ r here. is_meant_in laws book slots (joined sessions) r utf8 asked few (log_of_sessions slots sessions r here))
     records live.each

@@ -1,8 +1,8 @@
 -- What a session asked of a cell, with the numbers that its pass noted: the pass's entries are of it.
-use Rattle.std.proofs.Common.{◌≡◌, ℕ, ◌≤◌, Bool, true, false, cond, List, [], ◌∷◌, length}
+use Rattle.std.proofs.Common.{◌≡◌, ℕ, ◌<◌, ◌≤◌, ◌||◌, Bool, true, false, cond, List, [], ◌∷◌, length}
 use Rattle.std.proofs.Common.{filter, map, refl, ap, sym, ◌∙◌, arith}
 use Rattle.std.specs.List.{AllZip, list_any}
-use Rattle.std.proofs.lemmas.Bool.{or_parts}
+use Rattle.std.proofs.lemmas.Bool.{false≢true, or_parts}
 use Rattle.cbsp_wire.specs.declared.message.Cell.{Cell}
 use Rattle.cbsp_wire.specs.Range.{is_cell}
 use Rattle.bsc_table.specs.declared.entry.Entry.{Entry}
@@ -89,6 +89,40 @@ numbered_few records cell (ask ∷ asks) (notes.Full c ∷ later) zip =
         ≤ length (cond b (ask ∷ asks_of_cell cell asks) (asks_of_cell cell asks))
     more true rest = omega (arith, rest)
     more false rest = rest
+
+-- and fewer, if a note says that the log is full
+pub numbered_fewer : (records : List Record) (cell : Cell) (asks : List (Cell × Asked)) (list : List Note)
+    → AllZip (IsNoteOf records) asks list → list_any (is_full_of cell) list ≡ true
+    → length (numbered cell asks list) < length (asks_of_cell cell asks)
+numbered_fewer records cell [] [] zip full = absurd (false≢true full)
+numbered_fewer records cell [] (note ∷ later) zip full = absurd zip
+numbered_fewer records cell (ask ∷ asks) [] zip full = absurd zip
+numbered_fewer records cell (ask ∷ asks) (notes.Event c number entry ∷ later) zip full =
+    by_cell (is_cell cell c) (is_cell cell ask.0) (ap (is_cell cell) zip.0.0)
+    (numbered_fewer records cell asks later zip.1 full)
+  where
+    by_cell : (a b : Bool) → a ≡ b → length (numbered cell asks later) < length (asks_of_cell cell asks)
+        → length (cond a ((number, ask.1) ∷ numbered cell asks later) (numbered cell asks later))
+        < length (cond b (ask ∷ asks_of_cell cell asks) (asks_of_cell cell asks))
+    by_cell true true same rest = omega (arith, rest)
+    by_cell true false same rest = absurd (cc)
+    by_cell false true same rest = absurd (cc)
+    by_cell false false same rest = rest
+numbered_fewer records cell (ask ∷ asks) (notes.Played c from to ∷ later) zip full = absurd zip.0
+numbered_fewer records cell (ask ∷ asks) (notes.Full c ∷ later) zip full =
+    by_cell (is_cell cell c) (is_cell cell ask.0) (ap (is_cell cell) zip.0.0) full
+    (numbered_few records cell asks later zip.1) (numbered_fewer records cell asks later zip.1)
+  where
+    by_cell : (a b : Bool) → a ≡ b → (a || list_any (is_full_of cell) later) ≡ true
+        → length (numbered cell asks later) ≤ length (asks_of_cell cell asks)
+        → (list_any (is_full_of cell) later ≡ true
+        → length (numbered cell asks later) < length (asks_of_cell cell asks))
+        → length (numbered cell asks later)
+        < length (cond b (ask ∷ asks_of_cell cell asks) (asks_of_cell cell asks))
+    by_cell true true same here few fewer = omega (arith, few)
+    by_cell true false same here few fewer = absurd (cc)
+    by_cell false true same here few fewer = omega (arith, few)
+    by_cell false false same here few fewer = fewer here
 
 -- if no note says that the log is full, all commands of the cell are numbered
 pub numbered_all : (records : List Record) (cell : Cell) (asks : List (Cell × Asked)) (list : List Note)

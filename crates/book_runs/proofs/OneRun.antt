@@ -317,8 +317,8 @@ one_run laws book slots exchanges others records rest one two =
 
 -- a run of a book is one of each book with the same cells, orders and pages
 pub runs_are_one : OneRunLaws → RunsAreOne
-runs_are_one laws input book other slots exchanges others records rest is also one two =
-    let same = laws.books_are_one input book other is also in
+runs_are_one laws from input book other slots exchanges others records rest is also one two =
+    let same = laws.books_are_one from input book other is also in
     one_run laws other slots exchanges others records rest (record {
       session = same_turns book other 0 1 (turns_in exchanges) same.1 same.2 one.session;
       cells = one.cells ∙ same.0;

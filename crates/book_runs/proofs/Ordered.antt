@@ -10,7 +10,10 @@ use Rattle.cbs_page.specs.Text.{text_of_page}
 use Rattle.cbsp_wire.specs.declared.message.Cell.{Cell}
 use Rattle.cbsp_wire.specs.Range.{is_cell}
 use Rattle.alert_book.specs.declared.book.order.Order.{Order}
-use Rattle.alert_book.specs.Book.{Contents, IsBook}
+use Rattle.alert_book.specs.declared.network.Origin.{Origin}
+use Rattle.alert_book.specs.Book.{Contents}
+use Rattle.alert_book.specs.Origin.{IsBookFrom}
+use Rattle.alert_book.proofs.Origins.{paged_from}
 use Rattle.alert_book.specs.Texts.{HasUtf8Text}
 use Rattle.alert_book.specs.TurnLaws.{ComesOf}
 use Rattle.alert_book.specs.Turns.{AreTurnsOf, Turn}
@@ -42,23 +45,24 @@ abbrev pub IsOrdered : Contents → Exchange → Type 0
 IsOrdered book x = IsExchange book.cells x × Any (ComesOf x.turn.request) book.orders
 
 -- each exchange of a session is ordered by the book
-pub ordered : (laws : Laws) (input : List ℕ) (book : Contents) (part parts : ℕ) (exchanges : List Exchange)
-    → IsBook input book → AreTurnsOf book part parts (map (λ x. x.turn) exchanges)
+pub ordered : (laws : Laws) (from : Origin) (input : List ℕ) (book : Contents) (part parts : ℕ)
+    (exchanges : List Exchange) → IsBookFrom from input book → AreTurnsOf book part parts (map (λ x. x.turn) exchanges)
     → All (IsExchange book.cells) exchanges → All (IsOrdered book) exchanges
-ordered laws input book part parts exchanges is session exchanged k d within =
+ordered laws from input book part parts exchanges is session exchanged k d within =
     let turn : Exchange → Turn = λ x. x.turn in
     let there : k < length (map turn exchanges) = subst (λ n. k < n) (sym (length-map exchanges turn)) within in
-    let comes = laws.come_of_orders book part parts (map turn exchanges) session.reached is.paged session.gone k d.turn
+    let comes = laws.come_of_orders book part parts (map turn exchanges) session.reached
+    (paged_from from input book is) session.gone k d.turn
     there in (
       exchanged k d within,
       subst (λ (t : Turn). Any (ComesOf t.request) book.orders) (get_or-map turn exchanges k d d.turn within) comes,
     )
 
 -- and so are all exchanges of several sessions
-pub all_ordered : (laws : Laws) (input : List ℕ) (book : Contents) (slots : ℕ) (sessions : List (List Exchange))
-    (records : List Record) → IsBook input book → IsLiveRun book slots sessions records
+pub all_ordered : (laws : Laws) (from : Origin) (input : List ℕ) (book : Contents) (slots : ℕ)
+    (sessions : List (List Exchange)) (records : List Record) → IsBookFrom from input book → IsLiveRun book slots sessions records
     → All (IsOrdered book) (joined sessions)
-all_ordered laws input book slots sessions records is live =
+all_ordered laws from input book slots sessions records is live =
     all_joined (IsOrdered book) (λ (exchanges : List Exchange). exchanges) sessions each
   where
     each : All (λ (exchanges : List Exchange). All (IsOrdered book) exchanges) sessions
@@ -66,7 +70,7 @@ all_ordered laws input book slots sessions records is live =
         let session : AreTurnsOf book k (length sessions) (map (λ x. x.turn) (get_or sessions k d)) =
         subst (λ (exchanges : List Exchange). AreTurnsOf book k (length sessions) (map (λ x. x.turn) exchanges))
         (get_or_default sessions k [] d within) (live.turns k within) in
-        ordered laws input book k (length sessions) (get_or sessions k d) is session (live.exchanged k d within)
+        ordered laws from input book k (length sessions) (get_or sessions k d) is session (live.exchanged k d within)
 
 -- an exchange of an entry of the log, and its command as the text of an order
 comes_of : (laws : Laws) (book : Contents) (r : Record) (a : Accepted) (e : Entry) (x : Exchange)
@@ -145,18 +149,18 @@ are_those_started laws book slots exchanges r utf8 asked has = record {
 
 -- what the cells of a run of one session accepted, a row of the book ordered
 pub runs_accept_what_was_ordered : Laws → RunsAcceptWhatWasOrdered
-runs_accept_what_was_ordered laws input book slots exchanges records is run =
-    let utf8 = laws.texts_are_utf8 input book is in
-    let asked = ordered laws input book 0 1 exchanges is run.session run.exchanged in
+runs_accept_what_was_ordered laws from input book slots exchanges records is run =
+    let utf8 = laws.texts_are_utf8 from input book is in
+    let asked = ordered laws from input book 0 1 exchanges is run.session run.exchanged in
     All-weaker (IsRunOfBook slots exchanges) (AreThoseStarted book exchanges)
     (λ r here. are_those_started laws book slots exchanges r utf8 asked (log_of_run slots exchanges r here)) records
     run.each
 
 -- what the cells of a live run accepted, a row of the book ordered
 pub live_runs_accept_what_was_ordered : Laws → LiveRunsAcceptWhatWasOrdered
-live_runs_accept_what_was_ordered laws input book slots sessions records is live =
-    let utf8 = laws.texts_are_utf8 input book is in
-    let asked = all_ordered laws input book slots sessions records is live in
+live_runs_accept_what_was_ordered laws from input book slots sessions records is live =
+    let utf8 = laws.texts_are_utf8 from input book is in
+    let asked = all_ordered laws from input book slots sessions records is live in
     All-weaker (IsRunBy slots sessions) (AreThoseStarted book (joined sessions))
     (λ r here. are_those_started laws book slots (joined sessions) r utf8 asked (log_of_sessions slots sessions r here))
     records live.each

@@ -61,7 +61,7 @@ pub record Service : Type 0 where
 
 -- what is known of one cell of it: what each pass noted of commands is what its session asked, the numbers noted are
 -- right, the slots of commands are the record's, and each session asked the cell at most as often as its part of the
--- book, of fewer than 4,096 orders, has some
+-- book, of at most 4,096 orders, has some
 pub record IsAskedOf (s : Service) (r : Record) : Type 0 where
   pub noted : (q : ℕ) → AllZip (IsNoteOf s.records) (asks_of s.book.cells (get_or s.sessions q []))
       (filter is_of_command (get_or s.passes q []))
@@ -71,7 +71,7 @@ pub record IsAskedOf (s : Service) (r : Record) : Type 0 where
   pub past : (q : ℕ) → s.parts ≤ q → get_or s.sessions q [] ≡ []
   pub few : (q : ℕ) → q < s.parts
       → length (asked_of r.cell (get_or s.sessions q [])) ≤ length (orders_in s.book q s.parts)
-  pub orders : length s.book.orders < 4096
+  pub orders : length s.book.orders ≤ 4096
 
 -- what the session of a part asked the cell, with the numbers that its pass noted
 abbrev pub part_of : Service → Cell → (q : ℕ) → List (ℕ × Asked)

@@ -1,5 +1,5 @@
 -- A desk of a book's cells that is settled with the passes of the book's sessions has a run of the book.
-use Rattle.std.proofs.Common.{◌≡◌, ℕ, ◌+◌, zero, suc, ◌<◌, ◌≤◌, true, List, [], ◌∷◌, length, map, filter}
+use Rattle.std.proofs.Common.{◌≡◌, ℕ, zero, suc, ◌<◌, true, List, [], ◌∷◌, length, map, filter}
 use Rattle.std.proofs.Common.{get_or, refl, ap, subst, sym, ◌∙◌, arith, inl, inr}
 use Rattle.std.specs.Prelude.{nat_le}
 use Rattle.std.specs.List.{All, AllZip}
@@ -105,7 +105,8 @@ right_after passes before after agrees out k =
 
 -- sessions whose desk is settled, and whose notes are those of their turns, are a run of the book
 pub settled_sessions_are_runs : BookLaws → SettledSessionsAreRuns
-settled_sessions_are_runs laws input book slots parts desk passes records is some same_cells same_slots settled are =
+settled_sessions_are_runs laws from input book slots parts desk passes records is some same_cells same_slots settled
+    are =
     let made = listed (λ k. IsSessionOf book k parts records (get_or passes k [])) parts
     (λ k within. (are k).own within) in
     (made.0, made.1, live made.0 made.1 made.2)
@@ -120,7 +121,7 @@ settled_sessions_are_runs laws input book slots parts desk passes records is som
 
     distinct : are_distinct (map (λ (r : Record). r.cell) records) ≡ true
     distinct = subst (λ (list : List Cell). are_distinct list ≡ true) (sym cells)
-        (and_parts (nat_le (length book.cells) 64) (are_distinct book.cells) (laws.cells_are_valid input book is)).1
+        (and_parts (nat_le (length book.cells) 64) (are_distinct book.cells) (laws.cells_are_valid from input book is)).1
 
     long : length desk.books ≡ length records
     long = length_all_zip IsPlayedOut desk.books records settled.played
@@ -137,7 +138,6 @@ settled_sessions_are_runs laws input book slots parts desk passes records is som
         slots_of_books desk.slots desk.cells desk.books settled.right k d in_books ∙ same_slots in
         let own : is_among book.cells (get_or records k d).cell ≡ true =
         subst (λ (list : List Cell). is_among list (get_or records k d).cell ≡ true) cells (among records k d within) in
-        let rows = laws.rows_are_few input book is in
         let asked = asked_in_order (service sessions) (get_or records k d) (record {
           noted = are_noted book parts records passes sessions are count sess;
           right = right_after passes (get_or desk.books k d) (get_or records k d)
@@ -145,10 +145,9 @@ settled_sessions_are_runs laws input book slots parts desk passes records is som
           slots = have_slots records distinct k d within;
           among = own;
           past = λ q past. get_or_past sessions q [] (omega (arith, count, past));
-          few = λ q below. asked_few laws.writable laws.once_per_order input book q parts (get_or records k d).cell
+          few = λ q below. asked_few laws.writable laws.once_per_order from input book q parts (get_or records k d).cell
               (get_or sessions q []) is (sess q [] below).turns (sess q [] below).exchanged;
-          orders = fewer (length book.cells) (length book.orders)
-              (a_cell (get_or records k d).cell book.cells own) rows;
+          orders = laws.orders_are_few from input book is;
         }) in
         let same : (get_or records k d).slots ≡ slots = out.played.same_slots ∙ run in
         record {
@@ -159,13 +158,6 @@ settled_sessions_are_runs laws input book slots parts desk passes records is som
           own = asked.own;
           entries = asked.entries ∙ ap (λ n. entries_for n 0 (map (λ a. a.1) asked.order)) same;
         }
-      where
-        a_cell : (cell : Cell) (list : List Cell) → is_among list cell ≡ true → 1 ≤ length list
-        a_cell cell [] there = absurd (cc)
-        a_cell cell (c ∷ list) there = omega arith
-
-        fewer : (declared orders : ℕ) → 1 ≤ declared → declared + orders ≤ 4096 → orders < 4096
-        fewer declared orders one rows = omega arith
 
     live : (sessions : List (List Exchange)) → length sessions ≡ parts
         → ((q : ℕ) (d : List Exchange) → q < parts

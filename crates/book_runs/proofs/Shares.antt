@@ -1,8 +1,8 @@
 -- How many items of a list there are for each number: all numbers below a bound share those below it.
 use Rattle.std.proofs.Common.{◌≡◌, ℕ, ◌+◌, zero, suc, ◌<◌, ◌≤◌, Bool, true, false, cond, List, [], ◌∷◌, length}
-use Rattle.std.proofs.Common.{eqb, ltb, filter, refl, ap, sym, ◌∙◌, arith, inl, inr}
+use Rattle.std.proofs.Common.{eqb, ltb, filter, refl, ap, subst, sym, ◌∙◌, arith, inl, inr}
 use Rattle.std.specs.List.{All}
-use Rattle.std.proofs.lemmas.Bool.{cases_order, eq-eqb, le-ltb, lt-ltb, ne_eqb}
+use Rattle.std.proofs.lemmas.Bool.{cases_lt, cases_order, eq-eqb, le-ltb, lt-ltb, ne_eqb}
 use Rattle.std.proofs.lemmas.List.Elements.{All-head, All-tail}
 
 -- the sum of a number's values below a bound
@@ -17,6 +17,24 @@ total_le f g (suc n) each =
     let earlier = total_le f g n (λ q below. each q (omega arith)) in
     let last = each n (omega arith) in
     omega (arith, earlier, last)
+
+-- and less, if one of the shares is less
+pub total_lt : (f g : ℕ → ℕ) (n : ℕ) → ((q : ℕ) → q < n → f q ≤ g q) → (k : ℕ) → k < n → f k < g k
+    → total f n < total g n
+total_lt f g zero each k within less = absurd (omega (arith, within))
+total_lt f g (suc n) each k within less = elim (cases_lt k n) [
+  | inl below ↦
+      let earlier = total_lt f g n (λ q under. each q (omega arith)) k below less in
+      let last = each n (omega arith) in
+      omega (arith, earlier, last)
+  | inr past ↦
+      let earlier = total_le f g n (λ q under. each q (omega arith)) in
+      let here = subst (λ q. f q < g q) (same k n within past) less in
+      omega (arith, earlier, here)
+]
+  where
+    same : (a b : ℕ) → a < suc b → b ≤ a → a ≡ b
+    same a b less least = omega arith
 
 -- the items of which a number is this one, and those of which it is less
 abbrev pub share : {X : Type 0} → (X → ℕ) → List X → (q : ℕ) → ℕ

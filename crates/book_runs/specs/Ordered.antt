@@ -2,7 +2,9 @@
 use Rattle.std.specs.Prelude.{◌≡◌, ℕ, true, Some, List, All, Any}
 use Rattle.cbsp_wire.specs.declared.message.Cell.{Cell}
 use Rattle.cbsp_wire.specs.Range.{is_cell}
-use Rattle.alert_book.specs.Book.{Contents, IsBook}
+use Rattle.alert_book.specs.declared.network.Origin.{Origin}
+use Rattle.alert_book.specs.Book.{Contents}
+use Rattle.alert_book.specs.Origin.{IsBookFrom}
 use Rattle.alert_book.specs.TurnLaws.{ComesOf}
 use Rattle.bsc_table.specs.declared.entry.Answer.{Answer}
 use Rattle.bsc_table.specs.Orders.{IsWrite}
@@ -35,8 +37,8 @@ pub record AreThoseStarted (book : Contents) (exchanges : List Exchange) (r : Re
 
 -- of each run of a book
 abbrev pub RunsAcceptWhatWasOrdered : Type 0
-RunsAcceptWhatWasOrdered = (input : List ℕ) (book : Contents) (slots : ℕ) (exchanges : List Exchange)
+RunsAcceptWhatWasOrdered = (from : Origin) (input : List ℕ) (book : Contents) (slots : ℕ) (exchanges : List Exchange)
     (records : List Record)
-    → IsBook input book
+    → IsBookFrom from input book
     → IsRun book slots exchanges records
     → All (AreThoseStarted book exchanges) records

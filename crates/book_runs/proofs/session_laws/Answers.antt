@@ -21,7 +21,7 @@ returns c =
       texts_are_those_of_contents = c.composition_laws.ensures.texts_are_those_of_contents;
     } in
     let of_books : BookLaws = record {
-      rows_are_few = c.book_laws.ensures.few;
+      orders_are_few = c.book_laws.ensures.orders;
       cells_are_valid = c.book_laws.ensures.cells;
       writable = c.session_laws.ensures.writable;
       once_per_order = c.session_laws.ensures.once_per_order;

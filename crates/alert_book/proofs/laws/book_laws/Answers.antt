@@ -1,5 +1,6 @@
-use Rattle.alert_book.proofs.OneBook.{books_are_one, books_are_right, faults_are_one}
-use Rattle.alert_book.proofs.FewRows.{cells_are_few, rows_are_few}
+use Rattle.alert_book.proofs.OneBook.{books_are_right, faults_are_one}
+use Rattle.alert_book.proofs.FewRows.{rows_are_few}
+use Rattle.alert_book.proofs.GroupOrders.{all_books_are_one, all_cells_are_valid, all_orders_are_few}
 use Rattle.alert_book.specs.Row.{row_of}
 use Rattle.alert_book.proofs.OneAnswer.{one_meaning, right_or_wrong}
 use Rattle.alert_book.proofs.laws.book_laws.Goals as goal
@@ -14,10 +15,13 @@ pub returns-clause-few : goal.returns-clause-few
 returns-clause-few c = rows_are_few
 
 pub returns-clause-cells : goal.returns-clause-cells
-returns-clause-cells c = cells_are_few
+returns-clause-cells c = all_cells_are_valid
+
+pub returns-clause-orders : goal.returns-clause-orders
+returns-clause-orders c = all_orders_are_few
 
 pub returns-clause-one_book : goal.returns-clause-one_book
-returns-clause-one_book c = books_are_one
+returns-clause-one_book c = all_books_are_one
 
 pub returns-clause-book_or_fault : goal.returns-clause-book_or_fault
 returns-clause-book_or_fault c = books_are_right
