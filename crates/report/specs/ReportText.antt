@@ -1,5 +1,5 @@
 -- The text of a report, as CSV (own).
-use Rattle.std.specs.Prelude.{ℕ, ◌/◌, ◌%◌, List, [], ◌∷◌, ◌++◌, codes}
+use Rattle.std.specs.Prelude.{ℕ, ◌/◌, ◌%◌, Bool, true, false, List, [], ◌∷◌, ◌++◌, codes}
 use Rattle.std.specs.Fmt.{decimal}
 use Rattle.std.specs.List.{flat_map}
 use Rattle.csv.specs.Writing.{default_writer, row_text}
@@ -37,3 +37,11 @@ row_line r =
 -- the text of a report of these rows
 abbrev pub report_text : List Row → List ℕ
 report_text rows = header_line ++ flat_map row_line rows
+
+-- the first line, or none: the report of a part that isn't the first has none, so that parts can be joined
+abbrev pub heading : Bool → List ℕ
+heading true = header_line
+heading false = []
+
+abbrev pub part_text : (headed : Bool) → List Row → List ℕ
+part_text headed rows = heading headed ++ flat_map row_line rows

@@ -5,7 +5,7 @@ ghost use Rattle.std.specs.Io.KnownBytes.{Appends};
 ghost use Rattle.device_ends.specs.Moves.{AppendsFront};
 ghost use Rattle.device_ends.specs.Sink.{sink_failed, writer_of};
 ghost use Rattle.device_ends.specs.Stream.{Writes};
-ghost use Rattle.report.specs.ReportText.{report_text};
+ghost use Rattle.report.specs.ReportText.{part_text, report_text};
 
 use crate::fault::ReportFault;
 use crate::row::Row;
@@ -14,11 +14,12 @@ use device_ends::{Failed, Sink, write_all};
 use std::alloc::{AllocError, Global};
 use std::io::Write;
 
-/// The text of a report of these rows. The only error is out of memory.
-fn text_of(alloc: Global, rows: &[Row]) -> Result<Vec<u8>, AllocError>
-    ensures { IfOk result (λ octets. octets.items ≡ report_text rows.now) }
+/// The text of a part of a report: of these rows, after the line of the columns' names if it is headed. The only error
+/// is out of memory.
+fn text_of(alloc: Global, headed: bool, rows: &[Row]) -> Result<Vec<u8>, AllocError>
+    ensures { IfOk result (λ octets. octets.items ≡ part_text headed rows.now) }
 {
-    let mut table = Table::new(alloc)?;
+    let mut table = Table::new(alloc, headed)?;
     for row in rows {
         table.push(row)?;
     }
@@ -48,10 +49,36 @@ pub fn write_report<W: Write>(
     // A sink that had failed before is as it was.
     ensures failed_stays { sink_failed sink.old ≡ true → sink.new ≡ sink.old }
 {
+    write_part(alloc, true, rows, sink)
+}
+
+/// Writes a part of a report, as [`write_report`] does: the line of the columns' names is written if the part is
+/// headed, as the first one is. So parts that are joined in order are the report of all their rows.
+///
+/// # Errors
+///
+/// Returns the faults of [`write_report`].
+pub fn write_part<W: Write>(
+    alloc: Global,
+    headed: bool,
+    rows: &[Row],
+    sink: &mut Sink<W>,
+) -> Result<(), ReportFault>
+    ensures ok { OnOk result (Appends (W.contents (writer_of sink.old)) (W.contents (writer_of sink.new))
+        (part_text headed rows.now)) }
+    ensures front { IsErrOf result ReportFault.WriteFailed
+        → Writes W.contents (λ old new. AppendsFront old new (part_text headed rows.now)) sink.old sink.new }
+    ensures refused { IsErrOf result ReportFault.Refused → sink.new ≡ sink.old }
+    ensures faults { IfErr result (λ fault. fault ≢ ReportFault.Cells) }
+    ensures failed { IsErrOf result ReportFault.WriteFailed ↔ IsTrue (sink_failed sink.new) }
+
+    // A sink that had failed before is as it was.
+    ensures failed_stays { sink_failed sink.old ≡ true → sink.new ≡ sink.old }
+{
     if sink.failed() {
         return Err(ReportFault::WriteFailed);
     }
-    let octets = text_of(alloc, rows)?;
+    let octets = text_of(alloc, headed, rows)?;
     match write_all(sink, &octets) {
         Ok(()) => Ok(()),
         Err(Failed) => Err(ReportFault::WriteFailed),

@@ -2,13 +2,13 @@
 
 ghost use Rattle.std.specs.Prelude.{◌≡◌, ℕ, List, [], ◌++◌, map, IfOk, OnOk};
 ghost use Rattle.std.specs.Prelude.{string_bytes};
-ghost use Rattle.report.specs.ReportText.{line, report_text, row_line, showing_text};
+ghost use Rattle.report.specs.ReportText.{header_line, line, part_text, row_line, showing_text};
 
 use crate::row::{Row, Showing};
 use csv::{Writer, WriterBuilder};
 use std::alloc::{AllocError, Global};
 
-/// The text of a report: the line of the columns' names, and a line for each row.
+/// The text of a part of a report: the line of the columns' names, if it is headed, and a line for each row.
 #[derive(Drop)]
 pub struct Table {
     alloc: Global,
@@ -33,16 +33,28 @@ fn showing_text(alloc: Global, shown: Showing) -> Result<String, AllocError>
 impl Table {
     ghost use Rattle.report.specs.TextSteps.{IsTable};
 
-    /// The text of no rows.
+    /// The text of no rows, with the line of the columns' names if it is headed.
     ///
     /// # Errors
     ///
     /// Out of memory.
-    pub fn new(alloc: Global) -> Result<Table, AllocError>
-        ensures { IfOk result (λ table. IsTable table (report_text [])) }
+    pub fn new(alloc: Global, headed: bool) -> Result<Table, AllocError>
+        ensures { IfOk result (λ table. IsTable table (part_text headed [])) }
     {
         let mut table = Table::empty(alloc);
-        table.push_line(&[
+        if !headed {
+            return Ok(table);
+        }
+        table.push_names()?;
+        Ok(table)
+    }
+
+    /// Appends the line of the columns' names.
+    fn push_names(&mut self) -> Result<(), AllocError>
+        ensures { OnOk result ((octets : List ℕ) → IsTable self.old octets
+            → IsTable self.new (octets ++ header_line)) }
+    {
+        self.push_line(&[
             b"lac",
             b"ci",
             b"id",
@@ -51,8 +63,7 @@ impl Table {
             b"end",
             b"completed",
             b"shown",
-        ])?;
-        Ok(table)
+        ])
     }
 
     /// No text.

@@ -1,7 +1,7 @@
 use Rattle.std.proofs.Common.{take}
-use Rattle.report.specs.ReportText.{report_text}
+use Rattle.report.specs.ReportText.{part_text}
 use Rattle.report.specs.TextSteps.{IsTable}
 use Rattle.report.proofs.output.text_of.Given as goal
 
 abbrev pub invariant-loop-row : goal.invariant-loop-row
-invariant-loop-row l = IsTable l.table (report_text (take l.row-index l.rows))
+invariant-loop-row l = IsTable l.table (part_text l.headed (take l.row-index l.rows))
