@@ -10,7 +10,7 @@ _warnc() {
         before=${COMP_WORDS[COMP_CWORD - 2]}
     fi
     if [ "$COMP_CWORD" -eq 1 ]; then
-        words="compile live read pcap tape report chart verify page help -h --help -V --version"
+        words="compile live read pcap tape report groups chart verify page help -h --help -V --version"
     else
         case $before in
         --lang) words="de en it fr es nl sv da pt fi no el tr hu pl und cs he ar ru is" ;;
@@ -25,16 +25,17 @@ _warnc() {
             ;;
         *)
             case ${COMP_WORDS[1]} in
-            compile) words="--slots --workers -h --help" ;;
-            live) words="--slots --sessions --workers -h --help" ;;
+            compile) words="--slots --group --workers -h --help" ;;
+            live) words="--slots --group --sessions --workers -h --help" ;;
             read) words="-h --help" ;;
             pcap) words="--used --channel -h --help" ;;
             tape) words="--cell --slots --from -h --help" ;;
-            report) words="--slots --workers -h --help" ;;
+            report) words="--slots --group --workers -h --help" ;;
+            groups) words="-h --help" ;;
             chart) words="--slots --cell --workers -h --help" ;;
-            verify) words="--slots --book-octets --workers -h --help" ;;
+            verify) words="--slots --group --book-octets --workers -h --help" ;;
             page) words="--lang --id --scope --code --update -h --help" ;;
-            help) words="compile live read pcap tape report chart verify page" ;;
+            help) words="compile live read pcap tape report groups chart verify page" ;;
             esac
             ;;
         esac

@@ -1,3 +1,5 @@
 pub mod WordLaws
 pub mod SomeTape
+pub mod NoRun
 pub mod NotVerified
+pub mod Tasks

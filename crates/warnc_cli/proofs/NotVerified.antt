@@ -1,11 +1,11 @@
 -- What `verify` refuses: a fault of status 1 is one of the input.
-use Rattle.std.proofs.Common.{◌≡◌, ◌≢◌, ◌⊎◌, ℕ, ◌+◌, ◌<◌, ◌≤◌, List, ◌++◌, Option, None, Some, IfSome, length, take}
-use Rattle.std.proofs.Common.{drop, refl, zero, suc}
-use Rattle.std.proofs.Common.{true, false, Err, IsErrOf, IsTrue}
-use Rattle.std.proofs.Common.{sym, ap, ◌∙◌, subst, arith, inl, inr, append-nil, rules}
-use Rattle.std.proofs.lemmas.List.{length-append}
-use Rattle.std.specs.Io.KnownBytes.{Consumes, IsAtEnd, Keeps}
-use Rattle.alert_book.specs.Book.{IsBook, IsWrong, fault_at, max_book, refused, too_long, unread}
+use Rattle.std.proofs.Common.{◌≡◌, ◌≢◌, ◌⊎◌, ℕ, ◌≤◌, List, Option, None, Some, IfSome, take}
+use Rattle.std.proofs.Common.{refl, zero, suc}
+use Rattle.std.proofs.Common.{true, false, Err, IsTrue}
+use Rattle.std.proofs.Common.{sym, subst, arith, inl, inr, rules}
+use Rattle.std.specs.Io.KnownBytes.{Keeps}
+use Rattle.alert_book.specs.declared.network.Origin.{Origin}
+use Rattle.alert_book.specs.Book.{fault_at, unread}
 use Rattle.alert_book.specs.declared.fault.BookFaultKind.{BookFaultKind}
 use Rattle.alert_book.specs.declared.fault.BookFaultKind.TheVariants as kinds
 use Rattle.cbs_page.specs.declared.paging.TextFault.TheVariants as text
@@ -13,101 +13,47 @@ use Rattle.device_ends.specs.Sink.{sink_failed}
 use Rattle.device_ends.specs.Source.{source_failed}
 use Rattle.device_ends.specs.declared.reading.Source.{Source}
 use Rattle.device_ends.specs.declared.writing.Sink.{Sink}
-use Rattle.alert_book.specs.declared.fault.BookFault.{BookFault}
 use Rattle.handset.specs.declared.tape.TapeFault.TheVariants as tape
 use Rattle.order_desk.specs.declared.fault.DeskFault.{DeskFault}
 use Rattle.order_desk.specs.declared.fault.DeskFault.TheVariants as desk
 use Rattle.order_desk.specs.declared.settle.SettleFault.{SettleFault}
 use Rattle.order_desk.specs.declared.settle.SettleFault.TheVariants as settle
 use Rattle.parallel_compile.specs.declared.fault.CompileFault.TheVariants as compile
-use Rattle.warnc_run.specs.Compiled.{HasReadBook, IsDeskFault, IsSettleFault}
 use Rattle.warnc_run.specs.declared.fault.RunFault.{RunFault}
 use Rattle.warnc_run.specs.declared.fault.RunFault.TheVariants as run
 use Rattle.warnc_verify.specs.Input.{IsInputFault, IsOfInput, IsRunInMemory, IsVerifyBetween}
-use Rattle.warnc_verify.specs.Verified.{IsBookFault, IsDifference, HasWritten}
+use Rattle.warnc_verify.specs.Verified.{IsDifference, HasWritten}
 use Rattle.warnc_verify.specs.declared.fault.VerifyFault.{VerifyFault}
 use Rattle.warnc_verify.specs.declared.fault.VerifyFault.TheVariants as fault
-use Rattle.warnc_verify.proofs.Inputs.{whole}
-use Rattle.warnc_cli.specs.RunSteps.{status_of_compile_fault, status_of_desk_fault, status_of_run_fault}
+use Rattle.warnc_cli.proofs.NoRun.{no_records}
+use Rattle.warnc_cli.specs.RunSteps.{status_of_desk_fault, status_of_run_fault}
 use Rattle.warnc_cli.specs.RunSteps.{status_of_settle_fault, status_of_verify_fault, IsVerifyRunBetween}
-use Rattle.warnc_cli.specs.Status.{IsNoBook, IsNoRun, IsNotVerified, OneHasFailed, status_of_book_fault}
-use Rattle.warnc_cli.specs.Status.{status_of_book_kind}
+use Rattle.warnc_cli.specs.Status.{IsNotVerified, OneHasFailed, status_of_book_fault}
 
-no_longer : (book input : List ℕ) (last : Option (List ℕ)) → Consumes (Some book) last input
-    → length input ≡ max_book + 1
-    → max_book < length book
-no_longer book input None read long = absurd read
-no_longer book input (Some rest) read long =
-    let all = ap length read in
-    let both = length-append input rest in
-    omega (arith, all, both, long)
-
-no_book : (book input : List ℕ) (last : Option (List ℕ)) (f : BookFault) → Consumes (Some book) last input
-    → (f ≡ refused) ⊎ ((f ≡ unread) ⊎ (((f ≡ too_long) × (length input ≡ max_book + 1))
-    ⊎ (IsAtEnd last × IsWrong input f)))
-    → status_of_book_fault f ≡ 1
-    → IsNoBook book
-no_book book input last f read (inl same) is = absurd (omega (arith, sym (ap status_of_book_fault same) ∙ is))
-no_book book input last f read (inr (inl same)) is = absurd (omega (arith, sym (ap status_of_book_fault same) ∙ is))
-no_book book input last f read (inr (inr (inl long))) is = inl (no_longer book input last read long.1)
-no_book book input last f read (inr (inr (inr wrong))) is =
-    inr (f, subst (λ (octets : List ℕ). IsWrong octets f) (whole book input last read wrong.0) wrong.1, is)
-
--- a book that was read, and whose run ended early
-book_read : (book : List ℕ) (last : Option (List ℕ)) (read : HasReadBook (Some book) last) → IsBook book read.book
-book_read book last read =
-    subst (λ (octets : List ℕ). IsBook octets read.book) (whole book read.input last read.read read.ended)
-    read.is_book
-
-stopped_desk : (slots : ℕ) (book : List ℕ) (last : Option (List ℕ)) (f : DeskFault) → IsDeskFault f
-    → HasReadBook (Some book) last
-    → status_of_run_fault (run.Desk f) ≡ 1
-    → IsNoRun slots 1 book
-stopped_desk slots book last (desk.Memory done) why read is = absurd (omega (arith, is))
-stopped_desk slots book last desk.Unknown why read is =
-    inr (read.book, book_read book last read, (run.Desk desk.Unknown, refl))
-stopped_desk slots book last other why read is = absurd why
-
-no_run : (slots : ℕ) (book : List ℕ) (last : Option (List ℕ)) (f : RunFault) → IsBookFault slots (Some book) last f
-    → status_of_run_fault f ≡ 1
-    → IsNoRun slots 1 book
-no_run slots book last (run.Book f) why is =
-    inl (no_book book why.1.input last f why.1.consumed why.1.why is)
-no_run slots book last (run.Desk f) why is = stopped_desk slots book last f why.1.0 why.1.1 is
-no_run slots book last (run.Settle f) why is =
-    let read = why.1.0 in
-    let other : f ≢ settle.Refused =
-    λ same. omega (arith, sym (ap status_of_settle_fault same) ∙ is) in
-    inr (read.book, book_read book last read, (run.Settle f, (other, why.1.1)))
-no_run slots book last (run.Compile compile.Workers) why is = absurd (why.0 refl)
-no_run slots book last (run.Compile compile.Refused) why is = absurd (omega (arith, is))
-no_run slots book last (run.Compile (compile.Piece index)) why is = absurd why.1
-no_run slots book last (run.Write failed) why is = absurd why.1
-no_run slots book last run.Refused why is = absurd (omega (arith, is))
-
-refused_here : (slots count : ℕ) (input : List ℕ) (old new : Option (List ℕ)) (why : VerifyFault)
-    → IsInputFault slots count input old new why
+refused_here : (from : Origin) (slots count : ℕ) (input : List ℕ) (old new : Option (List ℕ)) (why : VerifyFault)
+    → IsInputFault from slots count input old new why
     → status_of_verify_fault why ≡ 1
-    → IsNotVerified slots count input
-refused_here slots count input old new (fault.Run f) told is =
-    inr (inl (no_run slots (take count input) told.0 f told.1 is))
-refused_here slots count input old new fault.ShortBook told is = inl told.0
-refused_here slots count input old new (fault.Tapes tape.Short) told is = inr (inr (inl (inl told.0.3)))
-refused_here slots count input old new (fault.Tapes tape.Long) told is = inr (inr (inl (inr told.0.3)))
-refused_here slots count input old new (fault.Tapes tape.ReadFailed) told is = absurd (omega (arith, is))
-refused_here slots count input old new (fault.Tapes tape.Refused) told is = absurd (omega (arith, is))
-refused_here slots count input old new (fault.Differences n) told is =
+    → IsNotVerified from slots count input
+refused_here from slots count input old new (fault.Run f) told is =
+    inr (inl (no_records from slots (take count input) told.0 f told.1 is))
+refused_here from slots count input old new fault.ShortBook told is = inl told.0
+refused_here from slots count input old new (fault.Tapes tape.Short) told is = inr (inr (inl (inl told.0.3)))
+refused_here from slots count input old new (fault.Tapes tape.Long) told is = inr (inr (inl (inr told.0.3)))
+refused_here from slots count input old new (fault.Tapes tape.ReadFailed) told is = absurd (omega (arith, is))
+refused_here from slots count input old new (fault.Tapes tape.Refused) told is = absurd (omega (arith, is))
+refused_here from slots count input old new (fault.Differences n) told is =
     inr (inr (inr (told.0, told.2.0, omega (arith, told.3, told.4))))
-refused_here slots count input old new fault.Refused told is = absurd (omega (arith, is))
-refused_here slots count input old new fault.WriteFailed told is = absurd (omega (arith, is))
+refused_here from slots count input old new fault.Refused told is = absurd (omega (arith, is))
+refused_here from slots count input old new fault.WriteFailed told is = absurd (omega (arith, is))
 
 -- a fault of `verify` with status 1 says why the input isn't verified
-pub refused_verification : (left : Option (List ℕ)) (slots count : ℕ) (old new : Option (List ℕ)) (why : VerifyFault)
-    → IfSome left (λ input. IsInputFault slots count input old new why)
+pub refused_verification : (left : Option (List ℕ)) (from : Origin) (slots count : ℕ) (old new : Option (List ℕ)) (why : VerifyFault)
+    → IfSome left (λ input. IsInputFault from slots count input old new why)
     → status_of_verify_fault why ≡ 1
-    → IfSome left (IsNotVerified slots count)
-refused_verification None slots count old new why told is = tt
-refused_verification (Some input) slots count old new why told is = refused_here slots count input old new why told is
+    → IfSome left (IsNotVerified from slots count)
+refused_verification None from slots count old new why told is = tt
+refused_verification (Some input) from slots count old new why told is =
+    refused_here from slots count input old new why told is
 
 -- with status 1 the differences were written, or nothing was
 pub kept_or_differs : (Kept Differ : Type 0) (why : VerifyFault) → ((HasWritten why → ⊥) → Kept)
@@ -144,6 +90,7 @@ settle_status other = inl refl
 
 run_status : (f : RunFault) → IsRunInMemory f → OneOrFour (status_of_run_fault f)
 run_status (run.Book f) is = book_status f.row f.kind is
+run_status (run.NoGroup groups) is = inl refl
 run_status (run.Desk f) is = desk_status f
 run_status (run.Settle f) is = settle_status f
 run_status (run.Compile compile.Refused) is = inr refl

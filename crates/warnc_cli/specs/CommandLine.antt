@@ -1,10 +1,12 @@
 -- What the words of a command line ask for: word 0 is the program's name, and word 1 names the command. Own.
-use Rattle.std.specs.Prelude.{◌≡◌, ℕ, ◌+◌, ◌≤◌, ◌||◌, ◌⊎◌, Bool, false, if◌then◌else◌, nat_eq, List, ◌∷◌, ◌++◌, Some}
+use Rattle.std.specs.Prelude.{◌≡◌, ℕ, ◌+◌, ◌≤◌, ◌||◌, ◌⊎◌, Bool, false, true, if◌then◌else◌, nat_eq, List, ◌∷◌, ◌++◌, Some}
 use Rattle.std.specs.Prelude.{codes}
 use Rattle.std.specs.Prelude.{slice_get, ◌<◌, [], Option, None}
 use Rattle.std.specs.List.{list_any, starts_with}
 use Rattle.std.specs.Str.{bytes_eq}
 use Rattle.std.specs.Str.Parse.{IsNumeral, digits_value, without_leading_plus}
+use Rattle.alert_book.specs.declared.network.Origin.{Origin}
+use Rattle.alert_book.specs.declared.network.Origin.TheVariants as origin
 use Rattle.cbs_page.specs.Serial.{serial_number, AreSerialFields}
 use Rattle.byteorder.specs.Endian.{big_number}
 use Rattle.cbsp_wire.specs.declared.message.Cell.{Cell}
@@ -53,6 +55,10 @@ pub record AsksForPage (words : List (List ℕ)) (language : List ℕ) (id seria
 abbrev pub AsksForRead : (words : List (List ℕ)) → Type 0
 AsksForRead words = slice_get words 1 ≡ Some (codes "read")
 
+-- the words ask for `groups`
+abbrev pub AsksForGroups : (words : List (List ℕ)) → Type 0
+AsksForGroups words = slice_get words 1 ≡ Some (codes "groups")
+
 -- which slots the words want in a capture
 abbrev pub slots_given : (words : List (List ℕ)) → Slots
 slots_given words = if is_given words (codes "--used") then Used else All
@@ -81,6 +87,13 @@ pub record GivesThreads (words : List (List ℕ)) (name : List ℕ) (number : �
   pub given : GivesNumber words name number ⊎ ((is_given words name ≡ false) × (number ≡ 1))
   pub some : 1 ≤ number
   pub most : number ≤ 64
+
+-- where no word begins with the name `--group` the input is a book, and else it is a network book, of which the words
+-- give the number of a group
+pub record GivesOrigin (words : List (List ℕ)) (from : Origin) : Type 0 where
+  pub book : is_given words (codes "--group") ≡ false → from ≡ origin.Book
+  pub group : is_given words (codes "--group") ≡ true
+      → (number : ℕ) × GivesNumber words (codes "--group") number × (from ≡ origin.Group number)
 
 -- digits write a number; a plus may stand before them
 pub record IsNumber (digits : List ℕ) (number : ℕ) : Type 0 where
@@ -135,15 +148,17 @@ pub record AsksForTape (words : List (List ℕ)) (wanted : Wanted) : Type 0 wher
   pub slots_given : GivesSlots words wanted.slots
   pub from_given : GivesFrom words wanted.from
 
--- the words ask for `compile` with this number of slots and of workers
-pub record AsksForCompile (words : List (List ℕ)) (slots workers : ℕ) : Type 0 where
+-- the words ask for `compile` of a book or a group, with this number of slots and of workers
+pub record AsksForCompile (words : List (List ℕ)) (from : Origin) (slots workers : ℕ) : Type 0 where
   pub command : slice_get words 1 ≡ Some (codes "compile")
+  pub origin_given : GivesOrigin words from
   pub slots_given : GivesSlots words slots
   pub workers_given : GivesThreads words (codes "--workers") workers
 
--- the words ask for `report` with this number of slots and of workers
-pub record AsksForReport (words : List (List ℕ)) (slots workers : ℕ) : Type 0 where
+-- the words ask for `report` of a book or a group, with this number of slots and of workers
+pub record AsksForReport (words : List (List ℕ)) (from : Origin) (slots workers : ℕ) : Type 0 where
   pub command : slice_get words 1 ≡ Some (codes "report")
+  pub origin_given : GivesOrigin words from
   pub slots_given : GivesSlots words slots
   pub workers_given : GivesThreads words (codes "--workers") workers
 
@@ -154,16 +169,18 @@ pub record AsksForChart (words : List (List ℕ)) (slots : ℕ) (wanted : Option
   pub wanted_given : GivesWanted words wanted
   pub workers_given : GivesThreads words (codes "--workers") workers
 
--- the words ask for `verify` with this number of slots, of octets of the book, and of workers
-pub record AsksForVerify (words : List (List ℕ)) (slots octets workers : ℕ) : Type 0 where
+-- the words ask for `verify` of a book or a group, with this number of slots, of octets of the book, and of workers
+pub record AsksForVerify (words : List (List ℕ)) (from : Origin) (slots octets workers : ℕ) : Type 0 where
   pub command : slice_get words 1 ≡ Some (codes "verify")
+  pub origin_given : GivesOrigin words from
   pub slots_given : GivesSlots words slots
   pub book_given : GivesNumber words (codes "--book-octets") octets
   pub workers_given : GivesThreads words (codes "--workers") workers
 
--- the words ask for `live` with this number of slots, of sessions and of workers
-pub record AsksForLive (words : List (List ℕ)) (slots sessions workers : ℕ) : Type 0 where
+-- the words ask for `live` of a book or a group, with this number of slots, of sessions and of workers
+pub record AsksForLive (words : List (List ℕ)) (from : Origin) (slots sessions workers : ℕ) : Type 0 where
   pub command : slice_get words 1 ≡ Some (codes "live")
+  pub origin_given : GivesOrigin words from
   pub slots_given : GivesSlots words slots
   pub sessions_given : GivesThreads words (codes "--sessions") sessions
   pub workers_given : GivesThreads words (codes "--workers") workers

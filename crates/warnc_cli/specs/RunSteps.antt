@@ -5,11 +5,11 @@ use Rattle.std.specs.Io.KnownBytes.{Keeps}
 use Rattle.device_ends.specs.Sink.{sink_failed}
 use Rattle.device_ends.specs.declared.reading.Source.{Source}
 use Rattle.device_ends.specs.declared.writing.Sink.{Sink}
-use Rattle.warnc_cli.specs.CommandLine.{AsksForChart, AsksForCompile, AsksForLive, AsksForPage, AsksForPcap}
-use Rattle.warnc_cli.specs.CommandLine.{AsksForRead, AsksForReport, AsksForTape, AsksForVerify}
+use Rattle.warnc_cli.specs.CommandLine.{AsksForChart, AsksForCompile, AsksForGroups, AsksForLive, AsksForPage}
+use Rattle.warnc_cli.specs.CommandLine.{AsksForPcap, AsksForRead, AsksForReport, AsksForTape, AsksForVerify}
 use Rattle.warnc_cli.specs.Status.{OneHasFailed, status_of_book_fault}
 use Rattle.warnc_cli.specs.declared.command.Task.{Task}
-use Rattle.warnc_cli.specs.declared.command.Task.TheVariants.{Chart, Compile, Live, Page, Pcap, Read, Report, Tape}
+use Rattle.warnc_cli.specs.declared.command.Task.TheVariants.{Chart, Compile, Groups, Live, Page, Pcap, Read, Report, Tape}
 use Rattle.warnc_cli.specs.declared.command.Task.TheVariants.{Verify}
 use Rattle.order_desk.specs.declared.fault.DeskFault.{DeskFault}
 use Rattle.order_desk.specs.declared.fault.DeskFault.TheVariants as desk
@@ -19,6 +19,8 @@ use Rattle.parallel_compile.specs.declared.fault.CompileFault.{CompileFault}
 use Rattle.parallel_compile.specs.declared.fault.CompileFault.TheVariants as compile
 use Rattle.warnc_run.specs.declared.fault.RunFault.{RunFault}
 use Rattle.warnc_run.specs.declared.fault.RunFault.TheVariants as run
+use Rattle.warnc_run.specs.declared.groups.GroupsFault.{GroupsFault}
+use Rattle.warnc_run.specs.declared.groups.GroupsFault.TheVariants as groups
 use Rattle.report.specs.declared.fault.ReportFault.{ReportFault}
 use Rattle.report.specs.declared.fault.ReportFault.TheVariants as report
 use Rattle.warnc_inspect.specs.declared.read.ReadCommandFault.{ReadCommandFault}
@@ -36,13 +38,15 @@ use Rattle.warnc_verify.specs.declared.fault.VerifyFault.TheVariants as verify
 abbrev pub IsTaskOf : (words : List (List ℕ)) → Task → Type 0
 IsTaskOf words (Page options) = AsksForPage words options.language.now options.id options.serial
 IsTaskOf words Read = AsksForRead words
+IsTaskOf words Groups = AsksForGroups words
 IsTaskOf words (Pcap settings) = AsksForPcap words settings
 IsTaskOf words (Tape wanted) = AsksForTape words wanted
-IsTaskOf words (Compile slots workers) = AsksForCompile words slots workers.number
-IsTaskOf words (Report slots workers) = AsksForReport words slots workers.number
-IsTaskOf words (Verify slots octets workers) = AsksForVerify words slots octets workers.number
+IsTaskOf words (Compile from slots workers) = AsksForCompile words from slots workers.number
+IsTaskOf words (Report from slots workers) = AsksForReport words from slots workers.number
+IsTaskOf words (Verify from slots octets workers) = AsksForVerify words from slots octets workers.number
 IsTaskOf words (Chart slots wanted workers) = AsksForChart words slots wanted workers.number
-IsTaskOf words (Live slots sessions workers) = AsksForLive words slots sessions.number workers.number
+IsTaskOf words (Live from slots sessions workers) =
+    AsksForLive words from slots sessions.number workers.number
 
 -- the status of a fault of `read`: 1 if the input is refused, 3 if a device failed, 4 if out of memory
 abbrev pub status_of_read_fault : ReadCommandFault → ℕ
@@ -82,10 +86,11 @@ abbrev pub status_of_compile_fault : CompileFault → ℕ
 status_of_compile_fault compile.Refused = 4
 status_of_compile_fault other = 1
 
--- the status of a fault of a run: that of the book's fault, of the desk's, of the settlement's or of
--- the workers', 3 if the writer failed, 4 if out of memory
+-- the status of a fault of a run: that of the book's fault, of the desk's, of the settlement's or of the workers', 1 if
+-- the network has no such group, 3 if the writer failed, 4 if out of memory
 abbrev pub status_of_run_fault : RunFault → ℕ
 status_of_run_fault (run.Book f) = status_of_book_fault f
+status_of_run_fault (run.NoGroup groups) = 1
 status_of_run_fault (run.Desk f) = status_of_desk_fault f
 status_of_run_fault (run.Settle f) = status_of_settle_fault f
 status_of_run_fault (run.Compile f) = status_of_compile_fault f
@@ -97,6 +102,12 @@ abbrev pub status_of_report_fault : ReportFault → ℕ
 status_of_report_fault report.Cells = 1
 status_of_report_fault report.WriteFailed = 3
 status_of_report_fault report.Refused = 4
+
+-- the status of a fault of `groups`
+abbrev pub status_of_groups_fault : GroupsFault → ℕ
+status_of_groups_fault (groups.Network f) = status_of_book_fault f
+status_of_groups_fault groups.Refused = 4
+status_of_groups_fault groups.WriteFailed = 3
 
 -- the status of a fault of tapes
 abbrev pub status_of_tapes_fault : TapeFault → ℕ

@@ -1,6 +1,6 @@
 -- The program's statuses. Own.
-use Rattle.std.specs.Prelude.{◌≡◌, ◌≢◌, ℕ, ◌<◌, ◌==◌, ◌⊎◌, true, if◌then◌else◌, List, length, Option, Some, IfSome}
-use Rattle.std.specs.Prelude.{codes, drop, slice_get, take}
+use Rattle.std.specs.Prelude.{◌≡◌, ◌≢◌, ℕ, ◌<◌, ◌==◌, ◌≤◌, ◌⊎◌, false, true, if◌then◌else◌, List, length, Option}
+use Rattle.std.specs.Prelude.{codes, drop, slice_get, take, IfSome, Some}
 use Rattle.std.specs.Io.KnownBytes.{Appends, Keeps}
 use Rattle.device_ends.specs.Moves.{WritesOutput}
 use Rattle.device_ends.specs.Sink.{sink_failed, writer_of}
@@ -14,19 +14,25 @@ use Rattle.gsmtap.specs.declared.fault.AirFault.{AirFault}
 use Rattle.gsmtap.specs.declared.tape.Wanted.{Wanted}
 use Rattle.warnc_air.specs.TapeOutput.{max_capture}
 use Rattle.handset.specs.Tape.{IsShort, IsLong}
-use Rattle.alert_book.specs.Book.{Contents, IsBook, IsWrong, max_book}
+use Rattle.alert_book.specs.declared.network.Origin.{Origin}
+use Rattle.alert_book.specs.declared.network.Origin.TheVariants as origin
+use Rattle.alert_book.specs.Book.{Contents, IsWrong, max_book}
+use Rattle.alert_book.specs.Network.{HasGroups, IsWrongNetwork, max_network}
+use Rattle.alert_book.specs.Origin.{IsBookFrom}
 use Rattle.alert_book.specs.declared.fault.BookFault.{BookFault}
 use Rattle.alert_book.specs.declared.fault.BookFaultKind.{BookFaultKind}
 use Rattle.alert_book.specs.declared.fault.BookFaultKind.TheVariants as kinds
-use Rattle.warnc_cli.specs.CommandLine.{asks_for_text, AsksForChart, AsksForCompile, AsksForLive, AsksForPage}
+use Rattle.warnc_cli.specs.CommandLine.{asks_for_text, is_given, AsksForChart, AsksForCompile, AsksForGroups, AsksForLive}
+use Rattle.warnc_cli.specs.CommandLine.{AsksForPage}
 use Rattle.warnc_cli.specs.CommandLine.{AsksForPcap, AsksForRead, AsksForReport, AsksForTape, AsksForVerify}
 use Rattle.warnc_run.specs.declared.fault.RunFault.{RunFault}
 use Rattle.warnc_verify.specs.Input.{Differs, HasDifferences, IsVerified}
 use Rattle.cbsp_wire.specs.declared.message.Cell.{Cell}
 use Rattle.warnc_run.specs.Charted.{IsCharted}
-use Rattle.warnc_run.specs.Compiled.{IsCompiled, StopsRun}
-use Rattle.warnc_run.specs.Live.{IsLive}
-use Rattle.warnc_run.specs.Reported.{IsReported}
+use Rattle.warnc_run.specs.Compiled.{IsCompiledFrom, StopsRun}
+use Rattle.warnc_run.specs.Groups.{IsGroupCount}
+use Rattle.warnc_run.specs.Live.{IsLiveFrom}
+use Rattle.warnc_run.specs.Reported.{IsReportedFrom}
 use Rattle.warnc_inspect.specs.PageOutput.{IsPageFault, IsPageOutput}
 use Rattle.warnc_inspect.specs.ReadOutput.{IsReadOutput}
 use Rattle.cbs_page.specs.declared.paging.TextFault.TheVariants as text
@@ -66,18 +72,29 @@ abbrev pub IsNoBook : (input : List ℕ) → Type 0
 IsNoBook input = (max_book < length input)
     ⊎ ((f : BookFault) × IsWrong input f × (status_of_book_fault f ≡ 1))
 
--- or the input is a book, whose run, of so many slots and with so many sessions, ends early: the desk finds the book of
+-- the input is refused as a network book, of which a group is asked for
+abbrev pub IsNoNetwork : (group : ℕ) (input : List ℕ) → Type 0
+IsNoNetwork group input = (max_network < length input)
+    ⊎ ((f : BookFault) × IsWrongNetwork group input f × (status_of_book_fault f ≡ 1))
+
+-- the input has no such book: it is none; or it is no network book, or one of too few groups
+abbrev pub IsNoBookFrom : Origin → (input : List ℕ) → Type 0
+IsNoBookFrom origin.Book input = IsNoBook input
+IsNoBookFrom (origin.Group group) input = IsNoNetwork group input
+    ⊎ ((groups : ℕ) × (groups ≤ group) × HasGroups group input groups)
+
+-- or the input has the book, whose run, of so many slots and with so many sessions, ends early: the desk finds the book of
 -- another cell in a lock, or isn't settled, or a tape isn't its record's. What a lock of the desk holds, and what a
 -- worker sends, is known by its type alone, so no contract excludes it
-abbrev pub IsNoRun : (slots parts : ℕ) (input : List ℕ) → Type 0
-IsNoRun slots parts input = IsNoBook input
-    ⊎ ((book : Contents) × IsBook input book × ((fault : RunFault) × StopsRun book slots parts fault))
+abbrev pub IsNoRun : (from : Origin) (slots parts : ℕ) (input : List ℕ) → Type 0
+IsNoRun from slots parts input = IsNoBookFrom from input
+    ⊎ ((book : Contents) × IsBookFrom from input book × ((fault : RunFault) × StopsRun book slots parts fault))
 
 -- the input has no tapes that keep its book: it is shorter than the book is said to be, or the book is none or has no
 -- run, or what follows it is no whole tapes, or there is a difference
-abbrev pub IsNotVerified : (slots octets : ℕ) (input : List ℕ) → Type 0
-IsNotVerified slots octets input = (length input < octets) ⊎ (IsNoRun slots 1 (take octets input)
-    ⊎ (IsNoTapes (drop octets input) ⊎ Differs slots octets input))
+abbrev pub IsNotVerified : (from : Origin) (slots octets : ℕ) (input : List ℕ) → Type 0
+IsNotVerified from slots octets input = (length input < octets) ⊎ (IsNoRun from slots 1 (take octets input)
+    ⊎ (IsNoTapes (drop octets input) ⊎ Differs from slots octets input))
 
 -- the input is refused: it is too long for a capture, or no capture file that has a tape
 abbrev pub IsNoAir : Wanted → (input : List ℕ) → Type 0
@@ -87,10 +104,13 @@ IsNoAir wanted input = (max_capture < length input) ⊎ ((why : AirFault) × IsA
 abbrev pub WritesSome : (old new : Option (List ℕ)) → Type 0
 WritesSome old new = (output : List ℕ) × (0 < length output) × Appends old new output
 
--- something was written, unless the words ask for `compile` or `live`: a book without cells has no tapes
+-- something was written, unless the words ask for `compile` or `live`, since a book without cells has no tapes, or for
+-- the report of a group, since that of a later group has no line of the columns' names
 abbrev pub WritesSomeUnlessTapes : (words : List (List ℕ)) → (old new : Option (List ℕ)) → Type 0
 WritesSomeUnlessTapes words old new = slice_get words 1 ≢ Some (codes "compile")
-    → slice_get words 1 ≢ Some (codes "live") → WritesSome old new
+    → slice_get words 1 ≢ Some (codes "live")
+    → (slice_get words 1 ≡ Some (codes "report") → is_given words (codes "--group") ≡ false)
+    → WritesSome old new
 
 -- what was written is so by what the reader had left
 abbrev pub ByInput : {R W : Type 0} → (left : R → Option (List ℕ)) → (held : W → Option (List ℕ))
@@ -135,27 +155,30 @@ pub record WroteTape (words : List (List ℕ)) (input old new : Option (List ℕ
 -- the words ask for `compile`, and what was written is the tapes of the book's cells, in runs of as many slots as the
 -- words say, whatever the number of workers
 pub record WroteTapes (words : List (List ℕ)) (input old new : Option (List ℕ)) : Type 0 where
+  pub from : Origin
   pub slots : ℕ
   pub workers : ℕ
-  pub asked : AsksForCompile words slots workers
-  pub wrote : WritesOutput (IsCompiled slots) input old new
+  pub asked : AsksForCompile words from slots workers
+  pub wrote : WritesOutput (IsCompiledFrom from slots) input old new
 
 -- the words ask for `live`, and what was written is the tapes of the book's cells, in runs of as many slots and with as
 -- many sessions as the words say, whatever the number of workers
 pub record WroteLiveTapes (words : List (List ℕ)) (input old new : Option (List ℕ)) : Type 0 where
+  pub from : Origin
   pub slots : ℕ
   pub sessions : ℕ
   pub workers : ℕ
-  pub asked : AsksForLive words slots sessions workers
-  pub wrote : WritesOutput (IsLive slots sessions) input old new
+  pub asked : AsksForLive words from slots sessions workers
+  pub wrote : WritesOutput (IsLiveFrom from slots sessions) input old new
 
 -- the words ask for `report`, and what was written is the report of the book's cells, in runs of as many slots as the
 -- words say, whatever the number of workers
 pub record WroteReport (words : List (List ℕ)) (input old new : Option (List ℕ)) : Type 0 where
+  pub from : Origin
   pub slots : ℕ
   pub workers : ℕ
-  pub asked : AsksForReport words slots workers
-  pub wrote : WritesOutput (IsReported slots) input old new
+  pub asked : AsksForReport words from slots workers
+  pub wrote : WritesOutput (IsReportedFrom from slots) input old new
 
 -- the words ask for `chart`, and what was written is the chart of the book's cells, or of the one that the words want,
 -- in runs of as many slots as the words say, whatever the number of workers
@@ -169,15 +192,22 @@ pub record WroteChart (words : List (List ℕ)) (input old new : Option (List �
 -- the words ask for `verify`, and what was written is the table without a difference, of a book of as many octets as
 -- the words say and of the tapes after it
 pub record WroteVerified (words : List (List ℕ)) (input old new : Option (List ℕ)) : Type 0 where
+  pub from : Origin
   pub slots : ℕ
   pub octets : ℕ
   pub workers : ℕ
-  pub asked : AsksForVerify words slots octets workers
-  pub wrote : WritesOutput (IsVerified slots octets) input old new
+  pub asked : AsksForVerify words from slots octets workers
+  pub wrote : WritesOutput (IsVerified from slots octets) input old new
+
+-- the words ask for `groups`, and what was written is the number of the network book's groups
+pub record WroteGroups (words : List (List ℕ)) (input old new : Option (List ℕ)) : Type 0 where
+  pub asked : AsksForGroups words
+  pub wrote : WritesOutput IsGroupCount input old new
 
 abbrev pub WroteWhatIsAsked : (words : List (List ℕ)) (input old new : Option (List ℕ)) → Type 0
 WroteWhatIsAsked words input old new = WroteText words old new ⊎
-    (WrotePages words input old new ⊎ (WroteTable words input old new ⊎ (WroteCapture words input old new
+    (WrotePages words input old new
+    ⊎ ((WroteTable words input old new ⊎ WroteGroups words input old new) ⊎ (WroteCapture words input old new
     ⊎ (WroteTape words input old new ⊎ (WroteTapes words input old new
     ⊎ (WroteLiveTapes words input old new ⊎ (WroteReport words input old new
     ⊎ (WroteChart words input old new ⊎ WroteVerified words input old new))))))))
@@ -211,25 +241,28 @@ pub record RefusesAir (words : List (List ℕ)) (input : Option (List ℕ)) : Ty
 
 -- the words ask for `compile`, and the input is no book or has no run
 pub record RefusesAlerts (words : List (List ℕ)) (input : Option (List ℕ)) : Type 0 where
+  pub from : Origin
   pub slots : ℕ
   pub workers : ℕ
-  pub asked : AsksForCompile words slots workers
-  pub refused : IfSome input (IsNoRun slots 1)
+  pub asked : AsksForCompile words from slots workers
+  pub refused : IfSome input (IsNoRun from slots 1)
 
 -- the words ask for `live`, and the input is no book or has no run
 pub record RefusesLiveAlerts (words : List (List ℕ)) (input : Option (List ℕ)) : Type 0 where
+  pub from : Origin
   pub slots : ℕ
   pub sessions : ℕ
   pub workers : ℕ
-  pub asked : AsksForLive words slots sessions workers
-  pub refused : IfSome input (IsNoRun slots sessions)
+  pub asked : AsksForLive words from slots sessions workers
+  pub refused : IfSome input (IsNoRun from slots sessions)
 
 -- the words ask for `report`, and the input is no book or has no run
 pub record RefusesReportedAlerts (words : List (List ℕ)) (input : Option (List ℕ)) : Type 0 where
+  pub from : Origin
   pub slots : ℕ
   pub workers : ℕ
-  pub asked : AsksForReport words slots workers
-  pub refused : IfSome input (IsNoRun slots 1)
+  pub asked : AsksForReport words from slots workers
+  pub refused : IfSome input (IsNoRun from slots 1)
 
 -- the words ask for `chart`, and the input is no book or has no run
 pub record RefusesChartedAlerts (words : List (List ℕ)) (input : Option (List ℕ)) : Type 0 where
@@ -237,19 +270,26 @@ pub record RefusesChartedAlerts (words : List (List ℕ)) (input : Option (List 
   pub wanted : Option Cell
   pub workers : ℕ
   pub asked : AsksForChart words slots wanted workers
-  pub refused : IfSome input (IsNoRun slots 1)
+  pub refused : IfSome input (IsNoRun origin.Book slots 1)
 
 -- the words ask for `verify`, and the input has a fault or a difference
 pub record RefusesVerified (words : List (List ℕ)) (input : Option (List ℕ)) : Type 0 where
+  pub from : Origin
   pub slots : ℕ
   pub octets : ℕ
   pub workers : ℕ
-  pub asked : AsksForVerify words slots octets workers
-  pub refused : IfSome input (IsNotVerified slots octets)
+  pub asked : AsksForVerify words from slots octets workers
+  pub refused : IfSome input (IsNotVerified from slots octets)
+
+-- the words ask for `groups`, and the input is no network book
+pub record RefusesGroups (words : List (List ℕ)) (input : Option (List ℕ)) : Type 0 where
+  pub asked : AsksForGroups words
+  pub refused : IfSome input (IsNoNetwork 0)
 
 abbrev pub RefusesInput : (words : List (List ℕ)) (input : Option (List ℕ)) → Type 0
 RefusesInput words input =
-    RefusesText words input ⊎ (RefusesTapes words input ⊎ (RefusesCapture words input ⊎ (RefusesAir words input
+    RefusesText words input ⊎ ((RefusesTapes words input ⊎ RefusesGroups words input)
+    ⊎ (RefusesCapture words input ⊎ (RefusesAir words input
     ⊎ (RefusesAlerts words input ⊎ (RefusesLiveAlerts words input ⊎ (RefusesReportedAlerts words input
     ⊎ (RefusesChartedAlerts words input ⊎ RefusesVerified words input)))))))
 
@@ -262,11 +302,12 @@ MayWrite words status =
 
 -- the words ask for `verify`, and what was written is the table of the differences, of which there is one at least
 pub record WroteDifferences (words : List (List ℕ)) (input old new : Option (List ℕ)) : Type 0 where
+  pub from : Origin
   pub slots : ℕ
   pub octets : ℕ
   pub workers : ℕ
-  pub asked : AsksForVerify words slots octets workers
-  pub wrote : WritesOutput (HasDifferences slots octets) input old new
+  pub asked : AsksForVerify words from slots octets workers
+  pub wrote : WritesOutput (HasDifferences from slots octets) input old new
 
 abbrev pub WroteNoneOrDifferences : (words : List (List ℕ)) (input old new : Option (List ℕ)) → Type 0
 WroteNoneOrDifferences words input old new = Keeps old new ⊎ WroteDifferences words input old new

@@ -4,9 +4,10 @@ ghost use Rattle.std.specs.Prelude.{◌≡◌, ◌<◌, ◌∷◌, ◌++◌, ◌
 ghost use Rattle.warnc_cli.specs.CommandLine.{asks_for_text, begins_with, is_given, is_text_word, GivesNumber};
 ghost use Rattle.warnc_cli.specs.CommandLine.{GivesChannel, GivesSlots, GivesThreads, GivesValue, AsksForPage};
 ghost use Rattle.warnc_cli.specs.CommandLine.{GivesCell, GivesFrom, GivesWanted, IsAddress, IsCell, IsNumber};
-ghost use Rattle.warnc_cli.specs.CommandLine.{slots_given};
+ghost use Rattle.warnc_cli.specs.CommandLine.{slots_given, GivesOrigin};
 ghost use Rattle.warnc_cli.specs.RunSteps.{IsTaskOf};
 
+use alert_book::Origin;
 use cbs_page::Serial;
 use cbsp_wire::Cell;
 use clap::{Arg, ArgAction, Command, Error, value_parser};
@@ -40,8 +41,12 @@ pub enum Task<'a> {
     Pcap(Settings),
     /// `tape`.
     Tape(Wanted),
+    /// `groups`.
+    Groups,
     /// `compile`.
     Compile {
+        /// A book, or the group of a network book.
+        origin: Origin,
         /// How many slots each cell's run has, at least 1.
         slots: u16,
         /// How many workers play the cells.
@@ -49,6 +54,8 @@ pub enum Task<'a> {
     },
     /// `report`.
     Report {
+        /// A book, or the group of a network book.
+        origin: Origin,
         /// How many slots each cell's run has, at least 1.
         slots: u16,
         /// How many workers play the cells and make their tapes.
@@ -56,6 +63,8 @@ pub enum Task<'a> {
     },
     /// `verify`.
     Verify {
+        /// A book, or the group of a network book.
+        origin: Origin,
         /// How many slots each cell's run has, at least 1.
         slots: u16,
         /// How many octets of the input are the book.
@@ -74,6 +83,8 @@ pub enum Task<'a> {
     },
     /// `live`.
     Live {
+        /// A book, or the group of a network book.
+        origin: Origin,
         /// How many slots each cell's run has, at least 1.
         slots: u16,
         /// How many sessions order side by side.
@@ -118,15 +129,19 @@ fn task_in<'a, S: AsStr>(words: &'a [S]) -> Option<Task<'a>>
             slots: slots_in(words)?,
             from: from_in(words)?,
         })),
+        "groups" => Some(Task::Groups),
         "compile" => Some(Task::Compile {
+            origin: origin_in(words)?,
             slots: slots_in(words)?,
             workers: workers_in(words)?,
         }),
         "report" => Some(Task::Report {
+            origin: origin_in(words)?,
             slots: slots_in(words)?,
             workers: workers_in(words)?,
         }),
         "verify" => Some(Task::Verify {
+            origin: origin_in(words)?,
             slots: slots_in(words)?,
             book_octets: book_octets_in(words)?,
             workers: workers_in(words)?,
@@ -137,6 +152,7 @@ fn task_in<'a, S: AsStr>(words: &'a [S]) -> Option<Task<'a>>
             workers: workers_in(words)?,
         }),
         "live" => Some(Task::Live {
+            origin: origin_in(words)?,
             slots: slots_in(words)?,
             sessions: sessions_in(words)?,
             workers: workers_in(words)?,
@@ -265,6 +281,17 @@ fn octet(text: &str) -> Option<u8>
     text.parse().ok()
 }
 
+/// Whether the input is a book, or which group of a network book is wanted.
+fn origin_in<S: AsStr>(words: &[S]) -> Option<Origin>
+    ensures { IfSome result (GivesOrigin (map S.text words.now)) }
+{
+    if !is_given(words, "--group") {
+        return Some(Origin::Book);
+    }
+    let group = number_of(words, "--group")?;
+    Some(Origin::Group(group))
+}
+
 /// The number of slots that the words give.
 fn slots_in<S: AsStr>(words: &[S]) -> Option<u16>
     ensures { IfSome result (GivesSlots (map S.text words.now)) }
@@ -386,6 +413,7 @@ fn warnc<'a>(alloc: Global) -> Result<Command<'a>, AllocError> {
         .subcommand(chart(alloc)?)?
         .subcommand(page(alloc)?)?
         .subcommand(compile(alloc)?)?
+        .subcommand(groups(alloc))?
         .subcommand(live(alloc)?)?
         .subcommand(pcap(alloc)?)?
         .subcommand(read(alloc))?
@@ -399,6 +427,13 @@ fn read<'a>(alloc: Global) -> Command<'a> {
     Command::new(alloc, "read")
         .about("Reads tapes of blocks and writes a table of what a handset shows of them, as CSV")
         .after_help("Example: warnc read < tapes")
+}
+
+/// The command line of `groups`.
+fn groups<'a>(alloc: Global) -> Command<'a> {
+    Command::new(alloc, "groups")
+        .about("Reads a network book, and writes how many groups of 64 cells it has")
+        .after_help("Example: warnc groups < network.csv")
 }
 
 /// The command line of `pcap`.
@@ -481,6 +516,7 @@ fn compile<'a>(alloc: Global) -> Result<Command<'a>, AllocError> {
         .about("Reads a book of alerts, as CSV, and writes the tapes of its cells' runs")
         .after_help("Example: warnc compile --slots 4096 --workers 4 < book.csv > tapes")
         .arg(slots(alloc))?
+        .arg(group(alloc))?
         .arg(workers(alloc))
 }
 
@@ -492,6 +528,7 @@ fn report<'a>(alloc: Global) -> Result<Command<'a>, AllocError> {
         )
         .after_help("Example: warnc report --slots 4096 < book.csv")
         .arg(slots(alloc))?
+        .arg(group(alloc))?
         .arg(workers(alloc))
 }
 
@@ -527,6 +564,7 @@ fn live<'a>(alloc: Global) -> Result<Command<'a>, AllocError> {
         )
         .after_help("Example: warnc live --slots 4096 --sessions 4 --workers 4 < book.csv > tapes")
         .arg(slots(alloc))?
+        .arg(group(alloc))?
         .arg(sessions(alloc))?
         .arg(workers(alloc))
 }
@@ -541,6 +579,7 @@ fn verify<'a>(alloc: Global) -> Result<Command<'a>, AllocError> {
             "Example: cat book.csv tapes | warnc verify --slots 4096 --book-octets $(wc -c < book.csv)",
         )
         .arg(slots(alloc))?
+        .arg(group(alloc))?
         .arg(book_octets(alloc))?
         .arg(workers(alloc))
 }
@@ -551,9 +590,20 @@ fn book_octets<'a>(alloc: Global) -> Arg<'a> {
         alloc,
         "book-octets",
         "OCTETS",
-        "How many octets of the input are the book, 0 to 16777216; the tapes follow them",
+        "How many octets of the input are the book, 0 to 67108864; the tapes follow them",
     )
-    .value_parser(value_parser!(u32).range(0..=16777216))
+    .value_parser(value_parser!(u32).range(0..=67108864))
+}
+
+/// The option of the group of a network book.
+fn group<'a>(alloc: Global) -> Arg<'a> {
+    optional(
+        alloc,
+        "group",
+        "GROUP",
+        "Takes the input for a network book, and of it the group of this number, from 0; a book if it isn't given",
+    )
+    .value_parser(value_parser!(u16))
 }
 
 /// The option of the number of sessions.

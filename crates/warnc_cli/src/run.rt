@@ -6,22 +6,24 @@ ghost use Rattle.device_ends.specs.Moves.{WritesOutput};
 ghost use Rattle.device_ends.specs.Sink.{sink_failed, writer_of};
 ghost use Rattle.device_ends.specs.Source.{reader_of, source_failed};
 ghost use Rattle.warnc_run.specs.Charted.{IsCharted};
-ghost use Rattle.warnc_run.specs.Compiled.{IsCompiled};
-ghost use Rattle.warnc_run.specs.Live.{IsLive};
-ghost use Rattle.warnc_run.specs.Reported.{IsReported};
+ghost use Rattle.warnc_run.specs.Compiled.{IsCompiledFrom};
+ghost use Rattle.warnc_run.specs.Groups.{IsGroupCount};
+ghost use Rattle.warnc_run.specs.Live.{IsLiveFrom};
+ghost use Rattle.warnc_run.specs.Reported.{IsReportedFrom};
 ghost use Rattle.gsmtap.specs.Capture.{IsCapture};
 ghost use Rattle.gsmtap.specs.TapeOfCapture.{IsTapeOfCapture};
 ghost use Rattle.warnc_inspect.specs.PageOutput.{IsPageOutput};
 ghost use Rattle.warnc_inspect.specs.ReadOutput.{IsReadOutput};
 ghost use Rattle.warnc_verify.specs.Input.{HasDifferences, IsVerified};
 ghost use Rattle.warnc_cli.specs.RunSteps.{IsRunBetween, IsStatusOfSink, IsVerifyRunBetween};
-ghost use Rattle.warnc_cli.specs.Status.{IsNoAir, IsNoRun, IsNoTapes, IsRefused, OneHasFailed, RefusesInput};
+ghost use Rattle.warnc_cli.specs.Status.{IsNoAir, IsNoNetwork, IsNoRun, IsNoTapes, IsRefused, OneHasFailed, RefusesInput};
 ghost use Rattle.warnc_cli.specs.Status.{IsNotVerified, MayWrite, WritesSome, WroteNoneOrDifferences};
 ghost use Rattle.warnc_cli.specs.Status.{ByInput, WritesSomeUnlessTapes, WroteWhatIsAsked};
 ghost use Rattle.device_ends.specs.Stream.{Writes};
 
 use crate::command::{PageOptions, Task, asks_for_text, task_of};
 use crate::status::{DEVICE, DONE, MEMORY, REFUSED_INPUT, USAGE, failed};
+use alert_book::Origin;
 use cbsp_wire::Cell;
 use clap::Error;
 use clap::error::ErrorKind;
@@ -38,7 +40,8 @@ use warnc_air::tape::tape_stream;
 use warnc_inspect::page::page_stream;
 use warnc_inspect::read::read_stream;
 use warnc_run::{
-    ReportRunFault, Sessions, Workers, chart_stream, compile_stream, live_stream, report_stream,
+    ReportRunFault, Sessions, Workers, chart_stream, compile_from, groups_stream, live_from,
+    report_from,
 };
 use warnc_verify::verify_input;
 
@@ -64,7 +67,7 @@ pub fn run<T: AllocGlobal + Threads + Wait + Sync, S: AsStr, R: Read, W: Write, 
 
 /// The same, between two ends. With status 0 what the words ask for is written, with 2 and 4 nothing is, and with 1 the
 /// differences, if the words ask for `verify` and there are some, and else nothing. That is one
-/// octet at least, but for `compile` and `live`: a book without cells has no tapes.
+/// octet at least, but for `compile` and `live`, since a book without cells has no tapes, and for the report of a group.
 pub fn run_between<T: AllocGlobal + Threads + Wait + Sync, S: AsStr, R: Read, W: Write, F: Write>(
     rt: &T,
     words: &[S],
@@ -96,27 +99,43 @@ pub fn run_between<T: AllocGlobal + Threads + Wait + Sync, S: AsStr, R: Read, W:
             Task::Read => run_read(alloc, source, sink, faults),
             Task::Pcap(settings) => run_pcap(alloc, settings, source, sink, faults),
             Task::Tape(wanted) => run_tape(alloc, &wanted, source, sink, faults),
-            Task::Compile { slots, workers } => {
-                run_compile(rt, slots, workers, source, sink, faults)
-            }
-            Task::Report { slots, workers } => {
-                run_report(rt, slots, workers, source, sink, faults)
-            }
+            Task::Groups => run_groups(rt, source, sink, faults),
+            Task::Compile {
+                origin,
+                slots,
+                workers,
+            } => run_compile(rt, origin, slots, workers, source, sink, faults),
+            Task::Report {
+                origin,
+                slots,
+                workers,
+            } => run_report(rt, origin, slots, workers, source, sink, faults),
             Task::Verify {
+                origin,
                 slots,
                 book_octets,
                 workers,
-            } => run_verify(rt, slots, book_octets, workers, source, sink, faults),
+            } => run_verify(
+                rt,
+                origin,
+                slots,
+                book_octets,
+                workers,
+                source,
+                sink,
+                faults,
+            ),
             Task::Chart {
                 slots,
                 wanted,
                 workers,
             } => run_chart(rt, slots, wanted, workers, source, sink, faults),
             Task::Live {
+                origin,
                 slots,
                 sessions,
                 workers,
-            } => run_live(rt, slots, sessions, workers, source, sink, faults),
+            } => run_live(rt, origin, slots, sessions, workers, source, sink, faults),
         },
         Ok(None) => {
             let _ = writeln!(faults, "warnc: no such cell or address");
@@ -218,22 +237,43 @@ fn run_tape<R: Read, W: Write, F: Write>(
     }
 }
 
+/// Runs `groups`, and returns the status.
+fn run_groups<T: AllocGlobal + Threads + Sync, R: Read, W: Write, F: Write>(
+    rt: &T,
+    source: &mut Source<R>,
+    sink: &mut Sink<W>,
+    faults: &mut F,
+) -> u8
+    ensures done { result ≡ DONE → WritesOutput IsGroupCount
+        (R.remaining (reader_of source.old)) (W.contents (writer_of sink.old)) (W.contents (writer_of sink.new)) }
+    ensures any_ends { IsRunBetween result source.new sink.old sink.new
+        (W.contents (writer_of sink.old)) (W.contents (writer_of sink.new)) }
+    ensures wrote { result ≡ DONE → WritesSome (W.contents (writer_of sink.old)) (W.contents (writer_of sink.new)) }
+    ensures refused { result ≡ REFUSED_INPUT → IfSome (R.remaining (reader_of source.old)) (IsNoNetwork 0) }
+{
+    match groups_stream(rt, source, sink) {
+        Ok(()) => DONE,
+        Err(fault) => failed(&fault, faults),
+    }
+}
+
 /// Runs `compile`, and returns the status.
 fn run_compile<T: AllocGlobal + Threads + Wait + Sync, R: Read, W: Write, F: Write>(
     rt: &T,
+    origin: Origin,
     slots: u16,
     workers: Workers,
     source: &mut Source<R>,
     sink: &mut Sink<W>,
     faults: &mut F,
 ) -> u8
-    ensures done { result ≡ DONE → WritesOutput (IsCompiled slots)
+    ensures done { result ≡ DONE → WritesOutput (IsCompiledFrom origin slots)
         (R.remaining (reader_of source.old)) (W.contents (writer_of sink.old)) (W.contents (writer_of sink.new)) }
     ensures any_ends { IsRunBetween result source.new sink.old sink.new
         (W.contents (writer_of sink.old)) (W.contents (writer_of sink.new)) }
-    ensures refused { result ≡ REFUSED_INPUT → IfSome (R.remaining (reader_of source.old)) (IsNoRun slots 1) }
+    ensures refused { result ≡ REFUSED_INPUT → IfSome (R.remaining (reader_of source.old)) (IsNoRun origin slots 1) }
 {
-    match compile_stream(rt, source, sink, slots, workers.number) {
+    match compile_from(rt, source, sink, origin, slots, workers.number) {
         Ok(()) => DONE,
         Err(fault) => failed(&fault, faults),
     }
@@ -242,6 +282,7 @@ fn run_compile<T: AllocGlobal + Threads + Wait + Sync, R: Read, W: Write, F: Wri
 /// Runs `live`, and returns the status.
 fn run_live<T: AllocGlobal + Threads + Wait + Sync, R: Read, W: Write, F: Write>(
     rt: &T,
+    origin: Origin,
     slots: u16,
     sessions: Sessions,
     workers: Workers,
@@ -249,17 +290,18 @@ fn run_live<T: AllocGlobal + Threads + Wait + Sync, R: Read, W: Write, F: Write>
     sink: &mut Sink<W>,
     faults: &mut F,
 ) -> u8
-    ensures done { result ≡ DONE → WritesOutput (IsLive slots sessions.number)
+    ensures done { result ≡ DONE → WritesOutput (IsLiveFrom origin slots sessions.number)
         (R.remaining (reader_of source.old)) (W.contents (writer_of sink.old)) (W.contents (writer_of sink.new)) }
     ensures any_ends { IsRunBetween result source.new sink.old sink.new
         (W.contents (writer_of sink.old)) (W.contents (writer_of sink.new)) }
     ensures refused { result ≡ REFUSED_INPUT → IfSome (R.remaining (reader_of source.old))
-        (IsNoRun slots sessions.number) }
+        (IsNoRun origin slots sessions.number) }
 {
-    match live_stream(
+    match live_from(
         rt,
         source,
         sink,
+        origin,
         slots,
         sessions.number,
         workers.number,
@@ -273,20 +315,22 @@ fn run_live<T: AllocGlobal + Threads + Wait + Sync, R: Read, W: Write, F: Write>
 /// Runs `report`, and returns the status.
 fn run_report<T: AllocGlobal + Threads + Wait + Sync, R: Read, W: Write, F: Write>(
     rt: &T,
+    origin: Origin,
     slots: u16,
     workers: Workers,
     source: &mut Source<R>,
     sink: &mut Sink<W>,
     faults: &mut F,
 ) -> u8
-    ensures done { result ≡ DONE → WritesOutput (IsReported slots)
+    ensures done { result ≡ DONE → WritesOutput (IsReportedFrom origin slots)
         (R.remaining (reader_of source.old)) (W.contents (writer_of sink.old)) (W.contents (writer_of sink.new)) }
     ensures any_ends { IsRunBetween result source.new sink.old sink.new
         (W.contents (writer_of sink.old)) (W.contents (writer_of sink.new)) }
-    ensures wrote { result ≡ DONE → WritesSome (W.contents (writer_of sink.old)) (W.contents (writer_of sink.new)) }
-    ensures refused { result ≡ REFUSED_INPUT → IfSome (R.remaining (reader_of source.old)) (IsNoRun slots 1) }
+    ensures wrote { result ≡ DONE → origin ≡ Origin.Book
+        → WritesSome (W.contents (writer_of sink.old)) (W.contents (writer_of sink.new)) }
+    ensures refused { result ≡ REFUSED_INPUT → IfSome (R.remaining (reader_of source.old)) (IsNoRun origin slots 1) }
 {
-    match report_stream(rt, source, sink, slots, workers.number) {
+    match report_from(rt, source, sink, origin, slots, workers.number) {
         Ok(()) => DONE,
         Err(ReportRunFault::Run(fault)) => failed(&fault, faults),
         Err(ReportRunFault::Report(fault)) => failed(&fault, faults),
@@ -308,7 +352,7 @@ fn run_chart<T: AllocGlobal + Threads + Wait + Sync, R: Read, W: Write, F: Write
     ensures any_ends { IsRunBetween result source.new sink.old sink.new
         (W.contents (writer_of sink.old)) (W.contents (writer_of sink.new)) }
     ensures wrote { result ≡ DONE → WritesSome (W.contents (writer_of sink.old)) (W.contents (writer_of sink.new)) }
-    ensures refused { result ≡ REFUSED_INPUT → IfSome (R.remaining (reader_of source.old)) (IsNoRun slots 1) }
+    ensures refused { result ≡ REFUSED_INPUT → IfSome (R.remaining (reader_of source.old)) (IsNoRun Origin.Book slots 1) }
 {
     match chart_stream(rt, source, sink, slots, wanted, workers.number) {
         Ok(()) => DONE,
@@ -320,6 +364,7 @@ fn run_chart<T: AllocGlobal + Threads + Wait + Sync, R: Read, W: Write, F: Write
 /// Runs `verify`, and returns the status.
 fn run_verify<T: AllocGlobal + Threads + Wait + Sync, R: Read, W: Write, F: Write>(
     rt: &T,
+    origin: Origin,
     slots: u16,
     book_octets: u32,
     workers: Workers,
@@ -327,18 +372,18 @@ fn run_verify<T: AllocGlobal + Threads + Wait + Sync, R: Read, W: Write, F: Writ
     sink: &mut Sink<W>,
     faults: &mut F,
 ) -> u8
-    ensures done { result ≡ DONE → WritesOutput (IsVerified slots book_octets)
+    ensures done { result ≡ DONE → WritesOutput (IsVerified origin slots book_octets)
         (R.remaining (reader_of source.old)) (W.contents (writer_of sink.old)) (W.contents (writer_of sink.new)) }
     ensures any_ends { IsVerifyRunBetween result source.new sink.old sink.new
         (W.contents (writer_of sink.old)) (W.contents (writer_of sink.new)) }
     ensures wrote { result ≡ DONE → WritesSome (W.contents (writer_of sink.old)) (W.contents (writer_of sink.new)) }
     ensures refused { result ≡ REFUSED_INPUT → IfSome (R.remaining (reader_of source.old))
-        (IsNotVerified slots book_octets) }
+        (IsNotVerified origin slots book_octets) }
     ensures differences { result ≡ REFUSED_INPUT → Keeps (W.contents (writer_of sink.old))
-        (W.contents (writer_of sink.new)) ⊎ WritesOutput (HasDifferences slots book_octets)
+        (W.contents (writer_of sink.new)) ⊎ WritesOutput (HasDifferences origin slots book_octets)
         (R.remaining (reader_of source.old)) (W.contents (writer_of sink.old)) (W.contents (writer_of sink.new)) }
 {
-    match verify_input(rt, source, sink, book_octets, slots, workers) {
+    match verify_input(rt, source, sink, book_octets, origin, slots, workers) {
         Ok(()) => DONE,
         Err(fault) => failed(&fault, faults),
     }

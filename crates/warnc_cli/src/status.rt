@@ -1,9 +1,9 @@
 //! The statuses of a run, and which fault ends one with which status.
 
 ghost use Rattle.std.specs.Prelude.{◌≡◌, ℕ};
-ghost use Rattle.warnc_cli.specs.RunSteps.{status_of_pcap_fault, status_of_read_fault, status_of_report_fault};
+ghost use Rattle.warnc_cli.specs.RunSteps.{status_of_groups_fault, status_of_pcap_fault, status_of_read_fault};
 ghost use Rattle.warnc_cli.specs.RunSteps.{status_of_run_fault, status_of_tape_fault, status_of_tapes_fault};
-ghost use Rattle.warnc_cli.specs.RunSteps.{status_of_verify_fault};
+ghost use Rattle.warnc_cli.specs.RunSteps.{status_of_report_fault, status_of_verify_fault};
 ghost use Rattle.warnc_cli.specs.Status.{status_of_book_fault, status_of_page_fault};
 
 use alert_book::{BookFault, BookFaultKind};
@@ -18,7 +18,7 @@ use warnc_air::pcap::PcapFault;
 use warnc_air::tape::TapeCommandFault;
 use warnc_inspect::page::PageFault;
 use warnc_inspect::read::ReadCommandFault;
-use warnc_run::RunFault;
+use warnc_run::{GroupsFault, RunFault};
 use warnc_verify::VerifyFault;
 
 /// All was done, or help was written.
@@ -110,11 +110,24 @@ impl Fault for RunFault {
     fn status(&self) -> u8 {
         match *self {
             RunFault::Book(fault) => status_of_book(fault),
+            RunFault::NoGroup(_) => REFUSED_INPUT,
             RunFault::Write(_) => DEVICE,
             RunFault::Desk(DeskFault::Memory { .. }) => MEMORY,
             RunFault::Settle(SettleFault::Refused) => MEMORY,
             RunFault::Compile(CompileFault::Refused) | RunFault::Refused => MEMORY,
             RunFault::Desk(_) | RunFault::Settle(_) | RunFault::Compile(_) => REFUSED_INPUT,
+        }
+    }
+}
+
+impl Fault for GroupsFault {
+    ghost status_of = { status_of_groups_fault };
+
+    fn status(&self) -> u8 {
+        match *self {
+            GroupsFault::Network(fault) => status_of_book(fault),
+            GroupsFault::Refused => MEMORY,
+            GroupsFault::WriteFailed => DEVICE,
         }
     }
 }

@@ -11,6 +11,8 @@ mod captures;
 #[cfg(test)]
 mod charts;
 #[cfg(test)]
+mod groups;
+#[cfg(test)]
 mod malformed;
 #[cfg(test)]
 mod malformed_table;

@@ -4,7 +4,7 @@
 //!
 //! - `args WORDS`: the command line without the program's name, up to the next such line;
 //! - `in TEXT`, `in-hex DIGITS ..`, `in-worked`: a line of input, octets of it, or the worked octets. The first after
-//!   a run begins a new input; `in-none` is one of no octets, and `repeat N` has the input N times;
+//!   a run begins a new input; `in-cells FROM END` is the lines of these cells of LAC 1, the last one left out; `in-none` is one of no octets, and `repeat N` has the input N times;
 //! - `worked TEXT`, `worked-hex DIGITS ..`: worked octets, with which an output is compared;
 //! - `reader N CALLS`, `writer N CALLS`, `faults N CALLS`: the device moves N octets a call, and fails after so many
 //!   calls. At other runs none fails.
@@ -50,6 +50,16 @@ fn pace_of(numbers: &str) -> Result<Pace, Fail> {
     Ok(Pace { octets, calls })
 }
 
+/// Adds lines that declare the cells of LAC 1 and of the CI from one number on up to another, without it.
+fn add_cells(alloc: Global, bench: &mut Bench, numbers: &str) -> Result<(), Fail> {
+    let (from, to) = numbers_of(numbers)?;
+    for ci in from..to {
+        let line = format!(in alloc; "cell,1,{ci}")?;
+        bench.input.add_line(&line)?;
+    }
+    Ok(())
+}
+
 /// Has what a line says for the next run.
 fn set<'a>(
     alloc: Global,
@@ -61,6 +71,7 @@ fn set<'a>(
         "args" => bench.args = rest,
         "in" => bench.input.add_line(rest)?,
         "in-hex" => bench.input.add_hex(alloc, rest)?,
+        "in-cells" => add_cells(alloc, bench, rest)?,
         "in-none" if rest.is_empty() => bench.input.add(b"")?,
         "in-worked" if rest.is_empty() => bench.input.add(&bench.worked.octets)?,
         "repeat" => bench.input.repeat(alloc, rest.parse::<u64>()?)?,

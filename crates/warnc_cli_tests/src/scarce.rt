@@ -177,6 +177,20 @@ worked 1,1,4370,0010,0,2,1,yes
 scarce -> 0 worked
 ";
 
+const GROUPS: &str = "
+args groups
+in cell,1,1
+worked 1
+scarce -> 0 worked
+
+args report --slots 2 --group 0
+in cell,1,1
+in write,0,a,4370,0,1,en,2,2,0,1-1,@
+worked lac,ci,id,serial,start,end,completed,shown
+worked 1,1,4370,0010,0,2,1,yes
+scarce -> 0 worked
+";
+
 const CAPTURES: &str = "
 args pcap
 in-hex 0001 0001 00000001
@@ -281,6 +295,11 @@ fn sessions_without_memory_are_status_4(rt: HostRuntime) -> Result<(), Fail> {
 #[test]
 fn a_report_without_memory_is_status_4(rt: HostRuntime) -> Result<(), Fail> {
     expect_rows(&rt, REPORT)
+}
+
+#[test]
+fn groups_without_memory_are_status_4(rt: HostRuntime) -> Result<(), Fail> {
+    expect_rows(&rt, GROUPS)
 }
 
 #[test]

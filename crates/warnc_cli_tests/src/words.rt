@@ -63,6 +63,21 @@ usage -> 2 error:
 args report --slots 4 --sessions 1
 usage -> 2 error:
 
+args groups --slots 4
+usage -> 2 error:
+args groups --group 0
+usage -> 2 error:
+args report --slots 4 --group 65536
+usage -> 2 error:
+args report --slots 4 --group -1
+usage -> 2 error:
+args live --slots 4 --group first
+usage -> 2 error:
+args read --group 0
+usage -> 2 error:
+args chart --slots 4 --group 0
+usage -> 2 error:
+
 # the least and the most, on a book without cells
 in-none
 args compile --slots=1
@@ -84,6 +99,9 @@ run -> 0
 says Usage: warnc <COMMAND> -> yes
 run -> 0
 lists compile -> yes
+args --help
+run -> 0
+lists groups -> yes
 args page --help
 run -> 0
 says --update <UPDATE> -> yes

@@ -5,7 +5,10 @@ use native.Mathlib.Omega.{arith}
 use Rattle.std.proofs.Math.Seq.{take-suc}
 use Rattle.std.proofs.lemmas.List.{get_or-map, length-map, map-append}
 use Rattle.std.specs.Io.KnownBytes.{Keeps}
+use Rattle.alert_book.specs.declared.network.Origin.{Origin}
+use Rattle.alert_book.specs.declared.network.Origin.TheVariants as origin
 use Rattle.alert_book.specs.Book.{Contents, IsBook}
+use Rattle.alert_book.specs.Origin.{IsBookFrom}
 use Rattle.book_runs.specs.Live.{IsLiveRun}
 use Rattle.book_runs.specs.LiveLaws.{LiveRunsShowTheBook, OneSessionIsARun}
 use Rattle.book_runs.specs.Meant.{IsMeantIn}
@@ -17,22 +20,23 @@ use Rattle.bsc_table.specs.Record.{Record}
 use Rattle.parallel_compile.specs.declared.fault.CompileFault.TheVariants as compile
 use Rattle.chart.specs.ChartText.{chart_text}
 use Rattle.warnc_run.specs.Charted.{IsCharted}
-use Rattle.report.specs.ReportText.{report_text}
+use Rattle.report.specs.ReportText.{part_text}
 use Rattle.report.specs.Rows.{AreOfOneCells}
 use Rattle.report.specs.declared.fault.ReportFault.{ReportFault}
 use Rattle.report.specs.declared.fault.ReportFault.TheVariants as report
 use Rattle.report.specs.declared.row.Row.{Row}
-use Rattle.warnc_run.specs.Compiled.{IsWriteFault, MakesFront, HasReadBook}
-use Rattle.warnc_run.specs.RunSteps.{AreReadings, AreReportRows, HaveRunLive, IsOfBook, IsOfBookReport, IsOfTapes}
+use Rattle.warnc_run.specs.Compiled.{HasReadFrom, IsWriteFault, MakesFront}
+use Rattle.warnc_run.specs.RunSteps.{AreReadings, AreReportRows, HasNoBookToRun, HaveRunLive, IsOfBook, IsOfBookReport}
+use Rattle.warnc_run.specs.RunSteps.{IsOfTapes}
 use Rattle.warnc_run.specs.declared.fault.RunFault.{RunFault}
 use Rattle.warnc_run.specs.declared.fault.RunFault.TheVariants as run
 use Rattle.warnc_run.specs.declared.report_run.ReportRunFault.{ReportRunFault}
 use Rattle.warnc_run.specs.declared.report_run.ReportRunFault.TheVariants as reports
-use Rattle.warnc_run.proofs.Written.{fault_of_run, only}
+use Rattle.warnc_run.proofs.Written.{fault_of_reading, fault_of_run, only}
 use Rattle.cbch_blocks.specs.RecordBlocks.{tape_of_record}
 use Rattle.handset.specs.Laws.{TapeIsOneKind}
 use Rattle.handset.specs.Tape.{IsTape, TapeReading}
-use Rattle.warnc_run.specs.Reported.{reading_of_record, IsPieceFault, IsReported, IsReportRunFault}
+use Rattle.warnc_run.specs.Reported.{is_headed, reading_of_record, IsPieceFault, IsReportedFrom, IsReportRunFault}
 
 -- the readings of records before one, and that of its tape, are those up to it
 pub read_on : TapeIsOneKind → (records : List Record) (tapes : List (List ℕ)) (i : ℕ) (tape : List ℕ)
@@ -77,15 +81,16 @@ read_in_parts before after front rest left all read split so_far =
     ∙ so_far
 
 -- the records of a run give tapes
-pub run_has_tapes : LiveRunsShowTheBook → (input : List ℕ) (book : Contents) (slots : ℕ) (records shown : List Record)
+pub run_has_tapes : LiveRunsShowTheBook → (from : Origin) (input : List ℕ) (book : Contents) (slots : ℕ)
+    (records shown : List Record)
     → slots ≤ 65535
-    → IsBook input book
+    → IsBookFrom from input book
     → HaveRunLive book slots 1 records
     → shown ≡ records
     → All (λ r. IsTape (tape_of_record r) (reading_of_record r)) shown
-run_has_tapes law input book slots records shown few is_book live is =
+run_has_tapes law from input book slots records shown few is_book live is =
     let meant : All (IsMeantIn book) records =
-    law input book slots live.sessions records is_book few live.run in
+    law from input book slots live.sessions records is_book few live.run in
     subst (All (λ (r : Record). IsTape (tape_of_record r) (reading_of_record r))) (sym is)
     (λ k d within. (meant k d within).tape)
 
@@ -110,12 +115,12 @@ only_memory report.Refused records shown readings given is read are differ not_w
 
 -- the rows of a run of the book whose octets were read are reported by their text
 pub reported : OneSessionIsARun → RunsShowTheBook → RunsAcceptWhatWasOrdered
-    → (input : List ℕ) (book : Contents) (slots : ℕ) (rows : List Row)
+    → (from : Origin) (input : List ℕ) (book : Contents) (slots : ℕ) (rows : List Row)
     → slots ≤ 65535
-    → IsBook input book
+    → IsBookFrom from input book
     → AreReportRows book slots rows
-    → IsReported slots input (report_text rows)
-reported one law orders input book slots rows few is_book are =
+    → IsReportedFrom from slots input (part_text (is_headed from) rows)
+reported one law orders from input book slots rows few is_book are =
     let session = only are.live.sessions are.live.parted in
     let run = one book slots session.0 are.records
     (subst (λ (sessions : List (List Exchange)). IsLiveRun book slots sessions are.records) session.1 are.live.run) in
@@ -125,9 +130,9 @@ reported one law orders input book slots rows few is_book are =
       exchanges = session.0;
       records = are.records;
       run = run;
-      meant = law input book slots session.0 are.records is_book few run;
-      accepted = orders input book slots session.0 are.records is_book run;
-      written = ap report_text are.made;
+      meant = law from input book slots session.0 are.records is_book few run;
+      accepted = orders from input book slots session.0 are.records is_book run;
+      written = ap (part_text (is_headed from)) are.made;
     }
 
 -- their readings are of the same cells, so the chart can't fail for that
@@ -166,26 +171,27 @@ charted one law orders input book slots wanted records shown readings given few 
       exchanges = session.0;
       records = records;
       run = run;
-      meant = law input book slots session.0 records is_book few run;
-      accepted = orders input book slots session.0 records is_book run;
+      meant = law origin.Book input book slots session.0 records is_book few run;
+      accepted = orders origin.Book input book slots session.0 records is_book run;
       written = ap₂ (λ (rs : List Record) (xs : List TapeReading). chart_text slots wanted rs xs) is (same ∙ are.read);
     }
 
 -- a fault of the report after the run
-pub fault_of_report : (slots : ℕ) (Means : (input output : List ℕ) → Type 0) (first last old new : Option (List ℕ))
+pub fault_of_report : (from : Origin) (slots : ℕ) (Means : (input output : List ℕ) → Type 0) (first last old new : Option (List ℕ))
     (fault : ReportFault)
     → fault ≢ report.Cells
     → (fault ≡ report.WriteFailed → MakesFront Means first last old new)
-    → (fault ≡ report.Refused → HasReadBook first last × Keeps old new)
-    → IsReportRunFault slots Means first last old new (reports.Report fault)
-fault_of_report slots Means first last old new report.Cells not front kept = absurd (not refl)
-fault_of_report slots Means first last old new report.WriteFailed not front kept = front refl
-fault_of_report slots Means first last old new report.Refused not front kept = kept refl
+    → (fault ≡ report.Refused → HasReadFrom from first last × Keeps old new)
+    → IsReportRunFault from slots Means first last old new (reports.Report fault)
+fault_of_report from slots Means first last old new report.Cells not front kept = absurd (not refl)
+fault_of_report from slots Means first last old new report.WriteFailed not front kept = front refl
+fault_of_report from slots Means first last old new report.Refused not front kept = kept refl
 
 -- a fault of a run under way isn't the writer's, nor a wrong tape's, and is one of the tapes
 not_written : (book : Contents) (slots : ℕ) (f : RunFault) → IsOfBook book slots 1 f
     → (IsWriteFault f → ⊥) × (IsPieceFault f → ⊥) × IsOfTapes book slots 1 f
 not_written book slots (run.Book f) is = absurd is
+not_written book slots (run.NoGroup groups) is = absurd is
 not_written book slots (run.Desk f) is = (λ write. write, λ piece. piece, is)
 not_written book slots (run.Settle f) is = (λ write. write, λ piece. piece, is)
 not_written book slots (run.Compile compile.Workers) is = absurd (apart is)
@@ -201,25 +207,52 @@ not_written book slots (run.Write failed) is = absurd is
 not_written book slots run.Refused is = (λ write. write, λ piece. piece, is)
 
 -- a fault under way to the report of a book whose octets were read, with nothing written
-pub fault_of_book_report : (slots : ℕ) (Means : (input output : List ℕ) → Type 0) (first last old new : Option (List ℕ))
-    (book : Contents) (fault : ReportRunFault)
-    → (read : HasReadBook first last)
+pub fault_of_book_report : (from : Origin) (slots : ℕ) (Means : (input output : List ℕ) → Type 0)
+    (first last old new : Option (List ℕ)) (book : Contents) (fault : ReportRunFault)
+    → (read : HasReadFrom from first last)
     → read.book ≡ book
     → IsOfBookReport book slots fault
     → Keeps old new
-    → IsReportRunFault slots Means first last old new fault
-fault_of_book_report slots Means first last old new book (reports.Run f) read is of_book kept =
+    → IsReportRunFault from slots Means first last old new fault
+fault_of_book_report from slots Means first last old new book (reports.Run f) read is of_book kept =
     let other = not_written book slots f of_book in
-    (other.0, other.1, fault_of_run slots 1 Means first last old new book f read is other.2 kept)
-fault_of_book_report slots Means first last old new book (reports.Report report.Refused) read is of_book kept =
+    (other.0, other.1, fault_of_run from slots 1 Means first last old new book f read is other.2 kept)
+fault_of_book_report from slots Means first last old new book (reports.Report report.Refused) read is of_book kept =
     (read, kept)
-fault_of_book_report slots Means first last old new book (reports.Report report.Cells) read is of_book kept =
+fault_of_book_report from slots Means first last old new book (reports.Report report.Cells) read is of_book kept =
     absurd (apart of_book)
   where
     apart : report.Cells ≡ report.Refused → ⊥
     apart h = search (rules, h)
-fault_of_book_report slots Means first last old new book (reports.Report report.WriteFailed) read is of_book kept =
+fault_of_book_report from slots Means first last old new book (reports.Report report.WriteFailed) read is of_book kept =
     absurd (apart of_book)
   where
     apart : report.WriteFailed ≡ report.Refused → ⊥
     apart h = search (rules, h)
+
+-- and of the book that was to be read
+pub fault_of_reading_report : (from : Origin) (slots : ℕ) (Means : (input output : List ℕ) → Type 0)
+    (first last old new : Option (List ℕ)) (fault : RunFault)
+    → HasNoBookToRun from first last fault
+    → Keeps old new
+    → IsReportRunFault from slots Means first last old new (reports.Run fault)
+fault_of_reading_report from slots Means first last old new fault is kept =
+    (not_of_writer fault is, not_of_piece fault is, fault_of_reading from slots 1 Means first last old new fault is kept)
+  where
+    not_of_writer : (f : RunFault) → HasNoBookToRun from first last f → IsWriteFault f → ⊥
+    not_of_writer (run.Write failed) none write = none
+    not_of_writer (run.Book f) none write = write
+    not_of_writer (run.NoGroup groups) none write = write
+    not_of_writer (run.Desk f) none write = write
+    not_of_writer (run.Settle f) none write = write
+    not_of_writer (run.Compile f) none write = write
+    not_of_writer run.Refused none write = write
+
+    not_of_piece : (f : RunFault) → HasNoBookToRun from first last f → IsPieceFault f → ⊥
+    not_of_piece (run.Compile f) none piece = none
+    not_of_piece (run.Book f) none piece = piece
+    not_of_piece (run.NoGroup groups) none piece = piece
+    not_of_piece (run.Desk f) none piece = piece
+    not_of_piece (run.Settle f) none piece = piece
+    not_of_piece (run.Write failed) none piece = none
+    not_of_piece run.Refused none piece = piece

@@ -16,7 +16,9 @@ use Rattle.std.specs.List.{AllByRecursion}
 use Rattle.handset.specs.Tape.{IsTape, TapeReading, slots_in}
 use Rattle.cbch_blocks.specs.RecordBlocks.{octets_of_blocks}
 use Rattle.book_runs.specs.Meant.{IsMeantIn}
-use Rattle.alert_book.specs.Book.{Contents, IsBook}
+use Rattle.alert_book.specs.declared.network.Origin.{Origin}
+use Rattle.alert_book.specs.Book.{Contents}
+use Rattle.alert_book.specs.Origin.{IsBookFrom}
 use Rattle.cbsp_wire.specs.declared.message.Cell.{Cell}
 use Rattle.cbsp_wire.specs.Range.{cells_are_valid}
 use Rattle.bsc_table.specs.Record.{Record}
@@ -28,9 +30,9 @@ use Rattle.book_runs.specs.Run.{Exchange}
 use Rattle.warnc_run.specs.declared.fault.RunFault.{RunFault}
 use Rattle.warnc_run.specs.declared.fault.RunFault.TheVariants as run
 use Rattle.parallel_compile.specs.declared.fault.CompileFault.TheVariants as compile
-use Rattle.warnc_run.specs.Compiled.{tape_size, IsCompiled, IsRunFault, IsSettleFault, Makes, HasReadBook}
-use Rattle.warnc_run.specs.Live.{IsLive}
-use Rattle.warnc_run.specs.RunSteps.{AreTapesOf, IsOfTapes, TakesFront}
+use Rattle.warnc_run.specs.Compiled.{tape_size, HasReadFrom, IsCompiledFrom, IsRunFault, IsSettleFault, Makes}
+use Rattle.warnc_run.specs.Live.{IsLiveFrom}
+use Rattle.warnc_run.specs.RunSteps.{AreTapesOf, HasNoBookToRun, IsOfTapes, TakesFront}
 
 -- tapes, one after the other
 abbrev pub joined : List (List ℕ) → List ℕ
@@ -218,44 +220,44 @@ only (x ∷ (y ∷ rest)) count = absurd (omega (arith, count))
 
 -- a run of several sessions of the book whose octets were read is compiled to its tapes
 pub made_live : LiveRunsShowTheBook → LiveRunsAcceptWhatWasOrdered
-    → (input : List ℕ) (book : Contents) (slots parts : ℕ) (tapes : List (List ℕ))
+    → (from : Origin) (input : List ℕ) (book : Contents) (slots parts : ℕ) (tapes : List (List ℕ))
     → slots ≤ 65535
-    → IsBook input book
+    → IsBookFrom from input book
     → AreTapesOf book slots parts tapes
-    → IsLive slots parts input (joined tapes)
-made_live law orders input book slots parts tapes few is_book are = record {
+    → IsLiveFrom from slots parts input (joined tapes)
+made_live law orders from input book slots parts tapes few is_book are = record {
   book = book;
   is_book = is_book;
   sessions = are.live.sessions;
   parted = are.live.parted;
   records = are.records;
   run = are.live.run;
-  meant = law input book slots are.live.sessions are.records is_book few are.live.run;
-  accepted = orders input book slots are.live.sessions are.records is_book are.live.run;
+  meant = law from input book slots are.live.sessions are.records is_book few are.live.run;
+  accepted = orders from input book slots are.live.sessions are.records is_book are.live.run;
   written = ap joined are.made ∙ joined_tapes are.records;
 }
 
 -- what a writer that failed took of the tapes of a run
-pub taken_of_run : LiveRunsShowTheBook → (input : List ℕ) (book : Contents) (slots parts : ℕ) (tapes : List (List ℕ))
-    (written : ℕ) (old new : Option (List ℕ))
+pub taken_of_run : LiveRunsShowTheBook → (from : Origin) (input : List ℕ) (book : Contents) (slots parts : ℕ)
+    (tapes : List (List ℕ)) (written : ℕ) (old new : Option (List ℕ))
     → slots ≤ 65535
-    → IsBook input book
+    → IsBookFrom from input book
     → AreTapesOf book slots parts tapes
     → TakesFront tapes written old new
     → TakesFrontOf (tape_size slots) written old new (joined tapes)
-taken_of_run law input book slots parts tapes written old new few is_book are taken =
+taken_of_run law from input book slots parts tapes written old new few is_book are taken =
     front_taken (tape_size slots) tapes written old new (omega arith)
     (subst (All (λ (tape : List ℕ). length tape ≡ tape_size slots)) (sym are.made)
     (tapes_have_size book slots are.records
-    (law input book slots are.live.sessions are.records is_book few are.live.run)
+    (law from input book slots are.live.sessions are.records is_book few are.live.run)
     (All-weaker (IsRunBy slots are.live.sessions) (λ (r : Record). r.slots ≡ slots) (λ r run. run.run) are.records
     are.live.run.each))) taken
 
 -- what one session makes of a book is what the book's session makes of it
-pub made_by_one : OneSessionIsARun → (slots : ℕ) (input output : List ℕ)
-    → IsLive slots 1 input output
-    → IsCompiled slots input output
-made_by_one one slots input output live =
+pub made_by_one : OneSessionIsARun → (from : Origin) (slots : ℕ) (input output : List ℕ)
+    → IsLiveFrom from slots 1 input output
+    → IsCompiledFrom from slots input output
+made_by_one one from slots input output live =
     let session = only live.sessions live.parted in record {
       book = live.book;
       is_book = live.is_book;
@@ -271,33 +273,35 @@ made_by_one one slots input output live =
     }
 
 -- and so are the tapes that were written, and the front of them
-pub makes_by_one : OneSessionIsARun → (slots : ℕ) (first last old new : Option (List ℕ))
-    → Makes (IsLive slots 1) first last old new
-    → Makes (IsCompiled slots) first last old new
-makes_by_one one slots first last old new makes = record {
+pub makes_by_one : OneSessionIsARun → (from : Origin) (slots : ℕ) (first last old new : Option (List ℕ))
+    → Makes (IsLiveFrom from slots 1) first last old new
+    → Makes (IsCompiledFrom from slots) first last old new
+makes_by_one one from slots first last old new makes = record {
   input = makes.input;
   output = makes.output;
   read = makes.read;
   ended = makes.ended;
-  meant = made_by_one one slots makes.input makes.output makes.meant;
+  meant = made_by_one one from slots makes.input makes.output makes.meant;
   appended = makes.appended;
 }
 
 -- and the faults
-pub fault_by_one : OneSessionIsARun → (slots : ℕ) (first last old new : Option (List ℕ)) (fault : RunFault)
-    → IsRunFault slots 1 (IsLive slots 1) first last old new fault
-    → IsRunFault slots 1 (IsCompiled slots) first last old new fault
-fault_by_one one slots first last old new (run.Book f) is = is
-fault_by_one one slots first last old new (run.Desk f) is = is
-fault_by_one one slots first last old new (run.Settle f) is = is
-fault_by_one one slots first last old new (run.Compile f) is = is
-fault_by_one one slots first last old new run.Refused is = is
-fault_by_one one slots first last old new (run.Write failed) is = record {
+pub fault_by_one : OneSessionIsARun → (from : Origin) (slots : ℕ) (first last old new : Option (List ℕ))
+    (fault : RunFault)
+    → IsRunFault from slots 1 (IsLiveFrom from slots 1) first last old new fault
+    → IsRunFault from slots 1 (IsCompiledFrom from slots) first last old new fault
+fault_by_one one from slots first last old new (run.Book f) is = is
+fault_by_one one from slots first last old new (run.NoGroup groups) is = is
+fault_by_one one from slots first last old new (run.Desk f) is = is
+fault_by_one one from slots first last old new (run.Settle f) is = is
+fault_by_one one from slots first last old new (run.Compile f) is = is
+fault_by_one one from slots first last old new run.Refused is = is
+fault_by_one one from slots first last old new (run.Write failed) is = record {
   input = is.input;
   output = is.output;
   read = is.read;
   ended = is.ended;
-  meant = made_by_one one slots is.input is.output is.meant;
+  meant = made_by_one one from slots is.input is.output is.meant;
   whole = is.whole;
   under_way = is.under_way;
   some_left = is.some_left;
@@ -305,20 +309,35 @@ fault_by_one one slots first last old new (run.Write failed) is = record {
 }
 
 -- a fault of the run of a book whose octets were read, with nothing written
-pub fault_of_run : (slots parts : ℕ) (Means : (input output : List ℕ) → Type 0) (first last old new : Option (List ℕ))
-    (book : Contents) (fault : RunFault)
-    → (read : HasReadBook first last)
+pub fault_of_run : (from : Origin) (slots parts : ℕ) (Means : (input output : List ℕ) → Type 0)
+    (first last old new : Option (List ℕ)) (book : Contents) (fault : RunFault)
+    → (read : HasReadFrom from first last)
     → read.book ≡ book
     → IsOfTapes book slots parts fault
     → Keeps old new
-    → IsRunFault slots parts Means first last old new fault
-fault_of_run slots parts Means first last old new book (run.Book f) read is of_book kept = absurd of_book
-fault_of_run slots parts Means first last old new book (run.Desk f) read is of_book kept = (of_book, read, kept)
-fault_of_run slots parts Means first last old new book (run.Settle f) read is of_book kept =
+    → IsRunFault from slots parts Means first last old new fault
+fault_of_run from slots parts Means first last old new book (run.Book f) read is of_book kept = absurd of_book
+fault_of_run from slots parts Means first last old new book (run.NoGroup groups) read is of_book kept = absurd of_book
+fault_of_run from slots parts Means first last old new book (run.Desk f) read is of_book kept = (of_book, read, kept)
+fault_of_run from slots parts Means first last old new book (run.Settle f) read is of_book kept =
     (read, subst (λ (b : Contents). IsSettleFault b slots parts f) (sym is) of_book, kept)
-fault_of_run slots parts Means first last old new book (run.Compile compile.Workers) read is of_book kept = (tt, kept)
-fault_of_run slots parts Means first last old new book (run.Compile compile.Refused) read is of_book kept = (read, kept)
-fault_of_run slots parts Means first last old new book (run.Compile (compile.Piece index)) read is of_book kept =
+fault_of_run from slots parts Means first last old new book (run.Compile compile.Workers) read is of_book kept = (tt, kept)
+fault_of_run from slots parts Means first last old new book (run.Compile compile.Refused) read is of_book kept = (read, kept)
+fault_of_run from slots parts Means first last old new book (run.Compile (compile.Piece index)) read is of_book kept =
     (read, kept)
-fault_of_run slots parts Means first last old new book (run.Write failed) read is of_book kept = absurd of_book
-fault_of_run slots parts Means first last old new book run.Refused read is of_book kept = kept
+fault_of_run from slots parts Means first last old new book (run.Write failed) read is of_book kept = absurd of_book
+fault_of_run from slots parts Means first last old new book run.Refused read is of_book kept = kept
+
+-- a fault of the book that was to be read, with nothing written
+pub fault_of_reading : (from : Origin) (slots parts : ℕ) (Means : (input output : List ℕ) → Type 0)
+    (first last old new : Option (List ℕ)) (fault : RunFault)
+    → HasNoBookToRun from first last fault
+    → Keeps old new
+    → IsRunFault from slots parts Means first last old new fault
+fault_of_reading from slots parts Means first last old new (run.Book f) is kept = (is, kept)
+fault_of_reading from slots parts Means first last old new (run.NoGroup groups) is kept = (is, kept)
+fault_of_reading from slots parts Means first last old new (run.Desk f) is kept = absurd is
+fault_of_reading from slots parts Means first last old new (run.Settle f) is kept = absurd is
+fault_of_reading from slots parts Means first last old new (run.Compile f) is kept = absurd is
+fault_of_reading from slots parts Means first last old new (run.Write failed) is kept = absurd is
+fault_of_reading from slots parts Means first last old new run.Refused is kept = absurd is

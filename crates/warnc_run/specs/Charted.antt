@@ -1,5 +1,6 @@
 -- What `warnc chart` makes of the octets that it reads: the chart of the book's cells. Own.
 use Rattle.std.specs.Prelude.{◌≡◌, ℕ, List, Option, All, map}
+use Rattle.alert_book.specs.declared.network.Origin.TheVariants as origin
 use Rattle.alert_book.specs.Book.{Contents, IsBook}
 use Rattle.bsc_table.specs.Record.{Record}
 use Rattle.book_runs.specs.Meant.{IsMeantIn}
@@ -26,4 +27,5 @@ pub record IsCharted (slots : ℕ) (wanted : Option Cell) (input output : List �
 -- why no chart was made: as for a report
 abbrev pub IsChartFault : (slots : ℕ) (wanted : Option Cell) → (first last old new : Option (List ℕ)) → ReportRunFault
     → Type 0
-IsChartFault slots wanted first last old new f = IsReportRunFault slots (IsCharted slots wanted) first last old new f
+IsChartFault slots wanted first last old new f =
+    IsReportRunFault origin.Book slots (IsCharted slots wanted) first last old new f

@@ -6,7 +6,10 @@ use Rattle.device_ends.specs.Moves.{AppendsFront}
 use Rattle.device_ends.specs.Stream.{IsStreamBetween}
 use Rattle.device_ends.specs.declared.reading.Source.{Source}
 use Rattle.device_ends.specs.declared.writing.Sink.{Sink}
-use Rattle.alert_book.specs.Book.{Contents, IsBook, RefusesBook, unread}
+use Rattle.alert_book.specs.declared.network.Origin.{Origin}
+use Rattle.alert_book.specs.declared.network.Origin.TheVariants as origin
+use Rattle.alert_book.specs.Book.{Contents, unread}
+use Rattle.alert_book.specs.Origin.{IsBookFrom, LacksGroup, RefusesFrom}
 use Rattle.bsc_table.specs.Record.{Record}
 use Rattle.order_desk.specs.declared.fault.DeskFault.{DeskFault}
 use Rattle.order_desk.specs.declared.fault.DeskFault.TheVariants as desk
@@ -23,19 +26,23 @@ use Rattle.book_runs.specs.Meant.{IsMeantIn}
 use Rattle.book_runs.specs.Ordered.{AreThoseStarted}
 use Rattle.book_runs.specs.Run.{Exchange, IsRun}
 
--- what is written for the octets that were read: they are a book; its run gives each cell a record, which shows what
--- the book means; each message that a cell accepted is one that an order of the book had it start, with that order's
--- text, and no other order started one; and these are the tapes of the records, in the order of the book's cells, and
--- nothing else
-pub record IsCompiled (slots : ℕ) (input output : List ℕ) : Type 0 where
+-- what is written for the octets that were read: they are a book, or a network book whose group has one; its run gives
+-- each cell a record, which shows what the book means; each message that a cell accepted is one that an order of the
+-- book had it start, with that order's text, and no other order started one; and these are the tapes of the records, in
+-- the order of the book's cells, and nothing else
+pub record IsCompiledFrom (from : Origin) (slots : ℕ) (input output : List ℕ) : Type 0 where
   pub book : Contents
-  pub is_book : IsBook input book
+  pub is_book : IsBookFrom from input book
   pub exchanges : List Exchange
   pub records : List Record
   pub run : IsRun book slots exchanges records
   pub meant : All (IsMeantIn book) records
   pub accepted : All (AreThoseStarted book exchanges) records
   pub written : output ≡ flat_map tape_of_record records
+
+-- the same of octets that are a book
+abbrev pub IsCompiled : (slots : ℕ) (input output : List ℕ) → Type 0
+IsCompiled slots input output = IsCompiledFrom origin.Book slots input output
 
 -- all of the octets were read, and the tapes that they mean were written: `first` and `last` are what the reader has
 -- left before and after, `old` and `new` what the writer holds
@@ -75,13 +82,17 @@ pub record MakesTapesFront (Means : (input output : List ℕ) → Type 0) (size 
   pub some_left : 0 < length output → size * whole + written < length output
   pub front : Appends old new (take (size * whole + written) output)
 
--- all of the octets were read, and are a book
-pub record HasReadBook (first last : Option (List ℕ)) : Type 0 where
+-- all of the octets were read, and are a book, or a network book whose group has this one
+pub record HasReadFrom (from : Origin) (first last : Option (List ℕ)) : Type 0 where
   pub input : List ℕ
   pub book : Contents
   pub read : Consumes first last input
   pub ended : IsAtEnd last
-  pub is_book : IsBook input book
+  pub is_book : IsBookFrom from input book
+
+-- the same of octets that are a book
+abbrev pub HasReadBook : (first last : Option (List ℕ)) → Type 0
+HasReadBook first last = HasReadFrom origin.Book first last
 
 -- there are 1 to 64 workers
 abbrev pub AreWorkers : ℕ → Type 0
@@ -94,10 +105,10 @@ IsWriteFault other = ⊥
 
 -- why workers made no tapes, of octets that the reader has left before and after: there can't be so many of them, or
 -- the octets are a book, and memory ran out, or the tape at a place isn't that of the cell's record
-abbrev pub IsCompileFault : (first last : Option (List ℕ)) → CompileFault → Type 0
-IsCompileFault first last compile.Workers = ⊤
-IsCompileFault first last compile.Refused = HasReadBook first last
-IsCompileFault first last (compile.Piece index) = HasReadBook first last
+abbrev pub IsCompileFault : (from : Origin) (first last : Option (List ℕ)) → CompileFault → Type 0
+IsCompileFault from first last compile.Workers = ⊤
+IsCompileFault from first last compile.Refused = HasReadFrom from first last
+IsCompileFault from first last (compile.Piece index) = HasReadFrom from first last
 
 -- a fault of the desk under an order of a session: it is out of memory, or finds the book of another cell in a lock
 abbrev pub IsDeskFault : DeskFault → Type 0
@@ -122,24 +133,32 @@ StopsRun book slots parts (fault.Settle f) = (f ≢ settle.Refused) × IsSettleF
 StopsRun book slots parts (fault.Compile (compile.Piece index)) = ⊤
 StopsRun book slots parts other = ⊥
 
--- why no tapes were made of a book, in runs of so many slots and with so many sessions: the fault is the book's; or the
--- octets are a book, and the desk was out of memory or found the book of another cell, or wasn't settled; or it is the
--- workers' fault; or memory ran out; and nothing is written. Or the writer failed with a front of the tapes
-abbrev pub IsRunFault : (slots parts : ℕ) (Means : (input output : List ℕ) → Type 0)
+-- why no tapes were made of a book, or of a group's, in runs of so many slots and with so many sessions: the fault is
+-- the book's; or the network has no such group; or the octets are a book, and the desk was out of memory or found the
+-- book of another cell, or wasn't settled; or it is the workers' fault; or memory ran out; and nothing is written. Or
+-- the writer failed with a front of the tapes
+abbrev pub IsRunFault : (from : Origin) (slots parts : ℕ) (Means : (input output : List ℕ) → Type 0)
     (first last old new : Option (List ℕ)) → RunFault → Type 0
-IsRunFault slots parts Means first last old new (fault.Book f) = RefusesBook first last f × Keeps old new
-IsRunFault slots parts Means first last old new (fault.Desk f) =
-    IsDeskFault f × HasReadBook first last × Keeps old new
-IsRunFault slots parts Means first last old new (fault.Settle f) =
-    (read : HasReadBook first last) × IsSettleFault read.book slots parts f × Keeps old new
-IsRunFault slots parts Means first last old new (fault.Compile f) = IsCompileFault first last f × Keeps old new
-IsRunFault slots parts Means first last old new fault.Refused = Keeps old new
-IsRunFault slots parts Means first last old new (fault.Write failed) =
+IsRunFault from slots parts Means first last old new (fault.Book f) = RefusesFrom from first last f × Keeps old new
+IsRunFault from slots parts Means first last old new (fault.NoGroup groups) =
+    LacksGroup from first last groups × Keeps old new
+IsRunFault from slots parts Means first last old new (fault.Desk f) =
+    IsDeskFault f × HasReadFrom from first last × Keeps old new
+IsRunFault from slots parts Means first last old new (fault.Settle f) =
+    (read : HasReadFrom from first last) × IsSettleFault read.book slots parts f × Keeps old new
+IsRunFault from slots parts Means first last old new (fault.Compile f) =
+    IsCompileFault from first last f × Keeps old new
+IsRunFault from slots parts Means first last old new fault.Refused = Keeps old new
+IsRunFault from slots parts Means first last old new (fault.Write failed) =
     MakesTapesFront Means (tape_size slots) failed.written first last old new
 
--- why no tapes were made of a book in a run of its one session
+-- why no tapes were made in a run of the book's one session
+abbrev pub IsCompileFaultFrom : (from : Origin) (slots : ℕ) → (first last old new : Option (List ℕ)) → RunFault → Type 0
+IsCompileFaultFrom from slots first last old new f =
+    IsRunFault from slots 1 (IsCompiledFrom from slots) first last old new f
+
 abbrev pub IsCompileRunFault : (slots : ℕ) → (first last old new : Option (List ℕ)) → RunFault → Type 0
-IsCompileRunFault slots first last old new f = IsRunFault slots 1 (IsCompiled slots) first last old new f
+IsCompileRunFault slots first last old new f = IsCompileFaultFrom origin.Book slots first last old new f
 
 -- what is so of a run at any reader and any writer
 abbrev pub IsRunAtEnds : {R W : Type 0} → Result (Unit {0}) RunFault → (held : W → Option (List ℕ))

@@ -2,7 +2,10 @@
 -- sessions side by side. Own.
 use Rattle.std.specs.Prelude.{◌≡◌, ℕ, List, Option, length, All}
 use Rattle.std.specs.List.{flat_map}
-use Rattle.alert_book.specs.Book.{Contents, IsBook}
+use Rattle.alert_book.specs.declared.network.Origin.{Origin}
+use Rattle.alert_book.specs.declared.network.Origin.TheVariants as origin
+use Rattle.alert_book.specs.Book.{Contents}
+use Rattle.alert_book.specs.Origin.{IsBookFrom}
 use Rattle.bsc_table.specs.Record.{Record}
 use Rattle.cbch_blocks.specs.RecordBlocks.{tape_of_record}
 use Rattle.book_runs.specs.Live.{IsLiveRun}
@@ -12,13 +15,13 @@ use Rattle.book_runs.specs.Run.{Exchange}
 use Rattle.warnc_run.specs.declared.fault.RunFault.{RunFault}
 use Rattle.warnc_run.specs.Compiled.{IsRunFault}
 
--- what is written for the octets that were read: they are a book; a run of as many sessions as there are parts gives
--- each cell a record, which shows what the book means; each message that a cell accepted is one that an order of the
--- book had it start, with that order's text, and no other order started one; and these are the tapes of the records, in
--- the order of the book's cells, and nothing else
-pub record IsLive (slots parts : ℕ) (input output : List ℕ) : Type 0 where
+-- what is written for the octets that were read: they are a book, or a network book whose group has one; a run of as
+-- many sessions as there are parts gives each cell a record, which shows what the book means; each message that a cell
+-- accepted is one that an order of the book had it start, with that order's text, and no other order started one; and
+-- these are the tapes of the records, in the order of the book's cells, and nothing else
+pub record IsLiveFrom (from : Origin) (slots parts : ℕ) (input output : List ℕ) : Type 0 where
   pub book : Contents
-  pub is_book : IsBook input book
+  pub is_book : IsBookFrom from input book
   pub sessions : List (List Exchange)
   pub parted : length sessions ≡ parts
   pub records : List Record
@@ -27,6 +30,15 @@ pub record IsLive (slots parts : ℕ) (input output : List ℕ) : Type 0 where
   pub accepted : All (AreThoseStarted book (flat_map (λ (exchanges : List Exchange). exchanges) sessions)) records
   pub written : output ≡ flat_map tape_of_record records
 
--- why no tapes were made of a book in a run with so many sessions
+-- the same of octets that are a book
+abbrev pub IsLive : (slots parts : ℕ) (input output : List ℕ) → Type 0
+IsLive slots parts input output = IsLiveFrom origin.Book slots parts input output
+
+-- why no tapes were made in a run with so many sessions
+abbrev pub IsLiveFaultFrom : (from : Origin) (slots sessions : ℕ) → (first last old new : Option (List ℕ)) → RunFault
+    → Type 0
+IsLiveFaultFrom from slots sessions first last old new f =
+    IsRunFault from slots sessions (IsLiveFrom from slots sessions) first last old new f
+
 abbrev pub IsLiveFault : (slots sessions : ℕ) → (first last old new : Option (List ℕ)) → RunFault → Type 0
-IsLiveFault slots sessions first last old new f = IsRunFault slots sessions (IsLive slots sessions) first last old new f
+IsLiveFault slots sessions first last old new f = IsLiveFaultFrom origin.Book slots sessions first last old new f

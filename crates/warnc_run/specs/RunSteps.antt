@@ -3,7 +3,9 @@ use Rattle.std.specs.Prelude.{◌≡◌, ◌≢◌, ⊤, ℕ, ◌<◌, ◌≤◌
 use Rattle.std.specs.Prelude.{Option, Result, Err, IsOk}
 use Rattle.std.specs.Io.KnownBytes.{Appends}
 use Rattle.std.specs.List.{flat_map}
+use Rattle.alert_book.specs.declared.network.Origin.{Origin}
 use Rattle.alert_book.specs.Book.{Contents}
+use Rattle.alert_book.specs.Origin.{IsBookFrom, LacksGroup, RefusesFrom}
 use Rattle.bsc_table.specs.Record.{Record}
 use Rattle.cbch_blocks.specs.RecordBlocks.{tape_of_record}
 use Rattle.book_runs.specs.Live.{IsLiveRun}
@@ -20,10 +22,21 @@ use Rattle.warnc_run.specs.declared.fault.RunFault.TheVariants as fault
 use Rattle.warnc_run.specs.declared.report_run.ReportRunFault.{ReportRunFault}
 use Rattle.warnc_run.specs.declared.report_run.ReportRunFault.TheVariants as reports
 
+-- a book, or a group's
+abbrev pub IsSomeBook : Contents → Type 0
+IsSomeBook book = (from : Origin) × (input : List ℕ) × IsBookFrom from input book
+
+-- why there is no book to run: the book is refused, or the network has no such group
+abbrev pub HasNoBookToRun : (from : Origin) (old new : Option (List ℕ)) → RunFault → Type 0
+HasNoBookToRun from old new (fault.Book f) = RefusesFrom from old new f
+HasNoBookToRun from old new (fault.NoGroup groups) = LacksGroup from old new groups
+HasNoBookToRun from old new other = ⊥
+
 -- a fault of threads at a desk: the desk's, only if it is out of memory or finds the book of another cell; or the
 -- workers', only if they are out of memory; or of memory
 abbrev pub IsOfRun : RunFault → Type 0
 IsOfRun (fault.Book f) = ⊥
+IsOfRun (fault.NoGroup groups) = ⊥
 IsOfRun (fault.Write failed) = ⊥
 IsOfRun (fault.Settle f) = ⊥
 IsOfRun (fault.Desk f) = IsDeskFault f

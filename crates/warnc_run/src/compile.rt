@@ -3,11 +3,13 @@
 ghost use Rattle.std.specs.Prelude.{◌≡◌, ◌↔◌, IfErr, IsErrOf, OnOk};
 ghost use Rattle.device_ends.specs.Stream.{Between, FaultBetween};
 ghost use Rattle.parallel_compile.specs.declared.fault.CompileFault.TheVariants as compile;
-ghost use Rattle.warnc_run.specs.Compiled.{AreWorkers, IsCompileRunFault, IsCompiled, IsRunAtEnds, Makes};
+ghost use Rattle.warnc_run.specs.Compiled.{AreWorkers, IsCompileFaultFrom, IsCompileRunFault, IsCompiled};
+ghost use Rattle.warnc_run.specs.Compiled.{IsCompiledFrom, IsRunAtEnds, Makes};
 ghost use Rattle.warnc_run.specs.declared.fault.RunFault.TheVariants as faults;
 
 use crate::fault::RunFault;
-use crate::live::live_stream;
+use crate::live::live_from;
+use alert_book::Origin;
 use device_ends::{Sink, Source};
 use order_desk::Open;
 use std::io::{Read, Write};
@@ -46,7 +48,38 @@ pub fn compile_stream<T: AllocGlobal + Threads + Wait + Sync, R: Read, W: Write>
     ensures any_ends { AreWorkers workers
         → IsRunAtEnds result W.contents source.old source.new sink.old sink.new }
 {
+    compile_from(rt, source, sink, Origin::Book, slots, workers)
+}
+
+/// Does for the book that it reads, or for the book of a group of the network book, what
+/// [`compile_stream`](crate::compile_stream) does for a book.
+///
+/// # Errors
+///
+/// Returns the faults of [`live_from`](crate::live_from).
+pub fn compile_from<T: AllocGlobal + Threads + Wait + Sync, R: Read, W: Write>(
+    rt: &T,
+    source: &mut Source<R>,
+    sink: &mut Sink<W>,
+    origin: Origin,
+    slots: u16,
+    workers: u64,
+) -> Result<(), RunFault>
+    ensures ok { OnOk result (Between R.remaining W.contents (Makes (IsCompiledFrom origin slots)) source.old
+        source.new sink.old sink.new) }
+    ensures err { IfErr result (FaultBetween R.remaining W.contents (IsCompileFaultFrom origin slots) source.old
+        source.new sink.old sink.new) }
+
+    // The number of workers is judged first, and nothing is done if it is wrong.
+    ensures workers { IsErrOf result (faults.Compile compile.Workers) ↔ (AreWorkers workers → ⊥) }
+    ensures untried { IsErrOf result (faults.Compile compile.Workers)
+        → (source.new ≡ source.old) × (sink.new ≡ sink.old) }
+
+    // At any reader and any writer.
+    ensures any_ends { AreWorkers workers
+        → IsRunAtEnds result W.contents source.old source.new sink.old sink.new }
+{
     // A run of one session is a run of the book.
     book_runs::session_laws();
-    live_stream(rt, source, sink, slots, 1, workers, &Open)
+    live_from(rt, source, sink, origin, slots, 1, workers, &Open)
 }

@@ -16,6 +16,9 @@ pub enum RunFault {
     /// The book can't be read, or is refused.
     #[error("{0}")]
     Book(BookFault),
+    /// The network book has this many groups, numbered from 0, and the one that is asked for isn't among them.
+    #[error("no such group: the network has {0}")]
+    NoGroup(u16),
     /// The desk ended an order of a session: it was out of memory, or found the book of another cell in a lock.
     #[error("{0}")]
     Desk(DeskFault),

@@ -4,14 +4,15 @@ ghost use Rattle.std.specs.Prelude.{◌≡◌, ◌↔◌, ◌<◌, ◌≤◌, If
 ghost use Rattle.device_ends.specs.Stream.{Between, FaultBetween};
 ghost use Rattle.parallel_compile.specs.declared.fault.CompileFault.TheVariants as compile;
 ghost use Rattle.warnc_run.specs.Compiled.{AreWorkers, IsRunAtEnds, Makes};
-ghost use Rattle.warnc_run.specs.Live.{IsLive, IsLiveFault};
+ghost use Rattle.warnc_run.specs.Live.{IsLive, IsLiveFault, IsLiveFaultFrom, IsLiveFrom};
 ghost use Rattle.warnc_run.specs.declared.fault.RunFault.TheVariants as faults;
 
+use crate::book::book_from;
 use crate::counts::{Sessions, Workers};
 use crate::fault::RunFault;
 use crate::finish::write_tapes;
 use crate::tapes::tapes_of_book;
-use alert_book::read_book;
+use alert_book::Origin;
 use device_ends::{Sink, Source};
 use order_desk::Gate;
 use parallel_compile::CompileFault;
@@ -68,15 +69,56 @@ pub fn live_stream<T: AllocGlobal + Threads + Wait + Sync, R: Read, W: Write, G:
     ensures any_ends { AreWorkers workers
         → IsRunAtEnds result W.contents source.old source.new sink.old sink.new }
 {
+    live_from(
+        rt,
+        source,
+        sink,
+        Origin::Book,
+        slots,
+        sessions,
+        workers,
+        gate,
+    )
+}
+
+/// Does for the book that it reads, or for the book of a group of the network book, what
+/// [`live_stream`](crate::live_stream) does for a book.
+///
+/// # Errors
+///
+/// Returns the faults of [`live_stream`](crate::live_stream), and [`RunFault::NoGroup`] with nothing written.
+pub fn live_from<T: AllocGlobal + Threads + Wait + Sync, R: Read, W: Write, G: Gate>(
+    rt: &T,
+    source: &mut Source<R>,
+    sink: &mut Sink<W>,
+    origin: Origin,
+    slots: u16,
+    sessions: u16,
+    workers: u64,
+    gate: &G,
+) -> Result<(), RunFault>
+    requires some { 0 < sessions }
+    requires few { sessions ≤ 64 }
+    ensures ok { OnOk result (Between R.remaining W.contents (Makes (IsLiveFrom origin slots sessions)) source.old
+        source.new sink.old sink.new) }
+    ensures err { IfErr result (FaultBetween R.remaining W.contents (IsLiveFaultFrom origin slots sessions) source.old
+        source.new sink.old sink.new) }
+
+    // The number of workers is judged first, and nothing is done if it is wrong.
+    ensures workers { IsErrOf result (faults.Compile compile.Workers) ↔ (AreWorkers workers → ⊥) }
+    ensures untried { IsErrOf result (faults.Compile compile.Workers)
+        → (source.new ≡ source.old) × (sink.new ≡ sink.old) }
+
+    // At any reader and any writer.
+    ensures any_ends { AreWorkers workers
+        → IsRunAtEnds result W.contents source.old source.new sink.old sink.new }
+{
     // A handset is shown what the book means, whatever the cells answered, and whichever session came first.
     book_runs::session_laws();
     let Some(workers) = Workers::new(workers) else {
         return Err(RunFault::Compile(CompileFault::Workers));
     };
-    let book = match read_book(rt, source) {
-        Ok(book) => book,
-        Err(fault) => return Err(RunFault::Book(fault)),
-    };
+    let book = book_from(rt, source, origin)?;
     let sessions = Sessions { number: sessions };
     let tapes = tapes_of_book(rt, &book, slots, sessions, workers, gate)?;
     match write_tapes(&tapes, sink) {

@@ -9,10 +9,11 @@ ghost use Rattle.warnc_run.specs.Compiled.{AreWorkers};
 ghost use Rattle.warnc_run.specs.Records.{HasRunBook, IsRecordsFault};
 ghost use Rattle.warnc_run.specs.declared.fault.RunFault.TheVariants as faults;
 
+use crate::book::book_from;
 use crate::counts::Workers;
 use crate::fault::RunFault;
 use crate::tapes::records_of_book;
-use alert_book::read_book;
+use alert_book::Origin;
 use bsc_table::CellRecord;
 use device_ends::Source;
 use parallel_compile::CompileFault;
@@ -20,23 +21,24 @@ use std::io::Read;
 use std::sync::Wait;
 use std::thread::Threads;
 
-/// Reads a book, has the cells of a desk carry out what its one session orders, in runs of `slots` slots, as
-/// [`compile_stream`](crate::compile_stream) does, and returns the records of the cells, in the order of the book.
-/// `workers` workers, 1 to 64, play the cells; the records don't depend on their number.
+/// Reads a book, or a network book for a group, has the cells of a desk carry out what the book's one session orders,
+/// in runs of `slots` slots, as [`compile_from`](crate::compile_from) does, and returns the records of the cells, in the
+/// order of the book. `workers` workers, 1 to 64, play the cells; the records don't depend on their number.
 ///
 /// # Errors
 ///
-/// Returns the faults of [`compile_stream`](crate::compile_stream) but [`RunFault::Write`] and [`CompileFault::Piece`].
+/// Returns the faults of [`compile_from`](crate::compile_from) but [`RunFault::Write`] and [`CompileFault::Piece`].
 pub fn run_book<T: AllocGlobal + Threads + Wait + Sync, R: Read>(
     rt: &T,
     source: &mut Source<R>,
+    origin: Origin,
     slots: u16,
     workers: u64,
 ) -> Result<Vec<CellRecord>, RunFault>
     ensures ok { IfOk result (λ records.
-        Reads R.remaining (λ first last. HasRunBook slots first last records.items) source.old source.new) }
+        Reads R.remaining (λ first last. HasRunBook origin slots first last records.items) source.old source.new) }
     ensures err { IfErr result (λ fault.
-        Reads R.remaining (λ first last. IsRecordsFault slots first last fault) source.old source.new) }
+        Reads R.remaining (λ first last. IsRecordsFault origin slots first last fault) source.old source.new) }
 
     // The number of workers is judged first, and nothing is done if it is wrong.
     ensures workers { IsErrOf result (faults.Compile compile.Workers) ↔ (AreWorkers workers → ⊥) }
@@ -54,8 +56,6 @@ pub fn run_book<T: AllocGlobal + Threads + Wait + Sync, R: Read>(
     let Some(workers) = Workers::new(workers) else {
         return Err(RunFault::Compile(CompileFault::Workers));
     };
-    match read_book(rt, source) {
-        Ok(book) => records_of_book(rt, &book, slots, workers),
-        Err(fault) => Err(RunFault::Book(fault)),
-    }
+    let book = book_from(rt, source, origin)?;
+    records_of_book(rt, &book, slots, workers)
 }

@@ -2,26 +2,27 @@
 
 ghost use Rattle.std.specs.Prelude.{◌≡◌, ◌↔◌, ◌≤◌, ◌++◌, ℕ, List, length, map, All, IfErr, IfOk, IsErrOf, OnOk};
 ghost use Rattle.device_ends.specs.Stream.{Between, FaultBetween};
-ghost use Rattle.alert_book.specs.Book.{IsBook};
 ghost use Rattle.cbch_blocks.specs.RecordBlocks.{tape_of_record};
 ghost use Rattle.handset.specs.Tape.{readings_of, IsTape};
 ghost use Rattle.parallel_compile.specs.declared.fault.CompileFault.TheVariants as compile;
 ghost use Rattle.warnc_run.specs.Compiled.{AreWorkers, Makes};
-ghost use Rattle.warnc_run.specs.Reported.{reading_of_record, IsReportAtEnds, IsReportFault, IsReported};
-ghost use Rattle.warnc_run.specs.RunSteps.{AreReadings, AreReportRows, IsOfBookReport, IsOfReport};
+ghost use Rattle.warnc_run.specs.Reported.{is_headed, reading_of_record, IsReportAtEnds, IsReportFault};
+ghost use Rattle.warnc_run.specs.Reported.{IsReportFaultFrom, IsReported, IsReportedFrom};
+ghost use Rattle.warnc_run.specs.RunSteps.{AreReadings, AreReportRows, IsOfBookReport, IsOfReport, IsSomeBook};
 ghost use Rattle.warnc_run.specs.declared.fault.RunFault.TheVariants as faults;
 ghost use Rattle.warnc_run.specs.declared.report_run.ReportRunFault.TheVariants as reports;
 
+use crate::book::book_from;
 use crate::counts::Workers;
 use crate::fault::RunFault;
 use crate::tapes::records_of_book;
-use alert_book::{Book, read_book};
+use alert_book::{Book, Origin};
 use bsc_table::CellRecord;
 use device_ends::{Sink, Source};
 use handset::{Reading, read_tape};
 use order_desk::Open;
 use parallel_compile::{CompileFault, compile_all};
-use report::{ReportFault, Row, rows, write_report};
+use report::{ReportFault, Row, rows, write_part};
 use std::alloc::{AllocError, AllocFailed};
 use std::io::{Read, Write};
 use std::sync::Wait;
@@ -106,6 +107,38 @@ pub fn report_stream<T: AllocGlobal + Threads + Wait + Sync, R: Read, W: Write>(
     ensures any_ends { AreWorkers workers
         → IsReportAtEnds result W.contents source.old source.new sink.old sink.new }
 {
+    report_from(rt, source, sink, Origin::Book, slots, workers)
+}
+
+/// Does for the book that it reads, or for the book of a group of the network book, what
+/// [`report_stream`](crate::report_stream) does for a book. The line of the columns' names is left out for a group that
+/// isn't the first, so that the reports of all groups, joined in order, are the network's.
+///
+/// # Errors
+///
+/// Returns the faults of [`report_stream`](crate::report_stream), and [`RunFault::NoGroup`] with nothing written.
+pub fn report_from<T: AllocGlobal + Threads + Wait + Sync, R: Read, W: Write>(
+    rt: &T,
+    source: &mut Source<R>,
+    sink: &mut Sink<W>,
+    origin: Origin,
+    slots: u16,
+    workers: u64,
+) -> Result<(), ReportRunFault>
+    ensures ok { OnOk result (Between R.remaining W.contents (Makes (IsReportedFrom origin slots)) source.old
+        source.new sink.old sink.new) }
+    ensures err { IfErr result (FaultBetween R.remaining W.contents (IsReportFaultFrom origin slots) source.old
+        source.new sink.old sink.new) }
+
+    // The number of workers is judged first, and nothing is done if it is wrong.
+    ensures workers { IsErrOf result (reports.Run (faults.Compile compile.Workers)) ↔ (AreWorkers workers → ⊥) }
+    ensures untried { IsErrOf result (reports.Run (faults.Compile compile.Workers))
+        → (source.new ≡ source.old) × (sink.new ≡ sink.old) }
+
+    // At any reader and any writer.
+    ensures any_ends { AreWorkers workers
+        → IsReportAtEnds result W.contents source.old source.new sink.old sink.new }
+{
     // A handset is shown what the book means, whatever the cells answered.
     book_runs::run_laws();
     book_runs::order_laws();
@@ -113,14 +146,21 @@ pub fn report_stream<T: AllocGlobal + Threads + Wait + Sync, R: Read, W: Write>(
     let Some(workers) = Workers::new(workers) else {
         return Err(ReportRunFault::Run(RunFault::Compile(CompileFault::Workers)));
     };
-    let book = match read_book(rt, source) {
-        Ok(book) => book,
-        Err(fault) => return Err(ReportRunFault::Run(RunFault::Book(fault))),
-    };
+    let book = book_from(rt, source, origin)?;
     let rows = rows_of_book(rt, book, slots, workers)?;
-    match write_report(rt.alloc(), &rows, sink) {
+    match write_part(rt.alloc(), is_headed(origin), &rows, sink) {
         Ok(()) => Ok(()),
         Err(fault) => Err(ReportRunFault::Report(fault)),
+    }
+}
+
+/// Whether the line of the columns' names stands over the report.
+fn is_headed(origin: Origin) -> bool
+    ensures { result ≡ is_headed origin }
+{
+    match origin {
+        Origin::Book => true,
+        Origin::Group(group) => group == 0,
     }
 }
 
@@ -131,7 +171,7 @@ pub(crate) fn readings_of_book<T: AllocGlobal + Threads + Wait + Sync>(
     slots: u16,
     workers: Workers,
 ) -> Result<(Vec<CellRecord>, Vec<Reading>), ReportRunFault>
-    requires book { (input : List ℕ) × IsBook input book }
+    requires book { IsSomeBook book }
     ensures ok { IfOk result (λ both. AreReadings book slots both.0.items (readings_of both.1.items)) }
     ensures err { IfErr result (IsOfBookReport book slots) }
 {
@@ -151,7 +191,7 @@ fn rows_of_book<T: AllocGlobal + Threads + Wait + Sync>(
     slots: u16,
     workers: Workers,
 ) -> Result<Vec<Row>, ReportRunFault>
-    requires book { (input : List ℕ) × IsBook input book }
+    requires book { IsSomeBook book }
     ensures ok { IfOk result (λ rows. AreReportRows book slots rows.items) }
     ensures err { IfErr result (IsOfBookReport book slots) }
 {

@@ -1,8 +1,7 @@
 //! The sessions of a book's parts, side by side.
 
 ghost use Rattle.std.specs.Prelude.{◌≡◌, ◌⊎◌, ◌<◌, ℕ, map, vec_len, All, IfErr, IfOk, List};
-ghost use Rattle.alert_book.specs.Book.{IsBook};
-ghost use Rattle.warnc_run.specs.RunSteps.{IsFirstUserFault, IsOfRun};
+ghost use Rattle.warnc_run.specs.RunSteps.{IsFirstUserFault, IsOfRun, IsSomeBook};
 ghost use Rattle.warnc_run.specs.declared.fault.RunFault.TheVariants as faults;
 
 use crate::counts::Sessions;
@@ -52,7 +51,7 @@ fn run_part<T: AllocGlobal + Wait, G: Gate>(
     gate: &G,
 ) -> UserEnd
     requires part { job.part < parts }
-    requires book { (input : List ℕ) × IsBook input book.now }
+    requires book { IsSomeBook book.now }
     ensures { IfErr result.done IsOfRun }
 {
     let SessionJob { part, mut pass } = job;
@@ -92,7 +91,7 @@ pub(crate) fn run_sessions<T: AllocGlobal + Threads + Wait + Sync, G: Gate>(
     sessions: Sessions,
     gate: &G,
 ) -> Result<Vec<Pass>, RunFault>
-    requires { (input : List ℕ) × IsBook input book.now }
+    requires { IsSomeBook book.now }
     ensures ok { IfOk result (λ passes. vec_len passes ≡ sessions.number) }
     ensures err { IfErr result IsOfRun }
 {
@@ -103,7 +102,7 @@ pub(crate) fn run_sessions<T: AllocGlobal + Threads + Wait + Sync, G: Gate>(
         jobs,
         &|job: SessionJob| -> UserEnd
             requires part { job.part < parts }
-            requires book { (input : List ℕ) × IsBook input book.now }
+            requires book { IsSomeBook book.now }
             ensures { IfErr result.done IsOfRun }
         { run_part(rt, book, parts, desk, job, gate) },
     )?;

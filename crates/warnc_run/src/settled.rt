@@ -1,9 +1,8 @@
 //! The end of a run at a desk: its settlement with the passes of the sessions.
 
 ghost use Rattle.std.specs.Prelude.{◌≡◌, ◌≤◌, ℕ, List, length, IfErr, IfOk};
-ghost use Rattle.alert_book.specs.Book.{IsBook};
 ghost use Rattle.book_runs.specs.Live.{IsLiveRun};
-ghost use Rattle.warnc_run.specs.RunSteps.{HaveRunLive, IsOfBook};
+ghost use Rattle.warnc_run.specs.RunSteps.{HaveRunLive, IsOfBook, IsSomeBook};
 
 use crate::counts::Sessions;
 use crate::fault::RunFault;
@@ -27,7 +26,7 @@ pub(crate) fn settled_records(
     sessions: Sessions,
     passes: &[Pass],
 ) -> Result<Vec<CellRecord>, RunFault>
-    requires book { (input : List ℕ) × IsBook input book.now }
+    requires book { IsSomeBook book.now }
     requires cells { desk.cells ≡ book.now.cells }
     requires passes { sessions.number ≤ length passes.now }
     ensures ok { IfOk result (λ records. HaveRunLive book.now desk.slots sessions.number records.items) }

@@ -1,8 +1,7 @@
 //! From a book to the tapes and to the records of its cells.
 
 ghost use Rattle.std.specs.Prelude.{ℕ, List, IfErr, IfOk};
-ghost use Rattle.alert_book.specs.Book.{IsBook};
-ghost use Rattle.warnc_run.specs.RunSteps.{AreTapesOf, HaveRunLive, IsOfBook, IsOfTapes};
+ghost use Rattle.warnc_run.specs.RunSteps.{AreTapesOf, HaveRunLive, IsOfBook, IsOfTapes, IsSomeBook};
 
 use crate::counts::{Sessions, Workers};
 use crate::fault::RunFault;
@@ -28,7 +27,7 @@ pub(crate) fn tapes_of_book<T: AllocGlobal + Threads + Wait + Sync, G: Gate>(
     workers: Workers,
     gate: &G,
 ) -> Result<Vec<Tape>, RunFault>
-    requires book { (input : List ℕ) × IsBook input book.now }
+    requires book { IsSomeBook book.now }
     ensures ok { IfOk result (λ tapes. AreTapesOf book.now slots sessions.number tapes.items) }
     ensures err { IfErr result (IsOfTapes book.now slots sessions.number) }
 {
@@ -50,7 +49,7 @@ pub(crate) fn records_of_book<T: AllocGlobal + Threads + Wait + Sync>(
     slots: u16,
     workers: Workers,
 ) -> Result<Vec<CellRecord>, RunFault>
-    requires book { (input : List ℕ) × IsBook input book.now }
+    requires book { IsSomeBook book.now }
     ensures ok { IfOk result (λ records. HaveRunLive book.now slots 1 records.items) }
     ensures err { IfErr result (IsOfBook book.now slots 1) }
 {

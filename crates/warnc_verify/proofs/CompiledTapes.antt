@@ -10,6 +10,7 @@ use Rattle.std.proofs.lemmas.List.{length-append, length-map}
 use Rattle.std.proofs.lemmas.List.Concat.{flat_map-cons}
 use Rattle.std.proofs.lemmas.List.Elements.{recursion_from_All}
 use Rattle.std.proofs.lemmas.List.Sorted.{IsPermutation-refl}
+use Rattle.alert_book.specs.declared.network.Origin.{Origin}
 use Rattle.alert_book.specs.Laws.{CellsAreValid}
 use Rattle.bsc_table.specs.Record.{Record}
 use Rattle.cbch_blocks.specs.RecordBlocks.{tape_of_record}
@@ -18,8 +19,8 @@ use Rattle.cbsp_wire.specs.Range.{are_distinct, cells_are_valid}
 use Rattle.handset.specs.Recording.{AreJoinedRecordings, AreRecordings, HoldsRecording}
 use Rattle.verification_laws.specs.OwnTapes.{AreOwnTapes, OwnTapesHaveNoRows, recording_of}
 use Rattle.verification_laws.specs.Recorded.{RecordsAreRecorded}
-use Rattle.warnc_run.specs.Compiled.{IsCompiled}
-use Rattle.warnc_run.specs.Records.{AreRecordsOf}
+use Rattle.warnc_run.specs.Compiled.{IsCompiledFrom}
+use Rattle.warnc_run.specs.Records.{AreRecordsFrom}
 use Rattle.warnc_verify.specs.Laws.{CompiledDiffersNowhere}
 
 -- the tapes of records are their recordings, one after another
@@ -36,30 +37,33 @@ joined (r ∷ records) all = (
 )
 
 -- the records of a book's run
-cells-of : (slots : ℕ) (input output : List ℕ) (compiled : IsCompiled slots input output) → CellsAreValid →
+cells-of : (from : Origin) (slots : ℕ) (input output : List ℕ) (compiled : IsCompiledFrom from slots input output)
+    → CellsAreValid →
     (length (map (λ (r : Record). r.cell) compiled.records) ≤ 64)
     × (are_distinct (map (λ (r : Record). r.cell) compiled.records) ≡ true)
-cells-of slots input output compiled valid =
+cells-of from slots input output compiled valid =
     let cells : List Cell = map (λ (r : Record). r.cell) compiled.records in
     let says : cells_are_valid (map (λ (r : Record). r.cell) compiled.records) ≡ true =
-    ap cells_are_valid compiled.run.cells ∙ valid input compiled.book compiled.is_book in
+    ap cells_are_valid compiled.run.cells ∙ valid from input compiled.book compiled.is_book in
     let parts = and_parts (nat_le (length (map (λ (r : Record). r.cell) compiled.records)) 64)
     (are_distinct (map (λ (r : Record). r.cell) compiled.records)) says in
     (leb-true (length (map (λ (r : Record). r.cell) compiled.records)) 64 parts.0, parts.1)
 
-own-tapes : (slots : ℕ) (input output : List ℕ) (compiled : IsCompiled slots input output) → CellsAreValid →
+own-tapes : (from : Origin) (slots : ℕ) (input output : List ℕ) (compiled : IsCompiledFrom from slots input output)
+    → CellsAreValid →
     AreOwnTapes compiled.records (map recording_of compiled.records)
-own-tapes slots input output compiled valid = record {
+own-tapes from slots input output compiled valid = record {
   legal = λ k d within. (compiled.run.each k d within).legal;
   ended = λ k d within. (compiled.run.each k d within).over ∙ sym (compiled.run.each k d within).run;
-  distinct = (cells-of slots input output compiled valid).1;
+  distinct = (cells-of from slots input output compiled valid).1;
   own = IsPermutation-refl (map recording_of compiled.records);
 }
 
-recordings : (slots : ℕ) (input output : List ℕ) (compiled : IsCompiled slots input output) → slots ≤ 65535 →
+recordings : (from : Origin) (slots : ℕ) (input output : List ℕ) (compiled : IsCompiledFrom from slots input output)
+    → slots ≤ 65535 →
     CellsAreValid → RecordsAreRecorded → AreRecordings output (map recording_of compiled.records)
-recordings slots input output compiled few valid recorded =
-    let cells = (cells-of slots input output compiled valid).0 in
+recordings from slots input output compiled few valid recorded =
+    let cells = (cells-of from slots input output compiled valid).0 in
     record {
       joined = subst (λ octets. AreJoinedRecordings octets (map recording_of compiled.records)) (sym compiled.written)
           (joined compiled.records
@@ -78,11 +82,11 @@ recordings slots input output compiled few valid recorded =
 
 -- the tapes of a compiled book have no difference from it
 pub compiled-differs-nowhere : CellsAreValid → RecordsAreRecorded → OwnTapesHaveNoRows → CompiledDiffersNowhere
-compiled-differs-nowhere valid recorded rows slots input output few compiled = (
+compiled-differs-nowhere valid recorded rows from slots input output few compiled = (
   record {
     long = omega (arith, length-append input output);
     records = compiled.records;
-    run = subst (λ octets. AreRecordsOf slots octets compiled.records) (sym (take-append_seam input output))
+    run = subst (λ octets. AreRecordsFrom from slots octets compiled.records) (sym (take-append_seam input output))
         (record {
           book = compiled.book;
           is_book = compiled.is_book;
@@ -93,9 +97,9 @@ compiled-differs-nowhere valid recorded rows slots input output few compiled = (
         });
     tapes = map recording_of compiled.records;
     tapes_are = subst (λ octets. AreRecordings octets (map recording_of compiled.records))
-        (sym (drop-append_seam input output)) (recordings slots input output compiled few valid recorded);
+        (sym (drop-append_seam input output)) (recordings from slots input output compiled few valid recorded);
     rows_are = rows compiled.records (map recording_of compiled.records)
-        (own-tapes slots input output compiled valid);
+        (own-tapes from slots input output compiled valid);
   },
   refl,
 )

@@ -5,6 +5,7 @@ use Rattle.std.proofs.Common.{length, take, drop, refl, sym, ap, ◌∙◌, subs
 use Rattle.std.proofs.Math.Seq.{drop-append_seam, take-append_seam}
 use Rattle.std.proofs.lemmas.List.{length-append}
 use Rattle.std.specs.Io.KnownBytes.{Appends, Consumes, IsAtEnd, Keeps}
+use Rattle.alert_book.specs.declared.network.Origin.{Origin}
 use Rattle.device_ends.specs.Moves.{WritesOutput}
 use Rattle.handset.specs.Recording.{AreRecordings}
 use Rattle.handset.specs.Tape.{IsTapesFault}
@@ -13,7 +14,7 @@ use Rattle.handset.specs.declared.tape.TapeFault.TheVariants as tape
 use Rattle.bsc_table.specs.Record.{Record}
 use Rattle.verification.specs.RowText.{rows_text}
 use Rattle.verification.specs.declared.row.Row.{Row}
-use Rattle.warnc_run.specs.Records.{AreRecordsOf, HasRunBook}
+use Rattle.warnc_run.specs.Records.{AreRecordsFrom, HasRunBook}
 use Rattle.warnc_verify.specs.Input.{DiffersBy, HasDifferences, IsInputFault, IsTableOf, IsTapesPartFault, IsVerified}
 use Rattle.warnc_verify.specs.Verified.{Readers, Finds, FindsAndWrites, IsBookFault, IsDifference, IsVerifyFault}
 use Rattle.warnc_verify.specs.Verified.{RunsBook, HasWritten}
@@ -40,12 +41,12 @@ fits : (book rest : List ℕ) (count : ℕ) → length book ≡ count → count 
 fits book rest count long = omega (arith, long, length-append book rest)
 
 -- a book whose octets were read has a run with these records
-run_of : (slots : ℕ) (book rest : List ℕ) (count : ℕ) (last : Option (List ℕ)) (records : List Record)
+run_of : (from : Origin) (slots : ℕ) (book rest : List ℕ) (count : ℕ) (last : Option (List ℕ)) (records : List Record)
     → length book ≡ count
-    → HasRunBook slots (Some book) last records
-    → AreRecordsOf slots (take count (book ++ rest)) records
-run_of slots book rest count last records long run =
-    subst (λ (octets : List ℕ). AreRecordsOf slots octets records)
+    → HasRunBook from slots (Some book) last records
+    → AreRecordsFrom from slots (take count (book ++ rest)) records
+run_of from slots book rest count last records long run =
+    subst (λ (octets : List ℕ). AreRecordsFrom from slots octets records)
     (whole book run.input last run.read run.ended ∙ sym (front_is book rest count long)) run.made
 
 -- the readers of the two parts
@@ -54,23 +55,25 @@ pub record ArePartsOf (count : ℕ) (first : Option (List ℕ)) (ends : Readers)
   pub long : length book ≡ count
   pub read : Consumes first ends.tapes_first book
 
-runs : (slots count : ℕ) (first : Option (List ℕ)) (ends : Readers) (book rest : List ℕ) (records : List Record)
+runs : (from : Origin) (slots count : ℕ) (first : Option (List ℕ)) (ends : Readers) (book rest : List ℕ)
+    (records : List Record)
     → ArePartsOf count first ends book
-    → RunsBook slots ends records
-    → AreRecordsOf slots (take count (book ++ rest)) records
-runs slots count first ends book rest records parts run =
-    run_of slots book rest count ends.book_last records parts.long
-    (subst (λ (front : Option (List ℕ)). HasRunBook slots front ends.book_last records) parts.book_is run)
+    → RunsBook from slots ends records
+    → AreRecordsFrom from slots (take count (book ++ rest)) records
+runs from slots count first ends book rest records parts run =
+    run_of from slots book rest count ends.book_last records parts.long
+    (subst (λ (front : Option (List ℕ)). HasRunBook from slots front ends.book_last records) parts.book_is run)
 
-differs : (slots count : ℕ) (first : Option (List ℕ)) (ends : Readers) (book rest : List ℕ) (rows : List Row)
+differs : (from : Origin) (slots count : ℕ) (first : Option (List ℕ)) (ends : Readers) (book rest : List ℕ)
+    (rows : List Row)
     → ArePartsOf count first ends book
-    → (finds : Finds slots ends rows)
+    → (finds : Finds from slots ends rows)
     → AreRecordings rest finds.tapes
-    → DiffersBy slots count rows (book ++ rest)
-differs slots count first ends book rest rows parts finds tapes = record {
+    → DiffersBy from slots count rows (book ++ rest)
+differs from slots count first ends book rest rows parts finds tapes = record {
   long = fits book rest count parts.long;
   records = finds.records;
-  run = runs slots count first ends book rest finds.records parts finds.run;
+  run = runs from slots count first ends book rest finds.records parts finds.run;
   tapes = finds.tapes;
   tapes_are = subst (λ (octets : List ℕ). AreRecordings octets finds.tapes)
       (sym (back_is book rest count parts.long)) tapes;
@@ -90,17 +93,18 @@ known : (P : List ℕ → Type 0) (octets : Option (List ℕ)) (left : List ℕ)
 known P octets left is holds = subst (λ (o : Option (List ℕ)). IfSome o P) is holds
 
 -- a table of rows that were found is one of the input
-pub table_of_input : (slots count : ℕ) (first old new : Option (List ℕ)) (ends : Readers) (book : List ℕ)
+pub table_of_input : (from : Origin) (slots count : ℕ) (first old new : Option (List ℕ)) (ends : Readers)
+    (book : List ℕ)
     (rows : List Row)
     → ArePartsOf count first ends book
-    → FindsAndWrites slots ends old new rows
-    → WritesOutput (IsTableOf slots count rows) first old new
-table_of_input slots count first old new ends book rows parts wrote =
+    → FindsAndWrites from slots ends old new rows
+    → WritesOutput (IsTableOf from slots count rows) first old new
+table_of_input from slots count first old new ends book rows parts wrote =
     let finds = wrote.0 in record {
       of_input = of_whole _ first ends.tapes_first book parts.read (λ left is. (
         rows_text rows,
         (
-          differs slots count first ends book left rows parts finds
+          differs from slots count first ends book left rows parts finds
               (known (λ (octets : List ℕ). AreRecordings octets finds.tapes) ends.tapes_first left is finds.of_input),
           refl,
         ),
@@ -109,7 +113,7 @@ table_of_input slots count first old new ends book rows parts wrote =
       of_some = (
         book ++ finds.of_some.0,
         rows_text rows,
-        (differs slots count first ends book finds.of_some.0 rows parts finds finds.of_some.1, refl),
+        (differs from slots count first ends book finds.of_some.0 rows parts finds finds.of_some.1, refl),
         wrote.1,
       );
     }
@@ -130,76 +134,79 @@ wider P Q first old new all wrote = record {
     wider_if (Some octets) is = (is.0, all _ _ is.1, is.2)
 
 -- and so is one of differences
-pub differences_of_input : (slots count : ℕ) (first old new : Option (List ℕ)) (ends : Readers) (book : List ℕ)
+pub differences_of_input : (from : Origin) (slots count : ℕ) (first old new : Option (List ℕ)) (ends : Readers)
+    (book : List ℕ)
     (fault : VerifyFault)
     → ArePartsOf count first ends book
-    → IsVerifyFault slots ends old new fault
+    → IsVerifyFault from slots ends old new fault
     → IsDifference fault
-    → WritesOutput (HasDifferences slots count) first old new
-differences_of_input slots count first old new ends book (faults.Differences n) parts why is =
-    wider (IsTableOf slots count why.0) (HasDifferences slots count) first old new
+    → WritesOutput (HasDifferences from slots count) first old new
+differences_of_input from slots count first old new ends book (faults.Differences n) parts why is =
+    wider (IsTableOf from slots count why.0) (HasDifferences from slots count) first old new
     (λ input output table. (why.0, table, omega (arith, why.2, why.3)))
-    (table_of_input slots count first old new ends book why.0 parts why.1)
-differences_of_input slots count first old new ends book (faults.Run f) parts why is = absurd is
-differences_of_input slots count first old new ends book faults.ShortBook parts why is = absurd is
-differences_of_input slots count first old new ends book (faults.Tapes f) parts why is = absurd is
-differences_of_input slots count first old new ends book faults.Refused parts why is = absurd is
-differences_of_input slots count first old new ends book faults.WriteFailed parts why is = absurd is
+    (table_of_input from slots count first old new ends book why.0 parts why.1)
+differences_of_input from slots count first old new ends book (faults.Run f) parts why is = absurd is
+differences_of_input from slots count first old new ends book faults.ShortBook parts why is = absurd is
+differences_of_input from slots count first old new ends book (faults.Tapes f) parts why is = absurd is
+differences_of_input from slots count first old new ends book faults.Refused parts why is = absurd is
+differences_of_input from slots count first old new ends book faults.WriteFailed parts why is = absurd is
 
 -- a fault of the tapes is one of the input's
-tapes_fault : (slots count : ℕ) (first : Option (List ℕ)) (ends : Readers) (book left : List ℕ) (f : TapeFault)
+tapes_fault : (from : Origin) (slots count : ℕ) (first : Option (List ℕ)) (ends : Readers) (book left : List ℕ)
+    (f : TapeFault)
     (records : List Record)
     → ArePartsOf count first ends book
-    → RunsBook slots ends records
+    → RunsBook from slots ends records
     → IsTapesFault left f
-    → IsTapesPartFault slots count (book ++ left) f
-tapes_fault slots count first ends book left tape.ReadFailed records parts run why = tt
-tapes_fault slots count first ends book left tape.Short records parts run why = (
+    → IsTapesPartFault from slots count (book ++ left) f
+tapes_fault from slots count first ends book left tape.ReadFailed records parts run why = tt
+tapes_fault from slots count first ends book left tape.Short records parts run why = (
   records,
   fits book left count parts.long,
-  runs slots count first ends book left records parts run,
+  runs from slots count first ends book left records parts run,
   subst (λ (octets : List ℕ). IsTapesFault octets tape.Short) (sym (back_is book left count parts.long)) why,
 )
-tapes_fault slots count first ends book left tape.Long records parts run why = (
+tapes_fault from slots count first ends book left tape.Long records parts run why = (
   records,
   fits book left count parts.long,
-  runs slots count first ends book left records parts run,
+  runs from slots count first ends book left records parts run,
   subst (λ (octets : List ℕ). IsTapesFault octets tape.Long) (sym (back_is book left count parts.long)) why,
 )
-tapes_fault slots count first ends book left tape.Refused records parts run why = (
+tapes_fault from slots count first ends book left tape.Refused records parts run why = (
   records,
   fits book left count parts.long,
-  runs slots count first ends book left records parts run,
+  runs from slots count first ends book left records parts run,
   tt,
 )
 
 -- and so is any
-pub fault_of_input : (slots count : ℕ) (first old new : Option (List ℕ)) (ends : Readers) (book : List ℕ)
+pub fault_of_input : (from : Origin) (slots count : ℕ) (first old new : Option (List ℕ)) (ends : Readers)
+    (book : List ℕ)
     (fault : VerifyFault)
     → ArePartsOf count first ends book
-    → IsVerifyFault slots ends old new fault
+    → IsVerifyFault from slots ends old new fault
     → ((HasWritten fault → ⊥) → Keeps old new)
-    → IfSome first (λ input. IsInputFault slots count input old new fault)
-fault_of_input slots count first old new ends book (faults.Run f) parts why kept =
+    → IfSome first (λ input. IsInputFault from slots count input old new fault)
+fault_of_input from slots count first old new ends book (faults.Run f) parts why kept =
     of_whole _ first ends.tapes_first book parts.read (λ left is. (
       ends.book_last,
-      subst (λ (octets : Option (List ℕ)). IsBookFault slots octets ends.book_last f)
+      subst (λ (octets : Option (List ℕ)). IsBookFault from slots octets ends.book_last f)
           (parts.book_is ∙ ap (λ (octets : List ℕ). Some octets) (sym (front_is book left count parts.long))) why,
       kept (λ w. w),
     ))
-fault_of_input slots count first old new ends book faults.ShortBook parts why kept = absurd why
-fault_of_input slots count first old new ends book (faults.Tapes f) parts why kept =
+fault_of_input from slots count first old new ends book faults.ShortBook parts why kept = absurd why
+fault_of_input from slots count first old new ends book (faults.Tapes f) parts why kept =
     of_whole _ first ends.tapes_first book parts.read (λ left is. (
-      tapes_fault slots count first ends book left f why.0 parts why.1
+      tapes_fault from slots count first ends book left f why.0 parts why.1
           (known (λ (octets : List ℕ). IsTapesFault octets f) ends.tapes_first left is why.2),
       kept (λ w. w),
     ))
-fault_of_input slots count first old new ends book (faults.Differences n) parts why kept =
+fault_of_input from slots count first old new ends book (faults.Differences n) parts why kept =
     of_whole _ first ends.tapes_first book parts.read (λ left is. (
       why.0,
       rows_text why.0,
       (
-        differs slots count first ends book left why.0 parts why.1.0
+        differs from slots count first ends book left why.0 parts why.1.0
             (known (λ (octets : List ℕ). AreRecordings octets why.1.0.tapes) ends.tapes_first left is
             why.1.0.of_input),
         refl,
@@ -208,14 +215,14 @@ fault_of_input slots count first old new ends book (faults.Differences n) parts 
       why.3,
       why.1.1,
     ))
-fault_of_input slots count first old new ends book faults.Refused parts why kept =
+fault_of_input from slots count first old new ends book faults.Refused parts why kept =
     of_whole _ first ends.tapes_first book parts.read (λ left is. kept (λ w. w))
-fault_of_input slots count first old new ends book faults.WriteFailed parts why kept =
+fault_of_input from slots count first old new ends book faults.WriteFailed parts why kept =
     of_whole _ first ends.tapes_first book parts.read (λ left is. (
       why.0,
       rows_text why.0,
       (
-        differs slots count first ends book left why.0 parts why.1.0
+        differs from slots count first ends book left why.0 parts why.1.0
             (known (λ (octets : List ℕ). AreRecordings octets why.1.0.tapes) ends.tapes_first left is
             why.1.0.of_input),
         refl,
@@ -235,6 +242,7 @@ longer : (x : ℕ) (xs : List ℕ) → 0 < length (x ∷ xs)
 longer x xs = omega arith
 
 -- the table of a verified input is never empty: it has the line of the columns' names
-pub some_table : (slots count : ℕ) (input output : List ℕ) → IsVerified slots count input output → 0 < length output
-some_table slots count input output is =
+pub some_table : (from : Origin) (slots count : ℕ) (input output : List ℕ) → IsVerified from slots count input output
+    → 0 < length output
+some_table from slots count input output is =
     subst (λ (octets : List ℕ). 0 < length octets) (sym is.1) (longer 108 (drop 1 (rows_text [])))

@@ -1,6 +1,7 @@
 -- What comes of a book that is in memory.
 use Rattle.std.proofs.Common.{◌≡◌, ◌⊎◌, ℕ, List, Option, None, Some, IfSome, Result, Ok, Err, ap, IfErr, IsErrOf}
 use Rattle.std.proofs.Common.{OnOk, inl, inr, refl, rules, sym, subst}
+use Rattle.alert_book.specs.declared.network.Origin.{Origin}
 use Rattle.alert_book.specs.Book.{unread}
 use Rattle.device_ends.specs.declared.reading.Source.{Source}
 use Rattle.device_ends.specs.declared.writing.Sink.{Sink}
@@ -75,20 +76,21 @@ keeps_of K P None told = tt
 keeps_of K P (Some input) told = told.2
 
 -- a fault of what was verified isn't of a run that writes
-pub unwritten : (slots : ℕ) (ends : Readers) (old new : Option (List ℕ)) (why : VerifyFault)
-    → IsVerifyFault slots ends old new why
+pub unwritten : (from : Origin) (slots : ℕ) (ends : Readers) (old new : Option (List ℕ)) (why : VerifyFault)
+    → IsVerifyFault from slots ends old new why
     → IsUnwrittenIn why
-unwritten slots ends old new (faults.Run (run.Book f)) is = tt
-unwritten slots ends old new (faults.Run (run.Desk f)) is = tt
-unwritten slots ends old new (faults.Run (run.Settle f)) is = tt
-unwritten slots ends old new (faults.Run (run.Compile f)) is = tt
-unwritten slots ends old new (faults.Run (run.Write failed)) is = is.1
-unwritten slots ends old new (faults.Run run.Refused) is = tt
-unwritten slots ends old new faults.ShortBook is = tt
-unwritten slots ends old new (faults.Tapes f) is = tt
-unwritten slots ends old new (faults.Differences n) is = tt
-unwritten slots ends old new faults.Refused is = tt
-unwritten slots ends old new faults.WriteFailed is = tt
+unwritten from slots ends old new (faults.Run (run.Book f)) is = tt
+unwritten from slots ends old new (faults.Run (run.NoGroup groups)) is = tt
+unwritten from slots ends old new (faults.Run (run.Desk f)) is = tt
+unwritten from slots ends old new (faults.Run (run.Settle f)) is = tt
+unwritten from slots ends old new (faults.Run (run.Compile f)) is = tt
+unwritten from slots ends old new (faults.Run (run.Write failed)) is = is.1
+unwritten from slots ends old new (faults.Run run.Refused) is = tt
+unwritten from slots ends old new faults.ShortBook is = tt
+unwritten from slots ends old new (faults.Tapes f) is = tt
+unwritten from slots ends old new (faults.Differences n) is = tt
+unwritten from slots ends old new faults.Refused is = tt
+unwritten from slots ends old new faults.WriteFailed is = tt
 
 -- nor is one of a book in memory a failed read of it
 pub of_input : (result : Result (Unit {0}) VerifyFault) → IfErr result IsUnwrittenIn
@@ -97,6 +99,7 @@ pub of_input : (result : Result (Unit {0}) VerifyFault) → IfErr result IsUnwri
 of_input (Ok done) quiet never = tt
 of_input (Err (faults.Run (run.Book f))) quiet never =
     λ same. never (ap (λ (b : BookFault). Err (faults.Run (run.Book b))) same)
+of_input (Err (faults.Run (run.NoGroup groups))) quiet never = tt
 of_input (Err (faults.Run (run.Desk f))) quiet never = tt
 of_input (Err (faults.Run (run.Settle f))) quiet never = tt
 of_input (Err (faults.Run (run.Compile f))) quiet never = tt

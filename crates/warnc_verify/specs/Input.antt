@@ -4,6 +4,7 @@ use Rattle.std.specs.Prelude.{◌≡◌, ◌≢◌, ⊤, ℕ, ◌<◌, ◌≤◌
 use Rattle.std.specs.Prelude.{drop}
 use Rattle.std.specs.Prelude.{IfErr, IsErrOf, IsTrue, OnOk}
 use Rattle.std.specs.Io.KnownBytes.{Appends, Keeps}
+use Rattle.alert_book.specs.declared.network.Origin.{Origin}
 use Rattle.device_ends.specs.Moves.{AppendsFront}
 use Rattle.device_ends.specs.Sink.{sink_failed}
 use Rattle.device_ends.specs.Source.{source_failed}
@@ -18,7 +19,7 @@ use Rattle.alert_book.specs.Book.{unread}
 use Rattle.verification.specs.Rows.{AreRows}
 use Rattle.verification.specs.RowText.{rows_text}
 use Rattle.verification.specs.declared.row.Row.{Row}
-use Rattle.warnc_run.specs.Records.{AreRecordsOf}
+use Rattle.warnc_run.specs.Records.{AreRecordsFrom}
 use Rattle.warnc_run.specs.declared.fault.RunFault.{RunFault}
 use Rattle.warnc_run.specs.declared.fault.RunFault.TheVariants as run
 use Rattle.warnc_verify.specs.Verified.{IsBookFault, IsDifference, HasWritten}
@@ -27,49 +28,50 @@ use Rattle.warnc_verify.specs.declared.fault.VerifyFault.TheVariants as faults
 
 -- the input is a book of so many octets and tapes, and these rows tell how the tapes differ from what the cells of the
 -- book's run were asked
-pub record DiffersBy (slots count : ℕ) (rows : List Row) (input : List ℕ) : Type 0 where
+pub record DiffersBy (from : Origin) (slots count : ℕ) (rows : List Row) (input : List ℕ) : Type 0 where
   pub long : count ≤ length input
   pub records : List Record
-  pub run : AreRecordsOf slots (take count input) records
+  pub run : AreRecordsFrom from slots (take count input) records
   pub tapes : List TapeRecording
   pub tapes_are : AreRecordings (drop count input) tapes
   pub rows_are : AreRows records tapes rows
 
 -- there is one at least
-abbrev pub Differs : (slots count : ℕ) (input : List ℕ) → Type 0
-Differs slots count input = (rows : List Row) × DiffersBy slots count rows input × (0 < length rows)
+abbrev pub Differs : (from : Origin) (slots count : ℕ) (input : List ℕ) → Type 0
+Differs from slots count input = (rows : List Row) × DiffersBy from slots count rows input × (0 < length rows)
 
 -- there are these differences, and this is their table
-abbrev pub IsTableOf : (slots count : ℕ) → List Row → (input output : List ℕ) → Type 0
-IsTableOf slots count rows input output = DiffersBy slots count rows input × (output ≡ rows_text rows)
+abbrev pub IsTableOf : (from : Origin) (slots count : ℕ) → List Row → (input output : List ℕ) → Type 0
+IsTableOf from slots count rows input output = DiffersBy from slots count rows input × (output ≡ rows_text rows)
 
 -- there is no difference, and the table has none
-abbrev pub IsVerified : (slots count : ℕ) → (input output : List ℕ) → Type 0
-IsVerified slots count input output = IsTableOf slots count [] input output
+abbrev pub IsVerified : (from : Origin) (slots count : ℕ) → (input output : List ℕ) → Type 0
+IsVerified from slots count input output = IsTableOf from slots count [] input output
 
 -- there are some, and the table has them
-abbrev pub HasDifferences : (slots count : ℕ) → (input output : List ℕ) → Type 0
-HasDifferences slots count input output =
-    (rows : List Row) × IsTableOf slots count rows input output × (0 < length rows)
+abbrev pub HasDifferences : (from : Origin) (slots count : ℕ) → (input output : List ℕ) → Type 0
+HasDifferences from slots count input output =
+    (rows : List Row) × IsTableOf from slots count rows input output × (0 < length rows)
 
 -- why the tapes of an input aren't found to be the book's, and what the writer holds then; a reader can fail anywhere
-abbrev pub IsTapesPartFault : (slots count : ℕ) → (input : List ℕ) → TapeFault → Type 0
-IsTapesPartFault slots count input tape.ReadFailed = ⊤
-IsTapesPartFault slots count input other =
-    (records : List Record) × (count ≤ length input) × AreRecordsOf slots (take count input) records
+abbrev pub IsTapesPartFault : (from : Origin) (slots count : ℕ) → (input : List ℕ) → TapeFault → Type 0
+IsTapesPartFault from slots count input tape.ReadFailed = ⊤
+IsTapesPartFault from slots count input other =
+    (records : List Record) × (count ≤ length input) × AreRecordsFrom from slots (take count input) records
     × IsTapesFault (drop count input) other
 
-abbrev pub IsInputFault : (slots count : ℕ) → (input : List ℕ) (old new : Option (List ℕ)) → VerifyFault → Type 0
-IsInputFault slots count input old new (faults.Run f) =
-    (last : Option (List ℕ)) × IsBookFault slots (Some (take count input)) last f × Keeps old new
-IsInputFault slots count input old new faults.ShortBook = (length input < count) × Keeps old new
-IsInputFault slots count input old new (faults.Tapes f) = IsTapesPartFault slots count input f × Keeps old new
-IsInputFault slots count input old new (faults.Differences n) =
-    (rows : List Row) × (output : List ℕ) × IsTableOf slots count rows input output × (length rows ≡ n) × (0 < n)
+abbrev pub IsInputFault : (from : Origin) (slots count : ℕ) → (input : List ℕ) (old new : Option (List ℕ))
+    → VerifyFault → Type 0
+IsInputFault from slots count input old new (faults.Run f) =
+    (last : Option (List ℕ)) × IsBookFault from slots (Some (take count input)) last f × Keeps old new
+IsInputFault from slots count input old new faults.ShortBook = (length input < count) × Keeps old new
+IsInputFault from slots count input old new (faults.Tapes f) = IsTapesPartFault from slots count input f × Keeps old new
+IsInputFault from slots count input old new (faults.Differences n) =
+    (rows : List Row) × (output : List ℕ) × IsTableOf from slots count rows input output × (length rows ≡ n) × (0 < n)
     × Appends old new output
-IsInputFault slots count input old new faults.Refused = Keeps old new
-IsInputFault slots count input old new faults.WriteFailed =
-    (rows : List Row) × (output : List ℕ) × IsTableOf slots count rows input output × AppendsFront old new output
+IsInputFault from slots count input old new faults.Refused = Keeps old new
+IsInputFault from slots count input old new faults.WriteFailed =
+    (rows : List Row) × (output : List ℕ) × IsTableOf from slots count rows input output × AppendsFront old new output
 
 -- a fault of the run of a book that is in memory: it didn't fail to be read, and nothing was to be written
 abbrev pub IsRunInMemory : RunFault → Type 0

@@ -1,6 +1,7 @@
 -- What `warnc verify` makes of a book and of tapes: the table of what the tapes have otherwise. Own.
 use Rattle.std.specs.Prelude.{◌≡◌, ◌≢◌, ⊤, ℕ, ◌<◌, List, Option, IfSome, length}
 use Rattle.std.specs.Io.KnownBytes.{Appends, IsAtEnd}
+use Rattle.alert_book.specs.declared.network.Origin.{Origin}
 use Rattle.device_ends.specs.Moves.{AppendsFront}
 use Rattle.device_ends.specs.Source.{reader_of}
 use Rattle.device_ends.specs.declared.reading.Source.{Source}
@@ -34,14 +35,14 @@ readers_of book_left left book_first book_last first last = record {
 }
 
 -- the octets of the book were read: they are a book, and its run has these records
-abbrev pub RunsBook : (slots : ℕ) → Readers → List Record → Type 0
-RunsBook slots ends records = HasRunBook slots ends.book_first ends.book_last records
+abbrev pub RunsBook : (from : Origin) (slots : ℕ) → Readers → List Record → Type 0
+RunsBook from slots ends records = HasRunBook from slots ends.book_first ends.book_last records
 
 -- the book and the tapes were read to their ends, and these rows tell how the tapes differ from what the cells of the
 -- book's run were asked: none, if they don't
-pub record Finds (slots : ℕ) (ends : Readers) (rows : List Row) : Type 0 where
+pub record Finds (from : Origin) (slots : ℕ) (ends : Readers) (rows : List Row) : Type 0 where
   pub records : List Record
-  pub run : RunsBook slots ends records
+  pub run : RunsBook from slots ends records
   pub tapes : List TapeRecording
   pub of_input : IfSome ends.tapes_first (λ input. AreRecordings input tapes)
   pub of_some : (octets : List ℕ) × AreRecordings octets tapes
@@ -49,28 +50,28 @@ pub record Finds (slots : ℕ) (ends : Readers) (rows : List Row) : Type 0 where
   pub rows_are : AreRows records tapes rows
 
 -- the table of some rows was written, or a front of it
-abbrev pub FindsAndWrites : (slots : ℕ) → Readers → (old new : Option (List ℕ)) → List Row → Type 0
-FindsAndWrites slots ends old new rows = Finds slots ends rows × Appends old new (rows_text rows)
+abbrev pub FindsAndWrites : (from : Origin) (slots : ℕ) → Readers → (old new : Option (List ℕ)) → List Row → Type 0
+FindsAndWrites from slots ends old new rows = Finds from slots ends rows × Appends old new (rows_text rows)
 
-abbrev pub FindsAndWritesFront : (slots : ℕ) → Readers → (old new : Option (List ℕ)) → List Row → Type 0
-FindsAndWritesFront slots ends old new rows = Finds slots ends rows × AppendsFront old new (rows_text rows)
+abbrev pub FindsAndWritesFront : (from : Origin) (slots : ℕ) → Readers → (old new : Option (List ℕ)) → List Row → Type 0
+FindsAndWritesFront from slots ends old new rows = Finds from slots ends rows × AppendsFront old new (rows_text rows)
 
 -- why there are no records of a book; there can be so many workers
-abbrev pub IsBookFault : (slots : ℕ) (first last : Option (List ℕ)) → RunFault → Type 0
-IsBookFault slots first last f = (f ≢ run.Compile compile.Workers) × IsRecordsFault slots first last f
+abbrev pub IsBookFault : (from : Origin) (slots : ℕ) (first last : Option (List ℕ)) → RunFault → Type 0
+IsBookFault from slots first last f = (f ≢ run.Compile compile.Workers) × IsRecordsFault from slots first last f
 
 -- why it isn't so that there are no differences: the book has no run; or it has one, and the tapes are none; or there
 -- are as many differences, one or more, and they were written; or memory ran out; or the writer failed
-abbrev pub IsVerifyFault : (slots : ℕ) → Readers → (old new : Option (List ℕ)) → VerifyFault → Type 0
-IsVerifyFault slots ends old new (faults.Run f) = IsBookFault slots ends.book_first ends.book_last f
-IsVerifyFault slots ends old new (faults.Tapes f) =
-    (records : List Record) × RunsBook slots ends records × IfSome ends.tapes_first (λ input. IsTapesFault input f)
-IsVerifyFault slots ends old new (faults.Differences count) =
-    (rows : List Row) × FindsAndWrites slots ends old new rows × (length rows ≡ count) × (0 < count)
-IsVerifyFault slots ends old new faults.ShortBook = ⊥
-IsVerifyFault slots ends old new faults.Refused = ⊤
-IsVerifyFault slots ends old new faults.WriteFailed =
-    (rows : List Row) × FindsAndWritesFront slots ends old new rows
+abbrev pub IsVerifyFault : (from : Origin) (slots : ℕ) → Readers → (old new : Option (List ℕ)) → VerifyFault → Type 0
+IsVerifyFault from slots ends old new (faults.Run f) = IsBookFault from slots ends.book_first ends.book_last f
+IsVerifyFault from slots ends old new (faults.Tapes f) =
+    (records : List Record) × RunsBook from slots ends records × IfSome ends.tapes_first (λ input. IsTapesFault input f)
+IsVerifyFault from slots ends old new (faults.Differences count) =
+    (rows : List Row) × FindsAndWrites from slots ends old new rows × (length rows ≡ count) × (0 < count)
+IsVerifyFault from slots ends old new faults.ShortBook = ⊥
+IsVerifyFault from slots ends old new faults.Refused = ⊤
+IsVerifyFault from slots ends old new faults.WriteFailed =
+    (rows : List Row) × FindsAndWritesFront from slots ends old new rows
 
 -- a fault that tells of differences, and one with which something may have been written
 abbrev pub IsDifference : VerifyFault → Type 0

@@ -1,5 +1,6 @@
 -- Steps of a verification (own). The contracts of private functions alone speak of them.
 use Rattle.std.specs.Prelude.{⊤, ℕ, List, Option, IfSome}
+use Rattle.alert_book.specs.declared.network.Origin.{Origin}
 use Rattle.device_ends.specs.Moves.{AppendsFront}
 use Rattle.handset.specs.Tape.{IsTapesFault}
 use Rattle.bsc_table.specs.Record.{Record}
@@ -10,12 +11,12 @@ use Rattle.warnc_verify.specs.declared.fault.VerifyFault.{VerifyFault}
 use Rattle.warnc_verify.specs.declared.fault.VerifyFault.TheVariants as faults
 
 -- why there are no rows
-abbrev pub IsRowsFault : (slots : ℕ) → Readers → VerifyFault → Type 0
-IsRowsFault slots ends (faults.Run f) = IsBookFault slots ends.book_first ends.book_last f
-IsRowsFault slots ends (faults.Tapes f) =
-    (records : List Record) × RunsBook slots ends records × IfSome ends.tapes_first (λ input. IsTapesFault input f)
-IsRowsFault slots ends faults.Refused = ⊤
-IsRowsFault slots ends other = ⊥
+abbrev pub IsRowsFault : (from : Origin) (slots : ℕ) → Readers → VerifyFault → Type 0
+IsRowsFault from slots ends (faults.Run f) = IsBookFault from slots ends.book_first ends.book_last f
+IsRowsFault from slots ends (faults.Tapes f) =
+    (records : List Record) × RunsBook from slots ends records × IfSome ends.tapes_first (λ input. IsTapesFault input f)
+IsRowsFault from slots ends faults.Refused = ⊤
+IsRowsFault from slots ends other = ⊥
 
 -- why a table wasn't written
 abbrev pub IsTableFault : (old new : Option (List ℕ)) → List Row → VerifyFault → Type 0

@@ -15,7 +15,7 @@ ghost use Rattle.warnc_verify.specs.declared.fault.VerifyFault.TheVariants as fa
 
 use crate::fault::VerifyFault;
 use crate::verify::verify_stream;
-use alert_book::{BookFault, BookFaultKind};
+use alert_book::{BookFault, BookFaultKind, Origin};
 use device_ends::{ReadFault, Sink, Source, read_up_to};
 use handset::TapeFault;
 use std::alloc::{AllocGlobal, Global};
@@ -37,21 +37,22 @@ pub fn verify_input<T: AllocGlobal + Threads + Wait + Sync, R: Read, W: Write>(
     source: &mut Source<R>,
     sink: &mut Sink<W>,
     book_octets: u32,
+    origin: Origin,
     slots: u16,
     workers: Workers,
 ) -> Result<(), VerifyFault>
-    ensures ok { OnOk result (OutputOfInput R.remaining W.contents (IsVerified slots book_octets) source.old sink.old
+    ensures ok { OnOk result (OutputOfInput R.remaining W.contents (IsVerified origin slots book_octets) source.old sink.old
         sink.new) }
-    ensures err { IfErr result (FaultOfInput R.remaining W.contents (IsInputFault slots book_octets) source.old sink.old
+    ensures err { IfErr result (FaultOfInput R.remaining W.contents (IsInputFault origin slots book_octets) source.old sink.old
         sink.new) }
     ensures differences { IfErr result (λ fault. IsDifference fault → OutputOfInput R.remaining W.contents
-        (HasDifferences slots book_octets) source.old sink.old sink.new) }
+        (HasDifferences origin slots book_octets) source.old sink.old sink.new) }
 
     // At any reader and any writer.
     ensures any_ends { IsVerifyBetween result source.old source.new sink.old sink.new }
     ensures run { IfErr result IsOfInput }
 {
-    of_memory(verify_parts(rt, source, sink, book_octets, slots, workers))
+    of_memory(verify_parts(rt, source, sink, book_octets, origin, slots, workers))
 }
 
 /// The same, also if the book, which is in memory, fails to be read.
@@ -60,15 +61,16 @@ fn verify_parts<T: AllocGlobal + Threads + Wait + Sync, R: Read, W: Write>(
     source: &mut Source<R>,
     sink: &mut Sink<W>,
     book_octets: u32,
+    origin: Origin,
     slots: u16,
     workers: Workers,
 ) -> Result<(), VerifyFault>
-    ensures ok { OnOk result (OutputOfInput R.remaining W.contents (IsVerified slots book_octets) source.old sink.old
+    ensures ok { OnOk result (OutputOfInput R.remaining W.contents (IsVerified origin slots book_octets) source.old sink.old
         sink.new) }
-    ensures err { IfErr result (FaultOfInput R.remaining W.contents (IsInputFault slots book_octets) source.old sink.old
+    ensures err { IfErr result (FaultOfInput R.remaining W.contents (IsInputFault origin slots book_octets) source.old sink.old
         sink.new) }
     ensures differences { IfErr result (λ fault. IsDifference fault → OutputOfInput R.remaining W.contents
-        (HasDifferences slots book_octets) source.old sink.old sink.new) }
+        (HasDifferences origin slots book_octets) source.old sink.old sink.new) }
     ensures any_ends { IsVerifyBetween result source.old source.new sink.old sink.new }
     ensures unwritten { IfErr result IsUnwrittenIn }
 {
@@ -78,6 +80,7 @@ fn verify_parts<T: AllocGlobal + Threads + Wait + Sync, R: Read, W: Write>(
         &mut Source::new(book.as_slice()),
         source,
         sink,
+        origin,
         slots,
         workers,
     )

@@ -17,6 +17,7 @@ ghost use Rattle.warnc_verify.specs.declared.fault.VerifyFault.TheVariants as fa
 
 use crate::fault::VerifyFault;
 use crate::judge::Judge;
+use alert_book::Origin;
 use device_ends::{Failed, Sink, Source, write_all};
 use handset::record_each;
 use std::alloc::Global;
@@ -26,9 +27,8 @@ use std::thread::Threads;
 use verification::{Findings, Row, text_of};
 use warnc_run::{Workers, run_book};
 
-/// Reads a book, has its cells carry out what its one session orders, in runs of `slots` slots, as
-/// [`compile_stream`](warnc_run::compile_stream) does, reads tapes up to their end, and writes a row for each
-/// difference
+/// Reads a book, or a network book for a group, has its cells carry out what its one session orders, in runs of `slots` slots, as
+/// [`compile_from`](warnc_run::compile_from) does, reads tapes up to their end, and writes a row for each difference
 /// between what the cells were asked and what the tapes send, and for each cell without a tape and tape without a cell
 /// (`AreRows`). Nothing is written before all is known. `workers` workers play the cells.
 ///
@@ -42,12 +42,13 @@ pub fn verify_stream<T: AllocGlobal + Threads + Wait + Sync, B: Read, R: Read, W
     book: &mut Source<B>,
     tapes: &mut Source<R>,
     sink: &mut Sink<W>,
+    origin: Origin,
     slots: u16,
     workers: Workers,
 ) -> Result<(), VerifyFault>
-    ensures ok { OnOk result (Writes W.contents (λ old new. FindsAndWrites slots
+    ensures ok { OnOk result (Writes W.contents (λ old new. FindsAndWrites origin slots
         (readers_of B.remaining R.remaining book.old book.new tapes.old tapes.new) old new []) sink.old sink.new) }
-    ensures err { IfErr result (λ fault. Writes W.contents (λ old new. IsVerifyFault slots
+    ensures err { IfErr result (λ fault. Writes W.contents (λ old new. IsVerifyFault origin slots
         (readers_of B.remaining R.remaining book.old book.new tapes.old tapes.new) old new fault) sink.old sink.new) }
 
     // At any readers and any writer: which end failed is reported, the book's first, and what failed before is as it
@@ -64,7 +65,7 @@ pub fn verify_stream<T: AllocGlobal + Threads + Wait + Sync, B: Read, R: Read, W
     ensures tapes_stay { source_failed tapes.old ≡ true → tapes.new ≡ tapes.old }
     ensures sink_stays { sink_failed sink.old ≡ true → sink.new ≡ sink.old }
 {
-    let rows = rows_of(rt, book, tapes, slots, workers)?;
+    let rows = rows_of(rt, book, tapes, origin, slots, workers)?;
     write_rows(rt.alloc(), &rows, sink)?;
     match rows.len() {
         0 => Ok(()),
@@ -77,12 +78,13 @@ fn rows_of<T: AllocGlobal + Threads + Wait + Sync, B: Read, R: Read>(
     rt: &T,
     book: &mut Source<B>,
     tapes: &mut Source<R>,
+    origin: Origin,
     slots: u16,
     workers: Workers,
 ) -> Result<Vec<Row>, VerifyFault>
-    ensures ok { IfOk result (λ rows. Finds slots
+    ensures ok { IfOk result (λ rows. Finds origin slots
         (readers_of B.remaining R.remaining book.old book.new tapes.old tapes.new) rows.items) }
-    ensures err { IfErr result (λ fault. IsRowsFault slots
+    ensures err { IfErr result (λ fault. IsRowsFault origin slots
         (readers_of B.remaining R.remaining book.old book.new tapes.old tapes.new) fault) }
     ensures book_failed { IsErrOf result (faults.Run (run.Book unread)) ↔ IsTrue (source_failed book.new) }
     ensures book_first { IfErr result (λ fault. IsOfBookOrRun fault → tapes.new ≡ tapes.old) }
@@ -93,7 +95,7 @@ fn rows_of<T: AllocGlobal + Threads + Wait + Sync, B: Read, R: Read>(
     ensures tapes_stay { source_failed tapes.old ≡ true → tapes.new ≡ tapes.old }
 {
     let alloc = rt.alloc();
-    let records = run_book(rt, book, slots, workers.number)?;
+    let records = run_book(rt, book, origin, slots, workers.number)?;
     let mut judge = Judge {
         findings: Findings::new(alloc, records)?,
     };

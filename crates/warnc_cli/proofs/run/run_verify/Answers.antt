@@ -11,12 +11,12 @@ pub returns-in-Ok-clause-wrote : goal.returns-in-Ok-clause-wrote
 returns-in-Ok-clause-wrote g c =
     let wrote = c.in-Ok.ensures.ok.of_some in
     let some : WritesSome _ _ =
-    (wrote.1, some_table c.args.slots c.args.book_octets wrote.0 wrote.1 wrote.2, wrote.3) in
+    (wrote.1, some_table c.args.origin c.args.slots c.args.book_octets wrote.0 wrote.1 wrote.2, wrote.3) in
     λ done. some
 
 pub returns-in-Err-clause-refused : goal.returns-in-Err-clause-refused
 returns-in-Err-clause-refused g c =
-    λ is. refused_verification _ c.args.slots c.args.book_octets _ _ c.in-Err.fault c.in-Err.ensures.err
+    λ is. refused_verification _ c.args.origin c.args.slots c.args.book_octets _ _ c.in-Err.fault c.in-Err.ensures.err
     (sym c.failed.ensures ∙ is)
 
 pub returns-in-Err-clause-differences : goal.returns-in-Err-clause-differences

@@ -4,6 +4,7 @@ use Rattle.std.proofs.KnownBytes.{Keeps-refl}
 use Rattle.handset.specs.Tape.{readings_of}
 use Rattle.chart.specs.ChartText.{chart_text}
 use Rattle.report.specs.declared.fault.ReportFault.TheVariants as report
+use Rattle.alert_book.specs.declared.network.Origin.TheVariants as origin
 use Rattle.warnc_run.specs.Charted.{IsCharted}
 use Rattle.warnc_run.specs.Compiled.{HasReadBook}
 use Rattle.warnc_run.proofs.Readings.{charted, fault_of_book_report, fault_of_report, never_cells}
@@ -31,7 +32,7 @@ returns-clause-err g c =
     let read = c.in-Ok.ensures.ok in
     let wrote = c.in-Err-write_chart.ensures in
     let few : c.args.slots ≤ 65535 = omega (arith, c.ranges.slots.fits) in
-    fault_of_report c.args.slots (IsCharted c.args.slots c.args.wanted) _ _ _ _ c.in-Err-write_chart.fault
+    fault_of_report origin.Book c.args.slots (IsCharted c.args.slots c.args.wanted) _ _ _ _ c.in-Err-write_chart.fault
     (never_cells c.in-Err-write_chart.fault c.in_ok-records.records.items c.deref.result.now
     (readings_of c.in_ok-records.readings.items)
     (readings_of c.deref-2.result.now) c.deref.ensures.value c.in_ok-records.ensures.ok.read
@@ -72,7 +73,7 @@ returns-in_err-records-clause-err g c =
       ended = read.ended;
       is_book = read.meant;
     } in
-    let fault = fault_of_book_report c.args.slots (IsCharted c.args.slots c.args.wanted) _ _ _ _ c.in-Ok.book
+    let fault = fault_of_book_report origin.Book c.args.slots (IsCharted c.args.slots c.args.wanted) _ _ _ _ c.in-Ok.book
     c.in_err-records.field-0.0
     whole refl c.in_err-records.ensures.err (Keeps-refl _) in
     let is : c.from_residual.result ≡ Err c.in_err-records.field-0.0 =

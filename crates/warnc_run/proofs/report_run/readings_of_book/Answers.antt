@@ -8,12 +8,12 @@ pub readings_by-requires-clause-few : goal.readings_by-requires-clause-few
 readings_by-requires-clause-few g c κs within =
     let input = c.requires.book in
     records_are_few c.args.book.cells c.in_ok-records.records.items c.deref.result.now
-    (c.book_laws.ensures.cells input.0 c.args.book input.1) c.in_ok-records.ensures.ok.run.cells
+    (c.book_laws.ensures.cells input.0 input.1 c.args.book input.2) c.in_ok-records.ensures.ok.run.cells
     c.deref.ensures.value
 
 pub readings_by-requires-clause-tapes : goal.readings_by-requires-clause-tapes
 readings_by-requires-clause-tapes g c κs within =
     let input = c.requires.book in
     let few : c.args.slots ≤ 65535 = omega (arith, c.ranges.slots.fits) in
-    run_has_tapes c.session_laws.ensures.shown input.0 c.args.book c.args.slots c.in_ok-records.records.items
-    c.deref.result.now few input.1 c.in_ok-records.ensures.ok c.deref.ensures.value
+    run_has_tapes c.session_laws.ensures.shown input.0 input.1 c.args.book c.args.slots c.in_ok-records.records.items
+    c.deref.result.now few input.2 c.in_ok-records.ensures.ok c.deref.ensures.value

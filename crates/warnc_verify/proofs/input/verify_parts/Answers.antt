@@ -17,7 +17,7 @@ returns-clause-ok g c =
       read = c.in_ok-book.ensures.ok;
     } in
     on_ok_weaker c.verify_stream.result
-    (table_of_input c.args.slots c.args.book_octets first _ _ _ c.in_ok-book.book.items [] parts)
+    (table_of_input c.args.origin c.args.slots c.args.book_octets first _ _ _ c.in_ok-book.book.items [] parts)
     c.verify_stream.ensures.ok
 
 pub returns-clause-err : goal.returns-clause-err
@@ -31,7 +31,7 @@ returns-clause-err g c =
     } in
     by_both _ _ _ c.verify_stream.result
     (λ fault why untouched.
-    fault_of_input c.args.slots c.args.book_octets first _ _ _ c.in_ok-book.book.items fault parts why
+    fault_of_input c.args.origin c.args.slots c.args.book_octets first _ _ _ c.in_ok-book.book.items fault parts why
     (λ no. subst (λ sink. Keeps (held (writer_of c.args.sink.now)) (held (writer_of sink))) (sym (untouched no))
     (Keeps-refl _)))
     c.verify_stream.ensures.err c.verify_stream.ensures.nothing_written
@@ -46,9 +46,9 @@ returns-clause-differences g c =
     } in
     by_both _ _ _ c.verify_stream.result
     (λ fault why _. λ is.
-    differences_of_input c.args.slots c.args.book_octets first _ _ _ c.in_ok-book.book.items fault parts why is)
+    differences_of_input c.args.origin c.args.slots c.args.book_octets first _ _ _ c.in_ok-book.book.items fault parts why is)
     c.verify_stream.ensures.err c.verify_stream.ensures.err
 
 pub returns-clause-unwritten : goal.returns-clause-unwritten
 returns-clause-unwritten g c =
-    IfErr-weaker c.verify_stream.result _ _ (unwritten c.args.slots _ _ _) c.verify_stream.ensures.err
+    IfErr-weaker c.verify_stream.result _ _ (unwritten c.args.origin c.args.slots _ _ _) c.verify_stream.ensures.err

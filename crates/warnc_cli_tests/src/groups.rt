@@ -1,0 +1,97 @@
+//! Runs on network books: `groups`, and `--group` of the commands. The blocks are those of a worked page.
+
+use crate::rows::expect_rows;
+use std::test::Fail;
+
+const GROUPS: &str = "
+# the tape of the cell 1-64, which is alone in the second group: one broadcast in two slots
+worked-hex 0001 0040 00000002
+worked-hex 200010111201118046a3d168341a8d46a3d168341a8d46
+worked-hex 21a3d168341a8d46a3d168341a8d46a3d168341a8d46a3
+worked-hex 22d168341a8d46a3d168341a8d46a3d168341a8d46a3d1
+worked-hex 3368341a8d46a3d168341a8d46a3d168341a8d46a3d100
+worked-hex 2f2b2b2b2b2b2b2b2b2b2b2b2b2b2b2b2b2b2b2b2b2b2b
+worked-hex 2f2b2b2b2b2b2b2b2b2b2b2b2b2b2b2b2b2b2b2b2b2b2b
+worked-hex 2f2b2b2b2b2b2b2b2b2b2b2b2b2b2b2b2b2b2b2b2b2b2b
+worked-hex 2f2b2b2b2b2b2b2b2b2b2b2b2b2b2b2b2b2b2b2b2b2b2b
+in-cells 0 65
+in write,0,a,4370,0,1,en,2,2,1,1-0 1-64,@
+
+args groups
+run -> 0
+out -> 2
+writer 1 1
+run -> 3
+err -> warnc: write failed
+all -> 2
+reads 0 9 -> 3 warnc: read failed
+
+args compile --slots 2 --group 1
+run -> 0
+all -> worked
+args live --slots 2 --sessions 2 --workers 2 --group=1
+run -> 0
+all -> worked
+
+# the line of names stands over the first group's report alone
+args report --slots 2 --group 0
+run -> 0
+out -> lac,ci,id,serial,start,end,completed,shown
+out -> 1,0,4370,0010,0,2,1,yes
+args report --slots 2 --group 1
+run -> 0
+out -> 1,64,4370,0010,0,2,1,yes
+fronts 0 0 -> 1 warnc: no such group: the network has 1
+
+# and is no book of 64 cells
+args report --slots 2
+fails -> 1 warnc: row 65: too many rows
+args report --slots 2 --group 2
+fails -> 1 warnc: no such group: the network has 2
+args compile --slots 2 --group 65535
+fails -> 1 warnc: no such group: the network has 2
+args live --slots 2 --group 2
+fails -> 1 warnc: no such group: the network has 2
+
+# a group without an order: no line at all
+in-cells 0 65
+in write,0,a,4370,0,1,en,2,2,1,1-0,@
+args report --slots 2 --group 1
+run -> 0
+
+# a fault of a row for another group
+in-cells 0 65
+in write,0,a,4370,0,1,xx,2,2,1,1-0,@
+fails -> 1 warnc: row 66: unknown language
+args groups
+fails -> 1 warnc: row 66: unknown language
+in cell,1
+fails -> 1 warnc: row 1: columns
+
+# the network book has 679 octets, and the tape follows it
+in-cells 0 65
+in write,0,a,4370,0,1,en,2,2,1,1-0 1-64,@
+in-hex 0001 0040 00000002
+in-hex 200010111201118046a3d168341a8d46a3d168341a8d46
+in-hex 21a3d168341a8d46a3d168341a8d46a3d168341a8d46a3
+in-hex 22d168341a8d46a3d168341a8d46a3d168341a8d46a3d1
+in-hex 3368341a8d46a3d168341a8d46a3d168341a8d46a3d100
+in-hex 2f2b2b2b2b2b2b2b2b2b2b2b2b2b2b2b2b2b2b2b2b2b2b 2f2b2b2b2b2b2b2b2b2b2b2b2b2b2b2b2b2b2b2b2b2b2b
+in-hex 2f2b2b2b2b2b2b2b2b2b2b2b2b2b2b2b2b2b2b2b2b2b2b 2f2b2b2b2b2b2b2b2b2b2b2b2b2b2b2b2b2b2b2b2b2b2b
+args verify --slots 2 --book-octets 679 --group 1
+run -> 0
+out -> lac,ci,id,serial,slot,difference
+args verify --slots 2 --book-octets 679 --group 0
+run -> 1
+out -> lac,ci,id,serial,slot,difference
+past 1,63,,,,no tape -> yes
+out -> 1,64,,,,unknown cell
+err -> warnc: differences: 65
+args verify --slots 2 --book-octets 679 --group 2
+fails -> 1 warnc: no such group: the network has 2
+";
+
+#[test]
+fn groups_of_networks_are_run(rt: HostRuntime) -> Result<(), Fail> {
+    expect_rows(&rt, GROUPS)
+}
