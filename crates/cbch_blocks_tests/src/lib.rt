@@ -1,14 +1,14 @@
-//! Tests of `cbch_blocks` by its public calls, so that it isn't proved twice: worked blocks and tapes, tapes set slot
-//! by slot, writers that fail at each call, and refused memory.
+//! Tests of `cbch_blocks` by its public calls, as tables of lines: worked blocks and tapes, tapes set slot by slot,
+//! writers that fail at each call, and refused memory.
 #![tactic(auto)]
 
 #[cfg(test)]
-mod blocks;
+mod octets;
 #[cfg(test)]
-mod ends;
+mod runs;
 #[cfg(test)]
-mod records;
-#[cfg(test)]
-mod slots;
+mod tables;
 #[cfg(test)]
 mod tapes;
+#[cfg(test)]
+mod writers;

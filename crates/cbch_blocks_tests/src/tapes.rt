@@ -1,95 +1,77 @@
-//! Worked tapes.
+//! Tapes, as the tables write them: `run` and a run is the tape of its record, and `open 1-1 3 1:88 2:0` the tape of a
+//! cell that airs nothing in three slots, and then in slots 1 and 2 the worked page with one octet changed, at place 88
+//! none.
 
-use crate::blocks::{BLOCKS, NOTHING};
-use crate::records::{one_write, silent, tape_from, two_writes};
-use cbch_blocks::Tape;
-use cbsp_wire::Cell;
-use std::alloc::{AllocError, Global};
-use std::process::Abort;
+use crate::octets::{are_octets, page_with};
+use crate::runs::{cell_in, record_of};
+use cbch_blocks::{Tape, tape_of};
+use std::alloc::Global;
 use std::test::Fail;
+use test_support::Words;
 
-/// Octets of a header and blocks, one after another.
-fn joined(alloc: Global, header: &[u8], blocks: &[[u8; 23]]) -> Result<Vec<u8>, AllocError> {
-    let mut octets = Vec::from_slice(alloc, header)?;
-    for block in blocks {
-        octets.extend_from_slice(block)?;
-    }
-    Ok(octets)
+/// The tape of a run's record.
+fn tape_of_run(alloc: Global, words: &mut Words) -> Result<Tape, Fail> {
+    let run = record_of(alloc, words)?;
+    let tape = tape_of(alloc, &run);
+    drop(run);
+    Ok(tape?)
 }
 
-/// The blocks of a page with these six octets before its content, which has one octet 82 times.
-fn blocks_of(front: &[u8; 6], octet: u8) -> [[u8; 23]; 4] {
-    let mut blocks = [[octet; 23]; 4];
-    blocks[0][0] = 0x20;
-    blocks[1][0] = 0x21;
-    blocks[2][0] = 0x22;
-    blocks[3][0] = 0x33;
-    blocks[0][1..7].copy_from_slice(front);
-    blocks
-}
-
-/// Expects that a tape has these octets, which are so many.
-fn expect_octets(rt: &impl Abort, tape: &Tape, length: usize, wanted: &[u8]) {
-    assert_eq!(rt; tape.bytes().len(), length);
-    assert!(rt; tape.bytes() == wanted);
-}
-
-#[test]
-fn a_page_in_every_second_slot(rt: HostRuntime) -> Result<(), Fail> {
-    let tape = tape_from(rt.alloc(), one_write(&rt, rt.alloc())?)?;
-    let mut wanted = joined(rt.alloc(), &[0, 1, 0, 1, 0, 0, 0, 2], BLOCKS.as_slice())?;
+/// Sets all slots that are left, if there are such slots.
+fn set_all(alloc: Global, tape: &mut Tape, words: &mut Words) -> Result<(), Fail> {
     for _ in 0..4 {
-        wanted.extend_from_slice(&NOTHING)?;
-    }
-    expect_octets(&rt, &tape, 192, &wanted);
-    Ok(())
-}
-
-#[test]
-fn cells_that_air_nothing(rt: HostRuntime) -> Result<(), Fail> {
-    for ci in [1, 2] {
-        let tape = tape_from(rt.alloc(), silent(rt.alloc(), Cell { lac: 1, ci }, 3)?)?;
-        let header = [0, 1, 0, ci as u8, 0, 0, 0, 3];
-        let wanted = joined(rt.alloc(), &header, [NOTHING; 12].as_slice())?;
-        expect_octets(&rt, &tape, 284, &wanted);
-    }
-    Ok(())
-}
-
-#[test]
-fn pages_of_two_messages_in_turn(rt: HostRuntime) -> Result<(), Fail> {
-    let tape = tape_from(rt.alloc(), two_writes(&rt, rt.alloc())?)?;
-    let first = blocks_of(&[0x00, 0x01, 0x11, 0x12, 0x01, 0x11], 0xA1);
-    let second = blocks_of(&[0x00, 0x02, 0x11, 0x12, 0x01, 0x12], 0xB1);
-    let third = blocks_of(&[0x00, 0x02, 0x11, 0x12, 0x01, 0x22], 0xB2);
-    let mut wanted = joined(rt.alloc(), &[0, 1, 0, 1, 0, 0, 0, 4], first.as_slice())?;
-    for blocks in [second, first, third] {
-        for block in &blocks {
-            wanted.extend_from_slice(block)?;
+        if let Some((slot, place)) = words.word().split_once(':') {
+            let (slot, place) = (slot.parse::<u16>()?, place.parse::<usize>()?);
+            let page = page_with(alloc, place)?;
+            if tape.bytes().len() < 8 + 92 * (slot as usize + 1) {
+                return Err(Fail::new("no such slot"));
+            }
+            tape.set(slot, &page);
         }
     }
-    expect_octets(&rt, &tape, 376, &wanted);
     Ok(())
 }
 
-#[test]
-fn a_run_of_no_slots_is_a_header(rt: HostRuntime) -> Result<(), Fail> {
-    let tape = tape_from(rt.alloc(), silent(rt.alloc(), Cell { lac: 1, ci: 1 }, 0)?)?;
-    expect_octets(&rt, &tape, 8, [0, 1, 0, 1, 0, 0, 0, 0].as_slice());
-    Ok(())
+/// An open tape, with slots that are set.
+fn opened(alloc: Global, words: &mut Words) -> Result<Tape, Fail> {
+    let (cell, slots) = cell_in(words)?;
+    let mut tape = Tape::open(alloc, cell, slots)?;
+    set_all(alloc, &mut tape, words)?;
+    Ok(tape)
 }
 
-#[test]
-fn high_octets_come_first(rt: HostRuntime) -> Result<(), Fail> {
-    let cell = Cell {
-        lac: 0x1234,
-        ci: 0xFEDC,
-    };
-    let tape = tape_from(rt.alloc(), silent(rt.alloc(), cell, 258)?)?;
-    assert_eq!(rt; tape.bytes().len(), 23_744);
-    assert_eq!(rt;
-        &tape.bytes()[..8],
-        [0x12, 0x34, 0xFE, 0xDC, 0, 0, 1, 2].as_slice()
-    );
-    Ok(())
+/// The tape that words say.
+pub fn tape_in(alloc: Global, words: &mut Words) -> Result<Tape, Fail> {
+    match words.word() {
+        "open" => opened(alloc, words),
+        "run" => tape_of_run(alloc, words),
+        _ => Err(Fail::new("no such tape")),
+    }
+}
+
+/// Whether a tape has the octets that are wanted.
+pub fn is_tape(alloc: Global, tape: &str, wanted: &str) -> Result<bool, Fail> {
+    let tape = tape_in(alloc, &mut Words::of(tape))?;
+    are_octets(alloc, tape.bytes(), wanted)
+}
+
+/// `is TAPE; RUN`
+pub fn is_judged(alloc: Global, tape: &str, run: &str, wanted: &str) -> Result<bool, Fail> {
+    let tape = tape_in(alloc, &mut Words::of(tape))?;
+    let run = record_of(alloc, &mut Words::of(run))?;
+    let is_of = tape.is_of(&run);
+    drop(run);
+    Ok(wanted == if is_of { "yes" } else { "no" })
+}
+
+/// `changed RUN`
+pub fn are_differing(alloc: Global, run: &str, wanted: &str) -> Result<bool, Fail> {
+    let mut count = 0_u64;
+    for place in 0..88 {
+        let tape = format!(in alloc; "open 1-1 2 0:{place}")?;
+        if is_judged(alloc, &tape, run, "no")? {
+            count = count.saturating_add(1);
+        }
+    }
+    Ok(count == wanted.parse::<u64>()?)
 }
