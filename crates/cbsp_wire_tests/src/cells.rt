@@ -29,53 +29,46 @@ fn cells_in(alloc: Global, words: &mut Words<'_>) -> Result<Vec<Cell>, Fail> {
     Ok(cells)
 }
 
-/// `yes` or `no`.
-fn answer(alloc: Global, is_so: bool) -> Result<String, Fail> {
-    Ok(String::from_str(alloc, if is_so { "yes" } else { "no" })?)
-}
-
-/// A place, or `nowhere`.
-fn place_text(alloc: Global, place: Option<usize>) -> Result<String, Fail> {
-    match place {
-        Some(place) => Ok(format!(in alloc; "at {place}")?),
-        None => Ok(String::from_str(alloc, "nowhere")?),
+/// Whether cells are as a verb says: they have this cell, looked for at the place first or not, or none of them twice.
+fn are_so(verb: &str, cells: &[Cell], cell: Cell, place: usize) -> bool {
+    match verb {
+        "contains" => contains(cells, cell),
+        "contains_near" => contains_near(cells, cell, place),
+        _ => are_distinct(cells),
     }
 }
 
-/// `contains CELL CELLS`: whether the cells have the one named first.
-pub fn contains_row(alloc: Global, words: &mut Words<'_>) -> Result<String, Fail> {
-    let cell = cell_of(words.word())?;
-    let cells = cells_in(alloc, words)?;
-    answer(alloc, contains(&cells, cell))
+/// The place of a cell, looked for near another place or not.
+fn place_of(verb: &str, cells: &[Cell], cell: Cell, place: usize) -> Option<usize> {
+    match verb {
+        "find" => find(cells, cell),
+        _ => find_near(cells, cell, place),
+    }
 }
 
-/// `contains_near CELL PLACE CELLS`: the same, where it is looked for at the place first.
-pub fn contains_near_row(alloc: Global, words: &mut Words<'_>) -> Result<String, Fail> {
-    let cell = cell_of(words.word())?;
-    let place = usize::from(words.number16()?);
+/// `contains CELL CELLS`: whether the cells have the one named first; `contains_near CELL PLACE CELLS` looks for it at
+/// the place first. `find CELL CELLS`: the first place of the cell; `find_near CELL PLACE CELLS`: a place of it, which
+/// is looked for at this one and the next one first. `distinct CELLS`: whether no cell is named twice.
+pub fn looked_up(alloc: Global, verb: &str, words: &mut Words<'_>) -> Result<String, Fail> {
+    let cell = match verb {
+        "distinct" => Cell { lac: 0, ci: 0 },
+        _ => cell_of(words.word())?,
+    };
+    let place = match verb {
+        "contains_near" | "find_near" => words.number16()?,
+        _ => 0,
+    };
     let cells = cells_in(alloc, words)?;
-    answer(alloc, contains_near(&cells, cell, place))
-}
-
-/// `find CELL CELLS`: the first place of the cell.
-pub fn find_row(alloc: Global, words: &mut Words<'_>) -> Result<String, Fail> {
-    let cell = cell_of(words.word())?;
-    let cells = cells_in(alloc, words)?;
-    place_text(alloc, find(&cells, cell))
-}
-
-/// `find_near CELL PLACE CELLS`: a place of the cell, which is looked for at this one and the next one first.
-pub fn find_near_row(alloc: Global, words: &mut Words<'_>) -> Result<String, Fail> {
-    let cell = cell_of(words.word())?;
-    let place = usize::from(words.number16()?);
-    let cells = cells_in(alloc, words)?;
-    place_text(alloc, find_near(&cells, cell, place))
-}
-
-/// `distinct CELLS`: whether no cell is named twice.
-pub fn distinct_row(alloc: Global, words: &mut Words<'_>) -> Result<String, Fail> {
-    let cells = cells_in(alloc, words)?;
-    answer(alloc, are_distinct(&cells))
+    let place = usize::from(place);
+    let text = match verb {
+        "find" | "find_near" => match place_of(verb, &cells, cell, place) {
+            Some(place) => return Ok(format!(in alloc; "at {place}")?),
+            None => "nowhere",
+        },
+        _ if are_so(verb, &cells, cell, place) => "yes",
+        _ => "no",
+    };
+    Ok(String::from_str(alloc, text)?)
 }
 
 /// What is found in lists of cells.

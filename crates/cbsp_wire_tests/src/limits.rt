@@ -1,169 +1,111 @@
-//! Both sides of each limit of an order to write.
+//! Both sides of each limit.
 
-use crate::octets::put_new;
-use crate::table::{expect_rows, reading};
-use cbs_page::Dcs;
-use std::alloc::{AllocError, Global};
+use crate::table::expect_rows;
 use std::test::Fail;
-use test_support::Words;
 
-/// What an order to write says, where a line changes it.
-#[derive(Clone, Copy)]
-struct OrderToWrite {
-    /// The period.
-    period: u16,
-    /// The number in the element 13.
-    pages: u8,
-    /// The number of elements 01.
-    contents: u8,
-    /// The octets used of each.
-    used: u8,
-    /// The data coding.
-    dcs: u8,
-    /// How many cells are named, with cell identities from 0.
-    cells: u16,
-}
-
-/// An order that is right.
-const RIGHT: OrderToWrite = OrderToWrite {
-    period: 2,
-    pages: 1,
-    contents: 1,
-    used: 82,
-    dcs: 1,
-    cells: 1,
-};
-
-/// Appends the list of cells.
-fn put_cells(elements: &mut Vec<u8>, cells: u16) -> Result<(), AllocError> {
-    let [high, low] = cells.wrapping_mul(4).wrapping_add(1).to_be_bytes();
-    elements.extend_from_slice(&[0x04, high, low, 1])?;
-    for cell in 0..cells {
-        let [high, low] = cell.to_be_bytes();
-        elements.extend_from_slice(&[0, 1, high, low])?;
-    }
-    Ok(())
-}
-
-/// The octets of an order to write, made apart from the writer.
-fn octets_of_order(alloc: Global, order: OrderToWrite) -> Result<Vec<u8>, AllocError> {
-    let mut elements = Vec::new(alloc);
-    elements.extend_from_slice(&[0x0E, 0x11, 0x12, 0x03, 0x00, 0x10])?;
-    put_cells(&mut elements, order.cells)?;
-    let [high, low] = order.period.to_be_bytes();
-    elements.extend_from_slice(&[0x06, high, low, 0x07, 0x00, 0x00])?;
-    elements.extend_from_slice(&[0x13, order.pages, 0x0C, order.dcs])?;
-    for _ in 0..order.contents {
-        elements.extend_from_slice(&[0x01, order.used])?;
-        elements.extend_from_slice(&[0x0D; 82])?;
-    }
-    message(alloc, 0x01, &elements)
-}
-
-/// A message: its type, the length of its elements, and these.
-fn message(alloc: Global, kind: u8, elements: &[u8]) -> Result<Vec<u8>, AllocError> {
-    let len = elements.len();
-    let mut octets = Vec::new(alloc);
-    octets.extend_from_slice(&[
-        kind,
-        (len / 65536 % 256) as u8,
-        (len / 256 % 256) as u8,
-        (len % 256) as u8,
-    ])?;
-    octets.extend_from_slice(elements)?;
-    Ok(octets)
-}
-
-/// Changes what a word such as `period=0` says.
-fn change(order: &mut OrderToWrite, word: &str) -> Result<(), Fail> {
-    let (name, value) = word.split_once('=').unwrap_or((word, ""));
-    match name {
-        "period" => order.period = value.parse::<u16>()?,
-        "pages" => order.pages = value.parse::<u8>()?,
-        "contents" => order.contents = value.parse::<u8>()?,
-        "used" => order.used = value.parse::<u8>()?,
-        "cells" => order.cells = value.parse::<u16>()?,
-        _ => return Err(Fail::new("an order has no such word")),
-    }
-    Ok(())
-}
-
-/// `order NAME=NUMBER ..`: why a right order with these changes is refused, or `read`.
-pub fn order(alloc: Global, words: &mut Words<'_>) -> Result<String, Fail> {
-    let mut order = RIGHT;
-    for _ in 0..6_u8 {
-        let word = words.word();
-        if word.is_empty() {
-            break;
-        }
-        change(&mut order, word)?;
-    }
-    let octets = octets_of_order(alloc, order)?;
-    Ok(String::from_str(alloc, reading(alloc, &octets))?)
-}
-
-/// Why a right order with a data coding is refused, or `read`, where only one that is read has an alphabet.
-fn reading_with(alloc: Global, dcs: u8) -> Result<&'static str, AllocError> {
-    let octets = octets_of_order(alloc, OrderToWrite { dcs, ..RIGHT })?;
-    let found = reading(alloc, &octets);
-    if Dcs(dcs).alphabet().is_some() == (found == "read") {
-        Ok(found)
-    } else {
-        Ok("against its alphabet")
-    }
-}
-
-/// `coding FIRST LAST`: the same of each of these data codings.
-pub fn coding(alloc: Global, words: &mut Words<'_>) -> Result<String, Fail> {
-    let (first, last) = (words.hex16()?, words.hex16()?);
-    let mut said = String::new(alloc);
-    for value in first..=last {
-        put_new(&mut said, reading_with(alloc, (value % 256) as u8)?)?;
-    }
-    Ok(said)
-}
-
-/// Orders to write: one that is right but for what the line names.
+/// Orders to write: one that is right but for what is changed.
 const ORDERS: &str = "
 # The period.
-order period=0 -> cause 01
-order period=1 -> read
-order period=1024 -> read
-order period=1025 -> cause 01
+read 0100006c 0e1112 030010 04000501 00010000 060000 070000 1301 0c01 0152 82*0d -> cause 01
+read 0100006c 0e1112 030010 04000501 00010000 060001 070000 1301 0c01 0152 82*0d -> read
+read 0100006c 0e1112 030010 04000501 00010000 060400 070000 1301 0c01 0152 82*0d -> read
+read 0100006c 0e1112 030010 04000501 00010000 060401 070000 1301 0c01 0152 82*0d -> cause 01
 # The number of pages, and the contents.
-order pages=0 contents=1 -> cause 01
-order pages=1 contents=1 -> read
-order pages=2 contents=1 -> cause 01
-order pages=1 contents=2 -> cause 01
-order pages=15 contents=15 -> read
-order pages=16 contents=16 -> cause 01
-order pages=0 contents=0 -> cause 05
+read 0100006c 0e1112 030010 04000501 00010000 060002 070000 1300 0c01 0152 82*0d -> cause 01
+read 0100006c 0e1112 030010 04000501 00010000 060002 070000 1301 0c01 0152 82*0d -> read
+read 0100006c 0e1112 030010 04000501 00010000 060002 070000 1302 0c01 0152 82*0d -> cause 01
+read 010000c0 0e1112 030010 04000501 00010000 060002 070000 1301 0c01 2*01520d0d0d0d0d0d0d0d0d0d0d0d0d0d0d0d0d0d0d0d0\
+    d0d0d0d0d0d0d0d0d0d0d0d0d0d0d0d0d0d0d0d0d0d0d0d0d0d0d0d0d0d0d0d0d0d0d0d0d0d0d0d0d0d0d0d0d0d0d0d0d0d0d0d0d0d0d0d0d\
+    0d0d0d0d0d -> cause 01
+read 01000504 0e1112 030010 04000501 00010000 060002 070000 130f 0c01 15*01520d0d0d0d0d0d0d0d0d0d0d0d0d0d0d0d0d0d0d0d\
+    0d0d0d0d0d0d0d0d0d0d0d0d0d0d0d0d0d0d0d0d0d0d0d0d0d0d0d0d0d0d0d0d0d0d0d0d0d0d0d0d0d0d0d0d0d0d0d0d0d0d0d0d0d0d0d0d0\
+    d0d0d0d0d0d -> read
+read 01000558 0e1112 030010 04000501 00010000 060002 070000 1310 0c01 16*01520d0d0d0d0d0d0d0d0d0d0d0d0d0d0d0d0d0d0d0d\
+    0d0d0d0d0d0d0d0d0d0d0d0d0d0d0d0d0d0d0d0d0d0d0d0d0d0d0d0d0d0d0d0d0d0d0d0d0d0d0d0d0d0d0d0d0d0d0d0d0d0d0d0d0d0d0d0d0\
+    d0d0d0d0d0d -> cause 01
+read 01000018 0e1112 030010 04000501 00010000 060002 070000 1300 0c01 -> cause 05
 # The octets used of a page.
-order used=0 -> read
-order used=82 -> read
-order used=83 -> cause 01
-order used=255 -> cause 01
+read 0100006c 0e1112 030010 04000501 00010000 060002 070000 1301 0c01 0100 82*0d -> read
+read 0100006c 0e1112 030010 04000501 00010000 060002 070000 1301 0c01 0152 82*0d -> read
+read 0100006c 0e1112 030010 04000501 00010000 060002 070000 1301 0c01 0153 82*0d -> cause 01
+read 0100006c 0e1112 030010 04000501 00010000 060002 070000 1301 0c01 01ff 82*0d -> cause 01
 # The cells.
-order cells=0 -> cause 01
-order cells=1 -> read
-order cells=64 -> read
-order cells=65 -> cause 01
+read 01000068 0e1112 030010 04000101 060002 070000 1301 0c01 0152 82*0d -> cause 01
+read 0100006c 0e1112 030010 04000501 00010000 060002 070000 1301 0c01 0152 82*0d -> read
+read 01000168 0e1112 030010 04010101 00010000000100010001000200010003 00010004000100050001000600010007 \
+    00010008000100090001000a0001000b 0001000c0001000d0001000e0001000f 00010010000100110001001200010013 \
+    00010014000100150001001600010017 00010018000100190001001a0001001b 0001001c0001001d0001001e0001001f \
+    00010020000100210001002200010023 00010024000100250001002600010027 00010028000100290001002a0001002b \
+    0001002c0001002d0001002e0001002f 00010030000100310001003200010033 00010034000100350001003600010037 \
+    00010038000100390001003a0001003b 0001003c0001003d0001003e0001003f 060002 070000 1301 0c01 0152 82*0d -> read
+read 0100016c 0e1112 030010 04010501 00010000000100010001000200010003 00010004000100050001000600010007 \
+    00010008000100090001000a0001000b 0001000c0001000d0001000e0001000f 00010010000100110001001200010013 \
+    00010014000100150001001600010017 00010018000100190001001a0001001b 0001001c0001001d0001001e0001001f \
+    00010020000100210001002200010023 00010024000100250001002600010027 00010028000100290001002a0001002b \
+    0001002c0001002d0001002e0001002f 00010030000100310001003200010033 00010034000100350001003600010037 \
+    00010038000100390001003a0001003b 0001003c0001003d0001003e0001003f 00010040 060002 070000 1301 0c01 0152 82*0d -> \
+    cause 01
 # The data codings, from the first to the last of a group.
-coding 00 0f -> read
-coding 10 1f -> cause 01
-coding 20 24 -> read
-coding 25 3f -> cause 01
-coding 40 43 -> read
-coding 44 47 -> cause 01
-coding 48 4b -> read
-coding 4c 4f -> cause 01
-coding 50 53 -> read
-coding 54 57 -> cause 01
-coding 58 5b -> read
-coding 5c ff -> cause 01
+octet 27 00 0f 0100006c 0e1112 030010 04000501 00010000 060002 070000 1301 0c01 0152 82*0d -> read
+octet 27 10 1f 0100006c 0e1112 030010 04000501 00010000 060002 070000 1301 0c01 0152 82*0d -> cause 01
+octet 27 20 24 0100006c 0e1112 030010 04000501 00010000 060002 070000 1301 0c01 0152 82*0d -> read
+octet 27 25 3f 0100006c 0e1112 030010 04000501 00010000 060002 070000 1301 0c01 0152 82*0d -> cause 01
+octet 27 40 43 0100006c 0e1112 030010 04000501 00010000 060002 070000 1301 0c01 0152 82*0d -> read
+octet 27 44 47 0100006c 0e1112 030010 04000501 00010000 060002 070000 1301 0c01 0152 82*0d -> cause 01
+octet 27 48 4b 0100006c 0e1112 030010 04000501 00010000 060002 070000 1301 0c01 0152 82*0d -> read
+octet 27 4c 4f 0100006c 0e1112 030010 04000501 00010000 060002 070000 1301 0c01 0152 82*0d -> cause 01
+octet 27 50 53 0100006c 0e1112 030010 04000501 00010000 060002 070000 1301 0c01 0152 82*0d -> read
+octet 27 54 57 0100006c 0e1112 030010 04000501 00010000 060002 070000 1301 0c01 0152 82*0d -> cause 01
+octet 27 58 5b 0100006c 0e1112 030010 04000501 00010000 060002 070000 1301 0c01 0152 82*0d -> read
+octet 27 5c ff 0100006c 0e1112 030010 04000501 00010000 060002 070000 1301 0c01 0152 82*0d -> cause 01
+";
+
+/// Messages that are written, with their lengths, and messages that no octets mean.
+const MADE: &str = "
+# Without contents, with a sixteenth one, without cells, with a 65th one, and with a page of 83 octets.
+make write 1 0 82 -> cause 01
+make write 1 16 82 -> cause 01
+make write 0 1 82 -> cause 01
+make write 65 1 82 -> cause 01
+make write 1 1 83 -> cause 01
+# Without cells, without failures, and with a channel that there isn't.
+make kill 0 0 0 -> cause 01
+make kill-failed 1 0 0 -> cause 01
+make kill-done 0 0 0 -> cause 01
+# The head 4, five numbers of 3, a list of 4 + 4, four elements of 2, and a content of 84, then 63 cells of 4 and 14
+# contents of 84 more.
+make write 1 1 82 -> 119 octets read
+make write 64 15 82 -> 1547 octets read
+# The head 4, three numbers of 3, lists of 3 + 64 * 6, 4 + 64 * 7 and 4 + 64 * 4, and the channel indicator 2.
+writes 03000456 0e1112 030010 020020 090180 010001000006010001000106 010001000206010001000306 \
+    010001000406010001000506 010001000606010001000706 010001000806010001000906 010001000a06010001000b06 \
+    010001000c06010001000d06 010001000e06010001000f06 010001001006010001001106 010001001206010001001306 \
+    010001001406010001001506 010001001606010001001706 010001001806010001001906 010001001a06010001001b06 \
+    010001001c06010001001d06 010001001e06010001001f06 010001002006010001002106 010001002206010001002306 \
+    010001002406010001002506 010001002606010001002706 010001002806010001002906 010001002a06010001002b06 \
+    010001002c06010001002d06 010001002e06010001002f06 010001003006010001003106 010001003206010001003306 \
+    010001003406010001003506 010001003606010001003706 010001003806010001003906 010001003a06010001003b06 \
+    010001003c06010001003d06 010001003e06010001003f06 0801c101 0001000000030000010001000300 \
+    0001000200030000010003000300 0001000400030000010005000300 0001000600030000010007000300 \
+    0001000800030000010009000300 0001000a0003000001000b000300 0001000c0003000001000d000300 \
+    0001000e0003000001000f000300 0001001000030000010011000300 0001001200030000010013000300 \
+    0001001400030000010015000300 0001001600030000010017000300 0001001800030000010019000300 \
+    0001001a0003000001001b000300 0001001c0003000001001d000300 0001001e0003000001001f000300 \
+    0001002000030000010021000300 0001002200030000010023000300 0001002400030000010025000300 \
+    0001002600030000010027000300 0001002800030000010029000300 0001002a0003000001002b000300 \
+    0001002c0003000001002d000300 0001002e0003000001002f000300 0001003000030000010031000300 \
+    0001003200030000010033000300 0001003400030000010035000300 0001003600030000010037000300 \
+    0001003800030000010039000300 0001003a0003000001003b000300 0001003c0003000001003d000300 \
+    0001003e0003000001003f000300 04010101 00010000000100010001000200010003 00010004000100050001000600010007 \
+    00010008000100090001000a0001000b 0001000c0001000d0001000e0001000f 00010010000100110001001200010013 \
+    00010014000100150001001600010017 00010018000100190001001a0001001b 0001001c0001001d0001001e0001001f \
+    00010020000100210001002200010023 00010024000100250001002600010027 00010028000100290001002a0001002b \
+    0001002c0001002d0001002e0001002f 00010030000100310001003200010033 00010034000100350001003600010037 \
+    00010038000100390001003a0001003b 0001003c0001003d0001003e0001003f 1200 -> 1114 octets, the same
 ";
 
 #[test]
-fn orders_have_their_limits(rt: HostRuntime) -> Result<(), Fail> {
-    expect_rows(&rt, rt.alloc(), ORDERS, 31)
+fn messages_have_their_limits(rt: HostRuntime) -> Result<(), Fail> {
+    expect_rows(&rt, rt.alloc(), ORDERS, 31)?;
+    expect_rows(&rt, rt.alloc(), MADE, 11)
 }

@@ -1,6 +1,6 @@
 //! Octets in lines: words of hexadecimal digits, of which `10*8d46` stands for `8d46` ten times.
 
-use crate::table::reading;
+use crate::rows::reading;
 use std::alloc::{AllocError, Global};
 use std::test::Fail;
 use test_support::{Words, octets_of};
@@ -27,13 +27,6 @@ pub fn octets_in(alloc: Global, words: &mut Words<'_>) -> Result<Vec<u8>, Fail> 
     octets_of(alloc, &digits)
 }
 
-/// Sets the octet at a place.
-fn set_at(octets: &mut [u8], place: usize, value: u8) {
-    if let Some(octet) = octets.get_mut(place) {
-        *octet = value;
-    }
-}
-
 /// `octet PLACE FIRST LAST OCTETS`: why the octets are refused with each octet from the first to the last at this
 /// place.
 pub fn set_octet(alloc: Global, words: &mut Words<'_>) -> Result<String, Fail> {
@@ -42,14 +35,16 @@ pub fn set_octet(alloc: Global, words: &mut Words<'_>) -> Result<String, Fail> {
     let mut octets = octets_in(alloc, words)?;
     let mut said = String::new(alloc);
     for value in first..=last {
-        set_at(&mut octets, place, (value % 256) as u8);
+        if let Some(octet) = octets.get_mut(place) {
+            *octet = (value % 256) as u8;
+        }
         put_new(&mut said, reading(alloc, &octets))?;
     }
     Ok(said)
 }
 
 /// Appends a text to those before, unless it is all that was said so far.
-pub fn put_new(said: &mut String, text: &str) -> Result<(), AllocError> {
+fn put_new(said: &mut String, text: &str) -> Result<(), AllocError> {
     if said.as_str() == text {
         return Ok(());
     }

@@ -2,8 +2,7 @@
 
 use crate::table::expect_rows;
 use cbsp_wire::{WireFault, cause};
-use std::alloc::Global;
-use std::process::Abort;
+use std::alloc::{AllocError, Global};
 use std::test::Fail;
 
 /// Octets, and why they are refused.
@@ -65,46 +64,40 @@ fn octets_are_refused_at_their_first_fault(rt: HostRuntime) -> Result<(), Fail> 
     expect_rows(&rt, rt.alloc(), REFUSED, 38)
 }
 
-/// The octets of causes, by 3GPP TS 48.049, 8.2, Cause.
-#[test]
-fn each_cause_has_its_octet(rt: HostRuntime) {
-    let causes = [
-        (cause::PARAMETER_NOT_RECOGNISED, 0x00),
-        (cause::PARAMETER_VALUE_INVALID, 0x01),
-        (cause::MESSAGE_REFERENCE_NOT_IDENTIFIED, 0x02),
-        (cause::CELL_IDENTITY_NOT_VALID, 0x03),
-        (cause::UNRECOGNISED_MESSAGE, 0x04),
-        (cause::MISSING_MANDATORY_ELEMENT, 0x05),
-        (cause::BSC_CAPACITY_EXCEEDED, 0x06),
-        (cause::CELL_MEMORY_EXCEEDED, 0x07),
-        (cause::BSC_MEMORY_EXCEEDED, 0x08),
-        (cause::CELL_BROADCAST_NOT_OPERATIONAL, 0x0A),
-        (cause::EXTENDED_CHANNEL_NOT_SUPPORTED, 0x0C),
-        (cause::MESSAGE_REFERENCE_ALREADY_USED, 0x0D),
-    ];
-    for (cause, octet) in causes {
-        assert_eq!(rt; cause, octet);
-    }
-}
-
-/// Expects that a fault has this text.
-fn expect_text(rt: &impl Abort, alloc: Global, fault: WireFault, text: &str) -> Result<(), Fail> {
-    let shown = fault.to_string(alloc)?;
-    assert_eq!(rt; shown.as_str(), text);
-    Ok(())
-}
-
-#[test]
-fn each_refusal_has_its_text(rt: HostRuntime) -> Result<(), Fail> {
-    let alloc = rt.alloc();
+/// The texts of the refusals.
+fn texts_in(alloc: Global) -> Result<String, AllocError> {
     let unknown = WireFault::Cause(cause::UNRECOGNISED_MESSAGE);
-    expect_text(&rt, alloc, WireFault::Truncated, "the message is cut off")?;
-    expect_text(
-        &rt,
-        alloc,
+    format!(in alloc;
+        "{}; {}; {unknown}; {}",
+        WireFault::Truncated,
         WireFault::TrailingBytes,
-        "octets stand after the message",
-    )?;
-    expect_text(&rt, alloc, unknown, "refused with cause 4")?;
-    expect_text(&rt, alloc, WireFault::Refused, "out of memory")
+        WireFault::Refused
+    )
+}
+
+/// The octets of causes are those of 3GPP TS 48.049, 8.2, Cause.
+#[test]
+fn each_refusal_has_its_octet_or_text(rt: HostRuntime) -> Result<(), AllocError> {
+    let causes = [
+        cause::PARAMETER_NOT_RECOGNISED,
+        cause::PARAMETER_VALUE_INVALID,
+        cause::MESSAGE_REFERENCE_NOT_IDENTIFIED,
+        cause::CELL_IDENTITY_NOT_VALID,
+        cause::UNRECOGNISED_MESSAGE,
+        cause::MISSING_MANDATORY_ELEMENT,
+        cause::BSC_CAPACITY_EXCEEDED,
+        cause::CELL_MEMORY_EXCEEDED,
+        cause::BSC_MEMORY_EXCEEDED,
+        cause::CELL_BROADCAST_NOT_OPERATIONAL,
+        cause::EXTENDED_CHANNEL_NOT_SUPPORTED,
+        cause::MESSAGE_REFERENCE_ALREADY_USED,
+    ];
+    let octets = [0, 1, 2, 3, 4, 5, 6, 7, 8, 0x0A, 0x0C, 0x0D];
+    assert_eq!(rt; causes.as_slice(), octets.as_slice());
+    let texts = texts_in(rt.alloc())?;
+    assert_eq!(rt;
+        texts.as_str(),
+        "the message is cut off; octets stand after the message; refused with cause 4; out of memory"
+    );
+    Ok(())
 }

@@ -1,13 +1,10 @@
 //! What a message says, as a line of a table lists it, and what is written of it.
 
-use crate::malformed::written_back;
-use crate::table::reading;
 use cbs_page::{Content, Serial};
 use cbsp_wire::{Cell, Count, Failure, Message, WireFault, read, write};
 use std::alloc::{AllocError, Global};
 use std::fmt::Write;
-use std::test::Fail;
-use test_support::{Drought, digits_of};
+use test_support::{Drought, Words, digits_of};
 
 /// What any message may say, as a row lists it.
 #[derive(Clone, Copy)]
@@ -38,68 +35,52 @@ fn put_octet(row: &mut String, name: &str, octet: Option<u8>) -> Result<(), Allo
     }
 }
 
-/// Puts a comma before an item that isn't the first.
-fn put_comma(row: &mut String, place: usize) -> Result<(), AllocError> {
-    if place == 0 {
-        Ok(())
-    } else {
-        row.push_str(",")
-    }
-}
-
-/// Puts `-` for a list without items.
-fn put_none(row: &mut String, length: usize) -> Result<(), AllocError> {
-    if length == 0 {
-        row.push_str("-")
-    } else {
-        Ok(())
-    }
-}
-
-/// Puts the failures.
+/// Puts the failures, or `-` for none.
 fn put_failures(row: &mut String, failures: &[Failure]) -> Result<(), AllocError> {
     row.push_str(" failures=")?;
-    for (place, failure) in failures.iter().enumerate() {
+    let mut before = "";
+    for failure in failures {
         let Failure { cell, cause } = *failure;
-        put_comma(row, place)?;
-        write!(row, "{}-{}:{cause:02x}", cell.lac, cell.ci)?;
+        write!(row, "{before}{}-{}:{cause:02x}", cell.lac, cell.ci)?;
+        before = ",";
     }
-    put_none(row, failures.len())
+    row.push_str(if failures.is_empty() { "-" } else { "" })
 }
 
-/// Puts the completed broadcasts.
+/// Puts the completed broadcasts, or `-` for none.
 fn put_completed(row: &mut String, completed: &[Count]) -> Result<(), AllocError> {
     row.push_str(" completed=")?;
-    for (place, count) in completed.iter().enumerate() {
+    let mut before = "";
+    for count in completed {
         let Count { cell, number, info } = *count;
-        put_comma(row, place)?;
-        write!(row, "{}-{}:{number}:{info}", cell.lac, cell.ci)?;
+        write!(row, "{before}{}-{}:{number}:{info}", cell.lac, cell.ci)?;
+        before = ",";
     }
-    put_none(row, completed.len())
+    row.push_str(if completed.is_empty() { "-" } else { "" })
 }
 
-/// Puts the cells.
+/// Puts the cells, or `-` for none.
 fn put_cells(row: &mut String, cells: &[Cell]) -> Result<(), AllocError> {
     row.push_str(" cells=")?;
-    for (place, cell) in cells.iter().enumerate() {
-        let Cell { lac, ci } = *cell;
-        put_comma(row, place)?;
-        write!(row, "{lac}-{ci}")?;
+    let mut before = "";
+    for cell in cells {
+        write!(row, "{before}{}-{}", cell.lac, cell.ci)?;
+        before = ",";
     }
-    put_none(row, cells.len())
+    row.push_str(if cells.is_empty() { "-" } else { "" })
 }
 
 /// Puts the contents.
 fn put_contents(row: &mut String, contents: &[Content]) -> Result<(), AllocError> {
-    row.push_str(" contents=")?;
-    for (place, content) in contents.iter().enumerate() {
-        put_comma(row, place)?;
-        write!(row, "{}:", content.used)?;
+    let mut before = " contents=";
+    for content in contents {
+        write!(row, "{before}{}:", content.used)?;
         for octet in content.octets.as_slice() {
             write!(row, "{octet:02x}")?;
         }
+        before = ",";
     }
-    put_none(row, contents.len())
+    Ok(())
 }
 
 /// The columns of a message.
@@ -210,9 +191,8 @@ fn columns_of(message: &Message) -> Columns<'_> {
 
 /// Puts the columns that any message may have.
 fn put_columns(row: &mut String, columns: Columns<'_>) -> Result<(), AllocError> {
-    row.push_str(columns.kind)?;
-    let id = columns.id;
-    write!(row, " id={id}")?;
+    let (kind, id) = (columns.kind, columns.id);
+    write!(row, "{kind} id={id}")?;
     put_serial(row, "new", columns.new)?;
     put_serial(row, "old", columns.old)?;
     put_failures(row, columns.failures)?;
@@ -244,82 +224,22 @@ fn put_message(row: &mut String, message: &Message) -> Result<(), AllocError> {
     put_contents(row, contents.as_slice())
 }
 
-/// What a fault is called.
-pub fn fault_text(fault: WireFault) -> &'static str {
+/// What a fault is called in a row, and in the answers to malformed messages.
+pub fn names_of(fault: WireFault) -> (&'static str, &'static str) {
     match fault {
-        WireFault::Truncated => "truncated",
-        WireFault::TrailingBytes => "trailing octets",
-        WireFault::Cause(0x00) => "cause 00",
-        WireFault::Cause(0x01) => "cause 01",
-        WireFault::Cause(0x04) => "cause 04",
-        WireFault::Cause(0x05) => "cause 05",
-        WireFault::Cause(_) => "another cause",
-        WireFault::Refused => "Refused",
+        WireFault::Truncated => ("truncated", "T"),
+        WireFault::TrailingBytes => ("trailing octets", "B"),
+        WireFault::Cause(0x00) => ("cause 00", "C00"),
+        WireFault::Cause(0x01) => ("cause 01", "C01"),
+        WireFault::Cause(0x04) => ("cause 04", "C04"),
+        WireFault::Cause(0x05) => ("cause 05", "C05"),
+        WireFault::Cause(_) => ("another cause", "another cause"),
+        WireFault::Refused => ("Refused", "out of memory"),
     }
-}
-
-/// Puts what octets say.
-fn put_read(
-    alloc: Global,
-    octets: &[u8],
-    row: &mut String,
-) -> Result<Result<(), AllocError>, WireFault> {
-    let message = read(alloc, octets)?;
-    let put = put_message(row, &message);
-    drop(message);
-    Ok(put)
-}
-
-/// What octets say, and the octets that are written of it.
-fn said(alloc: Global, octets: &[u8], row: &mut String) -> Result<Vec<u8>, Fail> {
-    put_read(alloc, octets, row)??;
-    Ok(written_back(alloc, octets)?)
-}
-
-/// `fronts OCTETS`: how many of their fronts are truncated.
-pub fn fronts(alloc: Global, octets: &[u8]) -> Result<String, Fail> {
-    let mut truncated = 0_u16;
-    for length in 0..octets.len() {
-        if reading(alloc, &octets[..length]) == "truncated" {
-            truncated = truncated.saturating_add(1);
-        }
-    }
-    Ok(format!(in alloc; "{truncated} of {} are truncated", octets.len())?)
-}
-
-/// Puts what octets say. As many are written of it, which say the same and are written as they are. Gives those.
-fn put_said(alloc: Global, octets: &[u8], row: &mut String) -> Result<Vec<u8>, Fail> {
-    let written = said(alloc, octets, row)?;
-    let mut again = String::new(alloc);
-    let rewritten = said(alloc, &written, &mut again)?;
-    if again.as_str() != row.as_str() || rewritten.as_slice() != written.as_slice() {
-        row.push_str(" but not again")?;
-    }
-    if written.len() != octets.len() {
-        row.push_str(" but of another length")?;
-    }
-    Ok(written)
-}
-
-/// `says OCTETS`: what they say.
-pub fn says(alloc: Global, octets: &[u8]) -> Result<String, Fail> {
-    let mut row = String::new(alloc);
-    put_said(alloc, octets, &mut row)?;
-    Ok(row)
-}
-
-/// `in_order OCTETS`: what they say, and they are what is written of it.
-pub fn in_order(alloc: Global, octets: &[u8]) -> Result<String, Fail> {
-    let mut row = String::new(alloc);
-    let written = put_said(alloc, octets, &mut row)?;
-    if written.as_slice() != octets {
-        row.push_str(" but not in order")?;
-    }
-    Ok(row)
 }
 
 /// What octets are read as, where memory can be scarce.
-pub fn read_in(alloc: Global, drought: &mut Drought, octets: &[u8]) -> Result<Message, WireFault> {
+fn read_in(alloc: Global, drought: &mut Drought, octets: &[u8]) -> Result<Message, WireFault> {
     drought.begin(alloc);
     let outcome = read(alloc, octets);
     drought.end();
@@ -338,45 +258,102 @@ pub fn written_in(
     outcome
 }
 
-/// What octets say, or why they are refused. Memory can be scarce for the reader.
-fn meant(
+/// Puts what octets say, and gives the octets that are written of it. Memory can be scarce for the reader and for the
+/// writer.
+fn said(
     alloc: Global,
     drought: &mut Drought,
     octets: &[u8],
     row: &mut String,
-) -> Result<Result<(), AllocError>, WireFault> {
+) -> Result<Vec<u8>, WireFault> {
     let message = read_in(alloc, drought, octets)?;
     let put = put_message(row, &message);
+    let written = written_in(alloc, drought, &message);
     drop(message);
-    Ok(put)
+    match put {
+        Ok(()) => written,
+        Err(AllocError) => Err(WireFault::Refused),
+    }
 }
 
-/// `means OCTETS`: what they say, or why they are refused. Memory can be scarce for the reader.
-pub fn means(alloc: Global, drought: &mut Drought, octets: &[u8]) -> Result<String, Fail> {
+/// Puts what octets say, or why they are refused. As many are written of it, which say the same and are written as they
+/// are. Gives whether they are the first ones.
+fn is_put(
+    alloc: Global,
+    drought: &mut Drought,
+    octets: &[u8],
+    row: &mut String,
+) -> Result<bool, AllocError> {
+    match said(alloc, drought, octets, row) {
+        Ok(written) => {
+            // What was written is read and written with all memory.
+            let _ = drought.verb(&mut Words::of(""), 0);
+            let mut again = String::new(alloc);
+            let is_same = match said(alloc, drought, &written, &mut again) {
+                Ok(rewritten) => rewritten == written,
+                Err(_) => false,
+            };
+            if !is_same || again != *row {
+                row.push_str(" but not again")?;
+            }
+            if written.len() != octets.len() {
+                row.push_str(" but of another length")?;
+            }
+            Ok(written.as_slice() == octets)
+        }
+        Err(fault) => {
+            row.clear();
+            row.push_str(names_of(fault).0)?;
+            Ok(false)
+        }
+    }
+}
+
+/// `says OCTETS`: what they say, or why they are refused; and `in_order OCTETS`: they are also what is written of it.
+/// Memory can be scarce for the reader and for the writer.
+pub fn says(
+    alloc: Global,
+    drought: &mut Drought,
+    verb: &str,
+    octets: &[u8],
+) -> Result<String, AllocError> {
     let mut row = String::new(alloc);
-    match meant(alloc, drought, octets, &mut row) {
-        Ok(put) => put?,
-        Err(fault) => row.push_str(fault_text(fault))?,
+    if !is_put(alloc, drought, octets, &mut row)? && verb == "in_order" {
+        row.push_str(" but not in order")?;
     }
     Ok(row)
 }
 
-/// The octets that are written of what others say, where memory can be scarce for the writer.
-fn rewritten_in(
-    alloc: Global,
-    drought: &mut Drought,
-    octets: &[u8],
-) -> Result<Result<Vec<u8>, WireFault>, WireFault> {
-    let message = read(alloc, octets)?;
-    let written = written_in(alloc, drought, &message);
-    drop(message);
-    Ok(written)
+/// `writes OCTETS`: the octets that are written of what they say, or how many these are if they are the same. Memory
+/// can be scarce for the reader and for the writer.
+pub fn writes(alloc: Global, drought: &mut Drought, octets: &[u8]) -> Result<String, AllocError> {
+    match said(alloc, drought, octets, &mut String::new(alloc)) {
+        Ok(written) if written.as_slice() == octets => {
+            format!(in alloc; "{} octets, the same", written.len())
+        }
+        Ok(written) => digits_of(alloc, &written),
+        Err(fault) => String::from_str(alloc, names_of(fault).0),
+    }
 }
 
-/// `writes OCTETS`: the octets that are written of what they say. Memory can be scarce for the writer.
-pub fn writes(alloc: Global, drought: &mut Drought, octets: &[u8]) -> Result<String, Fail> {
-    match rewritten_in(alloc, drought, octets)? {
-        Ok(written) => Ok(digits_of(alloc, written.as_slice())?),
-        Err(fault) => Ok(String::from_str(alloc, fault_text(fault))?),
+/// `read OCTETS`: why they are refused, or `read`.
+pub fn reading(alloc: Global, octets: &[u8]) -> &'static str {
+    match read(alloc, octets) {
+        Ok(message) => {
+            drop(message);
+            "read"
+        }
+        Err(fault) => names_of(fault).0,
     }
+}
+
+/// `fronts OCTETS`: how many of their fronts are truncated.
+pub fn fronts(alloc: Global, octets: &[u8]) -> Result<String, AllocError> {
+    let mut truncated = 0_u16;
+    for length in 0..octets.len() {
+        if reading(alloc, &octets[..length]) == "truncated" {
+            truncated = truncated.saturating_add(1);
+        }
+    }
+    format!(in alloc; "{truncated} of {} are truncated", octets.len())
 }

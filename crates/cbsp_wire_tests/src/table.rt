@@ -3,27 +3,14 @@
 //! `scarce ACTION -> refused; WANTED`: the action is refused with hardly any memory, with one block more each time,
 //! until it has enough. After each refusal it has all memory, and has to give what is wanted at once.
 
-use crate::cells::{contains_near_row, contains_row, distinct_row, find_near_row, find_row};
-use crate::limits::{coding, order};
-use crate::made::{make, remake};
+use crate::cells::looked_up;
+use crate::made::make;
 use crate::octets::{octets_in, set_octet};
-use crate::rows::{fault_text, fronts, in_order, means, says, writes};
-use cbsp_wire::read;
-use std::alloc::Global;
+use crate::rows::{fronts, reading, says, writes};
+use std::alloc::{AllocError, Global};
 use std::process::Abort;
 use std::test::Fail;
 use test_support::{Drought, Row, Words, after_refusals, is_refused};
-
-/// `read OCTETS`: why they are refused, or `read`.
-pub fn reading(alloc: Global, octets: &[u8]) -> &'static str {
-    match read(alloc, octets) {
-        Ok(message) => {
-            drop(message);
-            "read"
-        }
-        Err(fault) => fault_text(fault),
-    }
-}
 
 /// What comes of an action on octets.
 fn with_octets(
@@ -31,15 +18,13 @@ fn with_octets(
     drought: &mut Drought,
     verb: &str,
     octets: &[u8],
-) -> Result<String, Fail> {
+) -> Result<String, AllocError> {
     match verb {
-        "read" => Ok(String::from_str(alloc, reading(alloc, octets))?),
+        "read" => String::from_str(alloc, reading(alloc, octets)),
         "fronts" => fronts(alloc, octets),
-        "means" => means(alloc, drought, octets),
-        "says" => says(alloc, octets),
-        "in_order" => in_order(alloc, octets),
+        "says" | "in_order" => says(alloc, drought, verb, octets),
         "writes" => writes(alloc, drought, octets),
-        _ => Ok(String::from_str(alloc, "no such action")?),
+        _ => String::from_str(alloc, "no such action"),
     }
 }
 
@@ -51,26 +36,17 @@ fn carried_out(
     blocks: u16,
 ) -> Result<String, Fail> {
     let mut words = Words::of(action);
-    match drought.verb(&mut words, blocks) {
-        "order" => order(alloc, &mut words),
-        "coding" => coding(alloc, &mut words),
+    let verb = drought.verb(&mut words, blocks);
+    match verb {
         "make" => make(alloc, drought, &mut words),
-        "remake" => remake(alloc, drought, &mut words),
         "octet" => set_octet(alloc, &mut words),
-        "contains" => contains_row(alloc, &mut words),
-        "contains_near" => contains_near_row(alloc, &mut words),
-        "find" => find_row(alloc, &mut words),
-        "find_near" => find_near_row(alloc, &mut words),
-        "distinct" => distinct_row(alloc, &mut words),
-        verb => with_octets(alloc, drought, verb, &octets_in(alloc, &mut words)?),
-    }
-}
-
-/// Whether a text is what a row wants after a refusal.
-fn is_wanted(row: Row, found: &str) -> bool {
-    match row.wanted.strip_prefix("refused; ") {
-        Some(wanted) => wanted == found,
-        None => false,
+        "contains" | "contains_near" | "find" | "find_near" | "distinct" => {
+            looked_up(alloc, verb, &mut words)
+        }
+        _ => {
+            let octets = octets_in(alloc, &mut words)?;
+            Ok(with_octets(alloc, drought, verb, &octets)?)
+        }
     }
 }
 
@@ -83,18 +59,11 @@ fn outcome(alloc: Global, drought: &mut Drought, row: Row) -> Result<String, Fai
             return after_refusals(alloc, refused, found);
         }
         let again = carried_out(alloc, drought, ample, 0)?;
-        if !is_wanted(row, &again) {
+        if row.wanted.strip_prefix("refused; ") != Some(again.as_str()) {
             return Ok(format!(in alloc; "refused, and then {again}")?);
         }
     }
     Err(Fail::new("it is refused to the end"))
-}
-
-/// Expects what a row says.
-fn expect_row(rt: &impl Abort, alloc: Global, drought: &mut Drought, row: Row) -> Result<(), Fail> {
-    let found = outcome(alloc, drought, row)?;
-    assert_eq!(rt; found.as_str(), row.wanted, "{}", row.action);
-    Ok(())
 }
 
 /// Expects what the lines of a table say, and returns how many do.
@@ -107,7 +76,8 @@ fn expect_each(
     let mut rows = 0_u16;
     for line in table.split('\n') {
         if let Some(row) = Row::of(line) {
-            expect_row(rt, alloc, drought, row)?;
+            let found = outcome(alloc, drought, row)?;
+            assert_eq!(rt; found.as_str(), row.wanted, "{}", row.action);
             rows = rows.saturating_add(1);
         }
     }
