@@ -3,6 +3,7 @@
 use crate::table::expect_rows;
 use std::test::Fail;
 
+/// A replacement takes over, or is refused in one of two cells.
 const REPLACEMENTS: &str = "
 # In the second cell another message stands beside the old text: there the new one takes over a slot later.
 desk 8 1-1,1-2
@@ -45,11 +46,7 @@ p note 6 -> 1-2 entry 2 at 1: refused with cause 06
 p asks 1-2 4370 0010 -> Told { completed: 1, state: Standing }
 ";
 
-#[test]
-fn a_replacement_takes_over_or_is_refused_in_one_of_two_cells(rt: HostRuntime) -> Result<(), Fail> {
-    expect_rows(&rt, REPLACEMENTS)
-}
-
+/// An order is carried out in its cells from its slot on.
 const ORDERS: &str = "
 # High is aired before normal, and normal before background, whichever was ordered first.
 desk 4 1-1
@@ -92,11 +89,7 @@ p note 8 -> 1-2 played 3..4
 p note 9 -> 1-2 entry 2 at 4: refused with cause 0a
 ";
 
-#[test]
-fn an_order_is_carried_out_in_its_cells_from_its_slot_on(rt: HostRuntime) -> Result<(), Fail> {
-    expect_rows(&rt, ORDERS)
-}
-
+/// What a desk cannot do is refused.
 const REFUSALS: &str = "
 # Octets that are no message, an extended channel, and a reply.
 desk 4 1-1
@@ -130,11 +123,7 @@ p note 2 -> 1-1 full
 fault 3 -> Memory { done: 3 }: out of memory
 ";
 
-#[test]
-fn what_a_desk_cannot_do_is_refused(rt: HostRuntime) -> Result<(), Fail> {
-    expect_rows(&rt, REFUSALS)
-}
-
+/// Plays and statuses are noted.
 const PLAYS: &str = "
 # A play ends where the run does, and it is noted also if it has no slot. A message that was never accepted is unknown.
 desk 4 1-1
@@ -180,6 +169,9 @@ close -> 65535 slots, 1-2 1-1 2-1; \
 ";
 
 #[test]
-fn plays_and_statuses_are_noted(rt: HostRuntime) -> Result<(), Fail> {
-    expect_rows(&rt, PLAYS)
+fn orders_plays_and_statuses_are_carried_out_or_refused(rt: HostRuntime) -> Result<(), Fail> {
+    expect_rows(&rt, REPLACEMENTS, 33)?;
+    expect_rows(&rt, ORDERS, 33)?;
+    expect_rows(&rt, REFUSALS, 23)?;
+    expect_rows(&rt, PLAYS, 33)
 }

@@ -1,124 +1,118 @@
 //! A desk that is closed: what it held, and what a settlement says of it.
 
-use crate::lines::*;
-use crate::run::*;
-use bsc_table::{Aired, CellBook, CellRecord};
+use crate::lines::cells_of;
+use crate::run::Run;
+use bsc_table::{CellBook, CellRecord};
 use cbsp_wire::Cell;
-use order_desk::{Closed, Desk, Pass, cells_ok};
-use std::alloc::Global;
+use order_desk::{Closed, Pass, cells_ok};
+use std::alloc::{AllocError, Global};
+use std::fmt::Write;
+use std::mem;
 use std::test::Fail;
 use test_support::{Drought, Words};
 
-/// Adds what slots have aired: entry and page of each, `-` for none.
-fn add_air(text: &mut String, air: &[Option<Aired>]) -> Result<(), Fail> {
-    for aired in air {
-        match aired {
-            Some(Aired { entry, page }) => write!(text, " {entry}.{page}")?,
-            None => text.push_str(" -")?,
+/// Tells the slots and the cells of a desk.
+fn put_desk(told: &mut String, slots: u16, cells: &[Cell]) -> Result<(), AllocError> {
+    write!(told, "{slots} slots,")?;
+    for cell in cells {
+        write!(told, " {}-{}", cell.lac, cell.ci)?;
+    }
+    Ok(())
+}
+
+/// `shows`: the slots and the cells of the desk.
+pub fn show(run: &mut Run) -> Result<(), Fail> {
+    match &run.desk {
+        Some(desk) => Ok(put_desk(&mut run.told, desk.slots(), desk.cells())?),
+        None => Err(Fail::new("there is no desk")),
+    }
+}
+
+/// Tells a book: its cell, how many entries there are, its clock, and what was aired, entry and page of each slot, `-`
+/// for none.
+fn put_book(told: &mut String, book: &CellBook) -> Result<(), AllocError> {
+    let Cell { lac, ci } = book.cell();
+    let (entries, clock) = (book.log().len(), book.clock());
+    write!(
+        told,
+        "; {lac}-{ci}: log of {entries}, clock at {clock}, air"
+    )?;
+    for slot in book.air() {
+        match slot {
+            Some(aired) => write!(told, " {}.{}", aired.entry, aired.page)?,
+            None => told.push_str(" -")?,
         }
     }
     Ok(())
 }
 
-/// Adds cells.
-fn add_cells(text: &mut String, cells: &[Cell]) -> Result<(), Fail> {
-    for cell in cells {
-        write!(text, " {}-{}", cell.lac, cell.ci)?;
+/// Tells what a closed desk held.
+fn put_closed(told: &mut String, closed: &Closed) -> Result<(), AllocError> {
+    put_desk(told, closed.slots, &closed.cells)?;
+    for book in &closed.books {
+        put_book(told, book)?;
     }
     Ok(())
 }
 
-/// The slots and the cells of a desk, and how many notes a new pass has.
-pub fn desk_text(alloc: Global, desk: &Desk) -> Result<String, Fail> {
-    let mut text = format!(in alloc; "{} slots,", desk.slots())?;
-    add_cells(&mut text, desk.cells())?;
-    Ok(text)
-}
-
-/// Adds a book: its cell, its clock, how many entries there are, and what was aired.
-fn add_book(text: &mut String, book: &CellBook) -> Result<(), Fail> {
-    let Cell { lac, ci } = book.cell();
-    let entries = book.log().len();
-    write!(
-        text,
-        "; {lac}-{ci}: log of {entries}, clock at {}, air",
-        book.clock()
-    )?;
-    add_air(text, book.air())
-}
-
-/// What a closed desk held: its slots, its cells, and of each book the cell, the clock, how many entries there are, and
-/// what was aired.
-fn closed_text(alloc: Global, closed: &Closed) -> Result<String, Fail> {
-    let mut text = format!(in alloc; "{} slots,", closed.slots)?;
-    add_cells(&mut text, &closed.cells)?;
-    for book in &closed.books {
-        add_book(&mut text, book)?;
-    }
-    Ok(text)
-}
-
-/// What a desk held, once it is closed.
-pub fn closed(alloc: Global, run: &mut Run) -> Result<String, Fail> {
-    let desk = taken(alloc, &mut run.desk)?;
+/// `close`: what the desk held, once it is closed.
+pub fn close(alloc: Global, run: &mut Run) -> Result<(), Fail> {
+    let Some(desk) = mem::replace(&mut run.desk, None) else {
+        return Err(Fail::new("there is no desk"));
+    };
     run.drought.begin(alloc);
     let outcome = desk.close();
     run.drought.end();
     match outcome {
-        Ok(closed) => {
-            let text = closed_text(alloc, &closed);
-            drop(closed);
-            text
-        }
-        Err(fault) => shown(alloc, &fault),
+        Ok(closed) => put_closed(&mut run.told, &closed)?,
+        Err(_) => run.told.push_str("Refused")?,
     }
+    Ok(())
 }
 
-/// What the records of a settlement say.
-fn records_text(alloc: Global, records: &[CellRecord]) -> Result<String, Fail> {
-    let mut text = String::from_str(alloc, "settled")?;
+/// Tells the records of a settlement.
+fn put_records(told: &mut String, records: &[CellRecord]) -> Result<(), AllocError> {
+    told.push_str("settled")?;
     for record in records {
         let Cell { lac, ci } = record.cell();
-        let entries = record.log().len();
+        let (slots, air, entries) = (record.slots(), record.air().len(), record.log().len());
         write!(
-            text,
-            " {lac}-{ci}: {} slots, air of {}, log of {entries}",
-            record.slots(),
-            record.air().len()
+            told,
+            " {lac}-{ci}: {slots} slots, air of {air}, log of {entries}"
         )?;
     }
-    Ok(text)
+    Ok(())
 }
 
-/// What the settlement of a closed desk says.
-fn settlement_text(
+/// Tells the settlement of a closed desk with passes.
+fn put_settlement(
     alloc: Global,
+    told: &mut String,
+    drought: &mut Drought,
     closed: Closed,
     passes: &[Pass],
-    drought: &mut Drought,
-) -> Result<String, Fail> {
+) -> Result<(), AllocError> {
     if closed.cells.len() != closed.books.len() || !cells_ok(&closed.cells) {
         drop(closed);
-        return Err(Fail::new("the desk has other cells or books"));
+        return told.push_str("the desk has other cells or books");
     }
     drought.begin(alloc);
     let outcome = closed.settle(alloc, passes);
     drought.end();
     match outcome {
-        Ok(records) => records_text(alloc, &records),
-        Err(fault) => shown(alloc, &fault),
+        Ok(records) => put_records(told, &records),
+        Err(fault) => write!(told, "{fault:?}"),
     }
 }
 
 /// The passes that a word names.
 fn named<'a>(passes: &'a [Pass], word: &str) -> Result<&'a [Pass], Fail> {
     let (from, to) = match word {
-        "none" => (0, 0),
         "p" => (0, 1),
         "q" => (1, 2),
         "p,q" => (0, 2),
         "p,q,r" => (0, 3),
-        _ => return Err(Fail::new("no such passes")),
+        _ => (0, 0),
     };
     match passes.get(from..to) {
         Some(some) => Ok(some),
@@ -126,23 +120,20 @@ fn named<'a>(passes: &'a [Pass], word: &str) -> Result<&'a [Pass], Fail> {
     }
 }
 
-/// What the settlement of a desk says. The word: the passes that it is settled with.
-pub fn settled(alloc: Global, run: &mut Run, words: &mut Words) -> Result<String, Fail> {
-    let passes = named(&run.passes, words.word())?;
-    let closed = taken(alloc, &mut run.desk)?.close()?;
-    settlement_text(alloc, closed, passes, &mut run.drought)
-}
-
-/// What the settlement of a desk says whose cells are exchanged, while its books stay. The words: the cells, and the
-/// passes that it is settled with.
-pub fn settled_as(alloc: Global, run: &mut Run, words: &mut Words) -> Result<String, Fail> {
-    let cells = cells_of(alloc, words.word())?;
-    let passes = named(&run.passes, words.word())?;
-    let Closed { slots, books, .. } = taken(alloc, &mut run.desk)?.close()?;
-    let exchanged = Closed {
-        cells,
-        slots,
-        books,
+/// `settle PASSES`: the settlement of the desk with these passes, `none` or some. `settle-as CELLS PASSES`: the same
+/// once its cells are exchanged for these, while its books stay.
+pub fn settle(alloc: Global, run: &mut Run, verb: &str, words: &mut Words) -> Result<(), Fail> {
+    let exchanged = match verb {
+        "settle-as" => Some(cells_of(alloc, words.word())?),
+        _ => None,
     };
-    settlement_text(alloc, exchanged, passes, &mut run.drought)
+    let passes = named(&run.passes, words.word())?;
+    let mut closed = match mem::replace(&mut run.desk, None) {
+        Some(desk) => desk.close()?,
+        None => return Err(Fail::new("there is no desk")),
+    };
+    if let Some(cells) = exchanged {
+        closed.cells = cells;
+    }
+    Ok(put_settlement(alloc, &mut run.told, &mut run.drought, closed, passes)?)
 }

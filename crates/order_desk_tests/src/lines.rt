@@ -1,135 +1,97 @@
 //! What the words of a row name: cells, and messages of the warning centre as octets.
 
-use cbs_page::{Content, Dcs, Serial};
-use cbsp_wire::{Cell, Cells, Contents, Message, write};
-use std::alloc::Global;
+use cbsp_wire::Cell;
+use std::alloc::{AllocError, Global};
+use std::fmt::Write;
 use std::test::Fail;
 use test_support::{Words, octets_of};
 
-/// A page.
-const PAGE: Content = Content {
-    used: 1,
-    octets: [0x0D; 82],
-};
+/// The element of a page, of which one octet is used.
+const PAGE: &str =
+    "01010D0D0D0D0D0D0D0D0D0D0D0D0D0D0D0D0D0D0D0D0D0D0D0D0D0D0D0D0D0D0D0D0D0D0D0D0D0D0D0D0D\
+    0D0D0D0D0D0D0D0D0D0D0D0D0D0D0D0D0D0D0D0D0D0D0D0D0D0D0D0D0D0D0D0D0D0D0D0D0D0D0D0D0D";
 
 /// The cell of a word: location area code and cell identity, as `1-2`.
 pub fn cell_of(word: &str) -> Result<Cell, Fail> {
-    match word.split_once('-') {
-        Some((lac, ci)) => Ok(Cell {
-            lac: lac.parse::<u16>()?,
-            ci: ci.parse::<u16>()?,
-        }),
-        None => Err(Fail::new("no cell")),
-    }
+    let (lac, ci) = word.split_once('-').unwrap_or((word, ""));
+    Ok(Cell {
+        lac: lac.parse::<u16>()?,
+        ci: ci.parse::<u16>()?,
+    })
 }
 
-/// The cells of a word: `1-1,1-2`.
+/// The cells of a word: `1-1,1-2`, or `none`.
 pub fn cells_of(alloc: Global, word: &str) -> Result<Vec<Cell>, Fail> {
     let mut cells = Vec::new(alloc);
     for part in word.split(',') {
-        cells.push(cell_of(part)?)?;
-    }
-    Ok(cells)
-}
-
-/// So many cells of location area 1, from 1-0 on.
-pub fn many_cells(alloc: Global, count: u16) -> Result<Vec<Cell>, Fail> {
-    let mut cells = Vec::new(alloc);
-    for ci in 0..count {
-        cells.push(Cell { lac: 1, ci })?;
-    }
-    Ok(cells)
-}
-
-/// The octets of a message.
-fn written(alloc: Global, message: Message) -> Result<Vec<u8>, Fail> {
-    let octets = write(alloc, &message);
-    drop(message);
-    Ok(octets?)
-}
-
-/// The contents of so many pages.
-fn pages_of(alloc: Global, count: u16) -> Result<Contents, Fail> {
-    let mut pages = Vec::new(alloc);
-    for _ in 0..count {
-        pages.push(PAGE)?;
-    }
-    Ok(Contents::new(pages)?)
-}
-
-/// The category of a word (3GPP TS 48.049, 8.2).
-fn category_of(word: &str) -> Result<u8, Fail> {
-    match word {
-        "high" => Ok(0),
-        "background" => Ok(1),
-        "normal" => Ok(2),
-        _ => Err(Fail::new("no category")),
-    }
-}
-
-/// The octets of a WRITE-REPLACE of so many pages that is broadcast until it is stopped, and replaces the message of
-/// this serial number. The words: the serial number, the category, the period, and the cells.
-fn write_of(
-    alloc: Global,
-    pages: u16,
-    old_serial: Option<Serial>,
-    id: u16,
-    words: &mut Words,
-) -> Result<Vec<u8>, Fail> {
-    let new_serial = Serial::of(words.hex16()?);
-    let category = Some(category_of(words.word())?);
-    let period = words.number16()?;
-    let list = cells_of(alloc, words.word())?;
-    let contents = pages_of(alloc, pages)?;
-    let message = Message::Write {
-        id,
-        new_serial,
-        old_serial,
-        cells: Cells { list },
-        channel: None,
-        category,
-        period,
-        broadcasts: 0,
-        dcs: Dcs(0x01),
-        contents,
-    };
-    written(alloc, message)
-}
-
-/// The octets of a KILL. The words: the identifier, the serial number, and the cells.
-fn kill_of(alloc: Global, words: &mut Words) -> Result<Vec<u8>, Fail> {
-    let id = words.number16()?;
-    let old_serial = Serial::of(words.hex16()?);
-    let list = cells_of(alloc, words.word())?;
-    let message = Message::Kill {
-        id,
-        old_serial,
-        cells: Cells { list },
-        channel: None,
-    };
-    written(alloc, message)
-}
-
-/// The octets of a replacement of so many pages. The words: the identifier, the serial number of the replaced message,
-/// and what a write has.
-fn replacement_of(alloc: Global, pages: u16, words: &mut Words) -> Result<Vec<u8>, Fail> {
-    let id = words.number16()?;
-    let old_serial = Some(Serial::of(words.hex16()?));
-    write_of(alloc, pages, old_serial, id, words)
-}
-
-/// The octets of a message: `write ..`, `replace ..`, `kill ..`, or `octets` and their digits. The identifier comes
-/// first, and in a replacement the serial number of the replaced message after it.
-pub fn message_of(alloc: Global, words: &mut Words) -> Result<Vec<u8>, Fail> {
-    match words.word() {
-        "write" => {
-            let id = words.number16()?;
-            write_of(alloc, 1, None, id, words)
+        if part != "none" {
+            cells.push(cell_of(part)?)?;
         }
-        "replace" => replacement_of(alloc, 1, words),
-        "replace-by-two-pages" => replacement_of(alloc, 2, words),
-        "kill" => kill_of(alloc, words),
-        "octets" => octets_of(alloc, words.word()),
-        _ => Err(Fail::new("no such message")),
     }
+    Ok(cells)
+}
+
+/// Puts the element of a list of cells.
+fn put_cells(digits: &mut String, cells: &[Cell]) -> Result<(), AllocError> {
+    let length = cells.len().wrapping_mul(4).wrapping_add(1);
+    write!(digits, "04{length:04x}01")?;
+    for cell in cells {
+        write!(digits, "{:04x}{:04x}", cell.lac, cell.ci)?;
+    }
+    Ok(())
+}
+
+/// Puts the elements that a write and a replacement have of their own: their message is broadcast until it is stopped.
+fn put_write(digits: &mut String, pages: u8, words: &mut Words) -> Result<(), Fail> {
+    let (serial, category, period) = (words.word(), words.word(), words.number16()?);
+    let category = match category {
+        "high" => "00",
+        "background" => "01",
+        _ => "02",
+    };
+    write!(
+        digits,
+        "03{serial}05{category}06{period:04x}07000013{pages:02x}0c01"
+    )?;
+    for _ in 0..pages {
+        digits.push_str(PAGE)?;
+    }
+    Ok(())
+}
+
+/// Puts the elements of an order, which may come in any order. The words: the identifier, the serial number of the
+/// message that is killed or replaced, what a write has, and the cells.
+fn put_elements(
+    alloc: Global,
+    digits: &mut String,
+    verb: &str,
+    words: &mut Words,
+) -> Result<(), Fail> {
+    let id = words.number16()?;
+    write!(digits, "0e{id:04x}")?;
+    if verb != "write" {
+        let serial = words.word();
+        write!(digits, "02{serial}")?;
+    }
+    match verb {
+        "write" | "replace" => put_write(digits, 1, words)?,
+        "replace-by-two-pages" => put_write(digits, 2, words)?,
+        _ => {}
+    }
+    let cells = cells_of(alloc, words.word())?;
+    Ok(put_cells(digits, &cells)?)
+}
+
+/// The octets of a message: `write ..`, `replace ..`, `replace-by-two-pages ..`, `kill ..`, or `octets` and their
+/// digits.
+pub fn message_of(alloc: Global, words: &mut Words) -> Result<Vec<u8>, Fail> {
+    let verb = words.word();
+    if verb == "octets" {
+        return octets_of(alloc, words.word());
+    }
+    let mut digits = String::new(alloc);
+    put_elements(alloc, &mut digits, verb, words)?;
+    let kind = if verb == "kill" { "04" } else { "01" };
+    let length = digits.len() / 2;
+    octets_of(alloc, &format!(in alloc; "{kind}{length:06x}{digits}")?)
 }

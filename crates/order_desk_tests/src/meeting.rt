@@ -143,9 +143,8 @@ fn order_all<T: AllocGlobal + Threads + Wait + Sync>(
     orders: &[Vec<u8>],
     meeting: &Meeting,
 ) -> bool {
-    let desk = &run.desk;
-    match (run.passes.as_mut_slice(), orders) {
-        ([p, q, r], [one, two, three]) => {
+    match (&run.desk, run.passes.as_mut_slice(), orders) {
+        (Some(desk), [p, q, r], [one, two, three]) => {
             let (first_done, others_done) = thread::join(
                 rt,
                 || order(rt, desk, p, one, meeting),
@@ -157,25 +156,17 @@ fn order_all<T: AllocGlobal + Threads + Wait + Sync>(
     }
 }
 
-/// Expects that three orders are carried out while their threads meet.
-fn expect_met<T: AllocGlobal + Threads + Wait + Abort + Sync>(
+/// Has three orders carried out while their threads meet. Says whether there were three replies, whether a thread
+/// waited in vain, and whether two were inside one cell.
+fn meet<T: AllocGlobal + Threads + Wait + Sync>(
     rt: &T,
     run: &mut Run,
     orders: &[Vec<u8>],
-) {
+) -> (bool, bool, bool) {
     let meeting = Meeting::new();
-    assert!(rt;
-        order_all(rt, run, orders, &meeting),
-        "there were fewer than three replies"
-    );
-    assert!(rt;
-        !meeting.gave_up.load(Ordering::SeqCst),
-        "a thread waited in vain"
-    );
-    assert!(rt;
-        !meeting.too_early.load(Ordering::SeqCst),
-        "two were inside one cell"
-    );
+    let are_done = order_all(rt, run, orders, &meeting);
+    let gave_up = meeting.gave_up.load(Ordering::SeqCst);
+    (are_done, gave_up, meeting.too_early.load(Ordering::SeqCst))
 }
 
 /// Makes the octets of the three orders.
@@ -211,9 +202,10 @@ fn expect_meeting<T: AllocGlobal + Threads + Wait + Abort + Sync>(
     rt: &T,
     run: &mut Run,
     orders: &[Vec<u8>],
-) -> Result<u64, Fail> {
+) -> Result<u16, Fail> {
     let _ = expect_each(rt, run, DESK)?;
-    expect_met(rt, run, orders);
+    let met = meet(rt, run, orders);
+    assert_eq!(rt; met, (true, false, false));
     expect_each(rt, run, AFTERWARDS)
 }
 

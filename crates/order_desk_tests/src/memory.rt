@@ -28,11 +28,7 @@ scarce reply kill 4370 0010 1-1,1-2 cause 02 stopped 258 -> \
     refused; 0600001a0e11120200100900060100010001020800080100010002010200
 ";
 
-#[test]
-fn a_call_is_refused_until_it_has_memory(rt: HostRuntime) -> Result<(), Fail> {
-    expect_rows(&rt, CALLS)
-}
-
+/// An order stops where memory ends.
 const ORDERS: &str = "
 # An order that had no answer is given once more, and has the reply that it would have had. Its cell was played once.
 desk 4 1-1,1-2
@@ -66,11 +62,6 @@ close -> 4 slots, 1-1 1-2 1-3 1-4; 1-1: log of 1, clock at 2, air - -; 1-2: log 
     1-3: log of 0, clock at 0, air; 1-4: log of 0, clock at 0, air
 ";
 
-#[test]
-fn an_order_stops_where_memory_ends(rt: HostRuntime) -> Result<(), Fail> {
-    expect_rows(&rt, ORDERS)
-}
-
 const SETTLEMENTS: &str = "
 desk 4 1-1,1-2,1-3,1-4; p orders 2 write 4370 0010 normal 2 1-1,1-2,1-3,1-4; scarce settle p -> \
     refused; settled 1-1: 4 slots, air of 4, log of 1 1-2: 4 slots, air of 4, log of 1 \
@@ -78,6 +69,8 @@ desk 4 1-1,1-2,1-3,1-4; p orders 2 write 4370 0010 normal 2 1-1,1-2,1-3,1-4; sca
 ";
 
 #[test]
-fn a_settlement_is_refused_where_memory_ends(rt: HostRuntime) -> Result<(), Fail> {
-    expect_rows(&rt, SETTLEMENTS)
+fn calls_are_refused_until_they_have_memory(rt: HostRuntime) -> Result<(), Fail> {
+    expect_rows(&rt, CALLS, 14)?;
+    expect_rows(&rt, ORDERS, 20)?;
+    expect_rows(&rt, SETTLEMENTS, 1)
 }

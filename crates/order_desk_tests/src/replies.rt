@@ -4,15 +4,15 @@ ghost use Rattle.std.specs.Prelude.{◌≡◌, ◌≤◌, true, All, IsTrue, len
 ghost use Rattle.cbsp_wire.specs.Range.{cells_are_valid};
 ghost use Rattle.order_desk.specs.Reply.{cells_answered, IsAnswerTo};
 
-use crate::lines::*;
-use crate::run::shown;
+use crate::lines::{cells_of, message_of};
+use crate::run::Run;
 use crate::table::expect_rows;
 use bsc_table::{Answer, Command, orders_of};
 use cbsp_wire::{Cell, read};
 use order_desk::{cells_ok, reply_of};
-use std::alloc::Global;
+use std::alloc::{AllocError, Global};
 use std::test::Fail;
-use test_support::{Drought, Words, digits_of};
+use test_support::{Words, digits_of};
 
 /// Whether a command can get an answer.
 fn can_get(command: &Command, answer: Answer) -> bool
@@ -52,81 +52,82 @@ fn answer_of(words: &mut Words) -> Result<Answer, Fail> {
             }
             Ok(Answer::Cause(cause as u8))
         }
+        "" => Ok(Answer::Unknown),
         _ => Err(Fail::new("no such answer")),
     }
 }
 
-/// The octets of the reply to a command, by the answers of its cells.
-fn reply_text(
+/// Tells the octets of the reply to a command, by the answers of its cells, where memory can be scarce.
+fn put_reply(
     alloc: Global,
-    drought: &mut Drought,
+    run: &mut Run,
     command: &Command,
     answers: &[(Cell, Answer)],
-) -> Result<String, Fail>
+) -> Result<(), AllocError>
     requires some { 1 ≤ length answers.now }
     requires valid { cells_are_valid (cells_answered answers.now) ≡ true }
     requires answered { All (λ answer. IsAnswerTo command.now answer.1) answers.now }
 {
-    drought.begin(alloc);
+    run.drought.begin(alloc);
     let outcome = reply_of(alloc, command, answers);
-    drought.end();
+    run.drought.end();
     match outcome {
-        Ok(reply) => Ok(digits_of(alloc, reply.as_slice())?),
-        Err(fault) => shown(alloc, &fault),
+        Ok(reply) => run.told.push_str(&digits_of(alloc, &reply)?),
+        Err(_) => run.told.push_str("Refused"),
     }
 }
 
-/// The octets of the reply to a command, by the answer of its one cell, or by those of its two.
-fn reply_to(
+/// Tells the octets of the reply to a command, by the answer of its one cell, or by those of its two. It says so if the
+/// command can't get such an answer.
+fn put_reply_to(
     alloc: Global,
-    drought: &mut Drought,
+    run: &mut Run,
     command: &Command,
     cells: &[Cell],
-    words: &mut Words,
-) -> Result<String, Fail> {
-    let first = answer_of(words)?;
+    answers: (Answer, Answer),
+) -> Result<(), AllocError> {
+    let (first, second) = answers;
     match cells {
-        [one] if can_get(command, first) && cells_ok(&[*one]) => reply_text(
-            alloc,
-            drought,
-            command,
-            &[(*one, first)],
-        ),
-        [one, other] => {
-            let second = answer_of(words)?;
-            if can_get(command, first) && can_get(command, second) && cells_ok(&[*one, *other]) {
-                reply_text(alloc, drought, command, &[(*one, first), (*other, second)])
-            } else {
-                Err(Fail::new("the command can't get this answer"))
-            }
+        [one] if can_get(command, first) && cells_ok(&[*one]) => {
+            put_reply(alloc, run, command, &[(*one, first)])
         }
-        _ => Err(Fail::new("the command can't get this answer")),
+        [one, other]
+            if can_get(command, first) && can_get(command, second) && cells_ok(&[*one, *other]) => {
+            put_reply(alloc, run, command, &[(*one, first), (*other, second)])
+        }
+        _ => run.told.push_str("the command can't get this answer"),
     }
 }
 
-/// The octets of the reply to an order, by the answers of its cells. The words: the order, and the answers.
-pub fn replied(alloc: Global, drought: &mut Drought, words: &mut Words) -> Result<String, Fail> {
-    let octets = message_of(alloc, words)?;
-    let message = read(alloc, &octets)?;
-    match orders_of(message) {
+/// Tells the octets of the reply to an order, by the answers of its cells.
+fn put_reply_to_order(
+    alloc: Global,
+    run: &mut Run,
+    octets: &[u8],
+    answers: (Answer, Answer),
+) -> Result<(), Fail> {
+    match orders_of(read(alloc, octets)?) {
         Ok((cells, command)) => {
-            let text = reply_to(alloc, drought, &command, &cells, words);
+            let done = put_reply_to(alloc, run, &command, &cells, answers);
             drop(command);
-            text
+            Ok(done?)
         }
-        Err(_cause) => Err(Fail::new("no order")),
+        Err(_) => Err(Fail::new("no order")),
     }
 }
 
-/// Whether a desk may have these cells. The words: the cells, `none`, or `1-0..` and how many there are from 1-0 on.
-pub fn cells_text(alloc: Global, words: &mut Words) -> Result<String, Fail> {
-    let cells = match words.word() {
-        "none" => Vec::new(alloc),
-        "1-0.." => many_cells(alloc, words.number16()?)?,
-        word => cells_of(alloc, word)?,
-    };
+/// `reply ORDER ANSWER ..`: the octets of the reply to an order, by the answers of its cells.
+pub fn reply(alloc: Global, run: &mut Run, words: &mut Words) -> Result<(), Fail> {
+    let octets = message_of(alloc, words)?;
+    let answers = (answer_of(words)?, answer_of(words)?);
+    put_reply_to_order(alloc, run, &octets, answers)
+}
+
+/// `cells CELLS`: whether a desk may have these cells.
+pub fn judge_cells(alloc: Global, run: &mut Run, words: &mut Words) -> Result<(), Fail> {
+    let cells = cells_of(alloc, words.word())?;
     let text = if cells_ok(&cells) { "right" } else { "wrong" };
-    Ok(String::from_str(alloc, text)?)
+    Ok(run.told.push_str(text)?)
 }
 
 /// Worked by hand from the layouts of the elements.
@@ -145,8 +146,12 @@ reply replace 4370 0010 0011 normal 2 1-2,1-1 cause 06 cause 02 -> \
     030000180e111203001102001009000c010001000206010001000102
 
 # A desk has at most 64 cells, and none twice.
-cells 1-0.. 64 -> right
-cells 1-0.. 65 -> wrong
+cells 1-0,1-1,1-2,1-3,1-4,1-5,1-6,1-7,1-8,1-9,1-10,1-11,1-12,1-13,1-14,1-15,1-16,1-17,1-18,1-19,1-20,1-21,1-22,1-23,\
+    1-24,1-25,1-26,1-27,1-28,1-29,1-30,1-31,1-32,1-33,1-34,1-35,1-36,1-37,1-38,1-39,1-40,1-41,1-42,1-43,1-44,1-45,\
+    1-46,1-47,1-48,1-49,1-50,1-51,1-52,1-53,1-54,1-55,1-56,1-57,1-58,1-59,1-60,1-61,1-62,1-63 -> right
+cells 1-0,1-1,1-2,1-3,1-4,1-5,1-6,1-7,1-8,1-9,1-10,1-11,1-12,1-13,1-14,1-15,1-16,1-17,1-18,1-19,1-20,1-21,1-22,1-23,\
+    1-24,1-25,1-26,1-27,1-28,1-29,1-30,1-31,1-32,1-33,1-34,1-35,1-36,1-37,1-38,1-39,1-40,1-41,1-42,1-43,1-44,1-45,\
+    1-46,1-47,1-48,1-49,1-50,1-51,1-52,1-53,1-54,1-55,1-56,1-57,1-58,1-59,1-60,1-61,1-62,1-63,1-64 -> wrong
 cells 1-2,2-1,1-2 -> wrong
 cells 1-2,2-1,2-2 -> right
 cells none -> right
@@ -154,5 +159,5 @@ cells none -> right
 
 #[test]
 fn a_reply_says_what_each_cell_answered(rt: HostRuntime) -> Result<(), Fail> {
-    expect_rows(&rt, REPLIES)
+    expect_rows(&rt, REPLIES, 11)
 }

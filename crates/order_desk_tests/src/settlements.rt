@@ -123,5 +123,5 @@ settle none -> Strange { cell: Cell { lac: 1, ci: 1 }, number: 0 }
 
 #[test]
 fn a_desk_is_settled_or_the_first_disagreement_is_told(rt: HostRuntime) -> Result<(), Fail> {
-    expect_rows(&rt, SETTLEMENTS)
+    expect_rows(&rt, SETTLEMENTS, 81)
 }

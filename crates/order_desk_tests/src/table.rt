@@ -1,107 +1,77 @@
-//! Tables of lines: what is done at a desk, an arrow, and what comes of it.
+//! Tables of lines: what is done at a desk, an arrow, and what comes of it. `p`, `q` and `r` are the passes of users.
+//!
+//! The steps of a row are parted by `;`, and what the last one says is wanted. A step `scarce ..` has hardly any
+//! memory. If memory is refused, the row is carried out again, with one block more each time.
 
-use crate::ends::*;
-use crate::replies::*;
-use crate::run::*;
+use crate::ends::{close, settle, show};
+use crate::replies::{judge_cells, reply};
+use crate::run::{Run, begin, put_fault, take_out, with_pass};
 use order_desk::DeskFault;
 use std::alloc::Global;
+use std::mem;
 use std::process::Abort;
 use std::sync::Wait;
 use std::test::Fail;
 use test_support::{Drought, Row, Words, after_refusals, is_refused};
 
-/// What comes of an action at a desk as a whole.
-fn at_desk<T: AllocGlobal + Wait>(
+/// `fault N`: the fault of an order that memory ended after so many answers, by its name and its text.
+fn tell_memory(run: &mut Run, words: &mut Words) -> Result<(), Fail> {
+    let done = words.number16()?;
+    Ok(put_fault(&mut run.told, DeskFault::Memory { done })?)
+}
+
+/// Tells what comes of an action.
+fn carry_out<T: AllocGlobal + Wait>(
     rt: &T,
     run: &mut Run,
     verb: &str,
     words: &mut Words,
-) -> Result<String, Fail> {
+) -> Result<(), Fail> {
     match verb {
-        "desk" => {
-            run.passes = new_passes(rt.alloc(), &run.desk)?;
-            begin(rt.alloc(), run, words)
-        }
-        "next-desk" => begin(rt.alloc(), run, words),
-        "shows" => desk_text(rt.alloc(), &run.desk),
-        "close" => closed(rt.alloc(), run),
-        "piece" => taken_out(rt, run, words),
-        "settle" => settled(rt.alloc(), run, words),
-        "settle-as" => settled_as(rt.alloc(), run, words),
+        "p" | "q" | "r" => with_pass(rt, run, verb, words),
+        "desk" | "next-desk" => begin(rt.alloc(), run, verb, words),
+        "piece" => take_out(rt, run, words),
+        "shows" => show(run),
+        "close" => close(rt.alloc(), run),
+        "settle" | "settle-as" => settle(rt.alloc(), run, verb, words),
+        "reply" => reply(rt.alloc(), run, words),
+        "cells" => judge_cells(rt.alloc(), run, words),
+        "fault" => tell_memory(run, words),
         _ => Err(Fail::new("no such action")),
     }
 }
 
-/// A fault of an order that memory ended, by its name and its text. The word: how many answers there are.
-fn memory_told(alloc: Global, words: &mut Words) -> Result<String, Fail> {
-    let done = words.number16()?;
-    told(alloc, &DeskFault::Memory { done })
-}
-
-/// What comes of an action.
-fn carried_out<T: AllocGlobal + Wait>(
-    rt: &T,
-    run: &mut Run,
-    verb: &str,
-    words: &mut Words,
-) -> Result<String, Fail> {
-    match verb {
-        "p" => with_pass(rt, run, 0, words),
-        "q" => with_pass(rt, run, 1, words),
-        "r" => with_pass(rt, run, 2, words),
-        "reply" => replied(rt.alloc(), &mut run.drought, words),
-        "cells" => cells_text(rt.alloc(), words),
-        "fault" => memory_told(rt.alloc(), words),
-        _ => at_desk(rt, run, verb, words),
-    }
-}
-
-/// What comes of a step. If it begins with `scarce`, it has so many blocks of memory.
-fn step_done<T: AllocGlobal + Wait>(
-    rt: &T,
-    run: &mut Run,
-    step: &str,
-    blocks: u16,
-) -> Result<String, Fail> {
-    let mut words = Words::of(step);
-    let verb = run.drought.verb(&mut words, blocks);
-    let found = carried_out(rt, run, verb, &mut words)?;
-    if words.word().is_empty() {
-        return Ok(found);
-    }
-    Err(Fail::new("words are left over"))
-}
-
-/// Carries out the steps of a row, which `;` parts, and returns what comes of the last one.
-fn steps_done<T: AllocGlobal + Wait>(
+/// Carries out the steps of a row, with so many blocks of memory for those that begin with `scarce`, and tells what
+/// comes of the last one.
+fn carry_out_each<T: AllocGlobal + Wait>(
     rt: &T,
     run: &mut Run,
     steps: &str,
     blocks: u16,
-) -> Result<String, Fail> {
-    let mut found = String::new(rt.alloc());
+) -> Result<(), Fail> {
     for step in steps.split(';') {
-        found = step_done(rt, run, step, blocks)?;
-    }
-    Ok(found)
-}
-
-/// What comes of a row. If memory is refused, the row is carried out again, with one block more each time.
-fn outcome<T: AllocGlobal + Wait>(rt: &T, run: &mut Run, steps: &str) -> Result<String, Fail> {
-    for refused in 0..Drought::MOST {
-        let found = steps_done(rt, run, steps, refused)?;
-        if !is_refused(&found) {
-            return after_refusals(rt.alloc(), refused, found);
+        run.told.clear();
+        let mut words = Words::of(step);
+        let verb = run.drought.verb(&mut words, blocks);
+        carry_out(rt, run, verb, &mut words)?;
+        if !words.word().is_empty() {
+            return Err(Fail::new("words are left over"));
         }
     }
-    Ok(String::from_str(rt.alloc(), "refused to the end")?)
+    Ok(())
 }
 
-/// Expects what a row says.
-fn expect_row<T: AllocGlobal + Wait + Abort>(rt: &T, run: &mut Run, row: Row) -> Result<(), Fail> {
-    let found = outcome(rt, run, row.action)?;
-    assert_eq!(rt; found.trim(), row.wanted, "{}", row.action);
-    Ok(())
+/// Tells what comes of a row.
+fn tell<T: AllocGlobal + Wait>(rt: &T, run: &mut Run, steps: &str) -> Result<(), Fail> {
+    for refused in 0..Drought::MOST {
+        carry_out_each(rt, run, steps, refused)?;
+        if !is_refused(&run.told) {
+            let told = mem::replace(&mut run.told, String::new(rt.alloc()));
+            run.told = after_refusals(rt.alloc(), refused, told)?;
+            return Ok(());
+        }
+    }
+    Err(Fail::new("it is refused to the end"))
 }
 
 /// Expects what the rows of a table say, and returns how many there are.
@@ -109,22 +79,27 @@ pub fn expect_each<T: AllocGlobal + Wait + Abort>(
     rt: &T,
     run: &mut Run,
     table: &str,
-) -> Result<u64, Fail> {
-    let mut rows = 0_u64;
+) -> Result<u16, Fail> {
+    let mut rows = 0_u16;
     for line in table.split('\n') {
         if let Some(row) = Row::of(line) {
-            expect_row(rt, run, row)?;
+            tell(rt, run, row.action)?;
+            assert_eq!(rt; run.told.trim(), row.wanted, "{line}");
             rows = rows.saturating_add(1);
         }
     }
     Ok(rows)
 }
 
-/// Expects what the rows of a table say, and that there are some.
-pub fn expect_rows<T: AllocGlobal + Wait + Abort>(rt: &T, table: &str) -> Result<(), Fail> {
+/// Expects what the rows of a table say, which are so many.
+pub fn expect_rows<T: AllocGlobal + Wait + Abort>(
+    rt: &T,
+    table: &str,
+    count: u16,
+) -> Result<(), Fail> {
     let mut run = Run::new(rt.alloc())?;
     let rows = expect_each(rt, &mut run, table);
     drop(run);
-    assert!(rt; rows? > 0);
+    assert_eq!(rt; rows?, count);
     Ok(())
 }
