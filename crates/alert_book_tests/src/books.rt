@@ -170,16 +170,24 @@ book write,1,aa,4372,0,3,en,2,2,0,*,One| -> row 49: named twice
 book stop,1,aa,*| -> read
 
 # A book declares 64 cells at most. A 65th has its columns looked at first, and its numbers last.
-before
-cells 64
+before cell,1,0|cell,1,1|cell,1,2|cell,1,3|cell,1,4|cell,1,5|cell,1,6|cell,1,7|cell,1,8|cell,1,9|cell,1,10|cell,1,11|\
+    cell,1,12|cell,1,13|cell,1,14|cell,1,15|cell,1,16|cell,1,17|cell,1,18|cell,1,19|cell,1,20|cell,1,21|cell,1,22|\
+    cell,1,23|cell,1,24|cell,1,25|cell,1,26|cell,1,27|cell,1,28|cell,1,29|cell,1,30|cell,1,31|cell,1,32|cell,1,33|\
+    cell,1,34|cell,1,35|cell,1,36|cell,1,37|cell,1,38|cell,1,39|cell,1,40|cell,1,41|cell,1,42|cell,1,43|cell,1,44|\
+    cell,1,45|cell,1,46|cell,1,47|cell,1,48|cell,1,49|cell,1,50|cell,1,51|cell,1,52|cell,1,53|cell,1,54|cell,1,55|\
+    cell,1,56|cell,1,57|cell,1,58|cell,1,59|cell,1,60|cell,1,61|cell,1,62|cell,1,63|
 book | -> read
 book cell,1,64| -> row 65: too many rows
 book cell,1| -> row 65: columns
 book cell,x,1| -> row 65: too many rows
 
 # A book has 4,096 rows at most: here 64 cells, a write and its stops.
-before
-cells 64
+before cell,1,0|cell,1,1|cell,1,2|cell,1,3|cell,1,4|cell,1,5|cell,1,6|cell,1,7|cell,1,8|cell,1,9|cell,1,10|cell,1,11|\
+    cell,1,12|cell,1,13|cell,1,14|cell,1,15|cell,1,16|cell,1,17|cell,1,18|cell,1,19|cell,1,20|cell,1,21|cell,1,22|\
+    cell,1,23|cell,1,24|cell,1,25|cell,1,26|cell,1,27|cell,1,28|cell,1,29|cell,1,30|cell,1,31|cell,1,32|cell,1,33|\
+    cell,1,34|cell,1,35|cell,1,36|cell,1,37|cell,1,38|cell,1,39|cell,1,40|cell,1,41|cell,1,42|cell,1,43|cell,1,44|\
+    cell,1,45|cell,1,46|cell,1,47|cell,1,48|cell,1,49|cell,1,50|cell,1,51|cell,1,52|cell,1,53|cell,1,54|cell,1,55|\
+    cell,1,56|cell,1,57|cell,1,58|cell,1,59|cell,1,60|cell,1,61|cell,1,62|cell,1,63|
 times 1 write,0,a,4370,0,1,en,2,2,0,*,One|
 times 4031 stop,1,a,*|
 book | -> read
@@ -211,52 +219,31 @@ most 4
 line_failing_after 2 -> read failed
 ";
 
-/// Books as people and spreadsheets write them: their cells, and the one message that the session then sends.
-const WRITTEN: &str = r#"
-most 5
-# Rows end in LF, CR LF, CR or the end of the book, and empty lines are no rows.
-sent cell,1,1|write,0,a,4370,0,1,en,2,2,0,*,@| -> 1-1; write-@ at slot 0 of row 2; nothing
-sent cell,1,1%0D|write,0,a,4370,0,1,en,2,2,0,*,@%0D| -> 1-1; write-@ at slot 0 of row 2; nothing
-sent cell,1,1%0Dwrite,0,a,4370,0,1,en,2,2,0,*,@%0D -> 1-1; write-@ at slot 0 of row 2; nothing
-sent cell,1,1|write,0,a,4370,0,1,en,2,2,0,*,@ -> 1-1; write-@ at slot 0 of row 2; nothing
-sent ||cell,1,1%0D|%0D|write,0,a,4370,0,1,en,2,2,0,*,@||| -> 1-1; write-@ at slot 0 of row 2; nothing
+/// Faults of the long book, whose texts several threads pack, where other rows stand in place of some of its rows.
+const LONG_BOOKS: &str = "
+most 7
+# Of two texts that can't be sent the first is told.
+long_book 40 bad 270 worse -> BookFault { row: 40, kind: Text(BadCharacter { place: 1 }) }
+long_book 40 worse 270 bad -> BookFault { row: 40, kind: Text(BadLanguage) }
+long_book 150 bad 151 worse -> BookFault { row: 150, kind: Text(BadCharacter { place: 1 }) }
+long_book 2 worse 301 bad -> BookFault { row: 2, kind: Text(BadLanguage) }
+long_book 301 bad -> BookFault { row: 301, kind: Text(BadCharacter { place: 1 }) }
 
-# The export of a spreadsheet quotes every field, and may begin with a byte order mark.
-before "cell","1","1"%0D|
-sent "write","0","a","4370","0","1","en","2","2","0","*","@"%0D|%0D| -> 1-1; write-@ at slot 0 of row 2; nothing
-before %EF%BB%BF"cell","1","1"%0D|
-sent "write","0","a","4370","0","1","en","2","2","0","*","@"%0D| -> 1-1; write-@ at slot 0 of row 2; nothing
-before %EF%BB%BFcell,1,1|
-sent write,0,a,4370,0,1,en,2,2,0,*,@| -> 1-1; write-@ at slot 0 of row 2; nothing
-
-# A text has quotes, also where the last one is missing, and line feeds.
-before cell,1,1|
-sent write,0,a,4370,0,1,en,2,2,0,*,"say ""go"""| -> 1-1; write-say-go at slot 0 of row 2; nothing
-sent write,0,a,4370,0,1,en,2,2,0,*,say "go"| -> 1-1; write-say-go at slot 0 of row 2; nothing
-sent write,0,a,4370,0,1,en,2,2,0,*,"say ""go"" -> 1-1; write-say-go at slot 0 of row 2; nothing
-before cell,1,1%0D|
-sent write,0,"a,|b",4370,0,1,en,2,2,0,*,"go|now"%0D| -> 1-1; write-go-now at slot 0 of row 2; nothing
-sent write,0,тревога,4370,0,1,ru,2,2,0,1-1,Вода%0D| -> 1-1; write-вода at slot 0 of row 2; nothing
-"#;
+# A row that means nothing comes before each text, in whichever row it is.
+long_book 40 bad 270 short -> BookFault { row: 270, kind: Columns }
+long_book 40 short 270 bad -> BookFault { row: 40, kind: Columns }
+";
 
 #[test]
-fn books_have_their_cells_or_a_fault(rt: HostRuntime) -> Result<(), Fail> {
-    expect_rows(&rt, BOOKS)
-}
-
-#[test]
-fn each_fault_has_its_line(rt: HostRuntime) -> Result<(), Fail> {
-    expect_rows(&rt, ROWS)?;
-    expect_rows(&rt, FIRST_FAULTS)?;
-    expect_rows(&rt, NO_BOOKS)
+fn books_are_read_or_the_first_fault_is_told(rt: HostRuntime) -> Result<(), Fail> {
+    expect_rows(&rt, BOOKS, 23)?;
+    expect_rows(&rt, ROWS, 66)?;
+    expect_rows(&rt, FIRST_FAULTS, 15)?;
+    expect_rows(&rt, NO_BOOKS, 11)
 }
 
 #[test]
 fn limits_and_failed_readers_are_told(rt: HostRuntime) -> Result<(), Fail> {
-    expect_rows(&rt, LIMITS)
-}
-
-#[test]
-fn books_as_people_write_them_are_sent(rt: HostRuntime) -> Result<(), Fail> {
-    expect_rows(&rt, WRITTEN)
+    expect_rows(&rt, LIMITS, 47)?;
+    expect_rows(&rt, LONG_BOOKS, 8)
 }

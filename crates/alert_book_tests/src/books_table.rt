@@ -3,7 +3,7 @@
 //! What the next rows speak of:
 //!
 //! - `before ROWS`: these rows stand before those of each book that follows; `times NUMBER ROWS`: and these, so many
-//!   times; `cells NUMBER`: and rows that declare so many cells, from 1-0 on;
+//!   times;
 //! - `most NUMBER`: a read gives so many octets at most.
 //!
 //! What comes of a book:
@@ -14,19 +14,19 @@
 //! - `failing_after CALLS`: the fault of a book whose reader fails after so many calls, and whether the source says so;
 //!   `line_failing_after CALLS`: the line of that fault;
 //! - `cells_of ROWS`: the cells that it declares; `sent ROWS`: these, the message that its session sends first, and
-//!   what follows that; `session PART PARTS STEP ..`: what the steps of a session give, as sessions.rt says; and
-//!   `goes PART PARTS STEP ..`, as going.rt says.
+//!   what follows that; `session PART PARTS STEP ..` and `goes PART PARTS STEP ..`: what the steps of a session give,
+//! as
+//!   sessions.rt says.
 
-use crate::going::tell_going;
 use crate::long_books::{END, long_book};
 use crate::reading::{Outcome, add_rows, book_of, outcome_of};
 use crate::sessions::{tell_cells, tell_session};
 use alert_book::Book;
-use std::alloc::Global;
+use std::alloc::{AllocError, Global};
 use std::process::Abort;
 use std::test::Fail;
 use std::thread::Threads;
-use test_support::{Row, Words};
+use test_support::Row;
 
 /// What a table has said about the books that follow.
 #[derive(Drop)]
@@ -35,65 +35,61 @@ struct Given {
     before: Vec<u8>,
     /// How many octets a read gives at most.
     most: usize,
+    /// What came of the row under way.
+    told: String,
 }
 
 /// Has what a row says of the books that follow.
-fn set(alloc: Global, given: &mut Given, verb: &str, rest: &str) -> Result<(), Fail> {
-    let (number, rows) = rest.split_once(' ').unwrap_or((rest, ""));
+fn set(given: &mut Given, verb: &str, rest: &str) -> Result<(), Fail> {
     match verb {
         "before" => {
             given.before.clear();
             add_rows(&mut given.before, rest)?;
         }
         "times" => {
+            let (number, rows) = rest.split_once(' ').unwrap_or((rest, ""));
             for _ in 0..number.parse::<u16>()? {
                 add_rows(&mut given.before, rows)?;
             }
         }
-        "cells" => {
-            for ci in 0..number.parse::<u16>()? {
-                add_rows(
-                    &mut given.before,
-                    format!(in alloc; "cell,1,{ci}|")?.as_str(),
-                )?;
-            }
-        }
-        "most" => given.most = number.parse::<usize>()?,
-        _ => return Err(Fail::new("no such action")),
+        _ => given.most = rest.parse::<usize>()?,
     }
     Ok(())
 }
 
-/// The octets of the book that a row speaks of.
-fn octets_of(alloc: Global, given: &Given, verb: &str, rest: &str) -> Result<Vec<u8>, Fail> {
-    let mut octets = Vec::new(alloc);
+/// Puts the octets of the book that a row speaks of.
+fn put_octets(
+    alloc: Global,
+    octets: &mut Vec<u8>,
+    before: &[u8],
+    verb: &str,
+    rest: &str,
+) -> Result<(), Fail> {
     match verb {
         "line_feeds" | "line_feeds_left" => octets.resize(rest.parse::<usize>()?, b'\n')?,
         "long_book" => octets.extend_from_slice(long_book(alloc, 2, END, rest)?.as_bytes())?,
-        "session" | "goes" | "failing_after" | "line_failing_after" => octets.extend_from_slice(
-            &given.before,
-        )?,
+        "session" | "goes" | "failing_after" | "line_failing_after" => {
+            octets.extend_from_slice(before)?;
+        }
         _ => {
-            octets.extend_from_slice(&given.before)?;
-            add_rows(&mut octets, rest)?;
+            octets.extend_from_slice(before)?;
+            add_rows(octets, rest)?;
         }
     }
-    Ok(octets)
+    Ok(())
 }
 
 /// Tells of a fault what a row asks for.
-fn tell(told: &mut String, verb: &str, outcome: Outcome) -> Result<(), Fail> {
+fn tell(told: &mut String, verb: &str, outcome: Outcome) -> Result<(), AllocError> {
     let Some(fault) = outcome.fault else {
-        told.push_str("read")?;
-        return Ok(());
+        return told.push_str("read");
     };
     match verb {
-        "book" | "line_feeds" | "line_failing_after" => write!(told, "{fault}")?,
-        "line_feeds_left" => write!(told, "{fault:?}, {} left", outcome.left)?,
-        "failing_after" if outcome.failed => write!(told, "{fault:?}, the source has failed")?,
-        _ => write!(told, "{fault:?}")?,
+        "book" | "line_feeds" | "line_failing_after" => write!(told, "{fault}"),
+        "line_feeds_left" => write!(told, "{fault:?}, {} left", outcome.left),
+        "failing_after" if outcome.failed => write!(told, "{fault:?}, the source has failed"),
+        _ => write!(told, "{fault:?}"),
     }
-    Ok(())
 }
 
 /// Tells of a book what a row asks for.
@@ -104,72 +100,88 @@ fn tell_book(
     steps: &str,
     book: &Book,
 ) -> Result<(), Fail> {
-    if verb == "session" {
-        return tell_session(alloc, told, book, &mut Words::of(steps));
+    match verb {
+        "session" | "goes" => tell_session(alloc, told, book, verb, steps),
+        "sent" => {
+            tell_cells(told, book.cells())?;
+            tell_session(alloc, told, book, verb, "0 1 - -")
+        }
+        _ => Ok(tell_cells(told, book.cells())?),
     }
-    if verb == "goes" {
-        return tell_going(alloc, told, book, &mut Words::of(steps));
+}
+
+/// Tells what comes of the book of these octets.
+fn tell_octets<T: AllocGlobal + Threads + Sync>(
+    rt: &T,
+    given: &mut Given,
+    verb: &str,
+    rest: &str,
+    octets: &[u8],
+) -> Result<(), Fail> {
+    match verb {
+        "cells_of" | "sent" | "session" | "goes" => {
+            let book = book_of(rt, octets, given.most)?;
+            let result = tell_book(rt.alloc(), &mut given.told, verb, rest, &book);
+            drop(book);
+            result
+        }
+        _ => {
+            let calls = match verb {
+                "failing_after" | "line_failing_after" => Some(rest.parse::<usize>()?),
+                _ => None,
+            };
+            let outcome = outcome_of(rt, octets, given.most, calls);
+            Ok(tell(&mut given.told, verb, outcome)?)
+        }
     }
-    tell_cells(told, book.cells())?;
-    if verb == "sent" {
-        return tell_session(alloc, told, book, &mut Words::of("0 1 - -"));
-    }
-    Ok(())
 }
 
 /// Tells what comes of an action.
 fn carry_out<T: AllocGlobal + Threads + Sync>(
     rt: &T,
-    told: &mut String,
     given: &mut Given,
     action: &str,
 ) -> Result<(), Fail> {
+    given.told.clear();
     let (verb, rest) = action.split_once(' ').unwrap_or((action, ""));
-    let calls = match verb {
-        "before" | "times" | "cells" | "most" => return set(rt.alloc(), given, verb, rest),
-        "failing_after" | "line_failing_after" => Some(rest.parse::<usize>()?),
-        _ => None,
-    };
-    let octets = octets_of(rt.alloc(), given, verb, rest)?;
-    match verb {
-        "cells_of" | "sent" | "session" | "goes" => {
-            let book = book_of(rt, &octets, given.most)?;
-            let result = tell_book(rt.alloc(), told, verb, rest, &book);
-            drop(book);
-            result
-        }
-        _ => tell(told, verb, outcome_of(rt, &octets, given.most, calls)),
+    if verb == "before" || verb == "times" || verb == "most" {
+        return set(given, verb, rest);
     }
+    let mut octets = Vec::new(rt.alloc());
+    put_octets(rt.alloc(), &mut octets, &given.before, verb, rest)?;
+    tell_octets(rt, given, verb, rest, &octets)
 }
 
-/// Expects what a row says.
-fn expect_row<T: AllocGlobal + Abort + Threads + Sync>(
+/// Expects what the rows of a table say, and returns how many there are.
+fn expect_each<T: AllocGlobal + Abort + Threads + Sync>(
     rt: &T,
     given: &mut Given,
-    row: Row,
-) -> Result<(), Fail> {
-    let mut told = String::new(rt.alloc());
-    carry_out(rt, &mut told, given, row.action)?;
-    assert_eq!(rt; told.as_str(), row.wanted, "{}", row.action);
-    Ok(())
+    table: &str,
+) -> Result<u16, Fail> {
+    let mut rows = 0_u16;
+    for line in table.split('\n') {
+        if let Some(row) = Row::of(line) {
+            carry_out(rt, given, row.action)?;
+            assert_eq!(rt; given.told.as_str(), row.wanted, "{line}");
+            rows = rows.saturating_add(1);
+        }
+    }
+    Ok(rows)
 }
 
-/// Expects what the rows of a table say.
+/// Expects what the rows of a table say, which are so many.
 pub fn expect_rows<T: AllocGlobal + Abort + Threads + Sync>(
     rt: &T,
     table: &str,
+    count: u16,
 ) -> Result<(), Fail> {
     let mut given = Given {
         before: Vec::new(rt.alloc()),
         most: 4096,
+        told: String::new(rt.alloc()),
     };
-    let mut rows = 0_usize;
-    for line in table.split('\n') {
-        if let Some(row) = Row::of(line) {
-            expect_row(rt, &mut given, row)?;
-            rows = rows.saturating_add(1);
-        }
-    }
-    assert!(rt; rows > 0, "a table without a row");
+    let rows = expect_each(rt, &mut given, table);
+    drop(given);
+    assert_eq!(rt; rows?, count);
     Ok(())
 }

@@ -7,8 +7,6 @@ mod books;
 #[cfg(test)]
 mod books_table;
 #[cfg(test)]
-mod going;
-#[cfg(test)]
 mod long_books;
 #[cfg(test)]
 mod malformed;

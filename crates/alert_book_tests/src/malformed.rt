@@ -2,12 +2,16 @@
 
 use crate::malformed_table::TABLE;
 use crate::reading::outcome_of;
+use std::alloc::AllocError;
 use std::test::Fail;
 use std::thread::Threads;
 use test_support::Malformed;
 
 /// The answers to books: `A` for one that is accepted, else the line of its fault. A line feed ends each.
-fn answers_to<T: AllocGlobal + Threads + Sync>(rt: &T, inputs: &[Vec<u8>]) -> Result<String, Fail> {
+fn answers_to<T: AllocGlobal + Threads + Sync>(
+    rt: &T,
+    inputs: &[Vec<u8>],
+) -> Result<String, AllocError> {
     let mut answers = String::new(rt.alloc());
     for octets in inputs {
         match outcome_of(rt, octets, 64, None).fault {
@@ -41,8 +45,8 @@ fn table_read<T: AllocGlobal + Threads + Sync>(rt: &T) -> Result<Malformed<'stat
 #[test]
 fn malformed_books_have_the_worked_answers(rt: HostRuntime) -> Result<(), Fail> {
     let table = table_read(&rt)?;
-    let (input, line) = table.first;
-    assert_eq!(rt; table.differing, 0, "{input}: {line}");
-    assert_eq!(rt; table.digests, 177);
+    let (differing, digests, first) = (table.differing, table.digests, table.first);
+    drop(table);
+    assert_eq!(rt; (differing, digests), (0, 177), "{}: {}", first.0, first.1);
     Ok(())
 }

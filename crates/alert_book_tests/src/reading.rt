@@ -70,15 +70,9 @@ pub fn add_rows(octets: &mut Vec<u8>, text: &str) -> Result<(), Fail> {
             octets.push(u8::from_str_radix(digits, 16)?)?;
             plain = rest;
         }
-        add_plain(octets, plain)?;
-    }
-    Ok(())
-}
-
-/// Adds a text without escapes.
-fn add_plain(octets: &mut Vec<u8>, text: &str) -> Result<(), Fail> {
-    for octet in text.bytes() {
-        octets.push(if octet == b'|' { b'\n' } else { octet })?;
+        for octet in plain.bytes() {
+            octets.push(if octet == b'|' { b'\n' } else { octet })?;
+        }
     }
     Ok(())
 }
