@@ -169,9 +169,13 @@ close -> 65535 slots, 1-2 1-1 2-1; \
 ";
 
 #[test]
-fn orders_plays_and_statuses_are_carried_out_or_refused(rt: HostRuntime) -> Result<(), Fail> {
-    expect_rows(&rt, REPLACEMENTS, 33)?;
+fn an_order_is_carried_out_in_its_cells_from_its_slot_on(rt: HostRuntime) -> Result<(), Fail> {
     expect_rows(&rt, ORDERS, 33)?;
-    expect_rows(&rt, REFUSALS, 23)?;
+    expect_rows(&rt, REPLACEMENTS, 33)?;
+    expect_rows(&rt, REFUSALS, 23)
+}
+
+#[test]
+fn plays_and_statuses_are_noted(rt: HostRuntime) -> Result<(), Fail> {
     expect_rows(&rt, PLAYS, 33)
 }

@@ -4,7 +4,7 @@ use crate::lines::cells_of;
 use crate::run::Run;
 use bsc_table::{CellBook, CellRecord};
 use cbsp_wire::Cell;
-use order_desk::{Closed, Pass, cells_ok};
+use order_desk::{Closed, Desk, Pass, cells_ok};
 use std::alloc::{AllocError, Global};
 use std::fmt::Write;
 use std::mem;
@@ -70,12 +70,22 @@ pub fn close(alloc: Global, run: &mut Run) -> Result<(), Fail> {
     Ok(())
 }
 
+/// The cell of a record, how many slots its run had, how many of them it has the air of, and how many entries there
+/// are.
+fn sizes_of(record: &CellRecord) -> (Cell, u16, usize, usize) {
+    (
+        record.cell(),
+        record.slots(),
+        record.air().len(),
+        record.log().len(),
+    )
+}
+
 /// Tells the records of a settlement.
 fn put_records(told: &mut String, records: &[CellRecord]) -> Result<(), AllocError> {
     told.push_str("settled")?;
     for record in records {
-        let Cell { lac, ci } = record.cell();
-        let (slots, air, entries) = (record.slots(), record.air().len(), record.log().len());
+        let (Cell { lac, ci }, slots, air, entries) = sizes_of(record);
         write!(
             told,
             " {lac}-{ci}: {slots} slots, air of {air}, log of {entries}"
@@ -120,6 +130,14 @@ fn named<'a>(passes: &'a [Pass], word: &str) -> Result<&'a [Pass], Fail> {
     }
 }
 
+/// What a desk had, once it is closed. No desk takes its place.
+fn closed_of(desk: &mut Option<Desk>) -> Result<Closed, Fail> {
+    match mem::replace(desk, None) {
+        Some(desk) => Ok(desk.close()?),
+        None => Err(Fail::new("there is no desk")),
+    }
+}
+
 /// `settle PASSES`: the settlement of the desk with these passes, `none` or some. `settle-as CELLS PASSES`: the same
 /// once its cells are exchanged for these, while its books stay.
 pub fn settle(alloc: Global, run: &mut Run, verb: &str, words: &mut Words) -> Result<(), Fail> {
@@ -128,10 +146,7 @@ pub fn settle(alloc: Global, run: &mut Run, verb: &str, words: &mut Words) -> Re
         _ => None,
     };
     let passes = named(&run.passes, words.word())?;
-    let mut closed = match mem::replace(&mut run.desk, None) {
-        Some(desk) => desk.close()?,
-        None => return Err(Fail::new("there is no desk")),
-    };
+    let mut closed = closed_of(&mut run.desk)?;
     if let Some(cells) = exchanged {
         closed.cells = cells;
     }

@@ -168,22 +168,35 @@ fn ask<T: AllocGlobal + Wait>(
     desk: &Desk,
     pass: &mut Pass,
     drought: &mut Drought,
-    told: &mut String,
-    times: u16,
+    verb: &str,
     words: &mut Words,
-) -> Result<(), Fail> {
+) -> Result<Result<Option<(u16, State)>, DeskFault>, Fail> {
+    let times = match verb {
+        "asks-often" => words.number16()?,
+        _ => 1,
+    };
     let cell = cell_of(words.word())?;
     let (id, serial) = (words.number16()?, Serial::of(words.hex16()?));
+    let mut status = Ok(None);
     for _ in 0..times {
-        match status_in(rt, desk, pass, drought, (cell, id, serial)) {
-            Ok(None) => {}
-            Ok(Some((completed, state))) => {
-                return Ok(put_answer(told, Answer::Told { completed, state })?);
-            }
-            Err(fault) => return Ok(put_fault(told, fault)?),
+        status = status_in(rt, desk, pass, drought, (cell, id, serial));
+        if status != Ok(None) {
+            break;
         }
     }
-    Ok(put_answer(told, Answer::Unknown)?)
+    Ok(status)
+}
+
+/// Tells a status, or why there is none.
+fn put_status(
+    told: &mut String,
+    status: Result<Option<(u16, State)>, DeskFault>,
+) -> Result<(), AllocError> {
+    match status {
+        Ok(None) => put_answer(told, Answer::Unknown),
+        Ok(Some((completed, state))) => put_answer(told, Answer::Told { completed, state }),
+        Err(fault) => put_fault(told, fault),
+    }
 }
 
 /// Tells a piece: its cell, its first slot, and the serial number of the page of each slot, `-` for none.
@@ -285,11 +298,10 @@ pub fn with_pass<T: AllocGlobal + Wait>(
     match words.word() {
         "orders" => order(rt, desk, pass, drought, told, words),
         "plays" => play(rt, desk, pass, drought, told, words),
-        "asks" => ask(rt, desk, pass, drought, told, 1, words),
-        "asks-often" => {
-            let times = words.number16()?;
-            ask(rt, desk, pass, drought, told, times, words)
+        "note" => tell_notes(told, pass, words.word()),
+        verb => {
+            let status = ask(rt, desk, pass, drought, verb, words)?;
+            Ok(put_status(told, status)?)
         }
-        _ => tell_notes(told, pass, words.word()),
     }
 }

@@ -61,30 +61,28 @@ fn carry_out_each<T: AllocGlobal + Wait>(
     Ok(())
 }
 
-/// Tells what comes of a row.
-fn tell<T: AllocGlobal + Wait>(rt: &T, run: &mut Run, steps: &str) -> Result<(), Fail> {
+/// Expects what a row says.
+fn expect_row<T: AllocGlobal + Wait>(rt: &T, run: &mut Run, row: Row) -> Result<(), Fail> {
     for refused in 0..Drought::MOST {
-        carry_out_each(rt, run, steps, refused)?;
+        carry_out_each(rt, run, row.action, refused)?;
         if !is_refused(&run.told) {
             let told = mem::replace(&mut run.told, String::new(rt.alloc()));
-            run.told = after_refusals(rt.alloc(), refused, told)?;
-            return Ok(());
+            let told = after_refusals(rt.alloc(), refused, told)?;
+            if told.trim() == row.wanted {
+                return Ok(());
+            }
+            return Err(Fail::new(format_args!("{} -> {told}", row.action)));
         }
     }
     Err(Fail::new("it is refused to the end"))
 }
 
 /// Expects what the rows of a table say, and returns how many there are.
-pub fn expect_each<T: AllocGlobal + Wait + Abort>(
-    rt: &T,
-    run: &mut Run,
-    table: &str,
-) -> Result<u16, Fail> {
+pub fn expect_each<T: AllocGlobal + Wait>(rt: &T, run: &mut Run, table: &str) -> Result<u16, Fail> {
     let mut rows = 0_u16;
     for line in table.split('\n') {
         if let Some(row) = Row::of(line) {
-            tell(rt, run, row.action)?;
-            assert_eq!(rt; run.told.trim(), row.wanted, "{line}");
+            expect_row(rt, run, row)?;
             rows = rows.saturating_add(1);
         }
     }
