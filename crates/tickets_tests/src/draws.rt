@@ -1,47 +1,48 @@
 //! Worked draws in one thread.
 
-use std::test::Fail;
-use tickets::Counter;
+use std::alloc::Global;
+use tickets::{Counter, Refused};
 
-#[test]
-fn two_seats_draw_three_numbers(rt: HostRuntime) -> Result<(), Fail> {
-    let Ok((counter, mut first)) = Counter::new(rt.alloc(), 3) else {
-        assert!(&rt; false, "no memory");
-        return Ok(());
-    };
-    assert_eq!(&rt; first.draw(&counter), Some(0));
+/// Two seats of three numbers: the first draws, and is split; the second draws, and then the first twice, the second
+/// twice, and the first once they are joined. Gives what they drew, and with what the counter closes.
+fn drawn_by_two(alloc: Global) -> Result<([Option<u64>; 7], u64), Refused> {
+    let (counter, mut first) = Counter::new(alloc, 3)?;
+    let one = first.draw(&counter);
     let mut second = first.split(&counter);
-    assert_eq!(&rt; second.draw(&counter), Some(1));
-    assert_eq!(&rt; first.draw(&counter), Some(2));
-    assert_eq!(&rt; first.draw(&counter), None);
-    assert_eq!(&rt; second.draw(&counter), None);
-    assert_eq!(&rt; second.draw(&counter), None);
+    let two = second.draw(&counter);
+    let (three, four) = (first.draw(&counter), first.draw(&counter));
+    let (five, six) = (second.draw(&counter), second.draw(&counter));
     first.join(second, &counter);
-    assert_eq!(&rt; first.draw(&counter), None);
-    assert_eq!(&rt; counter.close(first), 3);
-    Ok(())
+    let seven = first.draw(&counter);
+    let drawn = [one, two, three, four, five, six, seven];
+    Ok((drawn, counter.close(first)))
 }
 
-#[test]
-fn a_counter_of_nothing_draws_nothing(rt: HostRuntime) -> Result<(), Fail> {
-    let Ok((counter, mut seat)) = Counter::new(rt.alloc(), 0) else {
-        assert!(&rt; false, "no memory");
-        return Ok(());
-    };
-    assert_eq!(&rt; seat.draw(&counter), None);
-    assert_eq!(&rt; counter.close(seat), 0);
-    Ok(())
+/// What a seat draws of a counter of nothing, and with what that closes.
+fn drawn_of_nothing(alloc: Global) -> Result<(Option<u64>, u64), Refused> {
+    let (counter, mut seat) = Counter::new(alloc, 0)?;
+    let number = seat.draw(&counter);
+    Ok((number, counter.close(seat)))
 }
 
-#[test]
-fn a_counter_closes_with_what_was_drawn(rt: HostRuntime) -> Result<(), Fail> {
-    let Ok((counter, mut seat)) = Counter::new(rt.alloc(), 65_535) else {
-        assert!(&rt; false, "no memory");
-        return Ok(());
-    };
-    assert_eq!(&rt; seat.draw(&counter), Some(0));
+/// What a seat draws of many numbers, what one draws that was split from it, and with what the counter closes without
+/// that one.
+fn drawn_of_many(alloc: Global) -> Result<(Option<u64>, Option<u64>, u64), Refused> {
+    let (counter, mut seat) = Counter::new(alloc, 65_535)?;
+    let number = seat.draw(&counter);
     let mut other = seat.split(&counter);
-    assert_eq!(&rt; other.draw(&counter), Some(1));
-    assert_eq!(&rt; counter.close(seat), 2);
+    let next = other.draw(&counter);
+    Ok((number, next, counter.close(seat)))
+}
+
+#[test]
+fn seats_draw_each_number_once(rt: HostRuntime) -> Result<(), Refused> {
+    let by_two = drawn_by_two(rt.alloc())?;
+    let of_nothing = drawn_of_nothing(rt.alloc())?;
+    let of_many = drawn_of_many(rt.alloc())?;
+    let numbers = [Some(0), Some(1), Some(2), None, None, None, None];
+    assert_eq!(&rt; by_two, (numbers, 3));
+    assert_eq!(&rt; of_nothing, (None, 0));
+    assert_eq!(&rt; of_many, (Some(0), Some(1), 2));
     Ok(())
 }

@@ -1,9 +1,10 @@
 //! Seats in several threads.
 ghost use Rattle.tickets.specs.Draws.{IsSeatOf};
 
-use std::alloc::Global;
+use std::alloc::{AllocError, Global};
 use std::test::Fail;
 use std::thread;
+use std::thread::Threads;
 use tickets::{Counter, Seat};
 
 /// How many numbers there are.
@@ -25,38 +26,47 @@ fn draw_all(alloc: Global, counter: &Counter, seat: Seat) -> Vec<u64>
     drawn
 }
 
-#[test]
-fn four_threads_draw_each_number_once(rt: HostRuntime) -> Result<(), Fail> {
-    let alloc = rt.alloc();
-    let Ok((counter, mut first)) = Counter::new(alloc, COUNT) else {
-        assert!(&rt; false, "no memory");
-        return Ok(());
-    };
-    let mut seats: Vec<Seat> = Vec::with_capacity(alloc, 4)?;
+/// Whether what was drawn is each number once.
+fn are_all(alloc: Global, drawn: &[Vec<u64>]) -> Result<bool, AllocError> {
+    let mut all: Vec<u64> = Vec::with_capacity(alloc, 1000)?;
+    for numbers in drawn {
+        all.extend_from_slice(numbers)?;
+    }
+    all.as_mut_slice().sort_unstable();
+    for (place, number) in all.iter().enumerate() {
+        if *number != place as u64 {
+            return Ok(false);
+        }
+    }
+    Ok(all.len() as u64 == COUNT)
+}
+
+/// Whether four threads draw each number once, what is drawn after them, and with what the counter closes.
+fn drawn_by_four<T: AllocGlobal + Threads + Sync>(
+    rt: &T,
+) -> Result<(bool, Option<u64>, u64), Fail> {
+    let (counter, mut first) = Counter::new(rt.alloc(), COUNT)?;
+    let mut seats: Vec<Seat> = Vec::with_capacity(rt.alloc(), 4)?;
     seats.push_reserved(first.split(&counter));
     seats.push_reserved(first.split(&counter));
     seats.push_reserved(first.split(&counter));
     seats.push_reserved(first.split(&counter));
-    let shared = &counter;
+    let (alloc, shared) = (rt.alloc(), &counter);
     let drawn = thread::map_vec(
-        &rt,
+        rt,
         seats,
         &|seat: Seat| -> Vec<u64>
             requires { IsSeatOf shared.now seat }
         { draw_all(alloc, shared, seat) },
     )?;
-    let mut all: Vec<u64> = Vec::with_capacity(alloc, 1000)?;
-    for numbers in &drawn {
-        for number in numbers {
-            all.push(*number)?;
-        }
-    }
-    all.as_mut_slice().sort_unstable();
-    assert_eq!(&rt; all.len(), 1000);
-    for (place, number) in all.iter().enumerate() {
-        assert_eq!(&rt; *number, place as u64);
-    }
-    assert_eq!(&rt; first.draw(&counter), None);
-    assert_eq!(&rt; counter.close(first), COUNT);
+    let last = first.draw(&counter);
+    let count = counter.close(first);
+    Ok((are_all(rt.alloc(), &drawn)?, last, count))
+}
+
+#[test]
+fn four_threads_draw_each_number_once(rt: HostRuntime) -> Result<(), Fail> {
+    let drawn = drawn_by_four(&rt)?;
+    assert_eq!(&rt; drawn, (true, None, COUNT));
     Ok(())
 }
