@@ -5,15 +5,15 @@ use crate::run::expect_rows;
 use std::test::Fail;
 
 const CHECKS: &str = "
-book verbs 4 1; p serves 0 0; scarce check 1 -> refused; Ok(())
-book apart 2 2; p serves 0 0; q serves 1 0; scarce check 2 -> refused; Ok(())
-book together 4 2; q serves 1 0; p serves 0 0; scarce check 2 -> refused; Ok(())
+book verbs 4 1; p serves 0 0; scarce check 1 -> refused; 3; Ok(())
+book apart 2 2; p serves 0 0; q serves 1 0; scarce check 2 -> refused; 1; 1; Ok(())
+book together 4 2; q serves 1 0; p serves 0 0; scarce check 2 -> refused; 3; 3; Ok(())
 
 # With memory enough a wrong pass is told, also if the other part needs more memory.
-book apart 2 2; p serves 0 0; q serves 1 1; scarce check 2 -> refused; Err(Session { part: 1 })
+book apart 2 2; p serves 0 0; q serves 1 1; scarce check 2 -> refused; 1; 1; Err(Session { part: 1 })
 ";
 
 #[test]
 fn refused_memory_is_reported(rt: HostRuntime) -> Result<(), Fail> {
-    expect_rows(&rt, CHECKS)
+    expect_rows(&rt, CHECKS, 4)
 }

@@ -1,16 +1,18 @@
 //! Sessions of a book's parts at a desk, as tables of lines: what a pass does, and what the check says of the passes.
+//!
+//! The steps of a row are parted by `;`, and what each but the first says is wanted. `book NAME SLOTS PARTS` is first:
+//! a book of so many parts, a desk of its cells with so many slots, and the passes p, q and r. `check N` is last: what
+//! the check says of the first N passes, once the desk is settled with them. If `scarce` stands before it, it has
+//! hardly any memory, and if memory is refused, the row is carried out again, with one block more each time.
 
-ghost use Rattle.std.specs.Prelude.{◌≡◌, IfOk};
-
-use crate::served::*;
+use crate::served::{book_of, checked, opened, reply_to, served};
 use alert_book::Book;
 use bsc_table::Answer;
 use cbs_page::Serial;
 use cbsp_wire::Cell;
 use order_desk::{Desk, Open, Pass};
-use std::alloc::Global;
-use std::fmt::Debug;
-use std::mem;
+use std::alloc::AllocError;
+use std::fmt::{Debug, Write};
 use std::process::Abort;
 use std::sync::Wait;
 use std::test::Fail;
@@ -37,297 +39,247 @@ const VERBS: &str = "cell,1,1\ncell,1,2\n\
     update,1,a,en,2,2,0,*,Two\n\
     stop,2,a,1-1\n";
 
-/// A book of so many parts, a desk of its cells, and the passes p, q and r.
-#[derive(Drop)]
-pub struct Run {
-    /// The book.
-    pub book: Book,
-    /// The desk.
-    pub desk: Desk,
-    /// The passes.
-    pub passes: Vec<Pass>,
-    /// How many parts the book has.
-    pub parts: u16,
-    /// Scarce memory for the check of a row.
-    pub drought: Drought,
-    ghost of_book: { desk.cells ≡ book.cells },
-}
-
-/// The rows of a book that a word names.
-fn rows_of(name: &str) -> Result<&'static str, Fail> {
+/// The rows of a book that a word names; none if there is no such book.
+fn rows_of(name: &str) -> &'static str {
     match name {
-        "apart" => Ok(APART),
-        "together" => Ok(TOGETHER),
-        "verbs" => Ok(VERBS),
-        _ => Err(Fail::new("no such book")),
+        "apart" => APART,
+        "together" => TOGETHER,
+        "verbs" => VERBS,
+        _ => "",
     }
 }
 
-/// Three passes without notes.
-fn new_passes(alloc: Global, desk: &Desk) -> Result<Vec<Pass>, Fail> {
-    let mut passes = Vec::with_capacity(alloc, 3)?;
-    for _ in 0..3 {
-        passes.push(desk.pass())?;
-    }
-    Ok(passes)
-}
-
-/// What a run has beside its book and its desk.
-fn parts_of(alloc: Global, desk: &Desk) -> Result<(Vec<Pass>, Drought), Fail> {
-    let passes = new_passes(alloc, desk)?;
-    Ok((passes, Drought::new(alloc)?))
-}
-
-/// A run of a book at a desk of its cells.
-fn run_at(alloc: Global, book: Book, desk: Desk, parts: u16) -> Result<Run, Fail>
-    requires { desk.cells ≡ book.cells }
-{
-    match parts_of(alloc, &desk) {
-        Ok((passes, drought)) => Ok(Run {
-            book,
-            desk,
-            passes,
-            parts,
-            drought,
-        }),
-        Err(fail) => {
-            drop(desk);
-            drop(book);
-            Err(fail)
-        }
-    }
-}
-
-/// A run of a book.
-fn run_of(alloc: Global, book: Book, slots: u16, parts: u16) -> Result<Run, Fail> {
-    match opened(alloc, &book, slots) {
-        Ok(desk) => run_at(alloc, book, desk, parts),
-        Err(fail) => {
-            drop(book);
-            Err(fail)
-        }
-    }
-}
-
-/// A run. The words: the book, how many slots its desk has, and its parts.
-fn begun<T: AllocGlobal + Threads + Sync>(rt: &T, words: &mut Words) -> Result<Run, Fail> {
-    let rows = rows_of(words.word())?;
-    let slots = words.number16()?;
-    let parts = words.number16()?;
-    run_of(rt.alloc(), book_of(rt, rows)?, slots, parts)
-}
-
-impl Run {
-    /// The desk; one without slots takes its place.
-    pub fn taken(&mut self, alloc: Global) -> Result<Desk, Fail>
-        ensures book { self.new.book ≡ self.old.book }
-        ensures desk { IfOk result (λ desk. desk.cells ≡ self.new.book.cells) }
-    {
-        let other = opened(alloc, &self.book, 0)?;
-        Ok(mem::replace(&mut self.desk, other))
-    }
-}
-
-/// A value by its names.
-fn shown<D: Debug>(alloc: Global, value: &D) -> Result<String, Fail> {
-    Ok(format!(in alloc; "{value:?}")?)
+/// Tells a value by its names.
+fn put<D: Debug>(told: &mut String, value: &D) -> Result<(), AllocError> {
+    write!(told, "{value:?}")
 }
 
 /// The cell 1-2.
 const SECOND: Cell = Cell { lac: 1, ci: 2 };
 
-/// Has a pass ask the second cell for a status. The words: the identifier, and the serial number.
-fn asked<T: AllocGlobal + Wait>(
+/// `asks ID SERIAL`: a pass asks the second cell for a status.
+fn ask<T: AllocGlobal + Wait>(
     rt: &T,
+    told: &mut String,
     desk: &Desk,
     pass: &mut Pass,
     words: &mut Words,
-) -> Result<String, Fail> {
-    let id = words.number16()?;
-    let serial = Serial::of(words.hex16()?);
+) -> Result<(), Fail> {
+    let (id, serial) = (words.number16()?, Serial::of(words.hex16()?));
     match desk.status(rt, rt.alloc(), pass, SECOND, id, serial, &Open) {
-        Ok(Some((completed, state))) => shown(rt.alloc(), &Answer::Told { completed, state }),
-        Ok(None) => shown(rt.alloc(), &Answer::Unknown),
-        Err(fault) => shown(rt.alloc(), &fault),
+        Ok(Some((completed, state))) => put(told, &Answer::Told { completed, state })?,
+        Ok(None) => put(told, &Answer::Unknown)?,
+        Err(fault) => put(told, &fault)?,
     }
+    Ok(())
 }
 
-/// Has a pass play the second cell. The word: how many slots.
-fn played<T: AllocGlobal + Wait>(
+/// `plays SLOTS`: a pass plays the second cell.
+fn play<T: AllocGlobal + Wait>(
     rt: &T,
+    told: &mut String,
     desk: &Desk,
     pass: &mut Pass,
     words: &mut Words,
-) -> Result<String, Fail> {
+) -> Result<(), Fail> {
     match desk.play(rt, rt.alloc(), pass, SECOND, words.number16()?, &Open) {
-        Ok(range) => shown(rt.alloc(), &(range.from..range.to)),
-        Err(fault) => shown(rt.alloc(), &fault),
+        Ok(range) => write!(told, "{}..{}", range.from, range.to)?,
+        Err(fault) => put(told, &fault)?,
     }
+    Ok(())
 }
 
-/// Has a pass order at slot 0. The word: the octets.
-fn ordered<T: AllocGlobal + Wait>(
+/// `orders OCTETS`: a pass orders at slot 0.
+fn order<T: AllocGlobal + Wait>(
     rt: &T,
+    told: &mut String,
     desk: &Desk,
     pass: &mut Pass,
     words: &mut Words,
-) -> Result<String, Fail> {
+) -> Result<(), Fail> {
     let octets = octets_of(rt.alloc(), words.word())?;
     let reply = reply_to(rt, desk, pass, 0, &octets)?;
-    Ok(digits_of(rt.alloc(), reply.as_slice())?)
+    let digits = digits_of(rt.alloc(), &reply)?;
+    Ok(told.push_str(&digits)?)
 }
 
-/// Does with a pass what the words say.
+/// A book of so many parts, and a desk of its cells.
+#[derive(Clone, Copy)]
+struct Place<'a> {
+    book: &'a Book,
+    desk: &'a Desk,
+    parts: u16,
+}
+
+/// Does with a pass what the words say. `serves PART LATE` serves the session of a part, each message so many slots
+/// late, and tells how many messages there were; and `notes` tells how many notes the pass has.
 fn with_pass<T: AllocGlobal + Wait>(
     rt: &T,
-    run: &mut Run,
-    place: usize,
+    told: &mut String,
+    place: Place<'_>,
+    pass: &mut Pass,
     words: &mut Words,
-) -> Result<String, Fail> {
-    let Some(pass) = run.passes.get_mut(place) else {
-        return Err(Fail::new("no such pass"));
-    };
-    let desk = &run.desk;
+) -> Result<(), Fail> {
+    let Place { book, desk, parts } = place;
     match words.word() {
         "serves" => {
-            let part = words.number16()?;
-            let late = words.number16()?;
-            let messages = served(rt, &run.book, part, run.parts, desk, pass, late)?;
-            shown(rt.alloc(), &messages)
+            let (part, late) = (words.number16()?, words.number16()?);
+            let messages = served(rt, book, part, parts, desk, pass, late)?;
+            Ok(write!(told, "{messages}")?)
         }
-        "orders" => ordered(rt, desk, pass, words),
-        "asks" => asked(rt, desk, pass, words),
-        "plays" => played(rt, desk, pass, words),
-        "notes" => shown(rt.alloc(), &pass.notes().len()),
-        _ => Err(Fail::new("no such action of a pass")),
+        "orders" => order(rt, told, desk, pass, words),
+        "asks" => ask(rt, told, desk, pass, words),
+        "plays" => play(rt, told, desk, pass, words),
+        _ => Ok(write!(told, "{}", pass.notes().len())?),
     }
 }
 
-/// What the check says of the first passes. The word: how many.
-fn checked_text(alloc: Global, run: &mut Run, words: &mut Words) -> Result<String, Fail> {
-    let count = words.number16()?;
-    let desk = run.taken(alloc)?;
-    match run.passes.get(0..usize::from(count)) {
-        Some(passes) => shown(
-            alloc,
-            &checked(alloc, &run.book, run.parts, desk, passes, &mut run.drought)?,
-        ),
-        None => {
-            drop(desk);
-            Err(Fail::new("there are three passes"))
-        }
-    }
-}
-
-/// Begins another run in the place of this one, with its scarce memory. The words: those of a run.
-fn begin<T: AllocGlobal + Threads + Sync>(
+/// Carries out a step, and tells what comes of it.
+fn step<T: AllocGlobal + Wait>(
     rt: &T,
-    run: &mut Run,
-    words: &mut Words,
-) -> Result<String, Fail> {
-    let mut begun = begun(rt, words)?;
-    mem::swap(&mut begun.drought, &mut run.drought);
-    drop(mem::replace(run, begun));
-    Ok(String::new(rt.alloc()))
-}
-
-/// What comes of an action.
-fn carried_out<T: AllocGlobal + Threads + Wait + Sync>(
-    rt: &T,
-    run: &mut Run,
-    verb: &str,
-    words: &mut Words,
-) -> Result<String, Fail> {
-    match verb {
-        "book" => begin(rt, run, words),
-        "p" => with_pass(rt, run, 0, words),
-        "q" => with_pass(rt, run, 1, words),
-        "r" => with_pass(rt, run, 2, words),
-        "check" => checked_text(rt.alloc(), run, words),
-        _ => Err(Fail::new("no such action")),
-    }
-}
-
-/// What comes of a step. If it begins with `scarce`, it has so many blocks of memory.
-fn step_done<T: AllocGlobal + Threads + Wait + Sync>(
-    rt: &T,
-    run: &mut Run,
+    told: &mut String,
+    place: Place<'_>,
+    passes: &mut [Pass],
     step: &str,
-    blocks: u16,
-) -> Result<String, Fail> {
+) -> Result<(), Fail> {
     let mut words = Words::of(step);
-    let verb = run.drought.verb(&mut words, blocks);
-    let found = carried_out(rt, run, verb, &mut words)?;
+    let number = match words.word() {
+        "p" => 0,
+        "q" => 1,
+        "r" => 2,
+        _ => return Err(Fail::new("no such pass")),
+    };
+    match passes.get_mut(number) {
+        Some(pass) => with_pass(rt, told, place, pass, &mut words)?,
+        None => return Err(Fail::new("no such pass")),
+    }
     if words.word().is_empty() {
-        return Ok(found);
+        return Ok(told.push_str("; ")?);
     }
     Err(Fail::new("words are left over"))
 }
 
-/// Carries out the steps of a row, which `;` parts, and returns what comes of the last one.
-fn steps_done<T: AllocGlobal + Threads + Wait + Sync>(
+/// Makes the passes of a desk, and carries out the steps of a row after the first, up to the last.
+fn steps<T: AllocGlobal + Wait>(
     rt: &T,
-    run: &mut Run,
+    told: &mut String,
+    place: Place<'_>,
+    passes: &mut Vec<Pass>,
     steps: &str,
-    blocks: u16,
-) -> Result<String, Fail> {
-    let mut found = String::new(rt.alloc());
-    for step in steps.split(';') {
-        found = step_done(rt, run, step, blocks)?;
+) -> Result<(), Fail> {
+    for _ in 0..3 {
+        passes.push(place.desk.pass())?;
     }
-    Ok(found)
+    for one in steps.split(';') {
+        step(rt, told, place, passes.as_mut_slice(), one)?;
+    }
+    Ok(())
 }
 
-/// What comes of a row. If memory is refused, the row is carried out again, with one block more each time.
-fn outcome<T: AllocGlobal + Threads + Wait + Sync>(
+/// How many slots a desk has, how many parts its book, and how many passes are checked.
+#[derive(Clone, Copy)]
+struct Numbers {
+    slots: u16,
+    parts: u16,
+    passes: u16,
+}
+
+/// Carries out the steps of a row at a desk of a book's cells, and tells what comes of them and of the check.
+fn at_desk<T: AllocGlobal + Wait>(
     rt: &T,
-    run: &mut Run,
-    steps: &str,
+    told: &mut String,
+    drought: &mut Drought,
+    book: &Book,
+    numbers: Numbers,
+    middle: &str,
+) -> Result<(), Fail> {
+    let Numbers { slots, parts, .. } = numbers;
+    let mut passes = Vec::new(rt.alloc());
+    let desk = opened(rt.alloc(), book, slots)?;
+    let place = Place {
+        book,
+        desk: &desk,
+        parts,
+    };
+    let done = steps(rt, told, place, &mut passes, middle);
+    let first = passes.get(..usize::from(numbers.passes));
+    match (done, first) {
+        (Ok(()), Some(first)) => {
+            let checked = checked(rt.alloc(), book, parts, desk, first, drought)?;
+            Ok(put(told, &checked)?)
+        }
+        (Ok(()), None) => {
+            drop(desk);
+            Err(Fail::new("there are three passes"))
+        }
+        (Err(fail), _) => {
+            drop(desk);
+            Err(fail)
+        }
+    }
+}
+
+/// What comes of a row, with so many blocks of memory for a check that is `scarce`.
+fn found<T: AllocGlobal + Threads + Wait + Sync>(
+    rt: &T,
+    drought: &mut Drought,
+    action: &str,
+    blocks: u16,
 ) -> Result<String, Fail> {
+    let (first, rest) = action.split_once(';').unwrap_or((action, ""));
+    let (middle, last) = rest.rsplit_once(';').unwrap_or(("", rest));
+    let (mut first, mut last) = (Words::of(first), Words::of(last));
+    if first.word() != "book" || drought.verb(&mut last, blocks) != "check" {
+        return Err(Fail::new("no book, or no check"));
+    }
+    let rows = rows_of(first.word());
+    let numbers = Numbers {
+        slots: first.number16()?,
+        parts: first.number16()?,
+        passes: last.number16()?,
+    };
+    let mut told = String::new(rt.alloc());
+    let book = book_of(rt, rows)?;
+    let done = at_desk(rt, &mut told, drought, &book, numbers, middle);
+    drop(book);
+    done?;
+    Ok(told)
+}
+
+/// Expects what a row says. If memory is refused, it is carried out again, with one block more each time.
+fn expect_row<T: AllocGlobal + Threads + Wait + Sync>(
+    rt: &T,
+    drought: &mut Drought,
+    row: Row,
+) -> Result<(), Fail> {
     for refused in 0..Drought::MOST {
-        let found = steps_done(rt, run, steps, refused)?;
+        let found = found(rt, drought, row.action, refused)?;
         if !is_refused(&found) {
-            return after_refusals(rt.alloc(), refused, found);
+            let found = after_refusals(rt.alloc(), refused, found)?;
+            if found.as_str() == row.wanted {
+                return Ok(());
+            }
+            return Err(Fail::new(format_args!("{} -> {found}", row.action)));
         }
     }
     Err(Fail::new("it is refused to the end"))
 }
 
-/// Expects what a row says.
-fn expect_row<T: AllocGlobal + Threads + Wait + Abort + Sync>(
-    rt: &T,
-    run: &mut Run,
-    row: Row,
-) -> Result<(), Fail> {
-    let found = outcome(rt, run, row.action)?;
-    assert_eq!(rt; found.as_str(), row.wanted, "{}", row.action);
-    Ok(())
-}
-
-/// Expects what the rows of a table say, and that there are some.
-fn expect_each<T: AllocGlobal + Threads + Wait + Abort + Sync>(
-    rt: &T,
-    run: &mut Run,
-    table: &str,
-) -> Result<(), Fail> {
-    let mut rows = 0_u64;
-    for line in table.split('\n') {
-        if let Some(row) = Row::of(line) {
-            expect_row(rt, run, row)?;
-            rows = rows.saturating_add(1);
-        }
-    }
-    assert!(rt; rows > 0);
-    Ok(())
-}
-
-/// Expects what the rows of a table say.
+/// Expects what the rows of a table say, which are so many.
 pub fn expect_rows<T: AllocGlobal + Threads + Wait + Abort + Sync>(
     rt: &T,
     table: &str,
+    count: u16,
 ) -> Result<(), Fail> {
-    let mut run = begun(rt, &mut Words::of("apart 2 2"))?;
-    let result = expect_each(rt, &mut run, table);
-    drop(run);
-    result
+    let mut drought = Drought::new(rt.alloc())?;
+    let mut rows = 0_u16;
+    for line in table.split('\n') {
+        if let Some(row) = Row::of(line) {
+            expect_row(rt, &mut drought, row)?;
+            rows = rows.saturating_add(1);
+        }
+    }
+    drop(drought);
+    assert!(rt; rows == count);
+    Ok(())
 }
