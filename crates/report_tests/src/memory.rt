@@ -1,18 +1,14 @@
 //! Reports with hardly any memory: each allocation is refused once, and nothing is written then.
 
-use crate::books::expect_rows;
+use crate::books::{Books, expect_each};
 use crate::tables::TWO_CELLS;
 use bsc_table::CellRecord;
 use device_ends::Sink;
 use handset::Reading;
 use report::{ReportFault, rows, write_report};
 use std::alloc::Global;
-use std::process::Abort;
 use std::test::Fail;
-use test_support::take_all;
-
-/// How many octets each block of the memory has that is given back.
-const BLOCK: usize = 256;
+use test_support::Scarce;
 
 /// What a report of these leaves of 400 octets; the fault of one that isn't written.
 fn left_by(
@@ -30,50 +26,51 @@ fn left_by(
     (done, left.len())
 }
 
-/// Blocks that are given back one after another, once all other memory is taken.
-fn spare_blocks(alloc: Global) -> Result<Vec<Vec<u8>>, Fail> {
-    let mut spare: Vec<Vec<u8>> = Vec::with_capacity(alloc, 400)?;
-    for _ in 0..400 {
-        spare.push(Vec::with_capacity(alloc, BLOCK)?)?;
+/// Whether a report is refused memory; if it isn't, it is written and has 163 octets. One of fewer readings is at fault
+/// in either case, since cells are compared without memory.
+fn is_refused(alloc: Global, runs: &[CellRecord], readings: &[Reading]) -> Result<bool, Fail> {
+    let fewer = left_by(alloc, runs, &readings[..readings.len().saturating_sub(1)]);
+    if fewer != (Err(ReportFault::Cells), 400) {
+        return Err(Fail::new("a report of fewer readings"));
     }
-    Ok(spare)
+    match left_by(alloc, runs, readings) {
+        (Ok(()), 237) => Ok(false),
+        (Err(ReportFault::Refused), 400) => Ok(true),
+        _ => Err(Fail::new("another report, or another fault")),
+    }
 }
 
-/// How many reports are refused memory before one is written, each with one block more.
-fn refusals(
-    rt: &impl Abort,
-    alloc: Global,
-    runs: &[CellRecord],
-    readings: &[Reading],
-    spare: &mut Vec<Vec<u8>>,
-) -> u16 {
-    let mut refused = 0_u16;
-    for _ in 0..400 {
-        // the cells are compared without memory
-        let fewer = left_by(alloc, runs, &readings[..readings.len().saturating_sub(1)]);
-        assert_eq!(rt; fewer, (Err(ReportFault::Cells), 400));
-        let (done, left) = left_by(alloc, runs, readings);
-        if done.is_ok() {
-            assert_eq!(rt; left, 400 - 163);
-            return refused;
+/// How many reports of books are refused memory before one is written, each with one block more.
+fn refusals(alloc: Global, books: &Books, scarce: &mut Scarce) -> Result<u16, Fail> {
+    for refused in 0..400 {
+        if !is_refused(alloc, &books.runs, &books.readings)? {
+            return Ok(refused);
         }
-        assert_eq!(rt; (done, left), (Err(ReportFault::Refused), 400));
-        refused = refused.saturating_add(1);
-        let _ = spare.pop();
+        scarce.give_block();
     }
-    assert!(rt; false, "no report with 100 KB");
+    Err(Fail::new("no report with 100 KB"))
+}
+
+/// The same, once all memory is taken.
+fn refusals_without_memory(alloc: Global, books: &Books) -> Result<u16, Fail> {
+    let mut scarce = Scarce::new(alloc, 400, 256)?;
+    scarce.take(alloc);
+    let refused = refusals(alloc, books, &mut scarce);
+    drop(scarce);
     refused
+}
+
+/// The same of the two cells.
+fn refusals_of_two_cells(alloc: Global, books: &mut Books) -> Result<u16, Fail> {
+    let _ = expect_each(books, TWO_CELLS)?;
+    refusals_without_memory(alloc, books)
 }
 
 #[test]
 fn refused_memory_is_reported(rt: HostRuntime) -> Result<(), Fail> {
-    let mut spare = spare_blocks(rt.alloc())?;
-    let mut taken = Vec::with_capacity(rt.alloc(), 100_000)?;
-    let books = expect_rows(&rt, rt.alloc(), TWO_CELLS, 12)?;
-    take_all(rt.alloc(), &mut taken);
-    let refused = refusals(&rt, rt.alloc(), &books.runs, &books.readings, &mut spare);
-    taken.clear();
+    let mut books = Books::new(rt.alloc());
+    let refused = refusals_of_two_cells(rt.alloc(), &mut books);
     drop(books);
-    assert!(rt; refused > 3);
+    assert!(rt; refused? > 3);
     Ok(())
 }
