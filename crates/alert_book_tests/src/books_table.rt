@@ -153,7 +153,7 @@ fn carry_out<T: AllocGlobal + Threads + Sync>(
 }
 
 /// Expects what the rows of a table say, and returns how many there are.
-fn expect_each<T: AllocGlobal + Abort + Threads + Sync>(
+fn expect_each<T: AllocGlobal + Threads + Sync>(
     rt: &T,
     given: &mut Given,
     table: &str,
@@ -162,7 +162,9 @@ fn expect_each<T: AllocGlobal + Abort + Threads + Sync>(
     for line in table.split('\n') {
         if let Some(row) = Row::of(line) {
             carry_out(rt, given, row.action)?;
-            assert_eq!(rt; given.told.as_str(), row.wanted, "{line}");
+            if given.told.as_str() != row.wanted {
+                return Err(Fail::new(format_args!("{} -> {}", row.action, given.told)));
+            }
             rows = rows.saturating_add(1);
         }
     }
@@ -182,6 +184,6 @@ pub fn expect_rows<T: AllocGlobal + Abort + Threads + Sync>(
     };
     let rows = expect_each(rt, &mut given, table);
     drop(given);
-    assert_eq!(rt; rows?, count);
+    assert!(rt; rows? == count);
     Ok(())
 }

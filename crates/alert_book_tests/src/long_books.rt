@@ -133,6 +133,6 @@ fn many_texts_are_packed_as_each_alone(rt: HostRuntime) -> Result<(), Fail> {
     let book = book_of(&rt, text.as_bytes(), 64)?;
     let row = first_not_sent(&rt, &book);
     drop(book);
-    assert_eq!(rt; row?, END);
+    assert!(rt; row? == END);
     Ok(())
 }

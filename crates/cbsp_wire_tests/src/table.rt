@@ -50,45 +50,37 @@ fn carried_out(
     }
 }
 
-/// What comes of a row. If memory is refused, the action has all memory, and then one block more than before.
-fn outcome(alloc: Global, drought: &mut Drought, row: Row) -> Result<String, Fail> {
+/// Expects what a row says. If memory is refused, the action has all memory, and then one block more than before.
+fn expect_row(alloc: Global, drought: &mut Drought, row: Row) -> Result<(), Fail> {
     let ample = row.action.strip_prefix("scarce ").unwrap_or(row.action);
     for refused in 0..Drought::MOST {
         let found = carried_out(alloc, drought, row.action, refused)?;
         if !is_refused(&found) {
-            return after_refusals(alloc, refused, found);
+            let found = after_refusals(alloc, refused, found)?;
+            if found.as_str() == row.wanted {
+                return Ok(());
+            }
+            return Err(Fail::new(format_args!("{} -> {found}", row.action)));
         }
         let again = carried_out(alloc, drought, ample, 0)?;
         if row.wanted.strip_prefix("refused; ") != Some(again.as_str()) {
-            return Ok(format!(in alloc; "refused, and then {again}")?);
+            return Err(Fail::new(format_args!("{} -> refused, and then {again}", row.action)));
         }
     }
     Err(Fail::new("it is refused to the end"))
 }
 
-/// Expects what the lines of a table say, and returns how many do.
-fn expect_each(
-    rt: &impl Abort,
-    alloc: Global,
-    drought: &mut Drought,
-    table: &str,
-) -> Result<u16, Fail> {
-    let mut rows = 0_u16;
-    for line in table.split('\n') {
-        if let Some(row) = Row::of(line) {
-            let found = outcome(alloc, drought, row)?;
-            assert_eq!(rt; found.as_str(), row.wanted, "{}", row.action);
-            rows = rows.saturating_add(1);
-        }
-    }
-    Ok(rows)
-}
-
 /// Expects what the lines of a table say, which are as many.
 pub fn expect_rows(rt: &impl Abort, alloc: Global, table: &str, count: u16) -> Result<(), Fail> {
     let mut drought = Drought::new(alloc)?;
-    let rows = expect_each(rt, alloc, &mut drought, table);
+    let mut rows = 0_u16;
+    for line in table.split('\n') {
+        if let Some(row) = Row::of(line) {
+            expect_row(alloc, &mut drought, row)?;
+            rows = rows.saturating_add(1);
+        }
+    }
     drop(drought);
-    assert_eq!(rt; rows?, count);
+    assert!(rt; rows == count);
     Ok(())
 }

@@ -205,7 +205,7 @@ fn expect_meeting<T: AllocGlobal + Threads + Wait + Abort + Sync>(
 ) -> Result<u16, Fail> {
     let _ = expect_each(rt, run, DESK)?;
     let met = meet(rt, run, orders);
-    assert_eq!(rt; met, (true, false, false));
+    assert!(rt; met == (true, false, false));
     expect_each(rt, run, AFTERWARDS)
 }
 
@@ -215,6 +215,6 @@ fn an_order_holds_its_cell_and_no_other(rt: HostRuntime) -> Result<(), Fail> {
     let mut run = Run::new(rt.alloc())?;
     let rows = expect_meeting(&rt, &mut run, &orders);
     drop(run);
-    assert_eq!(&rt; rows?, 9);
+    assert!(&rt; rows? == 9);
     Ok(())
 }

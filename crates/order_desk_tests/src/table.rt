@@ -98,6 +98,6 @@ pub fn expect_rows<T: AllocGlobal + Wait + Abort>(
     let mut run = Run::new(rt.alloc())?;
     let rows = expect_each(rt, &mut run, table);
     drop(run);
-    assert_eq!(rt; rows?, count);
+    assert!(rt; rows? == count);
     Ok(())
 }
