@@ -1,18 +1,17 @@
 -- The parts of what is right of a number, and of a slot, together.
 use Rattle.std.proofs.Common.{◌≡◌, ℕ, ◌<◌, ◌≤◌, true, Option, Some, None, List, [], ◌∷◌, length, All}
-use Rattle.std.proofs.Common.{subst, refl, Bool}
+use Rattle.std.proofs.Common.{subst, refl, arith, Bool}
 use Rattle.std.specs.List.{list_all, list_any}
-use Rattle.std.proofs.lemmas.Bool.{and_from}
+use Rattle.std.proofs.lemmas.Bool.{and_from, le-leb, leb-true}
 use Rattle.cbsp_wire.proofs.Tests.{and_parts}
 use Rattle.cbsp_wire.specs.declared.message.Cell.{Cell}
 use Rattle.bsc_table.specs.declared.entry.Entry.{Entry}
-use Rattle.bsc_table.specs.Record.{Record}
+use Rattle.bsc_table.specs.declared.entry.SlotRange.{SlotRange}
 use Rattle.order_desk.specs.declared.note.Note.{Note}
 use Rattle.order_desk.specs.Agreement.{AreInPlaceAt, IsRightNumber, IsRightSlot, all_notes, is_ended, is_full_of}
 use Rattle.order_desk.specs.Agreement.{times_noted, times_played}
-use Rattle.order_desk.specs.SettleSteps.{IsLeastFailing, lesser}
+use Rattle.order_desk.specs.SettleSteps.{IsLeastFailing, ends_by, lesser}
 use Rattle.order_desk.proofs.FirstNot.{first_same, first_of_both}
-use Rattle.order_desk.proofs.Walked.{ended_later}
 
 -- the least wrong number of a cell is the least of three questions about numbers
 pub right_number : (cell : Cell) (log : List Entry) (passes : List (List Note)) (a b c : Option ℕ)
@@ -59,15 +58,18 @@ list_all_also p q also (x ∷ xs) is =
     let both = and_parts (p x) (list_all p xs) is in
     and_from (q x) (list_all q xs) (also x both.0) (list_all_also p q also xs both.1)
 
--- where all ranges have ended by a slot, they have by each later one
-pub ended_since : (cell : Cell) (clock slot : ℕ) (passes : List (List Note))
+-- where all ranges end by a slot, they do by each later one
+pub end_by_later : (clock slot : ℕ) (ranges : List SlotRange)
     → clock ≤ slot
-    → list_all (list_all (is_ended cell clock)) passes ≡ true
-    → list_all (list_all (is_ended cell slot)) passes ≡ true
-ended_since cell clock slot passes le is =
-    list_all_also (list_all (is_ended cell clock)) (list_all (is_ended cell slot))
-    (λ pass of_pass. list_all_also (is_ended cell clock) (is_ended cell slot) (ended_later cell clock slot le) pass
-    of_pass) passes is
+    → list_all (ends_by clock) ranges ≡ true
+    → list_all (ends_by slot) ranges ≡ true
+end_by_later clock slot ranges le is = list_all_also (ends_by clock) (ends_by slot) later ranges is
+  where
+    further : (to : ℕ) → to ≤ clock → to ≤ slot
+    further to less = omega arith
+
+    later : (range : SlotRange) → ends_by clock range ≡ true → ends_by slot range ≡ true
+    later range ends = le-leb range.to slot (further range.to (leb-true range.to clock ends))
 
 -- what the first number at which something isn't right says of it, if there is one
 pub first_some : (right : ℕ → Type 0) (found : Option ℕ) (k : ℕ)
@@ -83,23 +85,3 @@ pub first_none : (right : ℕ → Type 0) (found : Option ℕ)
     → (k : ℕ) → right k
 first_none right None none first = first
 first_none right (Some n) none first = absurd (none n refl)
-
--- a cell and its log in the place of those of its record
-pub numbers_of : (passes : List (List Note)) (r : Record) (cell : Cell) (log : List Entry) (found : Option ℕ)
-    → cell ≡ r.cell
-    → log ≡ r.log
-    → IsLeastFailing (IsRightNumber cell log passes) found
-    → IsLeastFailing (IsRightNumber r.cell r.log passes) found
-numbers_of passes r cell log found same logged first =
-    subst (λ (c : Cell). IsLeastFailing (IsRightNumber c r.log passes) found) same
-    (subst (λ (l : List Entry). IsLeastFailing (IsRightNumber cell l passes) found) logged first)
-
--- the same by the cell and clock of its record
-pub slots_of : (passes : List (List Note)) (r : Record) (cell : Cell) (clock : ℕ) (found : Option ℕ)
-    → cell ≡ r.cell
-    → clock ≡ r.clock
-    → IsLeastFailing (IsRightSlot cell clock passes) found
-    → IsLeastFailing (IsRightSlot r.cell r.clock passes) found
-slots_of passes r cell clock found same stands first =
-    subst (λ (c : Cell). IsLeastFailing (IsRightSlot c r.clock passes) found) same
-    (subst (λ (t : ℕ). IsLeastFailing (IsRightSlot cell t passes) found) stands first)

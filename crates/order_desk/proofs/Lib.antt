@@ -10,6 +10,6 @@ pub mod Walked
 pub mod Tallied
 pub mod Judged
 pub mod SameEntry
-pub mod OwnNotes
-pub mod SortedNotes
+pub mod Kept
+pub mod Noted
 mod Steps

@@ -1,5 +1,5 @@
--- A walk over the notes of a pass, note by note.
-use Rattle.std.proofs.Common.{◌≡◌, ◌⊎◌, ℕ, ◌+◌, ◌<◌, ◌≤◌, max, Some, List}
+-- The order of what the passes noted of a cell, note by note.
+use Rattle.std.proofs.Common.{◌≡◌, ◌⊎◌, ℕ, ◌+◌, ◌<◌, ◌≤◌, max, Option, Some, List}
 use Rattle.std.proofs.Common.{[], ◌∷◌, ◌++◌, All, inl, inr, true, false, Bool}
 use Rattle.std.proofs.Common.{sym, subst, refl, ap, arith, ◌∙◌, slice_index_or, cond, ltb, leb, None, ◌==◌}
 use Rattle.std.proofs.lemmas.Bool.{false≢true, eqb-true, eq-eqb, lt-ltb, ltb-true, le-leb, leb-true, and_from}
@@ -12,10 +12,11 @@ use Rattle.cbsp_wire.specs.Range.{is_cell}
 use Rattle.bsc_table.specs.declared.entry.Entry.{Entry}
 use Rattle.order_desk.specs.declared.note.Note.{Note}
 use Rattle.order_desk.specs.declared.note.Note.TheVariants as notes
-use Rattle.order_desk.specs.declared.settle.placed.Walk.{Walk}
+use Rattle.order_desk.specs.declared.settle.cell_notes.CellNotes.{CellNotes}
 use Rattle.order_desk.specs.Agreement.{is_below, is_ended, is_event_at, IsInPlace, IsInPlaceAt, AreInPlaceAt}
-use Rattle.order_desk.specs.SettleSteps.{IsLeastFailing, HasWalked, IsNext, lesser}
+use Rattle.order_desk.specs.SettleSteps.{IsLeastFailing, HasWalked, IsNext, is_note_of, lesser}
 use Rattle.order_desk.proofs.FirstNot.{first_same, first_with}
+use Rattle.order_desk.proofs.Kept.{other_below, other_ended}
 
 clash : (b : Bool) → b ≡ true → b ≡ false → ⊥
 clash b is not = false≢true (sym not ∙ is)
@@ -90,121 +91,191 @@ ended_later cell slot later le (notes.Played c from to) is = at (is_cell cell c)
     at false below = refl
 ended_later cell slot later le (notes.Full c) is = refl
 
+-- all passes so far have what they noted of a number in its place
+abbrev Placed : (cell : Cell) (log : List Entry) (earlier : List (List Note)) (given : List Note) (k : ℕ) → Type 0
+Placed cell log earlier given k = All (AreInPlaceAt cell log k []) earlier × AreInPlaceAt cell log k [] given
+
 -- the beginning
-pub walked_none : (cell : Cell) (log : List Entry) (walk : Walk) → walk.floor ≡ 0 → walk.reached ≡ 0 → walk.least ≡ None
-    → HasWalked cell log [] walk
-walked_none cell log walk floor reached least = record {
-  below = All-nil (λ n. is_below cell walk.floor n ≡ true);
-  lowest = λ k _. omega (arith, floor);
-  ended = All-nil (λ n. is_ended cell walk.reached n ≡ true);
-  nearest = λ slot _. omega (arith, reached);
-  first = subst (IsLeastFailing (λ k. AreInPlaceAt cell log k [] [])) (sym least) (λ k. tt);
+pub walked_none : (cell : Cell) (log : List Entry) (notes : CellNotes)
+    → notes.next_number ≡ 0
+    → notes.played_to ≡ 0
+    → notes.misplaced ≡ None
+    → HasWalked cell log [] [] notes
+walked_none cell log notes next played misplaced = record {
+  below = All-nil (λ n. is_below cell notes.next_number n ≡ true);
+  lowest = λ k _. omega (arith, next);
+  ended = All-nil (λ n. is_ended cell notes.played_to n ≡ true);
+  nearest = λ slot _. omega (arith, played);
+  first = subst (IsLeastFailing (Placed cell log [] [])) (sym misplaced)
+      (λ k. (All-nil (AreInPlaceAt cell log k []), tt));
 }
 
--- a note of another cell, or of a full log
-pub walked_other : (cell : Cell) (log : List Entry) (before : List Note) (note : Note) (walk : Walk)
+-- the end of a pass
+pub walked_end : (cell : Cell) (log : List Entry) (earlier : List (List Note)) (given : List Note)
+    (old new : CellNotes)
+    → new.next_number ≡ 0
+    → new.played_to ≡ 0
+    → new.misplaced ≡ old.misplaced
+    → HasWalked cell log earlier given old
+    → HasWalked cell log (earlier ++ given ∷ []) [] new
+walked_end cell log earlier given old new next played misplaced has = record {
+  below = All-nil (λ n. is_below cell new.next_number n ≡ true);
+  lowest = λ k _. omega (arith, next);
+  ended = All-nil (λ n. is_ended cell new.played_to n ≡ true);
+  nearest = λ slot _. omega (arith, played);
+  first = subst (IsLeastFailing (Placed cell log (earlier ++ given ∷ []) [])) (sym misplaced)
+      (first_same (Placed cell log earlier given) (Placed cell log (earlier ++ given ∷ []) []) old.misplaced
+      (λ k are. (all_with (AreInPlaceAt cell log k []) earlier given are.0 are.1, tt))
+      (λ k are. all_last (AreInPlaceAt cell log k []) earlier given are.0) has.first);
+}
+
+-- a note that is neither an entry nor a range of the cell leaves the least misplaced number
+first_kept : (cell : Cell) (log : List Entry) (earlier : List (List Note)) (given : List Note) (note : Note)
+    (found : Option ℕ)
+    → ((k : ℕ) → IsInPlaceAt cell log k given note)
+    → IsLeastFailing (Placed cell log earlier given) found
+    → IsLeastFailing (Placed cell log earlier (given ++ note ∷ [])) found
+first_kept cell log earlier given note found placed first =
+    first_same (Placed cell log earlier given) (Placed cell log earlier (given ++ note ∷ [])) found
+    (λ k are. (are.0, in_place_after cell log k [] given note are.1 (placed k)))
+    (λ k are. (are.0, (in_place_before cell log k [] given note are.1).0)) first
+
+-- a note that is below each number, and has ended by each slot
+walked_quiet : (cell : Cell) (log : List Entry) (earlier : List (List Note)) (given : List Note) (note : Note)
+    (old new : CellNotes)
     → ((k : ℕ) → is_below cell k note ≡ true)
     → ((slot : ℕ) → is_ended cell slot note ≡ true)
-    → ((k : ℕ) → IsInPlaceAt cell log k before note)
-    → HasWalked cell log before walk
-    → HasWalked cell log (before ++ note ∷ []) walk
-walked_other cell log before note walk below ended placed has = record {
-  below = all_with (λ n. is_below cell walk.floor n ≡ true) before note has.below (below walk.floor);
-  lowest = λ k all. has.lowest k (all_last (λ n. is_below cell k n ≡ true) before note all).0;
-  ended = all_with (λ n. is_ended cell walk.reached n ≡ true) before note has.ended (ended walk.reached);
-  nearest = λ slot all. has.nearest slot (all_last (λ n. is_ended cell slot n ≡ true) before note all).0;
-  first = first_same (λ k. AreInPlaceAt cell log k [] before) (λ k. AreInPlaceAt cell log k [] (before ++ note ∷ []))
-      walk.least (λ k are. in_place_after cell log k [] before note are (placed k))
-      (λ k are. (in_place_before cell log k [] before note are).0) has.first;
+    → ((k : ℕ) → IsInPlaceAt cell log k given note)
+    → new.next_number ≡ old.next_number
+    → new.played_to ≡ old.played_to
+    → new.misplaced ≡ old.misplaced
+    → HasWalked cell log earlier given old
+    → HasWalked cell log earlier (given ++ note ∷ []) new
+walked_quiet cell log earlier given note old new below ended placed next played misplaced has = record {
+  below = subst (λ n. All (λ m. is_below cell n m ≡ true) (given ++ note ∷ [])) (sym next)
+      (all_with (λ n. is_below cell old.next_number n ≡ true) given note has.below (below old.next_number));
+  lowest = λ k all. subst (λ n. n ≤ k) (sym next)
+      (has.lowest k (all_last (λ n. is_below cell k n ≡ true) given note all).0);
+  ended = subst (λ n. All (λ m. is_ended cell n m ≡ true) (given ++ note ∷ [])) (sym played)
+      (all_with (λ n. is_ended cell old.played_to n ≡ true) given note has.ended (ended old.played_to));
+  nearest = λ slot all. subst (λ n. n ≤ slot) (sym played)
+      (has.nearest slot (all_last (λ n. is_ended cell slot n ≡ true) given note all).0);
+  first = subst (IsLeastFailing (Placed cell log earlier (given ++ note ∷ []))) (sym misplaced)
+      (first_kept cell log earlier given note old.misplaced placed has.first);
 }
 
+-- a note of another cell changes nothing
+pub walked_other : (cell : Cell) (log : List Entry) (earlier : List (List Note)) (given : List Note) (note : Note)
+    (kept : CellNotes)
+    → is_note_of cell note ≡ false
+    → HasWalked cell log earlier given kept
+    → HasWalked cell log earlier (given ++ note ∷ []) kept
+walked_other cell log earlier given note kept other has =
+    walked_quiet cell log earlier given note kept kept (λ k. other_below cell k note other)
+    (λ slot. other_ended cell slot note other) (λ k. in_place k note other) refl refl refl has
+  where
+    in_place : (k : ℕ) (n : Note) → is_note_of cell n ≡ false → IsInPlaceAt cell log k given n
+    in_place k (notes.Event c number entry) not = λ event.
+        absurd (clash (is_cell cell c) (and_parts (is_cell cell c) (number == k) event).0 not)
+    in_place k (notes.Played c from to) not = tt
+    in_place k (notes.Full c) not = tt
+
+-- nor does a note of a full log change what is known of the order
+pub walked_full : (cell c : Cell) (log : List Entry) (earlier : List (List Note)) (given : List Note)
+    (old new : CellNotes)
+    → new.next_number ≡ old.next_number
+    → new.played_to ≡ old.played_to
+    → new.misplaced ≡ old.misplaced
+    → HasWalked cell log earlier given old
+    → HasWalked cell log earlier (given ++ notes.Full c ∷ []) new
+walked_full cell c log earlier given old new next played misplaced has =
+    walked_quiet cell log earlier given (notes.Full c) old new (λ k. refl) (λ slot. refl) (λ k. tt) next played
+    misplaced has
+
 -- a range of the cell's played slots
-pub walked_range : (cell c : Cell) (log : List Entry) (before : List Note) (from to : ℕ) (old new : Walk)
+pub walked_range : (cell c : Cell) (log : List Entry) (earlier : List (List Note)) (given : List Note) (from to : ℕ)
+    (old new : CellNotes)
     → is_cell cell c ≡ true
-    → new.floor ≡ old.floor
-    → new.reached ≡ max old.reached to
-    → new.least ≡ old.least
-    → HasWalked cell log before old
-    → HasWalked cell log (before ++ notes.Played c from to ∷ []) new
-walked_range cell c log before from to old new same floor reached least has = record {
-  below = all_with (λ n. is_below cell new.floor n ≡ true) before note
-      (subst (λ f. All (λ n. is_below cell f n ≡ true) before) (sym floor) has.below) refl;
-  lowest = λ k is. subst (λ f. f ≤ k) (sym floor)
-      (has.lowest k (all_last (λ n. is_below cell k n ≡ true) before note is).0);
-  ended = all_with (λ n. is_ended cell new.reached n ≡ true) before note
-      (all_also (λ n. is_ended cell old.reached n ≡ true) (λ n. is_ended cell new.reached n ≡ true)
-      (ended_later cell old.reached new.reached further) before has.ended)
-      (ap (λ b. cond b (leb to new.reached) true) same ∙ le-leb to new.reached there);
-  nearest = λ slot is. let parts = all_last (λ n. is_ended cell slot n ≡ true) before note is in
+    → new.next_number ≡ old.next_number
+    → new.played_to ≡ max old.played_to to
+    → new.misplaced ≡ old.misplaced
+    → HasWalked cell log earlier given old
+    → HasWalked cell log earlier (given ++ notes.Played c from to ∷ []) new
+walked_range cell c log earlier given from to old new same next played misplaced has = record {
+  below = all_with (λ n. is_below cell new.next_number n ≡ true) given note
+      (subst (λ f. All (λ n. is_below cell f n ≡ true) given) (sym next) has.below) refl;
+  lowest = λ k is. subst (λ f. f ≤ k) (sym next)
+      (has.lowest k (all_last (λ n. is_below cell k n ≡ true) given note is).0);
+  ended = all_with (λ n. is_ended cell new.played_to n ≡ true) given note
+      (all_also (λ n. is_ended cell old.played_to n ≡ true) (λ n. is_ended cell new.played_to n ≡ true)
+      (ended_later cell old.played_to new.played_to further) given has.ended)
+      (ap (λ b. cond b (leb to new.played_to) true) same ∙ le-leb to new.played_to there);
+  nearest = λ slot is. let parts = all_last (λ n. is_ended cell slot n ≡ true) given note is in
       both slot (has.nearest slot parts.0)
       (leb-true to slot (sym (ap (λ b. cond b (leb to slot) true) same) ∙ parts.1));
-  first = subst (IsLeastFailing (λ k. AreInPlaceAt cell log k [] (before ++ note ∷ []))) (sym least)
-      (first_same (λ k. AreInPlaceAt cell log k [] before) (λ k. AreInPlaceAt cell log k [] (before ++ note ∷ []))
-      old.least (λ k are. in_place_after cell log k [] before note are tt)
-      (λ k are. (in_place_before cell log k [] before note are).0) has.first);
+  first = subst (IsLeastFailing (Placed cell log earlier (given ++ note ∷ []))) (sym misplaced)
+      (first_kept cell log earlier given note old.misplaced (λ k. tt) has.first);
 }
   where
     note : Note
     note = notes.Played c from to
 
-    further : old.reached ≤ new.reached
-    further = omega (arith, reached)
+    further : old.played_to ≤ new.played_to
+    further = omega (arith, played)
 
-    there : to ≤ new.reached
-    there = omega (arith, reached)
+    there : to ≤ new.played_to
+    there = omega (arith, played)
 
-    both : (slot : ℕ) → old.reached ≤ slot → to ≤ slot → new.reached ≤ slot
-    both slot one other = omega (arith, reached)
+    both : (slot : ℕ) → old.played_to ≤ slot → to ≤ slot → new.played_to ≤ slot
+    both slot one other = omega (arith, played)
 
 -- an entry of the cell
-pub walked_entry : (cell c : Cell) (log : List Entry) (before : List Note) (number : ℕ) (entry : Entry) (old new : Walk)
+pub walked_entry : (cell c : Cell) (log : List Entry) (earlier : List (List Note)) (given : List Note) (number : ℕ)
+    (entry : Entry) (old new : CellNotes)
     → is_cell cell c ≡ true
-    → new.floor ≡ max old.floor (number + 1)
-    → new.reached ≡ old.reached
-    → (IsNext old log number entry × (new.least ≡ old.least))
-    ⊎ ((IsNext old log number entry → ⊥) × (new.least ≡ lesser old.least (Some number)))
-    → HasWalked cell log before old
-    → HasWalked cell log (before ++ notes.Event c number entry ∷ []) new
-walked_entry cell c log before number entry old new same floor reached least has = record {
-  below = all_with (λ n. is_below cell new.floor n ≡ true) before note
-      (all_also (λ n. is_below cell old.floor n ≡ true) (λ n. is_below cell new.floor n ≡ true)
-      (below_more cell old.floor new.floor further) before has.below)
-      (ap (λ b. cond b (ltb number new.floor) true) same ∙ lt-ltb number new.floor there);
-  lowest = λ k is. let parts = all_last (λ n. is_below cell k n ≡ true) before note is in
+    → new.next_number ≡ max old.next_number (number + 1)
+    → new.played_to ≡ old.played_to
+    → (IsNext old log number entry × (new.misplaced ≡ old.misplaced))
+    ⊎ ((IsNext old log number entry → ⊥) × (new.misplaced ≡ lesser old.misplaced (Some number)))
+    → HasWalked cell log earlier given old
+    → HasWalked cell log earlier (given ++ notes.Event c number entry ∷ []) new
+walked_entry cell c log earlier given number entry old new same next_is played misplaced has = record {
+  below = all_with (λ n. is_below cell new.next_number n ≡ true) given note
+      (all_also (λ n. is_below cell old.next_number n ≡ true) (λ n. is_below cell new.next_number n ≡ true)
+      (below_more cell old.next_number new.next_number further) given has.below)
+      (ap (λ b. cond b (ltb number new.next_number) true) same ∙ lt-ltb number new.next_number there);
+  lowest = λ k is. let parts = all_last (λ n. is_below cell k n ≡ true) given note is in
       both k (has.lowest k parts.0) (ltb-true number k (sym (ap (λ b. cond b (ltb number k) true) same) ∙ parts.1));
-  ended = all_with (λ n. is_ended cell new.reached n ≡ true) before note
-      (subst (λ r. All (λ n. is_ended cell r n ≡ true) before) (sym reached) has.ended) refl;
-  nearest = λ slot is. subst (λ r. r ≤ slot) (sym reached)
-      (has.nearest slot (all_last (λ n. is_ended cell slot n ≡ true) before note is).0);
-  first = found least;
+  ended = all_with (λ n. is_ended cell new.played_to n ≡ true) given note
+      (subst (λ r. All (λ n. is_ended cell r n ≡ true) given) (sym played) has.ended) refl;
+  nearest = λ slot is. subst (λ r. r ≤ slot) (sym played)
+      (has.nearest slot (all_last (λ n. is_ended cell slot n ≡ true) given note is).0);
+  first = found misplaced;
 }
   where
     note : Note
     note = notes.Event c number entry
 
-    all : List Note
-    all = before ++ note ∷ []
+    further : old.next_number ≤ new.next_number
+    further = omega (arith, next_is)
 
-    further : old.floor ≤ new.floor
-    further = omega (arith, floor)
+    there : number < new.next_number
+    there = omega (arith, next_is)
 
-    there : number < new.floor
-    there = omega (arith, floor)
+    both : (k : ℕ) → old.next_number ≤ k → number < k → new.next_number ≤ k
+    both k one other = omega (arith, next_is)
 
-    both : (k : ℕ) → old.floor ≤ k → number < k → new.floor ≤ k
-    both k one other = omega (arith, floor)
-
-    -- the entry is in its place exactly where the walk says so
-    placed : IsNext old log number entry → IsInPlace cell log before number entry
+    -- the entry is in its place exactly where it is the next
+    placed : IsNext old log number entry → IsInPlace cell log given number entry
     placed next = record {
       stands = next.stands;
-      rises = all_also (λ n. is_below cell old.floor n ≡ true) (λ n. is_below cell number n ≡ true)
-          (below_more cell old.floor number next.rises) before has.below;
-      follows = all_also (λ n. is_ended cell old.reached n ≡ true) (λ n. is_ended cell entry.slot n ≡ true)
-          (ended_later cell old.reached entry.slot next.follows) before has.ended;
+      rises = all_also (λ n. is_below cell old.next_number n ≡ true) (λ n. is_below cell number n ≡ true)
+          (below_more cell old.next_number number next.rises) given has.below;
+      follows = all_also (λ n. is_ended cell old.played_to n ≡ true) (λ n. is_ended cell entry.slot n ≡ true)
+          (ended_later cell old.played_to entry.slot next.follows) given has.ended;
     }
 
-    next : IsInPlace cell log before number entry → IsNext old log number entry
+    next : IsInPlace cell log given number entry → IsNext old log number entry
     next is = record {
       rises = has.lowest number is.rises;
       follows = has.nearest entry.slot is.follows;
@@ -214,49 +285,20 @@ walked_entry cell c log before number entry old new same floor reached least has
     is_event : is_event_at cell number note ≡ true
     is_event = and_from (is_cell cell c) (number == number) same (eq-eqb number number refl)
 
-    no_event : (k : ℕ) → (k ≡ number → ⊥) → IsInPlaceAt cell log k before note
+    no_event : (k : ℕ) → (k ≡ number → ⊥) → IsInPlaceAt cell log k given note
     no_event k other = λ is. absurd (other (sym (eqb-true number k (and_parts (is_cell cell c) (number == k) is).1)))
 
-    at_number : IsInPlace cell log before number entry → (k : ℕ) → IsInPlaceAt cell log k before note
-    at_number is k = λ event. subst (λ n. IsInPlace cell log before n entry)
+    at_number : IsInPlace cell log given number entry → (k : ℕ) → IsInPlaceAt cell log k given note
+    at_number is k = λ event. subst (λ n. IsInPlace cell log given n entry)
         (eqb-true number k (and_parts (is_cell cell c) (number == k) event).1) is
 
-    found : (IsNext old log number entry × (new.least ≡ old.least))
-        ⊎ ((IsNext old log number entry → ⊥) × (new.least ≡ lesser old.least (Some number)))
-        → IsLeastFailing (λ k. AreInPlaceAt cell log k [] all) new.least
-    found (inl is) = subst (IsLeastFailing (λ k. AreInPlaceAt cell log k [] all)) (sym is.1)
-        (first_same (λ k. AreInPlaceAt cell log k [] before) (λ k. AreInPlaceAt cell log k [] all) old.least
-        (λ k are. in_place_after cell log k [] before note are (at_number (placed is.0) k))
-        (λ k are. (in_place_before cell log k [] before note are).0) has.first)
-    found (inr not) = subst (IsLeastFailing (λ k. AreInPlaceAt cell log k [] all)) (sym not.1)
-        (first_with (λ k. AreInPlaceAt cell log k [] before) (λ k. AreInPlaceAt cell log k [] all) old.least number
-        (λ are. not.0 (next ((in_place_before cell log number [] before note are).1 is_event)))
-        (λ k other are. in_place_after cell log k [] before note are (no_event k other))
-        (λ k are. (in_place_before cell log k [] before note are).0) has.first)
-
--- an entry or a range of another cell, and a full log
-pub walked_foreign_entry : (cell c : Cell) (log : List Entry) (before : List Note) (number : ℕ) (entry : Entry)
-    (walk : Walk)
-    → is_cell cell c ≡ false
-    → HasWalked cell log before walk
-    → HasWalked cell log (before ++ notes.Event c number entry ∷ []) walk
-walked_foreign_entry cell c log before number entry walk other has =
-    walked_other cell log before (notes.Event c number entry) walk
-    (λ k. ap (λ b. cond b (ltb number k) true) other) (λ slot. refl)
-    (λ k event. absurd (clash (is_cell cell c) (and_parts (is_cell cell c) (number == k) event).0 other)) has
-
--- a range of another cell changes nothing of a walk
-pub walked_foreign_range : (cell c : Cell) (log : List Entry) (before : List Note) (from to : ℕ) (walk : Walk)
-    → is_cell cell c ≡ false
-    → HasWalked cell log before walk
-    → HasWalked cell log (before ++ notes.Played c from to ∷ []) walk
-walked_foreign_range cell c log before from to walk other has =
-    walked_other cell log before (notes.Played c from to) walk (λ k. refl)
-    (λ slot. ap (λ b. cond b (leb to slot) true) other) (λ k. tt) has
-
--- nor does a note of a full log
-pub walked_full : (cell c : Cell) (log : List Entry) (before : List Note) (walk : Walk)
-    → HasWalked cell log before walk
-    → HasWalked cell log (before ++ notes.Full c ∷ []) walk
-walked_full cell c log before walk has =
-    walked_other cell log before (notes.Full c) walk (λ k. refl) (λ slot. refl) (λ k. tt) has
+    found : (IsNext old log number entry × (new.misplaced ≡ old.misplaced))
+        ⊎ ((IsNext old log number entry → ⊥) × (new.misplaced ≡ lesser old.misplaced (Some number)))
+        → IsLeastFailing (Placed cell log earlier (given ++ note ∷ [])) new.misplaced
+    found (inl is) = subst (IsLeastFailing (Placed cell log earlier (given ++ note ∷ []))) (sym is.1)
+        (first_kept cell log earlier given note old.misplaced (at_number (placed is.0)) has.first)
+    found (inr not) = subst (IsLeastFailing (Placed cell log earlier (given ++ note ∷ []))) (sym not.1)
+        (first_with (Placed cell log earlier given) (Placed cell log earlier (given ++ note ∷ [])) old.misplaced number
+        (λ are. not.0 (next ((in_place_before cell log number [] given note are.1).1 is_event)))
+        (λ k other are. (are.0, in_place_after cell log k [] given note are.1 (no_event k other)))
+        (λ k are. (are.0, (in_place_before cell log k [] given note are.1).0)) has.first)

@@ -1,21 +1,18 @@
 -- Steps of a settlement (own). The contracts of private functions alone speak of them.
-use Rattle.std.specs.Prelude.{◌≡◌, ⊤, ℕ, ◌<◌, ◌≤◌, Bool, true, false, min, Option, Some, None}
-use Rattle.std.specs.Prelude.{List, [], ◌∷◌, ◌++◌, length, filter, map, slice_index_or, All}
-use Rattle.std.specs.List.{slice_get}
+use Rattle.std.specs.Prelude.{◌≡◌, ⊤, ℕ, ◌<◌, ◌≤◌, ◌&&◌, Bool, true, false, min, nat_le, nat_lt, Option, Some, None}
+use Rattle.std.specs.Prelude.{List, [], ◌∷◌, ◌++◌, length, filter, slice_index_or, All}
+use Rattle.std.specs.List.{list_all, list_any, slice_get}
 use Rattle.cbsp_wire.specs.declared.message.Cell.{Cell}
 use Rattle.cbsp_wire.specs.Range.{is_cell}
 use Rattle.bsc_table.specs.declared.entry.Entry.{Entry}
+use Rattle.bsc_table.specs.declared.entry.SlotRange.{SlotRange}
 use Rattle.bsc_table.specs.Record.{Record}
 use Rattle.order_desk.specs.declared.note.Note.{Note}
-use Rattle.order_desk.specs.declared.note.Note.TheVariants as notes
-use Rattle.order_desk.specs.declared.settle.brief.Brief.{Brief}
-use Rattle.order_desk.specs.declared.settle.brief.Brief.TheVariants as briefs
-use Rattle.order_desk.specs.declared.settle.times.Kind.{Kind}
-use Rattle.order_desk.specs.declared.settle.times.Kind.TheVariants as kinds
-use Rattle.order_desk.specs.declared.settle.placed.Walk.{Walk}
+use Rattle.order_desk.specs.declared.settle.cell_notes.CellNotes.{CellNotes}
 use Rattle.order_desk.specs.declared.settle.SettleFault.{SettleFault}
 use Rattle.order_desk.specs.declared.settle.SettleFault.TheVariants as faults
-use Rattle.order_desk.specs.Agreement.{is_below, is_ended, is_event_at, is_play_of, AreInPlaceAt, Agrees}
+use Rattle.order_desk.specs.Agreement.{all_notes, is_below, is_ended, is_event_at, is_full_of, times_played}
+use Rattle.order_desk.specs.Agreement.{AreInPlaceAt, Agrees}
 use Rattle.order_desk.specs.Settled.{IsStrangeAt, OverlapsAt, cell_of, is_of_cells, number_of}
 
 -- the first number at which something isn't right, if there is one
@@ -23,56 +20,65 @@ abbrev pub IsLeastFailing : (ℕ → Type 0) → Option ℕ → Type 0
 IsLeastFailing right None = (k : ℕ) → right k
 IsLeastFailing right (Some k) = (right k → ⊥) × ((lesser : ℕ) → lesser < k → right lesser)
 
--- the note that stands in brief
-abbrev pub note_of : Brief → Note
-note_of (briefs.Event cell number entry) = notes.Event cell number entry.now
-note_of (briefs.Played cell from to) = notes.Played cell from to
-note_of (briefs.Full cell) = notes.Full cell
-
--- whether a note stands for a place: for the number of an entry, or for a played slot
-abbrev pub stands_for : Kind → Cell → ℕ → Note → Bool
-stands_for kinds.Numbers cell place note = is_event_at cell place note
-stands_for kinds.Slots cell place note = is_play_of cell place note
-
--- how often each place was noted, told up to 255
-abbrev pub AreTimes : Kind → Cell → List Note → List ℕ → Type 0
-AreTimes kind cell given times = (place : ℕ) → place < length times
-    → slice_index_or times place 0 ≡ min (length (filter (stands_for kind cell place) given)) 255
-
 -- the lesser of two numbers, as far as there are any
 abbrev pub lesser : Option ℕ → Option ℕ → Option ℕ
 lesser None other = other
 lesser (Some one) None = Some one
 lesser (Some one) (Some other) = Some (min one other)
 
--- what a walk over a pass's notes of a cell keeps: the numbers noted so far are below `floor`, which is the least such
--- bound; so is `reached` of the ends of ranges; and the least number of which a note isn't in its place
-pub record HasWalked (cell : Cell) (log : List Entry) (before : List Note) (walk : Walk) : Type 0 where
-  pub below : All (λ note. is_below cell walk.floor note ≡ true) before
-  pub lowest : (k : ℕ) → All (λ note. is_below cell k note ≡ true) before → walk.floor ≤ k
-  pub ended : All (λ note. is_ended cell walk.reached note ≡ true) before
-  pub nearest : (slot : ℕ) → All (λ note. is_ended cell slot note ≡ true) before → walk.reached ≤ slot
-  pub first : IsLeastFailing (λ k. AreInPlaceAt cell log k [] before) walk.least
-
--- an entry that is noted next is in its place
-pub record IsNext (walk : Walk) (log : List Entry) (k : ℕ) (entry : Entry) : Type 0 where
-  pub rises : walk.floor ≤ k
-  pub follows : walk.reached ≤ entry.slot
-  pub stands : slice_get log k ≡ Some entry
-
 -- whether a note is of this cell
 abbrev pub is_note_of : Cell → Note → Bool
 is_note_of cell note = is_cell cell (cell_of note)
 
--- of each pass its notes of a cell, in its order
-abbrev pub own_notes : Cell → List (List Note) → List (List Note)
-own_notes cell passes = map (filter (is_note_of cell)) passes
+-- whether a range has a slot, and whether it ends by one
+abbrev pub has_slot : ℕ → SlotRange → Bool
+has_slot slot range = nat_le range.from slot && nat_lt slot range.to
 
--- each of some cells has its own notes, in its place
-pub record AreSorted (cells : List Cell) (passes : List (List Note)) (sorted : List (List (List Note))) : Type 0 where
-  pub places : length sorted ≡ length cells
-  pub own : (place : ℕ) (default : Cell) → place < length cells
-      → slice_index_or sorted place [] ≡ own_notes (slice_index_or cells place default) passes
+abbrev pub ends_by : ℕ → SlotRange → Bool
+ends_by slot range = nat_le range.to slot
+
+-- how many of some items stand for each place, told up to 255
+abbrev pub AreTimes : {X : Type 0} → (ℕ → X → Bool) → List X → List ℕ → Type 0
+AreTimes stands given times = (place : ℕ) → place < length times
+    → slice_index_or times place 0 ≡ min (length (filter (stands place) given)) 255
+
+-- what is kept of a cell's notes by their kinds: how often each number was noted, ranges that have each slot as often
+-- as it was noted, and end where the noted ones do, and whether the log was noted as full
+pub record HasKept (cell : Cell) (given : List Note) (notes : CellNotes) : Type 0 where
+  pub noted : AreTimes (is_event_at cell) given notes.times_noted.items
+  pub played : (slot : ℕ) → length (filter (has_slot slot) notes.ranges.items) ≡ times_played cell slot given
+  pub ended : (slot : ℕ) → list_all (ends_by slot) notes.ranges.items ≡ list_all (is_ended cell slot) given
+  pub full : notes.is_full ≡ list_any (is_full_of cell) given
+
+-- what is kept of their order, after some passes and what the pass under way has noted so far: of that pass the least
+-- bound above the cell's numbers, and above the ends of its ranges; and of all the least number that isn't in its place
+pub record HasWalked (cell : Cell) (log : List Entry) (earlier : List (List Note)) (given : List Note)
+    (notes : CellNotes) : Type 0 where
+  pub below : All (λ note. is_below cell notes.next_number note ≡ true) given
+  pub lowest : (k : ℕ) → All (λ note. is_below cell k note ≡ true) given → notes.next_number ≤ k
+  pub ended : All (λ note. is_ended cell notes.played_to note ≡ true) given
+  pub nearest : (slot : ℕ) → All (λ note. is_ended cell slot note ≡ true) given → notes.played_to ≤ slot
+  pub first : IsLeastFailing (λ k. All (AreInPlaceAt cell log k []) earlier × AreInPlaceAt cell log k [] given)
+      notes.misplaced
+
+-- an entry that is noted next is in its place
+pub record IsNext (notes : CellNotes) (log : List Entry) (k : ℕ) (entry : Entry) : Type 0 where
+  pub rises : notes.next_number ≤ k
+  pub follows : notes.played_to ≤ entry.slot
+  pub stands : slice_get log k ≡ Some entry
+
+-- what was noted of the cell of a record, by some passes and by the one under way so far
+pub record HasNoted (r : Record) (earlier : List (List Note)) (given : List Note) (notes : CellNotes) : Type 0 where
+  pub places : length notes.times_noted.items ≡ length r.log
+  pub kept : HasKept r.cell (all_notes earlier ++ given) notes
+  pub walked : HasWalked r.cell r.log earlier given notes
+
+-- and of the cell of each record, in their order
+pub record AreNoted (books : List Record) (earlier : List (List Note)) (given : List Note) (noted : List CellNotes)
+    : Type 0 where
+  pub places : length noted ≡ length books
+  pub each : (place : ℕ) (r : Record) (n : CellNotes) → place < length books
+      → HasNoted (slice_index_or books place r) earlier given (slice_index_or noted place n)
 
 -- a book is this cell's
 abbrev pub IsOfCell : Cell → Record → Type 0

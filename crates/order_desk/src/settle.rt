@@ -1,40 +1,36 @@
 //! Settling: what the passes noted, beside what the cells hold.
 
-ghost use Rattle.std.specs.Prelude.{◌≡◌, ◌≢◌, ◌⊎◌, ⊤, ℕ, ◌<◌, ◌≤◌, true};
-ghost use Rattle.std.specs.Prelude.{Some, None, List, [], ◌∷◌, ◌++◌, length, All, Any};
+ghost use Rattle.std.specs.Prelude.{◌≡◌, ◌≢◌, ⊤, List, [], true, None, length, All};
 ghost use Rattle.std.specs.Prelude.{IfOk, IfErr, IfSome, IsOk, IsTrue, ◌↔◌};
-ghost use Rattle.std.specs.List.{AllZip, list_all, list_any};
-ghost use Rattle.std.specs.Option.{MatchOption};
-ghost use Rattle.cbsp_wire.specs.declared.message.Cell.{Cell};
+ghost use Rattle.std.specs.List.{AllZip};
 ghost use Rattle.cbsp_wire.specs.Range.{are_distinct, cells_are_valid};
+ghost use Rattle.order_desk.specs.declared.note.Note.{Note};
 ghost use Rattle.order_desk.specs.declared.settle.SettleFault.TheVariants as faults;
-ghost use Rattle.order_desk.specs.Agreement.{Agrees, IsRightNumber, IsRightSlot, is_ended, is_full_of};
-ghost use Rattle.order_desk.specs.Settled.{AreOwn, IsBookOf, IsFault, IsFirstForeign, IsFirstWrong, IsPlayedOut};
-ghost use Rattle.order_desk.specs.Settled.{IsSettled, ClosedDesk, cell_of, is_of_cells, number_of};
-ghost use Rattle.order_desk.specs.SettleSteps.{IsFirstJudged, IsLeastFailing, IsForeignIn, IsOfCell, IsStrangeBy};
-ghost use Rattle.order_desk.specs.SettleSteps.{note_of};
+ghost use Rattle.order_desk.specs.Agreement.{Agrees};
+ghost use Rattle.order_desk.specs.Settled.{IsBookOf, IsFault, IsFirstWrong, IsPlayedOut, IsSettled, ClosedDesk};
+ghost use Rattle.order_desk.specs.SettleSteps.{HasNoted, IsFirstJudged, IsOfCell, IsStrangeBy};
 
 use crate::closed::Closed;
-use crate::note::{Note, Pass};
-use crate::settle::brief::Brief;
-use crate::settle::own::Own;
-use crate::settle::placed::{least_misplaced, lesser};
-use crate::settle::sorted::{cell_of, sorted_notes};
-use crate::settle::times::{Kind, least_not_once};
-use bsc_table::{CellBook, CellRecord, Entry};
+use crate::note::Pass;
+use crate::settle::cell_notes::CellNotes;
+use crate::settle::foreign::first_foreign;
+use crate::settle::notes_by_cell::notes_of_cells;
+use crate::settle::numbers::first_strange;
+use crate::settle::slots::first_overlap;
+use bsc_table::{CellBook, CellRecord};
 use cbsp_wire::Cell;
-use cbsp_wire::cells::find_near;
 use std::alloc::{AllocError, AllocFailed, Global};
 use thiserror::Error;
 
-pub(crate) mod brief;
-pub(crate) mod own;
-pub(crate) mod placed;
-pub(crate) mod sorted;
-pub(crate) mod times;
+pub(crate) mod cell_notes;
+pub(crate) mod counts;
+pub(crate) mod foreign;
+pub(crate) mod notes_by_cell;
+pub(crate) mod numbers;
+pub(crate) mod slots;
 
 /// How many entries a log has room for (own). A note without a number is told by it.
-const MAX_ENTRIES: u16 = 4096;
+pub(crate) const MAX_ENTRIES: u16 = 4096;
 
 /// Why a desk isn't settled.
 #[derive(Clone, Copy, Debug, PartialEq, Eq, Error)]
@@ -83,168 +79,20 @@ impl<T: Drop> From<AllocFailed<T>> for SettleFault {
     }
 }
 
-/// The number of a note; 4,096 if it has none.
-fn number_of(note: &Note) -> u16
-    ensures { result ≡ number_of note.now }
-{
-    match note {
-        Note::Event { number, .. } => *number,
-        Note::Played { .. } | Note::Full { .. } => MAX_ENTRIES,
-    }
-}
-
-/// The first note of a pass that is of no cell of the desk, as its cell and number.
-fn foreign_in(cells: &[Cell], notes: &[Note]) -> Option<(Cell, u16)>
-    ensures { IsForeignIn cells.now notes.now result }
-{
-    let mut near = 0;
-    for note in notes {
-        let cell = cell_of(note);
-        match find_near(cells, cell, near) {
-            Some(place) => near = place,
-            None => return Some((cell, number_of(note))),
-        }
-    }
-    None
-}
-
-/// The first note of all that is of no cell of the desk, as its cell and number.
-fn first_foreign(cells: &[Cell], passes: &[Pass]) -> Option<(Cell, u16)>
-    ensures { MatchOption result (AreOwn cells.now passes.now) (λ told. (note : _)
-        × IsFirstForeign cells.now passes.now note × (cell_of note ≡ told.0) × (number_of note ≡ told.1)) }
-{
-    for pass in passes {
-        if let Some(told) = foreign_in(cells, pass.notes()) {
-            return Some(told);
-        }
-    }
-    None
-}
-
-/// Whether a note says that the cell's log was full.
-fn is_full(cell: Cell, note: &Brief) -> bool
-    ensures { result ≡ is_full_of cell (note_of note.now) }
-{
-    match note {
-        Brief::Full { cell: of } => cell == *of,
-        _ => false,
-    }
-}
-
-/// Whether a note is no range of the cell's played slots that ends after a slot.
-fn is_ended(cell: Cell, slot: u16, note: &Brief) -> bool
-    ensures { result ≡ is_ended cell slot (note_of note.now) }
-{
-    match note {
-        Brief::Played { cell: of, to, .. } if cell == *of => *to <= slot,
-        _ => true,
-    }
-}
-
-/// Whether one of these notes says that the cell's log was full.
-fn note_full(cell: Cell, own: &Own) -> bool
-    ensures { result ≡ list_any (is_full_of cell) own.now }
-{
-    for place in 0..own.len() {
-        if is_full(cell, own.note(place)) {
-            return true;
-        }
-    }
-    false
-}
-
-/// Whether a pass notes that the cell's log was full.
-fn was_full(cell: Cell, passes: &[Own]) -> bool
-    ensures { result ≡ list_any (list_any (is_full_of cell)) passes.now }
-{
-    passes.iter().any(|own| note_full(cell, own))
-}
-
-/// Whether none of these notes is of a range of the cell's played slots that ends after a slot.
-fn are_ended(cell: Cell, slot: u16, own: &Own) -> bool
-    ensures { result ≡ list_all (is_ended cell slot) own.now }
-{
-    for place in 0..own.len() {
-        if !is_ended(cell, slot, own.note(place)) {
-            return false;
-        }
-    }
-    true
-}
-
-/// Whether no noted range of the cell's played slots ends after a slot.
-fn all_ended(cell: Cell, slot: u16, passes: &[Own]) -> bool
-    ensures { result ≡ list_all (list_all (is_ended cell slot)) passes.now }
-{
-    passes.iter().all(|own| are_ended(cell, slot, own))
-}
-
-/// The number 4,096 if a pass notes that the cell's log was full, and it has fewer entries.
-fn first_not_full(cell: Cell, entries: u16, passes: &[Own]) -> Option<u16>
-    ensures { IsLeastFailing (λ k. k ≡ 4096 → list_any (list_any (is_full_of cell)) passes.now ≡ true → 4096 ≤ entries)
-        result }
-{
-    if entries < MAX_ENTRIES && was_full(cell, passes) {
-        Some(MAX_ENTRIES)
-    } else {
-        None
-    }
-}
-
-/// The least number at which what was noted of a cell isn't right.
-fn first_strange(
-    alloc: Global,
-    cell: Cell,
-    log: &[Entry],
-    passes: &[Own],
-) -> Result<Option<u16>, AllocError>
-    requires { length log.now ≤ 4096 }
-    ensures { IfOk result (IsLeastFailing (IsRightNumber cell log.now passes.now)) }
-{
-    let entries = log.len() as u16;
-    let misplaced = least_misplaced(cell, log, passes);
-    let not_once = least_not_once(alloc, Kind::Numbers, cell, entries, passes)?;
-    let not_full = first_not_full(cell, entries, passes);
-    Ok(lesser(lesser(misplaced, not_once), not_full))
-}
-
-/// The clock if a noted range of the cell's played slots ends after it.
-fn first_late(cell: Cell, clock: u16, passes: &[Own]) -> Option<u16>
-    ensures { IsLeastFailing (λ slot. clock ≤ slot → list_all (list_all (is_ended cell slot)) passes.now
-        ≡ true) result }
-{
-    if all_ended(cell, clock, passes) {
-        None
-    } else {
-        Some(clock)
-    }
-}
-
-/// The least slot of a cell that wasn't noted right.
-fn first_overlap(
-    alloc: Global,
-    cell: Cell,
-    clock: u16,
-    passes: &[Own],
-) -> Result<Option<u16>, AllocError>
-    ensures { IfOk result (IsLeastFailing (IsRightSlot cell clock passes.now)) }
-{
-    let not_once = least_not_once(alloc, Kind::Slots, cell, clock, passes)?;
-    let late = first_late(cell, clock, passes);
-    Ok(lesser(not_once, late))
-}
-
 /// Compares what was noted of a cell with its book.
-fn judge(alloc: Global, book: &CellBook, passes: &[Own]) -> Result<(), SettleFault>
-    ensures ok { IsOk result → Agrees passes.now book.now }
-    ensures err { IfErr result (λ fault. fault ≢ faults.Refused → IsStrangeBy passes.now book.now fault) }
+fn judge(alloc: Global, book: &CellBook, notes: &CellNotes) -> Result<(), SettleFault>
+    requires { length notes.now.times_noted.items ≡ length book.now.log }
+    ensures ok { IsOk result → (passes : List (List Note)) → HasNoted book.now passes [] notes.now
+        → Agrees passes book.now }
+    ensures err { IfErr result (λ fault. fault ≢ faults.Refused
+        → (passes : List (List Note)) → HasNoted book.now passes [] notes.now → IsStrangeBy passes book.now fault) }
 {
     let cell = book.cell();
     let clock = book.clock();
-    if let Some(number) = first_strange(alloc, cell, book.log(), passes)? {
+    if let Some(number) = first_strange(book.log().len(), notes) {
         return Err(SettleFault::Strange { cell, number });
     }
-    match first_overlap(alloc, cell, clock, passes)? {
+    match first_overlap(alloc, clock, notes)? {
         Some(slot) => Err(SettleFault::Overlap { cell, slot }),
         None => Ok(()),
     }
@@ -292,8 +140,8 @@ fn records_of(alloc: Global, books: Vec<CellBook>) -> Result<Vec<CellRecord>, Se
     Ok(records)
 }
 
-/// Compares what was noted with each book, in order. It sorts the notes by cell before, so that it walks over all of
-/// them once, and over those of a cell for this cell alone.
+/// Compares what was noted with each book, in order. It brings the notes to their cells before, so that it walks over
+/// them once.
 fn judge_all(
     alloc: Global,
     cells: &[Cell],
@@ -306,12 +154,10 @@ fn judge_all(
     ensures err { IfErr result (λ fault. fault ≢ faults.Refused
         → IsFirstJudged passes.now books.now fault) }
 {
-    let sorted = sorted_notes(alloc, cells, passes)?;
-    let owns = sorted.as_slice();
+    let noted = notes_of_cells(alloc, cells, books, passes)?;
+    let notes = noted.as_slice();
     for place in 0..books.len() {
-        if let Err(fault) = judge(alloc, &books[place], owns[place].passes()) {
-            return Err(fault);
-        }
+        judge(alloc, &books[place], &notes[place])?;
     }
     Ok(())
 }

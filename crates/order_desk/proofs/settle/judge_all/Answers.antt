@@ -1,69 +1,66 @@
-use Rattle.std.proofs.Common.{◌≡◌, ◌∙◌, ◌+◌, ◌<◌, List, [], ◌∷◌, ◌++◌, All, take, drop, length, sym, subst, ap, refl}
-use Rattle.std.proofs.Common.{arith}
+use Rattle.std.proofs.Common.{◌≡◌, ◌≢◌, ◌∙◌, ◌+◌, ◌<◌, List, [], ◌∷◌, ◌++◌, All, take, drop, length, Err, Result, IfErr}
+use Rattle.std.proofs.Common.{sym, subst, ap, refl, arith, rules}
 use Rattle.std.proofs.lemmas.List.{take_all, take_more, drop_more, take-append-drop}
-use Rattle.std.proofs.lemmas.Slice.Zip.{AllZip-long}
 use Rattle.bsc_table.specs.Record.{Record}
-use Rattle.order_desk.specs.declared.note.Note.{Note}
+use Rattle.order_desk.specs.declared.settle.SettleFault.{SettleFault}
+use Rattle.order_desk.specs.declared.settle.SettleFault.TheVariants as faults
 use Rattle.order_desk.specs.Agreement.{Agrees}
-use Rattle.order_desk.specs.SettleSteps.{AreSorted, IsOfCell, IsStrangeBy}
-use Rattle.order_desk.proofs.OwnNotes.{agree_by_own, strange_by_own}
-use Rattle.order_desk.proofs.SortedNotes.{own_of_book}
+use Rattle.order_desk.specs.SettleSteps.{IsFirstJudged}
+use Rattle.order_desk.proofs.Noted.{noted_at}
 use Rattle.order_desk.proofs.Walked.{all_with}
 use Rattle.order_desk.proofs.settle.judge_all.Goals as goal
 
--- src/settle.rt:296:57
-pub bounds-owns-place : goal.bounds-owns-place
-bounds-owns-place c = within
+pub bounds-notes-place : goal.bounds-notes-place
+bounds-notes-place c = within
   where
-    long : length c.args.books.now ≡ length c.args.cells.now
-    long = AllZip-long IsOfCell c.args.cells.now c.args.books.now c.requires.right
+    of_books : length c.as_slice-notes.result.now ≡ length c.args.books.now
+    of_books = ap length c.as_slice-notes.ensures.value ∙ c.in_ok-noted.ensures.places
 
-    of_cells : length c.as_slice-owns.result.now ≡ length c.args.cells.now
-    of_cells = ap length c.as_slice-owns.ensures.value ∙ c.in_ok-sorted.ensures.places
+    within : c.loop-place.place < length c.as_slice-notes.result.now
+    within = omega (arith, c.loop-place-test.true, of_books)
 
-    within : c.loop-place.place < length c.as_slice-owns.result.now
-    within = omega (arith, c.loop-place-test.true, long, of_cells)
+pub judge-requires : goal.judge-requires
+judge-requires c = (noted_at c.args.books.now c.args.passes.now c.in_ok-noted.noted.items c.as_slice-notes.result.now
+    c.loop-place.place c.index-books-place.result c.index-notes-place.result c.in_ok-noted.ensures
+    c.as_slice-notes.ensures.value c.loop-place-test.true c.index-books-place.is c.index-notes-place.is).places
 
--- src/settle.rt:297:13
-pub returns-in-Err-clause-err : goal.returns-in-Err-clause-err
-returns-in-Err-clause-err c = λ other. record {
-  before = take c.loop-place.place c.args.books.now;
-  judged = c.index-books-place.result;
-  later = drop (c.loop-place.place + 1) c.args.books.now;
-  all = sym (take-append-drop c.loop-place.place c.args.books.now)
-      ∙ ap (λ (rs : List Record). take c.loop-place.place c.args.books.now ++ rs)
-      (subst (λ (r : Record). drop c.loop-place.place c.args.books.now
-      ≡ r ∷ drop (c.loop-place.place + 1) c.args.books.now) (sym c.index-books-place.is)
-      (drop_more c.args.books.now c.loop-place.place c.index-books-place.result c.loop-place-test.true));
-  agree = c.loop-place.invariant;
-  strange = strange_by_own c.args.passes.now c.index-books-place.result c.in-Err.fault
-      (subst (λ (own : List (List Note)). IsStrangeBy own c.index-books-place.result c.in-Err.fault)
-      (c.passes.ensures ∙ own_of_book c.args.cells.now c.args.passes.now c.args.books.now c.as_slice-owns.result.now
-      c.loop-place.place c.index-books-place.result c.index-owns-place.result
-      (subst (AreSorted c.args.cells.now c.args.passes.now) (sym c.as_slice-owns.ensures.value) c.in_ok-sorted.ensures)
-      c.requires.right c.loop-place-test.true c.index-books-place.is c.index-owns-place.is)
-      (c.in-Err.ensures.err other));
-}
-
--- src/settle.rt:295:5
 pub loop-place-preserved : goal.loop-place-preserved
 loop-place-preserved c =
-    let before : List Record = take c.loop-place.place c.args.books.now in
-    let more : take (c.loop-place.place + 1) c.args.books.now ≡ before ++ c.index-books-place.result ∷ [] =
-    subst (λ (r : Record). take (c.loop-place.place + 1) c.args.books.now ≡ before ++ r ∷ [])
-    (sym c.index-books-place.is) (take_more c.args.books.now c.loop-place.place c.index-books-place.result
-    c.loop-place-test.true) in
+    let place = c.loop-place.place in
+    let before : List Record = take place c.args.books.now in
+    let book : Record = c.index-books-place.result in
+    let more : take (place + 1) c.args.books.now ≡ before ++ book ∷ [] =
+    subst (λ (r : Record). take (place + 1) c.args.books.now ≡ before ++ r ∷ []) (sym c.index-books-place.is)
+    (take_more c.args.books.now place book c.loop-place-test.true) in
     subst (All (Agrees c.args.passes.now)) (sym more)
-    (all_with (Agrees c.args.passes.now) before c.index-books-place.result c.loop-place.invariant
-    (agree_by_own c.args.passes.now c.index-books-place.result
-    (subst (λ (own : List (List Note)). Agrees own c.index-books-place.result)
-    (c.passes.ensures ∙ own_of_book c.args.cells.now c.args.passes.now c.args.books.now c.as_slice-owns.result.now
-    c.loop-place.place c.index-books-place.result c.index-owns-place.result
-    (subst (AreSorted c.args.cells.now c.args.passes.now) (sym c.as_slice-owns.ensures.value) c.in_ok-sorted.ensures)
-    c.requires.right c.loop-place-test.true c.index-books-place.is c.index-owns-place.is)
-    (c.in_default.ensures.ok refl))))
+    (all_with (Agrees c.args.passes.now) before book c.loop-place.invariant
+    (c.in_ok-judge.ensures.ok refl c.args.passes.now
+    (noted_at c.args.books.now c.args.passes.now c.in_ok-noted.noted.items c.as_slice-notes.result.now place book
+    c.index-notes-place.result c.in_ok-noted.ensures c.as_slice-notes.ensures.value c.loop-place-test.true
+    c.index-books-place.is c.index-notes-place.is)))
 
--- src/settle.rt:286:1
+pub returns-in_err-judge-clause-err : goal.returns-in_err-judge-clause-err
+returns-in_err-judge-clause-err c =
+    let place = c.loop-place.place in
+    let book : Record = c.index-books-place.result in
+    let fault : SettleFault = c.in_err-judge.field-0.0 in
+    let is : c.from_residual-in_err-judge.result ≡ Err fault = search (rules, c.from_residual-in_err-judge.ensures) in
+    subst (λ (result : Result Unit SettleFault). IfErr result (λ fault. fault ≢ faults.Refused
+    → IsFirstJudged c.args.passes.now c.args.books.now fault)) (sym is) (λ other. record {
+      before = take place c.args.books.now;
+      judged = book;
+      later = drop (place + 1) c.args.books.now;
+      all = sym (take-append-drop place c.args.books.now)
+          ∙ ap (λ (rs : List Record). take place c.args.books.now ++ rs)
+          (subst (λ (r : Record). drop place c.args.books.now ≡ r ∷ drop (place + 1) c.args.books.now)
+          (sym c.index-books-place.is) (drop_more c.args.books.now place book c.loop-place-test.true));
+      agree = c.loop-place.invariant;
+      strange = c.in_err-judge.ensures.err other c.args.passes.now
+          (noted_at c.args.books.now c.args.passes.now c.in_ok-noted.noted.items c.as_slice-notes.result.now place book
+          c.index-notes-place.result c.in_ok-noted.ensures c.as_slice-notes.ensures.value c.loop-place-test.true
+          c.index-books-place.is c.index-notes-place.is);
+    })
+
 pub returns-clause-ok : goal.returns-clause-ok
 returns-clause-ok c = λ _. subst (All (Agrees c.args.passes.now))
     (take_all c.loop-place.place c.args.books.now c.loop-place-test.false) c.loop-place.invariant

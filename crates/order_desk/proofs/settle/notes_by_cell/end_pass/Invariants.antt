@@ -1,0 +1,5 @@
+use Rattle.order_desk.proofs.Noted.{IsEndedBefore}
+use Rattle.order_desk.proofs.settle.notes_by_cell.end_pass.Given as goal
+
+abbrev pub invariant-loop-place : goal.invariant-loop-place
+invariant-loop-place l = IsEndedBefore l.place l.fn.noted l.noted

@@ -1,0 +1,7 @@
+use Rattle.std.proofs.Common.{◌≡◌, [], length, take}
+use Rattle.order_desk.specs.SettleSteps.{AreNoted}
+use Rattle.order_desk.proofs.settle.notes_by_cell.put_passes.Given as goal
+
+abbrev pub invariant-loop-pass : goal.invariant-loop-pass
+invariant-loop-pass l = (length l.noted ≡ length l.fn.noted)
+    × (AreNoted l.fn.books [] [] l.fn.noted → AreNoted l.fn.books (take l.pass-index l.fn.passes) [] l.noted)

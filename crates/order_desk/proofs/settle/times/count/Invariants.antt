@@ -1,7 +1,0 @@
-use Rattle.std.proofs.Common.{◌≤◌, max}
-use Rattle.order_desk.proofs.Counted.{IsCounted}
-use Rattle.order_desk.proofs.settle.times.count.Given as goal
-
-abbrev pub invariant-loop-place : goal.invariant-loop-place
-invariant-loop-place l =
-    IsCounted l.fn.span.from l.place l.fn.times l.times × (l.place ≤ max l.fn.span.from l.end)
