@@ -12,4 +12,5 @@ pub mod Judged
 pub mod SameEntry
 pub mod Kept
 pub mod Noted
+pub mod NotesByCell
 mod Steps

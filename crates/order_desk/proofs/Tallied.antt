@@ -69,7 +69,7 @@ times_with stands given x from to old new are places span inside outside =
     counted p within is =
         let both = and_parts (leb from p) (ltb p to) (span p ∙ is) in
         more (slice_index_or old p 0) (slice_index_or new p 0) (length (filter (stands p) given))
-            (cond (stands p x) 1 0)
+        (cond (stands p x) 1 0)
         (length (filter (stands p) (given ++ x ∷ []))) (are p within)
         (inside p within (leb-true from p both.0) (ltb-true p to both.1)) (ap (λ b. cond b 1 0) is)
         (count_with (stands p) given x)

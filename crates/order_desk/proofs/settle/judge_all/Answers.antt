@@ -6,7 +6,7 @@ use Rattle.order_desk.specs.declared.settle.SettleFault.{SettleFault}
 use Rattle.order_desk.specs.declared.settle.SettleFault.TheVariants as faults
 use Rattle.order_desk.specs.Agreement.{Agrees}
 use Rattle.order_desk.specs.SettleSteps.{IsFirstJudged}
-use Rattle.order_desk.proofs.Noted.{noted_at}
+use Rattle.order_desk.proofs.NotesByCell.{noted_at}
 use Rattle.order_desk.proofs.Walked.{all_with}
 use Rattle.order_desk.proofs.settle.judge_all.Goals as goal
 

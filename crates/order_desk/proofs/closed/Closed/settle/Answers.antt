@@ -3,7 +3,7 @@ use Rattle.std.specs.List.{AllZip}
 use Rattle.cbsp_wire.specs.declared.message.Cell.{Cell}
 use Rattle.bsc_table.specs.Record.{Record}
 use Rattle.order_desk.specs.Settled.{IsBookOf}
-use Rattle.order_desk.proofs.Noted.{of_cells}
+use Rattle.order_desk.proofs.NotesByCell.{of_cells}
 use Rattle.order_desk.proofs.closed.Closed.settle.Goals as goal
 
 -- src/settle.rt:332:9

@@ -1,5 +1,5 @@
 use Rattle.std.proofs.Common.{◌<◌, ◌≤◌, length, arith}
-use Rattle.order_desk.proofs.Noted.{none_ended, one_ended, noted_ended}
+use Rattle.order_desk.proofs.NotesByCell.{none_ended, one_ended, noted_ended}
 use Rattle.order_desk.proofs.settle.notes_by_cell.end_pass.Goals as goal
 
 pub loop-place-init : goal.loop-place-init

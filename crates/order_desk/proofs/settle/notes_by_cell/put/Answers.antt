@@ -2,7 +2,7 @@ use Rattle.std.proofs.Common.{◌≡◌, Some, false, refl, sym, subst}
 use Rattle.std.specs.List.{list_any, slice_get}
 use Rattle.cbsp_wire.specs.declared.message.Cell.{Cell}
 use Rattle.cbsp_wire.specs.Range.{is_cell}
-use Rattle.order_desk.proofs.Noted.{noted_note, noted_foreign}
+use Rattle.order_desk.proofs.NotesByCell.{noted_note, noted_foreign}
 use Rattle.order_desk.proofs.settle.notes_by_cell.put.Goals as goal
 
 pub returns-in_ok-add-in-Some-clause-ok : goal.returns-in_ok-add-in-Some-clause-ok
