@@ -23,7 +23,8 @@ use Rattle.alert_book.specs.Book.{rows_with, with_row, Contents, Rows}
 use Rattle.alert_book.specs.Cells.{all_of, cells_judged, cells_listed, cells_of_field, is_among}
 use Rattle.alert_book.specs.Fields.{are_texts, column}
 use Rattle.alert_book.specs.Laws.{BooksAreOne, CellsAreValid, OrdersAreFew}
-use Rattle.alert_book.specs.Network.{cells_in_group, cells_of_group, declares_cell, has_cells, row_in_group, IsGroupBook}
+use Rattle.alert_book.specs.Network.{cells_in_group, cells_of_group, declares_cell, has_cells, row_in_group}
+use Rattle.alert_book.specs.Network.{IsGroupBook}
 use Rattle.alert_book.specs.Origin.{IsBookFrom}
 use Rattle.alert_book.specs.Row.{verb_of}
 use Rattle.alert_book.proofs.FewRows.{cells_are_few, distinct_push, new_parts, rows_are_few, rows_keep}

@@ -273,5 +273,6 @@ pub alerts_are_one : (input : List ℕ) (book : Contents) → IsBook input book 
     → Contains book.orders b → a.number ≡ b.number → a.alert ≡ b.alert
 unfolding RowsAreNumbered
 alerts_are_one input book is =
-    (rows_keep row_of RowsAreNumbered numbered_more 1 (rows_with [] []) (rows_with book.cells book.orders) is.rows.records
+    (rows_keep row_of RowsAreNumbered numbered_more 1 (rows_with [] []) (rows_with book.cells book.orders)
+    is.rows.records
     none_numbered is.rows.meant).1.one

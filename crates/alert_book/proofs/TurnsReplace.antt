@@ -397,6 +397,7 @@ last_accepted_is_replaced from input book part parts before later turn reached c
     by_aim : IsAt book.orders before turn.request → HasAcceptedLast before turn.request.number cell version
     by_aim at =
         let aim = at.aimed.gone version gone in
-        with_pair book.orders before turn.request at.aimed.order cell aim.0 version (all_alerts_are_one from input book is)
+        with_pair book.orders before turn.request at.aimed.order cell aim.0 version
+        (all_alerts_are_one from input book is)
         (before_are book part parts before later turn reached goes) at.aimed.there at.aimed.number aim.1
         (at.believed turn.request.number cell aim.0 (aim.2 cell asked))

@@ -172,4 +172,5 @@ pub requests_are_writable : RequestsAreWritable
 requests_are_writable from input book part parts turns reached is goes =
     requests_kept CanBeWritten IsReady
     (λ live next ready. requests_writable live next.0 next.0.action next.1 ready.0 ready.1) book part parts turns
-    reached (orders_ready book.orders book.pages (all_orders_are_right from input book is) (paged_from from input book is)) goes
+    reached (orders_ready book.orders book.pages (all_orders_are_right from input book is)
+    (paged_from from input book is)) goes

@@ -60,7 +60,8 @@ ordered laws from input book part parts exchanges is session exchanged k d withi
 
 -- and so are all exchanges of several sessions
 pub all_ordered : (laws : Laws) (from : Origin) (input : List ℕ) (book : Contents) (slots : ℕ)
-    (sessions : List (List Exchange)) (records : List Record) → IsBookFrom from input book → IsLiveRun book slots sessions records
+    (sessions : List (List Exchange)) (records : List Record) → IsBookFrom from input book
+    → IsLiveRun book slots sessions records
     → All (IsOrdered book) (joined sessions)
 all_ordered laws from input book slots sessions records is live =
     all_joined (IsOrdered book) (λ (exchanges : List Exchange). exchanges) sessions each

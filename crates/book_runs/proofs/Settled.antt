@@ -121,7 +121,8 @@ settled_sessions_are_runs laws from input book slots parts desk passes records i
 
     distinct : are_distinct (map (λ (r : Record). r.cell) records) ≡ true
     distinct = subst (λ (list : List Cell). are_distinct list ≡ true) (sym cells)
-        (and_parts (nat_le (length book.cells) 64) (are_distinct book.cells) (laws.cells_are_valid from input book is)).1
+        (and_parts (nat_le (length book.cells) 64) (are_distinct book.cells)
+        (laws.cells_are_valid from input book is)).1
 
     long : length desk.books ≡ length records
     long = length_all_zip IsPlayedOut desk.books records settled.played

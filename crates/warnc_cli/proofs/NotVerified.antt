@@ -47,7 +47,8 @@ refused_here from slots count input old new fault.Refused told is = absurd (omeg
 refused_here from slots count input old new fault.WriteFailed told is = absurd (omega (arith, is))
 
 -- a fault of `verify` with status 1 says why the input isn't verified
-pub refused_verification : (left : Option (List ℕ)) (from : Origin) (slots count : ℕ) (old new : Option (List ℕ)) (why : VerifyFault)
+pub refused_verification : (left : Option (List ℕ)) (from : Origin) (slots count : ℕ) (old new : Option (List ℕ))
+    (why : VerifyFault)
     → IfSome left (λ input. IsInputFault from slots count input old new why)
     → status_of_verify_fault why ≡ 1
     → IfSome left (IsNotVerified from slots count)

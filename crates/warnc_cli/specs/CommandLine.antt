@@ -1,5 +1,6 @@
 -- What the words of a command line ask for: word 0 is the program's name, and word 1 names the command. Own.
-use Rattle.std.specs.Prelude.{◌≡◌, ℕ, ◌+◌, ◌≤◌, ◌||◌, ◌⊎◌, Bool, false, true, if◌then◌else◌, nat_eq, List, ◌∷◌, ◌++◌, Some}
+use Rattle.std.specs.Prelude.{◌≡◌, ℕ, ◌+◌, ◌≤◌, ◌||◌, ◌⊎◌, Bool, false, true, if◌then◌else◌, nat_eq, List, ◌∷◌, ◌++◌}
+use Rattle.std.specs.Prelude.{Some}
 use Rattle.std.specs.Prelude.{codes}
 use Rattle.std.specs.Prelude.{slice_get, ◌<◌, [], Option, None}
 use Rattle.std.specs.List.{list_any, starts_with}

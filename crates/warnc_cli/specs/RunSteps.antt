@@ -9,7 +9,8 @@ use Rattle.warnc_cli.specs.CommandLine.{AsksForChart, AsksForCompile, AsksForGro
 use Rattle.warnc_cli.specs.CommandLine.{AsksForPcap, AsksForRead, AsksForReport, AsksForTape, AsksForVerify}
 use Rattle.warnc_cli.specs.Status.{OneHasFailed, status_of_book_fault}
 use Rattle.warnc_cli.specs.declared.command.Task.{Task}
-use Rattle.warnc_cli.specs.declared.command.Task.TheVariants.{Chart, Compile, Groups, Live, Page, Pcap, Read, Report, Tape}
+use Rattle.warnc_cli.specs.declared.command.Task.TheVariants.{Chart, Compile, Groups, Live, Page, Pcap, Read, Report}
+use Rattle.warnc_cli.specs.declared.command.Task.TheVariants.{Tape}
 use Rattle.warnc_cli.specs.declared.command.Task.TheVariants.{Verify}
 use Rattle.order_desk.specs.declared.fault.DeskFault.{DeskFault}
 use Rattle.order_desk.specs.declared.fault.DeskFault.TheVariants as desk

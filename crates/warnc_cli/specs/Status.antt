@@ -22,7 +22,8 @@ use Rattle.alert_book.specs.Origin.{IsBookFrom}
 use Rattle.alert_book.specs.declared.fault.BookFault.{BookFault}
 use Rattle.alert_book.specs.declared.fault.BookFaultKind.{BookFaultKind}
 use Rattle.alert_book.specs.declared.fault.BookFaultKind.TheVariants as kinds
-use Rattle.warnc_cli.specs.CommandLine.{asks_for_text, is_given, AsksForChart, AsksForCompile, AsksForGroups, AsksForLive}
+use Rattle.warnc_cli.specs.CommandLine.{asks_for_text, is_given, AsksForChart, AsksForCompile, AsksForGroups}
+use Rattle.warnc_cli.specs.CommandLine.{AsksForLive}
 use Rattle.warnc_cli.specs.CommandLine.{AsksForPage}
 use Rattle.warnc_cli.specs.CommandLine.{AsksForPcap, AsksForRead, AsksForReport, AsksForTape, AsksForVerify}
 use Rattle.warnc_run.specs.declared.fault.RunFault.{RunFault}
@@ -83,8 +84,8 @@ IsNoBookFrom origin.Book input = IsNoBook input
 IsNoBookFrom (origin.Group group) input = IsNoNetwork group input
     ⊎ ((groups : ℕ) × (groups ≤ group) × HasGroups group input groups)
 
--- or the input has the book, whose run, of so many slots and with so many sessions, ends early: the desk finds the book of
--- another cell in a lock, or isn't settled, or a tape isn't its record's. What a lock of the desk holds, and what a
+-- or the input has the book, whose run, of so many slots and with so many sessions, ends early: the desk finds the book
+-- of another cell in a lock, or isn't settled, or a tape isn't its record's. What a lock of the desk holds, and what a
 -- worker sends, is known by its type alone, so no contract excludes it
 abbrev pub IsNoRun : (from : Origin) (slots parts : ℕ) (input : List ℕ) → Type 0
 IsNoRun from slots parts input = IsNoBookFrom from input

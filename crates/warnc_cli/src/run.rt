@@ -16,7 +16,8 @@ ghost use Rattle.warnc_inspect.specs.PageOutput.{IsPageOutput};
 ghost use Rattle.warnc_inspect.specs.ReadOutput.{IsReadOutput};
 ghost use Rattle.warnc_verify.specs.Input.{HasDifferences, IsVerified};
 ghost use Rattle.warnc_cli.specs.RunSteps.{IsRunBetween, IsStatusOfSink, IsVerifyRunBetween};
-ghost use Rattle.warnc_cli.specs.Status.{IsNoAir, IsNoNetwork, IsNoRun, IsNoTapes, IsRefused, OneHasFailed, RefusesInput};
+ghost use Rattle.warnc_cli.specs.Status.{IsNoAir, IsNoNetwork, IsNoRun, IsNoTapes, IsRefused, OneHasFailed};
+ghost use Rattle.warnc_cli.specs.Status.{RefusesInput};
 ghost use Rattle.warnc_cli.specs.Status.{IsNotVerified, MayWrite, WritesSome, WroteNoneOrDifferences};
 ghost use Rattle.warnc_cli.specs.Status.{ByInput, WritesSomeUnlessTapes, WroteWhatIsAsked};
 ghost use Rattle.device_ends.specs.Stream.{Writes};
@@ -66,8 +67,8 @@ pub fn run<T: AllocGlobal + Threads + Wait + Sync, S: AsStr, R: Read, W: Write, 
 }
 
 /// The same, between two ends. With status 0 what the words ask for is written, with 2 and 4 nothing is, and with 1 the
-/// differences, if the words ask for `verify` and there are some, and else nothing. That is one
-/// octet at least, but for `compile` and `live`, since a book without cells has no tapes, and for the report of a group.
+/// differences, if the words ask for `verify` and there are some, and else nothing. That is one octet at least, but for
+/// `compile` and `live`, since a book without cells has no tapes, and for the report of a group.
 pub fn run_between<T: AllocGlobal + Threads + Wait + Sync, S: AsStr, R: Read, W: Write, F: Write>(
     rt: &T,
     words: &[S],
@@ -352,7 +353,8 @@ fn run_chart<T: AllocGlobal + Threads + Wait + Sync, R: Read, W: Write, F: Write
     ensures any_ends { IsRunBetween result source.new sink.old sink.new
         (W.contents (writer_of sink.old)) (W.contents (writer_of sink.new)) }
     ensures wrote { result ≡ DONE → WritesSome (W.contents (writer_of sink.old)) (W.contents (writer_of sink.new)) }
-    ensures refused { result ≡ REFUSED_INPUT → IfSome (R.remaining (reader_of source.old)) (IsNoRun Origin.Book slots 1) }
+    ensures refused { result ≡ REFUSED_INPUT → IfSome (R.remaining (reader_of source.old))
+        (IsNoRun Origin.Book slots 1) }
 {
     match chart_stream(rt, source, sink, slots, wanted, workers.number) {
         Ok(()) => DONE,

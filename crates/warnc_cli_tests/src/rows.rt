@@ -4,7 +4,8 @@
 //!
 //! - `args WORDS`: the command line without the program's name, up to the next such line;
 //! - `in TEXT`, `in-hex DIGITS ..`, `in-worked`: a line of input, octets of it, or the worked octets. The first after
-//!   a run begins a new input; `in-cells FROM END` is the lines of these cells of LAC 1, the last one left out; `in-none` is one of no octets, and `repeat N` has the input N times;
+//!   a run begins a new input; `in-cells FROM END` is the lines of these cells of LAC 1, the last one left out;
+//! `in-none` is one of no octets, and `repeat N` has the input N times;
 //! - `worked TEXT`, `worked-hex DIGITS ..`: worked octets, with which an output is compared;
 //! - `reader N CALLS`, `writer N CALLS`, `faults N CALLS`: the device moves N octets a call, and fails after so many
 //!   calls. At other runs none fails.

@@ -100,7 +100,8 @@ request_is_order come writable from input book part parts turns reached request 
 
 -- so the desk refuses a request of a book's session only because it is out of memory, or finds a book of another cell
 pub refused_request : OneMeaning → MeantIsFaultless → RequestsComeOfOrders → RequestsAreWritable → (from : Origin)
-    (input : List ℕ) (book : Contents) (part parts : ℕ) (turns : List Turn) (reached : Standing) (request : Request) (desk : DeskState)
+    (input : List ℕ) (book : Contents) (part parts : ℕ) (turns : List Turn) (reached : Standing) (request : Request)
+    (desk : DeskState)
     (at : ℕ) (octets : List ℕ) (fault : DeskFault) (notes : List Note)
     → IsBookFrom from input book
     → GoesTo (begun book part parts) turns reached

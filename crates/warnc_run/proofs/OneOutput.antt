@@ -27,14 +27,16 @@ pub reported_is_one : RunsAreOne → ReportedIsOne
 reported_is_one runs from slots input output other one two =
     let same = runs from input one.book two.book slots one.exchanges two.exchanges one.records two.records one.is_book
     two.is_book one.run two.run in
-    one.written ∙ ap (λ (records : List Record). part_text (is_headed from) (report_rows records (map reading_of_record records)))
+    one.written ∙ ap (λ (records : List Record). part_text (is_headed from)
+    (report_rows records (map reading_of_record records)))
     same.1
     ∙ sym two.written
 
 -- a book has one chart
 pub charted_is_one : RunsAreOne → ChartedIsOne
 charted_is_one runs slots wanted input output other one two =
-    let same = runs origin.Book input one.book two.book slots one.exchanges two.exchanges one.records two.records one.is_book
+    let same = runs origin.Book input one.book two.book slots one.exchanges two.exchanges one.records two.records
+    one.is_book
     two.is_book one.run two.run in
     one.written
     ∙ ap (λ (records : List Record). chart_text slots wanted records (map reading_of_record records)) same.1
@@ -52,6 +54,7 @@ one_session law book slots (exchanges ∷ (more ∷ sessions)) records one run =
 pub live_of_one_is_compiled : RunsAreOne → OneSessionIsARun → LiveOfOneIsCompiled
 live_of_one_is_compiled runs law from slots input output other one two =
     let run = one_session law one.book slots one.sessions one.records one.parted one.run in
-    let same = runs from input one.book two.book slots run.0 two.exchanges one.records two.records one.is_book two.is_book
+    let same = runs from input one.book two.book slots run.0 two.exchanges one.records two.records one.is_book
+    two.is_book
     run.1 two.run in
     one.written ∙ ap (λ (records : List Record). flat_map tape_of_record records) same.1 ∙ sym two.written

@@ -177,7 +177,8 @@ charted one law orders input book slots wanted records shown readings given few 
     }
 
 -- a fault of the report after the run
-pub fault_of_report : (from : Origin) (slots : ℕ) (Means : (input output : List ℕ) → Type 0) (first last old new : Option (List ℕ))
+pub fault_of_report : (from : Origin) (slots : ℕ) (Means : (input output : List ℕ) → Type 0)
+    (first last old new : Option (List ℕ))
     (fault : ReportFault)
     → fault ≢ report.Cells
     → (fault ≡ report.WriteFailed → MakesFront Means first last old new)
@@ -236,8 +237,12 @@ pub fault_of_reading_report : (from : Origin) (slots : ℕ) (Means : (input outp
     → HasNoBookToRun from first last fault
     → Keeps old new
     → IsReportRunFault from slots Means first last old new (reports.Run fault)
-fault_of_reading_report from slots Means first last old new fault is kept =
-    (not_of_writer fault is, not_of_piece fault is, fault_of_reading from slots 1 Means first last old new fault is kept)
+fault_of_reading_report from slots Means first last old new fault is kept = (
+  not_of_writer fault is,
+  not_of_piece fault is,
+  fault_of_reading from slots 1 Means first last old new fault is
+      kept,
+)
   where
     not_of_writer : (f : RunFault) → HasNoBookToRun from first last f → IsWriteFault f → ⊥
     not_of_writer (run.Write failed) none write = none

@@ -321,8 +321,10 @@ fault_of_run from slots parts Means first last old new book (run.NoGroup groups)
 fault_of_run from slots parts Means first last old new book (run.Desk f) read is of_book kept = (of_book, read, kept)
 fault_of_run from slots parts Means first last old new book (run.Settle f) read is of_book kept =
     (read, subst (λ (b : Contents). IsSettleFault b slots parts f) (sym is) of_book, kept)
-fault_of_run from slots parts Means first last old new book (run.Compile compile.Workers) read is of_book kept = (tt, kept)
-fault_of_run from slots parts Means first last old new book (run.Compile compile.Refused) read is of_book kept = (read, kept)
+fault_of_run from slots parts Means first last old new book (run.Compile compile.Workers) read is of_book kept =
+    (tt, kept)
+fault_of_run from slots parts Means first last old new book (run.Compile compile.Refused) read is of_book kept =
+    (read, kept)
 fault_of_run from slots parts Means first last old new book (run.Compile (compile.Piece index)) read is of_book kept =
     (read, kept)
 fault_of_run from slots parts Means first last old new book (run.Write failed) read is of_book kept = absurd of_book

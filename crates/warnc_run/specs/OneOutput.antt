@@ -1,4 +1,5 @@
--- What is written for a book, or for a group of a network, is a function of the octets and of the number of slots (own).
+-- What is written for a book, or for a group of a network, is a function of the octets and of the number of slots
+-- (own).
 use Rattle.std.specs.Prelude.{◌≡◌, ℕ, List, Option}
 use Rattle.alert_book.specs.declared.network.Origin.{Origin}
 use Rattle.cbsp_wire.specs.declared.message.Cell.{Cell}

@@ -32,8 +32,8 @@ pub record HasRunBook (from : Origin) (slots : ℕ) (first last : Option (List �
   pub made : AreRecordsFrom from slots input records
 
 -- why there are no records of a book: the fault is the book's; or the network has no such group; or the octets are a
--- book, and the desk was out of memory or found the book of another cell, or wasn't settled; or there can't be so many workers, or they were out of memory;
--- or memory ran out. Nothing was to be written, and no tape was made
+-- book, and the desk was out of memory or found the book of another cell, or wasn't settled; or there can't be so many
+-- workers, or they were out of memory; or memory ran out. Nothing was to be written, and no tape was made
 abbrev pub IsRecordsFault : (from : Origin) (slots : ℕ) (first last : Option (List ℕ)) → RunFault → Type 0
 IsRecordsFault from slots first last (fault.Book f) = RefusesFrom from first last f
 IsRecordsFault from slots first last (fault.NoGroup groups) = LacksGroup from first last groups

@@ -22,8 +22,8 @@ use std::sync::Wait;
 use std::thread::Threads;
 
 /// Reads a book, or a network book for a group, has the cells of a desk carry out what the book's one session orders,
-/// in runs of `slots` slots, as [`compile_from`](crate::compile_from) does, and returns the records of the cells, in the
-/// order of the book. `workers` workers, 1 to 64, play the cells; the records don't depend on their number.
+/// in runs of `slots` slots, as [`compile_from`](crate::compile_from) does, and returns the records of the cells, in
+/// the order of the book. `workers` workers, 1 to 64, play the cells; the records don't depend on their number.
 ///
 /// # Errors
 ///

@@ -41,9 +41,11 @@ pub fn verify_input<T: AllocGlobal + Threads + Wait + Sync, R: Read, W: Write>(
     slots: u16,
     workers: Workers,
 ) -> Result<(), VerifyFault>
-    ensures ok { OnOk result (OutputOfInput R.remaining W.contents (IsVerified origin slots book_octets) source.old sink.old
+    ensures ok { OnOk result (OutputOfInput R.remaining W.contents (IsVerified origin slots book_octets) source.old
+        sink.old
         sink.new) }
-    ensures err { IfErr result (FaultOfInput R.remaining W.contents (IsInputFault origin slots book_octets) source.old sink.old
+    ensures err { IfErr result (FaultOfInput R.remaining W.contents (IsInputFault origin slots book_octets) source.old
+        sink.old
         sink.new) }
     ensures differences { IfErr result (λ fault. IsDifference fault → OutputOfInput R.remaining W.contents
         (HasDifferences origin slots book_octets) source.old sink.old sink.new) }
@@ -65,9 +67,11 @@ fn verify_parts<T: AllocGlobal + Threads + Wait + Sync, R: Read, W: Write>(
     slots: u16,
     workers: Workers,
 ) -> Result<(), VerifyFault>
-    ensures ok { OnOk result (OutputOfInput R.remaining W.contents (IsVerified origin slots book_octets) source.old sink.old
+    ensures ok { OnOk result (OutputOfInput R.remaining W.contents (IsVerified origin slots book_octets) source.old
+        sink.old
         sink.new) }
-    ensures err { IfErr result (FaultOfInput R.remaining W.contents (IsInputFault origin slots book_octets) source.old sink.old
+    ensures err { IfErr result (FaultOfInput R.remaining W.contents (IsInputFault origin slots book_octets) source.old
+        sink.old
         sink.new) }
     ensures differences { IfErr result (λ fault. IsDifference fault → OutputOfInput R.remaining W.contents
         (HasDifferences origin slots book_octets) source.old sink.old sink.new) }

@@ -27,7 +27,8 @@ use std::thread::Threads;
 use verification::{Findings, Row, text_of};
 use warnc_run::{Workers, run_book};
 
-/// Reads a book, or a network book for a group, has its cells carry out what its one session orders, in runs of `slots` slots, as
+/// Reads a book, or a network book for a group, has its cells carry out what its one session orders, in runs of `slots`
+/// slots, as
 /// [`compile_from`](warnc_run::compile_from) does, reads tapes up to their end, and writes a row for each difference
 /// between what the cells were asked and what the tapes send, and for each cell without a tape and tape without a cell
 /// (`AreRows`). Nothing is written before all is known. `workers` workers play the cells.

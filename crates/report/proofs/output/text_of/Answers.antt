@@ -19,5 +19,6 @@ pub returns : goal.returns
 returns c =
     IfOk-weaker c.into_octets.result _ _
     (λ octets is. is _ c.loop-row.invariant
-    ∙ ap (λ (rows : List Row). part_text c.args.headed rows) (take_all c.loop-row.row-index c.args.rows.now (omega arith)))
+    ∙ ap (λ (rows : List Row). part_text c.args.headed rows) (take_all c.loop-row.row-index c.args.rows.now
+    (omega arith)))
     c.into_octets.ensures

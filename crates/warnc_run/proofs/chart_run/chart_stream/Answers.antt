@@ -73,7 +73,8 @@ returns-in_err-records-clause-err g c =
       ended = read.ended;
       is_book = read.meant;
     } in
-    let fault = fault_of_book_report origin.Book c.args.slots (IsCharted c.args.slots c.args.wanted) _ _ _ _ c.in-Ok.book
+    let fault = fault_of_book_report origin.Book c.args.slots (IsCharted c.args.slots c.args.wanted) _ _ _ _
+    c.in-Ok.book
     c.in_err-records.field-0.0
     whole refl c.in_err-records.ensures.err (Keeps-refl _) in
     let is : c.from_residual.result ≡ Err c.in_err-records.field-0.0 =

@@ -23,7 +23,8 @@ returns-in-Ok-clause-ok g c =
       output = joined tapes;
       read = read.consumed;
       ended = read.ended;
-      meant = made_live c.session_laws.ensures.shown c.session_laws.ensures.accepted c.args.origin read.input c.in_ok-book.book
+      meant = made_live c.session_laws.ensures.shown c.session_laws.ensures.accepted c.args.origin read.input
+          c.in_ok-book.book
           c.args.slots c.args.sessions tapes few read.meant
           (subst (AreTapesOf c.in_ok-book.book c.args.slots c.args.sessions) (sym c.deref.ensures.value)
           c.in_ok-tapes.ensures.ok);
@@ -35,15 +36,18 @@ returns-clause-err g c =
     let read = c.in_ok-book.ensures.ok in
     let tapes = c.deref.result.now in
     let few : c.args.slots ≤ 65535 = omega (arith, c.ranges.slots.fits) in
-    let taken = taken_of_run c.session_laws.ensures.shown c.args.origin read.input c.in_ok-book.book c.args.slots c.args.sessions tapes
+    let taken = taken_of_run c.session_laws.ensures.shown c.args.origin read.input c.in_ok-book.book c.args.slots
+    c.args.sessions tapes
     c.in-Err.fault.written _ _ few read.meant
-    (subst (AreTapesOf c.in_ok-book.book c.args.slots c.args.sessions) (sym c.deref.ensures.value) c.in_ok-tapes.ensures.ok)
+    (subst (AreTapesOf c.in_ok-book.book c.args.slots c.args.sessions) (sym c.deref.ensures.value)
+    c.in_ok-tapes.ensures.ok)
     c.in-Err.ensures.err in record {
       input = read.input;
       output = joined tapes;
       read = read.consumed;
       ended = read.ended;
-      meant = made_live c.session_laws.ensures.shown c.session_laws.ensures.accepted c.args.origin read.input c.in_ok-book.book
+      meant = made_live c.session_laws.ensures.shown c.session_laws.ensures.accepted c.args.origin read.input
+          c.in_ok-book.book
           c.args.slots c.args.sessions tapes few read.meant
           (subst (AreTapesOf c.in_ok-book.book c.args.slots c.args.sessions) (sym c.deref.ensures.value)
           c.in_ok-tapes.ensures.ok);
@@ -67,7 +71,8 @@ returns-in_err-tapes-clause-err g c =
     (IsLiveFrom c.args.origin c.args.slots c.args.sessions) _ _ _ _ c.in_ok-book.book
     c.in_err-tapes.field-0.0 whole refl
     c.in_err-tapes.ensures.err (Keeps-refl _) in
-    let is : c.from_residual-in_err-tapes.result ≡ Err c.in_err-tapes.field-0.0 = search (rules, c.from_residual-in_err-tapes.ensures) in
+    let is : c.from_residual-in_err-tapes.result ≡ Err c.in_err-tapes.field-0.0 = search
+    (rules, c.from_residual-in_err-tapes.ensures) in
     where_it_is _ c.from_residual-in_err-tapes.result c.in_err-tapes.field-0.0 is fault
 
 pub returns-in_err-book-clause-err : goal.returns-in_err-book-clause-err

@@ -32,7 +32,8 @@ returns-clause-err g c =
     let read = c.in_ok-book.ensures.ok in
     let wrote = c.in-Err.ensures in
     let few : c.args.slots ≤ 65535 = omega (arith, c.ranges.slots.fits) in
-    fault_of_report c.args.origin c.args.slots (IsReportedFrom c.args.origin c.args.slots) _ _ _ _ c.in-Err.fault wrote.faults
+    fault_of_report c.args.origin c.args.slots (IsReportedFrom c.args.origin c.args.slots) _ _ _ _ c.in-Err.fault
+    wrote.faults
     (λ is. record {
       input = read.input;
       output = part_text c.is_headed.result c.deref.result.now;
@@ -67,9 +68,11 @@ returns-in_err-rows-clause-err g c =
       ended = read.ended;
       is_book = read.meant;
     } in
-    let fault = fault_of_book_report c.args.origin c.args.slots (IsReportedFrom c.args.origin c.args.slots) _ _ _ _ c.in_ok-book.book c.in_err-rows.field-0.0
+    let fault = fault_of_book_report c.args.origin c.args.slots (IsReportedFrom c.args.origin c.args.slots) _ _ _ _
+    c.in_ok-book.book c.in_err-rows.field-0.0
     whole refl c.in_err-rows.ensures.err (Keeps-refl _) in
-    let is : c.from_residual-in_err-rows.result ≡ Err c.in_err-rows.field-0.0 = search (rules, c.from_residual-in_err-rows.ensures) in
+    let is : c.from_residual-in_err-rows.result ≡ Err c.in_err-rows.field-0.0 = search
+    (rules, c.from_residual-in_err-rows.ensures) in
     where_it_is _ c.from_residual-in_err-rows.result c.in_err-rows.field-0.0 is fault
 
 pub returns-in_err-book-clause-err : goal.returns-in_err-book-clause-err

@@ -46,7 +46,8 @@ returns-clause-differences g c =
     } in
     by_both _ _ _ c.verify_stream.result
     (λ fault why _. λ is.
-    differences_of_input c.args.origin c.args.slots c.args.book_octets first _ _ _ c.in_ok-book.book.items fault parts why is)
+    differences_of_input c.args.origin c.args.slots c.args.book_octets first _ _ _ c.in_ok-book.book.items fault parts
+    why is)
     c.verify_stream.ensures.err c.verify_stream.ensures.err
 
 pub returns-clause-unwritten : goal.returns-clause-unwritten

@@ -23,5 +23,6 @@ pub returns-clause-err : goal.returns-clause-err
 returns-clause-err g c =
     let many : length c.in_ok-rows.rows.items ≡ c.len.result = search (rules, c.len.ensures) in
     let some : 0 < c.len.result = search (rules, arith) in
-    some_found c.args.origin c.args.slots _ _ _ c.in_ok-rows.rows.items c.deref.result.now c.len.result c.deref.ensures.value many
+    some_found c.args.origin c.args.slots _ _ _ c.in_ok-rows.rows.items c.deref.result.now c.len.result
+    c.deref.ensures.value many
     some c.in_ok-rows.ensures.ok c.in_ok-write_rows.ensures.ok
