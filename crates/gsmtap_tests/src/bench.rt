@@ -159,31 +159,28 @@ fn done(alloc: Global, bench: &mut Bench, verb: &str, words: &mut Words) -> Resu
     Ok(String::new(alloc))
 }
 
-/// What comes of an action whose words are all read, with more and more memory until that is enough.
-fn outcome(alloc: Global, bench: &mut Bench, action: &str) -> Result<String, Fail> {
+/// Expects what a row says, whose words are all read, with more and more memory until that is enough.
+fn expect_row(alloc: Global, bench: &mut Bench, row: Row) -> Result<(), Fail> {
     for refused in 0..Drought::MOST {
-        let mut words = Words::of(action);
+        let mut words = Words::of(row.action);
         let verb = bench.drought.verb(&mut words, refused);
         let found = done(alloc, bench, verb, &mut words)?;
         if !words.word().is_empty() {
             return Err(Fail::new("words are left over"));
         }
         if found.as_str() != "out of memory" {
-            return after_refusals(alloc, refused, found);
+            let found = after_refusals(alloc, refused, found)?;
+            if found.as_str() == row.wanted {
+                return Ok(());
+            }
+            return Err(Fail::new(format_args!("{} -> {found}", row.action)));
         }
     }
     Err(Fail::new("it is refused to the end"))
 }
 
-/// Expects what a row says.
-fn expect_row(rt: &impl Abort, alloc: Global, bench: &mut Bench, row: Row) -> Result<(), Fail> {
-    let found = outcome(alloc, bench, row.action)?;
-    assert_eq!(rt; found.as_str(), row.wanted, "{}", row.action);
-    Ok(())
-}
-
-/// Expects what the rows of a table say, which are so many at least.
-pub fn expect_rows(rt: &impl Abort, alloc: Global, table: &str, least: u16) -> Result<(), Fail> {
+/// Expects what the rows of a table say, which are so many.
+pub fn expect_rows(rt: &impl Abort, alloc: Global, table: &str, count: u16) -> Result<(), Fail> {
     let mut bench = Bench {
         octets: Vec::new(alloc),
         wanted: Vec::new(alloc),
@@ -192,10 +189,11 @@ pub fn expect_rows(rt: &impl Abort, alloc: Global, table: &str, least: u16) -> R
     let mut rows = 0_u16;
     for line in table.split('\n') {
         if let Some(row) = Row::of(line) {
-            expect_row(rt, alloc, &mut bench, row)?;
+            expect_row(alloc, &mut bench, row)?;
             rows = rows.saturating_add(1);
         }
     }
-    assert!(rt; rows >= least);
+    drop(bench);
+    assert!(rt; rows == count);
     Ok(())
 }

@@ -107,16 +107,8 @@ capture all 51 -> tape is long
 ";
 
 #[test]
-fn captures_are_made(rt: HostRuntime) -> Result<(), Fail> {
-    expect_rows(&rt, rt.alloc(), WORKED, 20)
-}
-
-#[test]
-fn late_slots_have_their_times(rt: HostRuntime) -> Result<(), Fail> {
-    expect_rows(&rt, rt.alloc(), LARGE, 10)
-}
-
-#[test]
-fn what_is_no_tape_has_no_capture(rt: HostRuntime) -> Result<(), Fail> {
-    expect_rows(&rt, rt.alloc(), REFUSED, 10)
+fn captures_are_made_of_what_is_a_tape(rt: HostRuntime) -> Result<(), Fail> {
+    expect_rows(&rt, rt.alloc(), WORKED, 56)?;
+    expect_rows(&rt, rt.alloc(), LARGE, 16)?;
+    expect_rows(&rt, rt.alloc(), REFUSED, 12)
 }

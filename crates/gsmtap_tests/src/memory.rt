@@ -33,5 +33,5 @@ scarce tape 1 1 1 -> not a capture file
 
 #[test]
 fn captures_and_tapes_are_refused_until_there_is_memory(rt: HostRuntime) -> Result<(), Fail> {
-    expect_rows(&rt, rt.alloc(), SCARCE, 15)
+    expect_rows(&rt, rt.alloc(), SCARCE, 22)
 }

@@ -145,11 +145,7 @@ tape 1 2 1 -> unknown link type
 ";
 
 #[test]
-fn captures_of_others_are_read(rt: HostRuntime) -> Result<(), Fail> {
-    expect_rows(&rt, rt.alloc(), FOREIGN, 40)
-}
-
-#[test]
-fn faults_name_the_packet(rt: HostRuntime) -> Result<(), Fail> {
-    expect_rows(&rt, rt.alloc(), FAULTS, 30)
+fn captures_of_others_are_read_or_the_packet_is_named(rt: HostRuntime) -> Result<(), Fail> {
+    expect_rows(&rt, rt.alloc(), FOREIGN, 71)?;
+    expect_rows(&rt, rt.alloc(), FAULTS, 47)
 }
