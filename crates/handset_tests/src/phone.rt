@@ -14,7 +14,8 @@
 
 use crate::worked::{IDLE, WORKED};
 use handset::{Handset, Refused, Shown};
-use std::alloc::Global;
+use std::alloc::{AllocError, Global};
+use std::fmt::Write;
 use std::mem;
 use std::process::Abort;
 use std::test::Fail;
@@ -178,21 +179,19 @@ fn numbered(mut block: [u8; 23], serial: u16) -> [u8; 23] {
 }
 
 /// Appends the line of a message to a text.
-fn push_message(alloc: Global, text: &mut String, message: &Shown) -> Result<(), Fail> {
-    let number = message.serial.number();
-    let line = format!(in alloc; "{} {number:04x} {}", message.id, message.text)?;
-    text.push_str(&line)?;
-    Ok(())
+fn push_message(text: &mut String, message: &Shown) -> Result<(), AllocError> {
+    let serial = message.serial.number();
+    write!(text, "{} {serial:04x} {}", message.id, message.text)
 }
 
 /// The lines of messages.
-fn messages_text(alloc: Global, messages: &[Shown]) -> Result<String, Fail> {
+fn messages_text(alloc: Global, messages: &[Shown]) -> Result<String, AllocError> {
     let mut text = String::new(alloc);
     for message in messages {
         if !text.is_empty() {
             text.push_str(", ")?;
         }
-        push_message(alloc, &mut text, message)?;
+        push_message(&mut text, message)?;
     }
     Ok(text)
 }
@@ -251,16 +250,15 @@ impl Phone {
         if let Some(message) = self.message_of(block)? {
             let noted = self.note(&message);
             drop(message);
-            return noted;
+            return Ok(noted?);
         }
         Ok(())
     }
 
     /// Notes a message that the block shows that was fed last.
-    fn note(&mut self, message: &Shown) -> Result<(), Fail> {
-        let place = format!(in self.alloc; "block {}: ", self.fed)?;
-        self.answer.push_str(&place)?;
-        push_message(self.alloc, &mut self.answer, message)
+    fn note(&mut self, message: &Shown) -> Result<(), AllocError> {
+        write!(self.answer, "block {}: ", self.fed)?;
+        push_message(&mut self.answer, message)
     }
 
     /// What was noted since the last answer.
@@ -311,7 +309,7 @@ impl Phone {
     /// Which messages were shown. A new handset takes the place of this one.
     fn end(&mut self) -> Result<String, Fail> {
         let handset = mem::replace(&mut self.handset, Handset::new(self.alloc));
-        messages_text(self.alloc, &handset.into_shown())
+        Ok(messages_text(self.alloc, &handset.into_shown())?)
     }
 
     /// What comes of an action, for whose blocks so much memory is left if it is `scarce`. Its words are all read.
@@ -360,22 +358,14 @@ impl Phone {
     }
 }
 
-/// Whether a text is what a row wants after a refusal.
-fn is_wanted(row: Row, found: &str) -> bool {
-    match row.wanted.strip_prefix("refused; ") {
-        Some(wanted) => wanted == found,
-        None => false,
-    }
-}
-
 /// What comes of a row of scarce memory: it is carried out with one block more each time, until nothing is refused.
 fn outcome(alloc: Global, phone: &mut Phone, row: Row) -> Result<String, Fail> {
     for refused in 0..Drought::MOST {
         let found = phone.steps(row.action, refused)?;
         if !phone.is_refused {
-            return after_refusals(alloc, refused, found);
+            return Ok(after_refusals(alloc, refused, found)?);
         }
-        if !is_wanted(row, &found) {
+        if row.wanted.strip_prefix("refused; ") != Some(found.as_str()) {
             return Ok(format!(in alloc; "refused, and then {found}")?);
         }
     }
@@ -389,43 +379,28 @@ enum Memory {
     Scarce,
 }
 
-/// What comes of a row.
-fn found_of(alloc: Global, phone: &mut Phone, row: Row, memory: Memory) -> Result<String, Fail> {
-    match memory {
-        Memory::Ample => phone.carry_out(row.action, 0),
-        Memory::Scarce => outcome(alloc, phone, row),
-    }
-}
-
 /// Expects what a row says.
-fn expect_row(
-    rt: &impl Abort,
-    alloc: Global,
-    phone: &mut Phone,
-    row: Row,
-    memory: Memory,
-) -> Result<(), Fail> {
-    let found = found_of(alloc, phone, row, memory)?;
-    assert_eq!(rt; found.as_str(), row.wanted, "{}", row.action);
-    Ok(())
+fn expect_row(alloc: Global, phone: &mut Phone, row: Row, memory: Memory) -> Result<(), Fail> {
+    let found = match memory {
+        Memory::Ample => phone.carry_out(row.action, 0)?,
+        Memory::Scarce => outcome(alloc, phone, row)?,
+    };
+    if found.as_str() == row.wanted {
+        return Ok(());
+    }
+    Err(Fail::new(format_args!("{} -> {found}", row.action)))
 }
 
 /// Expects what the rows of a table say, and returns how many there are.
-fn expect_each(
-    rt: &impl Abort,
-    alloc: Global,
-    phone: &mut Phone,
-    table: &str,
-    memory: Memory,
-) -> Result<u16, Fail> {
-    let mut count = 0_u16;
+fn expect_each(alloc: Global, phone: &mut Phone, table: &str, memory: Memory) -> Result<u16, Fail> {
+    let mut rows = 0_u16;
     for line in table.split('\n') {
         if let Some(row) = Row::of(line) {
-            expect_row(rt, alloc, phone, row, memory)?;
-            count = count.saturating_add(1);
+            expect_row(alloc, phone, row, memory)?;
+            rows = rows.saturating_add(1);
         }
     }
-    Ok(count)
+    Ok(rows)
 }
 
 /// Expects what the rows of a table say of a new handset, and that there are so many rows.
@@ -433,28 +408,20 @@ fn expect_rows(
     rt: &impl Abort,
     alloc: Global,
     table: &str,
-    rows: u16,
+    count: u16,
     memory: Memory,
 ) -> Result<(), Fail> {
     let mut phone = Phone::new(alloc)?;
-    let count = expect_each(rt, alloc, &mut phone, table, memory);
+    let rows = expect_each(alloc, &mut phone, table, memory);
     drop(phone);
-    assert_eq!(rt; count?, rows);
+    assert!(rt; rows? == count);
     Ok(())
 }
 
 #[test]
-fn a_message_is_shown_once_at_its_last_block(rt: HostRuntime) -> Result<(), Fail> {
-    expect_rows(&rt, rt.alloc(), BLOCKS, 12, Memory::Ample)
-}
-
-#[test]
-fn pages_show_what_they_say(rt: HostRuntime) -> Result<(), Fail> {
-    expect_rows(&rt, rt.alloc(), PAGES, 32, Memory::Ample)
-}
-
-#[test]
-fn many_pages_and_messages_are_kept(rt: HostRuntime) -> Result<(), Fail> {
+fn messages_are_shown_once_they_are_whole(rt: HostRuntime) -> Result<(), Fail> {
+    expect_rows(&rt, rt.alloc(), BLOCKS, 12, Memory::Ample)?;
+    expect_rows(&rt, rt.alloc(), PAGES, 32, Memory::Ample)?;
     expect_rows(&rt, rt.alloc(), MANY, 3, Memory::Ample)
 }
 

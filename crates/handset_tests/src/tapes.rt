@@ -23,9 +23,10 @@ use crate::worked::{IDLE, WORKED};
 use device_ends::Source;
 use device_ends::memory::MemoryReader;
 use handset::{
-    Reading, Recording, Refused, Shown, TapeFault, read_each, read_tape, read_tapes, record_each,
+    Reading, Recording, Refused, TapeFault, read_each, read_tape, read_tapes, record_each,
 };
 use std::alloc::{AllocError, Global};
+use std::fmt::Write;
 use std::process::Abort;
 use std::test::Fail;
 use test_support::{Drought, Row, Words, after_refusals, octets_of};
@@ -86,11 +87,7 @@ tape 3
 one -> Short
 all -> Short
 
-text Short -> tape is short
-text Long -> tape is long
-text ReadFailed -> read failed
-text OutOfMemory -> out of memory
-text Refused -> memory allocation failed
+texts -> tape is short; tape is long; read failed; out of memory; memory allocation failed
 ";
 
 /// What tapes hold, and which faults there are, as for readings.
@@ -236,11 +233,12 @@ fn add_hex(alloc: Global, octets: &mut Vec<u8>, words: &mut Words) -> Result<(),
     Ok(())
 }
 
-/// How the octets are read.
+/// How the octets are read: as one tape, as tapes, or as tapes whose blocks are kept.
 #[derive(Clone, Copy)]
 enum Kind {
     One,
     All,
+    Recorded,
 }
 
 /// Reads a source into a list, where memory can be scarce.
@@ -290,24 +288,18 @@ fn read(
 ) -> Result<(), TapeFault> {
     match kind {
         Kind::One => read_one(alloc, source, readings),
-        Kind::All => read_all(alloc, source, readings),
+        _ => read_all(alloc, source, readings),
     }
 }
 
-/// Puts a message that was shown.
-fn put_shown(alloc: Global, text: &mut String, shown: &Shown) -> Result<(), AllocError> {
-    let serial = shown.serial.number();
-    text.push_str(&format!(in alloc; ": {} {serial:04x} {}", shown.id, shown.text)?)
-}
-
 /// Puts a reading.
-fn put_reading(alloc: Global, text: &mut String, reading: &Reading) -> Result<(), AllocError> {
+fn put_reading(text: &mut String, reading: &Reading) -> Result<(), AllocError> {
     let between = if text.is_empty() { "" } else { "; " };
-    let cell = reading.cell;
-    let line = format!(in alloc; "{between}{}-{} {} slots", cell.lac, cell.ci, reading.slots)?;
-    text.push_str(&line)?;
+    let (cell, slots) = (reading.cell, reading.slots);
+    write!(text, "{between}{}-{} {slots} slots", cell.lac, cell.ci)?;
     for shown in &reading.shown {
-        put_shown(alloc, text, shown)?;
+        let serial = shown.serial.number();
+        write!(text, ": {} {serial:04x} {}", shown.id, shown.text)?;
     }
     Ok(())
 }
@@ -323,66 +315,18 @@ fn answer(
     }
     let mut text = String::new(alloc);
     for reading in readings {
-        put_reading(alloc, &mut text, reading)?;
+        put_reading(&mut text, reading)?;
     }
     Ok(text)
 }
 
-/// What a source is read as.
-fn read_text(
-    alloc: Global,
-    drought: &mut Drought,
-    kind: Kind,
-    source: &mut Source<&mut MemoryReader>,
-) -> Result<String, AllocError> {
-    let mut readings = Vec::new(alloc);
-    let result = read_in(alloc, drought, kind, source, &mut readings);
-    answer(alloc, result, &readings)
-}
-
-/// What these octets are read as. A reader that can fail is asked what it still has.
-fn read_octets(
-    alloc: Global,
-    drought: &mut Drought,
-    kind: Kind,
-    octets: &[u8],
-    pace: (usize, Option<usize>),
-) -> Result<String, Fail> {
-    let mut reader = MemoryReader::new(octets, pace.0.max(1), pace.1);
-    let mut source = Source::new(&mut reader);
-    let text = read_text(alloc, drought, kind, &mut source)?;
-    let failed = source.failed();
-    Ok(with_rest(
-        alloc,
-        text,
-        pace.1.is_some() || failed,
-        failed,
-        reader.rest().len(),
-    )?)
-}
-
-/// What was read, and with a reader that can fail what it still has, or that it failed.
-fn with_rest(
-    alloc: Global,
-    text: String,
-    can_fail: bool,
-    failed: bool,
-    rest: usize,
-) -> Result<String, AllocError> {
-    match (can_fail, failed) {
-        (false, _) => Ok(text),
-        (true, false) => format!(in alloc; "{text}, {rest} left"),
-        (true, true) => format!(in alloc; "{text}, source failed"),
-    }
-}
-
 /// Puts what a tape holds.
-fn put_recording(alloc: Global, text: &mut String, tape: &Recording) -> Result<(), AllocError> {
+fn put_recording(text: &mut String, tape: &Recording) -> Result<(), AllocError> {
     let between = if text.is_empty() { "" } else { "; " };
     let (cell, slots) = (tape.cell(), tape.slots());
-    text.push_str(&format!(in alloc; "{between}{}-{} {slots} slots:", cell.lac, cell.ci)?)?;
+    write!(text, "{between}{}-{} {slots} slots:", cell.lac, cell.ci)?;
     for block in tape.blocks() {
-        text.push_str(&format!(in alloc; " {:02x}", block[0])?)?;
+        write!(text, " {:02x}", block[0])?;
     }
     Ok(())
 }
@@ -402,29 +346,43 @@ fn recorded_text(
     }
     let mut text = String::new(alloc);
     for tape in &tapes {
-        put_recording(alloc, &mut text, tape)?;
+        put_recording(&mut text, tape)?;
     }
     Ok(text)
 }
 
-/// What the tapes hold that these octets are.
-fn recorded(
+/// What a source is read as.
+fn read_text(
     alloc: Global,
     drought: &mut Drought,
+    kind: Kind,
+    source: &mut Source<&mut MemoryReader>,
+) -> Result<String, AllocError> {
+    if let Kind::Recorded = kind {
+        return recorded_text(alloc, drought, source);
+    }
+    let mut readings = Vec::new(alloc);
+    let result = read_in(alloc, drought, kind, source, &mut readings);
+    answer(alloc, result, &readings)
+}
+
+/// What these octets are read as. A reader that can fail is asked what it still has.
+fn read_octets(
+    alloc: Global,
+    drought: &mut Drought,
+    kind: Kind,
     octets: &[u8],
     pace: (usize, Option<usize>),
-) -> Result<String, Fail> {
+) -> Result<String, AllocError> {
     let mut reader = MemoryReader::new(octets, pace.0.max(1), pace.1);
     let mut source = Source::new(&mut reader);
-    let text = recorded_text(alloc, drought, &mut source)?;
-    let failed = source.failed();
-    Ok(with_rest(
-        alloc,
-        text,
-        pace.1.is_some() || failed,
-        failed,
-        reader.rest().len(),
-    )?)
+    let mut text = read_text(alloc, drought, kind, &mut source)?;
+    if source.failed() {
+        text.push_str(", source failed")?;
+    } else if pace.1.is_some() {
+        write!(text, ", {} left", reader.rest().len())?;
+    }
+    Ok(text)
 }
 
 /// The pace that words say, if there are any.
@@ -446,17 +404,13 @@ fn fails_twice(alloc: Global, kind: Kind, octets: &[u8], per_call: usize, calls:
     matches!(first, Err(TapeFault::ReadFailed)) && matches!(second, Err(TapeFault::ReadFailed))
 }
 
-/// Whether both ways to read do.
-fn fails_at(alloc: Global, octets: &[u8], per_call: usize, calls: usize) -> bool {
-    fails_twice(alloc, Kind::One, octets, per_call, calls)
-        && fails_twice(alloc, Kind::All, octets, per_call, calls)
-}
-
 /// Reads again and again with readers that fail.
 fn fails(alloc: Global, octets: &[u8], words: &mut Words) -> Result<String, Fail> {
     let per_call = usize::from(words.number16()?);
     for calls in 0..=words.number16()? {
-        if !fails_at(alloc, octets, per_call, usize::from(calls)) {
+        let after = usize::from(calls);
+        let one = fails_twice(alloc, Kind::One, octets, per_call, after);
+        if !one || !fails_twice(alloc, Kind::All, octets, per_call, after) {
             return Ok(format!(in alloc; "not after {calls} calls")?);
         }
     }
@@ -464,10 +418,10 @@ fn fails(alloc: Global, octets: &[u8], words: &mut Words) -> Result<String, Fail
 }
 
 /// What octets are read as in both ways.
-fn both_ways(alloc: Global, drought: &mut Drought, octets: &[u8]) -> Result<String, Fail> {
+fn both_ways(alloc: Global, drought: &mut Drought, octets: &[u8]) -> Result<String, AllocError> {
     let one = read_octets(alloc, drought, Kind::One, octets, STEADY)?;
     let tapes = read_octets(alloc, drought, Kind::All, octets, STEADY)?;
-    Ok(format!(in alloc; "{one}, {tapes}")?)
+    format!(in alloc; "{one}, {tapes}")
 }
 
 /// Reads each front of so many octets, both ends included, and returns what all of them are read as.
@@ -515,16 +469,11 @@ fn count(alloc: Global, octets: &[u8]) -> Result<String, Fail> {
     Ok(readings.len().to_string(alloc)?)
 }
 
-/// The text of a fault.
-fn text(alloc: Global, fault: &str) -> Result<String, Fail> {
-    match fault {
-        "Short" => Ok(TapeFault::Short.to_string(alloc)?),
-        "Long" => Ok(TapeFault::Long.to_string(alloc)?),
-        "ReadFailed" => Ok(TapeFault::ReadFailed.to_string(alloc)?),
-        "OutOfMemory" => Ok(TapeFault::Refused.to_string(alloc)?),
-        "Refused" => Ok(Refused.to_string(alloc)?),
-        _ => Ok(String::from_str(alloc, "no such fault")?),
-    }
+/// The texts of the faults.
+fn texts(alloc: Global) -> Result<String, AllocError> {
+    let (short, long) = (TapeFault::Short, TapeFault::Long);
+    let (failed, memory) = (TapeFault::ReadFailed, TapeFault::Refused);
+    format!(in alloc; "{short}; {long}; {failed}; {memory}; {Refused}")
 }
 
 /// What comes of an action, for which so many blocks of memory are left if it is `scarce`. Its words are all read.
@@ -553,109 +502,75 @@ fn done(
     words: &mut Words,
 ) -> Result<String, Fail> {
     match verb {
-        "one" => read_octets(alloc, drought, Kind::One, octets, pace_of(words)?),
-        "all" => read_octets(alloc, drought, Kind::All, octets, pace_of(words)?),
-        "record" => recorded(alloc, drought, octets, pace_of(words)?),
+        "one" | "all" | "record" => {
+            let kind = match verb {
+                "one" => Kind::One,
+                "all" => Kind::All,
+                _ => Kind::Recorded,
+            };
+            Ok(read_octets(alloc, drought, kind, octets, pace_of(words)?)?)
+        }
         "length" => Ok(octets.len().to_string(alloc)?),
         "count" => count(alloc, octets),
         "fails" => fails(alloc, octets, words),
         "fronts" => fronts(alloc, drought, octets, words),
         "after" => after(alloc, octets, words),
-        "text" => text(alloc, words.word()),
+        "texts" => Ok(texts(alloc)?),
         verb => add(alloc, octets, verb, words),
     }
 }
 
-/// Whether a text is what a row wants after a refusal.
-fn is_wanted(row: Row, found: &str) -> bool {
-    match row.wanted.strip_prefix("refused; ") {
-        Some(wanted) => wanted == found,
-        None => false,
-    }
-}
-
-/// What comes of a row. If memory is refused, the action has all memory, and then one block more than before.
-fn outcome(
-    alloc: Global,
-    drought: &mut Drought,
-    octets: &mut Vec<u8>,
-    row: Row,
-) -> Result<String, Fail> {
-    let ample = row.action.strip_prefix("scarce ").unwrap_or(row.action);
-    for refused in 0..Drought::MOST {
-        let found = carried_out(alloc, drought, octets, row.action, refused)?;
-        if found.as_str() != "Refused" {
-            return after_refusals(alloc, refused, found);
-        }
-        let again = carried_out(alloc, drought, octets, ample, 0)?;
-        if !is_wanted(row, &again) {
-            return Ok(format!(in alloc; "refused, and then {again}")?);
-        }
-    }
-    Err(Fail::new("it is refused to the end"))
-}
-
-/// Expects what a row says.
+/// Expects what a row says. If memory is refused, the action has all memory, and then one block more than before.
 fn expect_row(
-    rt: &impl Abort,
     alloc: Global,
     drought: &mut Drought,
     octets: &mut Vec<u8>,
     row: Row,
 ) -> Result<(), Fail> {
-    let found = outcome(alloc, drought, octets, row)?;
-    assert_eq!(rt; found.as_str(), row.wanted, "{}", row.action);
-    Ok(())
+    let ample = row.action.strip_prefix("scarce ").unwrap_or(row.action);
+    for refused in 0..Drought::MOST {
+        let found = carried_out(alloc, drought, octets, row.action, refused)?;
+        if found.as_str() != "Refused" {
+            let found = after_refusals(alloc, refused, found)?;
+            if found.as_str() == row.wanted {
+                return Ok(());
+            }
+            return Err(Fail::new(format_args!("{} -> {found}", row.action)));
+        }
+        let again = carried_out(alloc, drought, octets, ample, 0)?;
+        if row.wanted.strip_prefix("refused; ") != Some(again.as_str()) {
+            return Err(Fail::new(format_args!("{} -> refused, and then {again}", row.action)));
+        }
+    }
+    Err(Fail::new("it is refused to the end"))
 }
 
-/// Expects what the rows of a table say, and returns how many there are.
-fn expect_each(
-    rt: &impl Abort,
-    alloc: Global,
-    drought: &mut Drought,
-    table: &str,
-) -> Result<u16, Fail> {
+/// Expects what the rows of a table say, which are so many.
+fn expect_rows(rt: &impl Abort, alloc: Global, table: &str, count: u16) -> Result<(), Fail> {
+    let mut drought = Drought::new(alloc)?;
     let mut octets = Vec::new(alloc);
     let mut rows = 0_u16;
     for line in table.split('\n') {
         if let Some(row) = Row::of(line) {
-            expect_row(rt, alloc, drought, &mut octets, row)?;
+            expect_row(alloc, &mut drought, &mut octets, row)?;
             rows = rows.saturating_add(1);
         }
     }
-    Ok(rows)
-}
-
-/// Expects what the rows of a table say, which are so many at least.
-fn expect_rows(rt: &impl Abort, alloc: Global, table: &str, least: u16) -> Result<(), Fail> {
-    let mut drought = Drought::new(alloc)?;
-    let rows = expect_each(rt, alloc, &mut drought, table);
+    drop(octets);
     drop(drought);
-    assert!(rt; rows? >= least);
+    assert!(rt; rows == count);
     Ok(())
 }
 
 #[test]
-fn tapes_are_read(rt: HostRuntime) -> Result<(), Fail> {
-    expect_rows(&rt, rt.alloc(), WHOLE, 11)
-}
-
-#[test]
-fn short_and_long_tapes_have_faults(rt: HostRuntime) -> Result<(), Fail> {
-    expect_rows(&rt, rt.alloc(), FAULTS, 11)
-}
-
-#[test]
-fn tapes_are_recorded(rt: HostRuntime) -> Result<(), Fail> {
-    expect_rows(&rt, rt.alloc(), RECORDED, 11)
+fn tapes_are_read_and_recorded(rt: HostRuntime) -> Result<(), Fail> {
+    expect_rows(&rt, rt.alloc(), WHOLE, 19)?;
+    expect_rows(&rt, rt.alloc(), FAULTS, 24)?;
+    expect_rows(&rt, rt.alloc(), RECORDED, 18)?;
+    expect_rows(&rt, rt.alloc(), SCARCE, 12)
 }
 
 #[test]
 fn nothing_is_read_past_what_decides(rt: HostRuntime) -> Result<(), Fail> {
-    expect_rows(&rt, rt.alloc(), ENDS, 11)
-}
-
-#[test]
-fn tapes_are_refused_until_there_is_memory(rt: HostRuntime) -> Result<(), Fail> {
-    expect_rows(&rt, rt.alloc(), SCARCE, 11)
+    expect_rows(&rt, rt.alloc(), ENDS, 21)
 }
