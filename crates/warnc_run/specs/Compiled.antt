@@ -1,9 +1,9 @@
 -- What `warnc compile` makes of the octets that it reads: the tapes of the book's cells. Own.
-use Rattle.std.specs.Prelude.{◌≡◌, ◌≢◌, ⊤, ℕ, ◌+◌, ◌*◌, ◌<◌, ◌≤◌, List, length, take, Option, Result, All}
+use Rattle.std.specs.Prelude.{◌≡◌, ◌≢◌, ⊤, ℕ, ◌+◌, ◌*◌, ◌<◌, ◌≤◌, List, length, take, Option, Result, All, IfErr, OnOk}
 use Rattle.std.specs.Io.KnownBytes.{Appends, Consumes, IsAtEnd, Keeps}
 use Rattle.std.specs.List.{flat_map}
 use Rattle.device_ends.specs.Moves.{AppendsFront}
-use Rattle.device_ends.specs.Stream.{IsStreamBetween}
+use Rattle.device_ends.specs.Stream.{Between, FaultBetween, IsStreamBetween}
 use Rattle.device_ends.specs.declared.reading.Source.{Source}
 use Rattle.device_ends.specs.declared.writing.Sink.{Sink}
 use Rattle.alert_book.specs.declared.network.Origin.{Origin}
@@ -93,6 +93,19 @@ pub record HasReadFrom (from : Origin) (first last : Option (List ℕ)) : Type 0
 -- the same of octets that are a book
 abbrev pub HasReadBook : (first last : Option (List ℕ)) → Type 0
 HasReadBook first last = HasReadFrom origin.Book first last
+
+-- what a call between a source and a sink says with Ok: it read all, and wrote what that means
+abbrev pub IsMade : {R W F : Type 0} → Result (Unit {0}) F → (left : R → Option (List ℕ))
+    → (held : W → Option (List ℕ)) → (Means : (input output : List ℕ) → Type 0)
+    → (first last : Source R) → (old new : Sink W) → Type 0
+IsMade result left held Means first last old new = OnOk result (Between left held (Makes Means) first last old new)
+
+-- and with a fault: it is one of these
+abbrev pub IsUnmade : {R W F : Type 0} → Result (Unit {0}) F → (left : R → Option (List ℕ))
+    → (held : W → Option (List ℕ)) → (IsFault : (first last old new : Option (List ℕ)) → F → Type 0)
+    → (first last : Source R) → (old new : Sink W) → Type 0
+IsUnmade result left held IsFault first last old new =
+    IfErr result (FaultBetween left held IsFault first last old new)
 
 -- there are 1 to 64 workers
 abbrev pub AreWorkers : ℕ → Type 0

@@ -4,6 +4,8 @@ use Rattle.std.specs.Io.KnownBytes.{Consumes, IsAtEnd}
 use Rattle.alert_book.specs.declared.network.Origin.{Origin}
 use Rattle.alert_book.specs.Book.{Contents}
 use Rattle.alert_book.specs.Origin.{IsBookFrom, LacksGroup, RefusesFrom}
+use Rattle.device_ends.specs.Stream.{Reads}
+use Rattle.device_ends.specs.declared.reading.Source.{Source}
 use Rattle.bsc_table.specs.Record.{Record}
 use Rattle.book_runs.specs.Meant.{IsMeantIn}
 use Rattle.book_runs.specs.Ordered.{AreThoseStarted}
@@ -31,6 +33,11 @@ pub record HasRunBook (from : Origin) (slots : ℕ) (first last : Option (List �
   pub ended : IsAtEnd last
   pub made : AreRecordsFrom from slots input records
 
+-- the same of a reader before and after a call
+abbrev pub HasRecords : {R : Type 0} → (left : R → Option (List ℕ)) → (from : Origin) (slots : ℕ)
+    → (first last : Source R) → List Record → Type 0
+HasRecords left from slots first last records = Reads left (λ old new. HasRunBook from slots old new records) first last
+
 -- why there are no records of a book: the fault is the book's; or the network has no such group; or the octets are a
 -- book, and the desk was out of memory or found the book of another cell, or wasn't settled; or there can't be so many
 -- workers, or they were out of memory; or memory ran out. Nothing was to be written, and no tape was made
@@ -45,3 +52,8 @@ IsRecordsFault from slots first last (fault.Compile compile.Refused) = HasReadFr
 IsRecordsFault from slots first last (fault.Compile (compile.Piece index)) = ⊥
 IsRecordsFault from slots first last (fault.Write failed) = ⊥
 IsRecordsFault from slots first last fault.Refused = ⊤
+
+-- the same of a reader before and after a call
+abbrev pub HasNoRecords : {R : Type 0} → (left : R → Option (List ℕ)) → (from : Origin) (slots : ℕ)
+    → (first last : Source R) → RunFault → Type 0
+HasNoRecords left from slots first last f = Reads left (λ old new. IsRecordsFault from slots old new f) first last

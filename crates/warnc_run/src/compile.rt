@@ -4,7 +4,7 @@ ghost use Rattle.std.specs.Prelude.{◌≡◌, ◌↔◌, IfErr, IsErrOf, OnOk};
 ghost use Rattle.device_ends.specs.Stream.{Between, FaultBetween};
 ghost use Rattle.parallel_compile.specs.declared.fault.CompileFault.TheVariants as compile;
 ghost use Rattle.warnc_run.specs.Compiled.{AreWorkers, IsCompileFaultFrom, IsCompileRunFault, IsCompiled};
-ghost use Rattle.warnc_run.specs.Compiled.{IsCompiledFrom, IsRunAtEnds, Makes};
+ghost use Rattle.warnc_run.specs.Compiled.{IsCompiledFrom, IsMade, IsRunAtEnds, IsUnmade, Makes};
 ghost use Rattle.warnc_run.specs.declared.fault.RunFault.TheVariants as faults;
 
 use crate::fault::RunFault;
@@ -65,10 +65,10 @@ pub fn compile_from<T: AllocGlobal + Threads + Wait + Sync, R: Read, W: Write>(
     slots: u16,
     workers: u64,
 ) -> Result<(), RunFault>
-    ensures ok { OnOk result (Between R.remaining W.contents (Makes (IsCompiledFrom origin slots)) source.old
-        source.new sink.old sink.new) }
-    ensures err { IfErr result (FaultBetween R.remaining W.contents (IsCompileFaultFrom origin slots) source.old
-        source.new sink.old sink.new) }
+    ensures ok { IsMade result R.remaining W.contents (IsCompiledFrom origin slots) source.old source.new sink.old
+        sink.new }
+    ensures err { IsUnmade result R.remaining W.contents (IsCompileFaultFrom origin slots) source.old source.new
+        sink.old sink.new }
 
     // The number of workers is judged first, and nothing is done if it is wrong.
     ensures workers { IsErrOf result (faults.Compile compile.Workers) ↔ (AreWorkers workers → ⊥) }

@@ -3,7 +3,7 @@
 ghost use Rattle.std.specs.Prelude.{◌≡◌, ◌↔◌, ◌<◌, ◌≤◌, IfErr, IsErrOf, OnOk};
 ghost use Rattle.device_ends.specs.Stream.{Between, FaultBetween};
 ghost use Rattle.parallel_compile.specs.declared.fault.CompileFault.TheVariants as compile;
-ghost use Rattle.warnc_run.specs.Compiled.{AreWorkers, IsRunAtEnds, Makes};
+ghost use Rattle.warnc_run.specs.Compiled.{AreWorkers, IsMade, IsRunAtEnds, IsUnmade, Makes};
 ghost use Rattle.warnc_run.specs.Live.{IsLive, IsLiveFault, IsLiveFaultFrom, IsLiveFrom};
 ghost use Rattle.warnc_run.specs.declared.fault.RunFault.TheVariants as faults;
 
@@ -99,10 +99,10 @@ pub fn live_from<T: AllocGlobal + Threads + Wait + Sync, R: Read, W: Write, G: G
 ) -> Result<(), RunFault>
     requires some { 0 < sessions }
     requires few { sessions ≤ 64 }
-    ensures ok { OnOk result (Between R.remaining W.contents (Makes (IsLiveFrom origin slots sessions)) source.old
-        source.new sink.old sink.new) }
-    ensures err { IfErr result (FaultBetween R.remaining W.contents (IsLiveFaultFrom origin slots sessions) source.old
-        source.new sink.old sink.new) }
+    ensures ok { IsMade result R.remaining W.contents (IsLiveFrom origin slots sessions) source.old source.new sink.old
+        sink.new }
+    ensures err { IsUnmade result R.remaining W.contents (IsLiveFaultFrom origin slots sessions) source.old source.new
+        sink.old sink.new }
 
     // The number of workers is judged first, and nothing is done if it is wrong.
     ensures workers { IsErrOf result (faults.Compile compile.Workers) ↔ (AreWorkers workers → ⊥) }

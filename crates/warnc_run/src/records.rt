@@ -2,11 +2,10 @@
 
 ghost use Rattle.std.specs.Prelude.{◌≡◌, ◌↔◌, true, IfErr, IfOk, IsErrOf, IsTrue};
 ghost use Rattle.device_ends.specs.Source.{source_failed};
-ghost use Rattle.device_ends.specs.Stream.{Reads};
 ghost use Rattle.alert_book.specs.Book.{unread};
 ghost use Rattle.parallel_compile.specs.declared.fault.CompileFault.TheVariants as compile;
 ghost use Rattle.warnc_run.specs.Compiled.{AreWorkers};
-ghost use Rattle.warnc_run.specs.Records.{HasRunBook, IsRecordsFault};
+ghost use Rattle.warnc_run.specs.Records.{HasNoRecords, HasRecords};
 ghost use Rattle.warnc_run.specs.declared.fault.RunFault.TheVariants as faults;
 
 use crate::book::book_from;
@@ -35,10 +34,8 @@ pub fn run_book<T: AllocGlobal + Threads + Wait + Sync, R: Read>(
     slots: u16,
     workers: u64,
 ) -> Result<Vec<CellRecord>, RunFault>
-    ensures ok { IfOk result (λ records.
-        Reads R.remaining (λ first last. HasRunBook origin slots first last records.items) source.old source.new) }
-    ensures err { IfErr result (λ fault.
-        Reads R.remaining (λ first last. IsRecordsFault origin slots first last fault) source.old source.new) }
+    ensures ok { IfOk result (λ records. HasRecords R.remaining origin slots source.old source.new records.items) }
+    ensures err { IfErr result (HasNoRecords R.remaining origin slots source.old source.new) }
 
     // The number of workers is judged first, and nothing is done if it is wrong.
     ensures workers { IsErrOf result (faults.Compile compile.Workers) ↔ (AreWorkers workers → ⊥) }

@@ -5,7 +5,7 @@ ghost use Rattle.device_ends.specs.Stream.{Between, FaultBetween};
 ghost use Rattle.cbch_blocks.specs.RecordBlocks.{tape_of_record};
 ghost use Rattle.handset.specs.Tape.{readings_of, IsTape};
 ghost use Rattle.parallel_compile.specs.declared.fault.CompileFault.TheVariants as compile;
-ghost use Rattle.warnc_run.specs.Compiled.{AreWorkers, Makes};
+ghost use Rattle.warnc_run.specs.Compiled.{AreWorkers, IsMade, IsUnmade, Makes};
 ghost use Rattle.warnc_run.specs.Reported.{is_headed, reading_of_record, IsReportAtEnds, IsReportFault};
 ghost use Rattle.warnc_run.specs.Reported.{IsReportFaultFrom, IsReported, IsReportedFrom};
 ghost use Rattle.warnc_run.specs.RunSteps.{AreReadings, AreReportRows, IsOfBookReport, IsOfReport, IsSomeBook};
@@ -125,10 +125,10 @@ pub fn report_from<T: AllocGlobal + Threads + Wait + Sync, R: Read, W: Write>(
     slots: u16,
     workers: u64,
 ) -> Result<(), ReportRunFault>
-    ensures ok { OnOk result (Between R.remaining W.contents (Makes (IsReportedFrom origin slots)) source.old
-        source.new sink.old sink.new) }
-    ensures err { IfErr result (FaultBetween R.remaining W.contents (IsReportFaultFrom origin slots) source.old
-        source.new sink.old sink.new) }
+    ensures ok { IsMade result R.remaining W.contents (IsReportedFrom origin slots) source.old source.new sink.old
+        sink.new }
+    ensures err { IsUnmade result R.remaining W.contents (IsReportFaultFrom origin slots) source.old source.new
+        sink.old sink.new }
 
     // The number of workers is judged first, and nothing is done if it is wrong.
     ensures workers { IsErrOf result (reports.Run (faults.Compile compile.Workers)) ↔ (AreWorkers workers → ⊥) }

@@ -8,6 +8,7 @@ use Rattle.alert_book.specs.declared.network.Origin.{Origin}
 use Rattle.device_ends.specs.Moves.{AppendsFront}
 use Rattle.device_ends.specs.Sink.{sink_failed}
 use Rattle.device_ends.specs.Source.{source_failed}
+use Rattle.device_ends.specs.Stream.{OutputOfInput}
 use Rattle.device_ends.specs.declared.reading.Source.{Source}
 use Rattle.device_ends.specs.declared.writing.Sink.{Sink}
 use Rattle.handset.specs.Recording.{TapeRecording, AreRecordings}
@@ -52,6 +53,12 @@ IsVerified from slots count input output = IsTableOf from slots count [] input o
 abbrev pub HasDifferences : (from : Origin) (slots count : ℕ) → (input output : List ℕ) → Type 0
 HasDifferences from slots count input output =
     (rows : List Row) × IsTableOf from slots count rows input output × (0 < length rows)
+
+-- a fault that tells of differences has them written
+abbrev pub TellsDifferences : {R W : Type 0} → Result (Unit {0}) VerifyFault → (left : R → Option (List ℕ))
+    → (held : W → Option (List ℕ)) → (from : Origin) (slots count : ℕ) → Source R → (old new : Sink W) → Type 0
+TellsDifferences result left held from slots count first old new = IfErr result (λ fault.
+    IsDifference fault → OutputOfInput left held (HasDifferences from slots count) first old new)
 
 -- why the tapes of an input aren't found to be the book's, and what the writer holds then; a reader can fail anywhere
 abbrev pub IsTapesPartFault : (from : Origin) (slots count : ℕ) → (input : List ℕ) → TapeFault → Type 0

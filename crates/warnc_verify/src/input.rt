@@ -9,6 +9,7 @@ ghost use Rattle.alert_book.specs.Book.{unread};
 ghost use Rattle.handset.specs.declared.tape.TapeFault.TheVariants as tape;
 ghost use Rattle.warnc_run.specs.declared.fault.RunFault.TheVariants as run;
 ghost use Rattle.warnc_verify.specs.Input.{HasDifferences, IsInputFault, IsOfInput, IsVerified, IsVerifyBetween};
+ghost use Rattle.warnc_verify.specs.Input.{TellsDifferences};
 ghost use Rattle.warnc_verify.specs.Verified.{IsDifference};
 ghost use Rattle.warnc_verify.specs.InputSteps.{IsFrontFault, IsUnwrittenIn};
 ghost use Rattle.warnc_verify.specs.declared.fault.VerifyFault.TheVariants as faults;
@@ -47,8 +48,8 @@ pub fn verify_input<T: AllocGlobal + Threads + Wait + Sync, R: Read, W: Write>(
     ensures err { IfErr result (FaultOfInput R.remaining W.contents (IsInputFault origin slots book_octets) source.old
         sink.old
         sink.new) }
-    ensures differences { IfErr result (λ fault. IsDifference fault → OutputOfInput R.remaining W.contents
-        (HasDifferences origin slots book_octets) source.old sink.old sink.new) }
+    ensures differences { TellsDifferences result R.remaining W.contents origin slots book_octets source.old sink.old
+        sink.new }
 
     // At any reader and any writer.
     ensures any_ends { IsVerifyBetween result source.old source.new sink.old sink.new }
