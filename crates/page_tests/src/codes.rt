@@ -2,13 +2,14 @@
 
 ghost use Rattle.std.specs.Prelude.{◌<◌, All};
 
-use crate::table::{digits_of, octets_of};
+use crate::table::octets_of;
 use arrayvec::ArrayVec;
 use gsm_alphabet::{Code, decode_ext, decode_one, encode_char};
 use septets::{pack, unpack};
 use std::alloc::Global;
 use std::fmt::Write;
 use std::test::Fail;
+use test_support::digits_of;
 use ucs2_text::{char_of, put_units, unit_of, units_of};
 
 /// Puts the code of a character, `-` if it has none, and `!` behind a code that shows another character.

@@ -39,12 +39,6 @@ show 1b0a -> <000A>
 show 1b41 -> A
 ";
 
-#[test]
-fn characters_have_their_codes(rt: HostRuntime) -> Result<(), Fail> {
-    alphabet_laws();
-    expect_rows(&rt, rt.alloc(), CODES, 24)
-}
-
 /// Packed pages: libGammu and libosmogsm agree on each of the first.
 const PACKED: &str = "
 pack 18 -> 9846a3d168341a<10*8d46a3d168341a>8d46a3d100
@@ -91,12 +85,6 @@ unpack 9846a3d168341a<10*8d46a3d168341a>8d46a3d100 -> 18<92*0d>
 unpack 9846a3d168341a<10*8d46a3d168341a>8d46a3d1f8 -> 18<92*0d>
 ";
 
-#[test]
-fn septets_are_packed_and_unpacked(rt: HostRuntime) -> Result<(), Fail> {
-    packing_laws();
-    expect_rows(&rt, rt.alloc(), PACKED, 21)
-}
-
 /// Units of texts as another program writes them, high octet first. A page is filled with 000D.
 const UNITS: &str = "
 units Внимание! Опасность наводнения -> 0412043d0438043c0430043d0438043500210020041e043f04300441043d043e04410442\
@@ -132,7 +120,11 @@ characters d7ffe000 -> <D7FF><E000>
 ";
 
 #[test]
-fn units_are_written_and_read(rt: HostRuntime) -> Result<(), Fail> {
+fn characters_have_their_codes(rt: HostRuntime) -> Result<(), Fail> {
+    alphabet_laws();
+    packing_laws();
     ucs2_laws();
+    expect_rows(&rt, rt.alloc(), CODES, 24)?;
+    expect_rows(&rt, rt.alloc(), PACKED, 21)?;
     expect_rows(&rt, rt.alloc(), UNITS, 25)
 }

@@ -3,7 +3,7 @@
 ghost use Rattle.std.specs.Prelude.{◌≤◌};
 
 use crate::codes::content_of;
-use crate::table::{digits_of, octets_of};
+use crate::table::octets_of;
 use cbs_page::{
     Dcs, PageView, Paged, Refused, Serial, TextFault, language_dcs, page_bytes, page_text,
     paginate, read_page,
@@ -11,7 +11,7 @@ use cbs_page::{
 use std::alloc::{AllocError, Global};
 use std::fmt::Write;
 use std::test::Fail;
-use test_support::{Drought, Words};
+use test_support::{Drought, Words, digits_of};
 
 /// What comes of an action on a page: on a text, which stands as it is, or on words, all of which are read. Memory is
 /// scarce for the cutting of a text, and for the text that a page shows, if the line says so.
@@ -45,7 +45,7 @@ fn by_words(alloc: Global, verb: &str, words: &mut Words<'_>) -> Result<String, 
         "fields" => fields(alloc, words),
         "alphabet" => alphabet(alloc, words),
         "language" => language(alloc, words),
-        "fault" => fault(alloc, words),
+        "faults" => Ok(faults(alloc)?),
         _ => Ok(format!(in alloc; "no such action")?),
     }
 }
@@ -222,17 +222,14 @@ fn content(alloc: Global, rest: &str) -> Result<String, Fail> {
     }
 }
 
-/// `fault NAME PLACE`: what a fault of a text is called.
-fn fault(alloc: Global, words: &mut Words<'_>) -> Result<String, Fail> {
-    let fault = match words.word() {
-        "BadLanguage" => TextFault::BadLanguage,
-        "Empty" => TextFault::Empty,
-        "BadCharacter" => TextFault::BadCharacter {
-            place: usize::from(words.number16()?),
-        },
-        "TooManyPages" => TextFault::TooManyPages,
-        "Refused" => TextFault::Refused,
-        _ => return Ok(format!(in alloc; "{Refused}")?),
-    };
-    Ok(format!(in alloc; "{fault}")?)
+/// `faults`: what the faults of a text are called.
+fn faults(alloc: Global) -> Result<String, AllocError> {
+    let place = 12;
+    let (language, character) = (TextFault::BadLanguage, TextFault::BadCharacter { place });
+    let (empty, pages, memory) = (
+        TextFault::Empty,
+        TextFault::TooManyPages,
+        TextFault::Refused,
+    );
+    format!(in alloc; "{language}; {empty}; {character}; {pages}; {memory}; {Refused}")
 }

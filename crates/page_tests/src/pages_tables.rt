@@ -71,11 +71,6 @@ view 0010111260118046a3d168341a<10*8d46a3d168341a>8d46a3d100 -> serial 0010 id 1
 view 00101112f0118046a3d168341a<10*8d46a3d168341a>8d46a3d100 -> serial 0010 id 1112 dcs f0 page 1 of 1 unreadable ..
 ";
 
-#[test]
-fn pages_have_their_octets(rt: HostRuntime) -> Result<(), Fail> {
-    expect_rows(&rt, rt.alloc(), PAGES, 58)
-}
-
 /// Texts on pages. Those in other scripts are written as iconv writes them in UCS-2.
 const TEXTS: &str = "
 # An escape and its septet stand on one page: septet 92 is the carriage return that fills the first, the last septet
@@ -151,18 +146,9 @@ shown 40 9bf246b1093684<10*8d46a3d168341a>8d46a3d100 -> €<000A>A<000D>B
 # A surrogate, and a carriage return in the middle.
 shown 48 d83d000d0041<38*000d> -> <FFFD><000D>A
 # What faults are called, and then out of memory for a page that is shown.
-fault BadLanguage -> unknown language
-fault Empty -> text is empty
-fault BadCharacter 12 -> bad character at 12
-fault TooManyPages -> too many pages
-fault Refused -> out of memory
-fault -> memory allocation failed
+faults -> unknown language; text is empty; bad character at 12; too many pages; out of memory; \
+    memory allocation failed
 ";
-
-#[test]
-fn texts_are_cut_into_pages_and_shown(rt: HostRuntime) -> Result<(), Fail> {
-    expect_rows(&rt, rt.alloc(), TEXTS, 55)
-}
 
 /// Texts that are cut, and pages that are shown, with scarce memory.
 const SCARCE: &str = "
@@ -186,6 +172,12 @@ scarce shown 48 <41*042f> -> refused; <41*Я>
 # A page that is all filling shows no text, which needs no memory.
 scarce shown 48 <41*000d> ->
 ";
+
+#[test]
+fn pages_have_their_octets_and_show_their_texts(rt: HostRuntime) -> Result<(), Fail> {
+    expect_rows(&rt, rt.alloc(), PAGES, 58)?;
+    expect_rows(&rt, rt.alloc(), TEXTS, 50)
+}
 
 #[test]
 fn texts_and_pages_are_refused_until_they_have_memory(rt: HostRuntime) -> Result<(), Fail> {

@@ -7,7 +7,7 @@
 //! until it has enough. After each refusal it has all memory, and has to give what is wanted at once.
 
 use crate::{codes, pages};
-use std::alloc::{AllocError, Global};
+use std::alloc::Global;
 use std::process::Abort;
 use std::test::Fail;
 use test_support::{Drought, Row, Words, after_refusals, is_refused};
@@ -50,11 +50,6 @@ pub fn octets_of(alloc: Global, words: &str) -> Result<Vec<u8>, Fail> {
     test_support::octets_of(alloc, &digits)
 }
 
-/// Octets as hexadecimal digits.
-pub fn digits_of(alloc: Global, octets: &[u8]) -> Result<String, AllocError> {
-    test_support::digits_of(alloc, octets)
-}
-
 /// Whether what was found is what was wanted.
 fn agree(found: &str, wanted: &str) -> bool {
     if let Some(end) = wanted.strip_prefix("..") {
@@ -81,41 +76,39 @@ fn carried_out(alloc: Global, drought: &mut Drought, action: &str) -> Result<Str
     }
 }
 
-/// What comes of an action that may be `scarce`. `wanted` is what has to come of it after each refusal.
-fn outcome(
+/// Expects of a line what it says, with both sides written out. An action that is `scarce` has to give what is wanted
+/// at once after each refusal.
+fn expect_row(
     alloc: Global,
     drought: &mut Drought,
     action: &str,
     wanted: &str,
-) -> Result<String, Fail> {
+) -> Result<(), Fail> {
     let step = action.strip_prefix("scarce ").unwrap_or(action);
     for refused in 0..Drought::MOST {
         let _ = drought.verb(&mut Words::of(action), refused);
         let found = carried_out(alloc, drought, step)?;
         if !is_refused(&found) {
-            return after_refusals(alloc, refused, found);
+            let found = after_refusals(alloc, refused, found)?;
+            if agree(&found, wanted) {
+                return Ok(());
+            }
+            return Err(Fail::new(format_args!("{action} -> {found}")));
         }
         let _ = drought.verb(&mut Words::of(step), 0);
         let again = carried_out(alloc, drought, step)?;
         if wanted.strip_prefix("refused; ") != Some(again.as_str()) {
-            return Ok(format!(in alloc; "refused, and then {again}")?);
+            return Err(Fail::new(format_args!("{action} -> refused, and then {again}")));
         }
     }
     Err(Fail::new("it is refused to the end"))
 }
 
-/// Expects of a line what it says, with both sides written out.
-fn expect_row(
-    rt: &impl Abort,
-    alloc: Global,
-    drought: &mut Drought,
-    line: &str,
-    action: &str,
-    wanted: &str,
-) -> Result<(), Fail> {
-    let found = outcome(alloc, drought, action, wanted)?;
-    assert!(rt; agree(&found, wanted), "{line} but {found}");
-    Ok(())
+/// Expects what a row says.
+fn expect_written(alloc: Global, drought: &mut Drought, row: Row) -> Result<(), Fail> {
+    let action = written_out(alloc, row.action)?;
+    let wanted = written_out(alloc, row.wanted)?;
+    expect_row(alloc, drought, &action, &wanted)
 }
 
 /// Expects what the lines of a table say, which are as many.
@@ -124,12 +117,11 @@ pub fn expect_rows(rt: &impl Abort, alloc: Global, table: &str, count: u16) -> R
     let mut rows = 0_u16;
     for line in table.split('\n') {
         if let Some(row) = Row::of(line) {
-            let action = written_out(alloc, row.action)?;
-            let wanted = written_out(alloc, row.wanted)?;
-            expect_row(rt, alloc, &mut drought, line, &action, &wanted)?;
+            expect_written(alloc, &mut drought, row)?;
             rows = rows.saturating_add(1);
         }
     }
-    assert_eq!(rt; rows, count);
+    drop(drought);
+    assert!(rt; rows == count);
     Ok(())
 }
