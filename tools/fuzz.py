@@ -1163,7 +1163,7 @@ def good_options(chance, command, data):
 def spoilt_words(chance, command, options):
     """Returns words that clap refuses."""
     limits = {"--id": 65536, "--scope": 4, "--code": 1024, "--update": 16, "--slots": 65536, "--workers": 65,
-              "--sessions": 65, "--book-octets": 16777217, "--channel": 53, "--cell": "1-65536", "--from": "1.2.3.256"}
+              "--sessions": 65, "--book-octets": 67108865, "--channel": 53, "--cell": "1-65536", "--from": "1.2.3.256"}
     kind = chance.randrange(6)
     numbers = [name for name in options if name in limits]
     if kind == 0 and numbers:

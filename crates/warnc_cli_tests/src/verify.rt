@@ -180,7 +180,7 @@ args verify --slots 1
 usage -> 2 error:
 args verify --book-octets 1
 usage -> 2 error:
-args verify --slots 1 --book-octets 16777217
+args verify --slots 1 --book-octets 67108865
 usage -> 2 error:
 ";
 
