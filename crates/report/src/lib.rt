@@ -1,8 +1,8 @@
 //! The report of a run: what became of each warning in each cell, as rows and as CSV.
 //!
 //! [`rows`] makes the rows of the cells' records and of what handsets read of their blocks, [`write_report`] writes
-//! them, and [`write_part`] those of a part. `specs/Rows.antt` says which rows these are, `specs/ReportText.antt` which
-//! octets.
+//! them, and [`write_part`] those of a part, whose text [`text_of`] makes. `specs/Rows.antt` says which rows these are,
+//! `specs/ReportText.antt` which octets.
 #![tactic(auto)]
 
 mod cell;
@@ -17,5 +17,5 @@ mod table;
 
 pub use cells::rows;
 pub use fault::ReportFault;
-pub use output::{write_part, write_report};
+pub use output::{text_of, write_part, write_report};
 pub use row::{Row, Showing};

@@ -14,9 +14,13 @@ use device_ends::{Failed, Sink, write_all};
 use std::alloc::{AllocError, Global};
 use std::io::Write;
 
-/// The text of a part of a report: of these rows, after the line of the columns' names if it is headed. The only error
-/// is out of memory.
-fn text_of(alloc: Global, headed: bool, rows: &[Row]) -> Result<Vec<u8>, AllocError>
+/// The text of a part of a report: of these rows, after the line of the columns' names if it is headed. So the texts
+/// of parts that are joined in order are the report of all their rows.
+///
+/// # Errors
+///
+/// Out of memory.
+pub fn text_of(alloc: Global, headed: bool, rows: &[Row]) -> Result<Vec<u8>, AllocError>
     ensures { IfOk result (λ octets. octets.items ≡ part_text headed rows.now) }
 {
     let mut table = Table::new(alloc, headed)?;
