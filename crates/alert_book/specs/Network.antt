@@ -126,3 +126,13 @@ pub record RefusesNetwork (old new : Option (List ℕ)) (group : ℕ) (f : BookF
 abbrev pub HasNoBook : (old new : Option (List ℕ)) → (group : ℕ) → GroupFault → Type 0
 HasNoBook old new group (group_fault.Network f) = RefusesNetwork old new group f
 HasNoBook old new group (group_fault.NoGroup groups) = (groups ≤ group) × CountsGroups old new group groups
+
+-- why octets are no network book, as a group reads it: out of memory, or they are too many, or the book has a fault
+abbrev pub IsNoNetworkBook : (group : ℕ) → List ℕ → BookFault → Type 0
+IsNoNetworkBook group input f =
+    (f ≡ refused) ⊎ ((f ≡ too_long) × (max_network < length input)) ⊎ IsWrongNetwork group input f
+
+-- why octets have no book for a group: they are no network book, or one of no more groups than this
+abbrev pub HasNoBookIn : (group : ℕ) → List ℕ → GroupFault → Type 0
+HasNoBookIn group input (group_fault.Network f) = IsNoNetworkBook group input f
+HasNoBookIn group input (group_fault.NoGroup groups) = (groups ≤ group) × HasGroups group input groups

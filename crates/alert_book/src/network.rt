@@ -3,13 +3,14 @@
 ghost use Rattle.std.specs.Prelude.{◌≡◌, ◌≢◌, ◌⊎◌, ◌↔◌, ◌≤◌, ◌++◌, ◌∷◌, [], Ok, Err, false, true, filter};
 ghost use Rattle.std.specs.Prelude.{if◌then◌else◌};
 ghost use Rattle.alert_book.specs.declared.book.row.Row.{Row};
-ghost use Rattle.std.specs.Prelude.{All, IfErr, IfOk, IsErrOf, IsTrue, OnErr, OnOk, length};
+ghost use Rattle.std.specs.Prelude.{◌<◌, ℕ, List, All, IfErr, IfOk, IsErrOf, IsTrue, OnErr, OnOk, length};
 ghost use Rattle.csv.specs.Records.{fields_of};
 ghost use Rattle.device_ends.specs.Source.{reader_of, source_failed};
 ghost use Rattle.alert_book.specs.Book.{refused, unread, HavePages, IsRowFaultBy};
 ghost use Rattle.alert_book.specs.NameSteps.{AreNames};
 ghost use Rattle.alert_book.specs.Network.{declares_cell, groups_of, has_cells, row_in_group, CountsGroups};
-ghost use Rattle.alert_book.specs.Network.{HasNoBook, IsWrongNetwork, ReadsGroup, RefusesNetwork};
+ghost use Rattle.alert_book.specs.Network.{HasGroups, HasNoBook, HasNoBookIn, IsGroupBook, IsNoNetworkBook};
+ghost use Rattle.alert_book.specs.Network.{IsWrongNetwork, ReadsGroup, RefusesNetwork};
 ghost use Rattle.alert_book.specs.NetworkSteps.{is_kept_at, kept_row, pages_kept, AreAllKept, IsKeptMore, ReadsRows};
 ghost use Rattle.alert_book.specs.Origin.{HasNoBookFrom, ReadsFrom};
 ghost use Rattle.alert_book.specs.RowSteps.{IsFine};
@@ -236,6 +237,24 @@ fn network_of<T: AllocGlobal + Threads + Sync>(
     Ok(Network { rows, pages })
 }
 
+/// The network book that octets are, if they are one and not too many.
+fn network_in<T: AllocGlobal + Threads + Sync>(
+    rt: &T,
+    octets: &[u8],
+    group: u16,
+) -> Result<Network, BookFault>
+    ensures bounded { OnOk result (length octets.now ≤ 67108864) }
+    ensures ok { IfOk result (λ network. AreAllKept network.rows group octets.now
+        × HavePages network.rows.orders network.pages.items) }
+    ensures err { IfErr result (IsNoNetworkBook group octets.now) }
+    ensures unread { IfErr result (λ fault. fault ≢ unread) }
+{
+    if octets.len() > MAX_NETWORK {
+        return Err(fault_of_book(BookFaultKind::TooManyRows));
+    }
+    network_of(rt, octets, group)
+}
+
 /// Reads a network book to its end, for a group.
 fn read_network<T: AllocGlobal + Threads + Sync, R: Read>(
     rt: &T,
@@ -255,10 +274,7 @@ fn read_network<T: AllocGlobal + Threads + Sync, R: Read>(
         Err(ReadFault::Device) => return Err(fault_of_book(BookFaultKind::ReadFailed)),
         Err(ReadFault::Refused) => return Err(fault_of_book(BookFaultKind::Refused)),
     };
-    if octets.len() > MAX_NETWORK {
-        return Err(fault_of_book(BookFaultKind::TooManyRows));
-    }
-    network_of(rt, &octets, group)
+    network_in(rt, &octets, group)
 }
 
 /// Whether the order at a place is for some cells.
@@ -338,6 +354,28 @@ fn book_of(alloc: Global, network: Network) -> Result<Book, AllocError>
     })
 }
 
+/// The book of a group for which a network book was read.
+fn book_in(alloc: Global, network: Network, group: u16) -> Result<Book, GroupFault>
+    requires known { (input : List ℕ) × AreAllKept network.rows group input }
+    requires paged { HavePages network.rows.orders network.pages.items }
+    ensures cells { IfOk result (λ book. book.cells ≡ network.rows.declared.cells) }
+    ensures orders { IfOk result (λ book. book.orders ≡ filter has_cells network.rows.orders) }
+    ensures pages { IfOk result (λ book. HavePages book.orders book.pages) }
+    ensures there { OnOk result (group < groups_of network.rows.declared.count) }
+    ensures err { IfErr result (λ fault. (fault ≡ GroupFault.Network refused)
+        ⊎ ((fault ≡ GroupFault.NoGroup (groups_of network.rows.declared.count))
+        × (groups_of network.rows.declared.count ≤ group))) }
+{
+    let groups = groups_of(network.rows.declared.count);
+    if group >= groups {
+        return Err(GroupFault::NoGroup(groups));
+    }
+    match book_of(alloc, network) {
+        Ok(book) => Ok(book),
+        Err(_) => Err(GroupFault::Network(fault_of_book(BookFaultKind::Refused))),
+    }
+}
+
 /// Reads a network book to its end, and gives the book of one of its groups, which are numbered from 0: 64 of its
 /// cells, and of each other row those of its cells that are among them. All texts are judged, whichever cells they are
 /// for.
@@ -363,17 +401,28 @@ pub fn read_group<T: AllocGlobal + Threads + Sync, R: Read>(
     ensures not_failed { OnOk result (source_failed source.new ≡ false) }
     ensures failed_stays { source_failed source.old ≡ true → source.new ≡ source.old }
 {
-    let network = match read_network(rt, source, group) {
-        Ok(network) => network,
-        Err(fault) => return Err(GroupFault::Network(fault)),
-    };
-    let groups = groups_of(network.rows.declared.count);
-    if group >= groups {
-        return Err(GroupFault::NoGroup(groups));
+    match read_network(rt, source, group) {
+        Ok(network) => book_in(rt.alloc(), network, group),
+        Err(fault) => Err(GroupFault::Network(fault)),
     }
-    match book_of(rt.alloc(), network) {
-        Ok(book) => Ok(book),
-        Err(_) => Err(GroupFault::Network(fault_of_book(BookFaultKind::Refused))),
+}
+
+/// Gives the book of one of the groups of the network book that octets are, as [`read_group`] does of a reader's.
+///
+/// # Errors
+///
+/// Returns the faults of [`read_group`].
+pub fn group_in<T: AllocGlobal + Threads + Sync>(
+    rt: &T,
+    octets: &[u8],
+    group: u16,
+) -> Result<Book, GroupFault>
+    ensures ok { IfOk result (IsGroupBook group octets.now) }
+    ensures err { IfErr result (HasNoBookIn group octets.now) }
+{
+    match network_in(rt, octets, group) {
+        Ok(network) => book_in(rt.alloc(), network, group),
+        Err(fault) => Err(GroupFault::Network(fault)),
     }
 }
 
@@ -429,5 +478,19 @@ pub fn count_groups<T: AllocGlobal + Threads + Sync, R: Read>(
     ensures failed_stays { source_failed source.old ≡ true → source.new ≡ source.old }
 {
     let network = read_network(rt, source, 0)?;
+    Ok(groups_of(network.rows.declared.count))
+}
+
+/// Gives the number of groups of the network book that octets are, as [`count_groups`] does of a reader's.
+///
+/// # Errors
+///
+/// Returns the faults of [`count_groups`].
+pub fn groups_in<T: AllocGlobal + Threads + Sync>(rt: &T, octets: &[u8]) -> Result<u16, BookFault>
+    ensures ok { IfOk result (HasGroups 0 octets.now) }
+    ensures err { IfErr result (IsNoNetworkBook 0 octets.now) }
+    ensures unread { IfErr result (λ fault. fault ≢ unread) }
+{
+    let network = network_in(rt, octets, 0)?;
     Ok(groups_of(network.rows.declared.count))
 }
