@@ -24,5 +24,7 @@ mod LastAccepted
 mod TurnsReplace
 pub mod Writable
 pub mod NetworkLaws
+pub mod BareRows
+pub mod OneNetwork
 pub mod GroupOrders
 pub mod Origins

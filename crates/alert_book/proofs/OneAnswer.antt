@@ -86,7 +86,8 @@ reached_same cfg s xs (r ∷ rs) (q ∷ qs) s1 y1 s2 y2 h last k none =
     let head : q ≡ r = k.2 ∙ ap (λ (x : Read). x.0) same ∙ sym h.2 in
     one_first r q rs qs (sym head) (reached_same cfg h.0.1 h.0.2 rs qs s1 y1 s2 y2 h.3 last rest none)
 
-one_ok : (r : Result Rows BookFault) (a b : Rows) → r ≡ Ok a → r ≡ Ok b → a ≡ b
+-- a result is one list of rows at most
+pub one_ok : (r : Result Rows BookFault) (a b : Rows) → r ≡ Ok a → r ≡ Ok b → a ≡ b
 one_ok r a b h k = cc
 
 -- octets mean one list of rows

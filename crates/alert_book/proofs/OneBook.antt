@@ -1,6 +1,6 @@
 -- Octets are one book, or have one fault, and never both.
-use Rattle.std.proofs.Common.{◌≡◌, ◌≢◌, ◌∙◌, ap, subst, sym, ℕ, List, [], ◌∷◌, ◌++◌, Option, Some, None, Result}
-use Rattle.std.proofs.Common.{Err, inl, inr}
+use Rattle.std.proofs.Common.{◌≡◌, ◌≢◌, ◌⊎◌, ◌∙◌, ap, subst, sym, ℕ, List, [], ◌∷◌, ◌++◌, Option, Some, None}
+use Rattle.std.proofs.Common.{Result, Err, inl, inr}
 use Rattle.std.specs.List.{AllZip}
 use Rattle.std.specs.Str.{chars}
 use Rattle.cbs_page.proofs.OneText.{sent_text_has_no_fault, sent_text_is_one, text_fault_is_one}
@@ -12,8 +12,9 @@ use Rattle.alert_book.specs.declared.fault.BookFault.{BookFault}
 use Rattle.alert_book.specs.declared.fault.BookFaultKind.TheVariants as fault
 use Rattle.alert_book.specs.declared.book.order.Order.{Order}
 use Rattle.alert_book.specs.declared.book.order.Sending.{Sending}
-use Rattle.alert_book.specs.Book.{fault_at, rows_of, rows_with, sending_of, ArePagesOf}
-use Rattle.alert_book.specs.Book.{Contents, HasTextFault, HasWrongText, HavePages, IsBook, IsRowFault, Rows}
+use Rattle.alert_book.specs.Book.{fault_at, rows_by, rows_with, sending_of, ArePagesOf, AreRowsBy}
+use Rattle.alert_book.specs.Book.{Contents, HasTextFaultBy, HasWrongText, HavePages, IsBook, IsRowFaultBy, RowMeaning}
+use Rattle.alert_book.specs.Book.{Rows}
 use Rattle.alert_book.specs.Laws.{BooksAreRight, FaultsAreOne, HaveSamePages}
 use Rattle.alert_book.specs.Row.{row_of}
 use Rattle.alert_book.proofs.OneAnswer.{fault_stays, one_meaning, reached_either, right_or_wrong}
@@ -134,48 +135,55 @@ paged_wrong [] x after (p ∷ ps) f have wrong = no_pages x f p wrong have.0
 paged_wrong (o ∷ os) x after [] f have wrong = have
 paged_wrong (o ∷ os) x after (p ∷ ps) f have wrong = paged_wrong os x after ps f have.1 wrong
 
+-- octets that mean rows whose orders have pages have no fault, neither of a row nor of a text
+pub right_rows : (meaning : RowMeaning) (input : List ℕ) (rows : Rows) (pages : List (Option Paged)) (f : BookFault) →
+    AreRowsBy meaning input rows → HavePages rows.orders pages →
+    IsRowFaultBy meaning input f ⊎ HasTextFaultBy meaning input f → ⊥
+right_rows meaning input rows pages f are paged (inl row) = right_or_wrong meaning input rows f are row
+right_rows meaning input rows pages f are paged (inr named) =
+    let same = one_meaning meaning input rows named.rows are named.meant in
+    let orders : rows.orders ≡ named.wrong.before ++ named.wrong.order ∷ named.wrong.after =
+    ap (λ (r : Rows). r.orders) same ∙ named.wrong.split in
+    paged_wrong named.wrong.before named.wrong.order named.wrong.after pages f
+    (subst (λ (o : List Order). HavePages o pages) orders paged) (wrong_order named.rows.orders f named.wrong)
+
 -- octets that are a book have no fault
 pub books_are_right : BooksAreRight
-books_are_right input book f is wrong = elim wrong.1 [
-  | inl row ↦ right_or_wrong row_of input (rows_with book.cells book.orders) f is.rows row
-  | inr named ↦
-      let rows = one_meaning row_of input (rows_with book.cells book.orders) named.rows is.rows named.meant in
-      let orders : book.orders ≡ named.wrong.before ++ named.wrong.order ∷ named.wrong.after =
-      ap (λ (r : Rows). r.orders) rows ∙ named.wrong.split in
-      paged_wrong named.wrong.before named.wrong.order named.wrong.after book.pages f
-      (subst (λ (o : List Order). HavePages o book.pages) orders is.paged)
-      (wrong_order named.rows.orders f named.wrong)
-]
+books_are_right input book f is wrong =
+    right_rows row_of input (rows_with book.cells book.orders) book.pages f is.rows is.paged wrong.1
 
 -- a row's fault is one
 one_err : (r : Result Rows BookFault) (f g : BookFault) → r ≡ Err f → r ≡ Err g → f ≡ g
 one_err r f g one other = cc
 
-one_row_fault : (input : List ℕ) (f g : BookFault) → IsRowFault input f → IsRowFault input g → f ≡ g
-one_row_fault input f g one two =
+one_row_fault : (meaning : RowMeaning) (input : List ℕ) (f g : BookFault) → IsRowFaultBy meaning input f →
+    IsRowFaultBy meaning input g → f ≡ g
+one_row_fault meaning input f g one two =
     elim (reached_either _ _ _ one.records two.records _ _ _ _ one.read two.read) [
       | inl m ↦
-          let more = fault_stays row_of 1 (rows_with [] []) one.records m.0 f one.wrong in
-          one_err (rows_of two.records) f g (ap rows_of m.1 ∙ more) two.wrong
+          let more = fault_stays meaning 1 (rows_with [] []) one.records m.0 f one.wrong in
+          one_err (rows_by meaning two.records) f g (ap (rows_by meaning) m.1 ∙ more) two.wrong
       | inr m ↦
-          let more = fault_stays row_of 1 (rows_with [] []) two.records m.0 g two.wrong in
-          one_err (rows_of one.records) f g one.wrong (ap rows_of m.1 ∙ more)
+          let more = fault_stays meaning 1 (rows_with [] []) two.records m.0 g two.wrong in
+          one_err (rows_by meaning one.records) f g one.wrong (ap (rows_by meaning) m.1 ∙ more)
     ]
 
-one_text_fault : (input : List ℕ) (f g : BookFault) → HasTextFault input f → HasTextFault input g → f ≡ g
-one_text_fault input f g one two =
-    let rows = one_meaning row_of input one.rows two.rows one.meant two.meant in
+one_text_fault : (meaning : RowMeaning) (input : List ℕ) (f g : BookFault) → HasTextFaultBy meaning input f →
+    HasTextFaultBy meaning input g → f ≡ g
+one_text_fault meaning input f g one two =
+    let rows = one_meaning meaning input one.rows two.rows one.meant two.meant in
     one_wrong_text two.rows.orders f g (subst (λ (r : Rows). HasWrongText r.orders f) rows one.wrong) two.wrong
+
+-- octets have one fault at most, of a row or else of a text, whatever rows mean
+pub one_fault : (meaning : RowMeaning) (input : List ℕ) (f g : BookFault) →
+    IsRowFaultBy meaning input f ⊎ HasTextFaultBy meaning input f →
+    IsRowFaultBy meaning input g ⊎ HasTextFaultBy meaning input g → f ≡ g
+one_fault meaning input f g (inl row) (inl other) = one_row_fault meaning input f g row other
+one_fault meaning input f g (inl row) (inr other) = absurd (right_or_wrong meaning input other.rows f other.meant row)
+one_fault meaning input f g (inr named) (inl other) = absurd
+    (right_or_wrong meaning input named.rows g named.meant other)
+one_fault meaning input f g (inr named) (inr other) = one_text_fault meaning input f g named other
 
 -- octets have one fault at most
 pub faults_are_one : FaultsAreOne
-faults_are_one input f g one two = elim one.1 [
-  | inl row ↦ elim two.1 [
-    | inl other ↦ one_row_fault input f g row other
-    | inr other ↦ absurd (right_or_wrong row_of input other.rows f other.meant row)
-  ]
-  | inr named ↦ elim two.1 [
-    | inl other ↦ absurd (right_or_wrong row_of input named.rows g named.meant other)
-    | inr other ↦ one_text_fault input f g named other
-  ]
-]
+faults_are_one input f g one two = one_fault row_of input f g one.1 two.1

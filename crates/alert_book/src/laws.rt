@@ -3,7 +3,8 @@
 ghost use Rattle.alert_book.specs.Laws.{BooksAreOne, BooksAreRight, CellsAreValid, FaultsAreOne, OrdersAreFew};
 ghost use Rattle.alert_book.specs.Laws.{RowsAreFew, RowsAreOne, RowsAreRightOrWrong};
 ghost use Rattle.alert_book.specs.LastAccepted.{LastAcceptedIsReplaced};
-ghost use Rattle.alert_book.specs.NetworkLaws.{BooksAreNetworks};
+ghost use Rattle.alert_book.specs.NetworkLaws.{BooksAreNetworks, CountsAreOne, NetworkFaultsAreOne, NetworksAreOne};
+ghost use Rattle.alert_book.specs.NetworkLaws.{NetworksAreRight};
 ghost use Rattle.alert_book.specs.Texts.{TextsAreUtf8};
 ghost use Rattle.alert_book.specs.TurnLaws.{AsksOncePerOrder, RequestsAreWritable, RequestsComeOfOrders, SessionsEnd};
 
@@ -22,9 +23,15 @@ pub fn book_laws()
     ensures orders { OrdersAreFew }
 {}
 
-/// A book is a network book of one group, whose book it is. It does nothing: its contract is the law.
+/// A book is a network book of one group, whose book it is. All groups see one network: octets that are a network book
+/// for one group are one for each, with the same cells and so as many groups, and have no fault. The fault of octets
+/// that are none is the same for all groups. It does nothing: its contract is the law.
 pub fn network_laws()
-    ensures { BooksAreNetworks }
+    ensures book { BooksAreNetworks }
+    ensures one_network { NetworksAreOne }
+    ensures one_count { CountsAreOne }
+    ensures network_or_fault { NetworksAreRight }
+    ensures one_fault { NetworkFaultsAreOne }
 {}
 
 /// States, as its contract, what holds of the turns of every session of a book, or of a group's, whatever the replies
