@@ -17,6 +17,8 @@ use Rattle.gsmtap.specs.declared.capture.Slots.TheVariants.{All, Used}
 use Rattle.gsmtap.specs.declared.packet.Channel.{Channel}
 use Rattle.gsmtap.specs.declared.tape.Wanted.{Wanted}
 use Rattle.gsmtap.specs.declared.packet.Channel.TheVariants.{Basic, Extended}
+use Rattle.warnc_run.specs.declared.network.Product.{Product}
+use Rattle.warnc_run.specs.declared.network.Product.TheVariants as product
 
 -- the words give the option of this name this value: as the word after its name, or in one word with it, after `=`
 abbrev pub GivesValue : (words : List (List ℕ)) (name value : List ℕ) → Type 0
@@ -152,6 +154,7 @@ pub record AsksForTape (words : List (List ℕ)) (wanted : Wanted) : Type 0 wher
 -- the words ask for `compile` of a book or a group, with this number of slots and of workers
 pub record AsksForCompile (words : List (List ℕ)) (from : Origin) (slots workers : ℕ) : Type 0 where
   pub command : slice_get words 1 ≡ Some (codes "compile")
+  pub not_all : is_given words (codes "--network") ≡ false
   pub origin_given : GivesOrigin words from
   pub slots_given : GivesSlots words slots
   pub workers_given : GivesThreads words (codes "--workers") workers
@@ -159,7 +162,20 @@ pub record AsksForCompile (words : List (List ℕ)) (from : Origin) (slots worke
 -- the words ask for `report` of a book or a group, with this number of slots and of workers
 pub record AsksForReport (words : List (List ℕ)) (from : Origin) (slots workers : ℕ) : Type 0 where
   pub command : slice_get words 1 ≡ Some (codes "report")
+  pub not_all : is_given words (codes "--network") ≡ false
   pub origin_given : GivesOrigin words from
+  pub slots_given : GivesSlots words slots
+  pub workers_given : GivesThreads words (codes "--workers") workers
+
+-- the command that makes this of each group
+abbrev pub command_of : Product → List ℕ
+command_of product.Tapes = codes "compile"
+command_of product.Report = codes "report"
+
+-- the words ask for `compile` or `report` of all groups of a network: one of them begins with the name `--network`
+pub record AsksForNetwork (words : List (List ℕ)) (made : Product) (slots workers : ℕ) : Type 0 where
+  pub command : slice_get words 1 ≡ Some (command_of made)
+  pub all : is_given words (codes "--network") ≡ true
   pub slots_given : GivesSlots words slots
   pub workers_given : GivesThreads words (codes "--workers") workers
 

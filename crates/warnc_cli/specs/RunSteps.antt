@@ -5,13 +5,13 @@ use Rattle.std.specs.Io.KnownBytes.{Keeps}
 use Rattle.device_ends.specs.Sink.{sink_failed}
 use Rattle.device_ends.specs.declared.reading.Source.{Source}
 use Rattle.device_ends.specs.declared.writing.Sink.{Sink}
-use Rattle.warnc_cli.specs.CommandLine.{AsksForChart, AsksForCompile, AsksForGroups, AsksForLive, AsksForPage}
-use Rattle.warnc_cli.specs.CommandLine.{AsksForPcap, AsksForRead, AsksForReport, AsksForTape, AsksForVerify}
+use Rattle.warnc_cli.specs.CommandLine.{AsksForChart, AsksForCompile, AsksForGroups, AsksForLive, AsksForNetwork}
+use Rattle.warnc_cli.specs.CommandLine.{AsksForPage, AsksForPcap, AsksForRead, AsksForReport, AsksForTape}
+use Rattle.warnc_cli.specs.CommandLine.{AsksForVerify}
 use Rattle.warnc_cli.specs.Status.{OneHasFailed, status_of_book_fault}
 use Rattle.warnc_cli.specs.declared.command.Task.{Task}
-use Rattle.warnc_cli.specs.declared.command.Task.TheVariants.{Chart, Compile, Groups, Live, Page, Pcap, Read, Report}
-use Rattle.warnc_cli.specs.declared.command.Task.TheVariants.{Tape}
-use Rattle.warnc_cli.specs.declared.command.Task.TheVariants.{Verify}
+use Rattle.warnc_cli.specs.declared.command.Task.TheVariants.{Chart, Compile, Groups, Live, Network, Page, Pcap, Read}
+use Rattle.warnc_cli.specs.declared.command.Task.TheVariants.{Report, Tape, Verify}
 use Rattle.order_desk.specs.declared.fault.DeskFault.{DeskFault}
 use Rattle.order_desk.specs.declared.fault.DeskFault.TheVariants as desk
 use Rattle.order_desk.specs.declared.settle.SettleFault.{SettleFault}
@@ -22,6 +22,8 @@ use Rattle.warnc_run.specs.declared.fault.RunFault.{RunFault}
 use Rattle.warnc_run.specs.declared.fault.RunFault.TheVariants as run
 use Rattle.warnc_run.specs.declared.groups.GroupsFault.{GroupsFault}
 use Rattle.warnc_run.specs.declared.groups.GroupsFault.TheVariants as groups
+use Rattle.warnc_run.specs.declared.network.NetworkFault.{NetworkFault}
+use Rattle.warnc_run.specs.declared.network.NetworkFault.TheVariants as network
 use Rattle.report.specs.declared.fault.ReportFault.{ReportFault}
 use Rattle.report.specs.declared.fault.ReportFault.TheVariants as report
 use Rattle.warnc_inspect.specs.declared.read.ReadCommandFault.{ReadCommandFault}
@@ -40,6 +42,7 @@ abbrev pub IsTaskOf : (words : List (List ℕ)) → Task → Type 0
 IsTaskOf words (Page options) = AsksForPage words options.language.now options.id options.serial
 IsTaskOf words Read = AsksForRead words
 IsTaskOf words Groups = AsksForGroups words
+IsTaskOf words (Network made slots workers) = AsksForNetwork words made slots workers.number
 IsTaskOf words (Pcap settings) = AsksForPcap words settings
 IsTaskOf words (Tape wanted) = AsksForTape words wanted
 IsTaskOf words (Compile from slots workers) = AsksForCompile words from slots workers.number
@@ -110,6 +113,12 @@ status_of_groups_fault (groups.Network f) = status_of_book_fault f
 status_of_groups_fault groups.Refused = 4
 status_of_groups_fault groups.WriteFailed = 3
 
+-- the status of a fault of a network
+abbrev pub status_of_network_fault : NetworkFault → ℕ
+status_of_network_fault (network.Network f) = status_of_book_fault f
+status_of_network_fault (network.Group group f) = status_of_run_fault f
+status_of_network_fault network.WriteFailed = 3
+
 -- the status of a fault of tapes
 abbrev pub status_of_tapes_fault : TapeFault → ℕ
 status_of_tapes_fault tapes.Short = 1
@@ -154,6 +163,15 @@ pub record IsVerifyRunBetween {R W : Type 0} (status : ℕ) (source : Source R) 
   -- with 2 and 4 nothing was written, and the sink is as it was
   pub nothing_written : status ≢ 0 → status ≢ 1 → status ≢ 3 → Keeps before after
   pub untouched : status ≢ 0 → status ≢ 1 → status ≢ 3 → new ≡ old
+  -- it is no mistake of the words
+  pub understood : status ≢ 2
+  -- it is 3 exactly if one of the ends has failed
+  pub device : status ≡ 3 → OneHasFailed source new
+  pub failed : sink_failed old ≡ false → OneHasFailed source new → status ≡ 3
+
+-- the same of a network's run, which has written the first groups with 1 and 4
+pub record IsNetworkRunBetween {R W : Type 0} (status : ℕ) (source : Source R) (old new : Sink W) : Type 0 where
+  pub statuses : status ≤ 4
   -- it is no mistake of the words
   pub understood : status ≢ 2
   -- it is 3 exactly if one of the ends has failed

@@ -17,14 +17,13 @@ use Rattle.handset.specs.Tape.{IsShort, IsLong}
 use Rattle.alert_book.specs.declared.network.Origin.{Origin}
 use Rattle.alert_book.specs.declared.network.Origin.TheVariants as origin
 use Rattle.alert_book.specs.Book.{Contents, IsWrong, max_book}
-use Rattle.alert_book.specs.Network.{HasGroups, IsWrongNetwork, max_network}
+use Rattle.alert_book.specs.Network.{HasGroups, IsGroupBook, IsWrongNetwork, max_network}
 use Rattle.alert_book.specs.Origin.{IsBookFrom}
 use Rattle.alert_book.specs.declared.fault.BookFault.{BookFault}
 use Rattle.alert_book.specs.declared.fault.BookFaultKind.{BookFaultKind}
 use Rattle.alert_book.specs.declared.fault.BookFaultKind.TheVariants as kinds
 use Rattle.warnc_cli.specs.CommandLine.{asks_for_text, is_given, AsksForChart, AsksForCompile, AsksForGroups}
-use Rattle.warnc_cli.specs.CommandLine.{AsksForLive}
-use Rattle.warnc_cli.specs.CommandLine.{AsksForPage}
+use Rattle.warnc_cli.specs.CommandLine.{AsksForLive, AsksForNetwork, AsksForPage}
 use Rattle.warnc_cli.specs.CommandLine.{AsksForPcap, AsksForRead, AsksForReport, AsksForTape, AsksForVerify}
 use Rattle.warnc_run.specs.declared.fault.RunFault.{RunFault}
 use Rattle.warnc_verify.specs.Input.{Differs, HasDifferences, IsVerified}
@@ -33,6 +32,8 @@ use Rattle.warnc_run.specs.Charted.{IsCharted}
 use Rattle.warnc_run.specs.Compiled.{IsCompiledFrom, StopsRun}
 use Rattle.warnc_run.specs.Groups.{IsGroupCount}
 use Rattle.warnc_run.specs.Live.{IsLiveFrom}
+use Rattle.warnc_run.specs.Network.{AreFirstParts, IsOfNetwork}
+use Rattle.warnc_run.specs.declared.network.Product.{Product}
 use Rattle.warnc_run.specs.Reported.{IsReportedFrom}
 use Rattle.warnc_inspect.specs.PageOutput.{IsPageFault, IsPageOutput}
 use Rattle.warnc_inspect.specs.ReadOutput.{IsReadOutput}
@@ -90,6 +91,11 @@ IsNoBookFrom (origin.Group group) input = IsNoNetwork group input
 abbrev pub IsNoRun : (from : Origin) (slots parts : ℕ) (input : List ℕ) → Type 0
 IsNoRun from slots parts input = IsNoBookFrom from input
     ⊎ ((book : Contents) × IsBookFrom from input book × ((fault : RunFault) × StopsRun book slots parts fault))
+
+-- the input is no network book, or the run of the book of one of its groups ends early
+abbrev pub IsNoNetworkRun : (slots : ℕ) (input : List ℕ) → Type 0
+IsNoNetworkRun slots input = IsNoNetwork 0 input ⊎ ((group : ℕ) × (book : Contents) × IsGroupBook group input book
+    × ((fault : RunFault) × StopsRun book slots 1 fault))
 
 -- the input has no tapes that keep its book: it is shorter than the book is said to be, or the book is none or has no
 -- run, or what follows it is no whole tapes, or there is a difference
@@ -205,10 +211,20 @@ pub record WroteGroups (words : List (List ℕ)) (input old new : Option (List �
   pub asked : AsksForGroups words
   pub wrote : WritesOutput IsGroupCount input old new
 
+-- the words ask for `compile` or `report` of a network, and what was written is the parts of all its groups, in runs of
+-- as many slots as the words say, whatever the number of workers
+pub record WroteNetwork (words : List (List ℕ)) (input old new : Option (List ℕ)) : Type 0 where
+  pub made : Product
+  pub slots : ℕ
+  pub workers : ℕ
+  pub asked : AsksForNetwork words made slots workers
+  pub wrote : WritesOutput (IsOfNetwork made slots) input old new
+
 abbrev pub WroteWhatIsAsked : (words : List (List ℕ)) (input old new : Option (List ℕ)) → Type 0
 WroteWhatIsAsked words input old new = WroteText words old new ⊎
     (WrotePages words input old new
-    ⊎ ((WroteTable words input old new ⊎ WroteGroups words input old new) ⊎ (WroteCapture words input old new
+    ⊎ ((WroteTable words input old new ⊎ (WroteGroups words input old new ⊎ WroteNetwork words input old new))
+    ⊎ (WroteCapture words input old new
     ⊎ (WroteTape words input old new ⊎ (WroteTapes words input old new
     ⊎ (WroteLiveTapes words input old new ⊎ (WroteReport words input old new
     ⊎ (WroteChart words input old new ⊎ WroteVerified words input old new))))))))
@@ -287,19 +303,29 @@ pub record RefusesGroups (words : List (List ℕ)) (input : Option (List ℕ)) :
   pub asked : AsksForGroups words
   pub refused : IfSome input (IsNoNetwork 0)
 
+-- the words ask for `compile` or `report` of a network, and the input is no network book, or a group of it has no run
+pub record RefusesNetworkBook (words : List (List ℕ)) (input : Option (List ℕ)) : Type 0 where
+  pub made : Product
+  pub slots : ℕ
+  pub workers : ℕ
+  pub asked : AsksForNetwork words made slots workers
+  pub refused : IfSome input (IsNoNetworkRun slots)
+
 abbrev pub RefusesInput : (words : List (List ℕ)) (input : Option (List ℕ)) → Type 0
 RefusesInput words input =
-    RefusesText words input ⊎ ((RefusesTapes words input ⊎ RefusesGroups words input)
-    ⊎ (RefusesCapture words input ⊎ (RefusesAir words input
+    RefusesText words input ⊎ ((RefusesTapes words input
+    ⊎ (RefusesGroups words input ⊎ RefusesNetworkBook words input)) ⊎ (RefusesCapture words input ⊎ (RefusesAir words input
     ⊎ (RefusesAlerts words input ⊎ (RefusesLiveAlerts words input ⊎ (RefusesReportedAlerts words input
     ⊎ (RefusesChartedAlerts words input ⊎ RefusesVerified words input)))))))
 
 -- What may be written with a status.
 
--- something may be written with 0 and 3, and with 1 by `verify` alone
+-- something may be written with 0 and 3, with 1 by `verify`, and with 1 and 4 of a network, some groups of which were
+-- written before one ended early
 abbrev pub MayWrite : (words : List (List ℕ)) → (status : ℕ) → Type 0
-MayWrite words status =
-    (status ≡ 0) ⊎ ((status ≡ 3) ⊎ ((status ≡ 1) × (slice_get words 1 ≡ Some (codes "verify"))))
+MayWrite words status = (status ≡ 0) ⊎ ((status ≡ 3)
+    ⊎ (((status ≡ 1) × (slice_get words 1 ≡ Some (codes "verify")))
+    ⊎ (((status ≡ 1) ⊎ (status ≡ 4)) × (is_given words (codes "--network") ≡ true))))
 
 -- the words ask for `verify`, and what was written is the table of the differences, of which there is one at least
 pub record WroteDifferences (words : List (List ℕ)) (input old new : Option (List ℕ)) : Type 0 where
@@ -310,8 +336,19 @@ pub record WroteDifferences (words : List (List ℕ)) (input old new : Option (L
   pub asked : AsksForVerify words from slots octets workers
   pub wrote : WritesOutput (HasDifferences from slots octets) input old new
 
-abbrev pub WroteNoneOrDifferences : (words : List (List ℕ)) (input old new : Option (List ℕ)) → Type 0
-WroteNoneOrDifferences words input old new = Keeps old new ⊎ WroteDifferences words input old new
+-- the words ask for `compile` or `report` of a network, and what was written is the parts of some first groups
+pub record WroteFirstGroups (words : List (List ℕ)) (input old new : Option (List ℕ)) : Type 0 where
+  pub made : Product
+  pub slots : ℕ
+  pub workers : ℕ
+  pub asked : AsksForNetwork words made slots workers
+  pub count : ℕ
+  pub wrote : WritesOutput (AreFirstParts made slots count) input old new
+
+-- what was written with status 1: nothing, or the differences, or the first groups of a network
+abbrev pub WroteOfRefused : (words : List (List ℕ)) (input old new : Option (List ℕ)) → Type 0
+WroteOfRefused words input old new =
+    Keeps old new ⊎ (WroteDifferences words input old new ⊎ WroteFirstGroups words input old new)
 
 -- one of the two ends has failed
 abbrev pub OneHasFailed : {R W : Type 0} → Source R → Sink W → Type 0

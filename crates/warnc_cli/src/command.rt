@@ -1,10 +1,10 @@
 //! The command line: which words are taken, and what they mean.
 
-ghost use Rattle.std.specs.Prelude.{◌≡◌, ◌<◌, ◌∷◌, ◌++◌, ◌⊎◌, false, IfOk, IfSome, codes, map, slice_get};
+ghost use Rattle.std.specs.Prelude.{◌≡◌, ◌<◌, ◌∷◌, ◌++◌, ◌⊎◌, false, true, IfOk, IfSome, Some, codes, map, slice_get};
 ghost use Rattle.warnc_cli.specs.CommandLine.{asks_for_text, begins_with, is_given, is_text_word, GivesNumber};
 ghost use Rattle.warnc_cli.specs.CommandLine.{GivesChannel, GivesSlots, GivesThreads, GivesValue, AsksForPage};
 ghost use Rattle.warnc_cli.specs.CommandLine.{GivesCell, GivesFrom, GivesWanted, IsAddress, IsCell, IsNumber};
-ghost use Rattle.warnc_cli.specs.CommandLine.{slots_given, GivesOrigin};
+ghost use Rattle.warnc_cli.specs.CommandLine.{command_of, slots_given, GivesOrigin};
 ghost use Rattle.warnc_cli.specs.RunSteps.{IsTaskOf};
 
 use alert_book::Origin;
@@ -14,7 +14,7 @@ use clap::{Arg, ArgAction, Command, Error, value_parser};
 use gsmtap::{Channel, Settings, Slots, Wanted};
 use std::alloc::{AllocError, Global};
 use std::convert::AsStr;
-use warnc_run::{Sessions, Workers};
+use warnc_run::{Product, Sessions, Workers};
 
 /// The options of `page`: the language's word, the message identifier and the serial number.
 #[derive(Clone, Copy, Debug, PartialEq, Eq)]
@@ -59,6 +59,15 @@ pub enum Task<'a> {
         /// How many slots each cell's run has, at least 1.
         slots: u16,
         /// How many workers play the cells and make their tapes.
+        workers: Workers,
+    },
+    /// `compile` or `report` of all groups of a network book.
+    Network {
+        /// What is made of each group.
+        made: Product,
+        /// How many slots each cell's run has, at least 1.
+        slots: u16,
+        /// How many groups are run side by side.
         workers: Workers,
     },
     /// `verify`.
@@ -130,16 +139,8 @@ fn task_in<'a, S: AsStr>(words: &'a [S]) -> Option<Task<'a>>
             from: from_in(words)?,
         })),
         "groups" => Some(Task::Groups),
-        "compile" => Some(Task::Compile {
-            origin: origin_in(words)?,
-            slots: slots_in(words)?,
-            workers: workers_in(words)?,
-        }),
-        "report" => Some(Task::Report {
-            origin: origin_in(words)?,
-            slots: slots_in(words)?,
-            workers: workers_in(words)?,
-        }),
+        "compile" => compile_in(words),
+        "report" => report_in(words),
         "verify" => Some(Task::Verify {
             origin: origin_in(words)?,
             slots: slots_in(words)?,
@@ -159,6 +160,49 @@ fn task_in<'a, S: AsStr>(words: &'a [S]) -> Option<Task<'a>>
         }),
         _ => None,
     }
+}
+
+/// The `compile` that the words ask for.
+fn compile_in<'a, S: AsStr>(words: &'a [S]) -> Option<Task<'a>>
+    requires { slice_get (map S.text words.now) 1 ≡ Some (codes "compile") }
+    ensures { IfSome result (IsTaskOf (map S.text words.now)) }
+{
+    if is_given(words, "--network") {
+        return network_in(words, Product::Tapes);
+    }
+    Some(Task::Compile {
+        origin: origin_in(words)?,
+        slots: slots_in(words)?,
+        workers: workers_in(words)?,
+    })
+}
+
+/// The `report` that the words ask for.
+fn report_in<'a, S: AsStr>(words: &'a [S]) -> Option<Task<'a>>
+    requires { slice_get (map S.text words.now) 1 ≡ Some (codes "report") }
+    ensures { IfSome result (IsTaskOf (map S.text words.now)) }
+{
+    if is_given(words, "--network") {
+        return network_in(words, Product::Report);
+    }
+    Some(Task::Report {
+        origin: origin_in(words)?,
+        slots: slots_in(words)?,
+        workers: workers_in(words)?,
+    })
+}
+
+/// What the words ask for of all groups of a network.
+fn network_in<'a, S: AsStr>(words: &'a [S], made: Product) -> Option<Task<'a>>
+    requires command { slice_get (map S.text words.now) 1 ≡ Some (command_of made) }
+    requires all { is_given (map S.text words.now) (codes "--network") ≡ true }
+    ensures { IfSome result (IsTaskOf (map S.text words.now)) }
+{
+    Some(Task::Network {
+        made,
+        slots: slots_in(words)?,
+        workers: workers_in(words)?,
+    })
 }
 
 /// The options that the words give `page`.
@@ -517,6 +561,7 @@ fn compile<'a>(alloc: Global) -> Result<Command<'a>, AllocError> {
         .after_help("Example: warnc compile --slots 4096 --workers 4 < book.csv > tapes")
         .arg(slots(alloc))?
         .arg(group(alloc))?
+        .arg(network(alloc)?)?
         .arg(workers(alloc))
 }
 
@@ -529,6 +574,7 @@ fn report<'a>(alloc: Global) -> Result<Command<'a>, AllocError> {
         .after_help("Example: warnc report --slots 4096 < book.csv")
         .arg(slots(alloc))?
         .arg(group(alloc))?
+        .arg(network(alloc)?)?
         .arg(workers(alloc))
 }
 
@@ -606,6 +652,16 @@ fn group<'a>(alloc: Global) -> Arg<'a> {
     .value_parser(value_parser!(u16))
 }
 
+/// The option of all groups of a network book.
+fn network<'a>(alloc: Global) -> Result<Arg<'a>, AllocError> {
+    flag(
+        alloc,
+        "network",
+        "Takes the input for a network book, and writes what --group writes of each of its groups, in order",
+    )
+    .conflicts_with("group")
+}
+
 /// The option of the number of sessions.
 fn sessions<'a>(alloc: Global) -> Arg<'a> {
     threads(
@@ -622,7 +678,7 @@ fn workers<'a>(alloc: Global) -> Arg<'a> {
         alloc,
         "workers",
         "WORKERS",
-        "How many workers play cells and make tapes side by side, 1 to 64; 1 if it isn't given",
+        "How many workers play cells and make tapes, or run groups, side by side, 1 to 64; 1 if it isn't given",
     )
 }
 

@@ -9,16 +9,17 @@ ghost use Rattle.warnc_run.specs.Charted.{IsCharted};
 ghost use Rattle.warnc_run.specs.Compiled.{IsCompiledFrom};
 ghost use Rattle.warnc_run.specs.Groups.{IsGroupCount};
 ghost use Rattle.warnc_run.specs.Live.{IsLiveFrom};
+ghost use Rattle.warnc_run.specs.Network.{AreFirstParts, IsOfNetwork};
 ghost use Rattle.warnc_run.specs.Reported.{IsReportedFrom};
 ghost use Rattle.gsmtap.specs.Capture.{IsCapture};
 ghost use Rattle.gsmtap.specs.TapeOfCapture.{IsTapeOfCapture};
 ghost use Rattle.warnc_inspect.specs.PageOutput.{IsPageOutput};
 ghost use Rattle.warnc_inspect.specs.ReadOutput.{IsReadOutput};
 ghost use Rattle.warnc_verify.specs.Input.{HasDifferences, IsVerified};
-ghost use Rattle.warnc_cli.specs.RunSteps.{IsRunBetween, IsStatusOfSink, IsVerifyRunBetween};
-ghost use Rattle.warnc_cli.specs.Status.{IsNoAir, IsNoNetwork, IsNoRun, IsNoTapes, IsRefused, OneHasFailed};
-ghost use Rattle.warnc_cli.specs.Status.{RefusesInput};
-ghost use Rattle.warnc_cli.specs.Status.{IsNotVerified, MayWrite, WritesSome, WroteNoneOrDifferences};
+ghost use Rattle.warnc_cli.specs.RunSteps.{IsNetworkRunBetween, IsRunBetween, IsStatusOfSink, IsVerifyRunBetween};
+ghost use Rattle.warnc_cli.specs.Status.{IsNoAir, IsNoNetwork, IsNoNetworkRun, IsNoRun, IsNoTapes, IsRefused};
+ghost use Rattle.warnc_cli.specs.Status.{OneHasFailed, RefusesInput};
+ghost use Rattle.warnc_cli.specs.Status.{IsNotVerified, MayWrite, WritesSome, WroteOfRefused};
 ghost use Rattle.warnc_cli.specs.Status.{ByInput, WritesSomeUnlessTapes, WroteWhatIsAsked};
 ghost use Rattle.device_ends.specs.Stream.{Writes};
 
@@ -41,8 +42,8 @@ use warnc_air::tape::tape_stream;
 use warnc_inspect::page::page_stream;
 use warnc_inspect::read::read_stream;
 use warnc_run::{
-    ReportRunFault, Sessions, Workers, chart_stream, compile_from, groups_stream, live_from,
-    report_from,
+    Product, ReportRunFault, Sessions, Workers, chart_stream, compile_from, groups_stream,
+    live_from, network_stream, report_from,
 };
 use warnc_verify::verify_input;
 
@@ -67,8 +68,9 @@ pub fn run<T: AllocGlobal + Threads + Wait + Sync, S: AsStr, R: Read, W: Write, 
 }
 
 /// The same, between two ends. With status 0 what the words ask for is written, with 2 and 4 nothing is, and with 1 the
-/// differences, if the words ask for `verify` and there are some, and else nothing. That is one octet at least, but for
-/// `compile` and `live`, since a book without cells has no tapes, and for the report of a group.
+/// differences, if the words ask for `verify` and there are some, and else nothing; but of a network whose run ended
+/// early the first groups are, with 1 and with 4. That is one octet at least, but for `compile` and `live`, since a book
+/// without cells has no tapes, and for the report of a group.
 pub fn run_between<T: AllocGlobal + Threads + Wait + Sync, S: AsStr, R: Read, W: Write, F: Write>(
     rt: &T,
     words: &[S],
@@ -84,7 +86,7 @@ pub fn run_between<T: AllocGlobal + Threads + Wait + Sync, S: AsStr, R: Read, W:
         → Keeps (W.contents (writer_of sink.old)) (W.contents (writer_of sink.new)) }
     ensures untouched { (MayWrite (map S.text words.now) result → ⊥) → sink.new ≡ sink.old }
     ensures differences { result ≡ REFUSED_INPUT → ByInput R.remaining W.contents
-        (WroteNoneOrDifferences (map S.text words.now)) source.old sink.old sink.new }
+        (WroteOfRefused (map S.text words.now)) source.old sink.old sink.new }
     ensures refused { result ≡ REFUSED_INPUT
         → RefusesInput (map S.text words.now) (R.remaining (reader_of source.old)) }
     ensures device { result ≡ DEVICE → OneHasFailed source.new sink.new }
@@ -111,6 +113,11 @@ pub fn run_between<T: AllocGlobal + Threads + Wait + Sync, S: AsStr, R: Read, W:
                 slots,
                 workers,
             } => run_report(rt, origin, slots, workers, source, sink, faults),
+            Task::Network {
+                made,
+                slots,
+                workers,
+            } => run_network(rt, made, slots, workers, source, sink, faults),
             Task::Verify {
                 origin,
                 slots,
@@ -335,6 +342,32 @@ fn run_report<T: AllocGlobal + Threads + Wait + Sync, R: Read, W: Write, F: Writ
         Ok(()) => DONE,
         Err(ReportRunFault::Run(fault)) => failed(&fault, faults),
         Err(ReportRunFault::Report(fault)) => failed(&fault, faults),
+    }
+}
+
+/// Runs `compile` or `report` of all groups of a network, and returns the status.
+fn run_network<T: AllocGlobal + Threads + Wait + Sync, R: Read, W: Write, F: Write>(
+    rt: &T,
+    made: Product,
+    slots: u16,
+    workers: Workers,
+    source: &mut Source<R>,
+    sink: &mut Sink<W>,
+    faults: &mut F,
+) -> u8
+    ensures done { result ≡ DONE → WritesOutput (IsOfNetwork made slots)
+        (R.remaining (reader_of source.old)) (W.contents (writer_of sink.old)) (W.contents (writer_of sink.new)) }
+    ensures any_ends { IsNetworkRunBetween result source.new sink.old sink.new }
+    ensures wrote { result ≡ DONE → made ≡ Product.Report
+        → WritesSome (W.contents (writer_of sink.old)) (W.contents (writer_of sink.new)) }
+    ensures refused { result ≡ REFUSED_INPUT → IfSome (R.remaining (reader_of source.old)) (IsNoNetworkRun slots) }
+    ensures first_groups { result ≡ REFUSED_INPUT → Keeps (W.contents (writer_of sink.old))
+        (W.contents (writer_of sink.new)) ⊎ ((count : ℕ) × WritesOutput (AreFirstParts made slots count)
+        (R.remaining (reader_of source.old)) (W.contents (writer_of sink.old)) (W.contents (writer_of sink.new))) }
+{
+    match network_stream(rt, source, sink, made, slots, workers) {
+        Ok(()) => DONE,
+        Err(fault) => failed(&fault, faults),
     }
 }
 

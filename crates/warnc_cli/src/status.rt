@@ -1,7 +1,8 @@
 //! The statuses of a run, and which fault ends one with which status.
 
 ghost use Rattle.std.specs.Prelude.{◌≡◌, ℕ};
-ghost use Rattle.warnc_cli.specs.RunSteps.{status_of_groups_fault, status_of_pcap_fault, status_of_read_fault};
+ghost use Rattle.warnc_cli.specs.RunSteps.{status_of_groups_fault, status_of_network_fault, status_of_pcap_fault};
+ghost use Rattle.warnc_cli.specs.RunSteps.{status_of_read_fault};
 ghost use Rattle.warnc_cli.specs.RunSteps.{status_of_run_fault, status_of_tape_fault, status_of_tapes_fault};
 ghost use Rattle.warnc_cli.specs.RunSteps.{status_of_report_fault, status_of_verify_fault};
 ghost use Rattle.warnc_cli.specs.Status.{status_of_book_fault, status_of_page_fault};
@@ -18,7 +19,7 @@ use warnc_air::pcap::PcapFault;
 use warnc_air::tape::TapeCommandFault;
 use warnc_inspect::page::PageFault;
 use warnc_inspect::read::ReadCommandFault;
-use warnc_run::{GroupsFault, RunFault};
+use warnc_run::{GroupsFault, NetworkFault, RunFault};
 use warnc_verify::VerifyFault;
 
 /// All was done, or help was written.
@@ -128,6 +129,18 @@ impl Fault for GroupsFault {
             GroupsFault::Network(fault) => status_of_book(fault),
             GroupsFault::Refused => MEMORY,
             GroupsFault::WriteFailed => DEVICE,
+        }
+    }
+}
+
+impl Fault for NetworkFault {
+    ghost status_of = { status_of_network_fault };
+
+    fn status(&self) -> u8 {
+        match *self {
+            NetworkFault::Network(fault) => status_of_book(fault),
+            NetworkFault::Group { fault, .. } => fault.status(),
+            NetworkFault::WriteFailed => DEVICE,
         }
     }
 }

@@ -5,3 +5,4 @@ pub mod Asked
 pub mod FirstFault
 mod OneOutput
 pub mod RecordsOf
+pub mod GroupParts

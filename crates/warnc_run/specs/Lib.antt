@@ -6,3 +6,5 @@ pub mod Charted
 pub mod Groups
 pub mod RunSteps
 pub mod OneOutput
+pub mod Network
+pub mod NetworkSteps

@@ -6,7 +6,7 @@
 //! while the desk is open, settles the desk, compares the tapes with the records, and writes them. [`compile_stream`]
 //! is that with one session, and [`report_stream`] makes the tapes of one session's records, reads them and writes what
 //! became of each order, which [`chart_stream`] draws. [`compile_from`], [`live_from`] and [`report_from`] do the same
-//! for a group of a network book. What was written is said by definitions of the book's octets alone (`IsCompiled`,
+//! for a group of a network book, and [`network_stream`] does it for all groups. What was written is said by definitions of the book's octets alone (`IsCompiled`,
 //! `IsLive`, `IsReported`, `IsCharted`), which know of no worker: which orders each cell answered, at which slot, and
 //! what a handset shows that reads its tape.
 #![tactic(auto)]
@@ -20,6 +20,8 @@ mod finish;
 pub mod groups;
 mod laws;
 pub mod live;
+pub mod network;
+mod parts;
 mod records;
 pub mod report_run;
 mod session;
@@ -35,5 +37,6 @@ pub use fault::RunFault;
 pub use groups::{GroupsFault, groups_stream};
 pub use laws::output_laws;
 pub use live::{live_from, live_stream};
+pub use network::{NetworkFault, Product, network_stream};
 pub use records::run_book;
 pub use report_run::{ReportRunFault, report_from, report_stream};

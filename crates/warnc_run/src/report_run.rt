@@ -155,7 +155,7 @@ pub fn report_from<T: AllocGlobal + Threads + Wait + Sync, R: Read, W: Write>(
 }
 
 /// Whether the line of the columns' names stands over the report.
-fn is_headed(origin: Origin) -> bool
+pub(crate) fn is_headed(origin: Origin) -> bool
     ensures { result ≡ is_headed origin }
 {
     match origin {
@@ -185,7 +185,7 @@ pub(crate) fn readings_of_book<T: AllocGlobal + Threads + Wait + Sync>(
 }
 
 /// The rows of the report of a book's run.
-fn rows_of_book<T: AllocGlobal + Threads + Wait + Sync>(
+pub(crate) fn rows_of_book<T: AllocGlobal + Threads + Wait + Sync>(
     rt: &T,
     book: Book,
     slots: u16,

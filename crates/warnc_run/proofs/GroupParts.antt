@@ -1,0 +1,422 @@
+-- The parts of a network's groups, one after the other.
+use Rattle.std.proofs.Common.{◌≡◌, ℕ, suc, ◌+◌, ◌<◌, ◌≤◌, ◌∙◌, List, [], ◌∷◌, ◌++◌, length, take, drop}
+use Rattle.std.proofs.Common.{append-nil, ap, get_or, inl, inr, refl, subst, sym, IfErr, IfOk, Option, Result, Ok, Err}
+use native.Mathlib.Omega.{arith}
+use Rattle.std.proofs.KnownBytes.{Appends-nil, Appends-trans}
+use Rattle.std.proofs.Math.Seq.{drop-cons, take-append-add}
+use Rattle.std.proofs.lemmas.Grind.{flat_map-append}
+use Rattle.std.proofs.lemmas.List.{get_or_past, length-append, take-append-drop, take-append-le, take_all}
+use Rattle.std.specs.Io.KnownBytes.{Appends, Consumes, IsAtEnd}
+use Rattle.device_ends.specs.Moves.{ReadsUpTo}
+use Rattle.alert_book.specs.declared.fault.BookFault.{BookFault}
+use Rattle.alert_book.specs.declared.fault.BookFaultKind.TheVariants as kinds
+use Rattle.alert_book.specs.declared.network.GroupFault.{GroupFault}
+use Rattle.alert_book.specs.declared.network.GroupFault.TheVariants as group_fault
+use Rattle.alert_book.specs.declared.network.Origin.TheVariants as origin
+use Rattle.alert_book.specs.Book.{Contents}
+use Rattle.alert_book.specs.Network.{HasGroups, HasNoBookIn, IsGroupBook, IsNoNetworkBook, RefusesNetwork}
+use Rattle.alert_book.specs.NetworkLaws.{CountsAreOne, NetworksAreRight}
+use Rattle.warnc_run.specs.declared.fault.RunFault.{RunFault}
+use Rattle.warnc_run.specs.declared.fault.RunFault.TheVariants as run
+use Rattle.warnc_run.specs.declared.network.NetworkFault.{NetworkFault}
+use Rattle.warnc_run.specs.declared.network.NetworkFault.TheVariants as fault
+use Rattle.warnc_run.specs.declared.network.Product.{Product}
+use Rattle.warnc_run.specs.declared.parts.Part.{Part}
+use Rattle.warnc_run.specs.Compiled.{Makes}
+use Rattle.warnc_run.specs.Network.{joined_parts, ArePartsFrom, HasNoPart, IsNetworkFault, IsOfNetwork, IsPartOf}
+use Rattle.warnc_run.specs.NetworkSteps.{octets_of_part, AreMadeFrom, HasNoEmptyTape, IsMadeOf, IsWritten, StopsAt}
+use Rattle.warnc_run.specs.NetworkSteps.{StopsParts, WritesFrontOf, WritesParts, WritesPartsFront}
+use Rattle.warnc_run.specs.RunSteps.{IsOfTapes, IsSomeBook, TakesFront}
+
+-- what a writer took of tapes before it failed is a front of them
+pub front_of_tapes : (tapes : List (List ℕ)) (written : ℕ) (old new : Option (List ℕ))
+    → TakesFront tapes written old new
+    → WritesFrontOf (joined_parts tapes) old new
+front_of_tapes [] written old new taken = (0, subst (Appends old new) nothing taken.appended)
+  where
+    none : List (List ℕ)
+    none = []
+
+    empty : List ℕ
+    empty = []
+
+    nothing : joined_parts (take taken.place none) ++ take written (get_or none taken.place empty) ≡ empty
+    nothing =
+        ap (λ (front : List (List ℕ)). joined_parts front ++ take written (get_or none taken.place empty))
+        (take_all taken.place none (omega arith))
+        ∙ ap (take written) (get_or_past none taken.place empty (omega arith))
+        ∙ take_all written empty (omega arith)
+front_of_tapes (first ∷ others) written old new taken =
+    (length front + written, subst (Appends old new) (sym same) taken.appended)
+  where
+    tapes : List (List ℕ)
+    tapes = first ∷ others
+
+    within : taken.place < length tapes
+    within = taken.within (omega arith)
+
+    front : List ℕ
+    front = joined_parts (take taken.place tapes)
+
+    tape : List ℕ
+    tape = get_or tapes taken.place []
+
+    rest : List ℕ
+    rest = joined_parts (drop (suc taken.place) tapes)
+
+    whole : joined_parts tapes ≡ front ++ (tape ++ rest)
+    whole =
+        ap joined_parts (sym (take-append-drop taken.place tapes))
+        ∙ flat_map-append (λ (part : List ℕ). part) (take taken.place tapes) (drop taken.place tapes)
+        ∙ ap (λ (left : List (List ℕ)). front ++ joined_parts left) (drop-cons tapes taken.place [] within)
+
+    same : take (length front + written) (joined_parts tapes) ≡ front ++ take written tape
+    same =
+        let less = taken.less within in
+        ap (take (length front + written)) whole
+        ∙ take-append-add front (tape ++ rest) written
+        ∙ ap (λ (octets : List ℕ). front ++ octets) (take-append-le written tape rest (omega (arith, less)))
+
+-- parts of some groups, and of those after them
+parts_join : (made : Product) (slots : ℕ) (input : List ℕ) (group : ℕ) (front back : List (List ℕ))
+    → ArePartsFrom made slots input group front
+    → ArePartsFrom made slots input (group + length front) back
+    → ArePartsFrom made slots input group (front ++ back)
+parts_join made slots input group [] back each more =
+    let same : group + 0 ≡ group = omega arith in
+    subst (λ (g : ℕ). ArePartsFrom made slots input g back) same more
+parts_join made slots input group (part ∷ front) back each more =
+    let same : group + length (part ∷ front) ≡ group + 1 + length front = omega arith in (
+      each.0,
+      parts_join made slots input (group + 1) front back each.1
+          (subst (λ (g : ℕ). ArePartsFrom made slots input g back) same more),
+    )
+
+-- parts that were written, and those written after them
+pub parts_after : (made : Product) (slots group n m from : ℕ) (input : List ℕ) (a b c : Option (List ℕ))
+    → from ≡ group + n
+    → WritesParts made slots group n input a b
+    → WritesParts made slots from m input b c
+    → WritesParts made slots group (n + m) input a c
+parts_after made slots group n m from input a b c at before after =
+    let same : from ≡ group + length before.parts = omega (arith, at, before.count_is) in record {
+      parts = before.parts ++ after.parts;
+      count_is = let both = length-append before.parts after.parts in
+          omega (arith, both, before.count_is, after.count_is);
+      each = parts_join made slots input group before.parts after.parts before.each
+          (subst (λ (g : ℕ). ArePartsFrom made slots input g after.parts) same after.each);
+      appended = subst (Appends a c)
+          (sym (flat_map-append (λ (part : List ℕ). part) before.parts after.parts))
+          (Appends-trans a b c (joined_parts before.parts) (joined_parts after.parts) before.appended after.appended);
+    }
+
+-- at first none is
+pub no_parts : (made : Product) (slots group : ℕ) (input : List ℕ) (a : Option (List ℕ))
+    → WritesParts made slots group 0 input a a
+no_parts made slots group input a = record { parts = []; count_is = refl; each = tt; appended = Appends-nil a }
+
+-- one part
+one_part : (made : Product) (slots group : ℕ) (input octets : List ℕ) (a b : Option (List ℕ))
+    → IsPartOf made slots group input octets
+    → Appends a b octets
+    → WritesParts made slots group 1 input a b
+one_part made slots group input octets a b is wrote = record {
+  parts = octets ∷ [];
+  count_is = refl;
+  each = (is, tt);
+  appended = subst (Appends a b) (sym (append-nil octets)) wrote;
+}
+
+-- and one more
+pub part_after : (made : Product) (slots group i : ℕ) (input : List ℕ) (part : Part) (a b c : Option (List ℕ))
+    → WritesParts made slots group i input a b
+    → IsPartOf made slots (group + i) input (octets_of_part part)
+    → Appends b c (octets_of_part part)
+    → WritesParts made slots group (i + 1) input a c
+part_after made slots group i input part a b c before is wrote =
+    parts_after made slots group i 1 (group + i) input a b c refl before
+    (one_part made slots (group + i) input (octets_of_part part) b c is wrote)
+
+-- whole parts, and then no more than a front of some
+front_after : (made : Product) (slots group n m most from : ℕ) (input : List ℕ) (a b c : Option (List ℕ))
+    → from ≡ group + n
+    → WritesParts made slots group n input a b
+    → WritesPartsFront made slots from m input b c
+    → n + m ≤ most
+    → WritesPartsFront made slots group most input a c
+front_after made slots group n m most from input a b c at before after fits =
+    let same : from ≡ group + length before.parts = omega (arith, at, before.count_is) in
+    let whole = joined_parts before.parts in
+    let both = length-append before.parts after.parts in
+    let octets : take (length whole + after.front.0) (joined_parts (before.parts ++ after.parts))
+    ≡ whole ++ take after.front.0 (joined_parts after.parts) =
+    ap (take (length whole + after.front.0))
+    (flat_map-append (λ (part : List ℕ). part) before.parts after.parts)
+    ∙ take-append-add whole (joined_parts after.parts) after.front.0 in record {
+      parts = before.parts ++ after.parts;
+      few = omega (arith, both, before.count_is, after.few, fits);
+      each = parts_join made slots input group before.parts after.parts before.each
+          (subst (λ (g : ℕ). ArePartsFrom made slots input g after.parts) same after.each);
+      front = (
+        length whole + after.front.0,
+        subst (Appends a c) (sym octets)
+            (Appends-trans a b c whole (take after.front.0 (joined_parts after.parts)) before.appended after.front.1),
+      );
+    }
+
+-- a stop after whole parts
+pub stop_after : (made : Product) (slots group n m most from : ℕ) (input : List ℕ) (a b c : Option (List ℕ))
+    (f : NetworkFault)
+    → from ≡ group + n
+    → WritesParts made slots group n input a b
+    → StopsParts made slots from m input b c f
+    → n + m ≤ most
+    → StopsParts made slots group most input a c f
+stop_after made slots group n m most from input a b c (fault.Network f) at before stops fits = absurd stops
+stop_after made slots group n m most from input a b c (fault.Group g f) at before (done, is, less, wrote, none) fits = (
+  n + done,
+  omega (arith, is, at),
+  omega (arith, less, fits),
+  parts_after made slots group n done from input a b c at before wrote,
+  none,
+)
+stop_after made slots group n m most from input a b c fault.WriteFailed at before stops fits =
+    front_after made slots group n m most from input a b c at before stops fits
+
+-- a group that has no part, or whose part a writer didn't take, stops the parts
+pub stop_at : (made : Product) (slots group i number count : ℕ) (input : List ℕ) (came : Result Part RunFault)
+    (a b c : Option (List ℕ)) (f : NetworkFault)
+    → i < count
+    → number ≡ group + i
+    → WritesParts made slots group i input a b
+    → IsMadeOf made slots (group + i) input came
+    → StopsAt came number b c f
+    → StopsParts made slots group count input a c f
+stop_at made slots group i number count input came a b c (fault.Network f) less at before of stops = absurd stops
+stop_at made slots group i number count input came a b c (fault.Group g f) less at before of (is, none, kept) = (
+  i,
+  is ∙ at,
+  less,
+  subst (WritesParts made slots group i input a) kept before,
+  subst (λ (n : ℕ). HasNoPart slots n input f) (sym (is ∙ at))
+      (subst (IsMadeOf made slots (group + i) input) none of),
+)
+stop_at made slots group i number count input came a b c fault.WriteFailed less at before of (part, is, front) =
+    front_after made slots group i 1 count (group + i) input a b c refl before
+    (record {
+      parts = octets_of_part part ∷ [];
+      few = omega arith;
+      each = ((subst (IsMadeOf made slots (group + i) input) is of).0, tt);
+      front = (
+        front.0,
+        subst (λ (octets : List ℕ). Appends b c (take front.0 octets)) (sym (append-nil (octets_of_part part))) front.1,
+      );
+    }) (omega (arith, less))
+
+-- the parts of all groups are the network's
+pub of_network : (made : Product) (slots groups : ℕ) (input : List ℕ) (first last old new : Option (List ℕ))
+    → Consumes first last input
+    → IsAtEnd last
+    → HasGroups 0 input groups
+    → WritesParts made slots 0 groups input old new
+    → Makes (IsOfNetwork made slots) first last old new
+of_network made slots groups input first last old new read ended counted wrote = record {
+  input = input;
+  output = joined_parts wrote.parts;
+  read = read;
+  ended = ended;
+  meant = record {
+    parts = wrote.parts;
+    counted = subst (HasGroups 0 input) (sym wrote.count_is) counted;
+    each = wrote.each;
+    written = refl;
+  };
+  appended = wrote.appended;
+}
+
+-- and a stop is a fault of it
+pub fault_of_parts : (made : Product) (slots groups : ℕ) (input : List ℕ) (first last old new : Option (List ℕ))
+    (f : NetworkFault)
+    → Consumes first last input
+    → IsAtEnd last
+    → HasGroups 0 input groups
+    → StopsParts made slots 0 groups input old new f
+    → IsNetworkFault made slots first last old new f
+fault_of_parts made slots groups input first last old new (fault.Network f) read ended counted stops = absurd stops
+fault_of_parts made slots groups input first last old new (fault.Group g f) read ended counted
+    (done, is, less, wrote, none) = (
+      record {
+        input = input;
+        output = joined_parts wrote.parts;
+        read = read;
+        ended = ended;
+        meant = record {
+          groups = groups;
+          counted = counted;
+          few = omega (arith, is, less);
+          parts = wrote.parts;
+          as_many = omega (arith, is, wrote.count_is);
+          each = wrote.each;
+          written = refl;
+        };
+        appended = wrote.appended;
+      },
+      none,
+    )
+fault_of_parts made slots groups input first last old new fault.WriteFailed read ended counted stops = (
+  length stops.parts,
+  record {
+    input = input;
+    output = joined_parts stops.parts;
+    read = read;
+    ended = ended;
+    meant = record {
+      groups = groups;
+      counted = counted;
+      few = stops.few;
+      parts = stops.parts;
+      as_many = refl;
+      each = stops.each;
+      written = refl;
+    };
+    taken = stops.front.0;
+    front = stops.front.1;
+  },
+)
+
+-- why the octets that were read are no network book
+pub refused_network : (first last : Option (List ℕ)) (input : List ℕ) (f : BookFault)
+    → ReadsUpTo first last input 67108864
+    → IsNoNetworkBook 0 input f
+    → RefusesNetwork first last 0 f
+refused_network first last input f read (inl out) =
+    record { input = input; consumed = read.consumed; bounded = read.bounded; why = inl out }
+refused_network first last input f read (inr (inl long)) = record {
+  input = input;
+  consumed = read.consumed;
+  bounded = read.bounded;
+  why = inr (inr (inl (long.0, omega (arith, long.1, read.bounded))));
+}
+refused_network first last input f read (inr (inr wrong)) = record {
+  input = input;
+  consumed = read.consumed;
+  bounded = read.bounded;
+  why = inr (inr (inr (read.ended wrong.0, wrong)));
+}
+
+-- a fault of the run of a group's book says why the group has no part
+pub no_part : (slots group : ℕ) (input : List ℕ) (book : Contents) (f : RunFault)
+    → IsGroupBook group input book
+    → IsOfTapes book slots 1 f
+    → HasNoPart slots group input f
+no_part slots group input book (run.Book f) is why = absurd why
+no_part slots group input book (run.NoGroup groups) is why = absurd why
+no_part slots group input book (run.Desk f) is why = (book, is, why)
+no_part slots group input book (run.Settle f) is why = (book, is, why)
+no_part slots group input book (run.Compile f) is why = (book, is, why)
+no_part slots group input book (run.Write failed) is why = absurd why
+no_part slots group input book run.Refused is why = tt
+
+-- a group's book is some book
+pub a_book : (group : ℕ) (input : List ℕ) (book : Contents) → IsGroupBook group input book → IsSomeBook book
+a_book group input book is = (origin.Group group, input, is)
+
+-- a network has the groups that group 0 counted
+pub counted_alike : CountsAreOne → (group groups : ℕ) (input : List ℕ) (f : GroupFault) (others : ℕ)
+    → HasGroups 0 input groups
+    → group < groups
+    → f ≡ group_fault.NoGroup others
+    → HasNoBookIn group input f
+    → ⊥
+counted_alike law group groups input f others counted there is none =
+    let why : HasNoBookIn group input (group_fault.NoGroup others) = subst (HasNoBookIn group input) is none in
+    absurd (omega (arith, there, why.0, law 0 group input groups others counted why.1))
+
+-- and what group 0 read each group can, if there is memory
+pub only_memory_fails : NetworksAreRight → (group groups : ℕ) (input : List ℕ) (f : GroupFault) (why : BookFault)
+    → HasGroups 0 input groups
+    → f ≡ group_fault.Network why
+    → HasNoBookIn group input f
+    → why.kind ≡ kinds.Refused
+only_memory_fails law group groups input f why counted is none =
+    by_case (subst (HasNoBookIn group input) is none)
+  where
+    by_case : IsNoNetworkBook group input why → why.kind ≡ kinds.Refused
+    by_case (inl out) = ap (λ (b : BookFault). b.kind) out
+    by_case (inr (inl long)) = absurd (omega (arith, long.1, counted.network.bounded))
+    by_case (inr (inr wrong)) = absurd (law 0 group input groups why counted wrong)
+
+-- no tape of a part is empty
+pub no_empty_tape : (made : Product) (slots group : ℕ) (input : List ℕ) (came : Result Part RunFault)
+    → IsMadeOf made slots group input came
+    → IfOk came HasNoEmptyTape
+no_empty_tape made slots group input (Ok part) of = of.1
+no_empty_tape made slots group input (Err f) of = tt
+
+-- a part that was written is one more
+pub written_after : (made : Product) (slots group i : ℕ) (input : List ℕ) (came : Result Part RunFault)
+    (a b c : Option (List ℕ))
+    → WritesParts made slots group i input a b
+    → IsMadeOf made slots (group + i) input came
+    → IsWritten came b c
+    → WritesParts made slots group (i + 1) input a c
+written_after made slots group i input (Ok part) a b c before of wrote =
+    part_after made slots group i input part a b c before of.0 wrote
+written_after made slots group i input (Err f) a b c before of wrote = absurd wrote
+
+-- what came of the group at a place
+pub made_at : (made : Product) (slots group : ℕ) (input : List ℕ) (all shown : List (Result Part RunFault)) (i : ℕ)
+    (came : Result Part RunFault)
+    → AreMadeFrom made slots group input all
+    → shown ≡ all
+    → i < length shown
+    → came ≡ get_or shown i came
+    → IsMadeOf made slots (group + i) input came
+made_at made slots group input all shown i came each same within is =
+    let at : came ≡ get_or all i came =
+    subst (λ (rs : List (Result Part RunFault)). came ≡ get_or rs i came) same is in
+    subst (IsMadeOf made slots (group + i) input) (sym at)
+    (each i came (subst (λ (rs : List (Result Part RunFault)). i < length rs) same within))
+
+-- the faults of a run of the groups whose octets were read
+pub faults_of_parts : (made : Product) (slots groups : ℕ) (octets judged shown : List ℕ)
+    (first last old new : Option (List ℕ)) (r : Result (Unit {0}) NetworkFault)
+    → ReadsUpTo first last octets 67108864
+    → judged ≡ octets
+    → shown ≡ octets
+    → HasGroups 0 judged groups
+    → IfErr r (StopsParts made slots 0 groups shown old new)
+    → IfErr r (IsNetworkFault made slots first last old new)
+faults_of_parts made slots groups octets judged shown first last old new (Ok done) read is same counted stops = tt
+faults_of_parts made slots groups octets judged shown first last old new (Err f) read is same counted stops =
+    let network = subst (λ (i : List ℕ). HasGroups 0 i groups) is counted in
+    fault_of_parts made slots groups octets first last old new f read.consumed (read.ended network.network.bounded)
+    network (subst (λ (i : List ℕ). StopsParts made slots 0 groups i old new f) same stops)
+
+-- a writer that had failed before takes nothing
+pub nothing_taken : (made : Product) (slots groups : ℕ) (octets judged : List ℕ) (first last old : Option (List ℕ))
+    → ReadsUpTo first last octets 67108864
+    → judged ≡ octets
+    → HasGroups 0 judged groups
+    → IsNetworkFault made slots first last old old fault.WriteFailed
+nothing_taken made slots groups octets judged first last old read is counted =
+    let network = subst (λ (i : List ℕ). HasGroups 0 i groups) is counted in (
+      0,
+      record {
+        input = octets;
+        output = [];
+        read = read.consumed;
+        ended = read.ended network.network.bounded;
+        meant = record {
+          groups = groups;
+          counted = network;
+          few = omega arith;
+          parts = [];
+          as_many = refl;
+          each = tt;
+          written = refl;
+        };
+        taken = 0;
+        front = Appends-nil old;
+      },
+    )

@@ -1,0 +1,279 @@
+//! The parts of a network's groups: made side by side, and written in order.
+
+ghost use Rattle.std.specs.Prelude.{◌≡◌, ◌+◌, ◌<◌, ◌≤◌, false, true, is_err, length, vec_len, All, IfErr, IfOk, OnErr, OnOk};
+ghost use Rattle.std.specs.Io.KnownBytes.{Appends};
+ghost use Rattle.device_ends.specs.Sink.{sink_failed, writer_of};
+ghost use Rattle.alert_book.specs.Network.{HasGroups, IsGroupBook};
+ghost use Rattle.warnc_run.specs.Network.{joined_parts, HasNoPart, IsPartOf};
+ghost use Rattle.warnc_run.specs.NetworkSteps.{is_of_writer, octets_of_part, AreMadeFrom, HasNoEmptyTape, IsMadeOf};
+ghost use Rattle.warnc_run.specs.NetworkSteps.{IsWritten, StopsAt, StopsParts, WritesFrontOf, WritesParts};
+ghost use Rattle.warnc_run.specs.declared.fault.RunFault.TheVariants as faults;
+
+use crate::counts::{Sessions, Workers};
+use crate::fault::RunFault;
+use crate::finish::write_tapes;
+use crate::network::{NetworkFault, Product};
+use crate::report_run::{ReportRunFault, is_headed, rows_of_book};
+use crate::tapes::tapes_of_book;
+use alert_book::{Book, BookFault, BookFaultKind, GroupFault, Origin, group_in};
+use cbch_blocks::Tape;
+use device_ends::{Failed, Sink, write_all};
+use order_desk::Open;
+use report::text_of;
+use std::alloc::{AllocError, AllocGlobal};
+use std::io::Write;
+use std::sync::Wait;
+use std::thread;
+use std::thread::Threads;
+
+/// A network book whose groups are run, each by itself and by one worker.
+#[derive(Clone, Copy)]
+pub(crate) struct Network<'a> {
+    pub(crate) octets: &'a [u8],
+    pub(crate) groups: u16,
+    pub(crate) slots: u16,
+    pub(crate) ghost few_groups: { groups ≤ 65535 },
+    pub(crate) ghost few_slots: { slots ≤ 65535 },
+}
+
+/// The part of a group, before it is written.
+#[derive(Drop)]
+enum Part {
+    /// The tapes of its cells.
+    Tapes(Vec<Tape>),
+    /// The text of its report.
+    Report(Vec<u8>),
+}
+
+impl Part {
+    /// Writes it.
+    fn write<W: Write>(&self, sink: &mut Sink<W>) -> Result<(), Failed>
+        requires { HasNoEmptyTape self.now }
+        ensures ok { OnOk result (Appends (W.contents (writer_of sink.old))
+            (W.contents (writer_of sink.new)) (octets_of_part self.now)) }
+        ensures err { OnErr result (WritesFrontOf (octets_of_part self.now) (W.contents (writer_of sink.old))
+            (W.contents (writer_of sink.new))) }
+        ensures failed { sink_failed sink.new ≡ is_err result }
+    {
+        match self {
+            Part::Tapes(tapes) => write_all_tapes(tapes, sink),
+            Part::Report(text) => write_all(sink, text),
+        }
+    }
+}
+
+/// Writes tapes, one after the other.
+fn write_all_tapes<W: Write>(tapes: &[Tape], sink: &mut Sink<W>) -> Result<(), Failed>
+    requires { All (λ tape. 0 < length tape) tapes.now }
+    ensures ok { OnOk result (Appends (W.contents (writer_of sink.old))
+        (W.contents (writer_of sink.new)) (joined_parts tapes.now)) }
+    ensures err { OnErr result (WritesFrontOf (joined_parts tapes.now) (W.contents (writer_of sink.old))
+        (W.contents (writer_of sink.new))) }
+    ensures failed { sink_failed sink.new ≡ is_err result }
+{
+    match write_tapes(tapes, sink) {
+        Ok(()) => Ok(()),
+        Err(_) => Err(Failed),
+    }
+}
+
+/// Whether a fault of a book is that memory is out.
+fn is_of_memory(fault: BookFault) -> bool
+    ensures { fault.kind ≡ BookFaultKind.Refused → result ≡ true }
+{
+    matches!(fault.kind, BookFaultKind::Refused)
+}
+
+impl Network<'_> {
+    /// The book of a group.
+    fn book<T: AllocGlobal + Threads + Sync>(&self, rt: &T, group: u16) -> Result<Book, RunFault>
+        requires there { group < self.now.groups }
+        requires counted { HasGroups 0 self.now.octets.now self.now.groups }
+        ensures ok { IfOk result (IsGroupBook group self.now.octets.now) }
+        ensures err { IfErr result (λ fault. fault ≡ faults.Refused) }
+    {
+        // All groups see the same network, and group 0 has read it.
+        alert_book::network_laws();
+        match group_in(rt, self.octets, group) {
+            Ok(book) => Ok(book),
+            Err(GroupFault::NoGroup(_)) => unreachable!(),
+            Err(GroupFault::Network(fault)) => {
+                prove!(is_of_memory(fault));
+                Err(RunFault::Refused)
+            }
+        }
+    }
+
+    /// The tapes of a group's cells.
+    fn tapes<T: AllocGlobal + Threads + Wait + Sync>(
+        &self,
+        rt: &T,
+        group: u16,
+    ) -> Result<Part, RunFault>
+        requires there { group < self.now.groups }
+        requires counted { HasGroups 0 self.now.octets.now self.now.groups }
+        ensures { IsMadeOf Product.Tapes self.now.slots group self.now.octets.now result }
+    {
+        // A handset is shown what the book means, and a run of one session is a run of the book.
+        book_runs::session_laws();
+        let book = self.book(rt, group)?;
+        let one = Sessions { number: 1 };
+        let alone = Workers { number: 1 };
+        let tapes = tapes_of_book(rt, &book, self.slots, one, alone, &Open)?;
+        Ok(Part::Tapes(tapes))
+    }
+
+    /// The text of a group's report.
+    fn report<T: AllocGlobal + Threads + Wait + Sync>(
+        &self,
+        rt: &T,
+        group: u16,
+    ) -> Result<Part, RunFault>
+        requires there { group < self.now.groups }
+        requires counted { HasGroups 0 self.now.octets.now self.now.groups }
+        ensures { IsMadeOf Product.Report self.now.slots group self.now.octets.now result }
+    {
+        // A handset is shown what the book means, whatever the cells answered.
+        book_runs::run_laws();
+        book_runs::order_laws();
+        book_runs::session_laws();
+        let book = self.book(rt, group)?;
+        let alone = Workers { number: 1 };
+        let rows = match rows_of_book(rt, book, self.slots, alone) {
+            Ok(rows) => rows,
+            Err(ReportRunFault::Run(fault)) => return Err(fault),
+            Err(ReportRunFault::Report(_)) => return Err(RunFault::Refused),
+        };
+        let text = text_of(rt.alloc(), is_headed(Origin::Group(group)), &rows)?;
+        Ok(Part::Report(text))
+    }
+
+    /// The part of a group.
+    fn part<T: AllocGlobal + Threads + Wait + Sync>(
+        &self,
+        rt: &T,
+        made: Product,
+        group: u16,
+    ) -> Result<Part, RunFault>
+        requires there { group < self.now.groups }
+        requires counted { HasGroups 0 self.now.octets.now self.now.groups }
+        ensures { IsMadeOf made self.now.slots group self.now.octets.now result }
+    {
+        match made {
+            Product::Tapes => self.tapes(rt, group),
+            Product::Report => self.report(rt, group),
+        }
+    }
+
+    /// What comes of so many groups from the first on, which are run side by side.
+    fn parts_from<T: AllocGlobal + Threads + Wait + Sync>(
+        &self,
+        rt: &T,
+        made: Product,
+        first: u16,
+        count: u16,
+    ) -> Result<Vec<Result<Part, RunFault>>, AllocError>
+        requires few { first + count ≤ self.now.groups }
+        requires counted { HasGroups 0 self.now.octets.now self.now.groups }
+        ensures count { IfOk result (λ all. vec_len all ≡ count) }
+        ensures each { IfOk result (λ all. AreMadeFrom made self.now.slots first self.now.octets.now all.items) }
+    {
+        let network = *self;
+        thread::map_indices(
+            rt,
+            rt.alloc(),
+            usize::from(count),
+            &|place: usize| -> Result<Part, RunFault>
+                requires there { first + place < network.groups }
+                requires counted { HasGroups 0 network.octets.now network.groups }
+                ensures { IsMadeOf made network.entry.slots (first + place) network.entry.octets.now result }
+            { network.part(rt, made, first + place as u16) },
+        )
+    }
+
+    /// Makes the parts of so many groups from the first on, and writes them.
+    fn write_batch<T: AllocGlobal + Threads + Wait + Sync, W: Write>(
+        &self,
+        rt: &T,
+        made: Product,
+        first: u16,
+        count: u16,
+        sink: &mut Sink<W>,
+    ) -> Result<(), NetworkFault>
+        requires some { 0 < count }
+        requires few { first + count ≤ self.now.groups }
+        requires counted { HasGroups 0 self.now.octets.now self.now.groups }
+        requires open { sink_failed sink.old ≡ false }
+        ensures ok { OnOk result (WritesParts made self.now.slots first count self.now.octets.now
+            (W.contents (writer_of sink.old)) (W.contents (writer_of sink.new))) }
+        ensures err { IfErr result (StopsParts made self.now.slots first count self.now.octets.now
+            (W.contents (writer_of sink.old)) (W.contents (writer_of sink.new))) }
+        ensures open { OnOk result (sink_failed sink.new ≡ false) }
+        ensures failed { IfErr result (λ fault. sink_failed sink.new ≡ is_of_writer fault) }
+    {
+        let Ok(all) = self.parts_from(rt, made, first, count) else {
+            return Err(NetworkFault::Group {
+                group: first,
+                fault: RunFault::Refused,
+            });
+        };
+        let mut group = first;
+        for part in &all {
+            write_one(part, group, sink)?;
+            group += 1;
+        }
+        Ok(())
+    }
+}
+
+/// Writes what came of a group.
+fn write_one<W: Write>(
+    part: &Result<Part, RunFault>,
+    group: u16,
+    sink: &mut Sink<W>,
+) -> Result<(), NetworkFault>
+    requires some { IfOk part.now HasNoEmptyTape }
+    requires open { sink_failed sink.old ≡ false }
+    ensures ok { OnOk result (IsWritten part.now (W.contents (writer_of sink.old)) (W.contents (writer_of sink.new))) }
+    ensures err { IfErr result (StopsAt part.now group (W.contents (writer_of sink.old))
+        (W.contents (writer_of sink.new))) }
+    ensures open { OnOk result (sink_failed sink.new ≡ false) }
+    ensures failed { IfErr result (λ fault. sink_failed sink.new ≡ is_of_writer fault) }
+{
+    match part {
+        Ok(part) => match part.write(sink) {
+            Ok(()) => Ok(()),
+            Err(Failed) => Err(NetworkFault::WriteFailed),
+        },
+        Err(fault) => Err(NetworkFault::Group {
+            group,
+            fault: *fault,
+        }),
+    }
+}
+
+/// Makes the parts of all groups, as many at a time as there are workers, and writes them.
+pub(crate) fn write_groups<T: AllocGlobal + Threads + Wait + Sync, W: Write>(
+    rt: &T,
+    network: &Network,
+    made: Product,
+    workers: Workers,
+    sink: &mut Sink<W>,
+) -> Result<(), NetworkFault>
+    requires counted { HasGroups 0 network.now.octets.now network.now.groups }
+    requires open { sink_failed sink.old ≡ false }
+    ensures ok { OnOk result (WritesParts made network.now.slots 0 network.now.groups network.now.octets.now
+        (W.contents (writer_of sink.old)) (W.contents (writer_of sink.new))) }
+    ensures err { IfErr result (StopsParts made network.now.slots 0 network.now.groups network.now.octets.now
+        (W.contents (writer_of sink.old)) (W.contents (writer_of sink.new))) }
+    ensures open { OnOk result (sink_failed sink.new ≡ false) }
+    ensures failed { IfErr result (λ fault. sink_failed sink.new ≡ is_of_writer fault) }
+{
+    let mut first = 0;
+    while first < network.groups {
+        let count = (network.groups - first).min(workers.number as u16);
+        network.write_batch(rt, made, first, count, sink)?;
+        first += count;
+    }
+    Ok(())
+}
