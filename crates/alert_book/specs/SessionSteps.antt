@@ -9,10 +9,10 @@ use Rattle.alert_book.specs.declared.session.outcome.Outcome.{Outcome}
 use Rattle.alert_book.specs.declared.session.request.CellVersion.{CellVersion}
 use Rattle.alert_book.specs.declared.session.request.Request.{Request}
 use Rattle.alert_book.specs.Session.{cells_asked, is_of_part, is_version, requests_of, version_after}
-use Rattle.alert_book.specs.VersionSteps.{Key, kept_version}
+use Rattle.alert_book.specs.VersionSteps.{kept_version}
 
 -- the versions that are believed live, with what the last reply says
-abbrev pub live_with : List (Key × Option ℕ) → Option Request → Option Outcome → (number : ℕ) → Cell → Option ℕ
+abbrev pub live_with : List (List CellVersion) → Option Request → Option Outcome → (number : ℕ) → Cell → Option ℕ
 live_with entries None outcome number cell = kept_version entries number cell
 live_with entries (Some request) None number cell = kept_version entries number cell
 live_with entries (Some request) (Some outcome) number cell =
@@ -39,6 +39,6 @@ requests_in live part parts order paged =
     if is_of_part part parts (order, paged) then requests_of live order paged else []
 
 -- the versions that are kept are those believed live with what a reply says
-abbrev pub AreBelievedWith : (old new : List (Key × Option ℕ)) → Option Request → Option Outcome → Type 0
+abbrev pub AreBelievedWith : (old new : List (List CellVersion)) → Option Request → Option Outcome → Type 0
 AreBelievedWith old new sent outcome =
     (number : ℕ) (cell : Cell) → kept_version new number cell ≡ live_with old sent outcome number cell

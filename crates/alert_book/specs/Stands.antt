@@ -7,12 +7,13 @@ use Rattle.alert_book.specs.declared.book.order.Order.{Order}
 use Rattle.alert_book.specs.declared.session.request.Request.{Request}
 use Rattle.alert_book.specs.Session.{after_reply, cells_asked, orders_from, version_in, Replied, Standing}
 use Rattle.alert_book.specs.Book.{Contents}
-use Rattle.alert_book.specs.VersionSteps.{Key, has_place, kept_version}
+use Rattle.alert_book.specs.declared.session.request.CellVersion.{CellVersion}
+use Rattle.alert_book.specs.VersionSteps.{has_place, kept_version}
 
 -- what a session keeps: the versions that it believes live, the request that it sent last and its row, the requests
 -- that are due, and of which part of which book, from which place on, the orders are that are left
 pub record SessionState : Type 0 where
-  pub versions : List (Key × Option ℕ)
+  pub versions : List (List CellVersion)
   pub sent : Option Request
   pub row : ℕ
   pub due : List Request
@@ -25,13 +26,13 @@ abbrev pub left_in : SessionState → List (Order × Option Paged)
 left_in s = orders_from s.book s.part s.parts s.place
 
 -- the cells that the request asks have places
-abbrev pub HavePlaces : List (Key × Option ℕ) → Option Request → Type 0
+abbrev pub HavePlaces : List (List CellVersion) → Option Request → Type 0
 HavePlaces versions None = ⊤
 HavePlaces versions (Some request) =
     All (λ cell. has_place versions request.number cell ≡ true) (cells_asked request.message)
 
 -- the versions that are kept are those believed live by some replies
-abbrev pub AreBelieved : List (Key × Option ℕ) → List Replied → Type 0
+abbrev pub AreBelieved : List (List CellVersion) → List Replied → Type 0
 AreBelieved versions replies =
     (number : ℕ) (cell : Cell) → kept_version versions number cell ≡ version_in replies number cell
 

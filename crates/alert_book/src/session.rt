@@ -24,6 +24,7 @@ use std::alloc::Global;
 use std::collections::VecDeque;
 use std::marker::Model;
 
+pub(crate) mod alert_versions;
 pub(crate) mod live_versions;
 pub(crate) mod outcome;
 pub(crate) mod request;
@@ -280,8 +281,8 @@ fn make_places(versions: &mut Versions, request: &Request) -> Result<(), Refused
     ensures keeps { KeepsVersions versions.old versions.new }
     ensures made { OnOk result (HavePlaces versions.new (Some request.now)) }
 {
-    for cell in cells_asked(&request.message) {
-        versions.make_place(request.number, *cell)?;
+    for (place, cell) in cells_asked(&request.message).iter().enumerate() {
+        versions.make_place(request.number, *cell, place)?;
     }
     Ok(())
 }

@@ -22,11 +22,11 @@ pub struct LiveVersions<'a> {
 
 impl LiveVersions<'_> {
     /// The version of an alert that is believed live in a cell, if one is. The cell is looked for at this place first,
-    /// in the last request and in its reply.
+    /// among those kept, in the last request and in its reply.
     pub fn version(&self, number: u16, cell: Cell, place: usize) -> Option<u8>
         ensures { result ≡ live_by self.now number cell }
     {
-        let kept = self.versions.version(number, cell);
+        let kept = self.versions.version(number, cell, place);
         match (self.sent, self.outcome) {
             (Some(request), Some(outcome)) => {
                 version_after(request, outcome, number, cell, place, kept)
