@@ -1,33 +1,37 @@
 //! A report's text, in memory.
 
-ghost use Rattle.std.specs.Prelude.{◌≡◌, ℕ, List, [], ◌++◌, map, IfOk, OnOk};
-ghost use Rattle.std.specs.Prelude.{string_bytes};
-ghost use Rattle.report.specs.ReportText.{header_line, line, part_text, row_line, showing_text};
+ghost use Rattle.std.specs.Prelude.{◌≡◌, ℕ, List, [], ◌∷◌, ◌++◌, codes, map, IfOk, OnOk};
+ghost use Rattle.hex.specs.Hex.{encode_lower};
+ghost use Rattle.report.specs.ReportText.{header_line, line, part_text, row_line, serial_text, showing_text};
 
 use crate::row::{Row, Showing};
+use cbs_page::Serial;
 use csv::{Writer, WriterBuilder};
+use itoa::Buffer;
 use std::alloc::{AllocError, Global};
 
 /// The text of a part of a report: the line of the columns' names, if it is headed, and a line for each row.
 #[derive(Drop)]
 pub struct Table {
-    alloc: Global,
     writer: Writer<Vec<u8>>,
 }
 
-/// The text of a row's last column.
-fn showing_text(alloc: Global, shown: Showing) -> Result<String, AllocError>
-    ensures { IfOk result (λ text. string_bytes text ≡ showing_text shown) }
+/// The text of a serial number.
+fn serial_text(serial: Serial) -> [u8; 4]
+    ensures { result ≡ serial_text serial }
 {
-    match shown {
-        Showing::Yes => String::from_str(alloc, "yes"),
-        Showing::No => String::from_str(alloc, "no"),
-        Showing::Refused(cause) => {
-            let mut text = String::from_str(alloc, "refused ")?;
-            text.push_str(&hex::encode(alloc, &[cause])?)?;
-            Ok(text)
-        }
-    }
+    let mut text = [0; 4];
+    let _ = hex::encode_to_slice(serial.number().to_be_bytes().as_slice(), &mut text);
+    text
+}
+
+/// The text of a row's last column, if the order was refused.
+fn refused_text(cause: u8) -> [u8; 10]
+    ensures { result ≡ codes "refused " ++ encode_lower (cause ∷ []) }
+{
+    let mut text = *b"refused 00";
+    let _ = hex::encode_to_slice([cause].as_slice(), &mut text[8..]);
+    text
 }
 
 impl Table {
@@ -71,7 +75,6 @@ impl Table {
         ensures { IsTable result [] }
     {
         Table {
-            alloc,
             writer: WriterBuilder::new().from_writer(Vec::new(alloc)),
         }
     }
@@ -85,23 +88,36 @@ impl Table {
         ensures { OnOk result ((octets : List ℕ) → IsTable self.old octets
             → IsTable self.new (octets ++ row_line row.now)) }
     {
-        let lac = row.lac.to_string(self.alloc)?;
-        let ci = row.ci.to_string(self.alloc)?;
-        let id = row.id.to_string(self.alloc)?;
-        let serial = hex::encode(self.alloc, row.serial.number().to_be_bytes().as_slice())?;
-        let start = row.start.to_string(self.alloc)?;
-        let end = row.end.to_string(self.alloc)?;
-        let completed = row.completed.to_string(self.alloc)?;
-        let shown = showing_text(self.alloc, row.shown)?;
+        match row.shown {
+            Showing::Yes => self.push_shown(row, b"yes"),
+            Showing::No => self.push_shown(row, b"no"),
+            Showing::Refused(cause) => self.push_shown(row, &refused_text(cause)),
+        }
+    }
+
+    /// Appends the line of a row, whose last column has this text. The other fields are made on the stack: memory for
+    /// each would take longer than all else.
+    fn push_shown(&mut self, row: &Row, shown: &[u8]) -> Result<(), AllocError>
+        requires { shown.now ≡ showing_text row.now.shown }
+        ensures { OnOk result ((octets : List ℕ) → IsTable self.old octets
+            → IsTable self.new (octets ++ row_line row.now)) }
+    {
+        let mut lac = Buffer::new();
+        let mut ci = Buffer::new();
+        let mut id = Buffer::new();
+        let serial = serial_text(row.serial);
+        let mut start = Buffer::new();
+        let mut end = Buffer::new();
+        let mut completed = Buffer::new();
         self.push_line(&[
-            lac.as_bytes(),
-            ci.as_bytes(),
-            id.as_bytes(),
-            serial.as_bytes(),
-            start.as_bytes(),
-            end.as_bytes(),
-            completed.as_bytes(),
-            shown.as_bytes(),
+            lac.format(row.lac).as_bytes(),
+            ci.format(row.ci).as_bytes(),
+            id.format(row.id).as_bytes(),
+            &serial,
+            start.format(row.start).as_bytes(),
+            end.format(row.end).as_bytes(),
+            completed.format(row.completed).as_bytes(),
+            shown,
         ])
     }
 

@@ -1,11 +1,11 @@
 use Rattle.std.proofs.Common.{◌≡◌, [], ◌∷◌, rules}
 use Rattle.report.specs.ReportText.{line, row_line}
-use Rattle.report.proofs.table.Table.push.Goals as goal
+use Rattle.report.proofs.table.Table.push_shown.Goals as goal
 
 pub returns : goal.returns
 returns c =
     let fields : line (c.as_bytes.result.now ∷ c.as_bytes-2.result.now ∷ c.as_bytes-3.result.now ∷
-    c.as_bytes-4.result.now ∷ c.as_bytes-5.result.now ∷ c.as_bytes-6.result.now ∷ c.as_bytes-7.result.now ∷
-    c.as_bytes-8.result.now ∷ [])
+    c.serial_text-serial.result ∷ c.as_bytes-4.result.now ∷ c.as_bytes-5.result.now ∷ c.as_bytes-6.result.now ∷
+    c.args.shown.now ∷ [])
     ≡ row_line c.args.row.now = search rules in
     rw (← fields) c.push_line.ensures
