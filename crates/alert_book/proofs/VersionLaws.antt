@@ -17,7 +17,8 @@ use Rattle.cbsp_wire.specs.Range.{is_cell}
 use Rattle.cbsp_wire.proofs.CellLists.{is_itself, same_cell}
 use Rattle.alert_book.specs.declared.session.request.CellVersion.{CellVersion}
 use Rattle.alert_book.specs.VersionSteps.{AreApart, HasSameLists, IsPlaceOf, KeepsVersions, SetsVersion, has_cell}
-use Rattle.alert_book.specs.VersionSteps.{has_place, is_of_cell, is_version_of, kept_version, version_in_list, version_of}
+use Rattle.alert_book.specs.VersionSteps.{has_place, is_of_cell, is_version_of, kept_version, version_in_list}
+use Rattle.alert_book.specs.VersionSteps.{version_of}
 
 -- the lists of the alerts
 abbrev pub Entries : Type 0

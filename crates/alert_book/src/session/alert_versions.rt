@@ -73,8 +73,8 @@ impl AlertVersions {
         Ok(())
     }
 
-    /// Sets what the reply to a request says of a cell that it asked, for which there is a place. The cell is looked for
-    /// at this place first, here and in what the reply says.
+    /// Sets what the reply to a request says of a cell that it asked, for which there is a place. The cell is looked
+    /// for at this place first, here and in what the reply says.
     pub fn set_said(&mut self, request: &Request, outcome: &Outcome, cell: Cell, place: usize)
         requires { has_cell self.old cell ≡ true }
         ensures kept { (c : Cell) → version_in_list self.new c ≡ (if is_cell cell c
