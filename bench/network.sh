@@ -1,7 +1,7 @@
 #!/bin/sh
-# Times `warnc report` on networks of 64, 1,024 and 16,384 cells with 200 orders, in runs of 4,096 slots, by
-# cluster/parallel.sh with 1, 2 and 4 tasks at a time: seconds, cells a second, and the most memory that one task took.
-# It needs GNU parallel.
+# Times `warnc report --network` on networks of 64, 1,024 and 16,384 cells with 200 orders, in runs of 4,096 slots, with
+# 1, 2 and 4 workers: seconds, cells a second, and the most memory; and how many times as long as its 256 groups, each
+# by itself, the largest takes with one worker.
 #
 # Usage: bench/network.sh [PROGRAM]
 set -eu
@@ -9,10 +9,10 @@ top=$(cd "$(dirname "$0")/.." && pwd)
 work=$(mktemp -d)
 trap 'rm -rf "$work"' EXIT
 [ $# -gt 0 ] || "$top/warnc" --help >/dev/null
-python3 - "${1:-$top/crates/warnc/out/warnc}" "$work" "$top" <<'PY'
+python3 - "${1:-$top/crates/warnc/out/warnc}" "$work" <<'PY'
 import os, random, resource, subprocess, sys, time
 
-program, work, top = sys.argv[1:]
+program, work = sys.argv[1:]
 
 
 def network(cells):
@@ -26,22 +26,28 @@ def network(cells):
     return "\n".join(rows) + "\n"
 
 
+alone = None
 for cells in (64, 1024, 16384):
     book = os.path.join(work, f"{cells}.csv")
     with open(book, "w", encoding="utf-8") as it:
         it.write(network(cells))
-    reports = []
-    for tasks in (1, 2, 4):
-        output = os.path.join(work, f"{cells}.{tasks}")
-        begun = time.monotonic()
-        subprocess.run([os.path.join(top, "cluster", "parallel.sh"), "report", "4096", book, output, "-j", str(tasks)],
-                       env={**os.environ, "WARNC": program}, stderr=subprocess.DEVNULL, check=True)
-        took = time.monotonic() - begun
-        with open(output, "rb") as it:
-            reports.append(it.read())
-        print(f"{cells:6} cells, {tasks} tasks at a time: {took:6.2f} s, {cells / took:6.0f} cells a second")
+    reports, took = [], {}
+    for workers in (1, 2, 4):
+        # the best of some runs, since a short one is easily disturbed
+        for _ in range(5 if cells == 64 else 1):
+            begun = time.monotonic()
+            with open(book, "rb") as it:
+                done = subprocess.run([program, "report", "--slots", "4096", "--network", "--workers", str(workers)],
+                                      stdin=it, stdout=subprocess.PIPE, check=True)
+            spent = time.monotonic() - begun
+            took[workers] = min(spent, took.get(workers, spent))
+            reports.append(done.stdout)
+        print(f"{cells:6} cells, {workers} workers: {took[workers]:6.2f} s, {cells / took[workers]:6.0f} cells a second")
     if len(set(reports)) != 1:
         sys.exit("the reports differ")
+    alone = alone or took[1]
+    print(f"{cells:6} cells: {took[1] / (alone * cells / 64):.2f} times as long as one group for each of its groups, "
+          f"{took[1] / took[4]:.1f} times as fast with 4 workers")
 peak = resource.getrusage(resource.RUSAGE_CHILDREN).ru_maxrss
-print(f"most memory of one process: {peak / 1000:.0f} MB")
+print(f"most memory: {peak / 1000:.0f} MB")
 PY

@@ -1,6 +1,6 @@
 #!/usr/bin/env python3
-"""Splits network books into plain books, as docs/formats.md says what a group has, and compares the groups' outputs, joined in order,
-with what another program makes of the plain books.
+"""Splits network books into plain books, as docs/formats.md says what a group has, and compares what another program makes of these
+with the groups' outputs, joined in order, and with what `--network` writes at once.
 
 Usage: network_reference.py PROGRAM REFERENCE [NETWORKS]    300 random networks if no number is given. PROGRAM is a built `warnc`;
                                                             REFERENCE takes plain books alone, as `warnc` does: `compile` and `report`
@@ -89,9 +89,11 @@ def ran(program, words, book):
     return done.stdout
 
 
-def joined(program, command, network, groups):
-    """Returns the outputs of all groups, one after the other."""
-    return b"".join(ran(program, [command, "--slots", str(SLOTS), "--group", str(it)], network) for it in range(groups))
+def has_all(program, command, network, groups, output):
+    """Returns whether the outputs of all groups, one after the other, are this, and so is that of the whole network."""
+    words = [command, "--slots", str(SLOTS)]
+    return (b"".join(ran(program, [*words, "--group", str(it)], network) for it in range(groups)) == output
+            and ran(program, [*words, "--network", "--workers", "3"], network) == output)
 
 
 def wanted(reference, rows, cells):
@@ -120,8 +122,8 @@ def main():
         groups = int(ran(program, ["groups"], network))
         report, tapes = wanted(reference, rows, cells)
         alike = (groups == max(1, -(-len(cells) // GROUP))
-                 and joined(program, "report", network, groups) == report
-                 and joined(program, "compile", network, groups) == tapes)
+                 and has_all(program, "report", network, groups, report)
+                 and has_all(program, "compile", network, groups, tapes))
         if not alike:
             differing += 1
             print(f"network {seed} differs: {len(cells)} cells, {len(rows) - len(cells)} other rows")

@@ -20,17 +20,20 @@ _warnc() {
         --used)
             words="--channel -h --help"
             ;;
+        --network)
+            words="--slots --workers -h --help"
+            ;;
         --*)
             # any other option takes a number, which nobody can guess
             ;;
         *)
             case ${COMP_WORDS[1]} in
-            compile) words="--slots --group --workers -h --help" ;;
+            compile) words="--slots --group --network --workers -h --help" ;;
             live) words="--slots --group --sessions --workers -h --help" ;;
             read) words="-h --help" ;;
             pcap) words="--used --channel -h --help" ;;
             tape) words="--cell --slots --from -h --help" ;;
-            report) words="--slots --group --workers -h --help" ;;
+            report) words="--slots --group --network --workers -h --help" ;;
             groups) words="-h --help" ;;
             chart) words="--slots --cell --workers -h --help" ;;
             verify) words="--slots --group --book-octets --workers -h --help" ;;

@@ -19,6 +19,7 @@ complete -c warnc -n __fish_use_subcommand -a help -d 'Print what a command take
 
 complete -c warnc -n '__fish_seen_subcommand_from compile' -x -l slots -d 'How many slots each run has, 1 to 65535'
 complete -c warnc -n '__fish_seen_subcommand_from compile' -x -l group -d 'Group of a network book, from 0'
+complete -c warnc -n '__fish_seen_subcommand_from compile' -f -l network -d 'All groups of a network book, in order'
 complete -c warnc -n '__fish_seen_subcommand_from compile' -x -l workers -d 'How many workers play cells, 1 to 64'
 complete -c warnc -n '__fish_seen_subcommand_from live' -x -l slots -d 'How many slots each run has, 1 to 65535'
 complete -c warnc -n '__fish_seen_subcommand_from live' -x -l group -d 'Group of a network book, from 0'
@@ -32,6 +33,7 @@ complete -c warnc -n '__fish_seen_subcommand_from tape' -x -l slots -d 'How many
 complete -c warnc -n '__fish_seen_subcommand_from tape' -x -l from -d 'IPv4 address of the source'
 complete -c warnc -n '__fish_seen_subcommand_from report' -x -l slots -d 'How many slots each run has, 1 to 65535'
 complete -c warnc -n '__fish_seen_subcommand_from report' -x -l group -d 'Group of a network book, from 0'
+complete -c warnc -n '__fish_seen_subcommand_from report' -f -l network -d 'All groups of a network book, in order'
 complete -c warnc -n '__fish_seen_subcommand_from report' -x -l workers -d 'How many workers play cells, 1 to 64'
 complete -c warnc -n '__fish_seen_subcommand_from groups'
 complete -c warnc -n '__fish_seen_subcommand_from chart' -x -l slots -d 'How many slots each run has, 1 to 65535'

@@ -3,3 +3,4 @@ pub mod SomeTape
 pub mod NoRun
 pub mod NotVerified
 pub mod Tasks
+pub mod NetworkRun

@@ -48,7 +48,8 @@ no_book book input last f read (inr (inr (inl long))) is = inl (no_longer max_bo
 no_book book input last f read (inr (inr (inr wrong))) is =
     inr (f, subst (λ (octets : List ℕ). IsWrong octets f) (whole book input last read wrong.0) wrong.1, is)
 
-no_network : (group : ℕ) (book input : List ℕ) (last : Option (List ℕ)) (f : BookFault)
+-- octets that are refused as a network book are none
+pub no_network : (group : ℕ) (book input : List ℕ) (last : Option (List ℕ)) (f : BookFault)
     → Consumes (Some book) last input
     → (f ≡ refused) ⊎ ((f ≡ unread) ⊎ (((f ≡ too_long) × (length input ≡ max_network + 1))
     ⊎ (IsAtEnd last × IsWrongNetwork group input f)))

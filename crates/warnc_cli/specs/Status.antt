@@ -313,8 +313,9 @@ pub record RefusesNetworkBook (words : List (List ℕ)) (input : Option (List �
 
 abbrev pub RefusesInput : (words : List (List ℕ)) (input : Option (List ℕ)) → Type 0
 RefusesInput words input =
-    RefusesText words input ⊎ ((RefusesTapes words input
-    ⊎ (RefusesGroups words input ⊎ RefusesNetworkBook words input)) ⊎ (RefusesCapture words input ⊎ (RefusesAir words input
+    RefusesText words input
+    ⊎ ((RefusesTapes words input ⊎ (RefusesGroups words input ⊎ RefusesNetworkBook words input))
+    ⊎ (RefusesCapture words input ⊎ (RefusesAir words input
     ⊎ (RefusesAlerts words input ⊎ (RefusesLiveAlerts words input ⊎ (RefusesReportedAlerts words input
     ⊎ (RefusesChartedAlerts words input ⊎ RefusesVerified words input)))))))
 

@@ -68,9 +68,9 @@ pub fn run<T: AllocGlobal + Threads + Wait + Sync, S: AsStr, R: Read, W: Write, 
 }
 
 /// The same, between two ends. With status 0 what the words ask for is written, with 2 and 4 nothing is, and with 1 the
-/// differences, if the words ask for `verify` and there are some, and else nothing; but of a network whose run ended
-/// early the first groups are, with 1 and with 4. That is one octet at least, but for `compile` and `live`, since a book
-/// without cells has no tapes, and for the report of a group.
+/// differences, if the words ask for `verify` and there are some, and else nothing. That is one octet at least, but for
+/// `compile` and `live`, since a book without cells has no tapes, and for the report of a group. Of a network whose run
+/// ends early the first groups are written with 1 and with 4.
 pub fn run_between<T: AllocGlobal + Threads + Wait + Sync, S: AsStr, R: Read, W: Write, F: Write>(
     rt: &T,
     words: &[S],

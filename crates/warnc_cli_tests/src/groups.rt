@@ -43,6 +43,23 @@ run -> 0
 out -> 1,64,4370,0010,0,2,1,yes
 fronts 0 0 -> 1 warnc: no such group: the network has 1
 
+# all groups at once
+args report --slots 2 --network
+run -> 0
+out -> lac,ci,id,serial,start,end,completed,shown
+out -> 1,0,4370,0010,0,2,1,yes
+out -> 1,64,4370,0010,0,2,1,yes
+args report --slots 2 --network --workers 2
+run -> 0
+out -> lac,ci,id,serial,start,end,completed,shown
+out -> 1,0,4370,0010,0,2,1,yes
+out -> 1,64,4370,0010,0,2,1,yes
+reads 0 9 -> 3 warnc: read failed
+writer 1 42
+run -> 3
+err -> warnc: write failed
+all -> lac,ci,id,serial,start,end,completed,shown
+
 # and is no book of 64 cells
 args report --slots 2
 fails -> 1 warnc: row 65: too many rows
@@ -52,6 +69,16 @@ args compile --slots 2 --group 65535
 fails -> 1 warnc: no such group: the network has 2
 args live --slots 2 --group 2
 fails -> 1 warnc: no such group: the network has 2
+
+# a network of one group
+in cell,1,64
+in write,0,a,4370,0,1,en,2,2,1,*,@
+args compile --slots 2 --network --workers 64
+run -> 0
+all -> worked
+args groups
+run -> 0
+out -> 1
 
 # a group without an order: no line at all
 in-cells 0 65
@@ -65,7 +92,13 @@ in write,0,a,4370,0,1,xx,2,2,1,1-0,@
 fails -> 1 warnc: row 66: unknown language
 args groups
 fails -> 1 warnc: row 66: unknown language
+args report --slots 2 --network
+fails -> 1 warnc: row 66: unknown language
+args compile --slots 2 --network
+fails -> 1 warnc: row 66: unknown language
 in cell,1
+fails -> 1 warnc: row 1: columns
+args groups
 fails -> 1 warnc: row 1: columns
 
 # the network book has 679 octets, and the tape follows it

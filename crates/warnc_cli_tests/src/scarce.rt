@@ -189,6 +189,8 @@ in write,0,a,4370,0,1,en,2,2,0,1-1,@
 worked lac,ci,id,serial,start,end,completed,shown
 worked 1,1,4370,0010,0,2,1,yes
 scarce -> 0 worked
+args report --slots 2 --network
+scarce -> 0 worked
 ";
 
 const CAPTURES: &str = "

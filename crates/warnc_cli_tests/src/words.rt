@@ -77,6 +77,16 @@ args read --group 0
 usage -> 2 error:
 args chart --slots 4 --group 0
 usage -> 2 error:
+args report --slots 4 --network --group 0
+usage -> 2 error:
+args compile --slots 4 --group 0 --network
+usage -> 2 error:
+args report --slots 4 --network=0
+usage -> 2 error:
+args live --slots 4 --network
+usage -> 2 error:
+args groups --network
+usage -> 2 error:
 
 # the least and the most, on a book without cells
 in-none

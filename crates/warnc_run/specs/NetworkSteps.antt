@@ -44,7 +44,8 @@ abbrev pub WritesFrontOf : List ℕ → (old new : Option (List ℕ)) → Type 0
 WritesFrontOf octets old new = (taken : ℕ) × Appends old new (take taken octets)
 
 -- no more than a front of the parts of at most so many was written
-pub record WritesPartsFront (made : Product) (slots group most : ℕ) (input : List ℕ) (old new : Option (List ℕ)) : Type 0
+pub record WritesPartsFront (made : Product) (slots group most : ℕ) (input : List ℕ) (old new : Option (List ℕ)) : Type
+    0
   where
     pub parts : List (List ℕ)
     pub few : length parts ≤ most

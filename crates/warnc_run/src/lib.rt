@@ -6,9 +6,9 @@
 //! while the desk is open, settles the desk, compares the tapes with the records, and writes them. [`compile_stream`]
 //! is that with one session, and [`report_stream`] makes the tapes of one session's records, reads them and writes what
 //! became of each order, which [`chart_stream`] draws. [`compile_from`], [`live_from`] and [`report_from`] do the same
-//! for a group of a network book, and [`network_stream`] does it for all groups. What was written is said by definitions of the book's octets alone (`IsCompiled`,
-//! `IsLive`, `IsReported`, `IsCharted`), which know of no worker: which orders each cell answered, at which slot, and
-//! what a handset shows that reads its tape.
+//! for a group of a network book, and [`network_stream`] does it for all groups. What was written is said by
+//! definitions of the book's octets alone (`IsCompiled`, `IsLive`, `IsReported`, `IsCharted`), which know of no worker:
+//! which orders each cell answered, at which slot, and what a handset shows that reads its tape.
 #![tactic(auto)]
 
 mod book;
