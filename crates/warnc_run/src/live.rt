@@ -22,10 +22,11 @@ use std::thread::Threads;
 
 /// Reads a book, and has the cells of a desk carry out what the sessions of its parts order, in runs of `slots` slots:
 /// there are `sessions` of them, 1 to 64, each in a thread of its own with a pass of its own. Once they have ended,
-/// `workers` workers, 1 to 64, each with a pass of its own, play the cells to the ends of their runs and hand their
-/// pages on as they are played; the tapes are put together from them while the desk is open. Then the desk is settled
-/// with all passes, and the tapes are compared with the records of the cells, and written in the order of the book.
-/// Nothing is written before that. `gate` is called while a cell is held.
+/// `workers` workers, 1 to 64, each with a pass of its own, play the cells to the ends of their runs. Several hand on
+/// their pages as they are played; the tapes are put together from them while the desk is open. Then the desk is
+/// settled with all passes, and the tapes are compared with the records of the cells; one worker makes them of these
+/// records. They are written in the order of the book, and nothing is written before. `gate` is called while a cell is
+/// held.
 ///
 /// What was written is what the book means (`IsLive`): there is a session for each part, whose messages are those of
 /// the part's rows by the replies that it gets; each cell's log has what the sessions order of it, each session's in

@@ -12,34 +12,31 @@ use alert_book::Book;
 use bsc_table::CellRecord;
 use cbch_blocks::Tape;
 use order_desk::{Desk, Gate, Open};
-use parallel_compile::{check_streamed, stream_all};
+use parallel_compile::{check_streamed, compile_one, stream_all};
 use std::alloc::AllocGlobal;
 use std::sync::Wait;
 use std::thread::Threads;
 
-/// The tapes of a book's cells after the sessions of its parts: workers play the cells and hand on their pages while
-/// the desk is open, and the tapes that these make are compared with the records of the settled desk.
-pub(crate) fn tapes_of_book<T: AllocGlobal + Threads + Wait + Sync, G: Gate>(
+/// The records of a book's cells after the sessions of its parts, played out by workers.
+fn records_after<T: AllocGlobal + Threads + Wait + Sync, G: Gate>(
     rt: &T,
     book: &Book,
     slots: u16,
     sessions: Sessions,
     workers: Workers,
     gate: &G,
-) -> Result<Vec<Tape>, RunFault>
+) -> Result<Vec<CellRecord>, RunFault>
     requires book { IsSomeBook book.now }
-    ensures ok { IfOk result (λ tapes. AreTapesOf book.now slots sessions.number tapes.items) }
-    ensures err { IfErr result (IsOfTapes book.now slots sessions.number) }
+    ensures ok { IfOk result (λ records. HaveRunLive book.now slots sessions.number records.items) }
+    ensures err { IfErr result (IsOfBook book.now slots sessions.number) }
 {
     // No book has a cell twice.
     alert_book::book_laws();
     let desk = Desk::open(rt.alloc(), book.cells(), slots)?;
     let mut passes = run_sessions(rt, book, &desk, sessions, gate)?;
-    let (tapes, mut played) = stream_all(rt, rt.alloc(), &desk, workers.number, gate)?;
+    let mut played = play_out(rt, &desk, workers, gate)?;
     passes.append(&mut played)?;
-    let records = settled_records(rt.alloc(), book, desk, sessions, &passes)?;
-    check_streamed(&tapes, &records)?;
-    Ok(tapes)
+    settled_records(rt.alloc(), book, desk, sessions, &passes)
 }
 
 /// The records of a book's cells after its one session, played out by workers.
@@ -53,12 +50,53 @@ pub(crate) fn records_of_book<T: AllocGlobal + Threads + Wait + Sync>(
     ensures ok { IfOk result (λ records. HaveRunLive book.now slots 1 records.items) }
     ensures err { IfErr result (IsOfBook book.now slots 1) }
 {
+    let one = Sessions { number: 1 };
+    records_after(rt, book, slots, one, workers, &Open)
+}
+
+/// The tapes of a book's cells after the sessions of its parts, by one worker. It has nobody to hand pages to while the
+/// desk is open, so the tapes are made of the settled records, each once, and there is nothing to compare.
+fn tapes_by_one<T: AllocGlobal + Threads + Wait + Sync, G: Gate>(
+    rt: &T,
+    book: &Book,
+    slots: u16,
+    sessions: Sessions,
+    worker: Workers,
+    gate: &G,
+) -> Result<Vec<Tape>, RunFault>
+    requires book { IsSomeBook book.now }
+    ensures ok { IfOk result (λ tapes. AreTapesOf book.now slots sessions.number tapes.items) }
+    ensures err { IfErr result (IsOfTapes book.now slots sessions.number) }
+{
+    let records = records_after(rt, book, slots, sessions, worker, gate)?;
+    let tapes = compile_one(rt.alloc(), &records)?;
+    Ok(tapes)
+}
+
+/// The tapes of a book's cells after the sessions of its parts: several workers play the cells and hand on their pages
+/// while the desk is open, and the tapes that these make are compared with the records of the settled desk.
+pub(crate) fn tapes_of_book<T: AllocGlobal + Threads + Wait + Sync, G: Gate>(
+    rt: &T,
+    book: &Book,
+    slots: u16,
+    sessions: Sessions,
+    workers: Workers,
+    gate: &G,
+) -> Result<Vec<Tape>, RunFault>
+    requires book { IsSomeBook book.now }
+    ensures ok { IfOk result (λ tapes. AreTapesOf book.now slots sessions.number tapes.items) }
+    ensures err { IfErr result (IsOfTapes book.now slots sessions.number) }
+{
+    if workers.number == 1 {
+        return tapes_by_one(rt, book, slots, sessions, workers, gate);
+    }
     // No book has a cell twice.
     alert_book::book_laws();
-    let one = Sessions { number: 1 };
     let desk = Desk::open(rt.alloc(), book.cells(), slots)?;
-    let mut passes = run_sessions(rt, book, &desk, one, &Open)?;
-    let mut played = play_out(rt, &desk, workers, &Open)?;
+    let mut passes = run_sessions(rt, book, &desk, sessions, gate)?;
+    let (tapes, mut played) = stream_all(rt, rt.alloc(), &desk, workers.number, gate)?;
     passes.append(&mut played)?;
-    settled_records(rt.alloc(), book, desk, one, &passes)
+    let records = settled_records(rt.alloc(), book, desk, sessions, &passes)?;
+    check_streamed(&tapes, &records)?;
+    Ok(tapes)
 }
