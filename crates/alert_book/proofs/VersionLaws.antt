@@ -35,6 +35,7 @@ other_cell a b apart = elim (cases_Bool (is_cell a b)) [
   | inr other ↦ other
 ]
 
+-- cells that differ one way differ the other way too
 pub turned : (a b : Cell) → is_cell a b ≡ false → is_cell b a ≡ false
 turned a b other =
     other_cell b a (λ same. let self : is_cell a b ≡ true = ap (is_cell a) same ∙ is_itself a in cc)
@@ -65,6 +66,7 @@ found_if : (b : Bool) (first place : ℕ) → cond b (Some first) None ≡ Some 
 found_if true first place found = (refl, some_is first place found)
 found_if false first place found = absurd (no_some place (sym found))
 
+-- a place that was found is the first of the cell
 pub place_found : (list : List CellVersion) (cell : Cell) (place : ℕ)
     → position (is_of_cell cell) list ≡ Some place → IsPlaceOf list cell place
 place_found list cell place found =
@@ -76,6 +78,7 @@ none_if : (b : Bool) (first : ℕ) → cond b (Some first) None ≡ None → b �
 none_if true first none = absurd (no_some first none)
 none_if false first none = refl
 
+-- if none was found, no version is of the cell
 pub none_found : (list : List CellVersion) (cell : Cell) → position (is_of_cell cell) list ≡ None
     → has_cell list cell ≡ false
 none_found list cell none =
@@ -84,17 +87,19 @@ none_found list cell none =
     ltb-false first (length list) (none_if (ltb first (length list)) first none) in
     ap is_some (find_at (is_of_cell cell) list ∙ slice_get_past list first past)
 
+-- so it is of what a search returns
 pub found_by : (list : List CellVersion) (cell : Cell) (place : Option ℕ) → place ≡ position (is_of_cell cell) list
     → IfSome place (IsPlaceOf list cell)
 found_by list cell None is = tt
 found_by list cell (Some place) is = place_found list cell place (sym is)
 
+-- and of a search that returns none
 pub none_by : (list : List CellVersion) (cell : Cell) (place : Option ℕ) → place ≡ position (is_of_cell cell) list
     → IfNone place (has_cell list cell ≡ false)
 none_by list cell None is = none_found list cell (sym is)
 none_by list cell (Some place) is = tt
 
--- what has a place is there, and what has none isn't
+-- what has a place is there
 pub has_found : (list : List CellVersion) (cell : Cell) (place : Option ℕ) → is_some place ≡ true
     → IfSome place (IsPlaceOf list cell) → has_cell list cell ≡ true
 has_found list cell None some at = search (rules, some)
@@ -102,6 +107,7 @@ has_found list cell (Some place) some at =
     ap is_some (find_at (is_of_cell cell) list ∙ ap (slice_get list) at.first
     ∙ slice_get-get_or list place (versioned cell None) at.within)
 
+-- what has no place isn't there
 pub has_none : (list : List CellVersion) (cell : Cell) (place : Option ℕ) → is_some place ≡ false
     → IfNone place (has_cell list cell ≡ false) → has_cell list cell ≡ false
 has_none list cell None none apart = apart
@@ -115,6 +121,7 @@ own_at list cell place d at =
     let passes = passes_at_first (is_of_cell cell) list d (subst (λ k. k < length list) (sym at.first) at.within) in
     same_cell _ _ (ap (λ k. is_of_cell cell (get_or list k d)) (sym at.first) ∙ passes)
 
+-- the version at a cell's place is the cell's
 pub version_at : (list : List CellVersion) (cell : Cell) (place : ℕ) (d : CellVersion) → IsPlaceOf list cell place
     → (get_or list place d).version ≡ version_in_list list cell
 version_at list cell place d at =
@@ -142,6 +149,7 @@ version_if : (b : Bool) (one : CellVersion) (found : Option CellVersion)
 version_if true one found = refl
 version_if false one found = refl
 
+-- after a version is set each cell has what it had, but for its own cell
 pub kept_set : (list : List CellVersion) (cell c : Cell) (place : ℕ) (version : Option ℕ) → IsPlaceOf list cell place
     → version_in_list (set list place (versioned cell version)) c
     ≡ cond (is_cell cell c) version (version_in_list list c)
@@ -149,6 +157,7 @@ kept_set list cell c place version at =
     ap version_of (found_set list cell c place version at)
     ∙ version_if (is_cell cell c) (versioned cell version) (find (is_of_cell c) list)
 
+-- and the same cells have a place
 pub places_set : (list : List CellVersion) (cell c : Cell) (place : ℕ) (version : Option ℕ)
     → has_cell list cell ≡ true → IsPlaceOf list cell place
     → has_cell (set list place (versioned cell version)) c ≡ has_cell list c
@@ -175,6 +184,7 @@ cell_at list cell place k version d at = elim (cases_Bool (eqb k place)) [
       (get_or-set_other list place k (versioned cell version) d (eqb-false k place there))
 ]
 
+-- versions of different cells stay so after one is set
 pub apart_set : (list : List CellVersion) (cell : Cell) (place : ℕ) (version : Option ℕ) → AreApart list
     → IsPlaceOf list cell place → AreApart (set list place (versioned cell version))
 apart_set list cell place version apart at = λ i j d before inside same.
@@ -188,6 +198,7 @@ version_or None true cell = refl
 version_or None false cell = refl
 version_or (Some one) b cell = refl
 
+-- after a place is made each cell has the version that it had
 pub kept_pushed : (list : List CellVersion) (cell c : Cell)
     → version_in_list (list ++ versioned cell None ∷ []) c ≡ version_in_list list c
 kept_pushed list cell c =
@@ -202,12 +213,14 @@ or_some : (found : Option CellVersion) (one : CellVersion) → is_some (option_o
 or_some None one = refl
 or_some (Some other) one = refl
 
+-- a cell that had a place has one yet
 pub places_pushed : (list : List CellVersion) (cell c : Cell) → has_cell list c ≡ true
     → has_cell (list ++ versioned cell None ∷ []) c ≡ true
 places_pushed list cell c placed =
     ap is_some (find-append (is_of_cell c) list (versioned cell None ∷ []))
     ∙ some_or (find (is_of_cell c) list) (find (is_of_cell c) (versioned cell None ∷ [])) placed
 
+-- the cell for which a place is made has one
 pub made_pushed : (list : List CellVersion) (cell : Cell) → has_cell (list ++ versioned cell None ∷ []) cell ≡ true
 made_pushed list cell =
     ap is_some (find-append (is_of_cell cell) list (versioned cell None ∷ []))
@@ -230,6 +243,7 @@ no_first list cell d none = elim (cases_Bool (ltb first (length list))) [
     first : ℕ
     first = position_or_len (is_of_cell cell) list
 
+-- versions of different cells stay so after a place is made for another cell
 pub apart_pushed : (list : List CellVersion) (cell : Cell) → AreApart list → has_cell list cell ≡ false
     → AreApart (list ++ versioned cell None ∷ [])
 apart_pushed list cell apart none =

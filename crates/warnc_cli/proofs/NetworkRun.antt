@@ -1,6 +1,7 @@
 -- What a run of all groups of a network writes, and what its faults say of the input.
 use Rattle.std.proofs.Common.{◌≡◌, ◌≢◌, ◌⊎◌, ◌∙◌, ℕ, suc, zero, ◌<◌, ◌≤◌, List, [], ◌∷◌, ◌++◌, length, slice_get}
-use Rattle.std.proofs.Common.{◌+◌, ◌/◌, map, ap, arith, inl, inr, refl, subst, sym, true, codes, IfSome, None, Option, Some}
+use Rattle.std.proofs.Common.{◌+◌, ◌/◌, map, ap, arith, inl, inr, refl, subst, sym, true, codes, IfSome, None, Option}
+use Rattle.std.proofs.Common.{Some}
 use Rattle.std.proofs.Math.Nat.{le-max_left}
 use Rattle.std.proofs.lemmas.List.{length-append}
 use Rattle.std.specs.Io.KnownBytes.{Appends, Keeps}
@@ -119,7 +120,8 @@ pub some_report : (slots : ℕ) (input output : List ℕ) → IsOfNetwork produc
 some_report slots input output is =
     subst (λ (octets : List ℕ). 0 < length octets) (sym is.written) (by_parts is.parts is.counted is.each)
   where
-    by_parts : (parts : List (List ℕ)) → HasGroups 0 input (length parts) → ArePartsFrom product.Report slots input 0 parts
+    by_parts : (parts : List (List ℕ)) → HasGroups 0 input (length parts)
+        → ArePartsFrom product.Report slots input 0 parts
         → 0 < length (joined_parts parts)
     by_parts [] counted each = absurd (omega (arith, counted.count, some_groups (length counted.rows.cells)))
     by_parts (part ∷ parts) counted each =
