@@ -50,7 +50,7 @@ pub enum NetworkFault {
 
 /// Reads a network book, runs the book of each of its groups as [`compile_from`](crate::compile_from) and
 /// [`report_from`](crate::report_from) do, `workers` of them side by side, and writes the parts of the groups in their
-/// order, each as soon as those before it are written. So the parts of at most `workers` groups are held at a time.
+/// order, a few at a time: the tapes of as many groups as there are workers, or the reports of eight times as many.
 ///
 /// What was written is the network's (`IsOfNetwork`): the part of each group, one after the other. It does not depend
 /// on the number of workers.

@@ -21,7 +21,7 @@ use cbch_blocks::Tape;
 use device_ends::{Failed, Sink, write_all};
 use order_desk::Open;
 use report::text_of;
-use std::alloc::{AllocError, AllocGlobal};
+use std::alloc::{AllocError, AllocGlobal, Global};
 use std::io::Write;
 use std::sync::Wait;
 use std::thread;
@@ -166,30 +166,35 @@ impl Network<'_> {
         }
     }
 
-    /// What comes of so many groups from the first on, which are run side by side.
+    /// What comes of so many groups from the first on, which workers run side by side.
     fn parts_from<T: AllocGlobal + Threads + Wait + Sync>(
         &self,
         rt: &T,
         made: Product,
         first: u16,
         count: u16,
+        workers: Workers,
     ) -> Result<Vec<Result<Part, RunFault>>, AllocError>
         requires few { first + count ≤ self.now.groups }
         requires counted { HasGroups 0 self.now.octets.now self.now.groups }
-        ensures count { IfOk result (λ all. vec_len all ≡ count) }
+        ensures count { IfOk result (λ all. length all.items ≡ count) }
         ensures each { IfOk result (λ all. AreMadeFrom made self.now.slots first self.now.octets.now all.items) }
     {
         let network = *self;
-        thread::map_indices(
+        let mut all = none_yet(rt.alloc(), count)?;
+        thread::for_each_mut(
             rt,
-            rt.alloc(),
-            usize::from(count),
-            &|place: usize| -> Result<Part, RunFault>
+            &mut all,
+            workers.number as usize,
+            &|place: usize, part: &mut Result<Part, RunFault>|
                 requires there { first + place < network.groups }
                 requires counted { HasGroups 0 network.octets.now network.groups }
-                ensures { IsMadeOf made network.entry.slots (first + place) network.entry.octets.now result }
-            { network.part(rt, made, first + place as u16) },
-        )
+                ensures { IsMadeOf made network.entry.slots (first + place) network.entry.octets.now part.new }
+            {
+                *part = network.part(rt, made, first + place as u16);
+            },
+        );
+        Ok(all)
     }
 
     /// Makes the parts of so many groups from the first on, and writes them.
@@ -199,6 +204,7 @@ impl Network<'_> {
         made: Product,
         first: u16,
         count: u16,
+        workers: Workers,
         sink: &mut Sink<W>,
     ) -> Result<(), NetworkFault>
         requires some { 0 < count }
@@ -212,7 +218,7 @@ impl Network<'_> {
         ensures open { OnOk result (sink_failed sink.new ≡ false) }
         ensures failed { IfErr result (λ fault. sink_failed sink.new ≡ is_of_writer fault) }
     {
-        let Ok(all) = self.parts_from(rt, made, first, count) else {
+        let Ok(all) = self.parts_from(rt, made, first, count, workers) else {
             return Err(NetworkFault::Group {
                 group: first,
                 fault: RunFault::Refused,
@@ -224,6 +230,29 @@ impl Network<'_> {
             group += 1;
         }
         Ok(())
+    }
+}
+
+/// Places for what comes of so many groups, of which nothing came yet.
+fn none_yet(alloc: Global, count: u16) -> Result<Vec<Result<Part, RunFault>>, AllocError>
+    ensures { IfOk result (λ all. length all.items ≡ count) }
+{
+    let mut all = Vec::with_capacity(alloc, usize::from(count))?;
+    for _ in 0..count {
+        all.push(Err(RunFault::Refused))?;
+    }
+    Ok(all)
+}
+
+/// How many groups are run before their parts are written: some for each worker, so that one whose groups are soon done
+/// seldom waits for the others, but one for each of tapes, which take much memory.
+fn groups_at_once(made: Product, workers: Workers) -> u16
+    ensures { 0 < result }
+{
+    let each = workers.number as u16;
+    match made {
+        Product::Tapes => each,
+        Product::Report => 8 * each,
     }
 }
 
@@ -253,7 +282,7 @@ fn write_one<W: Write>(
     }
 }
 
-/// Makes the parts of all groups, as many at a time as there are workers, and writes them.
+/// Makes the parts of all groups, those of a few a worker at a time, and writes them.
 pub(crate) fn write_groups<T: AllocGlobal + Threads + Wait + Sync, W: Write>(
     rt: &T,
     network: &Network,
@@ -272,8 +301,8 @@ pub(crate) fn write_groups<T: AllocGlobal + Threads + Wait + Sync, W: Write>(
 {
     let mut first = 0;
     while first < network.groups {
-        let count = (network.groups - first).min(workers.number as u16);
-        network.write_batch(rt, made, first, count, sink)?;
+        let count = (network.groups - first).min(groups_at_once(made, workers));
+        network.write_batch(rt, made, first, count, workers, sink)?;
         first += count;
     }
     Ok(())

@@ -1,4 +1,4 @@
-use Rattle.std.proofs.Common.{◌≡◌, ◌∙◌, Bool, false, rules, sym, true}
+use Rattle.std.proofs.Common.{◌≡◌, ◌∙◌, false, rules, sym, true}
 use Rattle.warnc_run.proofs.GroupParts.{counted_alike, only_memory_fails}
 use Rattle.warnc_run.proofs.parts.Network.book.Goals as goal
 

@@ -1,4 +1,4 @@
-use Rattle.std.proofs.Common.{Bool, List, subst, sym}
+use Rattle.std.proofs.Common.{Bool, subst, sym}
 use Rattle.alert_book.specs.declared.network.Origin.TheVariants as origin
 use Rattle.report.specs.ReportText.{part_text}
 use Rattle.warnc_run.specs.Reported.{IsReportedFrom}
