@@ -1,12 +1,11 @@
 -- What a run of all groups of a network writes, and what its faults say of the input.
-use Rattle.std.proofs.Common.{◌≡◌, ◌≢◌, ◌⊎◌, ◌∙◌, ℕ, suc, zero, ◌<◌, ◌≤◌, List, [], ◌∷◌, ◌++◌, length, slice_get}
-use Rattle.std.proofs.Common.{◌+◌, ◌/◌, map, ap, arith, inl, inr, refl, subst, sym, true, codes, IfSome, None, Option}
+use Rattle.std.proofs.Common.{◌≡◌, ◌≢◌, ◌⊎◌, ◌∙◌, ℕ, ◌<◌, List, [], ◌∷◌, length}
+use Rattle.std.proofs.Common.{◌+◌, ◌/◌, map, ap, arith, inl, inr, refl, subst, sym, true, IfSome, None, Option}
 use Rattle.std.proofs.Common.{Some}
 use Rattle.std.proofs.Math.Nat.{le-max_left}
 use Rattle.std.proofs.lemmas.List.{length-append}
-use Rattle.std.specs.Io.KnownBytes.{Appends, Keeps}
+use Rattle.std.specs.Io.KnownBytes.{Keeps}
 use Rattle.device_ends.specs.Moves.{WritesOutput}
-use Rattle.alert_book.specs.Book.{Contents}
 use Rattle.alert_book.specs.declared.network.Origin.TheVariants as origin
 use Rattle.alert_book.specs.Network.{groups_of, HasGroups, IsGroupBook}
 use Rattle.order_desk.specs.declared.fault.DeskFault.TheVariants as desk
@@ -18,7 +17,7 @@ use Rattle.warnc_run.specs.declared.network.NetworkFault.{NetworkFault}
 use Rattle.warnc_run.specs.declared.network.NetworkFault.TheVariants as fault
 use Rattle.warnc_run.specs.declared.network.Product.{Product}
 use Rattle.warnc_run.specs.declared.network.Product.TheVariants as product
-use Rattle.warnc_run.specs.Compiled.{Makes, StopsRun}
+use Rattle.warnc_run.specs.Compiled.{Makes}
 use Rattle.report.specs.ReportText.{part_text}
 use Rattle.report.specs.Rows.{report_rows}
 use Rattle.warnc_run.specs.Network.{joined_parts, AreFirstParts, ArePartsFrom, HasNoPart, IsNetworkFault, IsOfNetwork}
