@@ -41,12 +41,13 @@ impl Slate {
         &self.output[..3000_usize.saturating_sub(self.output_left)]
     }
 
-    /// Whether the run was refused memory, and said so, and wrote nothing.
+    /// Whether the run was refused memory, and said so, and wrote nothing. A group's run names the group.
     fn is_out_of_memory(&self) -> bool {
         let faults = &self.faults[..3000_usize.saturating_sub(self.faults_left)];
         self.status == 4
             && self.output().is_empty()
-            && faults == b"warnc: out of memory\n".as_slice()
+            && (faults == b"warnc: out of memory\n".as_slice()
+                || faults == b"warnc: group 0: out of memory\n".as_slice())
     }
 
     /// Runs the program.
