@@ -64,7 +64,7 @@ name_is name page own =
     ∙ ap (λ s. let n : Name = record { id = page.id; serial = s } in n) serial
 
 -- a page is of the message of its name
-is_of-own : (page : PageView) → is_of (name_of page) page ≡ true
+pub is_of-own : (page : PageView) → is_of (name_of page) page ≡ true
 is_of-own page = rw (eq-eqb page.id page.id refl, eq-eqb page.serial page.serial refl) refl
 
 -- what is found among the pages with one more

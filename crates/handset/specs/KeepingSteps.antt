@@ -1,12 +1,13 @@
 -- What one more block or page does to what a handset keeps (own). Contracts of private functions alone speak of it.
 use Rattle.std.specs.Prelude.{◌≡◌, ℕ, Bool, true, not, ◌==◌, ◌&&◌, ◌||◌, Option, Some, None, is_some, List, [], ◌∷◌}
-use Rattle.std.specs.Prelude.{◌++◌, length, find, if◌then◌else◌, encode_utf8_all}
+use Rattle.std.specs.Prelude.{◌++◌, ◌+◌, ◌-◌, ◌≤◌, length, take, drop, map, find, if◌then◌else◌, encode_utf8_all}
 use Rattle.std.specs.Option.{option_map_or}
 use Rattle.std.specs.List.{flat_map, list_all, range_with_len}
 use Rattle.cbs_page.specs.declared.octets.PageView.{PageView}
 use Rattle.cbs_page.specs.Page.{view_of, is_readable}
 use Rattle.cbs_page.specs.Text.{text_of_page}
-use Rattle.handset.specs.Reception.{block_type, page_octets, Name, name_of, is_of, agrees_with, ShownMessage}
+use Rattle.handset.specs.Reception.{block_type, page_types, page_octets, Name, name_of, is_of, agrees_with}
+use Rattle.handset.specs.Reception.{ShownMessage}
 use Rattle.handset.specs.Keeping.{is_numbered, kept_of}
 
 -- the blocks of a page that isn't whole, with one more: a first block begins a page, and the next one goes on with it
@@ -84,3 +85,10 @@ TakesPage old new page = (name : Name) → kept_of new name ≡ pages_with_read 
 -- the message that a page that was read makes whole
 abbrev pub message_ended_read : List PageView → PageView → List ShownMessage
 message_ended_read pages page = if is_readable page then message_ended pages page else []
+
+-- the four blocks at the place are a page's, and the same as the four before it
+pub record IsPageAgain (blocks : List (List ℕ)) (place : ℕ) : Type 0 where
+  pub behind : 4 ≤ place
+  pub within : place + 4 ≤ length blocks
+  pub types : map block_type (take 4 (drop place blocks)) ≡ page_types
+  pub same : take 4 (drop (place - 4) blocks) ≡ take 4 (drop place blocks)

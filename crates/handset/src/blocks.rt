@@ -1,11 +1,11 @@
 //! Pages in the blocks that carry them (3GPP TS 44.012): four blocks in a row, of types 20, 21, 22 and 33 (hex), are a
 //! page.
 
-ghost use Rattle.std.specs.Prelude.{◌≡◌, ◌≢◌, ◌↔◌, ◌++◌, ◌∷◌, [], drop, IsTrue};
+ghost use Rattle.std.specs.Prelude.{◌≡◌, ◌≢◌, ◌↔◌, ◌++◌, ◌∷◌, [], drop, map, IsTrue};
 ghost use Rattle.std.specs.Option.{option_to_list};
-ghost use Rattle.handset.specs.Reception.{page_in_front, page_octets, block_type};
+ghost use Rattle.handset.specs.Reception.{page_in_front, page_octets, page_types, block_type};
 ghost use Rattle.handset.specs.Keeping.{blocks_kept};
-ghost use Rattle.handset.specs.KeepingSteps.{under_way_with, page_ended};
+ghost use Rattle.handset.specs.KeepingSteps.{under_way_with, page_ended, IsPageAgain};
 
 use cbs_page::{PageView, read_page};
 
@@ -91,6 +91,13 @@ impl PartialPage {
         }
     }
 
+    /// Whether no page is under way.
+    pub fn is_empty(&self) -> bool
+        ensures { IsTrue result → blocks_kept self.now ≡ [] }
+    {
+        self.stage == Stage::Nothing
+    }
+
     /// The page that a block completes.
     pub fn complete_with(&self, block: &[u8; 23]) -> Option<PageView>
         ensures { option_to_list result ≡ page_ended (blocks_kept self.now) block.now }
@@ -103,6 +110,29 @@ impl PartialPage {
             _ => None,
         }
     }
+}
+
+/// Whether some blocks are the four of a page, by their types.
+fn are_of_page(blocks: &[[u8; 23]]) -> bool
+    ensures { IsTrue result → map block_type blocks.now ≡ page_types }
+{
+    match blocks {
+        [first, second, third, last] => {
+            first[0] == FIRST && second[0] == SECOND && third[0] == THIRD && last[0] == LAST
+        }
+        _ => false,
+    }
+}
+
+/// Whether the four blocks at a place are a page, and the same as the four before it.
+pub fn is_page_again(blocks: &[[u8; 23]], place: usize) -> bool
+    ensures { IsTrue result → IsPageAgain blocks.now place }
+{
+    if place < 4 || blocks.len() < 4 || place > blocks.len() - 4 {
+        return false;
+    }
+    let again = &blocks[place..place + 4];
+    are_of_page(again) && &blocks[place - 4..place] == again
 }
 
 /// The page that stands at the front of some blocks, if their first four have the types of a page's. The blocks are of

@@ -1,13 +1,13 @@
 //! The handset: what it keeps of the blocks that it has read. A contract sees no more of that than whether it stands
 //! for a list of blocks (`HasRead`).
 
-ghost use Rattle.std.specs.Prelude.{◌≡◌, ◌++◌, ◌∷◌, [], ℕ, List, IfOk, IsTrue, OnErr, OnOk};
+ghost use Rattle.std.specs.Prelude.{◌≡◌, ◌≤◌, ◌+◌, ◌++◌, ◌∷◌, [], ℕ, List, length, take, IfOk, IsTrue, OnErr, OnOk};
 ghost use Rattle.std.specs.Option.{option_to_list};
 ghost use Rattle.handset.specs.Keeping.{HasRead, kept_of, messages_shown};
 ghost use Rattle.handset.specs.KeepingSteps.{TakesPage, message_ended_read};
 ghost use Rattle.handset.specs.Reception.{name_of, shown_in};
 
-use crate::blocks::PartialPage;
+use crate::blocks::{PartialPage, is_page_again};
 use crate::messages::{Refused, Shown, is_counted, message_if_complete};
 use crate::pages::Pages;
 use cbs_page::PageView;
@@ -119,14 +119,29 @@ impl Handset {
         ensures { OnOk result ((before : List (List ℕ)) → HasRead self.old before →
             HasRead self.new (before ++ blocks.now)) }
     {
-        for block in blocks {
-            // Most blocks are those of idle slots, and one look at each is enough.
+        let mut place = 0;
+        while place < blocks.len() {
+            let block = &blocks[place];
+            // Most blocks are those of idle slots, and one look at each is enough; many pages are those before them.
             if self.passes_over(block) {
-                continue;
+                place += 1;
+            } else if self.repeats(blocks, place) {
+                place += 4;
+            } else {
+                self.accept(block)?;
+                place += 1;
             }
-            self.accept(block)?;
         }
         Ok(())
+    }
+
+    /// Whether the four blocks at a place are a page that was read right before it: reading it again changes nothing.
+    fn repeats(&self, blocks: &[[u8; 23]], place: usize) -> bool
+        ensures within { IsTrue result → place + 4 ≤ length blocks.now }
+        ensures same { IsTrue result → (before : List (List ℕ)) → HasRead self.now (before ++ take place blocks.now) →
+            HasRead self.now (before ++ take (place + 4) blocks.now) }
+    {
+        self.partial.is_empty() && is_page_again(blocks, place)
     }
 
     /// Whether a block changes nothing: it is then read as it is.

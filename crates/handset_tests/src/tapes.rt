@@ -48,6 +48,40 @@ tape 2
 hex 1234 5678 00000000
 after 1234567800000000 -> 4660-22136 0 slots; 1-1 2 slots: 4370 0010 @; 4660-22136 0 slots
 
+# a page right behind itself, and behind an idle slot; pages of a message of two that come again at once; a page that
+# can't be read, twice; blocks of a page that isn't whole, and then a page twice
+new
+hex 0001 0003 00000004
+page
+page
+idle 1
+page
+one -> 1-3 4 slots: 4370 0010 @
+new
+hex 0001 0004 00000006
+page 12
+page 12
+page 12
+page 22
+page 22
+page 12
+one -> 1-4 6 slots: 4370 0010 @@
+new
+hex 0001 0005 00000003
+page 21
+page 21
+page
+one -> 1-5 3 slots: 4370 0010 @
+new
+hex 0001 0006 00000003
+hex 2000000000000000000000000000000000000000000000
+hex 2100000000000000000000000000000000000000000000
+hex 2200000000000000000000000000000000000000000000
+page
+page
+hex 2f00000000000000000000000000000000000000000000
+one -> 1-6 3 slots: 4370 0010 @
+
 # 65,535 slots, which take many pieces: the page is in the last slot
 new
 hex 0001 0001 0000ffff

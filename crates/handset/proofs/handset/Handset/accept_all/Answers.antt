@@ -10,23 +10,23 @@ one_more : (before blocks : List (List ℕ)) (i : ℕ) → i < length blocks →
 one_more before blocks i within =
     append_assoc before (take i blocks) _ ∙ ap (λ l. before ++ l) (sym (take_more blocks i [] within))
 
-pub loop-block-preserved : goal.loop-block-preserved
-loop-block-preserved c before read =
-    let i : ℕ = c.loop-block.block-index in
+pub loop-place-preserved : goal.loop-place-preserved
+loop-place-preserved c before read =
+    let place : ℕ = c.loop-place.place in
     let blocks : List (List ℕ) = c.args.blocks.now in
-    subst (HasRead c.accept.new.self) (one_more before blocks i c.loop-block-test.true)
-    (c.in_ok-accept.ensures.read (before ++ take i blocks) (c.loop-block.invariant before read))
+    subst (HasRead c.accept.new.self) (one_more before blocks place c.loop-place-test.true)
+    (c.in_ok-accept.ensures.read (before ++ take place blocks) (c.loop-place.invariant before read))
 
-pub loop-block-preserved-then-passes_over : goal.loop-block-preserved-then-passes_over
-loop-block-preserved-then-passes_over c before read =
-    let i : ℕ = c.loop-block.block-index in
+pub loop-place-preserved-then-passes_over : goal.loop-place-preserved-then-passes_over
+loop-place-preserved-then-passes_over c before read =
+    let place : ℕ = c.loop-place.place in
     let blocks : List (List ℕ) = c.args.blocks.now in
-    subst (HasRead c.loop-block.self) (one_more before blocks i c.loop-block-test.true)
-    (c.if-passes_over.ensures refl (before ++ take i blocks) (c.loop-block.invariant before read))
+    subst (HasRead c.loop-place.self) (one_more before blocks place c.loop-place-test.true)
+    (c.if-passes_over.ensures refl (before ++ take place blocks) (c.loop-place.invariant before read))
 
 pub returns : goal.returns
 returns c before read =
-    let i : ℕ = c.loop-block.block-index in
+    let place : ℕ = c.loop-place.place in
     let blocks : List (List ℕ) = c.args.blocks.now in
-    subst (HasRead c.loop-block.self) (ap (λ l. before ++ l) (take_all i blocks c.loop-block-test.false))
-    (c.loop-block.invariant before read)
+    subst (HasRead c.loop-place.self) (ap (λ l. before ++ l) (take_all place blocks c.loop-place-test.false))
+    (c.loop-place.invariant before read)
