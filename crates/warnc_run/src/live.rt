@@ -121,7 +121,7 @@ pub fn live_from<T: AllocGlobal + Threads + Wait + Sync, R: Read, W: Write, G: G
     };
     let book = book_from(rt, source, origin)?;
     let sessions = Sessions { number: sessions };
-    let tapes = tapes_of_book(rt, &book, slots, sessions, workers, gate)?;
+    let tapes = tapes_of_book(rt, book, slots, sessions, workers, gate)?;
     match write_tapes(&tapes, sink) {
         Ok(()) => Ok(()),
         Err(fault) => Err(RunFault::Write(fault)),

@@ -120,7 +120,7 @@ impl Network<'_> {
         let book = self.book(rt, group)?;
         let one = Sessions { number: 1 };
         let alone = Workers { number: 1 };
-        let tapes = tapes_of_book(rt, &book, self.slots, one, alone, &Open)?;
+        let tapes = tapes_of_book(rt, book, self.slots, one, alone, &Open)?;
         Ok(Part::Tapes(tapes))
     }
 

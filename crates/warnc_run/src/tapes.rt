@@ -1,6 +1,7 @@
 //! From a book to the tapes and to the records of its cells.
 
-ghost use Rattle.std.specs.Prelude.{ℕ, List, IfErr, IfOk};
+ghost use Rattle.std.specs.Prelude.{◌≡◌, ℕ, List, IfErr, IfOk, map};
+ghost use Rattle.cbch_blocks.specs.RecordBlocks.{tape_of_record};
 ghost use Rattle.warnc_run.specs.RunSteps.{AreTapesOf, HaveRunLive, IsOfBook, IsOfTapes, IsSomeBook};
 
 use crate::counts::{Sessions, Workers};
@@ -10,10 +11,10 @@ use crate::settled::settled_records;
 use crate::workers::play_out;
 use alert_book::Book;
 use bsc_table::CellRecord;
-use cbch_blocks::Tape;
+use cbch_blocks::{Tape, tape_of};
 use order_desk::{Desk, Gate, Open};
-use parallel_compile::{check_streamed, compile_one, stream_all};
-use std::alloc::AllocGlobal;
+use parallel_compile::{check_streamed, stream_all};
+use std::alloc::{AllocError, AllocGlobal, Global};
 use std::sync::Wait;
 use std::thread::Threads;
 
@@ -54,38 +55,51 @@ pub(crate) fn records_of_book<T: AllocGlobal + Threads + Wait + Sync>(
     records_after(rt, book, slots, one, workers, &Open)
 }
 
+/// The tapes of records, in their order. A record is dropped once its tape is made, so that the log of one cell alone
+/// stands beside the tapes at their end. The only error is out of memory.
+fn tapes_of(alloc: Global, records: Vec<CellRecord>) -> Result<Vec<Tape>, AllocError>
+    ensures { IfOk result (λ tapes. tapes.items ≡ map tape_of_record records.items) }
+{
+    let mut tapes = Vec::with_capacity(alloc, records.len())?;
+    for record in records {
+        tapes.push(tape_of(alloc, &record)?)?;
+    }
+    Ok(tapes)
+}
+
 /// The tapes of a book's cells after the sessions of its parts, by one worker. It has nobody to hand pages to while the
 /// desk is open, so the tapes are made of the settled records, each once, and there is nothing to compare.
 fn tapes_by_one<T: AllocGlobal + Threads + Wait + Sync, G: Gate>(
     rt: &T,
-    book: &Book,
+    book: Book,
     slots: u16,
     sessions: Sessions,
     worker: Workers,
     gate: &G,
 ) -> Result<Vec<Tape>, RunFault>
-    requires book { IsSomeBook book.now }
-    ensures ok { IfOk result (λ tapes. AreTapesOf book.now slots sessions.number tapes.items) }
-    ensures err { IfErr result (IsOfTapes book.now slots sessions.number) }
+    requires book { IsSomeBook book }
+    ensures ok { IfOk result (λ tapes. AreTapesOf book slots sessions.number tapes.items) }
+    ensures err { IfErr result (IsOfTapes book slots sessions.number) }
 {
-    let records = records_after(rt, book, slots, sessions, worker, gate)?;
-    let tapes = compile_one(rt.alloc(), &records)?;
-    Ok(tapes)
+    let records = records_after(rt, &book, slots, sessions, worker, gate)?;
+    // what the book holds is free for the tapes
+    drop(book);
+    Ok(tapes_of(rt.alloc(), records)?)
 }
 
 /// The tapes of a book's cells after the sessions of its parts: several workers play the cells and hand on their pages
 /// while the desk is open, and the tapes that these make are compared with the records of the settled desk.
 pub(crate) fn tapes_of_book<T: AllocGlobal + Threads + Wait + Sync, G: Gate>(
     rt: &T,
-    book: &Book,
+    book: Book,
     slots: u16,
     sessions: Sessions,
     workers: Workers,
     gate: &G,
 ) -> Result<Vec<Tape>, RunFault>
-    requires book { IsSomeBook book.now }
-    ensures ok { IfOk result (λ tapes. AreTapesOf book.now slots sessions.number tapes.items) }
-    ensures err { IfErr result (IsOfTapes book.now slots sessions.number) }
+    requires book { IsSomeBook book }
+    ensures ok { IfOk result (λ tapes. AreTapesOf book slots sessions.number tapes.items) }
+    ensures err { IfErr result (IsOfTapes book slots sessions.number) }
 {
     if workers.number == 1 {
         return tapes_by_one(rt, book, slots, sessions, workers, gate);
@@ -93,10 +107,10 @@ pub(crate) fn tapes_of_book<T: AllocGlobal + Threads + Wait + Sync, G: Gate>(
     // No book has a cell twice.
     alert_book::book_laws();
     let desk = Desk::open(rt.alloc(), book.cells(), slots)?;
-    let mut passes = run_sessions(rt, book, &desk, sessions, gate)?;
+    let mut passes = run_sessions(rt, &book, &desk, sessions, gate)?;
     let (tapes, mut played) = stream_all(rt, rt.alloc(), &desk, workers.number, gate)?;
     passes.append(&mut played)?;
-    let records = settled_records(rt.alloc(), book, desk, sessions, &passes)?;
+    let records = settled_records(rt.alloc(), &book, desk, sessions, &passes)?;
     check_streamed(&tapes, &records)?;
     Ok(tapes)
 }
